@@ -1,0 +1,19 @@
+-- A journal as its callers see it.
+use Rattle.std.specs.Prelude.{◌≡◌, ℕ, ◌<◌, List, [], ◌∷◌, ⊤}
+use Rattle.pt_history.specs.declared.event.Stamped.{Stamped}
+
+-- the desk, the events, newest first, and how many more are sure to find room
+pub record JournalState : Type 0 where
+  pub desk : ℕ
+  pub past : List Stamped
+  pub room : ℕ
+
+-- the event is stamped above the newest one
+abbrev pub IsNewer : Stamped → List Stamped → Type 0
+IsNewer s [] = ⊤
+IsNewer s (t ∷ past) = t.stamp < s.stamp
+
+-- the events are the desk's, and their stamps strictly rise
+abbrev pub IsInOrder : ℕ → List Stamped → Type 0
+IsInOrder d [] = ⊤
+IsInOrder d (s ∷ past) = (s.desk ≡ d) × IsNewer s past × IsInOrder d past

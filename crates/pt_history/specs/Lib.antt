@@ -1,0 +1,9 @@
+pub mod Text
+pub mod History
+pub mod JournalState
+pub mod Journal
+pub mod Taken
+pub mod Sender
+pub mod Load
+pub mod Watch
+pub mod Resumed

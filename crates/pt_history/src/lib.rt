@@ -1,0 +1,12 @@
+//! What happened on the desks of a node: events, journals, and what a history means.
+//!
+//! The definitions stand in `specs/`: `History` says what each process is after a history, what an event
+//! sends, and which event may come next; `Journal` says what one desk's journal is, and how the journals of
+//! several desks make one history.
+#![tactic(auto, unfolding(crate::specs::Text::parent_text, crate::specs::Text::link_text, crate::specs::Text::switch_text, crate::specs::Text::event_text, crate::specs::Text::stamped_text))]
+
+mod event;
+mod journal;
+
+pub use event::{Event, Stamped};
+pub use journal::Journal;
