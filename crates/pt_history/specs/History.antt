@@ -12,7 +12,7 @@ use Rattle.pt_signal.specs.declared.signal.Signal.TheVariants.{Message, Link, Un
 use Rattle.pt_history.specs.declared.event.Event.{Event}
 use Rattle.pt_history.specs.declared.event.Event.TheVariants.{Born, Said, Came, Took, Flag, Left}
 use Rattle.pt_signal.specs.Values.{same_pid, same_ref, same_link, fits, without_first}
-use Rattle.pt_signal.specs.Process.{ProcessState, fresh, held, enter, Handled, handle, say, Sent, sent, estate, bounce}
+use Rattle.pt_signal.specs.Process.{ProcessState, fresh, held, enter, handle, say, Sent, sent, estate, bounce}
 
 abbrev pub Past : Type 0
 Past = List Event

@@ -1,15 +1,12 @@
 -- Journals: one desk's stamped events, the newest first; lanes between desks; the merge.
-use Rattle.std.specs.Prelude.{◌≡◌, ℕ, ◌<◌, ◌≤◌, ◌^◌, ◌+◌, pred, Bool, true, false, cond, ◌==◌, ◌&&◌, ◌⊎◌, Option, Some, None, List, [], ◌∷◌, ◌++◌, map, filter, ⊤}
+use Rattle.std.specs.Prelude.{◌≡◌, ℕ, ◌<◌, ◌≤◌, ◌^◌, pred, true, false, cond, ◌==◌, ◌⊎◌, Option, Some, None, List, [], ◌∷◌, ◌++◌, map, filter, ⊤}
 use Rattle.pt_signal.specs.declared.pid.Pid.{Pid}
-use Rattle.pt_signal.specs.declared.ids.Ref.{Ref}
 use Rattle.pt_signal.specs.declared.ids.LinkId.{LinkId}
-use Rattle.pt_signal.specs.declared.signal.Signal.{Signal}
-use Rattle.pt_signal.specs.declared.signal.Signal.TheVariants.{Message, Link, Monitor}
+use Rattle.pt_signal.specs.declared.signal.Signal.TheVariants.{Link, Monitor}
 use Rattle.pt_history.specs.declared.event.Event.{Event}
 use Rattle.pt_history.specs.declared.event.Event.TheVariants.{Born, Said, Came, Took, Flag, Left}
 use Rattle.pt_history.specs.declared.event.Stamped.{Stamped}
 use Rattle.pt_signal.specs.declared.letter.Letter.{Letter}
-use Rattle.pt_signal.specs.Values.{same_pid}
 use Rattle.pt_signal.specs.Process.{Sent, sent}
 use Rattle.pt_history.specs.History.{Past, Start, is_unborn, is_ended, life, sent_by, May}
 

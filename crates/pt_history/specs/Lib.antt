@@ -7,3 +7,5 @@ pub mod Sender
 pub mod Load
 pub mod Watch
 pub mod Resumed
+pub mod Judge
+pub mod Laws

@@ -1,14 +1,13 @@
 -- Quiet histories, and what may still happen in one that is not.
-use Rattle.std.specs.Prelude.{◌≡◌, ℕ, ◌+◌, suc, Bool, true, false, cond, List, [], ◌∷◌, ◌++◌, length, map}
+use Rattle.std.specs.Prelude.{◌≡◌, ℕ, ◌+◌, Bool, true, false, cond, List, [], ◌∷◌, ◌++◌, length}
 use Rattle.std.specs.Map.{keys_of}
 use Rattle.pt_signal.specs.declared.pid.Pid.{Pid}
 use Rattle.pt_signal.specs.declared.signal.Signal.{Signal}
 use Rattle.pt_signal.specs.declared.signal.Signal.TheVariants.{Link, Monitor}
-use Rattle.pt_history.specs.declared.event.Event.{Event}
 use Rattle.pt_history.specs.declared.event.Event.TheVariants.{Born}
 use Rattle.pt_signal.specs.Values.{same_pid}
-use Rattle.pt_signal.specs.Process.{ProcessState, Sent}
-use Rattle.pt_history.specs.History.{Past, Start, Phase, unborn, living, ended, life, at_start, is_unborn, flying}
+use Rattle.pt_signal.specs.Process.{Sent}
+use Rattle.pt_history.specs.History.{Past, Start, Phase, living, life, at_start, is_unborn, flying}
 
 -- no letter is in flight
 abbrev pub IsQuiet : Start → Past → Type 0

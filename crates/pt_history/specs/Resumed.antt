@@ -1,9 +1,7 @@
 -- A history that goes on from another one.
-use Rattle.std.specs.Prelude.{◌≡◌, ℕ, Bool, true, false, List, [], ◌∷◌, ◌++◌, map, ⊤}
-use Rattle.pt_signal.specs.declared.pid.Pid.{Pid}
+use Rattle.std.specs.Prelude.{◌≡◌, false, [], ◌∷◌, map, ⊤}
 use Rattle.pt_history.specs.declared.event.Event.{Event}
 use Rattle.pt_history.specs.declared.event.Event.TheVariants.{Born, Said}
-use Rattle.pt_signal.specs.declared.signal.Signal.{Signal}
 use Rattle.pt_signal.specs.declared.signal.Signal.TheVariants.{Link, Monitor}
 use Rattle.pt_signal.specs.declared.ids.LinkId.{LinkId}
 use Rattle.std.specs.Prelude.{Option, Some, None}

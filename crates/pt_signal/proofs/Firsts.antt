@@ -1,6 +1,6 @@
 -- The first of a list that passes a test, and the list without it.
-use Rattle.std.proofs.Common.{◌≡◌, ℕ, Bool, true, false, cond, List, [], ◌∷◌, ◌++◌, Option, Some, None, map, filter, refl, sym, ap, ◌∙◌, arith}
-use Rattle.std.specs.List.{find, list_any}
+use Rattle.std.proofs.Common.{◌≡◌, Bool, true, false, cond, List, [], ◌∷◌, ◌++◌, Some, None, filter, refl, ap}
+use Rattle.std.specs.List.{find}
 use Rattle.pt_signal.specs.Values.{without_first}
 
 module _ {X : Type 0} (P : X → Bool) where
