@@ -21,17 +21,17 @@ pub untouched : (start : Start) (past : Past) (e : Event) (p : Pid) → touches 
 untouched start past e p h = rw h
 
 module _ (start : Start) (past : Past) (p : Pid) (s : ProcessState) (lives : life start past p ≡ living s) where
-  said : (b : Pid) (x : Signal) → life start (Said p b x ∷ past) p ≡ living (say s b x)
+  pub said : (b : Pid) (x : Signal) → life start (Said p b x ∷ past) p ≡ living (say s b x)
   said b x = simp (same_pid_refl, lives)
 
-  came : (a : Pid) (x : Signal) → life start (Came a p x ∷ past) p ≡ live_or_end (handle p s a x).ending (handle p s a x).state
+  pub came : (a : Pid) (x : Signal) → life start (Came a p x ∷ past) p ≡ live_or_end (handle p s a x).ending (handle p s a x).state
   came a x = simp (same_pid_refl, lives)
 
-  took : (k : Pick) (i : Item) → life start (Took p k i ∷ past) p ≡ living (record s { waiting = without_first (fits k) s.waiting })
+  pub took : (k : Pick) (i : Item) → life start (Took p k i ∷ past) p ≡ living (record s { waiting = without_first (fits k) s.waiting })
   took k i = simp (same_pid_refl, lives)
 
-  flagged : (on : Bool) → life start (Flag p on ∷ past) p ≡ living (record s { traps = on })
+  pub flagged : (on : Bool) → life start (Flag p on ∷ past) p ≡ living (record s { traps = on })
   flagged on = simp (same_pid_refl, lives)
 
-  left : (r : Reason) → life start (Left p r ∷ past) p ≡ ended r s
+  pub left : (r : Reason) → life start (Left p r ∷ past) p ≡ ended r s
   left r = simp (same_pid_refl, lives)

@@ -1,0 +1,9 @@
+pub mod Logs
+pub mod Accounts
+pub mod Near
+pub mod Births
+pub mod Fresh
+pub mod Frames
+pub mod Keeps
+pub mod Writes
+pub mod Says

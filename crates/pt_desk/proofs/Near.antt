@@ -1,0 +1,221 @@
+-- A process knows pids of the node's desks alone, so what it owes goes to them alone; and its open references
+-- are none that is yet to be made.
+use Rattle.std.proofs.Common.{◌≡◌, ℕ, ◌<◌, ◌≤◌, refl, List, [], ◌∷◌, ◌++◌, Bool, true, false, cond, Option, Some, None, map, subst, arith}
+use Rattle.std.specs.Prelude.{⊤}
+use Rattle.std.specs.Map.{lookup, remove_entry, set_value}
+use Rattle.std.proofs.lemmas.Bool.Decides.{nat_tests}
+use Rattle.pt_signal.specs.declared.pid.Pid.{Pid}
+use Rattle.pt_signal.specs.declared.ids.Ref.{Ref}
+use Rattle.pt_signal.specs.declared.ids.Ids.{Ids}
+use Rattle.pt_signal.specs.declared.ids.LinkId.{LinkId}
+use Rattle.pt_signal.specs.declared.reason.Reason.{Reason}
+use Rattle.pt_signal.specs.declared.reason.Reason.TheVariants.{Normal, Kill, Killed, Noproc, Shutdown, Other}
+use Rattle.pt_signal.specs.declared.signal.Signal.{Signal}
+use Rattle.pt_signal.specs.declared.signal.Signal.TheVariants.{Message, Link, Unlink, LinkExit, Monitor, Demonitor}
+use Rattle.pt_signal.specs.Values.{without_first, same_pid, same_ref}
+use Rattle.pt_signal.specs.Process.{ProcessState, Handled, fresh, held, enter, enter_at, cut, cut_at, leave_at, without_ids, one_id, keep, same_watch, handle, say, obey, Verdict, drops, queues, ends, verdict, link_exit, down, Sent, sent, estate, bounce}
+use Rattle.pt_history.specs.declared.event.Event.{Event}
+use Rattle.pt_history.specs.declared.event.Event.TheVariants.{Born, Said, Came, Took, Flag, Left}
+use Rattle.pt_history.specs.declared.event.Stamped.{Stamped}
+use Rattle.pt_history.specs.History.{Past, Phase, unborn, living, ended, life, after, change, touches, newborn, while_living, linked, gets, leaves, live_or_end, sent_by, got_sends, left_sends, end_sends}
+use Rattle.pt_history.specs.Journal.{events, clock, IsLocal, IsHome, IsNewAt, IsOf}
+use Rattle.pt_history.proofs.Phases.{each_branch}
+use Rattle.pt_desk.specs.Sound.{IsNear, AllNear}
+
+-- lists ---
+
+abbrev pub Every : {X : Type 0} → (X → Type 0) → List X → Type 0
+Every P [] = ⊤
+Every P (x ∷ xs) = P x × Every P xs
+
+Every-append : {X : Type 0} (P : X → Type 0) (xs ys : List X) → Every P xs → Every P ys → Every P (xs ++ ys)
+Every-append P [] ys h k = k
+Every-append P (x ∷ xs) ys h k = (h.0, Every-append P xs ys h.1 k)
+
+---------------------------------------------------------------------
+
+module _ {K V : Type 0} (P : K × V → Type 0) where
+  Every-removed : (test : K → Bool) (es : List (K × V)) → Every P es → Every P (remove_entry test es)
+  Every-removed test [] h = tt
+  Every-removed test (e ∷ es) h = each_branch (Every P) (test e.0) es (e ∷ remove_entry test es) h.1 (h.0, Every-removed test es h.1)
+
+  Every-value_set : (test : K → Bool) (v : V) → ((k : K) (w : V) → P (k, w) → P (k, v)) → (es : List (K × V)) → Every P es → Every P (set_value test es v)
+  Every-value_set test v same [] h = tt
+  Every-value_set test v same (e ∷ es) h = each_branch (Every P) (test e.0) ((e.0, v) ∷ es) (e ∷ set_value test es v) (same e.0 e.1 h.0, h.1) (h.0, Every-value_set test v same es h.1)
+
+Every-without_first : {X : Type 0} (P : X → Type 0) (test : X → Bool) (xs : List X) → Every P xs → Every P (without_first test xs)
+Every-without_first P test [] h = tt
+Every-without_first P test (x ∷ xs) h = each_branch (Every P) (test x) xs (x ∷ without_first test xs) h.1 (h.0, Every-without_first P test xs h.1)
+
+module _ (desks n : ℕ) where
+  abbrev pub IsPeer : Pid × Ids → Type 0
+  IsPeer e = e.0.shard < desks
+
+  abbrev pub IsWatch : Ref × Pid → Type 0
+  IsWatch e = e.1.shard < desks
+
+  -- an open reference was made by stamp n
+  abbrev pub IsOpen : Ref × Pid → Type 0
+  IsOpen e = (e.1.shard < desks) × (e.0.number ≤ n)
+
+  pub record IsNearState (s : ProcessState) : Type 0 where
+    pub links : Every IsPeer s.links
+    pub watching : Every IsOpen s.watching
+    pub kept : Every IsWatch s.kept
+
+  abbrev pub IsNearPhase : Phase → Type 0
+  IsNearPhase (living s) = IsNearState s
+  IsNearPhase _ = ⊤
+
+  near_enter_at : (o : Option Ids) (q : Pid) (i : LinkId) (links : List (Pid × Ids)) → q.shard < desks → Every IsPeer links → Every IsPeer (enter_at o q i links)
+  near_enter_at None q i links near h = Every-append IsPeer links _ h (near, tt)
+  near_enter_at (Some ids) q i links near h = Every-value_set IsPeer (same_pid q) _ (λ k w p. p) links h
+
+  near_leave_at : (o : Option Ids) (q : Pid) (links : List (Pid × Ids)) → Every IsPeer links → Every IsPeer (leave_at o q links)
+  near_leave_at None q links h = Every-removed IsPeer (same_pid q) links h
+  near_leave_at (Some left) q links h = Every-value_set IsPeer (same_pid q) left (λ k w p. p) links h
+
+  near_cut_at : (o : Option Ids) (q : Pid) (named : Ids) (links : List (Pid × Ids)) → Every IsPeer links → Every IsPeer (cut_at o q named links)
+  near_cut_at None q named links h = h
+  near_cut_at (Some ids) q named links h = near_leave_at (without_ids named ids) q links h
+
+  near_keep : (m : Ref) (w : Pid) (kept : List (Ref × Pid)) → w.shard < desks → Every IsWatch kept → Every IsWatch (keep m w kept)
+  near_keep m w kept near h = each_branch (Every IsWatch) _ kept _ h (Every-append IsWatch kept _ h (near, tt))
+
+  near_obey : (v : Verdict) (s : ProcessState) → IsNearState s → IsNearState (obey v s).state
+  near_obey drops s h = h
+  near_obey (queues item) s h = record { links = h.links; watching = h.watching; kept = h.kept }
+  near_obey (ends r) s h = h
+
+  near_link_exit : (held : Bool) (me : Pid) (s : ProcessState) (from : Pid) (r : Reason) → IsNearState s → IsNearState (link_exit held me s from r).state
+  near_link_exit false me s from r h = h
+  near_link_exit true me s from r h =
+      near_obey (verdict true s.traps (same_pid from me) from r) _
+      (record { links = Every-removed IsPeer (same_pid from) s.links h.links; watching = h.watching; kept = h.kept })
+
+  near_down : (o : Option Pid) (s : ProcessState) (from : Pid) (m : Ref) (r : Reason) → IsNearState s → IsNearState (down o s from m r).state
+  near_down None s from m r h = h
+  near_down (Some t) s from m r h = record { links = h.links; watching = Every-removed IsOpen (same_ref m) s.watching h.watching; kept = h.kept }
+
+  near_handle : (me : Pid) (s : ProcessState) (from : Pid) (x : Signal) → from.shard < desks → IsNearState s → IsNearState (handle me s from x).state
+  near_handle me s from (Message b) near h = record { links = h.links; watching = h.watching; kept = h.kept }
+  near_handle me s from (Link i) near h = record { links = near_enter_at (held s.links from) from i s.links near h.links; watching = h.watching; kept = h.kept }
+  near_handle me s from (Unlink ids) near h = record { links = near_cut_at (held s.links from) from ids s.links h.links; watching = h.watching; kept = h.kept }
+  near_handle me s from (Signal.Exit r) near h = near_obey _ s h
+  near_handle me s from (LinkExit ids r) near h = near_link_exit _ me s from r h
+  near_handle me s from (Monitor m) near h = record { links = h.links; watching = h.watching; kept = near_keep m from s.kept near h.kept }
+  near_handle me s from (Demonitor m) near h = record { links = h.links; watching = h.watching; kept = Every-without_first IsWatch (same_watch m from) s.kept h.kept }
+  near_handle me s from (Signal.Down m r) near h = near_down _ s from m r h
+
+  near_say : (d : ℕ) (s : ProcessState) (from to : Pid) (x : Signal) → to.shard < desks → IsNewAt d n (Said from to x) → IsNearState s → IsNearState (say s to x)
+  near_say d s from to (Link i) near new h = record { links = near_enter_at (held s.links to) to i s.links near h.links; watching = h.watching; kept = h.kept }
+  near_say d s from to (Unlink ids) near new h = record { links = near_cut_at (held s.links to) to ids s.links h.links; watching = h.watching; kept = h.kept }
+  near_say d s from to (Monitor m) near new h = record { links = h.links; watching = Every-append IsOpen s.watching _ h.watching ((near, omega (arith, new.1)), tt); kept = h.kept }
+  near_say d s from to (Demonitor m) near new h = record { links = h.links; watching = Every-removed IsOpen (same_ref m) s.watching h.watching; kept = h.kept }
+  near_say d s from to _ near new h = h
+
+  near_linked : (q : Option Pid) (link : Option LinkId) (d : ℕ) (s : ProcessState) → IsOf d q → d < desks → IsNearState s → IsNearState (linked q link s)
+  near_linked (Some q) (Some i) d s home here h = record { links = near_enter_at (held s.links q) q i s.links (omega arith) h.links; watching = h.watching; kept = h.kept }
+  near_linked (Some q) None d s home here h = h
+  near_linked None link d s home here h = h
+
+  near_end : (o : Option Reason) (s : ProcessState) → IsNearState s → IsNearPhase (live_or_end o s)
+  near_end None s h = h
+  near_end (Some r) s h = tt
+
+  near_newborn : (q : Option Pid) (link : Option LinkId) (d : ℕ) (f : Phase) → IsOf d q → d < desks → IsNearPhase f → IsNearPhase (newborn q link f)
+  near_newborn q link d unborn home here h = near_linked q link d fresh home here (record { links = tt; watching = tt; kept = tt })
+  near_newborn q link d (living s) home here h = h
+  near_newborn q link d (ended r s) home here h = tt
+
+  near_while : (step : ProcessState → ProcessState) → ((s : ProcessState) → IsNearState s → IsNearState (step s)) → (f : Phase) → IsNearPhase f → IsNearPhase (while_living step f)
+  near_while step k unborn h = tt
+  near_while step k (living s) h = k s h
+  near_while step k (ended r s) h = tt
+
+  near_got : (p a : Pid) (x : Signal) (f : Phase) → a.shard < desks → IsNearPhase f → IsNearPhase (gets p a x f)
+  near_got p a x unborn near h = tt
+  near_got p a x (living s) near h = near_end (handle p s a x).ending _ (near_handle p s a x near h)
+  near_got p a x (ended r s) near h = tt
+
+  near_left : (r : Reason) (f : Phase) → IsNearPhase (leaves r f)
+  near_left r unborn = tt
+  near_left r (living s) = tt
+  near_left r (ended w s) = tt
+
+  near_change : (d : ℕ) (p : Pid) (e : Event) (f : Phase) → d < desks → IsHome d e → IsNewAt d n e → IsNear desks e → IsNearPhase f → IsNearPhase (change p e f)
+  near_change d p (Born q parent link) f here home new near h =
+      each_branch IsNearPhase (same_pid p q) _ _ (near_newborn parent link d f home.1 here h)
+      (near_while (linked (Some q) link) (λ s k. near_linked (Some q) link d s home.0 here k) f h)
+  near_change d p (Said a b x) f here home new near h = near_while (λ s. say s b x) (λ s k. near_say d s a b x near new k) f h
+  near_change d p (Came a b x) f here home new near h = near_got p a x f near h
+  near_change d p (Took q k i) f here home new near h = near_while _ (λ s j. record { links = j.links; watching = j.watching; kept = j.kept }) f h
+  near_change d p (Flag q on) f here home new near h = near_while _ (λ s j. record { links = j.links; watching = j.watching; kept = j.kept }) f h
+  near_change d p (Left q r) f here home new near h = near_left r f
+
+  -- what is sent goes to a desk of the node
+  abbrev pub IsToNode : Sent → Type 0
+  IsToNode l = l.to.shard < desks
+
+  near_mapped : {X : Type 0} (Q : X → Type 0) (f : X → Sent) → ((x : X) → Q x → IsToNode (f x)) → (xs : List X) → Every Q xs → Every IsToNode (map f xs)
+  near_mapped Q f k [] h = tt
+  near_mapped Q f k (x ∷ xs) h = (k x h.0, near_mapped Q f k xs h.1)
+
+  near_estate : (me : Pid) (s : ProcessState) (r : Reason) → IsNearState s → Every IsToNode (estate me s r)
+  near_estate me s r h =
+      Every-append IsToNode _ _
+      (Every-append IsToNode _ _ (near_mapped IsPeer (λ (e : Pid × Ids). sent me e.0 (LinkExit e.1 r)) (λ x k. k) s.links h.links)
+      (near_mapped IsWatch (λ (k : Ref × Pid). sent me k.1 (Signal.Down k.0 r)) (λ x k. k) s.kept h.kept))
+      (near_mapped IsOpen (λ (m : Ref × Pid). sent me m.1 (Demonitor m.0)) (λ x k. k.0) s.watching h.watching)
+
+  near_ending : (me : Pid) (o : Option Reason) (s : ProcessState) → IsNearState s → Every IsToNode (end_sends me o s)
+  near_ending me None s h = tt
+  near_ending me (Some r) s h = near_estate me s r h
+
+  near_bounce : (me from : Pid) (x : Signal) → from.shard < desks → Every IsToNode (bounce me from x)
+  near_bounce me from (Link i) near = (near, tt)
+  near_bounce me from (Monitor m) near = (near, tt)
+  near_bounce me from _ near = tt
+
+  near_got_sends : (f : Phase) (me from : Pid) (x : Signal) → from.shard < desks → IsNearPhase f → Every IsToNode (got_sends f me from x)
+  near_got_sends unborn me from x near h = near_bounce me from x near
+  near_got_sends (living s) me from x near h = near_ending me (handle me s from x).ending _ (near_handle me s from x near h)
+  near_got_sends (ended r s) me from x near h = near_bounce me from x near
+
+  near_left_sends : (f : Phase) (me : Pid) (r : Reason) → IsNearPhase f → Every IsToNode (left_sends f me r)
+  near_left_sends unborn me r h = tt
+  near_left_sends (living s) me r h = near_estate me s r h
+  near_left_sends (ended w s) me r h = tt
+
+  pub near_sent : (past : Past) (e : Event) → IsNear desks e → ((p : Pid) → IsNearPhase (life [] past p)) → Every IsToNode (sent_by [] past e)
+  near_sent past (Born q parent link) near h = tt
+  near_sent past (Said a b x) near h = (near, tt)
+  near_sent past (Came a b x) near h = near_got_sends (life [] past b) b a x near (h b)
+  near_sent past (Took q k i) near h = tt
+  near_sent past (Flag q on) near h = tt
+  near_sent past (Left p r) near h = near_left_sends (life [] past p) p r (h p)
+
+module _ (desks : ℕ) where
+  later_watching : (m n : ℕ) → m ≤ n → (es : List (Ref × Pid)) → Every (IsOpen desks m) es → Every (IsOpen desks n) es
+  later_watching m n le [] h = tt
+  later_watching m n le (e ∷ es) h = ((h.0.0, omega (arith, h.0.1)), later_watching m n le es h.1)
+
+  later : (m n : ℕ) → m ≤ n → (f : Phase) → IsNearPhase desks m f → IsNearPhase desks n f
+  later m n le unborn h = tt
+  later m n le (living s) h = record { links = h.links; watching = later_watching m n le s.watching h.watching; kept = h.kept }
+  later m n le (ended r s) h = tt
+
+  pub near_life : (low top d : ℕ) (journal : List Stamped) → d < desks → IsLocal [] low top d journal → AllNear desks (events journal) → (p : Pid) → IsNearPhase desks (clock low journal) (life [] (events journal) p)
+  near_life low top d [] here local near p = tt
+  near_life low top d (s ∷ journal) here local near p =
+      let f : Phase = life [] (events journal) p in
+      let le : clock low journal ≤ s.stamp = omega (arith, local.0.later) in
+      let before : IsNearPhase desks s.stamp f = later (clock low journal) s.stamp le f (near_life low top d journal here local.1 near.1 p) in
+      each_branch (IsNearPhase desks s.stamp) (touches p s.event) _ _ (near_change desks s.stamp d p s.event f here local.0.home local.0.new_at near.0 before) before
+
+-- a reference that is yet to be made is not open
+pub not_open : (desks n : ℕ) (m : Ref) → n < m.number → (es : List (Ref × Pid)) → Every (IsOpen desks n) es → lookup (same_ref m) es ≡ None
+not_open desks n m new [] h = refl
+not_open desks n m new (e ∷ es) h =
+    let differs : same_ref m e.0 ≡ false = let old = h.0.1 in grind (arith, nat_tests) in
+    rw differs (not_open desks n m new es h.1)

@@ -1,0 +1,10 @@
+pub mod DeskState
+pub mod Calls
+pub mod Turns
+pub mod LogState
+pub mod Opening
+pub mod Faults
+pub mod Sound
+pub mod Residents
+pub mod Plain
+pub mod Whole

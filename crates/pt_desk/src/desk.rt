@@ -1,0 +1,281 @@
+// One desk.
+
+ghost use Rattle.std.specs.Prelude.{◌≡◌, true, [], ◌≤◌, ◌<◌, ◌+◌, min, length, Some, None, cond};
+ghost use Rattle.std.specs.Option.{option_copied};
+ghost use Rattle.pt_signal.specs.declared.signal.Signal.{Signal};
+ghost use Rattle.pt_history.specs.declared.event.Event.{Event};
+ghost use Rattle.pt_history.specs.Journal.{IsLocal, Agrees, posts, gots};
+ghost use Rattle.pt_desk.specs.DeskState.{lives, state_in};
+ghost use Rattle.pt_desk.specs.Calls.{Calls, Monitors, Bears, BearsChild, link_event, unlink_event, first_match, take_event, demonitor_event, held_by};
+ghost use Rattle.pt_desk.specs.Plain.{IsPlain};
+ghost use Rattle.pt_desk.specs.Opening.{Opens, IsInRange, fresh};
+ghost use Rattle.pt_desk.specs.Sound.{knows};
+ghost use Rattle.pt_desk.specs.Turns.{Handles, Turns, filled};
+
+use crate::config::{Config, OpenError};
+use crate::fault::Fault;
+use crate::log::{LIMIT, Log};
+use crate::residents::{add_link, cut_link, find, set_trap, take_at};
+use crate::turned::{Stop, Turned};
+use pt_history::{Event, Journal};
+use pt_process::Process;
+use pt_signal::{Body, Ids, Item, Letter, LinkId, Pick, Pid, Reason, Ref, Signal};
+use pt_slots::Slots;
+use std::alloc::Global;
+use std::collections::VecDeque;
+use std::marker::Model;
+
+/// One shard of the process table: its processes, its journal, and the letters on their way.
+#[derive(Drop)]
+pub struct Desk {
+    alloc: Global,
+    config: Config,
+    log: Log,
+    table: Slots<Process>,
+    queue: VecDeque<Letter>,
+    mark: usize,
+}
+
+impl Model for Desk {
+    ghost use Rattle.pt_desk.specs.DeskState.{DeskState};
+    ghost use Rattle.pt_desk.specs.Whole.{desk_of, IsWhole};
+
+    ghost Value = { DeskState };
+
+    ghost view = { λ a. desk_of a.config a.log a.table a.queue.items a.mark };
+
+    ghost invariant = { λ a. IsWhole a.config a.log a.table a.queue.items a.mark };
+}
+
+impl Desk {
+    /// The one desk of a node.
+    ///
+    /// It is refused as `Bounds` exactly where a setting is out of its range, or `desks` is not 1.
+    pub fn alone(alloc: Global, config: Config) -> Result<Desk, OpenError>
+        ensures { Opens config result }
+    {
+        let fits = config.desks == 1
+            && (1..=65_536).contains(&config.slots)
+            && config.top_version >= 1
+            && (1..=65_536).contains(&config.lane)
+            && config.start <= LIMIT;
+        if !fits {
+            return Err(OpenError::Bounds);
+        }
+        let Ok(table) = Slots::new(alloc, config.slots, config.top_version) else {
+            return Err(OpenError::Memory);
+        };
+        Ok(Desk {
+            alloc,
+            config,
+            log: Log::new(alloc, 0, config.start),
+            table,
+            queue: VecDeque::new(alloc),
+            mark: 0,
+        })
+    }
+
+    /// Gives the journal back, and nothing else.
+    pub fn close(self) -> Journal
+        ensures desk { result.desk ≡ self.number }
+        ensures past { result.past ≡ self.journal }
+    {
+        let Desk { log, .. } = self;
+        log.into_journal()
+    }
+
+    /// The number of the desk.
+    pub fn number(&self) -> u8
+        ensures { result ≡ self.now.number }
+    {
+        self.log.desk()
+    }
+
+    /// The stamp of the newest event, or the start of the clock.
+    pub fn clock(&self) -> u64
+        ensures { result ≡ self.now.clock }
+    {
+        self.log.clock()
+    }
+
+    /// What happened here.
+    pub fn journal(&self) -> &Journal
+        ensures desk { result.now.desk ≡ self.now.number }
+        ensures past { result.now.past ≡ self.now.journal }
+        ensures local { IsLocal [] self.now.config.start self.now.config.top_version self.now.number self.now.journal }
+        ensures account { Agrees (posts [] self.now.journal self.now.number) (gots self.now.journal self.now.number) self.now.queue }
+    {
+        let _ = &self.queue;
+        self.log.journal()
+    }
+
+    /// Whether p lives here.
+    pub fn alive_here(&self, p: Pid) -> bool
+        ensures { result ≡ lives self.now p }
+    {
+        find(&self.log, &self.table, p).is_some()
+    }
+
+    /// The items that wait in the mailbox of p, oldest first, if it lives here.
+    pub fn waiting(&self, p: Pid) -> Option<&[Item]>
+        ensures { option_copied result ≡ cond (lives self.now p) (Some (state_in self.now p).waiting) None }
+    {
+        match find(&self.log, &self.table, p) {
+            Some(process) => Some(process.waiting()),
+            None => None,
+        }
+    }
+
+    /// The ids under which p, if it lives here, is linked with q.
+    pub fn linked(&self, p: Pid, q: Pid) -> Option<Ids>
+        ensures { result ≡ cond (lives self.now p) (held_by self.now p q) None }
+    {
+        find(&self.log, &self.table, p)?.linked(q)
+    }
+
+    /// Whether p may be the target of a call: its numbers are in the node's ranges, and if it is of this desk,
+    /// its version was issued.
+    pub fn knows(&self, p: Pid) -> bool
+        ensures { result ≡ knows self.now p }
+    {
+        p.shard < self.config.desks
+            && p.slot < self.config.slots
+            && p.version >= 1
+            && p.version <= self.config.top_version
+            && (p.shard != self.log.desk() || p.version <= self.table.issued(p.slot))
+    }
+
+    /// The pid that the next birth on this desk has, or `None` where no slot is free.
+    pub fn vacant(&self) -> Option<Pid>
+        ensures { result ≡ self.now.vacant }
+    {
+        let key = self.table.next()?;
+        Some(Pid {
+            shard: self.log.desk(),
+            slot: key.slot,
+            version: key.version,
+        })
+    }
+
+    /// Sends a message.
+    pub fn send(&mut self, from: Pid, to: Pid, body: Body) -> Result<(), Fault>
+        requires { knows self.old to ≡ true }
+        ensures { Calls from (Some (Event.Said from to (Signal.Message body))) tt self.old result self.new }
+    {
+        self.say(from, to, Signal::Message(body))
+    }
+
+    /// Sends an exit signal that no link carries: Erlang's `exit/2`.
+    pub fn exit_signal(&mut self, from: Pid, to: Pid, reason: Reason) -> Result<(), Fault>
+        requires { knows self.old to ≡ true }
+        ensures { Calls from (Some (Event.Said from to (Signal.Exit reason))) tt self.old result self.new }
+    {
+        self.say(from, to, Signal::Exit(reason))
+    }
+
+    /// Sends a signal that changes nothing in its sender.
+    fn say(&mut self, from: Pid, to: Pid, signal: Signal) -> Result<(), Fault>
+        requires known { knows self.old to ≡ true }
+        requires plain { IsPlain signal }
+        ensures { Calls from (Some (Event.Said from to signal)) tt self.old result self.new }
+    {
+        let Some(_process) = find(&self.log, &self.table, from) else {
+            return Err(Fault::Gone);
+        };
+        self.log.prepare(0)?;
+        self.queue.reserve(1)?;
+        let stamp = self.log.write(0, Event::Said(from, to, signal));
+        self.queue.push_back_reserved(Letter {
+            from,
+            to,
+            signal,
+            stamp,
+        });
+        Ok(())
+    }
+
+    /// Links p with another process: Erlang's `link/1`. Nothing happens where they are linked, or p is the target.
+    pub fn link(&mut self, p: Pid, to: Pid) -> Result<(), Fault>
+        requires { knows self.old to ≡ true }
+        ensures { Calls p (link_event self.old p to) tt self.old result self.new }
+    {
+        let Some(process) = find(&self.log, &self.table, p) else {
+            return Err(Fault::Gone);
+        };
+        if p == to || process.linked(to).is_some() {
+            return Ok(());
+        }
+        self.log.prepare(0)?;
+        self.queue.reserve(1)?;
+        let id = LinkId {
+            desk: self.log.desk(),
+            number: self.log.clock() + 1,
+        };
+        add_link(&mut self.table, p, to, id)?;
+        let signal = Signal::Link(id);
+        let stamp = self.log.write(0, Event::Said(p, to, signal));
+        self.queue.push_back_reserved(Letter {
+            from: p,
+            to,
+            signal,
+            stamp,
+        });
+        Ok(())
+    }
+
+    /// Takes the link of p with another process back: Erlang's `unlink/1`. Nothing happens where there is none.
+    pub fn unlink(&mut self, p: Pid, to: Pid) -> Result<(), Fault>
+        requires { knows self.old to ≡ true }
+        ensures { Calls p (unlink_event self.old p to) tt self.old result self.new }
+    {
+        let Some(process) = find(&self.log, &self.table, p) else {
+            return Err(Fault::Gone);
+        };
+        let Some(ids) = process.linked(to) else {
+            return Ok(());
+        };
+        self.log.prepare(0)?;
+        self.queue.reserve(1)?;
+        cut_link(&mut self.table, p, to);
+        let signal = Signal::Unlink(ids);
+        let stamp = self.log.write(0, Event::Said(p, to, signal));
+        self.queue.push_back_reserved(Letter {
+            from: p,
+            to,
+            signal,
+            stamp,
+        });
+        Ok(())
+    }
+
+    /// Sets whether p traps exits, and answers whether it did: Erlang's `process_flag(trap_exit, _)`.
+    pub fn trap(&mut self, p: Pid, on: bool) -> Result<bool, Fault>
+        ensures { Calls p (Some (Event.Flag p on)) (state_in self.old p).traps self.old result self.new }
+    {
+        let Some(process) = find(&self.log, &self.table, p) else {
+            return Err(Fault::Gone);
+        };
+        let before = process.traps();
+        self.log.prepare(0)?;
+        set_trap(&mut self.table, p, on);
+        self.log.write(0, Event::Flag(p, on));
+        Ok(before)
+    }
+
+    /// Takes the first item that fits out of the mailbox of p; the others stay, in order: Erlang's `receive`
+    /// with `after 0`.
+    pub fn receive(&mut self, p: Pid, pick: Pick) -> Result<Option<Item>, Fault>
+        ensures { Calls p (take_event self.old p pick) (first_match self.old p pick) self.old result self.new }
+    {
+        let Some(process) = find(&self.log, &self.table, p) else {
+            return Err(Fault::Gone);
+        };
+        let Some((place, item)) = process.first(pick) else {
+            return Ok(None);
+        };
+        self.log.prepare(0)?;
+        take_at(&mut self.table, p, place);
+        self.log.write(0, Event::Took(p, pick, item));
+        Ok(Some(item))
+    }
+}

@@ -1,0 +1,4 @@
+pub mod Resident
+pub mod Outcome
+pub mod Gaps
+pub mod Places

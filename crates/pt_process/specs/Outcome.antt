@@ -1,0 +1,31 @@
+-- What `accept` answers, and what the process is afterwards.
+use Rattle.std.specs.Prelude.{◌≡◌, ◌≢◌, ◌<◌, ◌⊎◌, [], length, Option, Some, None, Result, Ok, Err}
+use Rattle.pt_signal.specs.Process as one
+use Rattle.pt_signal.specs.Process.{ProcessState, Handled}
+use Rattle.pt_process.specs.declared.outcome.Outcome.{Outcome}
+use Rattle.pt_process.specs.declared.outcome.Outcome.TheVariants.{Queued, Changed, Dropped, Ends}
+use Rattle.pt_process.specs.declared.verdict.Verdict.{Verdict}
+use Rattle.pt_process.specs.declared.verdict.Verdict.TheVariants as code
+use Rattle.pt_process.specs.Resident.{Resident}
+
+abbrev pub IsOutcome : ProcessState → Handled → Outcome → Type 0
+IsOutcome old h Queued = (h.ending ≡ None) × (h.items ≢ [])
+IsOutcome old h Changed = (h.ending ≡ None) × (h.items ≡ []) × (h.state ≢ old)
+IsOutcome old h Dropped = (h.ending ≡ None) × (h.items ≡ []) × (h.state ≡ old)
+IsOutcome old h (Ends r) = h.ending ≡ Some r
+
+-- one of the lists that a signal can add to is longer
+abbrev pub IsLonger : ProcessState → ProcessState → Type 0
+IsLonger old new =
+    (length old.waiting < length new.waiting) ⊎ (length old.links < length new.links) ⊎ (length old.kept < length new.kept)
+
+-- memory is refused only where a list would grow, and nothing has changed then
+abbrev pub Accepts : {E : Type 0} → Resident → Handled → Result Outcome E → Resident → Type 0
+Accepts old h (Ok outcome) new = (new.me ≡ old.me) × (new.state ≡ h.state) × IsOutcome old.state h outcome
+Accepts old h (Err e) new = (new.me ≡ old.me) × (new.state ≡ old.state)
+
+-- the code's verdict as the rules write it
+abbrev pub ruled : Verdict → one.Verdict
+ruled code.Drops = one.drops
+ruled (code.Queues item) = one.queues item
+ruled (code.Ends r) = one.ends r

@@ -1,0 +1,10 @@
+-- The first of a list that passes a test.
+use Rattle.std.specs.Prelude.{◌≡◌, ℕ, ◌<◌, Bool, List, length, slice_get, Option, Some, None}
+use Rattle.std.specs.List.{find, remove}
+use Rattle.pt_signal.specs.Values.{without_first}
+
+-- the place and the item of the first that passes the test
+abbrev pub IsFirst : {X : Type 0} → (X → Bool) → List X → Option (ℕ × X) → Type 0
+IsFirst test items None = find test items ≡ None
+IsFirst test items (Some found) =
+    (find test items ≡ Some found.1) × (slice_get items found.0 ≡ Some found.1) × (remove items found.0 ≡ without_first test items)

@@ -1,0 +1,43 @@
+-- How a count over slots follows the change of one slot.
+use Rattle.std.proofs.Common.{◌≡◌, ◌≢◌, ℕ, zero, suc, ◌+◌, Bool, true, false, List, [], ◌∷◌, get_or, Option, Some, None, is_some, cond, count_by, sum_by, refl, sym, ap, ◌∙◌, arith}
+use Rattle.std.proofs.lemmas.List.Sums.{sum_by-cons}
+use Rattle.pt_slots.specs.State.{is_live, is_retired}
+
+module _ {X : Type 0} (f : X → ℕ) (d : X) (nothing : f d ≡ 0) where
+  -- lists that read alike, past their ends too, have one sum
+  pub sum_by-same : (old new : List X) → ((i : ℕ) → get_or new i d ≡ get_or old i d) → sum_by f new ≡ sum_by f old
+  sum_by-same [] [] same = refl
+  sum_by-same [] (y ∷ ys) same =
+      omega (arith, nothing, sum_by-cons f y ys, ap f (same 0), sum_by-same [] ys (λ i. same (suc i)))
+  sum_by-same (x ∷ xs) [] same =
+      omega (arith, nothing, sum_by-cons f x xs, ap f (same 0), sum_by-same xs [] (λ i. same (suc i)))
+  sum_by-same (x ∷ xs) (y ∷ ys) same =
+      omega (arith, sum_by-cons f x xs, sum_by-cons f y ys, ap f (same 0), sum_by-same xs ys (λ i. same (suc i)))
+
+  -- where one place alone differs, the sums differ by it
+  pub sum_by-changed : (old new : List X) (key : ℕ) → ((i : ℕ) → i ≢ key → get_or new i d ≡ get_or old i d) → sum_by f new + f (get_or old key d) ≡ sum_by f old + f (get_or new key d)
+  sum_by-changed [] [] key others = refl
+  sum_by-changed [] (y ∷ ys) zero others =
+      omega (arith, nothing, sum_by-cons f y ys, sum_by-same [] ys (λ i. others (suc i) (λ e. omega (arith, e))))
+  sum_by-changed [] (y ∷ ys) (suc key) others =
+      omega (arith, nothing, sum_by-cons f y ys, ap f (others 0 (λ e. omega (arith, e))), sum_by-changed [] ys key (λ i differs. others (suc i) (λ e. differs (omega (arith, e)))))
+  sum_by-changed (x ∷ xs) [] zero others =
+      omega (arith, nothing, sum_by-cons f x xs, sum_by-same xs [] (λ i. others (suc i) (λ e. omega (arith, e))))
+  sum_by-changed (x ∷ xs) [] (suc key) others =
+      omega (arith, nothing, sum_by-cons f x xs, ap f (others 0 (λ e. omega (arith, e))), sum_by-changed xs [] key (λ i differs. others (suc i) (λ e. differs (omega (arith, e)))))
+  sum_by-changed (x ∷ xs) (y ∷ ys) zero others =
+      omega (arith, sum_by-cons f x xs, sum_by-cons f y ys, sum_by-same xs ys (λ i. others (suc i) (λ e. omega (arith, e))))
+  sum_by-changed (x ∷ xs) (y ∷ ys) (suc key) others =
+      omega (arith, sum_by-cons f x xs, sum_by-cons f y ys, ap f (others 0 (λ e. omega (arith, e))), sum_by-changed xs ys key (λ i differs. others (suc i) (λ e. differs (omega (arith, e)))))
+
+module _ {T : Type 0} where
+  -- a slot that is not free has a live value or is retired
+  pub taken_split : (slots : List (Option (Option T))) → count_by is_some slots ≡ count_by is_live slots + count_by is_retired slots
+  taken_split [] = refl
+  taken_split (slot ∷ rest) =
+      omega (arith, sum_by-cons (λ o. cond (is_some o) 1 0) slot rest, sum_by-cons (λ o. cond (is_live o) 1 0) slot rest, sum_by-cons (λ o. cond (is_retired o) 1 0) slot rest, one_of slot, taken_split rest)
+    where
+      one_of : (slot : Option (Option T)) → cond (is_some slot) 1 0 ≡ cond (is_live slot) 1 0 + cond (is_retired slot) 1 0
+      one_of None = refl
+      one_of (Some None) = refl
+      one_of (Some (Some value)) = refl

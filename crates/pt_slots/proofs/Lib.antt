@@ -1,0 +1,4 @@
+pub mod Changes
+pub mod Counts
+pub mod Offers
+pub mod Steps

@@ -1,0 +1,4 @@
+pub mod Calls
+pub mod Lends
+pub mod Sound
+pub mod State
