@@ -18,7 +18,7 @@ use Rattle.pt_desk.specs.Turns.{IsFirst}
 use Rattle.pt_desk.specs.LogState.{LogState, IsWritten}
 use Rattle.pt_desk.specs.Sound.{IsSound, BornAreIssued, IsNear, AllNear, AreWithin, resident, issued_in}
 use Rattle.pt_desk.proofs.Frames.{Reading}
-use Rattle.pt_desk.proofs.Near.{Every, near_life, near_sent, IsToNode}
+use Rattle.pt_desk.proofs.Near.{Every, IsOpen, near_life, near_sent, IsToNode}
 use Rattle.pt_desk.proofs.Accounts.{Agrees-posted, Agrees-got, posts_all}
 
 -- a receipt
@@ -34,7 +34,7 @@ got_nothing d n desk (Took q k i) h = refl
 got_nothing d n desk (Flag q on) h = refl
 got_nothing d n desk (Left q r) h = refl
 
-all_to : (desks e : ℕ) → desks ≡ 1 → e ≡ 0 → (ls : List Sent) → Every (IsToNode desks 0) ls → Every (λ l. l.to.shard ≡ e) ls
+all_to : (desks e : ℕ) → desks ≡ 1 → e ≡ 0 → (ls : List Sent) → Every (IsToNode desks) ls → Every (λ l. l.to.shard ≡ e) ls
 all_to desks e one zero [] h = tt
 all_to desks e one zero (l ∷ ls) h = (let k : l.to.shard < desks = h.0 in omega arith, all_to desks e one zero ls h.1)
 
@@ -42,7 +42,7 @@ AreWithin-append : (desks : ℕ) (xs ys : List Letter) → AreWithin desks xs �
 AreWithin-append desks [] ys h k = k
 AreWithin-append desks (x ∷ xs) ys h k = (h.0, AreWithin-append desks xs ys h.1 k)
 
-sent_within : (desks d n : ℕ) → d < desks → (ls : List Sent) → AllFrom d ls → Every (IsToNode desks 0) ls → AreWithin desks (map (letter n) ls)
+sent_within : (desks d n : ℕ) → d < desks → (ls : List Sent) → AllFrom d ls → Every (IsToNode desks) ls → AreWithin desks (map (letter n) ls)
 sent_within desks d n here [] h k = tt
 sent_within desks d n here (l ∷ ls) h k = ((let e : l.from.shard ≡ d = h.0 in omega arith, k.0), sent_within desks d n here ls h.1 k.1)
 
@@ -65,10 +65,10 @@ split_first (x ∷ queue) l h = let e : x ≡ l = cc in ap (λ z. z ∷ queue) e
 
 module _ (d : DeskState) (read : Reading) (issued : ℕ → ℕ) (sound : IsSound d read issued) where
   -- what an event of the desk sends
-  sends : (e : Event) → IsNear d.config.desks e → Every (IsToNode d.config.desks 0) (sent_by [] (past d) e)
+  sends : (e : Event) → IsNear d.config.desks e → Every (IsToNode d.config.desks) (sent_by [] (past d) e)
   sends e near =
       let here : d.number < d.config.desks = omega (arith, sound.alone, sound.settings.desks) in
-      near_sent d.config.desks (clock d.config.start d.journal) (past d) e near
+      near_sent d.config.desks (IsOpen d.config.desks d.config.start d.number d.journal) (λ w k. k.0) (past d) e near
       (near_life d.config.desks d.config.start d.config.top_version d.number d.journal here sound.local sound.near)
 
   module _ (n : ℕ) (e : Event) (read' : Reading) (issued' : ℕ → ℕ) (law : IsLawful d n e read' issued') where

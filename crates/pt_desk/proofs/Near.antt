@@ -17,9 +17,9 @@ use Rattle.pt_signal.specs.Process.{ProcessState, Handled, fresh, held, enter, e
 use Rattle.pt_history.specs.declared.event.Event.{Event}
 use Rattle.pt_history.specs.declared.event.Event.TheVariants.{Born, Said, Came, Took, Flag, Left}
 use Rattle.pt_history.specs.declared.event.Stamped.{Stamped}
-use Rattle.pt_history.specs.History.{Past, Phase, unborn, living, ended, life, after, change, touches, newborn, while_living, linked, gets, leaves, live_or_end, sent_by, got_sends, left_sends, end_sends}
-use Rattle.pt_history.specs.Journal.{events, clock, IsLocal, IsHome, IsNewAt, IsOf}
-use Rattle.pt_history.proofs.Phases.{each_branch}
+use Rattle.pt_history.specs.History.{Past, Phase, unborn, living, ended, life, after, change, touches, newborn, while_living, linked, gets, leaves, live_or_end, sent_by, got_sends, left_sends, end_sends, is_unborn}
+use Rattle.pt_history.specs.Journal.{events, clock, IsLocal, IsHome, IsNewAt, IsOf, IsKnown}
+use Rattle.pt_history.proofs.Phases.{each_branch, after_born}
 use Rattle.pt_desk.specs.Sound.{IsNear, AllNear}
 
 -- lists ---
@@ -47,20 +47,30 @@ Every-without_first : {X : Type 0} (P : X → Type 0) (test : X → Bool) (xs : 
 Every-without_first P test [] h = tt
 Every-without_first P test (x ∷ xs) h = each_branch (Every P) (test x) xs (x ∷ without_first test xs) h.1 (h.0, Every-without_first P test xs h.1)
 
-module _ (desks n : ℕ) where
+-- what is sent goes to a desk of the node
+abbrev pub IsToNode : ℕ → Sent → Type 0
+IsToNode desks l = l.to.shard < desks
+
+-- W holds of each open monitor: a reference and its target
+module _ (desks : ℕ) (W : Ref × Pid → Type 0) where
   abbrev pub IsPeer : Pid × Ids → Type 0
   IsPeer e = e.0.shard < desks
 
   abbrev pub IsWatch : Ref × Pid → Type 0
   IsWatch e = e.1.shard < desks
 
-  -- an open reference was made by stamp n
-  abbrev pub IsOpen : Ref × Pid → Type 0
-  IsOpen e = (e.1.shard < desks) × (e.0.number ≤ n)
+  -- W holds of what the signal opens
+  abbrev pub MayOpen : Pid → Signal → Type 0
+  MayOpen to (Monitor m) = W (m, to)
+  MayOpen to _ = ⊤
+
+  abbrev pub MayOpenBy : Event → Type 0
+  MayOpenBy (Said a b x) = MayOpen b x
+  MayOpenBy _ = ⊤
 
   pub record IsNearState (s : ProcessState) : Type 0 where
     pub links : Every IsPeer s.links
-    pub watching : Every IsOpen s.watching
+    pub watching : Every W s.watching
     pub kept : Every IsWatch s.kept
 
   abbrev pub IsNearPhase : Phase → Type 0
@@ -95,7 +105,7 @@ module _ (desks n : ℕ) where
 
   near_down : (o : Option Pid) (s : ProcessState) (from : Pid) (m : Ref) (r : Reason) → IsNearState s → IsNearState (down o s from m r).state
   near_down None s from m r h = h
-  near_down (Some t) s from m r h = record { links = h.links; watching = Every-removed IsOpen (same_ref m) s.watching h.watching; kept = h.kept }
+  near_down (Some t) s from m r h = record { links = h.links; watching = Every-removed W (same_ref m) s.watching h.watching; kept = h.kept }
 
   near_handle : (me : Pid) (s : ProcessState) (from : Pid) (x : Signal) → from.shard < desks → IsNearState s → IsNearState (handle me s from x).state
   near_handle me s from (Message b) near h = record { links = h.links; watching = h.watching; kept = h.kept }
@@ -107,12 +117,12 @@ module _ (desks n : ℕ) where
   near_handle me s from (Demonitor m) near h = record { links = h.links; watching = h.watching; kept = Every-without_first IsWatch (same_watch m from) s.kept h.kept }
   near_handle me s from (Signal.Down m r) near h = near_down _ s from m r h
 
-  near_say : (d : ℕ) (s : ProcessState) (from to : Pid) (x : Signal) → to.shard < desks → IsNewAt d n (Said from to x) → IsNearState s → IsNearState (say s to x)
-  near_say d s from to (Link i) near new h = record { links = near_enter_at (held s.links to) to i s.links near h.links; watching = h.watching; kept = h.kept }
-  near_say d s from to (Unlink ids) near new h = record { links = near_cut_at (held s.links to) to ids s.links h.links; watching = h.watching; kept = h.kept }
-  near_say d s from to (Monitor m) near new h = record { links = h.links; watching = Every-append IsOpen s.watching _ h.watching ((near, omega (arith, new.1)), tt); kept = h.kept }
-  near_say d s from to (Demonitor m) near new h = record { links = h.links; watching = Every-removed IsOpen (same_ref m) s.watching h.watching; kept = h.kept }
-  near_say d s from to _ near new h = h
+  near_say : (s : ProcessState) (to : Pid) (x : Signal) → to.shard < desks → MayOpen to x → IsNearState s → IsNearState (say s to x)
+  near_say s to (Link i) near new h = record { links = near_enter_at (held s.links to) to i s.links near h.links; watching = h.watching; kept = h.kept }
+  near_say s to (Unlink ids) near new h = record { links = near_cut_at (held s.links to) to ids s.links h.links; watching = h.watching; kept = h.kept }
+  near_say s to (Monitor m) near new h = record { links = h.links; watching = Every-append W s.watching _ h.watching (new, tt); kept = h.kept }
+  near_say s to (Demonitor m) near new h = record { links = h.links; watching = Every-removed W (same_ref m) s.watching h.watching; kept = h.kept }
+  near_say s to _ near new h = h
 
   near_linked : (q : Option Pid) (link : Option LinkId) (d : ℕ) (s : ProcessState) → IsOf d q → d < desks → IsNearState s → IsNearState (linked q link s)
   near_linked (Some q) (Some i) d s home here h = record { links = near_enter_at (held s.links q) q i s.links (omega arith) h.links; watching = h.watching; kept = h.kept }
@@ -143,79 +153,101 @@ module _ (desks n : ℕ) where
   near_left r (living s) = tt
   near_left r (ended w s) = tt
 
-  near_change : (d : ℕ) (p : Pid) (e : Event) (f : Phase) → d < desks → IsHome d e → IsNewAt d n e → IsNear desks e → IsNearPhase f → IsNearPhase (change p e f)
+  near_change : (d : ℕ) (p : Pid) (e : Event) (f : Phase) → d < desks → IsHome d e → MayOpenBy e → IsNear desks e → IsNearPhase f → IsNearPhase (change p e f)
   near_change d p (Born q parent link) f here home new near h =
       each_branch IsNearPhase (same_pid p q) _ _ (near_newborn parent link d f home.1 here h)
       (near_while (linked (Some q) link) (λ s k. near_linked (Some q) link d s home.0 here k) f h)
-  near_change d p (Said a b x) f here home new near h = near_while (λ s. say s b x) (λ s k. near_say d s a b x near new k) f h
+  near_change d p (Said a b x) f here home new near h = near_while (λ s. say s b x) (λ s k. near_say s b x near new k) f h
   near_change d p (Came a b x) f here home new near h = near_got p a x f near h
   near_change d p (Took q k i) f here home new near h = near_while _ (λ s j. record { links = j.links; watching = j.watching; kept = j.kept }) f h
   near_change d p (Flag q on) f here home new near h = near_while _ (λ s j. record { links = j.links; watching = j.watching; kept = j.kept }) f h
   near_change d p (Left q r) f here home new near h = near_left r f
 
-  -- what is sent goes to a desk of the node
-  abbrev pub IsToNode : Sent → Type 0
-  IsToNode l = l.to.shard < desks
-
-  near_mapped : {X : Type 0} (Q : X → Type 0) (f : X → Sent) → ((x : X) → Q x → IsToNode (f x)) → (xs : List X) → Every Q xs → Every IsToNode (map f xs)
+  near_mapped : {X : Type 0} (Q : X → Type 0) (f : X → Sent) → ((x : X) → Q x → IsToNode desks (f x)) → (xs : List X) → Every Q xs → Every (IsToNode desks) (map f xs)
   near_mapped Q f k [] h = tt
   near_mapped Q f k (x ∷ xs) h = (k x h.0, near_mapped Q f k xs h.1)
 
-  near_estate : (me : Pid) (s : ProcessState) (r : Reason) → IsNearState s → Every IsToNode (estate me s r)
-  near_estate me s r h =
-      Every-append IsToNode _ _
-      (Every-append IsToNode _ _ (near_mapped IsPeer (λ (e : Pid × Ids). sent me e.0 (LinkExit e.1 r)) (λ x k. k) s.links h.links)
+  near_estate : ((e : Ref × Pid) → W e → e.1.shard < desks) → (me : Pid) (s : ProcessState) (r : Reason) → IsNearState s → Every (IsToNode desks) (estate me s r)
+  near_estate near_open me s r h =
+      Every-append (IsToNode desks) _ _
+      (Every-append (IsToNode desks) _ _ (near_mapped IsPeer (λ (e : Pid × Ids). sent me e.0 (LinkExit e.1 r)) (λ x k. k) s.links h.links)
       (near_mapped IsWatch (λ (k : Ref × Pid). sent me k.1 (Signal.Down k.0 r)) (λ x k. k) s.kept h.kept))
-      (near_mapped IsOpen (λ (m : Ref × Pid). sent me m.1 (Demonitor m.0)) (λ x k. k.0) s.watching h.watching)
+      (near_mapped W (λ (m : Ref × Pid). sent me m.1 (Demonitor m.0)) (λ x k. near_open x k) s.watching h.watching)
 
-  near_ending : (me : Pid) (o : Option Reason) (s : ProcessState) → IsNearState s → Every IsToNode (end_sends me o s)
-  near_ending me None s h = tt
-  near_ending me (Some r) s h = near_estate me s r h
+  near_ending : ((e : Ref × Pid) → W e → e.1.shard < desks) → (me : Pid) (o : Option Reason) (s : ProcessState) → IsNearState s → Every (IsToNode desks) (end_sends me o s)
+  near_ending near_open me None s h = tt
+  near_ending near_open me (Some r) s h = near_estate near_open me s r h
 
-  near_bounce : (me from : Pid) (x : Signal) → from.shard < desks → Every IsToNode (bounce me from x)
+  near_bounce : (me from : Pid) (x : Signal) → from.shard < desks → Every (IsToNode desks) (bounce me from x)
   near_bounce me from (Link i) near = (near, tt)
   near_bounce me from (Monitor m) near = (near, tt)
   near_bounce me from _ near = tt
 
-  near_got_sends : (f : Phase) (me from : Pid) (x : Signal) → from.shard < desks → IsNearPhase f → Every IsToNode (got_sends f me from x)
-  near_got_sends unborn me from x near h = near_bounce me from x near
-  near_got_sends (living s) me from x near h = near_ending me (handle me s from x).ending _ (near_handle me s from x near h)
-  near_got_sends (ended r s) me from x near h = near_bounce me from x near
+  near_got_sends : ((e : Ref × Pid) → W e → e.1.shard < desks) → (f : Phase) (me from : Pid) (x : Signal) → from.shard < desks → IsNearPhase f → Every (IsToNode desks) (got_sends f me from x)
+  near_got_sends near_open unborn me from x near h = near_bounce me from x near
+  near_got_sends near_open (living s) me from x near h = near_ending near_open me (handle me s from x).ending _ (near_handle me s from x near h)
+  near_got_sends near_open (ended r s) me from x near h = near_bounce me from x near
 
-  near_left_sends : (f : Phase) (me : Pid) (r : Reason) → IsNearPhase f → Every IsToNode (left_sends f me r)
-  near_left_sends unborn me r h = tt
-  near_left_sends (living s) me r h = near_estate me s r h
-  near_left_sends (ended w s) me r h = tt
+  near_left_sends : ((e : Ref × Pid) → W e → e.1.shard < desks) → (f : Phase) (me : Pid) (r : Reason) → IsNearPhase f → Every (IsToNode desks) (left_sends f me r)
+  near_left_sends near_open unborn me r h = tt
+  near_left_sends near_open (living s) me r h = near_estate near_open me s r h
+  near_left_sends near_open (ended w s) me r h = tt
 
-  pub near_sent : (past : Past) (e : Event) → IsNear desks e → ((p : Pid) → IsNearPhase (life [] past p)) → Every IsToNode (sent_by [] past e)
-  near_sent past (Born q parent link) near h = tt
-  near_sent past (Said a b x) near h = (near, tt)
-  near_sent past (Came a b x) near h = near_got_sends (life [] past b) b a x near (h b)
-  near_sent past (Took q k i) near h = tt
-  near_sent past (Flag q on) near h = tt
-  near_sent past (Left p r) near h = near_left_sends (life [] past p) p r (h p)
+  pub near_sent : ((e : Ref × Pid) → W e → e.1.shard < desks) → (past : Past) (e : Event) → IsNear desks e → ((p : Pid) → IsNearPhase (life [] past p)) → Every (IsToNode desks) (sent_by [] past e)
+  near_sent near_open past (Born q parent link) near h = tt
+  near_sent near_open past (Said a b x) near h = (near, tt)
+  near_sent near_open past (Came a b x) near h = near_got_sends near_open (life [] past b) b a x near (h b)
+  near_sent near_open past (Took q k i) near h = tt
+  near_sent near_open past (Flag q on) near h = tt
+  near_sent near_open past (Left p r) near h = near_left_sends near_open (life [] past p) p r (h p)
 
-module _ (desks : ℕ) where
-  later_watching : (m n : ℕ) → m ≤ n → (es : List (Ref × Pid)) → Every (IsOpen desks m) es → Every (IsOpen desks n) es
-  later_watching m n le [] h = tt
-  later_watching m n le (e ∷ es) h = ((h.0.0, omega (arith, h.0.1)), later_watching m n le es h.1)
+-- an open monitor of the desk: its target is of the node, and was born if it is of the desk; its reference was made
+abbrev pub IsOpen : ℕ → ℕ → ℕ → List Stamped → Ref × Pid → Type 0
+IsOpen desks low d journal e =
+    (e.1.shard < desks) × (e.0.number ≤ clock low journal) × (e.1.shard ≡ d → is_unborn (life [] (events journal) e.1) ≡ false)
 
-  later : (m n : ℕ) → m ≤ n → (f : Phase) → IsNearPhase desks m f → IsNearPhase desks n f
-  later m n le unborn h = tt
-  later m n le (living s) h = record { links = h.links; watching = later_watching m n le s.watching h.watching; kept = h.kept }
-  later m n le (ended r s) h = tt
+module _ (desks low top d : ℕ) where
+  still_open : (s : Stamped) (journal : List Stamped) → clock low journal < s.stamp → (es : List (Ref × Pid)) → Every (IsOpen desks low d journal) es → Every (IsOpen desks low d (s ∷ journal)) es
+  still_open s journal later [] h = tt
+  still_open s journal later (e ∷ es) h =
+      let old = h.0.1 in
+      ((h.0.0, omega arith, λ k. after_born e.1 s.event (life [] (events journal) e.1) (h.0.2 k)), still_open s journal later es h.1)
 
-  pub near_life : (low top d : ℕ) (journal : List Stamped) → d < desks → IsLocal [] low top d journal → AllNear desks (events journal) → (p : Pid) → IsNearPhase desks (clock low journal) (life [] (events journal) p)
-  near_life low top d [] here local near p = tt
-  near_life low top d (s ∷ journal) here local near p =
+  still_near : (s : Stamped) (journal : List Stamped) → clock low journal < s.stamp → (f : Phase) → IsNearPhase desks (IsOpen desks low d journal) f → IsNearPhase desks (IsOpen desks low d (s ∷ journal)) f
+  still_near s journal later unborn h = tt
+  still_near s journal later (living t) h = record { links = h.links; watching = still_open s journal later t.watching h.watching; kept = h.kept }
+  still_near s journal later (ended r t) h = tt
+
+  may_open : (s : Stamped) (journal : List Stamped) (e : Event) → s.event ≡ e → IsNewAt d s.stamp e → IsNear desks e → IsKnown [] d top (events journal) e → MayOpenBy desks (IsOpen desks low d (s ∷ journal)) e
+  may_open s journal (Said a b (Monitor m)) is new near known =
+      (near, omega (arith, new.1), λ k. after_born b s.event (life [] (events journal) b) (known k))
+  may_open s journal _ is new near known = tt
+
+  pub near_life : (journal : List Stamped) → d < desks → IsLocal [] low top d journal → AllNear desks (events journal) → (p : Pid) → IsNearPhase desks (IsOpen desks low d journal) (life [] (events journal) p)
+  near_life [] here local near p = tt
+  near_life (s ∷ journal) here local near p =
       let f : Phase = life [] (events journal) p in
-      let le : clock low journal ≤ s.stamp = omega (arith, local.0.later) in
-      let before : IsNearPhase desks s.stamp f = later (clock low journal) s.stamp le f (near_life low top d journal here local.1 near.1 p) in
-      each_branch (IsNearPhase desks s.stamp) (touches p s.event) _ _ (near_change desks s.stamp d p s.event f here local.0.home local.0.new_at near.0 before) before
+      let before : IsNearPhase desks (IsOpen desks low d (s ∷ journal)) f = still_near s journal local.0.later f (near_life journal here local.1 near.1 p) in
+      each_branch (IsNearPhase desks (IsOpen desks low d (s ∷ journal))) (touches p s.event) _ _
+      (near_change desks (IsOpen desks low d (s ∷ journal)) d p s.event f here local.0.home (may_open s journal s.event refl local.0.new_at near.0 local.0.known) near.0 before) before
 
--- a reference that is yet to be made is not open
-pub not_open : (desks n : ℕ) (m : Ref) → n < m.number → (es : List (Ref × Pid)) → Every (IsOpen desks n) es → lookup (same_ref m) es ≡ None
-not_open desks n m new [] h = refl
-not_open desks n m new (e ∷ es) h =
-    let differs : same_ref m e.0 ≡ false = let old = h.0.1 in grind (arith, nat_tests) in
-    rw differs (not_open desks n m new es h.1)
+  -- a reference that is yet to be made is not open
+  pub not_open : (journal : List Stamped) (m : Ref) → clock low journal < m.number → (es : List (Ref × Pid)) → Every (IsOpen desks low d journal) es → lookup (same_ref m) es ≡ None
+  not_open journal m new [] h = refl
+  not_open journal m new (e ∷ es) h =
+      let differs : same_ref m e.0 ≡ false = let old = h.0.1 in grind (arith, nat_tests) in
+      rw differs (not_open journal m new es h.1)
+
+  -- what is open under a reference
+  pub open_at : (journal : List Stamped) (m : Ref) (t : Pid) (es : List (Ref × Pid)) → Every (IsOpen desks low d journal) es → lookup (same_ref m) es ≡ Some t
+      → (t.shard < desks) × (t.shard ≡ d → is_unborn (life [] (events journal) t) ≡ false)
+  open_at journal m t [] h found = absurd (cc)
+  open_at journal m t (e ∷ es) h found = go (same_ref m e.0) refl found (open_at journal m t es h.1)
+    where
+      go : (b : Bool) → same_ref m e.0 ≡ b → lookup (same_ref m) (e ∷ es) ≡ Some t
+          → (lookup (same_ref m) es ≡ Some t → (t.shard < desks) × (t.shard ≡ d → is_unborn (life [] (events journal) t) ≡ false))
+          → (t.shard < desks) × (t.shard ≡ d → is_unborn (life [] (events journal) t) ≡ false)
+      go true k f ih =
+          let is : e.1 ≡ t = (let g : Some e.1 ≡ Some t = rw k at f in cc) in
+          subst (λ x. (x.shard < desks) × (x.shard ≡ d → is_unborn (life [] (events journal) x) ≡ false)) is (h.0.0, h.0.2)
+      go false k f ih = let g : lookup (same_ref m) es ≡ Some t = rw k at f in ih g

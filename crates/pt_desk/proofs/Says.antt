@@ -1,5 +1,5 @@
 -- A process that says a signal, takes an item, or sets its flag leaves the desk whole.
-use Rattle.std.proofs.Common.{◌≡◌, ℕ, ◌+◌, ◌^◌, ◌<◌, max, Bool, true, List, [], ◌∷◌, ◌++◌, Option, Some, None, refl, sym, ap, ◌∙◌, subst, append-nil, arith}
+use Rattle.std.proofs.Common.{◌≡◌, ℕ, ◌+◌, ◌^◌, ◌<◌, max, Bool, true, false, List, [], ◌∷◌, ◌++◌, Option, Some, None, refl, sym, ap, ◌∙◌, subst, append-nil, arith}
 use Rattle.std.specs.List.{find, remove}
 use Rattle.std.specs.Map.{lookup}
 use Rattle.pt_signal.specs.declared.pid.Pid.{Pid}
@@ -12,7 +12,7 @@ use Rattle.pt_signal.specs.Values.{fits, without_first, same_ref}
 use Rattle.pt_signal.specs.Process.{ProcessState, say, held}
 use Rattle.pt_history.specs.declared.event.Event.{Event}
 use Rattle.pt_history.specs.declared.event.Event.TheVariants.{Said, Took, Flag}
-use Rattle.pt_history.specs.History.{living, life, state_of, MaySay}
+use Rattle.pt_history.specs.History.{living, life, is_unborn, state_of, MaySay}
 use Rattle.pt_history.specs.Journal.{IsNewAt}
 use Rattle.pt_history.proofs.Steps.{said, took, flagged}
 use Rattle.pt_desk.specs.declared.config.Config.{Config}
@@ -43,10 +43,12 @@ module _ (config : Config) (log : LogState) (table : Table) (queue : List Letter
         (h.0, h.1 ∙ ap (λ x. Some (x, s)) itself)
 
     module _ (can : log.clock < 2 ^ 62) (n : ℕ) (stamp : n ≡ log.clock + 1) (log' : LogState) (queue' : List Letter) (table' : Table) where
-      pub keeps_said : (to : Pid) (x : Signal) → knows now to ≡ true → MaySay [] (past now) s p to x → IsNewAt log.desk (log.clock + 1) (Said p to x)
+      -- the target is of a desk of the node, and was born if it is of this desk
+      pub keeps_known : (to : Pid) (x : Signal) → (to.shard ≡ log.desk → is_unborn (life [] (past now) to) ≡ false) → to.shard < config.desks
+          → MaySay [] (past now) s p to x → IsNewAt log.desk (log.clock + 1) (Said p to x)
           → IsWritten n (Said p to x) log log' → queue' ≡ queue ++ record { from = p; to = to; signal = x; stamp = log.clock + 1 } ∷ []
           → Changes p (λ me s. say s to x) table table' → IsWhole config log' table' queue' mark
-      keeps_said to x known may new wrote pushed changes =
+      keeps_known to x born near may new wrote pushed changes =
           let own : IsOwn config log table queue mark whole p s (Said p to x) = record {
             alone = λ q. refl;
             no_birth = refl;
@@ -56,11 +58,16 @@ module _ (config : Config) (log : LogState) (table : Table) (queue : List Letter
             home = stands.0;
             may = rw lives_here (refl, may);
             new_at = new;
-            known = known_born now to whole.sound.born known;
-            near = known_near now to known;
+            known = born;
+            near = near;
           } in
           let after = ap (of_phase p) (said [] (past now) p s lives_here to x) ∙ sym (ap (changed (λ me s. say s to x)) stands.1) in
           keeps config log table queue mark whole p s (Said p to x) own _ table' stands.0 changes.puts after n stamp log' wrote queue' pushed
+
+      pub keeps_said : (to : Pid) (x : Signal) → knows now to ≡ true → MaySay [] (past now) s p to x → IsNewAt log.desk (log.clock + 1) (Said p to x)
+          → IsWritten n (Said p to x) log log' → queue' ≡ queue ++ record { from = p; to = to; signal = x; stamp = log.clock + 1 } ∷ []
+          → Changes p (λ me s. say s to x) table table' → IsWhole config log' table' queue' mark
+      keeps_said to x known = keeps_known to x (known_born now to whole.sound.born known) (known_near now to known)
 
       pub keeps_flagged : (on : Bool) → IsWritten n (Flag p on) log log' → queue' ≡ queue → Changes p (λ me s. record s { traps = on }) table table' → IsWhole config log' table' queue' mark
       keeps_flagged on wrote same changes =

@@ -1,6 +1,6 @@
 // One desk.
 
-ghost use Rattle.std.specs.Prelude.{◌≡◌, true, [], ◌≤◌, ◌<◌, ◌+◌, min, length, Some, None, cond};
+ghost use Rattle.std.specs.Prelude.{◌≡◌, true, [], ◌≤◌, ◌<◌, ◌+◌, min, length, Some, None, cond, is_some};
 ghost use Rattle.std.specs.Option.{option_copied};
 ghost use Rattle.pt_signal.specs.declared.signal.Signal.{Signal};
 ghost use Rattle.pt_history.specs.declared.event.Event.{Event};
@@ -15,7 +15,7 @@ ghost use Rattle.pt_desk.specs.Turns.{Handles, Turns, filled};
 use crate::config::{Config, OpenError};
 use crate::fault::Fault;
 use crate::log::{LIMIT, Log};
-use crate::residents::{add_link, cut_link, find, set_trap, take_at};
+use crate::residents::{add_link, add_monitor, cut_link, cut_monitor, find, set_trap, take_at};
 use crate::turned::{Stop, Turned};
 use pt_history::{Event, Journal};
 use pt_process::Process;
@@ -202,7 +202,10 @@ impl Desk {
         let Some(process) = find(&self.log, &self.table, p) else {
             return Err(Fault::Gone);
         };
-        if p == to || process.linked(to).is_some() {
+        if p == to {
+            return Ok(());
+        }
+        if process.linked(to).is_some() {
             return Ok(());
         }
         self.log.prepare(0)?;
@@ -277,5 +280,63 @@ impl Desk {
         take_at(&mut self.table, p, place);
         self.log.write(0, Event::Took(p, pick, item));
         Ok(Some(item))
+    }
+
+    /// Watches another process: Erlang's `monitor/2`. It answers the reference, which the one DOWN will have.
+    pub fn monitor(&mut self, w: Pid, t: Pid) -> Result<Ref, Fault>
+        requires { knows self.old t ≡ true }
+        ensures { Monitors w t self.old result self.new }
+    {
+        let Some(_process) = find(&self.log, &self.table, w) else {
+            return Err(Fault::Gone);
+        };
+        if w == t {
+            return Err(Fault::Myself);
+        }
+        self.log.prepare(0)?;
+        self.queue.reserve(1)?;
+        let monitor = Ref {
+            desk: self.log.desk(),
+            number: self.log.clock() + 1,
+        };
+        add_monitor(&mut self.table, w, monitor, t)?;
+        let signal = Signal::Monitor(monitor);
+        let stamp = self.log.write(0, Event::Said(w, t, signal));
+        self.queue.push_back_reserved(Letter {
+            from: w,
+            to: t,
+            signal,
+            stamp,
+        });
+        Ok(monitor)
+    }
+
+    /// Gives a monitor of w up: Erlang's `demonitor/2`. Of one that is not open the DOWN is taken, where `flush`
+    /// asks for it and it waits. It answers whether it did either.
+    pub fn demonitor(&mut self, w: Pid, monitor: Ref, flush: bool) -> Result<bool, Fault>
+        ensures { Calls w (demonitor_event self.old w monitor flush) (is_some (demonitor_event self.old w monitor flush)) self.old result self.new }
+    {
+        let Some(process) = find(&self.log, &self.table, w) else {
+            return Err(Fault::Gone);
+        };
+        let Some(t) = process.target_of(monitor) else {
+            if !flush {
+                return Ok(false);
+            }
+            let taken = self.receive(w, Pick::DownOf(monitor))?;
+            return Ok(taken.is_some());
+        };
+        self.log.prepare(0)?;
+        self.queue.reserve(1)?;
+        cut_monitor(&mut self.table, w, monitor);
+        let signal = Signal::Demonitor(monitor);
+        let stamp = self.log.write(0, Event::Said(w, t, signal));
+        self.queue.push_back_reserved(Letter {
+            from: w,
+            to: t,
+            signal,
+            stamp,
+        });
+        Ok(true)
     }
 }
