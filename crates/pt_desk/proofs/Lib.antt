@@ -7,3 +7,5 @@ pub mod Frames
 pub mod Keeps
 pub mod Writes
 pub mod Says
+pub mod Outcomes
+pub mod Endings
