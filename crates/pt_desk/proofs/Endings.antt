@@ -33,9 +33,9 @@ length-remove_entry test (e ∷ es) =
 
 length-estate : (me : Pid) (s : ProcessState) (r : Reason) → length (estate me s r) ≡ length s.links + length s.kept + length s.watching
 length-estate me s r =
-    let a : length (map (λ (e : Pid × Ids). sent me e.0 (LinkExit e.1 r)) s.links) ≡ length s.links = length-map (λ (e : Pid × Ids). sent me e.0 (LinkExit e.1 r)) s.links in
-    let b : length (map (λ (k : Ref × Pid). sent me k.1 (Signal.Down k.0 r)) s.kept) ≡ length s.kept = length-map (λ (k : Ref × Pid). sent me k.1 (Signal.Down k.0 r)) s.kept in
-    let c : length (map (λ (m : Ref × Pid). sent me m.1 (Demonitor m.0)) s.watching) ≡ length s.watching = length-map (λ (m : Ref × Pid). sent me m.1 (Demonitor m.0)) s.watching in
+    let a : length (map (λ (e : Pid × Ids). sent me e.0 (LinkExit e.1 r)) s.links) ≡ length s.links = length-map s.links _ in
+    let b : length (map (λ (k : Ref × Pid). sent me k.1 (Signal.Down k.0 r)) s.kept) ≡ length s.kept = length-map s.kept _ in
+    let c : length (map (λ (m : Ref × Pid). sent me m.1 (Demonitor m.0)) s.watching) ≡ length s.watching = length-map s.watching _ in
     rw (length-append, length-append, a, b, c) refl
 
 obeyed : (v : Verdict) (s : ProcessState) (r : Reason) → (obey v s).ending ≡ Some r → (obey v s).state ≡ s
