@@ -9,3 +9,7 @@ pub mod Writes
 pub mod Says
 pub mod Outcomes
 pub mod Ties
+pub mod Endings
+pub mod Delivered
+pub mod Leaves
+pub mod Handling

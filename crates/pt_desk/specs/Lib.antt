@@ -8,3 +8,4 @@ pub mod Sound
 pub mod Residents
 pub mod Plain
 pub mod Whole
+pub mod Deliveries

@@ -15,6 +15,7 @@ ghost use Rattle.pt_desk.specs.Turns.{Handles, Turns, filled};
 use crate::config::{Config, OpenError};
 use crate::fault::Fault;
 use crate::log::{LIMIT, Log};
+use crate::outbox::{deliver, retire};
 use crate::residents::{add_link, add_monitor, cut_link, cut_monitor, find, set_trap, take_at};
 use crate::turned::{Stop, Turned};
 use pt_history::{Event, Journal};
@@ -337,6 +338,82 @@ impl Desk {
             signal,
             stamp,
         });
+
+    /// Ends p with this reason: Erlang's `exit/1`.
+    ///
+    /// Its links and the watchers on it get their signals; the items that wait are dropped.
+    pub fn exit(&mut self, p: Pid, reason: Reason) -> Result<(), Fault>
+        ensures { Calls p (Some (Event.Left p reason)) tt self.old result self.new }
+    {
+        let Some(process) = find(&self.log, &self.table, p) else {
+            return Err(Fault::Gone);
+        };
+        self.log.prepare(0)?;
+        self.queue.reserve(process.owed_len())?;
+        let stamp = self.log.write(0, Event::Left(p, reason));
+        retire(&mut self.table, &mut self.queue, p, reason, stamp);
+        Ok(())
+    }
+
+    /// Posts letters into the lane, and then handles at most `budget` of those that are there, oldest first.
+    pub fn turn(&mut self, budget: u32) -> Turned
+        ensures { Turns budget self.old result self.new }
+    {
+        let posted = self.post();
+        let mut handled: u64 = 0;
+        for _i in 0..budget {
+            match self.handle() {
+                Ok(true) => handled += 1,
+                Ok(false) => break,
+                Err(stop) => {
+                    return Turned {
+                        posted,
+                        handled,
+                        stopped: Some(stop),
+                    };
+                }
+            }
+        }
+        Turned {
+            posted,
+            handled,
+            stopped: None,
+        }
+    }
+
+    /// Fills the lane from the outbox, and says how many letters it took.
+    fn post(&mut self) -> u64
+        ensures after { self.new ≡ filled self.old }
+        ensures count { result + self.old.mark ≡ min self.old.config.lane (length self.old.queue) }
+    {
+        let mark = self.queue.len().min(self.config.lane as usize);
+        let posted = mark - self.mark;
+        self.mark = mark;
+        posted as u64
+    }
+
+    /// Handles the oldest letter of the lane, if there is one.
+    fn handle(&mut self) -> Result<bool, Stop>
+        ensures { Handles self.old result self.new }
+    {
+        if self.mark == 0 {
+            return Ok(false);
+        }
+        let Some(letter) = self.queue.front().copied() else {
+            return Ok(false);
+        };
+        self.log.prepare(letter.stamp)?;
+        let stamp = self.log.clock().max(letter.stamp) + 1;
+        deliver(
+            &self.log,
+            &mut self.table,
+            &mut self.queue,
+            letter,
+            stamp,
+        )?;
+        self.log
+            .write(letter.stamp, Event::Came(letter.from, letter.to, letter.signal));
+        self.mark -= 1;
         Ok(true)
     }
 }

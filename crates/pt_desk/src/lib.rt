@@ -5,6 +5,7 @@ mod config;
 mod desk;
 mod fault;
 mod log;
+mod outbox;
 mod residents;
 mod turned;
 
