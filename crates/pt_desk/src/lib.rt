@@ -6,6 +6,7 @@ mod desk;
 mod fault;
 mod log;
 mod residents;
+mod spawning;
 mod turned;
 
 pub use config::{Config, OpenError};
