@@ -7,3 +7,4 @@ pub mod Frames
 pub mod Keeps
 pub mod Writes
 pub mod Says
+pub mod Bears
