@@ -13,3 +13,4 @@ pub mod Endings
 pub mod Delivered
 pub mod Leaves
 pub mod Handling
+pub mod Bears

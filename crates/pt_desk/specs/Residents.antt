@@ -1,8 +1,9 @@
 -- The slots of a desk, read by pids.
-use Rattle.std.specs.Prelude.{◌≡◌, ℕ, ◌+◌, ◌==◌, ◌&&◌, Bool, cond, Option, Some, None, IfSome, IsSome}
+use Rattle.std.specs.Prelude.{◌≡◌, ℕ, ◌+◌, ◌<◌, ⊤, ◌==◌, ◌&&◌, Bool, cond, Option, Some, None, IfSome, IsSome}
 use Rattle.std.specs.Option.{option_map}
 use Rattle.pt_signal.specs.declared.pid.Pid.{Pid}
 use Rattle.pt_signal.specs.declared.ids.Ids.{Ids}
+use Rattle.pt_signal.specs.declared.ids.LinkId.{LinkId}
 use Rattle.pt_signal.specs.declared.reason.Reason.{Reason}
 use Rattle.pt_signal.specs.declared.signal.Signal.TheVariants.{Unlink}
 use Rattle.pt_signal.specs.Process.{ProcessState, held, say, estate}
@@ -62,6 +63,14 @@ pub record IsSameTable (old new : Table) : Type 0 where
   pub live : (slot version : ℕ) → seen (at new slot version) ≡ seen (at old slot version)
   pub settings : SameSettings old new
   pub next : next_key new ≡ next_key old
+
+-- the process in the place of p takes one more link without memory
+abbrev pub HasRoom : Pid → Table → Type 0
+HasRoom p table = IfSome (at table p.slot p.version) (λ r. 0 < r.room)
+
+abbrev pub HasRoomFor : Option LinkId → Pid → Table → Type 0
+HasRoomFor None p table = ⊤
+HasRoomFor (Some i) p table = HasRoom p table
 
 -- the process p was taken out, and owes that at its end
 pub record Ends (p : Pid) (reason : Reason) (owing : Owing) (old new : Table) : Type 0 where

@@ -17,6 +17,7 @@ use crate::fault::Fault;
 use crate::log::{LIMIT, Log};
 use crate::outbox::{deliver, retire};
 use crate::residents::{add_link, add_monitor, cut_link, cut_monitor, find, set_trap, take_at};
+use crate::spawning;
 use crate::turned::{Stop, Turned};
 use pt_history::{Event, Journal};
 use pt_process::Process;
@@ -338,6 +339,8 @@ impl Desk {
             signal,
             stamp,
         });
+        Ok(true)
+    }
 
     /// Ends p with this reason: Erlang's `exit/1`.
     ///
@@ -404,16 +407,60 @@ impl Desk {
         };
         self.log.prepare(letter.stamp)?;
         let stamp = self.log.clock().max(letter.stamp) + 1;
-        deliver(
-            &self.log,
-            &mut self.table,
-            &mut self.queue,
-            letter,
-            stamp,
-        )?;
-        self.log
-            .write(letter.stamp, Event::Came(letter.from, letter.to, letter.signal));
+        deliver(&self.log, &mut self.table, &mut self.queue, letter, stamp)?;
+        self.log.write(
+            letter.stamp,
+            Event::Came(letter.from, letter.to, letter.signal),
+        );
         self.mark -= 1;
         Ok(true)
+    }
+
+    /// Makes a process that no other one bears: Erlang's `spawn/1`, called from outside of the desk.
+    ///
+    /// It is refused as `Worn` where the clock is at its limit, then as `Full` where no slot is free.
+    pub fn spawn(&mut self) -> Result<Pid, Fault>
+        ensures { Bears None None self.old result self.new }
+    {
+        if self.log.is_worn(0) {
+            return Err(Fault::Worn);
+        }
+        let Some(pid) = spawning::vacant(&self.log, &self.table) else {
+            return Err(Fault::Full);
+        };
+        self.log.prepare(0)?;
+        spawning::admit(&mut self.table, Process::new(self.alloc, pid))?;
+        self.log.write(0, Event::Born(pid, None, None));
+        Ok(pid)
+    }
+
+    /// Makes a process that its parent bears, linked with it where that is asked: Erlang's `spawn/1` and
+    /// `spawn_link/1`.
+    ///
+    /// It is refused as `Gone` where the parent is not alive here, then as `Worn` where the clock is at its limit,
+    /// then as `Full` where no slot is free.
+    pub fn spawn_child(&mut self, parent: Pid, linked: bool) -> Result<Pid, Fault>
+        ensures { BearsChild parent linked self.old result self.new }
+    {
+        let Some(_process) = find(&self.log, &self.table, parent) else {
+            return Err(Fault::Gone);
+        };
+        if self.log.is_worn(0) {
+            return Err(Fault::Worn);
+        }
+        let Some(pid) = spawning::vacant(&self.log, &self.table) else {
+            return Err(Fault::Full);
+        };
+        let link = linked.then_some(LinkId {
+            desk: self.log.desk(),
+            number: self.log.clock() + 1,
+        });
+        self.log.prepare(0)?;
+        let child = spawning::newborn(self.alloc, pid, parent, link)?;
+        spawning::make_room(&mut self.table, parent, link)?;
+        spawning::admit(&mut self.table, child)?;
+        spawning::adopt(&mut self.table, parent, pid, link);
+        self.log.write(0, Event::Born(pid, Some(parent), link));
+        Ok(pid)
     }
 }

@@ -7,6 +7,7 @@ mod fault;
 mod log;
 mod outbox;
 mod residents;
+mod spawning;
 mod turned;
 
 pub use config::{Config, OpenError};
