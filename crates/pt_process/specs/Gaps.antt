@@ -1,6 +1,7 @@
 -- Entries in order of entry, some of which have gone and left a gap.
-use Rattle.std.specs.Prelude.{◌≡◌, ℕ, Bool, List, [], ◌∷◌, ◌++◌, map, Option, Some, None}
-use Rattle.std.specs.Map.{lookup, set_value}
+use Rattle.std.specs.Prelude.{◌≡◌, ℕ, ◌≤◌, ◌^◌, Bool, List, [], ◌∷◌, ◌++◌, map, length, Option, Some, None}
+use Rattle.std.specs.List.{IsDistinct}
+use Rattle.std.specs.Map.{lookup, set_value, keys_of}
 
 -- the entries as a caller sees them, and how many more there is surely room for
 pub record Listed (K V : Type 0) : Type 0 where
@@ -15,6 +16,17 @@ before k (Some v) rest = (k, v) ∷ rest
 abbrev pub present : {K V : Type 0} → List (K × Option V) → List (K × V)
 present [] = []
 present (e ∷ es) = before e.0 e.1 (present es)
+
+-- what a look-up finds, where a gap is nothing
+abbrev pub found : {V : Type 0} → Option (Option V) → Option V
+found None = None
+found (Some value) = value
+
+-- no key stands there twice, and there are this many entries, which are not too many to be counted
+pub record AreCounted {K V : Type 0} (eq : K → K → Bool) (es : List (K × Option V)) (len : ℕ) : Type 0 where
+  pub unique : IsDistinct eq (keys_of es)
+  pub counted : len ≡ length (present es)
+  pub limited : len ≤ 2 ^ 62
 
 abbrev pub HasNoGap : {K V : Type 0} → List (K × Option V) → Type 0
 HasNoGap es = es ≡ map (λ e. (e.0, Some e.1)) (present es)

@@ -1,5 +1,6 @@
 -- What `accept` answers, and what the process is afterwards.
-use Rattle.std.specs.Prelude.{◌≡◌, ◌≢◌, ◌<◌, ◌⊎◌, [], length, Option, Some, None, Result, Ok, Err}
+use Rattle.std.specs.Prelude.{◌≡◌, ◌≢◌, ◌<◌, ◌⊎◌, Bool, false, [], length, is_some, Option, Some, None, Result, Ok, Err}
+use Rattle.pt_signal.specs.declared.ids.Ids.{Ids}
 use Rattle.pt_signal.specs.Process as one
 use Rattle.pt_signal.specs.Process.{ProcessState, Handled}
 use Rattle.pt_process.specs.declared.outcome.Outcome.{Outcome}
@@ -22,7 +23,12 @@ IsLonger old new =
 -- memory is refused only where a list would grow, and nothing has changed then
 abbrev pub Accepts : {E : Type 0} → Resident → Handled → Result Outcome E → Resident → Type 0
 Accepts old h (Ok outcome) new = (new.me ≡ old.me) × (new.state ≡ h.state) × IsOutcome old.state h outcome
-Accepts old h (Err e) new = (new.me ≡ old.me) × (new.state ≡ old.state)
+Accepts old h (Err e) new = (new.me ≡ old.me) × (new.state ≡ old.state) × IsLonger old.state h.state
+
+-- an entry that takes no third id
+abbrev pub has_two : Option Ids → Bool
+has_two None = false
+has_two (Some ids) = is_some ids.two
 
 -- the code's verdict as the rules write it
 abbrev pub ruled : Verdict → one.Verdict

@@ -7,4 +7,4 @@ use Rattle.pt_signal.specs.Values.{without_first}
 abbrev pub IsFirst : {X : Type 0} → (X → Bool) → List X → Option (ℕ × X) → Type 0
 IsFirst test items None = find test items ≡ None
 IsFirst test items (Some found) =
-    (find test items ≡ Some found.1) × (slice_get items found.0 ≡ Some found.1) × (remove items found.0 ≡ without_first test items)
+    (found.0 < length items) × (find test items ≡ Some found.1) × (slice_get items found.0 ≡ Some found.1) × (remove items found.0 ≡ without_first test items)

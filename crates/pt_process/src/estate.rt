@@ -3,6 +3,7 @@
 ghost use Rattle.std.specs.Prelude.{◌≡◌, ◌<◌, length, slice_get, Some};
 ghost use Rattle.pt_signal.specs.Process.{sent};
 
+use crate::Rows;
 use pt_signal::{Ids, Pid, Reason, Ref, Signal};
 use std::marker::Model;
 
@@ -12,16 +13,20 @@ use std::marker::Model;
 pub struct Estate {
     pub(crate) me: Pid,
     pub(crate) reason: Reason,
+    pub(crate) links: Rows<Pid, Ids>,
+    pub(crate) kept: Rows<(Ref, Pid), ()>,
+    pub(crate) watching: Rows<Ref, Pid>,
 }
 
 impl Model for Estate {
     ghost use Rattle.std.specs.Prelude.{[], false};
+    ghost use Rattle.std.specs.Map.{keys_of};
     ghost use Rattle.pt_signal.specs.Process.{estate};
     ghost use Rattle.pt_process.specs.Resident.{Owing};
 
     ghost Value = { Owing };
 
-    ghost view = { λ e. record { from = e.me; owed = estate e.me (record { waiting = []; links = []; watching = []; kept = []; traps = false }) e.reason } };
+    ghost view = { λ e. record { from = e.me; owed = estate e.me (record { waiting = []; links = e.links; watching = e.watching; kept = keys_of e.kept; traps = false }) e.reason } };
 }
 
 impl Estate {
@@ -29,8 +34,7 @@ impl Estate {
     pub fn len(&self) -> usize
         ensures { result ≡ length self.now.owed }
     {
-        let _ = &self.me;
-        0
+        self.links.len() + self.kept.len() + self.watching.len()
     }
 
     /// To whom the signal with this number goes, and the signal.
@@ -38,8 +42,17 @@ impl Estate {
         requires { i < length self.now.owed }
         ensures { slice_get self.now.owed i ≡ Some (sent self.now.from result.0 result.1) }
     {
-        let _ = &self.me;
-        let _ = i;
-        unreachable!()
+        let links = self.links.len();
+        if i < links {
+            let (peer, ids) = self.links.at(i);
+            return (peer, Signal::LinkExit(ids, self.reason));
+        }
+        let kept = self.kept.len();
+        if i - links < kept {
+            let ((monitor, watcher), _) = self.kept.at(i - links);
+            return (watcher, Signal::Down(monitor, self.reason));
+        }
+        let (monitor, watched) = self.watching.at(i - links - kept);
+        (watched, Signal::Demonitor(monitor))
     }
 }

@@ -1,14 +1,14 @@
 // One process.
 
-ghost use Rattle.std.specs.Prelude.{◌≡◌, ◌+◌, ◌<◌, ◌≤◌, ◌^◌, ◌∷◌, ◌++◌, [], length, is_some, slice_get, remove, find, IsOk, IsSome, OnOk, OnErr, IfOk, IfSome, IfNone, OnSome};
+ghost use Rattle.std.specs.Prelude.{◌≡◌, ◌+◌, ◌<◌, ◌≤◌, ◌^◌, ◌∷◌, ◌++◌, [], false, length, is_some, slice_get, remove, find, IsOk, IsSome, OnOk, OnErr, IfOk, IfSome, IfNone, OnSome};
 ghost use Rattle.std.specs.List.{list_any};
 ghost use Rattle.std.specs.Map.{lookup, remove_entry};
 ghost use Rattle.pt_signal.specs.Values.{fits, same_pid, same_ref, without_first};
-ghost use Rattle.pt_signal.specs.Process.{fresh, held, holds_any, handle, queued, obey, verdict, say, estate};
-ghost use Rattle.pt_process.specs.Outcome.{Accepts, ruled};
+ghost use Rattle.pt_signal.specs.Process.{fresh, held, holds_any, same_watch, cut, handle, queued, obey, verdict, say, estate};
+ghost use Rattle.pt_process.specs.Outcome.{Accepts, has_two, ruled};
 ghost use Rattle.pt_process.specs.Places.{IsFirst};
 
-use crate::{Estate, ExitSignal, Outcome, Verdict};
+use crate::{Entries, Estate, ExitSignal, Mailbox, Outcome, Verdict};
 use pt_signal::{Ids, Item, LinkId, Pick, Pid, Reason, Ref, Signal};
 use std::alloc::{AllocError, Global};
 use std::marker::Model;
@@ -17,16 +17,21 @@ use std::marker::Model;
 #[derive(Drop)]
 pub struct Process {
     me: Pid,
+    waiting: Mailbox,
+    links: Entries<Pid, Ids>,
+    watching: Entries<Ref, Pid>,
+    kept: Entries<(Ref, Pid), ()>,
     traps: bool,
 }
 
 impl Model for Process {
-    ghost use Rattle.std.specs.Prelude.{[]};
+    ghost use Rattle.std.specs.Prelude.{min};
+    ghost use Rattle.std.specs.Map.{keys_of};
     ghost use Rattle.pt_process.specs.Resident.{Resident};
 
     ghost Value = { Resident };
 
-    ghost view = { λ p. record { me = p.me; state = record { waiting = []; links = []; watching = []; kept = []; traps = p.traps }; room = 0 } };
+    ghost view = { λ p. record { me = p.me; state = record { waiting = p.waiting; links = p.links.entries; watching = p.watching.entries; kept = keys_of p.kept.entries; traps = p.traps }; room = min p.links.room p.watching.room } };
 }
 
 impl Process {
@@ -36,8 +41,14 @@ impl Process {
         ensures me { result.me ≡ me }
         ensures state { result.state ≡ fresh }
     {
-        let _ = alloc;
-        Process { me, traps: false }
+        Process {
+            me,
+            waiting: Mailbox::new(alloc),
+            links: Entries::new(alloc),
+            watching: Entries::new(alloc),
+            kept: Entries::new(alloc),
+            traps: false,
+        }
     }
 
     /// Its pid.
@@ -51,17 +62,14 @@ impl Process {
     pub fn waiting(&self) -> &[Item]
         ensures { result.now ≡ self.now.state.waiting }
     {
-        let _ = &self.me;
-        &[]
+        self.waiting.as_slice()
     }
 
     /// The ids under which it is linked with this process.
     pub fn linked(&self, peer: Pid) -> Option<Ids>
         ensures { result ≡ held self.now.state.links peer }
     {
-        let _ = &self.me;
-        let _ = peer;
-        None
+        self.links.get(&peer)
     }
 
     /// Whether its monitor of this reference is open.
@@ -75,18 +83,14 @@ impl Process {
     pub fn target_of(&self, monitor: Ref) -> Option<Pid>
         ensures { result ≡ lookup (same_ref monitor) self.now.state.watching }
     {
-        let _ = &self.me;
-        let _ = monitor;
-        None
+        self.watching.get(&monitor)
     }
 
     /// Whether a watch of this reference is kept here.
     pub fn kept(&self, monitor: Ref) -> bool
         ensures { result ≡ list_any (λ k. same_ref monitor k.0) self.now.state.kept }
     {
-        let _ = &self.me;
-        let _ = monitor;
-        false
+        self.kept.has_first(monitor)
     }
 
     /// Whether it traps exits.
@@ -100,8 +104,7 @@ impl Process {
     pub fn owed_len(&self) -> usize
         ensures { (reason : Reason) → result ≡ length (estate self.now.me self.now.state reason) }
     {
-        let _ = &self.me;
-        0
+        self.links.len() + self.kept.len() + self.watching.len()
     }
 
     /// Takes a signal in: Erlang Reference Manual, chapter Processes, sections Links, Monitors and Receiving Exit
@@ -112,9 +115,16 @@ impl Process {
     pub fn accept(&mut self, from: Pid, signal: Signal) -> Result<Outcome, AllocError>
         ensures { Accepts self.old (handle self.old.me self.old.state from signal) result self.new }
     {
-        let _ = &self.me;
-        let _ = (from, signal);
-        Err(AllocError)
+        match signal {
+            Signal::Message(body) => self.queue(Item::User(from, body)),
+            Signal::Link(id) => self.enter(from, id),
+            Signal::Unlink(ids) => Ok(self.cut(from, ids)),
+            Signal::Exit(reason) => self.exit_signal(from, reason),
+            Signal::LinkExit(ids, reason) => self.link_exit(from, ids, reason),
+            Signal::Monitor(monitor) => self.keep(from, monitor),
+            Signal::Demonitor(monitor) => Ok(self.forget(from, monitor)),
+            Signal::Down(monitor, reason) => self.down(from, monitor, reason),
+        }
     }
 
     /// The reason with which it would end by this signal, if it would.
@@ -123,10 +133,8 @@ impl Process {
     {
         match *signal {
             Signal::Exit(reason) => self.ends_by(from, reason, false),
-            _ => {
-                let _ = &self.me;
-                None
-            }
+            Signal::LinkExit(ids, reason) if self.holds_any(from, ids) => self.ends_by(from, reason, true),
+            _ => None,
         }
     }
 
@@ -135,9 +143,7 @@ impl Process {
     pub fn first(&self, pick: Pick) -> Option<(usize, Item)>
         ensures { IsFirst (fits pick) self.now.state.waiting result }
     {
-        let _ = &self.me;
-        let _ = pick;
-        None
+        self.waiting.first(pick)
     }
 
     /// Takes the item at a place; the others stay, in order.
@@ -146,9 +152,7 @@ impl Process {
         ensures item { slice_get self.old.state.waiting place ≡ Some result }
         ensures rest { self.new ≡ record self.old { state = record self.old.state { waiting = remove self.old.state.waiting place } } }
     {
-        let _ = &self.me;
-        let _ = place;
-        unreachable!()
+        self.waiting.take_at(place)
     }
 
     /// Takes the first item that fits; the others stay, in order.
@@ -156,9 +160,10 @@ impl Process {
         ensures item { result ≡ find (fits pick) self.old.state.waiting }
         ensures rest { self.new ≡ record self.old { state = record self.old.state { waiting = without_first (fits pick) self.old.state.waiting } } }
     {
-        let _ = &self.me;
-        let _ = pick;
-        None
+        match self.first(pick) {
+            Some((place, _)) => Some(self.take_at(place)),
+            None => None,
+        }
     }
 
     /// Makes room, so that the next link and the next monitor need no memory.
@@ -168,8 +173,8 @@ impl Process {
         ensures ok { OnOk result (0 < self.new.room) }
         ensures kept { self.old.room ≤ self.new.room }
     {
-        let _ = &self.me;
-        Err(AllocError)
+        self.links.reserve()?;
+        self.watching.reserve()
     }
 
     /// Its own half of a link: the id joins the entry of the peer, which has two at most, or makes one.
@@ -182,10 +187,11 @@ impl Process {
         ensures adds { OnErr result (held self.old.state.links peer ≡ None) }
         ensures succeeds { 0 < self.old.room → IsOk result }
     {
-        let _ = &self.me;
-        let _ = &self.me;
-        let _ = (peer, id);
-        Err(AllocError)
+        let ids = match self.links.get(&peer) {
+            Some(ids) => ids.and(id),
+            None => Ids::of(id),
+        };
+        self.links.insert(peer, ids)
     }
 
     /// Takes the whole entry of the peer out, and answers its ids.
@@ -197,9 +203,7 @@ impl Process {
         ensures none { IfNone result (self.new.state ≡ self.old.state) }
         ensures room { self.old.room ≤ self.new.room }
     {
-        let _ = &self.me;
-        let _ = peer;
-        None
+        self.links.remove(&peer)
     }
 
     /// Its own half of a monitor: the reference is open from now on. One that is open already stays as it is.
@@ -212,10 +216,10 @@ impl Process {
         ensures err { OnErr result (self.new.state ≡ self.old.state) }
         ensures succeeds { 0 < self.old.room → IsOk result }
     {
-        let _ = &self.me;
-        let _ = &self.me;
-        let _ = (monitor, target);
-        Err(AllocError)
+        if self.watching(monitor) {
+            return Ok(());
+        }
+        self.watching.insert(monitor, target)
     }
 
     /// Closes its open monitor of this reference, and answers whom it watched.
@@ -226,9 +230,7 @@ impl Process {
         ensures none { IfNone result (self.new.state ≡ self.old.state) }
         ensures room { self.old.room ≤ self.new.room }
     {
-        let _ = &self.me;
-        let _ = monitor;
-        None
+        self.watching.remove(&monitor)
     }
 
     /// Sets whether it traps exits, and answers whether it did.
@@ -245,13 +247,94 @@ impl Process {
     pub fn estate(self, reason: Reason) -> Estate
         ensures { result ≡ record { from = self.me; owed = estate self.me self.state reason } }
     {
-        Estate { me: self.me, reason }
+        let Process {
+            me,
+            waiting: _,
+            links,
+            watching,
+            kept,
+            traps: _,
+        } = self;
+        Estate {
+            me,
+            reason,
+            links: links.into_rows(),
+            kept: kept.into_rows(),
+            watching: watching.into_rows(),
+        }
+    }
+
+    fn queue(&mut self, item: Item) -> Result<Outcome, AllocError>
+        ensures { Accepts self.old (queued item self.old.state) result self.new }
+    {
+        self.waiting.push(item)?;
+        Ok(Outcome::Queued)
+    }
+
+    fn enter(&mut self, from: Pid, id: LinkId) -> Result<Outcome, AllocError>
+        ensures { Accepts self.old (handle self.old.me self.old.state from (Signal.Link id)) result self.new }
+    {
+        if self.has_two(from) {
+            return Ok(Outcome::Dropped);
+        }
+        self.add_link(from, id)?;
+        Ok(Outcome::Changed)
+    }
+
+    fn has_two(&self, peer: Pid) -> bool
+        ensures { result ≡ has_two (held self.now.state.links peer) }
+    {
+        match self.links.get(&peer) {
+            Some(ids) => ids.two.is_some(),
+            None => false,
+        }
+    }
+
+    fn cut(&mut self, from: Pid, named: Ids) -> Outcome
+        ensures { Accepts {E = ⊥} self.old (handle self.old.me self.old.state from (Signal.Unlink named)) (Ok result) self.new }
+    {
+        if self.holds_any(from, named) {
+            self.cut_ids(from, named);
+            Outcome::Changed
+        } else {
+            Outcome::Dropped
+        }
+    }
+
+    fn cut_ids(&mut self, from: Pid, named: Ids)
+        ensures me { self.new.me ≡ self.old.me }
+        ensures state { self.new.state ≡ record self.old.state { links = cut from named self.old.state.links } }
+    {
+        let Some(ids) = self.links.get(&from) else {
+            return;
+        };
+        match ids.without(named) {
+            // The sender has an entry, which is written in place.
+            Some(left) => self.links.insert(from, left).unwrap(),
+            None => {
+                self.links.remove(&from);
+            }
+        }
+    }
+
+    fn holds_any(&self, peer: Pid, named: Ids) -> bool
+        ensures { result ≡ holds_any (held self.now.state.links peer) named }
+    {
+        match self.links.get(&peer) {
+            Some(ids) => ids.shares(named),
+            None => false,
+        }
     }
 
     fn verdict(&self, from: Pid, reason: Reason, by_link: bool) -> Verdict
         ensures { ruled result ≡ verdict by_link self.now.state.traps (same_pid from self.now.me) from reason }
     {
-        ExitSignal { from, reason, by_link }.verdict(self.traps, from == self.me)
+        let signal = ExitSignal {
+            from,
+            reason,
+            by_link,
+        };
+        signal.verdict(self.traps, from == self.me)
     }
 
     fn ends_by(&self, from: Pid, reason: Reason, by_link: bool) -> Option<Reason>
@@ -261,5 +344,103 @@ impl Process {
             Verdict::Ends(reason) => Some(reason),
             _ => None,
         }
+    }
+
+    fn exit_signal(&mut self, from: Pid, reason: Reason) -> Result<Outcome, AllocError>
+        ensures { Accepts self.old (handle self.old.me self.old.state from (Signal.Exit reason)) result self.new }
+    {
+        match self.verdict(from, reason, false) {
+            Verdict::Drops => Ok(Outcome::Dropped),
+            Verdict::Queues(item) => self.queue(item),
+            Verdict::Ends(reason) => Ok(Outcome::Ends(reason)),
+        }
+    }
+
+    fn link_exit(&mut self, from: Pid, ids: Ids, reason: Reason) -> Result<Outcome, AllocError>
+        ensures { Accepts self.old (handle self.old.me self.old.state from (Signal.LinkExit ids reason)) result self.new }
+    {
+        if self.holds_any(from, ids) {
+            let verdict = self.verdict(from, reason, true);
+            self.obey_link(from, verdict)
+        } else {
+            Ok(Outcome::Dropped)
+        }
+    }
+
+    // The entry of a linked process goes whatever the verdict on its exit signal.
+    fn obey_link(&mut self, from: Pid, verdict: Verdict) -> Result<Outcome, AllocError>
+        requires { IsSome (held self.old.state.links from) }
+        ensures { Accepts self.old (obey (ruled verdict) (record self.old.state { links = remove_entry (same_pid from) self.old.state.links })) result self.new }
+    {
+        match verdict {
+            Verdict::Drops => {
+                self.links.remove(&from);
+                Ok(Outcome::Changed)
+            }
+            Verdict::Queues(item) => {
+                self.waiting.push(item)?;
+                self.links.remove(&from);
+                Ok(Outcome::Queued)
+            }
+            Verdict::Ends(reason) => {
+                self.links.remove(&from);
+                Ok(Outcome::Ends(reason))
+            }
+        }
+    }
+
+    fn keep(&mut self, from: Pid, monitor: Ref) -> Result<Outcome, AllocError>
+        ensures { Accepts self.old (handle self.old.me self.old.state from (Signal.Monitor monitor)) result self.new }
+    {
+        if self.keeps(monitor, from) {
+            return Ok(Outcome::Dropped);
+        }
+        self.add_kept(monitor, from)?;
+        Ok(Outcome::Changed)
+    }
+
+    fn forget(&mut self, from: Pid, monitor: Ref) -> Outcome
+        ensures { Accepts {E = ⊥} self.old (handle self.old.me self.old.state from (Signal.Demonitor monitor)) (Ok result) self.new }
+    {
+        if self.keeps(monitor, from) {
+            self.cut_kept(monitor, from);
+            Outcome::Changed
+        } else {
+            Outcome::Dropped
+        }
+    }
+
+    fn keeps(&self, monitor: Ref, watcher: Pid) -> bool
+        ensures { result ≡ list_any (same_watch monitor watcher) self.now.state.kept }
+    {
+        self.kept.get(&(monitor, watcher)).is_some()
+    }
+
+    fn add_kept(&mut self, monitor: Ref, watcher: Pid) -> Result<(), AllocError>
+        requires { list_any (same_watch monitor watcher) self.old.state.kept ≡ false }
+        ensures me { self.new.me ≡ self.old.me }
+        ensures state { OnOk result (self.new.state ≡ record self.old.state { kept = self.old.state.kept ++ (monitor, watcher) ∷ [] }) }
+        ensures err { OnErr result (self.new.state ≡ self.old.state) }
+    {
+        self.kept.insert((monitor, watcher), ())?;
+        Ok(())
+    }
+
+    fn cut_kept(&mut self, monitor: Ref, watcher: Pid)
+        ensures me { self.new.me ≡ self.old.me }
+        ensures state { self.new.state ≡ record self.old.state { kept = without_first (same_watch monitor watcher) self.old.state.kept } }
+    {
+        self.kept.remove(&(monitor, watcher));
+    }
+
+    fn down(&mut self, from: Pid, monitor: Ref, reason: Reason) -> Result<Outcome, AllocError>
+        ensures { Accepts self.old (handle self.old.me self.old.state from (Signal.Down monitor reason)) result self.new }
+    {
+        if !self.watching(monitor) {
+            return Ok(Outcome::Dropped);
+        }
+        self.waiting.push(Item::Down(monitor, from, reason))?;
+        self.cut_monitor(monitor);
+        Ok(Outcome::Queued)
     }
 }

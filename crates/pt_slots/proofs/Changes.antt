@@ -1,10 +1,10 @@
 -- What the change of one slot changes in the state.
-use Rattle.std.proofs.Common.{◌≡◌, ◌≢◌, ◌⊎◌, ℕ, ◌+◌, ◌<◌, ◌≤◌, ◌==◌, ◌&&◌, Bool, true, false, List, get_or, Option, Some, None, is_some, cond, count_by, refl, sym, ap, ◌∙◌, inl, inr, arith, unwrap_or}
+use Rattle.std.proofs.Common.{◌≡◌, ◌≢◌, ℕ, ◌+◌, ◌<◌, ◌≤◌, ◌==◌, ◌&&◌, Bool, false, get_or, Option, None, is_some, cond, count_by, refl, sym, ◌∙◌, inl, inr, arith, unwrap_or}
 use Rattle.std.proofs.lemmas.Bool.{cases_eq}
 use Rattle.std.proofs.lemmas.Grind.{common_steps}
-use Rattle.pt_slots.specs.State.{SlotsState, at, issued, is_live, is_retired}
+use Rattle.pt_slots.specs.State.{SlotsState, at, issued, is_retired}
 use Rattle.pt_slots.specs.Sound.{IsSound}
-use Rattle.pt_slots.proofs.Counts.{sum_by-changed, taken_split}
+use Rattle.pt_slots.proofs.Counts.{sum_by-changed}
 
 module _ {T : Type 0} where
   -- one slot has this now, and all else is as it was

@@ -1,8 +1,8 @@
 -- The key that is offered next, and the state with nothing in it.
-use Rattle.std.proofs.Common.{◌≡◌, ◌≢◌, ◌⊎◌, ℕ, ◌+◌, ◌<◌, ◌≤◌, ◌||◌, Bool, true, false, List, [], get_or, Option, Some, None, is_some, count_by, nat_eq, nat_le, refl, sym, ap, ◌∙◌, inl, inr, arith, cond}
+use Rattle.std.proofs.Common.{◌≡◌, ◌≢◌, ◌⊎◌, ℕ, ◌+◌, ◌<◌, ◌≤◌, ◌||◌, Bool, true, false, [], get_or, Some, None, is_some, count_by, nat_eq, nat_le, refl, sym, ap, ◌∙◌, inl, inr, arith, cond}
 use Rattle.std.proofs.lemmas.Grind.{common_steps}
 use Rattle.pt_slots.specs.Calls.{IsEmpty}
-use Rattle.pt_slots.specs.State.{SlotsState, at, issued, live_count, retired_count, is_live, is_retired, is_full, next_key}
+use Rattle.pt_slots.specs.State.{SlotsState, at, issued, live_count, retired_count, is_full, next_key}
 use Rattle.pt_slots.specs.declared.Key.{Key}
 use Rattle.pt_slots.proofs.Counts.{taken_split}
 
@@ -63,7 +63,7 @@ module _ {T : Type 0} where
       record {
         none_live = λ slot version. rw (slots, versions) (grind (arith, common_steps));
         none_issued = λ slot. rw versions refl;
-        live = rw slots refl;
+        counted = rw slots refl;
         retired = rw slots refl;
         next = next_offered s (record { slot = 0; version = 1 }) (record {
           room = rw slots (omega (arith, capacity_is, some_room));

@@ -1,12 +1,12 @@
 -- Each change of a slot: what a caller sees of it, and that the slots stay sound.
-use Rattle.std.proofs.Common.{◌≡◌, ◌≢◌, ◌⊎◌, ℕ, ◌+◌, ◌<◌, ◌≤◌, ◌^◌, ◌==◌, ◌&&◌, Bool, true, false, List, length, get_or, set, Option, Some, None, IsSome, is_some, cond, count_by, unwrap_or, refl, sym, ap, ◌∙◌, inl, inr, arith}
+use Rattle.std.proofs.Common.{◌≡◌, ◌≢◌, ℕ, ◌+◌, ◌<◌, ◌≤◌, ◌^◌, ◌==◌, ◌&&◌, Bool, true, false, List, length, get_or, set, Option, Some, None, IsSome, is_some, cond, count_by, unwrap_or, refl, sym, ap, ◌∙◌, inl, inr, arith}
 use Rattle.std.proofs.lemmas.Bool.{cases_eq, cases_lt}
 use Rattle.std.proofs.lemmas.Grind.{common_steps}
 use Rattle.std.proofs.lemmas.List.{get_or_past, get_or-set_same, get_or-set_other}
 use Rattle.slab.specs.Slab.{Slab, Updates}
 use Rattle.pt_slots.specs.Calls.{Inserted, Removed, Written}
 use Rattle.pt_slots.specs.Sound.{IsSound}
-use Rattle.pt_slots.specs.State.{SlotsState, at, issued, is_live, is_retired, live_count, retired_count, next_key, is_full, with_value}
+use Rattle.pt_slots.specs.State.{SlotsState, at, issued, is_live, is_retired, live_count, retired_count, next_key, with_value}
 use Rattle.pt_slots.specs.declared.Key.{Key}
 use Rattle.pt_slots.proofs.Changes.{Changes, sound_changed, at_changed, issued_changed, count_changed}
 use Rattle.pt_slots.proofs.Counts.{taken_split}
@@ -15,6 +15,9 @@ use Rattle.pt_slots.proofs.Offers.{Offers, next_offered, next_kept, offers_next}
 pub found : {X : Type 0} (o : Option X) → IsSome o → (x : X) × (o ≡ Some x)
 found None some = absurd (cc)
 found (Some x) some = (x, refl)
+
+pub same_value : {X : Type 0} (o : Option X) (x y : X) → o ≡ Some x → o ≡ Some y → x ≡ y
+same_value o x y first second = ap (λ p. unwrap_or p x) (sym first ∙ second)
 
 module _ {T : Type 0} where
   -- the fields where a key has a value
@@ -52,10 +55,6 @@ module _ {T : Type 0} where
   pub dead_free : (s : SlotsState T) (slot : ℕ) → get_or s.slots slot None ≡ None → (other : ℕ) → at s slot other ≡ None
   unfolding at
   dead_free s slot free other = grind (arith, common_steps, free)
-
-  -- one slot's entry is set, and its version stays
-  abbrev pub with_entry : SlotsState T → ℕ → Option (Option T) → SlotsState T
-  with_entry s slot entry = record s { slots = set s.slots slot entry }
 
   module _ (s : SlotsState T) (key : Key) (value : T) (entry : Option (Option T)) (vacant : ℕ) (live : at s key.slot key.version ≡ Some value) where
     within : key.slot < length s.slots
@@ -124,11 +123,11 @@ module _ {T : Type 0} where
         let taken = count_entry s key value None key.slot live is_some refl in
         let retires = count_entry s key value None key.slot live is_retired refl in
         sound_changed _ _ _ _ _ (changes_entry s key value None key.slot live) retired retired sound
-            (below_capacity s key value retired sound live)
-            (rw (holds s key value live).latest at (sound.issued_fits key.slot))
-            (λ _. below_top)
-            (omega (arith, taken, sound.within))
-            (omega (arith, retires, sound.retired_is))
+        (below_capacity s key value retired sound live)
+        (rw (holds s key value live).latest at (sound.issued_fits key.slot))
+        (λ _. below_top)
+        (omega (arith, taken, sound.within))
+        (omega (arith, retires, sound.retired_is))
 
     -- a removal at the top version, which retires the slot
     abbrev pub spent : SlotsState T
@@ -156,11 +155,11 @@ module _ {T : Type 0} where
         let taken = count_entry s key value (Some None) s.vacant live is_some refl in
         let retires = count_entry s key value (Some None) s.vacant live is_retired refl in
         sound_changed _ _ _ _ _ (changes_entry s key value (Some None) s.vacant live) retired (retired + 1) sound
-            (below_capacity s key value retired sound live)
-            (rw (holds s key value live).latest at (sound.issued_fits key.slot))
-            (λ none. absurd (cc))
-            (omega (arith, taken, sound.within))
-            (omega (arith, retires, sound.retired_is))
+        (below_capacity s key value retired sound live)
+        (rw (holds s key value live).latest at (sound.issued_fits key.slot))
+        (λ none. absurd (cc))
+        (omega (arith, taken, sound.within))
+        (omega (arith, retires, sound.retired_is))
 
     -- so one more retired slot can be counted
     pub retired_fits : retired + 1 < 2 ^ 32
@@ -176,73 +175,73 @@ module _ {T : Type 0} where
       (slots : before.slots ≡ old.slots) (vacant : before.vacant_key ≡ old.vacant)
       (here : place ≡ before.vacant_key) (free : get_or before.slots place None ≡ None)
       (updates : Updates before after place (Some (Some value)))
-      (room : key.slot < length versions)
+      (room : place < length versions)
       (kept : (k : ℕ) → get_or versions k 0 ≡ get_or old.versions k 0)
     where
-    offers : Offers old key
-    offers = offers_next old key (sym next)
+      offers : Offers old key
+      offers = offers_next old key (sym next)
 
-    at_slot : place ≡ key.slot
-    at_slot = here ∙ vacant ∙ sym offers.slot_is
+      at_slot : place ≡ key.slot
+      at_slot = here ∙ vacant ∙ sym offers.slot_is
 
-    was_free : get_or old.slots key.slot None ≡ None
-    was_free = rw (slots, at_slot) at free
+      was_free : get_or old.slots key.slot None ≡ None
+      was_free = rw (slots, at_slot) at free
 
-    version_fits : key.version ≤ old.top_version
-    version_fits = omega (arith, offers.version_is, sound.free_below_top key.slot was_free)
+      version_fits : key.version ≤ old.top_version
+      version_fits = omega (arith, offers.version_is, sound.free_below_top key.slot was_free)
 
-    abbrev pub filled : SlotsState T
-    filled = record {
-      slots = after.slots;
-      versions = set versions key.slot key.version;
-      vacant = after.vacant_key;
-      capacity = old.capacity;
-      top_version = old.top_version;
-    }
+      abbrev pub filled : SlotsState T
+      filled = record {
+        slots = after.slots;
+        versions = set versions place key.version;
+        vacant = after.vacant_key;
+        capacity = old.capacity;
+        top_version = old.top_version;
+      }
 
-    change : Changes old filled key.slot key.version (Some (Some value))
-    change =
-        record {
-          entry_is = rw at_slot at updates.changed;
-          entries = λ other differs. updates.others other (λ e. differs (e ∙ at_slot)) ∙ ap (λ (xs : List (Option (Option T))). get_or xs other None) slots;
-          version_is = get_or-set_same versions key.slot key.version 0 room;
-          versions = λ other differs. get_or-set_other versions key.slot other key.version 0 differs ∙ kept other;
-          capacity = refl;
-          top_version = refl;
-        }
+      change : Changes old filled key.slot key.version (Some (Some value))
+      change =
+          record {
+            entry_is = rw at_slot at updates.changed;
+            entries = λ other differs. updates.others other (λ e. differs (e ∙ at_slot)) ∙ ap (λ (xs : List (Option (Option T))). get_or xs other None) slots;
+            version_is = rw (← at_slot) (get_or-set_same versions place key.version 0 room);
+            versions = λ other differs. get_or-set_other versions place other key.version 0 (λ e. differs (e ∙ at_slot)) ∙ kept other;
+            capacity = refl;
+            top_version = refl;
+          }
 
-    count_filled : (p : Option (Option T) → Bool) → p None ≡ false → count_by p after.slots ≡ count_by p old.slots + cond (p (Some (Some value))) 1 0
-    count_filled p none =
-        let nothing : ◌≡◌ {A = ℕ} (cond (p None) 1 0) 0 = rw none refl in
-        omega (arith, nothing, rw was_free at (count_changed _ _ _ _ _ change p none))
+      count_filled : (p : Option (Option T) → Bool) → p None ≡ false → count_by p after.slots ≡ count_by p old.slots + cond (p (Some (Some value))) 1 0
+      count_filled p none =
+          let nothing : ◌≡◌ {A = ℕ} (cond (p None) 1 0) 0 = rw none refl in
+          omega (arith, nothing, rw was_free at (count_changed _ _ _ _ _ change p none))
 
-    pub inserted_filled : Inserted value key old filled
-    unfolding issued live_count retired_count
-    inserted_filled =
-        record {
-          offered = sym next;
-          slot_in_range = omega (arith, offers.below, offers.slot_is);
-          version_is_next = offers.version_is;
-          version_in_range = version_fits;
-          live = at_changed _ _ _ _ _ change (λ other _. dead_free old key.slot was_free other);
-          issues = issued_changed _ _ _ _ _ change;
-          counted = count_filled is_live refl;
-          retired = omega (arith, count_filled is_retired refl);
-          settings = record { capacity = refl; top_version = refl };
-        }
+      pub inserted_filled : Inserted value key old filled
+      unfolding issued live_count retired_count
+      inserted_filled =
+          record {
+            offered = sym next;
+            slot_in_range = omega (arith, offers.below, offers.slot_is);
+            version_is_next = offers.version_is;
+            version_in_range = version_fits;
+            live = at_changed _ _ _ _ _ change (λ other _. dead_free old key.slot was_free other);
+            issues = issued_changed _ _ _ _ _ change;
+            counted = count_filled is_live refl;
+            retired = omega (arith, count_filled is_retired refl);
+            settings = record { capacity = refl; top_version = refl };
+          }
 
-    pub sound_filled : IsSound filled retired
-    sound_filled =
-        sound_changed _ _ _ _ _ change retired retired sound
-            (omega (arith, offers.below, offers.slot_is))
-            version_fits
-            (λ none. absurd (cc))
-            (omega (arith, count_filled is_some refl, sound.within, offers.room))
-            (omega (arith, count_filled is_retired refl, sound.retired_is))
+      pub sound_filled : IsSound filled retired
+      sound_filled =
+          sound_changed _ _ _ _ _ change retired retired sound
+          (omega (arith, offers.below, offers.slot_is))
+          version_fits
+          (λ none. absurd (cc))
+          (omega (arith, count_filled is_some refl, sound.within, offers.room))
+          (omega (arith, count_filled is_retired refl, sound.retired_is))
 
-    pub never_falls : (slot : ℕ) → issued old slot ≤ issued filled slot
-    unfolding issued
-    never_falls slot = elim (cases_eq slot key.slot) [
-      | inl same ↦ rw same (omega (arith, change.version_is, offers.version_is))
-      | inr differs ↦ omega (arith, change.versions slot differs)
-    ]
+      pub never_falls : (slot : ℕ) → issued old slot ≤ issued filled slot
+      unfolding issued
+      never_falls slot = elim (cases_eq slot key.slot) [
+        | inl same ↦ rw same (omega (arith, change.version_is, offers.version_is))
+        | inr differs ↦ omega (arith, change.versions slot differs)
+      ]

@@ -17,7 +17,7 @@ module _ {T : Type 0} where
   pub record IsEmpty (capacity top_version : ℕ) (s : SlotsState T) : Type 0 where
     pub none_live : (slot version : ℕ) → at s slot version ≡ None
     pub none_issued : (slot : ℕ) → issued s slot ≡ 0
-    pub live : live_count s ≡ 0
+    pub counted : live_count s ≡ 0
     pub retired : retired_count s ≡ 0
     pub next : next_key s ≡ Some (record { slot = 0; version = 1 })
     pub capacity_is : s.capacity ≡ capacity
@@ -30,7 +30,6 @@ module _ {T : Type 0} where
     pub slot_in_range : key.slot < old.capacity
     pub version_is_next : key.version ≡ issued old key.slot + 1
     pub version_in_range : key.version ≤ old.top_version
-
     -- the value is live under it, and all other keys are as they were
     pub live : (slot version : ℕ) → at new slot version
         ≡ (if names key slot version then Some value else at old slot version)
@@ -55,7 +54,6 @@ module _ {T : Type 0} where
         ≡ (if names key slot version then None else at old slot version)
     pub issues : (slot : ℕ) → issued new slot ≡ issued old slot
     pub counted : live_count new + 1 ≡ live_count old
-
     -- at the top version the slot is retired, and below it the slot is offered next
     pub retired : retired_count new
         ≡ retired_count old + (if key.version == old.top_version then 1 else 0)

@@ -1,10 +1,11 @@
 -- What holds of the fields of every `Slots`. No public clause cites this module.
-use Rattle.std.specs.Prelude.{◌≡◌, ℕ, ◌<◌, ◌≤◌, ◌^◌, Option, None, slice_index_or, count_by, is_some}
+use Rattle.std.specs.Prelude.{◌≡◌, ℕ, ◌<◌, ◌≤◌, ◌^◌, None, slice_index_or, count_by, is_some}
 use Rattle.pt_slots.specs.State.{SlotsState, is_retired}
+use Rattle.pt_slots.specs.declared.TheConstants.{MAX_CAPACITY}
 
 module _ {T : Type 0} where
   pub record IsSound (s : SlotsState T) (retired : ℕ) : Type 0 where
-    pub capacity_fits : s.capacity ≤ 16777216
+    pub capacity_fits : s.capacity ≤ MAX_CAPACITY
     pub top_fits : s.top_version < 2 ^ 32
     pub within : count_by is_some s.slots ≤ s.capacity
     pub retired_is : retired ≡ count_by is_retired s.slots

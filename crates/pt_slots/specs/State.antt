@@ -1,5 +1,6 @@
 -- What a contract sees of a `Slots`.
 use Rattle.std.specs.Prelude.{ℕ, ◌+◌, ◌==◌, ◌||◌, nat_le, Bool, true, false, List, Option, Some, None, unwrap_or, count_by, slice_index_or, slice_set, if◌then◌else◌}
+use Rattle.slab.specs.Slab.{Slab}
 use Rattle.pt_slots.specs.declared.Key.{Key}
 
 pub record SlotsState (T : Type 0) : Type 0 where
@@ -13,6 +14,17 @@ pub record SlotsState (T : Type 0) : Type 0 where
   pub top_version : ℕ
 
 module _ {T : Type 0} where
+  -- the state that the fields of a `Slots` make up
+  abbrev pub state : Slab (Option T) → List ℕ → ℕ → ℕ → SlotsState T
+  state entries versions capacity top_version =
+      record {
+        slots = entries.slots;
+        versions = versions;
+        vacant = entries.vacant_key;
+        capacity = capacity;
+        top_version = top_version;
+      }
+
   -- the latest version that a slot has issued, or 0
   unfoldable pub issued : SlotsState T → ℕ → ℕ
   issued s slot = slice_index_or s.versions slot 0

@@ -1,7 +1,43 @@
-//! Values under keys that are never issued twice.
+//! Values under keys that are never issued twice: a generational slot map.
+//!
+//! `Slots<T>` keeps values in numbered slots. `insert` gives a `Key`, the slot and a version, and the
+//! key finds its value until the value is removed. A slot is used again with the next version, so a key
+//! that was kept too long finds nothing, whatever its slot holds by then.
+//!
+//! ```
+//! let mut sessions: Slots<String> = Slots::new(alloc, 1000, u32::MAX)?;
+//! let ann = sessions.insert(format!(in alloc; "Ann")?)?;
+//! assert_eq!(rt; sessions.get(ann).map(|name| name.as_str()), Some("Ann"));
+//!
+//! sessions.remove(ann);
+//! let bob = sessions.insert(format!(in alloc; "Bob")?)?;
+//! assert_eq!(rt; bob.slot, ann.slot);
+//! assert_eq!(rt; sessions.contains(ann), false);
+//! ```
+//!
+//! # Coming from the `slotmap` crate
+//!
+//! - **Versions do not wrap round.** A slot issues the versions 1, 2, 3 and so on up to the top version
+//!   that `new` is given. When the value under the top version is removed, the slot is *retired*: it is
+//!   never used again. So an old key is dead for ever, and not only for some billions of insertions.
+//!   `retired` counts such slots, and `issued` tells how far a slot has come.
+//! - **The number of slots is bounded.** `insert` answers `Full` where every slot is taken or retired. It
+//!   then hands the value back, as it does where there is no memory; nothing has changed in either case.
+//! - **Want of memory is an answer.** `insert` alone takes memory. What `remove`, `get` and the others
+//!   need was made ready by it.
+//! - **`next` tells the key that `insert` will give**, for a value that has to know its own key; it is
+//!   what `insert_with_key` is for there. A slot that was just freed is the next one used.
+//! - A `Key` is a plain pair of numbers, equal and ordered by them. It does not know its map or the type
+//!   of its value, and there is no null key. There is no iterator, and there are no secondary maps.
+//!
+//! # Cost
+//!
+//! Every call takes constant time; `insert` does so on average, since the storage doubles where it has
+//! to grow. Beside a value and the `slab`'s own mark, a slot costs four bytes for its version and the
+//! tag of an `Option`. The storage grows with the slots that are used, not with `capacity`.
 #![tactic(auto)]
 
-ghost use Rattle.std.specs.Prelude.{◌≡◌, ℕ, ◌<◌, ◌≤◌, ◌^◌, Some, IsSome, OnSome, IfOk, OnOk, OnErr, is_some, option_copied, slice_index_or, vec_len};
+ghost use Rattle.std.specs.Prelude.{◌≡◌, ℕ, ◌<◌, ◌≤◌, ◌^◌, Some, IsSome, OnSome, IsOkAnd, OnOk, OnErr, is_some, option_copied, slice_index_or, vec_len};
 ghost use Rattle.std.specs.Option.{option_copied_mut};
 ghost use Rattle.std.specs.Borrow.{Lends, sem};
 ghost use Rattle.std.specs.Option.Follows.{option_follows_value};
@@ -13,26 +49,35 @@ use std::alloc::{AllocError, Global};
 use std::marker::Model;
 use std::mem;
 
-/// A slot and the version under which it was issued. Keys are ordered by slot, then by version.
+/// The greatest number of slots.
+pub const MAX_CAPACITY: u32 = 16_777_216;
+
+/// The name of one value: a slot, and the version under which the slot was issued.
+///
+/// Keys are equal and ordered by their fields, the slot first. A key of any numbers may be asked for.
 #[derive(Clone, Copy, Debug, PartialEq, Eq, PartialOrd, Ord, Hash)]
 pub struct Key {
+    /// The slot, from 0 on.
     pub slot: u32,
+    /// How often the slot had been issued then, from 1 on.
     pub version: u32,
 }
 
 /// Why `insert` refused a value, which it hands back.
-#[derive(Debug, Drop)]
+#[derive(Debug, PartialEq, Eq, Drop)]
 pub enum InsertError<T> {
     /// Every slot is taken or retired.
     Full(T),
-    /// There was no memory.
+    /// There was no memory to store one more value.
     Memory(T),
 }
 
 /// Values of one type, each under a key that is never issued again.
+///
+/// See the page of this crate for an example, and for what differs from the `slotmap` crate.
 #[derive(Drop)]
 pub struct Slots<T> {
-    // A retired slot stays occupied, by `None`, so that the slab never offers it again.
+    // A retired slot stays occupied, by `None`, so that the slab does not offer it again.
     entries: Slab<Option<T>>,
     // The latest version that each slot has issued.
     versions: Vec<u32>,
@@ -42,26 +87,15 @@ pub struct Slots<T> {
 }
 
 impl<T> Model for Slots<T> {
-    ghost use Rattle.pt_slots.specs.State.{SlotsState};
+    ghost use Rattle.pt_slots.specs.State.{SlotsState, state};
     ghost use Rattle.pt_slots.specs.Sound.{IsSound};
 
     ghost Value = { SlotsState T };
 
-    ghost view = { λ s. record {
-      slots = s.entries.slots;
-      versions = s.versions.items;
-      vacant = s.entries.vacant_key;
-      capacity = s.capacity;
-      top_version = s.top_version;
-    } };
+    ghost view = { λ s. state s.entries s.versions.items s.capacity s.top_version };
 
-    ghost invariant = { λ s. IsSound (record {
-      slots = s.entries.slots;
-      versions = s.versions.items;
-      vacant = s.entries.vacant_key;
-      capacity = s.capacity;
-      top_version = s.top_version;
-    }) s.retired };
+    ghost invariant = { λ s.
+        IsSound (state s.entries s.versions.items s.capacity s.top_version) s.retired };
 }
 
 // The value of a slot that has one.
@@ -76,28 +110,30 @@ fn value_mut<T>(entry: &mut Option<T>) -> &mut T
     }
 }
 
-// Gives the slot a version to count up from, if it has none yet.
-fn make_room(versions: &mut Vec<u32>, slot: usize) -> Result<(), AllocError>
-    requires { slot < 2 ^ 32 }
-    ensures room { OnOk result (slot < vec_len versions.new) }
+// Gives each slot that the slab has room for a version to count up from. The slab grows by doubling, so
+// this seldom has anything to do.
+fn make_room(versions: &mut Vec<u32>, slots: usize) -> Result<(), AllocError>
+    ensures room { OnOk result (slots ≤ vec_len versions.new) }
     ensures kept { (k : ℕ) → slice_index_or versions.new.items k 0 ≡ slice_index_or versions.old.items k 0 }
     ensures err { OnErr result (versions.new.items ≡ versions.old.items) }
 {
-    if slot < versions.len() {
+    if slots <= versions.len() {
         return Ok(());
     }
-    versions.resize(slot + 1, 0)
+    versions.resize(slots, 0)
 }
 
 impl<T> Slots<T> {
     ghost use Rattle.pt_slots.specs.Lends.{lends_get, lends_value};
 
-    /// No value, in `capacity` slots that issue the versions 1 to `top_version`. It takes no memory yet.
+    /// No values, and `capacity` slots that issue the versions 1 to `top_version` each.
+    ///
+    /// `capacity` is at most `MAX_CAPACITY`. No memory is taken yet, so the answer is always `Ok`.
     pub fn new(alloc: Global, capacity: u32, top_version: u32) -> Result<Self, AllocError>
         requires some_capacity { 0 < capacity }
-        requires capacity { capacity ≤ 16777216 }
+        requires capacity { capacity ≤ MAX_CAPACITY }
         requires top_version { 0 < top_version }
-        ensures { IfOk result (IsEmpty capacity top_version) }
+        ensures { IsOkAnd result (IsEmpty capacity top_version) }
     {
         Ok(Slots {
             entries: Slab::new(alloc),
@@ -108,14 +144,14 @@ impl<T> Slots<T> {
         })
     }
 
-    /// How many values there are.
+    /// How many values are live.
     pub fn len(&self) -> u32
         ensures { result ≡ live_count self.now }
     {
         self.entries.len() as u32 - self.retired
     }
 
-    /// How many slots have ended at the top version.
+    /// How many slots are retired: their value had the top version, and it was removed.
     #[tactic(auto, unfolding(crate::specs::State::retired_count))]
     pub fn retired(&self) -> u32
         ensures { result ≡ retired_count self.now }
@@ -123,7 +159,7 @@ impl<T> Slots<T> {
         self.retired
     }
 
-    /// The latest version that a slot has issued, or 0 if it has issued none.
+    /// The latest version that a slot has issued, or 0 where it has issued none. It never falls.
     #[tactic(auto, unfolding(crate::specs::State::issued))]
     pub fn issued(&self, slot: u32) -> u32
         ensures { result ≡ issued self.now slot }
@@ -131,8 +167,7 @@ impl<T> Slots<T> {
         self.versions.get(slot as usize).copied().unwrap_or(0)
     }
 
-    /// The key that the next `insert` gives, or `None` where `insert` would answer `Full`.
-    
+    /// The key that the next `insert` gives, or `None` exactly where it would answer `Full`.
     pub fn next(&self) -> Option<Key>
         ensures { result ≡ next_key self.now }
     {
@@ -148,7 +183,11 @@ impl<T> Slots<T> {
         })
     }
 
-    /// Stores a value under a key that was never issued before, or hands it back.
+    /// Stores a value under a key that was never issued before.
+    ///
+    /// Where it cannot, it hands the value back and changes nothing: `Full` where the taken and the retired
+    /// slots number the capacity, or the slot that the storage offers is not below it, and else `Memory`
+    /// where the storage cannot grow.
     pub fn insert(&mut self, value: T) -> Result<Key, InsertError<T>>
         ensures cases { Inserts value self.old result self.new }
         ensures never_falls { (slot : ℕ) → issued self.old slot ≤ issued self.new slot }
@@ -156,16 +195,20 @@ impl<T> Slots<T> {
         let Some(key) = self.next() else {
             return Err(InsertError::Full(value));
         };
-        let slot = key.slot as usize;
-        if self.entries.reserve(1).is_err() || make_room(&mut self.versions, slot).is_err() {
+        if self.entries.reserve(1).is_err() {
             return Err(InsertError::Memory(value));
         }
-        self.entries.insert_reserved(Some(value));
+        if make_room(&mut self.versions, self.entries.capacity()).is_err() {
+            return Err(InsertError::Memory(value));
+        }
+        let slot = self.entries.insert_reserved(Some(value));
         self.versions[slot] = key.version;
         Ok(key)
     }
 
-    /// Takes out the value under `key`, if it is live.
+    /// Takes out the value under `key`, or answers `None` where the key is not live.
+    ///
+    /// The slot is then the next one used, with its next version, or under the top version it is retired.
     pub fn remove(&mut self, key: Key) -> Option<T>
         ensures { Removes key self.old result self.new }
     {
@@ -180,7 +223,7 @@ impl<T> Slots<T> {
         mem::replace(&mut self.entries[slot], None)
     }
 
-    /// The value under `key`, if it is live.
+    /// The value under `key`, or `None` where the key is not live.
     #[tactic(auto, unfolding(crate::specs::State::at, crate::specs::State::issued))]
     pub fn get(&self, key: Key) -> Option<&T>
         ensures { option_copied result ≡ at self.now key.slot key.version }
@@ -191,7 +234,7 @@ impl<T> Slots<T> {
         self.entries.get(key.slot as usize)?.as_ref()
     }
 
-    /// The value under `key` for writing, if it is live.
+    /// The value under `key` for writing, or `None` where the key is not live.
     pub fn get_mut(&mut self, key: Key) -> Option<&mut T>
         ensures* writes_back { sem 𝓛 (lends_get T.row self.entry key result) }
         ensures value { option_copied_mut result ≡ at self.old key.slot key.version }
@@ -212,10 +255,13 @@ impl<T> Slots<T> {
         value_mut(&mut self.entries[key.slot as usize])
     }
 
-    /// Whether `key` has a value.
+    /// Whether `key` is live.
     pub fn contains(&self, key: Key) -> bool
         ensures { result ≡ is_some (at self.now key.slot key.version) }
     {
         self.get(key).is_some()
     }
 }
+
+#[cfg(test)]
+mod tests;

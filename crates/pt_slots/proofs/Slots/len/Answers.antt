@@ -1,4 +1,4 @@
-use Rattle.std.proofs.Common.{arith, ◌∙◌, ap}
+use Rattle.std.proofs.Common.{arith}
 use Rattle.pt_slots.specs.State.{live_count}
 use Rattle.pt_slots.proofs.Counts.{taken_split}
 use Rattle.pt_slots.proofs.Slots.len.Goals as goal

@@ -1,5 +1,4 @@
-use Rattle.std.proofs.Common.{arith, refl, ap, ◌∙◌, sym, inl, inr, ◌≡◌, ◌⊎◌, ◌≤◌, ◌<◌, ◌+◌, count_by, is_some, Some, get_or, ℕ}
-use Rattle.std.proofs.lemmas.Grind.{common_steps}
+use Rattle.std.proofs.Common.{arith, ap, sym, inl, inr, ◌+◌, ℕ}
 use Rattle.pt_slots.specs.State.{issued}
 use Rattle.pt_slots.proofs.Offers.{next_none, next_offered}
 use Rattle.pt_slots.proofs.Slots.next.Goals as goal

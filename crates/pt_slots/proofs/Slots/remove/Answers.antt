@@ -1,5 +1,5 @@
-use Rattle.std.proofs.Common.{refl, sym, ◌∙◌, ap, unwrap_or, None}
-use Rattle.pt_slots.proofs.Steps.{found, holds, removed_freed, sound_freed, removed_spent, sound_spent, retired_fits}
+use Rattle.std.proofs.Common.{refl, sym, ◌∙◌}
+use Rattle.pt_slots.proofs.Steps.{found, holds, same_value, removed_freed, sound_freed, removed_spent, sound_spent, retired_fits}
 use Rattle.pt_slots.proofs.Slots.remove.Goals as goal
 
 pub remove-requires : goal.remove-requires
@@ -15,7 +15,7 @@ invariant_of-self g c =
 pub returns-then-key-self : goal.returns-then-key-self
 returns-then-key-self g c =
     let live = found _ (rw (← c.self.view_is) at (sym c.contains.ensures ∙ c.if-not-contains.false)) in
-    let value = ap (λ o. unwrap_or o None) (sym c.remove.ensures.value ∙ (holds _ c.args.key live.0 live.1).entry) in
+    let value = same_value _ _ _ c.remove.ensures.value (holds _ c.args.key live.0 live.1).entry in
     rw (← c.self.view_is, value, c.remove.ensures.slots, c.remove.ensures.key_is_next) (removed_freed _ c.args.key live.0 _ c.self.invariant live.1 c.if-key-self.true)
 
 pub overflow_add-self : goal.overflow_add-self
@@ -36,5 +36,5 @@ invariant_of-self-2 g c =
 pub returns : goal.returns
 returns g c =
     let live = found _ (rw (← c.self.view_is) at (sym c.contains.ensures ∙ c.if-not-contains.false)) in
-    let value = c.replace.ensures.value ∙ ap (λ o. unwrap_or o None) (sym c.index_mut.ensures.value ∙ (holds _ c.args.key live.0 live.1).entry) in
+    let value = c.replace.ensures.value ∙ same_value _ _ _ c.index_mut.ensures.value (holds _ c.args.key live.0 live.1).entry in
     rw (← c.self.view_is, value, c.replace.ensures.after) (removed_spent _ c.args.key live.0 _ c.self.invariant live.1 c.if-key-self.false)

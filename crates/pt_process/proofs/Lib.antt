@@ -1,0 +1,6 @@
+pub mod GapLemmas
+pub mod PlaceLemmas
+pub mod LinkLemmas
+pub mod WatchLemmas
+pub mod StateLemmas
+pub mod EstateLemmas

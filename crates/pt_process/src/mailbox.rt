@@ -1,0 +1,133 @@
+// The items that wait for a receive.
+
+ghost use Rattle.std.specs.Prelude.{◌≡◌, ◌<◌, ◌++◌, ◌∷◌, [], length, slice_get, Some, OnOk, OnErr};
+ghost use Rattle.std.specs.List.{position, remove};
+ghost use Rattle.pt_signal.specs.Values.{fits};
+ghost use Rattle.pt_process.specs.Places.{IsFirst};
+
+use pt_signal::{Item, Pick, Pid, Ref};
+use std::alloc::{AllocError, Global};
+use std::marker::Model;
+
+/// A queue of items, oldest first, from which a selective receive takes the first that fits.
+///
+/// To take an item costs what was looked at before it, and to take all of n items in order costs O(n).
+#[derive(Drop)]
+pub struct Mailbox {
+    items: Vec<Item>,
+    /// How many of the items have been taken.
+    head: usize,
+}
+
+impl Model for Mailbox {
+    ghost use Rattle.std.specs.Prelude.{List, ◌≤◌, drop, length};
+    ghost use Rattle.pt_signal.specs.declared.item.Item.{Item};
+
+    ghost Value = { List Item };
+
+    ghost view = { λ m. drop m.head m.items.items };
+
+    ghost invariant = { λ m. m.head ≤ length m.items.items };
+}
+
+impl Mailbox {
+    /// An empty mailbox, which allocates nothing.
+    pub fn new(alloc: Global) -> Mailbox
+        ensures { result ≡ [] }
+    {
+        Mailbox {
+            items: Vec::new(alloc),
+            head: 0,
+        }
+    }
+
+    /// The items that wait, oldest first.
+    pub fn as_slice(&self) -> &[Item]
+        ensures { result.now ≡ self.now }
+    {
+        &self.items[self.head..]
+    }
+
+    /// Adds an item at the end.
+    pub fn push(&mut self, item: Item) -> Result<(), AllocError>
+        ensures ok { OnOk result (self.new ≡ self.old ++ item ∷ []) }
+        ensures err { OnErr result (self.new ≡ self.old) }
+    {
+        self.items.push(item)?;
+        Ok(())
+    }
+
+    fn position(&self, pick: Pick) -> Option<usize>
+        ensures { result ≡ position (fits pick) self.now }
+    {
+        let waiting = self.as_slice();
+        // One loop a pick: a test that looks at the pick anew for each item costs several times as much.
+        match pick {
+            Pick::Any => waiting.iter().position(|_| true),
+            Pick::Kind(kind) => waiting.iter().position(|item| is_of_kind(item, kind)),
+            Pick::From(from) => waiting.iter().position(|item| is_from(item, from)),
+            Pick::ExitOf(pid) => waiting.iter().position(|item| is_exit_of(item, pid)),
+            Pick::DownOf(monitor) => waiting.iter().position(|item| is_down_of(item, monitor)),
+        }
+    }
+
+    /// The first item that fits, with its place, counted from the oldest.
+    pub fn first(&self, pick: Pick) -> Option<(usize, Item)>
+        ensures { IsFirst (fits pick) self.now result }
+    {
+        match self.position(pick) {
+            Some(place) => Some((place, self.as_slice()[place])),
+            None => None,
+        }
+    }
+
+    /// Takes the item at a place; the others stay, in order.
+    pub fn take_at(&mut self, place: usize) -> Item
+        requires { place < length self.old }
+        ensures item { slice_get self.old place ≡ Some result }
+        ensures rest { self.new ≡ remove self.old place }
+    {
+        let taken = self.head + place;
+        let item = self.items[taken];
+        self.items[self.head..taken + 1].rotate_right(1);
+        self.head += 1;
+        self.close_gap();
+        item
+    }
+
+    // Closes the gap before the head where it is more than half, so that its cost was paid by as many takes.
+    fn close_gap(&mut self)
+        ensures { self.new ≡ self.old }
+    {
+        let waiting = self.items.len() - self.head;
+        if self.head > waiting {
+            self.items.rotate_left(self.head);
+            self.items.truncate(waiting);
+            self.head = 0;
+        }
+    }
+}
+
+fn is_of_kind(item: &Item, kind: u32) -> bool
+    ensures { result ≡ fits (Pick.Kind kind) item.now }
+{
+    matches!(item, Item::User(_, body) if body.kind == kind)
+}
+
+fn is_from(item: &Item, pid: Pid) -> bool
+    ensures { result ≡ fits (Pick.From pid) item.now }
+{
+    matches!(item, Item::User(from, _) if pid == *from)
+}
+
+fn is_exit_of(item: &Item, pid: Pid) -> bool
+    ensures { result ≡ fits (Pick.ExitOf pid) item.now }
+{
+    matches!(item, Item::Exit(from, _) if pid == *from)
+}
+
+fn is_down_of(item: &Item, monitor: Ref) -> bool
+    ensures { result ≡ fits (Pick.DownOf monitor) item.now }
+{
+    matches!(item, Item::Down(answered, _, _) if monitor == *answered)
+}
