@@ -1,4 +1,5 @@
 pub mod Examples
+pub mod Lives
 pub mod Steps
 pub mod Local
 pub mod Flight

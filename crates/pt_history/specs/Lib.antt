@@ -8,4 +8,9 @@ pub mod Load
 pub mod Watch
 pub mod Resumed
 pub mod Judge
+pub mod Lives
+pub mod Locality
 pub mod Laws
+pub mod MonitorLaws
+pub mod LoadLaws
+pub mod Examples

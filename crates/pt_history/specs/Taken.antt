@@ -1,12 +1,12 @@
 -- Which arrivals were taken, by position.
-use Rattle.std.specs.Prelude.{Bool, true, false, cond, not, ◌&&◌, List, [], ◌∷◌, ◌++◌, map, filter}
+use Rattle.std.specs.Prelude.{◌≡◌, Bool, true, false, cond, not, ◌&&◌, List, [], ◌∷◌, ◌++◌, map, filter}
 use Rattle.pt_signal.specs.declared.pid.Pid.{Pid}
 use Rattle.pt_signal.specs.declared.item.Pick.{Pick}
 use Rattle.pt_signal.specs.declared.item.Item.{Item}
 use Rattle.pt_history.specs.declared.event.Event.{Event}
 use Rattle.pt_history.specs.declared.event.Event.TheVariants.{Took}
 use Rattle.pt_signal.specs.Values.{same_pid, fits}
-use Rattle.pt_history.specs.History.{Past, Start, at_start, state_of, arrives}
+use Rattle.pt_history.specs.History.{Past, Start, at_start, state_of, arrives, arrived, state, IsLegal}
 
 -- an arrival, and whether it was taken
 abbrev pub Arrival : Type 0
@@ -45,3 +45,9 @@ left_waiting rs = map (λ r. r.0) (filter (λ r. not r.1) rs)
 
 abbrev pub all_items : List Arrival → List Item
 all_items rs = map (λ r. r.0) rs
+
+-- each arrival was taken or waits, in order; what waits are those that were not taken
+abbrev pub TakenOrWaiting : Type 0
+TakenOrWaiting =
+    (start : Start) (past : Past) (p : Pid) → IsLegal start past
+    → (all_items (arrivals start past p) ≡ arrived start past p) × (left_waiting (arrivals start past p) ≡ (state start past p).waiting)

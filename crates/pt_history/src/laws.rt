@@ -1,0 +1,92 @@
+// The laws of histories: each is the contract of a function that does nothing.
+
+ghost use Rattle.pt_history.specs.Lives.{LivesOnce, StaysEnded, AliveUntilEnd};
+ghost use Rattle.pt_history.specs.Locality.{ReadLocally, SentLocally, JournalsSay};
+ghost use Rattle.pt_history.specs.Taken.{TakenOrWaiting};
+ghost use Rattle.pt_history.specs.Laws.{CameOrFlies, SenderFront, MergeLegal, ResumedLegal, ResumedSame};
+ghost use Rattle.pt_history.specs.MonitorLaws.{OneDown, MadeOnce, QuietMonitor, QuietWatch};
+ghost use Rattle.pt_history.specs.LoadLaws.{LoadFalls, ReceiptsBounded, QuietFlights};
+ghost use Rattle.pt_history.specs.Examples.{TenLines, Cascade, EarlyLink};
+
+/// A pid is born once and ends once, and is ever after as it ended.
+pub fn lives_once()
+    ensures once { LivesOnce }
+    ensures after { StaysEnded }
+{}
+
+/// A process is alive where it was born and has not ended, by its own exit or by a signal that came while it lived.
+pub fn alive_until_its_end()
+    ensures { AliveUntilEnd }
+{}
+
+/// What a process is after a history (alive or not, its trap flag, links, monitors and waiting items), all that
+/// arrived in its mailbox, and what an event sends, is told by the events of its own desk. So a desk's journal
+/// says of its own pids what every merge says.
+pub fn journals_tell_their_pids()
+    ensures life { ReadLocally }
+    ensures sent { SentLocally }
+    ensures journals { JournalsSay }
+{}
+
+/// In a legal history the signals that one pid sent another are those that came, in that order, then those in
+/// flight.
+pub fn sent_came_or_flies()
+    ensures { CameOrFlies }
+{}
+
+/// Where lanes agree, one process's messages to another are four lists joined: those that came before the
+/// receiver's birth, those that arrived in its mailbox, those that came after its end, and those left over.
+pub fn messages_keep_their_order()
+    ensures { SenderFront }
+{}
+
+/// The merge of local journals whose lanes agree is legal, and what is in flight in it is what the lanes leave
+/// over.
+pub fn merge_is_legal()
+    ensures { MergeLegal }
+{}
+
+/// A monitor has one `DOWN` at most, and none where it was demonitored. From the empty start each reference is
+/// made once.
+pub fn one_down()
+    ensures down { OneDown }
+    ensures made { MadeOnce }
+{}
+
+/// Each item that arrived in a mailbox was taken or waits, in the order of arrival; a take takes the first that
+/// waits and fits.
+pub fn taken_or_waiting()
+    ensures { TakenOrWaiting }
+{}
+
+/// Each receipt lowers the load, so no more receipts than the load can follow one another; a history is quiet
+/// exactly where nothing is in flight between any two pids.
+pub fn receipts_lower_the_load()
+    ensures falls { LoadFalls }
+    ensures bounded { ReceiptsBounded }
+    ensures quiet { QuietFlights }
+{}
+
+/// In a quiet history each monitor of a live watcher was demonitored, or had its one `DOWN`, or is open and kept
+/// by its live target; no live target keeps a watch of a process that is not alive.
+pub fn quiet_monitors()
+    ensures monitors { QuietMonitor }
+    ensures watches { QuietWatch }
+{}
+
+/// A legal and quiet history, followed by one that is legal over its state and makes new link ids and references,
+/// is legal; each pid and each flight is then what it is after both. So every law of legal histories holds of a
+/// history that goes on from another one.
+pub fn resumed_is_legal()
+    ensures legal { ResumedLegal }
+    ensures same { ResumedSame }
+{}
+
+/// Histories worked by hand are legal and quiet and end as they should: ten lines of two processes that send each
+/// other a message; an exit that goes down a chain of links as far as a process that traps it; a link made before
+/// the birth of its target, by which the two ends come to differ.
+pub fn worked_histories()
+    ensures ten_lines { TenLines }
+    ensures cascade { Cascade }
+    ensures early_link { EarlyLink }
+{}
