@@ -1,4 +1,9 @@
 pub mod Examples
+pub mod Since
+pub mod Flags
+pub mod LinksSince
+pub mod MonitorsSince
+pub mod WatchesSince
 pub mod Lives
 pub mod Steps
 pub mod Local

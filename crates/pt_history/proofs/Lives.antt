@@ -1,6 +1,7 @@
 -- Births and ends, one event at a time.
 use Rattle.std.proofs.Common.{◌≡◌, ◌+◌, Bool, true, false, cond, not, ◌&&◌, ◌||◌, [], ◌∷◌, ◌++◌, Option, Some, None, refl, sym, ap, ◌∙◌, arith}
 use Rattle.std.specs.Prelude.{is_some}
+use Rattle.std.specs.Option.{option_or}
 use Rattle.std.proofs.lemmas.Bool.{false≢true}
 use Rattle.pt_signal.specs.declared.pid.Pid.{Pid}
 use Rattle.pt_signal.specs.declared.ids.LinkId.{LinkId}
@@ -16,7 +17,7 @@ use Rattle.pt_history.specs.Load.{one_if}
 use Rattle.std.specs.Map.{lookup}
 use Rattle.pt_signal.proofs.Same.{same_pid_is}
 use Rattle.pt_history.proofs.Phases.{after_ended}
-use Rattle.pt_history.specs.Lives.{is_birth, ended_by, signal_ends, ends_with, births, or_later, deaths, was_born, end_reason}
+use Rattle.pt_history.specs.Lives.{is_birth, ended_by, signal_ends, ends_with, births, deaths, was_born, end_reason}
 
 -- a signal ends a live process by its verdict alone ------------------------------------------------
 
@@ -102,7 +103,7 @@ reason_live None s = refl
 reason_live (Some r) s = refl
 
 born_reason : (b c : Bool) (step : ProcessState → ProcessState) (parent : Option Pid) (link : Option LinkId) (f : Phase)
-    → reason_of (cond (b || c) (cond b (newborn parent link f) (while_living step f)) f) ≡ or_later (reason_of f) None
+    → reason_of (cond (b || c) (cond b (newborn parent link f) (while_living step f)) f) ≡ option_or (reason_of f) None
 born_reason true c step parent link unborn = refl
 born_reason true c step parent link (living s) = refl
 born_reason true c step parent link (ended r s) = refl
@@ -113,7 +114,7 @@ born_reason false false step parent link unborn = refl
 born_reason false false step parent link (living s) = refl
 born_reason false false step parent link (ended r s) = refl
 
-step_reason : (b : Bool) (step : ProcessState → ProcessState) (f : Phase) → reason_of (cond b (while_living step f) f) ≡ or_later (reason_of f) None
+step_reason : (b : Bool) (step : ProcessState → ProcessState) (f : Phase) → reason_of (cond b (while_living step f) f) ≡ option_or (reason_of f) None
 step_reason true step unborn = refl
 step_reason true step (living s) = refl
 step_reason true step (ended r s) = refl
@@ -125,7 +126,7 @@ gets_reason : (b : Bool) (p a : Pid) (x : Signal) (s : ProcessState) → reason_
 gets_reason true p a x s = reason_live (handle p s a x).ending (handle p s a x).state ∙ handle_ending p s a x
 gets_reason false p a x s = refl
 
-came_reason : (p a b : Pid) (x : Signal) (f : Phase) → reason_of (after p (Came a b x) f) ≡ or_later (reason_of f) (ends_with p f (Came a b x))
+came_reason : (p a b : Pid) (x : Signal) (f : Phase) → reason_of (after p (Came a b x) f) ≡ option_or (reason_of f) (ends_with p f (Came a b x))
 came_reason p a b x unborn = go (same_pid p b)
   where
     go : (t : Bool) → reason_of (cond t (gets p a x unborn) unborn) ≡ None
@@ -134,7 +135,7 @@ came_reason p a b x unborn = go (same_pid p b)
 came_reason p a b x (living s) = gets_reason (same_pid p b) p a x s
 came_reason p a b x (ended r s) = ap reason_of (after_ended p (Came a b x) r s)
 
-leaves_reason : (b : Bool) (r : Reason) (f : Phase) → (b ≡ true → is_living f ≡ true) → reason_of (cond b (leaves r f) f) ≡ or_later (reason_of f) (cond b (Some r) None)
+leaves_reason : (b : Bool) (r : Reason) (f : Phase) → (b ≡ true → is_living f ≡ true) → reason_of (cond b (leaves r f) f) ≡ option_or (reason_of f) (cond b (Some r) None)
 leaves_reason true r unborn h = absurd (false≢true (h refl))
 leaves_reason true r (living s) h = refl
 leaves_reason true r (ended w s) h = refl
@@ -143,7 +144,7 @@ leaves_reason false r (living s) h = refl
 leaves_reason false r (ended w s) h = refl
 
 module _ (start : Start) where
-  pub reason_step : (past : Past) (p : Pid) (e : Event) → May start past e → reason_of (life start (e ∷ past) p) ≡ or_later (reason_of (life start past p)) (ends_with p (life start past p) e)
+  pub reason_step : (past : Past) (p : Pid) (e : Event) → May start past e → reason_of (life start (e ∷ past) p) ≡ option_or (reason_of (life start past p)) (ends_with p (life start past p) e)
   reason_step past p (Born q parent link) h = born_reason (same_pid p q) (is_the p parent) _ parent link (life start past p)
   reason_step past p (Said a b x) h = step_reason (same_pid p a) _ (life start past p)
   reason_step past p (Came a b x) h = came_reason p a b x (life start past p)
@@ -222,7 +223,7 @@ module _ (start : Start) where
       go (living s) k = refl
       go (ended w s) k = absurd (false≢true k)
 
-  later_some : (o n : Option Reason) → (is_some n ≡ true → o ≡ None) → one_if (is_some o) + one_if (is_some n) ≡ one_if (is_some (or_later o n))
+  later_some : (o n : Option Reason) → (is_some n ≡ true → o ≡ None) → one_if (is_some o) + one_if (is_some n) ≡ one_if (is_some (option_or o n))
   later_some None n h = omega arith
   later_some (Some r) None h = refl
   later_some (Some r) (Some w) h = let k = h refl in absurd (cc)

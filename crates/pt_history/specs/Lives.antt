@@ -1,5 +1,6 @@
 -- Births and ends.
 use Rattle.std.specs.Prelude.{◌≡◌, ℕ, ◌+◌, Bool, true, false, cond, not, ◌&&◌, ◌||◌, Option, Some, None, is_some, [], ◌∷◌, ◌++◌}
+use Rattle.std.specs.Option.{option_or}
 use Rattle.pt_signal.specs.declared.pid.Pid.{Pid}
 use Rattle.pt_signal.specs.declared.reason.Reason.{Reason}
 use Rattle.pt_signal.specs.declared.signal.Signal.{Signal}
@@ -35,10 +36,6 @@ abbrev pub births : Past → Pid → ℕ
 births [] p = 0
 births (e ∷ past) p = births past p + one_if (is_birth p e)
 
-abbrev pub or_later : Option Reason → Option Reason → Option Reason
-or_later None r = r
-or_later (Some first) r = Some first
-
 module _ (start : Start) where
   -- how often p ended
   abbrev pub deaths : Past → Pid → ℕ
@@ -53,7 +50,7 @@ module _ (start : Start) where
   -- the reason with which p ended, in the history or before its start; the first one, if there were two
   abbrev pub end_reason : Past → Pid → Option Reason
   end_reason [] p = reason_of (at_start start p)
-  end_reason (e ∷ past) p = or_later (end_reason past p) (ends_with p (life start past p) e)
+  end_reason (e ∷ past) p = option_or (end_reason past p) (ends_with p (life start past p) e)
 
 -- a pid is born once, ends once, and is ever after as it ended
 abbrev pub LivesOnce : Type 0

@@ -1,6 +1,7 @@
 // The laws of histories: each is the contract of a function that does nothing.
 
 ghost use Rattle.pt_history.specs.Lives.{LivesOnce, StaysEnded, AliveUntilEnd};
+ghost use Rattle.pt_history.specs.Words.{TrapIsLastFlag, HeldSince, IsHeldSince, OpenSince, IsOpenSince, KeptSince, IsKeptSince};
 ghost use Rattle.pt_history.specs.Locality.{ReadLocally, SentLocally, JournalsSay};
 ghost use Rattle.pt_history.specs.Taken.{TakenOrWaiting};
 ghost use Rattle.pt_history.specs.Laws.{CameOrFlies, SenderFront, MergeLegal, ResumedLegal, ResumedSame};
@@ -17,6 +18,34 @@ pub fn lives_once()
 /// A process is alive where it was born and has not ended, by its own exit or by a signal that came while it lived.
 pub fn alive_until_its_end()
     ensures { AliveUntilEnd }
+{}
+
+/// A process's trap flag is the last one that it set; where it set none, it is off, or as at the start.
+pub fn trap_is_the_last_flag()
+    ensures { TrapIsLastFlag }
+{}
+
+/// The link ids that a process holds with another, in order of entry, are those that entered and have not left
+/// since. An id enters where the two are linked at a birth, where the process says `Link`, and where a `Link` comes
+/// while it lives, unless two are held. It leaves where the process says an `Unlink` of it, and where there comes,
+/// while it lives, an `Unlink` of it or a `LinkExit` of an id that is held.
+pub fn links_are_held_since()
+    ensures list { HeldSince }
+    ensures each { IsHeldSince }
+{}
+
+/// The open monitors of a live process, in order of making, are those that it made and for which it has since said
+/// no `Demonitor` and got no `DOWN`.
+pub fn monitors_are_open_since()
+    ensures list { OpenSince }
+    ensures each { IsOpenSince }
+{}
+
+/// The monitors that a process keeps for its watchers, in order of coming, are those that came while it lived and
+/// whose `Demonitor` has not come since, up to its end.
+pub fn watches_are_kept_since()
+    ensures list { KeptSince }
+    ensures each { IsKeptSince }
 {}
 
 /// What a process is after a history (alive or not, its trap flag, links, monitors and waiting items), all that
