@@ -4,6 +4,7 @@ pub mod Flags
 pub mod LinksSince
 pub mod MonitorsSince
 pub mod WatchesSince
+pub mod Positions
 pub mod Lives
 pub mod Steps
 pub mod Local

@@ -13,7 +13,7 @@ module _ {X : Type 0} where
   no_element : (x : X) → Contains [] x → ⊥
   no_element x h = let lt = h.1 in omega arith
 
-  element_cases : (y : X) (ys : List X) (x : X) → Contains (y ∷ ys) x → (y ≡ x) ⊎ Contains ys x
+  pub element_cases : (y : X) (ys : List X) (x : X) → Contains (y ∷ ys) x → (y ≡ x) ⊎ Contains ys x
   element_cases y ys x h =
       ⊎_elim (λ a. ⊎_elim (λ z. absurd (no_element x z)) inl (Contains-push_cases [] y x a)) inr (Contains-append_cases (y ∷ []) ys x h)
 

@@ -3,7 +3,7 @@
 ghost use Rattle.pt_history.specs.Lives.{LivesOnce, StaysEnded, AliveUntilEnd};
 ghost use Rattle.pt_history.specs.Words.{TrapIsLastFlag, HeldSince, IsHeldSince, OpenSince, IsOpenSince, KeptSince, IsKeptSince};
 ghost use Rattle.pt_history.specs.Locality.{ReadLocally, SentLocally, JournalsSay};
-ghost use Rattle.pt_history.specs.Taken.{TakenOrWaiting};
+ghost use Rattle.pt_history.specs.Taken.{TakenByPosition};
 ghost use Rattle.pt_history.specs.Laws.{CameOrFlies, SenderFront, MergeLegal, ResumedLegal, ResumedSame};
 ghost use Rattle.pt_history.specs.MonitorLaws.{OneDown, MadeOnce, QuietMonitor, QuietWatch};
 ghost use Rattle.pt_history.specs.LoadLaws.{LoadFalls, ReceiptsBounded, QuietFlights};
@@ -82,10 +82,11 @@ pub fn one_down()
     ensures made { MadeOnce }
 {}
 
-/// Each item that arrived in a mailbox was taken or waits, in the order of arrival; a take takes the first that
-/// waits and fits.
+/// Each take took the arrival at one position, no two took the same, and what waits in the mailbox are the arrivals
+/// at the other positions, in the order of arrival. A take takes at the first position that no earlier one took and
+/// whose item its pick fits.
 pub fn taken_or_waiting()
-    ensures { TakenOrWaiting }
+    ensures { TakenByPosition }
 {}
 
 /// Each receipt lowers the load, so no more receipts than the load can follow one another; a history is quiet
