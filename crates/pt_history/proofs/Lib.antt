@@ -1,5 +1,7 @@
 pub mod Examples
 pub mod Since
+pub mod Filters
+pub mod Fields
 pub mod Flags
 pub mod LinksSince
 pub mod MonitorsSince

@@ -4,7 +4,6 @@ use Rattle.std.specs.Map.{lookup, remove_entry}
 use Rattle.std.specs.List.{list_any}
 use Rattle.std.proofs.lemmas.Bool.{false≢true}
 use Rattle.pt_signal.specs.declared.pid.Pid.{Pid}
-use Rattle.pt_signal.specs.declared.ids.Ref.{Ref}
 use Rattle.pt_signal.specs.declared.ids.Ids.{Ids}
 use Rattle.pt_signal.specs.declared.ids.LinkId.{LinkId}
 use Rattle.pt_signal.specs.declared.reason.Reason.{Reason}
@@ -13,30 +12,24 @@ use Rattle.pt_signal.specs.declared.signal.Signal.TheVariants.{Message, Link, Un
 use Rattle.pt_history.specs.declared.event.Event.{Event}
 use Rattle.pt_history.specs.declared.event.Event.TheVariants.{Born, Said, Came, Took, Flag, Left}
 use Rattle.pt_signal.specs.Values.{same_pid, same_ref}
-use Rattle.pt_signal.specs.Process.{ProcessState, Verdict, drops, queues, ends, verdict, obey, held, holds_any, has_id, id_list, ids_of, add_id, enter, cut, link_exit, down, handle, say}
+use Rattle.pt_signal.specs.Process.{ProcessState, verdict, held, holds_any, has_id, id_list, ids_of, add_id, enter, cut, link_exit, handle, say}
 use Rattle.pt_history.specs.History.{Past, Start, Phase, unborn, living, ended, life, state, at_start, after, touches, is_living, state_of, linked, newborn, while_living, live_or_end, gets, leaves, May, IsLegal}
 use Rattle.pt_history.specs.Since.{standing}
 use Rattle.pt_history.specs.Words.{link_ids, ids_with, are_two, link_enters, link_leaves, HasOneEntryEach}
 use Rattle.pt_signal.proofs.Same.{same_pid_is}
 use Rattle.pt_history.proofs.Phases.{each_branch}
+use Rattle.pt_history.proofs.Filters.{filter_all, filter_nothing}
+use Rattle.pt_history.proofs.Fields.{end_keeps, obey_keeps, down_keeps}
 use Rattle.pt_history.proofs.Entries.{Keyed, entered, cut_ids, held-enter, held-enter-other, held-cut, held-cut-other, held-removed, held-removed-other, Keyed-enter, Keyed-cut, Keyed-removed}
 
 -- one entry ----------------------------------------------------------------------------------------
-
-keep_all : (xs : List LinkId) → filter (λ i. true) xs ≡ xs
-keep_all [] = refl
-keep_all (x ∷ xs) = ap (λ z. x ∷ z) (keep_all xs)
-
-drop_all : (xs : List LinkId) → filter (λ i. false) xs ≡ []
-drop_all [] = refl
-drop_all (x ∷ xs) = drop_all xs
 
 no_more : (b : Bool) (xs : List LinkId) → xs ++ cond b [] [] ≡ xs
 no_more true xs = append-nil xs
 no_more false xs = append-nil xs
 
 same_ids : (b : Bool) (xs : List LinkId) → xs ≡ filter (λ i. true) xs ++ cond b [] []
-same_ids b xs = sym (no_more b (filter (λ i. true) xs) ∙ keep_all xs)
+same_ids b xs = sym (no_more b (filter (λ i. true) xs) ∙ filter_all xs)
 
 entered_two : (one : LinkId) (two : Option LinkId) (i : LinkId)
     → id_list (add_id (record { one = one; two = two }) i) ≡ id_list (record { one = one; two = two }) ++ cond (are_two (id_list (record { one = one; two = two }))) [] (i ∷ [])
@@ -88,7 +81,7 @@ cut_with q c named links keyed = go (same_pid q c) refl
         (ap link_ids (held-cut q named links keyed) ∙ cut_left (held links q) named))
     go false e =
         subst (λ b. link_ids (held (cut c named links) q) ≡ filter (λ i. not (b && has_id named i)) (link_ids (held links q))) (sym e)
-        (ap link_ids (held-cut-other q c named links e) ∙ sym (keep_all (link_ids (held links q))))
+        (ap link_ids (held-cut-other q c named links e) ∙ sym (filter_all (link_ids (held links q))))
 
 removed_with : (q c : Pid) (links : List (Pid × Ids)) → Keyed links
     → link_ids (held (remove_entry (same_pid c) links) q) ≡ filter (λ i. not (same_pid q c)) (link_ids (held links q))
@@ -98,29 +91,16 @@ removed_with q c links keyed = go (same_pid q c) refl
     go true e =
         subst (λ b. link_ids (held (remove_entry (same_pid c) links) q) ≡ filter (λ i. not b) (link_ids (held links q))) (sym e)
         (subst (λ c. link_ids (held (remove_entry (same_pid c) links) q) ≡ filter (λ i. false) (link_ids (held links q))) (same_pid_is q c e)
-        (ap link_ids (held-removed q links keyed) ∙ sym (drop_all (link_ids (held links q)))))
+        (ap link_ids (held-removed q links keyed) ∙ sym (filter_nothing (link_ids (held links q)))))
     go false e =
         subst (λ b. link_ids (held (remove_entry (same_pid c) links) q) ≡ filter (λ i. not b) (link_ids (held links q))) (sym e)
-        (ap link_ids (held-removed-other q c links e) ∙ sym (keep_all (link_ids (held links q))))
+        (ap link_ids (held-removed-other q c links e) ∙ sym (filter_all (link_ids (held links q))))
 
 -- a signal that comes ------------------------------------------------------------------------------
 
-obey_links : (v : Verdict) (s : ProcessState) → (obey v s).state.links ≡ s.links
-obey_links drops s = refl
-obey_links (queues i) s = refl
-obey_links (ends r) s = refl
-
-down_links : (o : Option Pid) (s : ProcessState) (a : Pid) (m : Ref) (r : Reason) → (down o s a m r).state.links ≡ s.links
-down_links None s a m r = refl
-down_links (Some b) s a m r = refl
-
-live_or_end_links : (o : Option Reason) (s : ProcessState) → (state_of (live_or_end o s)).links ≡ s.links
-live_or_end_links None s = refl
-live_or_end_links (Some r) s = refl
-
 link_exit_links : (b : Bool) (p : Pid) (s : ProcessState) (a : Pid) (r : Reason) → (link_exit b p s a r).state.links ≡ cond b (remove_entry (same_pid a) s.links) s.links
 link_exit_links false p s a r = refl
-link_exit_links true p s a r = obey_links (verdict true s.traps (same_pid a p) a r) _
+link_exit_links true p s a r = obey_keeps (λ s. s.links) (λ w s. refl) (verdict true s.traps (same_pid a p) a r) _
 
 module _ (p q : Pid) where
   unchanged : (g f : Phase) (b : Bool) → (state_of g).links ≡ (state_of f).links → ids_with g q ≡ filter (λ i. true) (ids_with f q) ++ cond b [] []
@@ -129,14 +109,14 @@ module _ (p q : Pid) where
   came_other : (a : Pid) (x : Signal) → ((s : ProcessState) → (handle p s a x).state.links ≡ s.links) → (t : Bool) (f : Phase)
       → ids_with (cond t (gets p a x f) f) q ≡ filter (λ i. true) (ids_with f q) ++ cond (are_two (ids_with f q)) [] []
   came_other a x h true unborn = refl
-  came_other a x h true (living s) = unchanged (live_or_end (handle p s a x).ending (handle p s a x).state) (living s) (are_two (ids_with (living s) q)) (live_or_end_links (handle p s a x).ending (handle p s a x).state ∙ h s)
+  came_other a x h true (living s) = unchanged (live_or_end (handle p s a x).ending (handle p s a x).state) (living s) (are_two (ids_with (living s) q)) (end_keeps (λ s. s.links) (handle p s a x).ending (handle p s a x).state ∙ h s)
   came_other a x h true (ended r s) = same_ids (are_two (ids_with (ended r s) q)) (ids_with (ended r s) q)
   came_other a x h false f = same_ids (are_two (ids_with f q)) (ids_with f q)
 
   came_link : (a : Pid) (i : LinkId) (t : Bool) (f : Phase)
       → ids_with (cond t (gets p a (Link i) f) f) q ≡ filter (λ j. true) (ids_with f q) ++ cond (are_two (ids_with f q)) [] (cond (is_living f && t && same_pid q a) (i ∷ []) [])
   came_link a i true unborn = refl
-  came_link a i true (living s) = enter_ids q a i s.links ∙ ap (λ z. z ++ cond (are_two (ids_with (living s) q)) [] (cond (same_pid q a) (i ∷ []) [])) (sym (keep_all (ids_with (living s) q)))
+  came_link a i true (living s) = enter_ids q a i s.links ∙ ap (λ z. z ++ cond (are_two (ids_with (living s) q)) [] (cond (same_pid q a) (i ∷ []) [])) (sym (filter_all (ids_with (living s) q)))
   came_link a i true (ended r s) = same_ids (are_two (ids_with (ended r s) q)) (ids_with (ended r s) q)
   came_link a i false unborn = refl
   came_link a i false (living s) = same_ids (are_two (ids_with (living s) q)) (ids_with (living s) q)
@@ -167,11 +147,11 @@ module _ (p q : Pid) where
       of_q true h =
           let l : list_any (has_id named) (link_ids (held s.links q)) ≡ true = sym (holds_listed (held s.links q) named) ∙ h in
           subst (λ b. link_ids (held (cond (holds_any (held s.links q) named) (remove_entry (same_pid q) s.links) s.links) q) ≡ filter (λ j. not b) (link_ids (held s.links q))) (sym l)
-          (ap (λ b. link_ids (held (cond b (remove_entry (same_pid q) s.links) s.links) q)) h ∙ ap link_ids (held-removed q s.links k) ∙ sym (drop_all (link_ids (held s.links q))))
+          (ap (λ b. link_ids (held (cond b (remove_entry (same_pid q) s.links) s.links) q)) h ∙ ap link_ids (held-removed q s.links k) ∙ sym (filter_nothing (link_ids (held s.links q))))
       of_q false h =
           let l : list_any (has_id named) (link_ids (held s.links q)) ≡ false = sym (holds_listed (held s.links q) named) ∙ h in
           subst (λ b. link_ids (held (cond (holds_any (held s.links q) named) (remove_entry (same_pid q) s.links) s.links) q) ≡ filter (λ j. not b) (link_ids (held s.links q))) (sym l)
-          (ap (λ b. link_ids (held (cond b (remove_entry (same_pid q) s.links) s.links) q)) h ∙ sym (keep_all (link_ids (held s.links q))))
+          (ap (λ b. link_ids (held (cond b (remove_entry (same_pid q) s.links) s.links) q)) h ∙ sym (filter_all (link_ids (held s.links q))))
 
       other : (b : Bool) → same_pid q a ≡ false → link_ids (held (cond b (remove_entry (same_pid a) s.links) s.links) q) ≡ link_ids (held s.links q)
       other true e = ap link_ids (held-removed-other q a s.links e)
@@ -192,14 +172,14 @@ module _ (p q : Pid) where
           subst
           (λ b. link_ids (held (cond (holds_any (held s.links a) named) (remove_entry (same_pid a) s.links) s.links) q)
           ≡ filter (λ j. not (b && list_any (has_id named) (link_ids (held s.links q)))) (link_ids (held s.links q))) (sym e)
-          (other (holds_any (held s.links a) named) e ∙ sym (keep_all (link_ids (held s.links q))))
+          (other (holds_any (held s.links a) named) e ∙ sym (filter_all (link_ids (held s.links q))))
 
   came_exit : (a : Pid) (named : Ids) (r : Reason) (t : Bool) (f : Phase) → Keyed (state_of f).links
       → ids_with (cond t (gets p a (LinkExit named r) f) f) q
       ≡ filter (λ j. not (is_living f && t && same_pid q a && list_any (has_id named) (ids_with f q))) (ids_with f q) ++ cond (are_two (ids_with f q)) [] []
   came_exit a named r true unborn k = refl
   came_exit a named r true (living s) k =
-      ap (λ z. link_ids (held z q)) (live_or_end_links (handle p s a (LinkExit named r)).ending (handle p s a (LinkExit named r)).state)
+      ap (λ z. link_ids (held z q)) (end_keeps (λ s. s.links) (handle p s a (LinkExit named r)).ending (handle p s a (LinkExit named r)).state)
       ∙ exit_leaves a named r s k ∙ sym (no_more (are_two (ids_with (living s) q)) _)
   came_exit a named r true (ended w s) k = same_ids (are_two (ids_with (ended w s) q)) (ids_with (ended w s) q)
   came_exit a named r false unborn k = refl
@@ -214,11 +194,11 @@ module _ (p q : Pid) where
   came_step a b (Message body) f k = came_other a (Message body) (λ s. refl) (same_pid p b) f
   came_step a b (Link i) f k = came_link a i (same_pid p b) f
   came_step a b (Unlink ids) f k = came_unlink a ids (same_pid p b) f k
-  came_step a b (Signal.Exit r) f k = came_other a (Signal.Exit r) (λ s. obey_links (verdict false s.traps (same_pid a p) a r) s) (same_pid p b) f
+  came_step a b (Signal.Exit r) f k = came_other a (Signal.Exit r) (λ s. obey_keeps (λ s. s.links) (λ w s. refl) (verdict false s.traps (same_pid a p) a r) s) (same_pid p b) f
   came_step a b (LinkExit ids r) f k = came_exit a ids r (same_pid p b) f k
   came_step a b (Monitor m) f k = came_other a (Monitor m) (λ s. refl) (same_pid p b) f
   came_step a b (Demonitor m) f k = came_other a (Demonitor m) (λ s. refl) (same_pid p b) f
-  came_step a b (Signal.Down m r) f k = came_other a (Signal.Down m r) (λ s. down_links (lookup (same_ref m) s.watching) s a m r) (same_pid p b) f
+  came_step a b (Signal.Down m r) f k = came_other a (Signal.Down m r) (λ s. down_keeps (λ s. s.links) (λ w s. refl) (λ l s. refl) (lookup (same_ref m) s.watching) s a m r) (same_pid p b) f
 
   -- the other events -------------------------------------------------------------------------------
 
@@ -233,7 +213,7 @@ module _ (p q : Pid) where
       → ids_with (cond t (while_living (λ s. say s b (Link i)) f) f) q
       ≡ filter (λ j. true) (ids_with f q) ++ cond (are_two (ids_with f q)) [] (cond (t && same_pid q b) (i ∷ []) [])
   said_link b i true unborn l = absurd (false≢true (l refl))
-  said_link b i true (living s) l = enter_ids q b i s.links ∙ ap (λ z. z ++ cond (are_two (ids_with (living s) q)) [] (cond (same_pid q b) (i ∷ []) [])) (sym (keep_all (ids_with (living s) q)))
+  said_link b i true (living s) l = enter_ids q b i s.links ∙ ap (λ z. z ++ cond (are_two (ids_with (living s) q)) [] (cond (same_pid q b) (i ∷ []) [])) (sym (filter_all (ids_with (living s) q)))
   said_link b i true (ended r s) l = absurd (false≢true (l refl))
   said_link b i false f l = same_ids (are_two (ids_with f q)) (ids_with f q)
 
@@ -286,7 +266,7 @@ module _ (p q : Pid) where
   born_linked c a i true false (living s) l k = let z = l refl in absurd (cc)
   born_linked c a i true false (ended r s) l k = let z = l refl in absurd (cc)
   born_linked c a i false true unborn l k = absurd (false≢true (k refl))
-  born_linked c a i false true (living s) l k = enter_ids q c i s.links ∙ ap (λ z. z ++ cond (are_two (ids_with (living s) q)) [] (cond (same_pid q c) (i ∷ []) [])) (sym (keep_all (ids_with (living s) q)))
+  born_linked c a i false true (living s) l k = enter_ids q c i s.links ∙ ap (λ z. z ++ cond (are_two (ids_with (living s) q)) [] (cond (same_pid q c) (i ∷ []) [])) (sym (filter_all (ids_with (living s) q)))
   born_linked c a i false true (ended r s) l k = absurd (false≢true (k refl))
   born_linked c a i false false f l k = same_ids (are_two (ids_with f q)) (ids_with f q)
 
@@ -323,17 +303,17 @@ keyed_said s b _ k = k
 
 keyed_exit : (b : Bool) (p : Pid) (s : ProcessState) (a : Pid) (r : Reason) → Keyed s.links → Keyed (link_exit b p s a r).state.links
 keyed_exit false p s a r k = k
-keyed_exit true p s a r k = rw (obey_links (verdict true s.traps (same_pid a p) a r) (record s { links = remove_entry (same_pid a) s.links })) (Keyed-removed a s.links k)
+keyed_exit true p s a r k = rw (obey_keeps (λ s. s.links) (λ w s. refl) (verdict true s.traps (same_pid a p) a r) (record s { links = remove_entry (same_pid a) s.links })) (Keyed-removed a s.links k)
 
 keyed_handled : (p : Pid) (s : ProcessState) (a : Pid) (x : Signal) → Keyed s.links → Keyed (handle p s a x).state.links
 keyed_handled p s a (Message b) k = k
 keyed_handled p s a (Link i) k = Keyed-enter a i s.links k
 keyed_handled p s a (Unlink ids) k = Keyed-cut a ids s.links k
-keyed_handled p s a (Signal.Exit r) k = rw (obey_links (verdict false s.traps (same_pid a p) a r) s) k
+keyed_handled p s a (Signal.Exit r) k = rw (obey_keeps (λ s. s.links) (λ w s. refl) (verdict false s.traps (same_pid a p) a r) s) k
 keyed_handled p s a (LinkExit ids r) k = keyed_exit (holds_any (held s.links a) ids) p s a r k
 keyed_handled p s a (Monitor m) k = k
 keyed_handled p s a (Demonitor m) k = k
-keyed_handled p s a (Signal.Down m r) k = rw (down_links (lookup (same_ref m) s.watching) s a m r) k
+keyed_handled p s a (Signal.Down m r) k = rw (down_keeps (λ s. s.links) (λ w s. refl) (λ l s. refl) (lookup (same_ref m) s.watching) s a m r) k
 
 keyed_while : (step : ProcessState → ProcessState) → ((s : ProcessState) → Keyed s.links → Keyed (step s).links) → (f : Phase) → Keyed (state_of f).links → Keyed (state_of (while_living step f)).links
 keyed_while step h unborn k = k
@@ -347,7 +327,7 @@ keyed_born c i (ended r s) k = k
 
 keyed_gets : (p a : Pid) (x : Signal) (f : Phase) → Keyed (state_of f).links → Keyed (state_of (gets p a x f)).links
 keyed_gets p a x unborn k = k
-keyed_gets p a x (living s) k = rw (live_or_end_links (handle p s a x).ending (handle p s a x).state) (keyed_handled p s a x k)
+keyed_gets p a x (living s) k = rw (end_keeps (λ s. s.links) (handle p s a x).ending (handle p s a x).state) (keyed_handled p s a x k)
 keyed_gets p a x (ended r s) k = k
 
 keyed_leaves : (r : Reason) (f : Phase) → Keyed (state_of f).links → Keyed (state_of (leaves r f)).links

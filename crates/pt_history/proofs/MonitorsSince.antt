@@ -1,5 +1,5 @@
 -- The open monitors of a process are those that it made and that were not closed since.
-use Rattle.std.proofs.Common.{◌≡◌, ◌+◌, ◌≤◌, Bool, true, false, cond, not, ◌&&◌, ◌||◌, List, [], ◌∷◌, ◌++◌, Option, Some, None, filter, refl, sym, ap, ◌∙◌, arith, append-nil}
+use Rattle.std.proofs.Common.{◌≡◌, ◌≤◌, Bool, true, false, cond, not, ◌&&◌, ◌||◌, List, [], ◌∷◌, ◌++◌, Option, Some, None, filter, refl, sym, ap, ◌∙◌, arith, append-nil}
 use Rattle.std.specs.Prelude.{is_some}
 use Rattle.std.specs.Map.{lookup, remove_entry}
 use Rattle.pt_signal.specs.declared.pid.Pid.{Pid}
@@ -11,9 +11,8 @@ use Rattle.pt_signal.specs.declared.signal.Signal.TheVariants.{Message, Link, Un
 use Rattle.pt_history.specs.declared.event.Event.{Event}
 use Rattle.pt_history.specs.declared.event.Event.TheVariants.{Born, Said, Came, Took, Flag, Left}
 use Rattle.pt_signal.specs.Values.{same_pid, same_ref, fits, without_first}
-use Rattle.pt_signal.specs.Process.{ProcessState, Verdict, drops, queues, ends, verdict, obey, held, holds_any, link_exit, down, handle, say}
+use Rattle.pt_signal.specs.Process.{ProcessState, verdict, held, holds_any, down, handle, say}
 use Rattle.pt_history.specs.History.{Past, Start, Phase, unborn, living, ended, life, state, at_start, after, touches, is_the, is_living, state_of, linked, newborn, while_living, live_or_end, gets, leaves, May, IsLegal}
-use Rattle.pt_history.specs.Load.{one_if}
 use Rattle.pt_history.specs.Lives.{signal_ends}
 use Rattle.pt_history.specs.Since.{standing}
 use Rattle.pt_history.specs.MonitorLaws.{IsMadeOnce}
@@ -23,38 +22,17 @@ use Rattle.pt_history.proofs.Phases.{each_branch, after_ended}
 use Rattle.pt_history.proofs.Counts.{count_missing}
 use Rattle.pt_history.proofs.Downs.{opens, count_law}
 use Rattle.pt_history.proofs.Lives.{handle_ending}
+use Rattle.pt_history.proofs.Filters.{filter_all, filter_nothing, all_stay, none_passes, one_passes, remove_entry-first}
+use Rattle.pt_history.proofs.Fields.{obey_keeps, link_exit_keeps, linked_keeps}
 
 -- lists --------------------------------------------------------------------------------------------
 
 abbrev Entries : Type 0
 Entries = List (Ref × Pid)
 
-keep_all : (xs : Entries) → filter (λ k. true) xs ≡ xs
-keep_all [] = refl
-keep_all (x ∷ xs) = ap (λ z. x ∷ z) (keep_all xs)
-
-drop_all : (xs : Entries) → filter (λ k. false) xs ≡ []
-drop_all [] = refl
-drop_all (x ∷ xs) = drop_all xs
-
--- where none has the key, none goes
-none_gone : (n : Ref) (es : Entries) → opens n es ≡ 0 → filter (λ k. not (same_ref n k.0)) es ≡ es
-none_gone n [] h = refl
-none_gone n (e ∷ es) h = go (same_ref n e.0) refl h (none_gone n es)
-  where
-    go : (b : Bool) → same_ref n e.0 ≡ b → one_if (same_ref n e.0) + opens n es ≡ 0 → (opens n es ≡ 0 → filter (λ k. not (same_ref n k.0)) es ≡ es) → filter (λ k. not (same_ref n k.0)) (e ∷ es) ≡ e ∷ es
-    go true f h ih = let k : 1 + opens n es ≡ 0 = rw f at h in absurd (omega arith)
-    go false f h ih = let k : 0 + opens n es ≡ 0 = rw f at h in rw f (ap (λ z. e ∷ z) (ih (omega arith)))
-
 -- where one has the key at most, the removal of that one is the removal of all
 one_gone : (n : Ref) (es : Entries) → opens n es ≤ 1 → remove_entry (same_ref n) es ≡ filter (λ k. not (same_ref n k.0)) es
-one_gone n [] h = refl
-one_gone n (e ∷ es) h = go (same_ref n e.0) refl h (one_gone n es)
-  where
-    go : (b : Bool) → same_ref n e.0 ≡ b → one_if (same_ref n e.0) + opens n es ≤ 1 → (opens n es ≤ 1 → remove_entry (same_ref n) es ≡ filter (λ k. not (same_ref n k.0)) es)
-        → remove_entry (same_ref n) (e ∷ es) ≡ filter (λ k. not (same_ref n k.0)) (e ∷ es)
-    go true f h ih = let k : 1 + opens n es ≤ 1 = rw f at h in rw f (sym (none_gone n es (omega arith)))
-    go false f h ih = let k : 0 + opens n es ≤ 1 = rw f at h in rw f (ap (λ z. e ∷ z) (ih (omega arith)))
+one_gone n es h = remove_entry-first (same_ref n) es ∙ one_passes (λ (k : Ref × Pid). same_ref n k.0) es h
 
 -- what closes is the answer, or the end
 joined : (t : Ref × Pid → Bool) (es : Entries) → filter (λ k. not (t k || false)) es ≡ filter (λ k. not (t k)) es
@@ -74,23 +52,11 @@ ended_all t (e ∷ es) = go (t e) (ended_all t es)
     go true h = h
     go false h = h
 
-stays : (es : Entries) → es ≡ filter (λ k. true) es ++ []
-stays es = sym (append-nil _ ∙ keep_all es)
-
 -- a signal that comes ------------------------------------------------------------------------------
-
-obey_watching : (v : Verdict) (s : ProcessState) → (obey v s).state.watching ≡ s.watching
-obey_watching drops s = refl
-obey_watching (queues i) s = refl
-obey_watching (ends r) s = refl
-
-link_exit_watching : (b : Bool) (w : Pid) (s : ProcessState) (a : Pid) (r : Reason) → (link_exit b w s a r).state.watching ≡ s.watching
-link_exit_watching false w s a r = refl
-link_exit_watching true w s a r = obey_watching (verdict true s.traps (same_pid a w) a r) _
 
 down_watching : (n : Ref) (s : ProcessState) (o : Option Pid) → lookup (same_ref n) s.watching ≡ o → opens n s.watching ≤ 1 → (a : Pid) (r : Reason)
     → (down o s a n r).state.watching ≡ filter (λ k. not (same_ref n k.0)) s.watching
-down_watching n s None e h a r = sym (none_gone n s.watching (count_missing (same_ref n) s.watching e))
+down_watching n s None e h a r = sym (none_passes (λ (k : Ref × Pid). same_ref n k.0) s.watching (count_missing (same_ref n) s.watching e))
 down_watching n s (Some t) e h a r = one_gone n s.watching h
 
 -- a process that goes on has what it had open, one that ends has none
@@ -113,9 +79,9 @@ module _ (w : Pid) where
       ∙ go (is_some (signal_ends w s a x))
     where
       go : (b : Bool) → cond b [] s.watching ≡ filter (λ k. not (false || b)) s.watching ++ []
-      go true = sym (append-nil _ ∙ drop_all s.watching)
-      go false = stays s.watching
-  came_other a x s h false = stays s.watching
+      go true = sym (append-nil _ ∙ filter_nothing s.watching)
+      go false = all_stay s.watching
+  came_other a x s h false = all_stay s.watching
 
   came_down : (a : Pid) (n : Ref) (r : Reason) (s : ProcessState) → opens n s.watching ≤ 1 → (t : Bool)
       → open_monitors (cond t (gets w a (Signal.Down n r) (living s)) (living s)) ≡ filter (λ k. not ((t && same_ref n k.0) || is_some (cond t (signal_ends w s a (Signal.Down n r)) None))) s.watching ++ []
@@ -124,14 +90,14 @@ module _ (w : Pid) where
       ∙ ap (λ z. cond (is_some z) [] (handle w s a (Signal.Down n r)).state.watching) (handle_ending w s a (Signal.Down n r))
       ∙ down_watching n s (lookup (same_ref n) s.watching) refl h a r
       ∙ sym (append-nil _ ∙ joined (λ k. same_ref n k.0) s.watching)
-  came_down a n r s h false = stays s.watching
+  came_down a n r s h false = all_stay s.watching
 
   came_step : (a b : Pid) (x : Signal) (s : ProcessState) → ((n : Ref) → opens n s.watching ≤ 1) → OpenStep (after w (Came a b x) (living s)) (living s) (Came a b x)
   came_step a b (Message body) s h = came_other a (Message body) s refl (same_pid w b)
   came_step a b (Link i) s h = came_other a (Link i) s refl (same_pid w b)
   came_step a b (Unlink ids) s h = came_other a (Unlink ids) s refl (same_pid w b)
-  came_step a b (Signal.Exit r) s h = came_other a (Signal.Exit r) s (obey_watching (verdict false s.traps (same_pid a w) a r) s) (same_pid w b)
-  came_step a b (LinkExit ids r) s h = came_other a (LinkExit ids r) s (link_exit_watching (holds_any (held s.links a) ids) w s a r) (same_pid w b)
+  came_step a b (Signal.Exit r) s h = came_other a (Signal.Exit r) s (obey_keeps (λ s. s.watching) (λ w s. refl) (verdict false s.traps (same_pid a w) a r) s) (same_pid w b)
+  came_step a b (LinkExit ids r) s h = came_other a (LinkExit ids r) s (link_exit_keeps (λ s. s.watching) (λ w s. refl) (λ l s. refl) (holds_any (held s.links a) ids) w s a r) (same_pid w b)
   came_step a b (Monitor m) s h = came_other a (Monitor m) s refl (same_pid w b)
   came_step a b (Demonitor m) s h = came_other a (Demonitor m) s refl (same_pid w b)
   came_step a b (Signal.Down n r) s h = came_down a n r s (h n) (same_pid w b)
@@ -140,18 +106,18 @@ module _ (w : Pid) where
 
   step_other : (step : ProcessState → ProcessState) → ((s : ProcessState) → (step s).watching ≡ s.watching) → (t : Bool) (s : ProcessState)
       → open_monitors (cond t (while_living step (living s)) (living s)) ≡ filter (λ k. true) s.watching ++ []
-  step_other step h true s = h s ∙ stays s.watching
-  step_other step h false s = stays s.watching
+  step_other step h true s = h s ∙ all_stay s.watching
+  step_other step h false s = all_stay s.watching
 
   said_monitor : (b : Pid) (m : Ref) (t : Bool) (s : ProcessState)
       → open_monitors (cond t (while_living (λ s. say s b (Monitor m)) (living s)) (living s)) ≡ filter (λ k. true) s.watching ++ cond t ((m, b) ∷ []) []
-  said_monitor b m true s = ap (λ z. z ++ (m, b) ∷ []) (sym (keep_all s.watching))
-  said_monitor b m false s = stays s.watching
+  said_monitor b m true s = ap (λ z. z ++ (m, b) ∷ []) (sym (filter_all s.watching))
+  said_monitor b m false s = all_stay s.watching
 
   said_demonitor : (b : Pid) (m : Ref) (t : Bool) (s : ProcessState) → opens m s.watching ≤ 1
       → open_monitors (cond t (while_living (λ s. say s b (Demonitor m)) (living s)) (living s)) ≡ filter (λ k. not ((t && same_ref m k.0) || false)) s.watching ++ []
   said_demonitor b m true s h = one_gone m s.watching h ∙ sym (append-nil _ ∙ joined (λ k. same_ref m k.0) s.watching)
-  said_demonitor b m false s h = stays s.watching
+  said_demonitor b m false s h = all_stay s.watching
 
   said_step : (a b : Pid) (x : Signal) (s : ProcessState) → ((n : Ref) → opens n s.watching ≤ 1) → OpenStep (after w (Said a b x) (living s)) (living s) (Said a b x)
   said_step a b (Message body) s h = step_other (λ s. s) (λ s. refl) (same_pid w a) s
@@ -163,24 +129,18 @@ module _ (w : Pid) where
   said_step a b (Demonitor m) s h = said_demonitor b m (same_pid w a) s (h m)
   said_step a b (Signal.Down m r) s h = step_other (λ s. s) (λ s. refl) (same_pid w a) s
 
-  linked_watching : (q : Option Pid) (i : Option LinkId) (s : ProcessState) → (linked q i s).watching ≡ s.watching
-  linked_watching (Some q) (Some i) s = refl
-  linked_watching None (Some i) s = refl
-  linked_watching (Some q) None s = refl
-  linked_watching None None s = refl
-
   born_living : (parent : Option Pid) (link : Option LinkId) (step : ProcessState → ProcessState) → ((s : ProcessState) → (step s).watching ≡ s.watching) → (t u : Bool) (s : ProcessState)
       → open_monitors (cond (t || u) (cond t (newborn parent link (living s)) (while_living step (living s))) (living s)) ≡ filter (λ k. true) s.watching ++ []
-  born_living parent link step h true u s = stays s.watching
-  born_living parent link step h false true s = h s ∙ stays s.watching
-  born_living parent link step h false false s = stays s.watching
+  born_living parent link step h true u s = all_stay s.watching
+  born_living parent link step h false true s = h s ∙ all_stay s.watching
+  born_living parent link step h false false s = all_stay s.watching
 
   left_living : (t : Bool) (r : Reason) (s : ProcessState) → open_monitors (cond t (leaves r (living s)) (living s)) ≡ filter (λ k. not (false || is_some (cond t (Some r) None))) s.watching ++ []
-  left_living true r s = sym (append-nil _ ∙ drop_all s.watching)
-  left_living false r s = stays s.watching
+  left_living true r s = sym (append-nil _ ∙ filter_nothing s.watching)
+  left_living false r s = all_stay s.watching
 
   living_step : (e : Event) (s : ProcessState) → ((n : Ref) → opens n s.watching ≤ 1) → OpenStep (after w e (living s)) (living s) e
-  living_step (Born q parent link) s h = born_living parent link (linked (Some q) link) (λ s. linked_watching (Some q) link s) (same_pid w q) (is_the w parent) s
+  living_step (Born q parent link) s h = born_living parent link (linked (Some q) link) (linked_keeps (λ s. s.watching) (λ l s. refl) (Some q) link) (same_pid w q) (is_the w parent) s
   living_step (Said a b x) s h = said_step a b x s h
   living_step (Came a b x) s h = came_step a b x s h
   living_step (Took q k i) s h = step_other (λ s. record s { waiting = without_first (fits k) s.waiting }) (λ s. refl) (same_pid w q) s
@@ -198,7 +158,7 @@ module _ (w : Pid) where
 
   unborn_step : (e : Event) → monitor_opens w e ≡ [] → OpenStep (after w e unborn) unborn e
   unborn_step (Born q parent link) n =
-      each_branch (λ g. open_monitors g ≡ []) (touches w (Born q parent link)) _ _ (each_branch (λ g. open_monitors g ≡ []) (same_pid w q) _ _ (linked_watching parent link _) refl) refl
+      each_branch (λ g. open_monitors g ≡ []) (touches w (Born q parent link)) _ _ (each_branch (λ g. open_monitors g ≡ []) (same_pid w q) _ _ (linked_keeps (λ s. s.watching) (λ l s. refl) parent link _) refl) refl
   unborn_step (Said a b x) n = each_branch (λ g. open_monitors g ≡ []) (same_pid w a) _ _ refl refl ∙ sym n
   unborn_step (Came a b x) n = each_branch (λ g. open_monitors g ≡ []) (same_pid w b) _ _ refl refl
   unborn_step (Took q k i) n = each_branch (λ g. open_monitors g ≡ []) (same_pid w q) _ _ refl refl

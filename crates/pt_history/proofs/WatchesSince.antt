@@ -1,60 +1,36 @@
 -- The watches that a process keeps are those that came and were not given up since.
-use Rattle.std.proofs.Common.{◌≡◌, ◌+◌, ◌≤◌, Bool, true, false, cond, not, ◌&&◌, List, [], ◌∷◌, ◌++◌, Option, Some, None, filter, refl, sym, ap, ◌∙◌, subst, subst₂, arith, append-nil}
+use Rattle.std.proofs.Common.{◌≡◌, ◌+◌, ◌≤◌, Bool, true, false, cond, not, ◌&&◌, List, [], ◌∷◌, ◌++◌, filter, refl, sym, ap, ◌∙◌, subst, subst₂, arith, append-nil}
 use Rattle.std.specs.Map.{lookup}
 use Rattle.std.specs.List.{list_any}
 use Rattle.std.proofs.lemmas.Bool.{and_parts}
 use Rattle.pt_signal.specs.declared.pid.Pid.{Pid}
 use Rattle.pt_signal.specs.declared.ids.Ref.{Ref}
-use Rattle.pt_signal.specs.declared.ids.LinkId.{LinkId}
-use Rattle.pt_signal.specs.declared.reason.Reason.{Reason}
 use Rattle.pt_signal.specs.declared.signal.Signal.{Signal}
 use Rattle.pt_signal.specs.declared.signal.Signal.TheVariants.{Message, Link, Unlink, LinkExit, Monitor, Demonitor}
 use Rattle.pt_history.specs.declared.event.Event.{Event}
 use Rattle.pt_history.specs.declared.event.Event.TheVariants.{Born, Said, Came, Took, Flag, Left}
 use Rattle.pt_signal.specs.Values.{same_pid, same_ref, without_first}
-use Rattle.pt_signal.specs.Process.{ProcessState, Verdict, drops, queues, ends, verdict, obey, held, holds_any, link_exit, down, handle, say, same_watch, keep}
-use Rattle.pt_history.specs.History.{Past, Start, Phase, unborn, living, ended, life, state, after, touches, is_living, state_of, linked, newborn, while_living, live_or_end, gets, leaves}
+use Rattle.pt_signal.specs.Process.{ProcessState, verdict, held, holds_any, handle, say, same_watch, keep}
+use Rattle.pt_history.specs.History.{Past, Start, Phase, unborn, living, ended, life, state, after, is_living, state_of, while_living, gets}
 use Rattle.pt_history.specs.Load.{one_if}
 use Rattle.pt_history.specs.Watch.{count}
 use Rattle.pt_history.specs.Since.{standing}
 use Rattle.pt_history.specs.Words.{watch_enters, watch_leaves, KeepsEachOnce}
 use Rattle.pt_signal.proofs.Same.{same_pid_is, same_ref_is}
 use Rattle.pt_history.proofs.Phases.{each_branch}
+use Rattle.pt_history.proofs.Filters.{filter_all, all_stay, one_passes}
+use Rattle.pt_history.proofs.Fields.{end_keeps, while_keeps, leaves_keeps, obey_keeps, link_exit_keeps, down_keeps, born_keeps, say_keeps}
 use Rattle.pt_history.proofs.Counts.{count-append, count-some, count_less}
 
 abbrev Watches : Type 0
 Watches = List (Ref × Pid)
 
-keep_all : (xs : Watches) → filter (λ k. true) xs ≡ xs
-keep_all [] = refl
-keep_all (x ∷ xs) = ap (λ z. x ∷ z) (keep_all xs)
-
-stays : (xs : Watches) → xs ≡ filter (λ k. true) xs ++ []
-stays xs = sym (append-nil _ ∙ keep_all xs)
-
--- where one passes at most, the list without the first that passes is the list without all
-none_passes : (T : Ref × Pid → Bool) (xs : Watches) → count T xs ≡ 0 → filter (λ k. not (T k)) xs ≡ xs
-none_passes T [] h = refl
-none_passes T (x ∷ xs) h = go (T x) refl h (none_passes T xs)
-  where
-    go : (b : Bool) → T x ≡ b → one_if (T x) + count T xs ≡ 0 → (count T xs ≡ 0 → filter (λ k. not (T k)) xs ≡ xs) → filter (λ k. not (T k)) (x ∷ xs) ≡ x ∷ xs
-    go true e h ih = let k : 1 + count T xs ≡ 0 = rw e at h in absurd (omega arith)
-    go false e h ih = let k : 0 + count T xs ≡ 0 = rw e at h in rw e (ap (λ z. x ∷ z) (ih (omega arith)))
-
-one_passes : (T : Ref × Pid → Bool) (xs : Watches) → count T xs ≤ 1 → without_first T xs ≡ filter (λ k. not (T k)) xs
-one_passes T [] h = refl
-one_passes T (x ∷ xs) h = go (T x) refl h (one_passes T xs)
-  where
-    go : (b : Bool) → T x ≡ b → one_if (T x) + count T xs ≤ 1 → (count T xs ≤ 1 → without_first T xs ≡ filter (λ k. not (T k)) xs) → without_first T (x ∷ xs) ≡ filter (λ k. not (T k)) (x ∷ xs)
-    go true e h ih = let k : 1 + count T xs ≤ 1 = rw e at h in rw e (sym (none_passes T xs (omega arith)))
-    go false e h ih = let k : 0 + count T xs ≤ 1 = rw e at h in rw e (ap (λ z. x ∷ z) (ih (omega arith)))
-
 kept_more : (m : Ref) (w : Pid) (kept : Watches) → keep m w kept ≡ filter (λ k. true) kept ++ cond (not (list_any (same_watch m w) kept)) ((m, w) ∷ []) []
 kept_more m w kept = go (list_any (same_watch m w) kept)
   where
     go : (b : Bool) → cond b kept (kept ++ (m, w) ∷ []) ≡ filter (λ k. true) kept ++ cond (not b) ((m, w) ∷ []) []
-    go true = stays kept
-    go false = ap (λ z. z ++ (m, w) ∷ []) (sym (keep_all kept))
+    go true = all_stay kept
+    go false = ap (λ z. z ++ (m, w) ∷ []) (sym (filter_all kept))
 
 -- no watch is kept twice
 abbrev pub KeptOnce : Watches → Type 0
@@ -78,106 +54,57 @@ once_less n a kept h w m = let c = count_less (same_watch m w) (same_watch n a) 
 
 -- one event ----------------------------------------------------------------------------------------
 
-obey_kept : (v : Verdict) (s : ProcessState) → (obey v s).state.kept ≡ s.kept
-obey_kept drops s = refl
-obey_kept (queues i) s = refl
-obey_kept (ends r) s = refl
-
-link_exit_kept : (b : Bool) (t : Pid) (s : ProcessState) (a : Pid) (r : Reason) → (link_exit b t s a r).state.kept ≡ s.kept
-link_exit_kept false t s a r = refl
-link_exit_kept true t s a r = obey_kept (verdict true s.traps (same_pid a t) a r) _
-
-down_kept : (o : Option Pid) (s : ProcessState) (a : Pid) (n : Ref) (r : Reason) → (down o s a n r).state.kept ≡ s.kept
-down_kept None s a n r = refl
-down_kept (Some t) s a n r = refl
-
-live_or_end_kept : (o : Option Reason) (s : ProcessState) → (state_of (live_or_end o s)).kept ≡ s.kept
-live_or_end_kept None s = refl
-live_or_end_kept (Some r) s = refl
-
-linked_kept : (q : Option Pid) (i : Option LinkId) (s : ProcessState) → (linked q i s).kept ≡ s.kept
-linked_kept (Some q) (Some i) s = refl
-linked_kept None (Some i) s = refl
-linked_kept (Some q) None s = refl
-linked_kept None None s = refl
-
-say_kept : (s : ProcessState) (b : Pid) (x : Signal) → (say s b x).kept ≡ s.kept
-say_kept s b (Link i) = refl
-say_kept s b (Unlink ids) = refl
-say_kept s b (Monitor m) = refl
-say_kept s b (Demonitor m) = refl
-say_kept s b _ = refl
-
-born_kept : (q : Option Pid) (i : Option LinkId) (f : Phase) → (state_of (newborn q i f)).kept ≡ (state_of f).kept
-born_kept q i unborn = linked_kept q i _
-born_kept q i (living s) = refl
-born_kept q i (ended r s) = refl
-
-while_kept : (step : ProcessState → ProcessState) → ((s : ProcessState) → (step s).kept ≡ s.kept) → (f : Phase) → (state_of (while_living step f)).kept ≡ (state_of f).kept
-while_kept step h unborn = refl
-while_kept step h (living s) = h s
-while_kept step h (ended r s) = refl
-
-leaves_kept : (r : Reason) (f : Phase) → (state_of (leaves r f)).kept ≡ (state_of f).kept
-leaves_kept r unborn = refl
-leaves_kept r (living s) = refl
-leaves_kept r (ended w s) = refl
-
 module _ (t : Pid) where
   abbrev pub KeptStep : Phase → Phase → Event → Type 0
   KeptStep g f e = (state_of g).kept ≡ filter (λ k. not (watch_leaves t f e k)) (state_of f).kept ++ watch_enters t f e
 
   same_kept : (g f : Phase) → (state_of g).kept ≡ (state_of f).kept → (state_of g).kept ≡ filter (λ k. true) (state_of f).kept ++ []
-  same_kept g f h = h ∙ stays (state_of f).kept
+  same_kept g f h = h ∙ all_stay (state_of f).kept
 
   came_other : (a : Pid) (x : Signal) → ((s : ProcessState) → (handle t s a x).state.kept ≡ s.kept) → (b : Bool) (f : Phase)
       → (state_of (cond b (gets t a x f) f)).kept ≡ filter (λ k. true) (state_of f).kept ++ []
   came_other a x h true unborn = refl
-  came_other a x h true (living s) = (live_or_end_kept (handle t s a x).ending (handle t s a x).state ∙ h s) ∙ stays s.kept
-  came_other a x h true (ended r s) = stays s.kept
-  came_other a x h false f = stays (state_of f).kept
+  came_other a x h true (living s) = (end_keeps (λ s. s.kept) (handle t s a x).ending (handle t s a x).state ∙ h s) ∙ all_stay s.kept
+  came_other a x h true (ended r s) = all_stay s.kept
+  came_other a x h false f = all_stay (state_of f).kept
 
   came_monitor : (w : Pid) (m : Ref) (b : Bool) (f : Phase)
       → (state_of (cond b (gets t w (Monitor m) f) f)).kept ≡ filter (λ k. true) (state_of f).kept ++ cond (is_living f && b && not (list_any (same_watch m w) (state_of f).kept)) ((m, w) ∷ []) []
   came_monitor w m true unborn = refl
   came_monitor w m true (living s) = kept_more m w s.kept
-  came_monitor w m true (ended r s) = stays s.kept
+  came_monitor w m true (ended r s) = all_stay s.kept
   came_monitor w m false unborn = refl
-  came_monitor w m false (living s) = stays s.kept
-  came_monitor w m false (ended r s) = stays s.kept
+  came_monitor w m false (living s) = all_stay s.kept
+  came_monitor w m false (ended r s) = all_stay s.kept
 
   came_demonitor : (w : Pid) (m : Ref) (b : Bool) (f : Phase) → KeptOnce (state_of f).kept
       → (state_of (cond b (gets t w (Demonitor m) f) f)).kept ≡ filter (λ k. not (is_living f && b && same_watch m w k)) (state_of f).kept ++ []
   came_demonitor w m true unborn h = refl
   came_demonitor w m true (living s) h = one_passes (same_watch m w) s.kept (h w m) ∙ sym (append-nil _)
-  came_demonitor w m true (ended r s) h = stays s.kept
+  came_demonitor w m true (ended r s) h = all_stay s.kept
   came_demonitor w m false unborn h = refl
-  came_demonitor w m false (living s) h = stays s.kept
-  came_demonitor w m false (ended r s) h = stays s.kept
+  came_demonitor w m false (living s) h = all_stay s.kept
+  came_demonitor w m false (ended r s) h = all_stay s.kept
 
   kept_step : (e : Event) (f : Phase) → KeptOnce (state_of f).kept → KeptStep (after t e f) f e
   kept_step (Came a b (Message body)) f h = came_other a (Message body) (λ s. refl) (same_pid t b) f
   kept_step (Came a b (Link i)) f h = came_other a (Link i) (λ s. refl) (same_pid t b) f
   kept_step (Came a b (Unlink ids)) f h = came_other a (Unlink ids) (λ s. refl) (same_pid t b) f
-  kept_step (Came a b (Signal.Exit r)) f h = came_other a (Signal.Exit r) (λ s. obey_kept (verdict false s.traps (same_pid a t) a r) s) (same_pid t b) f
-  kept_step (Came a b (LinkExit ids r)) f h = came_other a (LinkExit ids r) (λ s. link_exit_kept (holds_any (held s.links a) ids) t s a r) (same_pid t b) f
+  kept_step (Came a b (Signal.Exit r)) f h = came_other a (Signal.Exit r) (λ s. obey_keeps (λ s. s.kept) (λ w s. refl) (verdict false s.traps (same_pid a t) a r) s) (same_pid t b) f
+  kept_step (Came a b (LinkExit ids r)) f h = came_other a (LinkExit ids r) (λ s. link_exit_keeps (λ s. s.kept) (λ w s. refl) (λ l s. refl) (holds_any (held s.links a) ids) t s a r) (same_pid t b) f
   kept_step (Came a b (Monitor m)) f h = came_monitor a m (same_pid t b) f
   kept_step (Came a b (Demonitor m)) f h = came_demonitor a m (same_pid t b) f h
-  kept_step (Came a b (Signal.Down m r)) f h = came_other a (Signal.Down m r) (λ s. down_kept (lookup (same_ref m) s.watching) s a m r) (same_pid t b) f
-  kept_step (Born q parent link) f h =
-      each_branch (λ g. (state_of g).kept ≡ filter (λ k. true) (state_of f).kept ++ []) (touches t (Born q parent link)) _ _
-      (each_branch (λ g. (state_of g).kept ≡ filter (λ k. true) (state_of f).kept ++ []) (same_pid t q) _ _
-      (same_kept (newborn parent link f) f (born_kept parent link f)) (same_kept (while_living (linked (Some q) link) f) f (while_kept (linked (Some q) link) (λ s. linked_kept (Some q) link s) f)))
-      (stays (state_of f).kept)
+  kept_step (Came a b (Signal.Down m r)) f h = came_other a (Signal.Down m r) (λ s. down_keeps (λ s. s.kept) (λ w s. refl) (λ l s. refl) (lookup (same_ref m) s.watching) s a m r) (same_pid t b) f
+  kept_step (Born q parent link) f h = same_kept (after t (Born q parent link) f) f (born_keeps (λ s. s.kept) (λ l s. refl) t q parent link f)
   kept_step (Said a b x) f h =
       each_branch (λ g. (state_of g).kept ≡ filter (λ k. true) (state_of f).kept ++ []) (same_pid t a) _ _
-      (same_kept (while_living (λ s. say s b x) f) f (while_kept (λ s. say s b x) (λ s. say_kept s b x) f)) (stays (state_of f).kept)
+      (same_kept (while_living (λ s. say s b x) f) f (while_keeps (λ s. s.kept) (λ s. say s b x) (say_keeps (λ s. s.kept) (λ l s. refl) (λ l s. refl) b x) f)) (all_stay (state_of f).kept)
   kept_step (Took q k i) f h =
-      each_branch (λ g. (state_of g).kept ≡ filter (λ k. true) (state_of f).kept ++ []) (same_pid t q) _ _ (while_kept _ (λ s. refl) f ∙ stays (state_of f).kept) (stays (state_of f).kept)
+      each_branch (λ g. (state_of g).kept ≡ filter (λ k. true) (state_of f).kept ++ []) (same_pid t q) _ _ (while_keeps (λ s. s.kept) _ (λ s. refl) f ∙ all_stay (state_of f).kept) (all_stay (state_of f).kept)
   kept_step (Flag q on) f h =
-      each_branch (λ g. (state_of g).kept ≡ filter (λ k. true) (state_of f).kept ++ []) (same_pid t q) _ _ (while_kept _ (λ s. refl) f ∙ stays (state_of f).kept) (stays (state_of f).kept)
+      each_branch (λ g. (state_of g).kept ≡ filter (λ k. true) (state_of f).kept ++ []) (same_pid t q) _ _ (while_keeps (λ s. s.kept) _ (λ s. refl) f ∙ all_stay (state_of f).kept) (all_stay (state_of f).kept)
   kept_step (Left q r) f h =
-      each_branch (λ g. (state_of g).kept ≡ filter (λ k. true) (state_of f).kept ++ []) (same_pid t q) _ _ (leaves_kept r f ∙ stays (state_of f).kept) (stays (state_of f).kept)
+      each_branch (λ g. (state_of g).kept ≡ filter (λ k. true) (state_of f).kept ++ []) (same_pid t q) _ _ (leaves_keeps (λ s. s.kept) r f ∙ all_stay (state_of f).kept) (all_stay (state_of f).kept)
 
   -- no watch comes to be kept twice
   once_handled : (s : ProcessState) (a : Pid) (x : Signal) → KeptOnce s.kept → KeptOnce (handle t s a x).state.kept
@@ -186,27 +113,25 @@ module _ (t : Pid) where
   once_handled s a (Message body) h = h
   once_handled s a (Link i) h = h
   once_handled s a (Unlink ids) h = h
-  once_handled s a (Signal.Exit r) h = rw (obey_kept (verdict false s.traps (same_pid a t) a r) s) h
-  once_handled s a (LinkExit ids r) h = rw (link_exit_kept (holds_any (held s.links a) ids) t s a r) h
-  once_handled s a (Signal.Down m r) h = rw (down_kept (lookup (same_ref m) s.watching) s a m r) h
+  once_handled s a (Signal.Exit r) h = rw (obey_keeps (λ s. s.kept) (λ w s. refl) (verdict false s.traps (same_pid a t) a r) s) h
+  once_handled s a (LinkExit ids r) h = rw (link_exit_keeps (λ s. s.kept) (λ w s. refl) (λ l s. refl) (holds_any (held s.links a) ids) t s a r) h
+  once_handled s a (Signal.Down m r) h = rw (down_keeps (λ s. s.kept) (λ w s. refl) (λ l s. refl) (lookup (same_ref m) s.watching) s a m r) h
 
   once_gets : (a : Pid) (x : Signal) (f : Phase) → KeptOnce (state_of f).kept → KeptOnce (state_of (gets t a x f)).kept
   once_gets a x unborn h = h
-  once_gets a x (living s) h = rw (live_or_end_kept (handle t s a x).ending (handle t s a x).state) (once_handled s a x h)
+  once_gets a x (living s) h = rw (end_keeps (λ s. s.kept) (handle t s a x).ending (handle t s a x).state) (once_handled s a x h)
   once_gets a x (ended r s) h = h
 
   abbrev Once : Phase → Type 0
   Once f = KeptOnce (state_of f).kept
 
   once_step : (e : Event) (f : Phase) → KeptOnce (state_of f).kept → KeptOnce (state_of (after t e f)).kept
-  once_step (Born q parent link) f h =
-      each_branch Once (touches t (Born q parent link)) _ _
-      (each_branch Once (same_pid t q) _ _ (rw (born_kept parent link f) h) (rw (while_kept (linked (Some q) link) (λ s. linked_kept (Some q) link s) f) h)) h
-  once_step (Said a b x) f h = each_branch Once (same_pid t a) _ _ (rw (while_kept (λ s. say s b x) (λ s. say_kept s b x) f) h) h
+  once_step (Born q parent link) f h = rw (born_keeps (λ s. s.kept) (λ l s. refl) t q parent link f) h
+  once_step (Said a b x) f h = each_branch Once (same_pid t a) _ _ (rw (while_keeps (λ s. s.kept) (λ s. say s b x) (say_keeps (λ s. s.kept) (λ l s. refl) (λ l s. refl) b x) f) h) h
   once_step (Came a b x) f h = each_branch Once (same_pid t b) _ _ (once_gets a x f h) h
-  once_step (Took q k i) f h = each_branch Once (same_pid t q) _ _ (subst KeptOnce (sym (while_kept _ (λ s. refl) f)) h) h
-  once_step (Flag q on) f h = each_branch Once (same_pid t q) _ _ (subst KeptOnce (sym (while_kept _ (λ s. refl) f)) h) h
-  once_step (Left q r) f h = each_branch Once (same_pid t q) _ _ (rw (leaves_kept r f) h) h
+  once_step (Took q k i) f h = each_branch Once (same_pid t q) _ _ (subst KeptOnce (sym (while_keeps (λ s. s.kept) _ (λ s. refl) f)) h) h
+  once_step (Flag q on) f h = each_branch Once (same_pid t q) _ _ (subst KeptOnce (sym (while_keeps (λ s. s.kept) _ (λ s. refl) f)) h) h
+  once_step (Left q r) f h = each_branch Once (same_pid t q) _ _ (rw (leaves_keeps (λ s. s.kept) r f) h) h
 
 module _ (start : Start) (ok : KeepsEachOnce start) (t : Pid) where
   pub kept_once : (past : Past) → KeptOnce (state start past t).kept
