@@ -6,7 +6,6 @@ use Rattle.std.proofs.lemmas.Bool.{false≢true}
 use Rattle.std.specs.Map.{lookup}
 use Rattle.pt_signal.specs.declared.pid.Pid.{Pid}
 use Rattle.pt_signal.specs.declared.ids.Ref.{Ref}
-use Rattle.pt_signal.specs.declared.ids.LinkId.{LinkId}
 use Rattle.pt_signal.specs.declared.item.Pick.{Pick}
 use Rattle.pt_signal.specs.declared.item.Item.{Item}
 use Rattle.pt_signal.specs.declared.reason.Reason.{Reason}
@@ -16,9 +15,10 @@ use Rattle.pt_history.specs.declared.event.Event.{Event}
 use Rattle.pt_history.specs.declared.event.Event.TheVariants.{Born, Said, Came, Took, Flag, Left}
 use Rattle.pt_signal.specs.Values.{same_pid, same_ref, fits, without_first}
 use Rattle.pt_signal.specs.Process.{ProcessState, Verdict, drops, queues, ends, verdict, obey, holds_any, held, link_exit, down, handle, say}
-use Rattle.pt_history.specs.History.{Past, Start, Phase, unborn, living, ended, life, touches, is_living, state_of, at_start, arrives, items_of, IsLegal, linked, newborn, live_or_end, while_living, leaves, gets, state}
+use Rattle.pt_history.specs.History.{Past, Start, Phase, unborn, living, ended, life, is_living, state_of, at_start, arrives, items_of, IsLegal, while_living, gets, state}
 use Rattle.pt_signal.proofs.Same.{same_pid_is}
 use Rattle.pt_history.proofs.Phases.{each_branch}
+use Rattle.pt_history.proofs.Fields.{end_keeps, while_keeps, leaves_keeps, born_keeps, say_keeps}
 
 -- an arrival, and whether it was taken
 abbrev pub Arrival : Type 0
@@ -71,23 +71,6 @@ handle_queues me s from (Monitor m) = sym (append-nil s.waiting)
 handle_queues me s from (Demonitor m) = sym (append-nil s.waiting)
 handle_queues me s from (Signal.Down m r) = downed (lookup (same_ref m) s.watching) s from m r
 
-said_waiting : (s : ProcessState) (b : Pid) (x : Signal) → (say s b x).waiting ≡ s.waiting
-said_waiting s b (Link i) = refl
-said_waiting s b (Unlink ids) = refl
-said_waiting s b (Monitor m) = refl
-said_waiting s b (Demonitor m) = refl
-said_waiting s b _ = refl
-
-linked_waiting : (q : Option Pid) (i : Option LinkId) (s : ProcessState) → (linked q i s).waiting ≡ s.waiting
-linked_waiting (Some q) (Some i) s = refl
-linked_waiting None (Some i) s = refl
-linked_waiting (Some q) None s = refl
-linked_waiting None None s = refl
-
-live_or_end_state : (o : Option Reason) (s : ProcessState) → state_of (live_or_end o s) ≡ s
-live_or_end_state None s = refl
-live_or_end_state (Some r) s = refl
-
 -- positions -----------------------------------------------------------------------------------
 
 pub waiting-append : (xs ys : List Arrival) → left_waiting (xs ++ ys) ≡ left_waiting xs ++ left_waiting ys
@@ -112,27 +95,11 @@ take_first_waiting k ((i, false) ∷ rs) = go (fits k i) refl (take_first_waitin
     go false e ih = rw e (ap (λ z. i ∷ z) ih)
 
 module _ (start : Start) (p : Pid) where
-  -- an event that neither comes nor takes leaves what waits
-  born_waiting : (q : Option Pid) (i : Option LinkId) (f : Phase) → (state_of (newborn q i f)).waiting ≡ (state_of f).waiting
-  born_waiting q i unborn = linked_waiting q i _
-  born_waiting q i (living s) = refl
-  born_waiting q i (ended r s) = refl
-
-  step_waiting : (step : ProcessState → ProcessState) → ((s : ProcessState) → (step s).waiting ≡ s.waiting) → (f : Phase) → (state_of (while_living step f)).waiting ≡ (state_of f).waiting
-  step_waiting step h unborn = refl
-  step_waiting step h (living s) = h s
-  step_waiting step h (ended r s) = refl
-
-  left_waiting_end : (r : Reason) (f : Phase) → (state_of (leaves r f)).waiting ≡ (state_of f).waiting
-  left_waiting_end r unborn = refl
-  left_waiting_end r (living s) = refl
-  left_waiting_end r (ended w s) = refl
-
   -- a receipt
   came_waiting : (a b : Pid) (x : Signal) (f : Phase) (t : Bool) → (state_of (cond t (gets p a x f) f)).waiting ≡ (state_of f).waiting ++ cond t (items_of f p a x) []
   came_waiting a b x f false = sym (append-nil _)
   came_waiting a b x unborn true = refl
-  came_waiting a b x (living s) true = ap (λ z. z.waiting) (live_or_end_state (handle p s a x).ending (handle p s a x).state) ∙ handle_queues p s a x
+  came_waiting a b x (living s) true = end_keeps (λ s. s.waiting) (handle p s a x).ending (handle p s a x).state ∙ handle_queues p s a x
   came_waiting a b x (ended r s) true = sym (append-nil _)
 
   took_waiting : (k : Pick) (rs : List Arrival) (f : Phase) (t : Bool) → (t ≡ true → is_living f ≡ true) → left_waiting rs ≡ (state_of f).waiting
@@ -153,14 +120,13 @@ module _ (start : Start) (p : Pid) where
       ∙ took_waiting k (arrivals start past p) (life start past p) (same_pid p q) (λ e. rw (same_pid_is p q e) h.0.0) (waits past h.1)
   waits (Born q parent link ∷ past) h =
       nothing_more (arrivals start past p) ∙ waits past h.1
-      ∙ sym (each_branch (λ g. (state_of g).waiting ≡ (state start past p).waiting) (touches p (Born q parent link)) _ _
-      (each_branch (λ g. (state_of g).waiting ≡ (state start past p).waiting) (same_pid p q) _ _ (born_waiting parent link (life start past p)) (step_waiting (linked (Some q) link) (λ s. linked_waiting (Some q) link s) (life start past p))) refl)
+      ∙ sym (born_keeps (λ s. s.waiting) (λ l s. refl) p q parent link (life start past p))
   waits (Said a b x ∷ past) h =
       nothing_more (arrivals start past p) ∙ waits past h.1
-      ∙ sym (each_branch (λ g. (state_of g).waiting ≡ (state start past p).waiting) (same_pid p a) _ _ (step_waiting (λ s. say s b x) (λ s. said_waiting s b x) (life start past p)) refl)
+      ∙ sym (each_branch (λ g. (state_of g).waiting ≡ (state start past p).waiting) (same_pid p a) _ _ (while_keeps (λ s. s.waiting) (λ s. say s b x) (say_keeps (λ s. s.waiting) (λ l s. refl) (λ l s. refl) b x) (life start past p)) refl)
   waits (Flag q on ∷ past) h =
       nothing_more (arrivals start past p) ∙ waits past h.1
-      ∙ sym (each_branch (λ g. (state_of g).waiting ≡ (state start past p).waiting) (same_pid p q) _ _ (step_waiting (λ s. record s { traps = on }) (λ s. refl) (life start past p)) refl)
+      ∙ sym (each_branch (λ g. (state_of g).waiting ≡ (state start past p).waiting) (same_pid p q) _ _ (while_keeps (λ s. s.waiting) (λ s. record s { traps = on }) (λ s. refl) (life start past p)) refl)
   waits (Left q r ∷ past) h =
       nothing_more (arrivals start past p) ∙ waits past h.1
-      ∙ sym (each_branch (λ g. (state_of g).waiting ≡ (state start past p).waiting) (same_pid p q) _ _ (left_waiting_end r (life start past p)) refl)
+      ∙ sym (each_branch (λ g. (state_of g).waiting ≡ (state start past p).waiting) (same_pid p q) _ _ (leaves_keeps (λ s. s.waiting) r (life start past p)) refl)
