@@ -1,5 +1,5 @@
 -- The link ids that a process holds are those that entered and have not left since.
-use Rattle.std.proofs.Common.{◌≡◌, Bool, true, false, cond, not, ◌&&◌, ◌||◌, List, [], ◌∷◌, ◌++◌, Option, Some, None, filter, refl, sym, ap, ◌∙◌, subst, append-nil, arith}
+use Rattle.std.proofs.Common.{◌≡◌, Bool, true, false, cond, not, ◌&&◌, ◌||◌, List, [], ◌∷◌, ◌++◌, Option, Some, None, filter, refl, sym, ap, ◌∙◌, subst, append-nil}
 use Rattle.std.specs.Map.{lookup, remove_entry}
 use Rattle.std.specs.List.{list_any}
 use Rattle.std.proofs.lemmas.Bool.{false≢true}
@@ -82,19 +82,6 @@ cut_with q c named links keyed = go (same_pid q c) refl
     go false e =
         subst (λ b. link_ids (held (cut c named links) q) ≡ filter (λ i. not (b && has_id named i)) (link_ids (held links q))) (sym e)
         (ap link_ids (held-cut-other q c named links e) ∙ sym (filter_all (link_ids (held links q))))
-
-removed_with : (q c : Pid) (links : List (Pid × Ids)) → Keyed links
-    → link_ids (held (remove_entry (same_pid c) links) q) ≡ filter (λ i. not (same_pid q c)) (link_ids (held links q))
-removed_with q c links keyed = go (same_pid q c) refl
-  where
-    go : (b : Bool) → same_pid q c ≡ b → link_ids (held (remove_entry (same_pid c) links) q) ≡ filter (λ i. not (same_pid q c)) (link_ids (held links q))
-    go true e =
-        subst (λ b. link_ids (held (remove_entry (same_pid c) links) q) ≡ filter (λ i. not b) (link_ids (held links q))) (sym e)
-        (subst (λ c. link_ids (held (remove_entry (same_pid c) links) q) ≡ filter (λ i. false) (link_ids (held links q))) (same_pid_is q c e)
-        (ap link_ids (held-removed q links keyed) ∙ sym (filter_nothing (link_ids (held links q)))))
-    go false e =
-        subst (λ b. link_ids (held (remove_entry (same_pid c) links) q) ≡ filter (λ i. not b) (link_ids (held links q))) (sym e)
-        (ap link_ids (held-removed-other q c links e) ∙ sym (filter_all (link_ids (held links q))))
 
 -- a signal that comes ------------------------------------------------------------------------------
 
@@ -284,9 +271,6 @@ module _ (start : Start) (p q : Pid) where
   links_step past (Left c r) h k = leaves_links p q (same_pid p c) r (life start past p)
 
 -- one entry a pid ----------------------------------------------------------------------------------
-
-keyed_none : Keyed []
-keyed_none q = omega arith
 
 keyed_linked : (c : Option Pid) (i : Option LinkId) (s : ProcessState) → Keyed s.links → Keyed (linked c i s).links
 keyed_linked (Some c) (Some i) s k = Keyed-enter c i s.links k

@@ -44,14 +44,6 @@ joined t (e ∷ es) = go (t e) (joined t es)
     go true h = h
     go false h = ap (λ z. e ∷ z) h
 
-ended_all : (t : Ref × Pid → Bool) (es : Entries) → filter (λ k. not (t k || true)) es ≡ []
-ended_all t [] = refl
-ended_all t (e ∷ es) = go (t e) (ended_all t es)
-  where
-    go : (b : Bool) → filter (λ k. not (t k || true)) es ≡ [] → cond (not (b || true)) (e ∷ filter (λ k. not (t k || true)) es) (filter (λ k. not (t k || true)) es) ≡ []
-    go true h = h
-    go false h = h
-
 -- a signal that comes ------------------------------------------------------------------------------
 
 down_watching : (n : Ref) (s : ProcessState) (o : Option Pid) → lookup (same_ref n) s.watching ≡ o → opens n s.watching ≤ 1 → (a : Pid) (r : Reason)
