@@ -3,6 +3,7 @@ pub mod Since
 pub mod Filters
 pub mod Fields
 pub mod Flags
+pub mod Peers
 pub mod LinksSince
 pub mod MonitorsSince
 pub mod WatchesSince

@@ -85,7 +85,7 @@ cut_with q c named links keyed = go (same_pid q c) refl
 
 -- a signal that comes ------------------------------------------------------------------------------
 
-link_exit_links : (b : Bool) (p : Pid) (s : ProcessState) (a : Pid) (r : Reason) → (link_exit b p s a r).state.links ≡ cond b (remove_entry (same_pid a) s.links) s.links
+pub link_exit_links : (b : Bool) (p : Pid) (s : ProcessState) (a : Pid) (r : Reason) → (link_exit b p s a r).state.links ≡ cond b (remove_entry (same_pid a) s.links) s.links
 link_exit_links false p s a r = refl
 link_exit_links true p s a r = obey_keeps (λ s. s.links) (λ w s. refl) (verdict true s.traps (same_pid a p) a r) _
 

@@ -1,10 +1,11 @@
 -- Laws on monitors.
-use Rattle.std.specs.Prelude.{◌≡◌, ℕ, ◌≤◌, ◌+◌, true, false, []}
+use Rattle.std.specs.Prelude.{◌≡◌, ℕ, ◌≤◌, ◌+◌, true, false, [], ◌++◌}
 use Rattle.pt_signal.specs.declared.pid.Pid.{Pid}
 use Rattle.pt_signal.specs.declared.ids.Ref.{Ref}
 use Rattle.pt_signal.specs.Values.{same_ref}
 use Rattle.pt_history.specs.History.{Past, Start, IsLegal, life, state, alive, arrived_since}
 use Rattle.pt_history.specs.Load.{IsQuiet}
+use Rattle.pt_history.specs.Resumed.{start_after, AllNewTo}
 use Rattle.pt_history.specs.Watch.{count, is_monitor, is_demonitor, is_down_item, said_times, said_to, open_in, kept_in}
 
 -- how often w said Demonitor m, and the DOWNs of m that arrived at w
@@ -32,3 +33,16 @@ QuietMonitor =
 -- and no live t keeps a monitor of a w that is not alive
 abbrev pub QuietWatch : Type 0
 QuietWatch = (past : Past) (w t : Pid) (m : Ref) → IsLegal [] past → IsQuiet [] past → alive [] past w ≡ false → kept_in w t m (life [] past t) ≡ 0
+
+-- both hold of a history that goes on from a legal and quiet one; what was said and what arrived counts from the very beginning
+abbrev pub QuietMonitorResumed : Type 0
+QuietMonitorResumed =
+    (old new : Past) (w t : Pid) (m : Ref) → IsLegal [] old → IsQuiet [] old → AllNewTo old new
+    → IsLegal (start_after [] old) new → IsQuiet (start_after [] old) new → alive (start_after [] old) new w ≡ true → said_to w t (is_monitor m) (new ++ old) ≡ 1
+    → (demonitors_and_downs [] (new ++ old) w m + kept_in w t m (life (start_after [] old) new t) ≡ 1)
+    × (open_in w t m (life (start_after [] old) new w) ≡ kept_in w t m (life (start_after [] old) new t))
+
+abbrev pub QuietWatchResumed : Type 0
+QuietWatchResumed =
+    (old new : Past) (w t : Pid) (m : Ref) → IsLegal [] old → IsQuiet [] old → AllNewTo old new
+    → IsLegal (start_after [] old) new → IsQuiet (start_after [] old) new → alive (start_after [] old) new w ≡ false → kept_in w t m (life (start_after [] old) new t) ≡ 0

@@ -1,5 +1,6 @@
 -- What a process holds, each word in its own terms: what came in, and has not gone since then.
-use Rattle.std.specs.Prelude.{◌≡◌, ◌≤◌, Bool, true, false, cond, not, ◌&&◌, ◌||◌, ◌↔◌, Option, Some, None, is_some, List, [], ◌∷◌, Contains}
+use Rattle.std.specs.Prelude.{◌≡◌, ◌≤◌, Bool, true, false, cond, not, ◌&&◌, ◌||◌, ◌↔◌, Option, Some, None, is_some, List, [], ◌∷◌, filter, option_to_list, Contains}
+use Rattle.std.specs.Map.{keys_of}
 use Rattle.std.specs.List.{list_any}
 use Rattle.std.specs.Option.{option_or}
 use Rattle.pt_signal.specs.declared.pid.Pid.{Pid}
@@ -12,7 +13,7 @@ use Rattle.pt_history.specs.declared.event.Event.{Event}
 use Rattle.pt_history.specs.declared.event.Event.TheVariants.{Born, Said, Came, Flag}
 use Rattle.pt_signal.specs.Values.{same_pid, same_ref}
 use Rattle.pt_signal.specs.Process.{or_else, id_list, has_id, held, same_watch}
-use Rattle.pt_history.specs.History.{Past, Start, Phase, living, at_start, life, state, state_of, is_living, IsLegal}
+use Rattle.pt_history.specs.History.{Past, Start, Phase, living, at_start, life, after, state, state_of, is_living, IsLegal}
 use Rattle.pt_history.specs.Watch.{count}
 use Rattle.pt_history.specs.Lives.{ends_with}
 use Rattle.pt_history.specs.Since.{standing, StandsSince}
@@ -83,6 +84,36 @@ IsHeldSince =
     (start : Start) (past : Past) (p q : Pid) (i : LinkId) → IsLegal start past → HasOneEntryEach start
     → Contains (ids_with (life start past p) q) i
     ↔ StandsSince (ids_with (at_start start p) q) (λ before. link_enters p q (life start before p)) (λ before. link_leaves p q (life start before p)) past i
+
+-- peers --------------------------------------------------------------------------------------------
+
+-- the processes that p is linked with
+abbrev pub peers : Phase → List Pid
+peers f = keys_of (state_of f).links
+
+abbrev pub holds_with : Phase → Pid → Bool
+holds_with f q = is_some (held (state_of f).links q)
+
+-- the one whom the event may link with p
+abbrev pub partner : Pid → Event → Option Pid
+partner p (Born c (Some a) link) = cond (same_pid p c) (Some a) (cond (same_pid p a) (Some c) None)
+partner p (Said a b x) = cond (same_pid p a) (Some b) None
+partner p (Came a b x) = cond (same_pid p b) (Some a) None
+partner p _ = None
+
+-- p holds no id with q before the event, and one after it
+abbrev pub peer_begins : Pid → Phase → Event → List Pid
+peer_begins p f e = filter (λ q. not (holds_with f q) && holds_with (after p e f) q) (option_to_list (partner p e))
+
+-- p holds no id with q after the event
+abbrev pub peer_ends : Pid → Phase → Event → Pid → Bool
+peer_ends p f e q = not (holds_with (after p e f) q)
+
+-- the peers of p stand in the order of the events at which p came to hold an id with them
+abbrev pub PeersSince : Type 0
+PeersSince =
+    (start : Start) (past : Past) (p : Pid) → HasOneEntryEach start
+    → peers (life start past p) ≡ standing (peers (at_start start p)) (λ before. peer_begins p (life start before p)) (λ before. peer_ends p (life start before p)) past
 
 -- open monitors ------------------------------------------------------------------------------------
 

@@ -1,11 +1,11 @@
 // The laws of histories: each is the contract of a function that does nothing.
 
 ghost use Rattle.pt_history.specs.Lives.{LivesOnce, StaysEnded, AliveUntilEnd};
-ghost use Rattle.pt_history.specs.Words.{TrapIsLastFlag, HeldSince, IsHeldSince, OpenSince, IsOpenSince, KeptSince, IsKeptSince};
+ghost use Rattle.pt_history.specs.Words.{TrapIsLastFlag, HeldSince, IsHeldSince, PeersSince, OpenSince, IsOpenSince, KeptSince, IsKeptSince};
 ghost use Rattle.pt_history.specs.Locality.{ReadLocally, SentLocally, JournalsSay};
 ghost use Rattle.pt_history.specs.Taken.{TakenByPosition};
 ghost use Rattle.pt_history.specs.Laws.{CameOrFlies, SenderFront, MergeLegal, ResumedLegal, ResumedSame};
-ghost use Rattle.pt_history.specs.MonitorLaws.{OneDown, MadeOnce, QuietMonitor, QuietWatch};
+ghost use Rattle.pt_history.specs.MonitorLaws.{OneDown, MadeOnce, QuietMonitor, QuietWatch, QuietMonitorResumed, QuietWatchResumed};
 ghost use Rattle.pt_history.specs.LoadLaws.{LoadFalls, ReceiptsBounded, QuietFlights};
 ghost use Rattle.pt_history.specs.Examples.{TenLines, Cascade, EarlyLink};
 
@@ -32,6 +32,12 @@ pub fn trap_is_the_last_flag()
 pub fn links_are_held_since()
     ensures list { HeldSince }
     ensures each { IsHeldSince }
+{}
+
+/// The processes that a process is linked with stand in the order of the events at which it came to hold a link id
+/// with them.
+pub fn peers_are_linked_since()
+    ensures { PeersSince }
 {}
 
 /// The open monitors of a live process, in order of making, are those that it made and for which it has since said
@@ -98,10 +104,13 @@ pub fn receipts_lower_the_load()
 {}
 
 /// In a quiet history each monitor of a live watcher was demonitored, or had its one `DOWN`, or is open and kept
-/// by its live target; no live target keeps a watch of a process that is not alive.
+/// by its live target; no live target keeps a watch of a process that is not alive. The same holds of a history that
+/// goes on from a legal and quiet one.
 pub fn quiet_monitors()
     ensures monitors { QuietMonitor }
     ensures watches { QuietWatch }
+    ensures resumed_monitors { QuietMonitorResumed }
+    ensures resumed_watches { QuietWatchResumed }
 {}
 
 /// A legal and quiet history, followed by one that is legal over its state and makes new link ids and references,
