@@ -24,10 +24,11 @@ SentLocally =
     (start : Start) (merged : List Stamped) (d : ℕ) (e : Event) → AllHome merged → IsHome d e
     → sent_by start (events (of_desk d merged)) e ≡ sent_by start (events merged) e
 
--- so the journal of a process's desk says of it what every merge says
+-- so the journal of a process's desk says of it, and of what its next event sends, what every merge says
 abbrev pub JournalsSay : Type 0
 JournalsSay =
     (start : Start) (low top : ℕ) (journal : Journals) (merged : List Stamped) (p : Pid)
     → ((d : ℕ) → IsLocal start low top d (journal d)) → IsMerge journal merged
     → (life start (events (journal p.shard)) p ≡ life start (events merged) p)
     × (arrived start (events (journal p.shard)) p ≡ arrived start (events merged) p)
+    × ((e : Event) → IsHome p.shard e → sent_by start (events (journal p.shard)) e ≡ sent_by start (events merged) e)

@@ -1,6 +1,7 @@
 use Rattle.std.proofs.Common.{◌≡◌, ◌++◌, List, sym, ap, subst}
-use Rattle.pt_history.specs.History.{life, arrived, state_of, at_start}
-use Rattle.pt_history.specs.Journal.{IsLocal, events}
+use Rattle.pt_history.specs.History.{life, arrived, state_of, at_start, sent_by}
+use Rattle.pt_history.specs.Journal.{IsLocal, IsHome, events}
+use Rattle.pt_history.specs.declared.event.Event.{Event}
 use Rattle.pt_history.specs.declared.event.Stamped.{Stamped}
 use Rattle.pt_history.specs.Locality.{ReadLocally}
 use Rattle.pt_history.proofs.Local.{life_local, arrived_local}
@@ -19,5 +20,9 @@ returns-clause-sent c start merged d e h k = sent_home start d merged e k h
 
 pub returns-clause-journals : goal.returns-clause-journals
 returns-clause-journals c start low top journal merged p l m =
-    let h = reads start merged p (all_home start low top merged (λ d. subst (IsLocal start low top d) (sym (m.1 d)) (l d))) in
-    subst (λ (j : List Stamped). (life start (events j) p ≡ life start (events merged) p) × (arrived start (events j) p ≡ arrived start (events merged) p)) (m.1 p.shard) h
+    let homes = all_home start low top merged (λ d. subst (IsLocal start low top d) (sym (m.1 d)) (l d)) in
+    let h = reads start merged p homes in
+    subst
+    (λ (j : List Stamped). (life start (events j) p ≡ life start (events merged) p) × (arrived start (events j) p ≡ arrived start (events merged) p)
+    × ((e : Event) → IsHome p.shard e → sent_by start (events j) e ≡ sent_by start (events merged) e)) (m.1 p.shard)
+    (h.0, h.1, λ e k. sent_home start p.shard merged e k homes)
