@@ -8,7 +8,7 @@ pub mod LinksSince
 pub mod MonitorsSince
 pub mod WatchesSince
 pub mod Positions
-pub mod Lives
+pub mod BirthsAndEnds
 pub mod Steps
 pub mod Local
 pub mod Flight
@@ -17,7 +17,7 @@ pub mod Sender
 pub mod Taken
 pub mod Lanes
 pub mod Homes
-pub mod Merge
+pub mod Merged
 pub mod Load
 pub mod Counts
 pub mod Downs

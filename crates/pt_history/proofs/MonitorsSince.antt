@@ -21,7 +21,7 @@ use Rattle.pt_signal.proofs.Same.{same_pid_is}
 use Rattle.pt_history.proofs.Phases.{each_branch, after_ended}
 use Rattle.pt_history.proofs.Counts.{count_missing}
 use Rattle.pt_history.proofs.Downs.{opens, count_law}
-use Rattle.pt_history.proofs.Lives.{handle_ending}
+use Rattle.pt_history.proofs.BirthsAndEnds.{handle_ending}
 use Rattle.pt_history.proofs.Filters.{filter_all, filter_nothing, all_stay, none_passes, one_passes, remove_entry-first}
 use Rattle.pt_history.proofs.Fields.{obey_keeps, link_exit_keeps, linked_keeps}
 

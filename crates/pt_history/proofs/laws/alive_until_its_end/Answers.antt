@@ -1,5 +1,5 @@
 use Rattle.std.proofs.Common.{sym}
-use Rattle.pt_history.proofs.Lives.{alive_until_end, end_reason_is}
+use Rattle.pt_history.proofs.BirthsAndEnds.{alive_until_end, end_reason_is}
 use Rattle.pt_history.proofs.laws.alive_until_its_end.Goals as goal
 
 pub returns : goal.returns

@@ -6,7 +6,7 @@ use Rattle.pt_history.specs.declared.event.Stamped.{Stamped}
 use Rattle.pt_history.specs.Locality.{ReadLocally}
 use Rattle.pt_history.proofs.Local.{life_local, arrived_local}
 use Rattle.pt_history.proofs.Homes.{sent_home}
-use Rattle.pt_history.proofs.Merge.{all_home}
+use Rattle.pt_history.proofs.Merged.{all_home}
 use Rattle.pt_history.proofs.laws.journals_tell_their_pids.Goals as goal
 
 reads : ReadLocally

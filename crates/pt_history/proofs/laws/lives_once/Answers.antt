@@ -1,4 +1,4 @@
-use Rattle.pt_history.proofs.Lives.{born_once, ended_once, stays_ended}
+use Rattle.pt_history.proofs.BirthsAndEnds.{born_once, ended_once, stays_ended}
 use Rattle.pt_history.proofs.laws.lives_once.Goals as goal
 
 pub returns-clause-once : goal.returns-clause-once

@@ -1,6 +1,6 @@
 use Rattle.std.proofs.Common.{sym, subst, subst₂}
 use Rattle.pt_history.specs.Journal.{IsLocal, Agrees, posts, gots}
-use Rattle.pt_history.proofs.Merge.{merged_legal}
+use Rattle.pt_history.proofs.Merged.{merged_legal}
 use Rattle.pt_history.proofs.laws.merge_is_legal.Goals as goal
 
 pub returns : goal.returns
