@@ -26,6 +26,7 @@ pub mod Watching
 pub mod Monitors
 pub mod Quiet
 pub mod Resumed
+pub mod StartAfter
 pub mod Orders
 pub mod Judge
 pub mod Entries

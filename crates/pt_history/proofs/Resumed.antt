@@ -47,7 +47,7 @@ module _ (start : Start) (ok : IsStart start) (old : Past) (legal : IsLegal star
   again = start_after start old
 
   -- the start state gives what the history gave
-  started : (p : Pid) → at_start again p ≡ life start old p
+  pub started : (p : Pid) → at_start again p ≡ life start old p
   started p = go (is_unborn (life start old p)) refl (born_once start ok old p)
     where
       go : (b : Bool) → is_unborn (life start old p) ≡ b → times p (pids start old) ≡ cond (is_unborn (life start old p)) 0 1 → at_start (start_after start old) p ≡ life start old p

@@ -9,6 +9,7 @@ use Rattle.pt_history.specs.Journal.{Journals, LanesAgree, IsLocal, IsMerge, eve
 use Rattle.pt_history.specs.Sender.{IsSenderFront}
 use Rattle.pt_history.specs.Load.{IsStart, IsQuiet}
 use Rattle.pt_history.specs.Resumed.{start_after, AllNewTo}
+use Rattle.pt_history.specs.Words.{HasOneEntryEach, KeepsEachOnce}
 
 -- what one pid sent another is what came, then what is in flight
 abbrev pub CameOrFlies : Type 0
@@ -49,3 +50,11 @@ abbrev pub ResumedSame : Type 0
 ResumedSame =
     (start : Start) (old new : Past) → IsStart start → IsLegal start old → IsQuiet start old
     → ((p : Pid) → life (start_after start old) new p ≡ life start (new ++ old) p) × (flying (start_after start old) new ≡ flying start (new ++ old))
+
+-- the state after it is again a start, and keeps what the laws on words ask of a start
+abbrev pub ResumedStart : Type 0
+ResumedStart =
+    (start : Start) (old : Past) → IsStart start → IsLegal start old → IsQuiet start old
+    → IsStart (start_after start old)
+    × (HasOneEntryEach start → HasOneEntryEach (start_after start old))
+    × (KeepsEachOnce start → KeepsEachOnce (start_after start old))

@@ -24,6 +24,12 @@ OneDown = (start : Start) (past : Past) (w : Pid) (m : Ref) → IsLegal start pa
 abbrev pub MadeOnce : Type 0
 MadeOnce = (past : Past) (w : Pid) (m : Ref) → IsLegal [] past → IsMadeOnce [] past w m
 
+-- so it is where a history goes on from a legal and quiet one and makes new references
+abbrev pub MadeOnceResumed : Type 0
+MadeOnceResumed =
+    (old new : Past) (w : Pid) (m : Ref) → IsLegal [] old → IsQuiet [] old → AllNewTo old new → IsLegal (start_after [] old) new
+    → IsMadeOnce (start_after [] old) new w m
+
 -- in a quiet history the monitor m that a live w made of t was demonitored, or had its one DOWN, or is open at w and kept by a live t
 abbrev pub QuietMonitor : Type 0
 QuietMonitor =

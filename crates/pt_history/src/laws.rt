@@ -4,8 +4,8 @@ ghost use Rattle.pt_history.specs.Lives.{LivesOnce, StaysEnded, AliveUntilEnd};
 ghost use Rattle.pt_history.specs.Words.{TrapIsLastFlag, HeldSince, IsHeldSince, PeersSince, OpenSince, IsOpenSince, KeptSince, IsKeptSince};
 ghost use Rattle.pt_history.specs.Locality.{ReadLocally, SentLocally, JournalsSay};
 ghost use Rattle.pt_history.specs.Taken.{TakenByPosition};
-ghost use Rattle.pt_history.specs.Laws.{CameOrFlies, SenderFront, MergeLegal, ResumedLegal, ResumedSame};
-ghost use Rattle.pt_history.specs.MonitorLaws.{OneDown, MadeOnce, QuietMonitor, QuietWatch, QuietMonitorResumed, QuietWatchResumed};
+ghost use Rattle.pt_history.specs.Laws.{CameOrFlies, SenderFront, MergeLegal, ResumedLegal, ResumedSame, ResumedStart};
+ghost use Rattle.pt_history.specs.MonitorLaws.{OneDown, MadeOnce, MadeOnceResumed, QuietMonitor, QuietWatch, QuietMonitorResumed, QuietWatchResumed};
 ghost use Rattle.pt_history.specs.LoadLaws.{LoadFalls, ReceiptsBounded, QuietFlights};
 ghost use Rattle.pt_history.specs.Examples.{TenLines, Cascade, EarlyLink};
 
@@ -82,10 +82,11 @@ pub fn merge_is_legal()
 {}
 
 /// A monitor has one `DOWN` at most, and none where it was demonitored. From the empty start each reference is
-/// made once.
+/// made once, and so it is in a history that goes on from a legal and quiet one.
 pub fn one_down()
     ensures down { OneDown }
     ensures made { MadeOnce }
+    ensures resumed { MadeOnceResumed }
 {}
 
 /// Each take took the arrival at one position, no two took the same, and what waits in the mailbox are the arrivals
@@ -115,10 +116,11 @@ pub fn quiet_monitors()
 
 /// A legal and quiet history, followed by one that is legal over its state and makes new link ids and references,
 /// is legal; each pid and each flight is then what it is after both. So every law of legal histories holds of a
-/// history that goes on from another one.
+/// history that goes on from another one. The state after it is again a start as these laws want it.
 pub fn resumed_is_legal()
     ensures legal { ResumedLegal }
     ensures same { ResumedSame }
+    ensures start { ResumedStart }
 {}
 
 /// Histories worked by hand are legal and quiet and end as they should: ten lines of two processes that send each

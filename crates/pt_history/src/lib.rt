@@ -5,11 +5,10 @@
 //! several desks make one history.
 #![tactic(auto, unfolding(crate::specs::Text::parent_text, crate::specs::Text::link_text, crate::specs::Text::switch_text, crate::specs::Text::event_text, crate::specs::Text::stamped_text))]
 
-pub mod laws;
-
 mod cause;
 mod event;
 mod journal;
+pub mod laws;
 
 pub use cause::Cause;
 pub use event::{Event, Stamped};
