@@ -4,7 +4,6 @@ use Rattle.std.specs.Map.{lookup, remove_entry}
 use Rattle.std.proofs.lemmas.Bool.{false≢true}
 use Rattle.pt_signal.specs.declared.pid.Pid.{Pid}
 use Rattle.pt_signal.specs.declared.ids.Ref.{Ref}
-use Rattle.pt_signal.specs.declared.ids.LinkId.{LinkId}
 use Rattle.pt_signal.specs.declared.reason.Reason.{Reason}
 use Rattle.pt_signal.specs.declared.reason.Reason.TheVariants.{Normal, Kill}
 use Rattle.pt_signal.specs.declared.signal.Signal.{Signal}
@@ -12,11 +11,12 @@ use Rattle.pt_signal.specs.declared.signal.Signal.TheVariants.{Message, Link, Un
 use Rattle.pt_history.specs.declared.event.Event.TheVariants.{Born, Said, Came, Took, Flag, Left}
 use Rattle.pt_signal.specs.Values.{same_pid, same_ref}
 use Rattle.pt_signal.specs.Process.{ProcessState, verdict, obey, holds_any, held, link_exit, down, handle, say}
-use Rattle.pt_history.specs.History.{Past, Start, Phase, unborn, living, ended, life, at_start, state, state_of, touches, newborn, linked, while_living, gets, leaves, live_or_end, items_of, arrives, arrived_since, is_living, MaySay, IsLegal}
+use Rattle.pt_history.specs.History.{Past, Start, Phase, unborn, living, ended, life, at_start, state, state_of, while_living, gets, items_of, arrives, arrived_since, is_living, MaySay, IsLegal}
 use Rattle.pt_history.specs.Load.{one_if}
 use Rattle.pt_history.specs.Watch.{count, is_monitor, is_demonitor, is_down_item, said_times}
 use Rattle.pt_signal.proofs.Same.{same_ref_is, same_ref_refl, same_pid_is}
 use Rattle.pt_history.proofs.Phases.{each_branch}
+use Rattle.pt_history.proofs.Fields.{end_keeps, while_keeps, leaves_keeps, born_keeps}
 use Rattle.pt_history.proofs.Counts.{count-append, count_removed, count_found, count_removed_other}
 
 -- entries of the reference among those watched
@@ -79,31 +79,6 @@ module _ (m : Ref) where
 
 -- event by event --------------------------------------------------------------------------------
 
-linked_watching : (q : Option Pid) (i : Option LinkId) (s : ProcessState) → (linked q i s).watching ≡ s.watching
-linked_watching (Some q) (Some i) s = refl
-linked_watching None (Some i) s = refl
-linked_watching (Some q) None s = refl
-linked_watching None None s = refl
-
-step_watching : (step : ProcessState → ProcessState) → ((s : ProcessState) → (step s).watching ≡ s.watching) → (f : Phase) → (state_of (while_living step f)).watching ≡ (state_of f).watching
-step_watching step h unborn = refl
-step_watching step h (living s) = h s
-step_watching step h (ended r s) = refl
-
-newborn_watching : (q : Option Pid) (i : Option LinkId) (f : Phase) → (state_of (newborn q i f)).watching ≡ (state_of f).watching
-newborn_watching q i unborn = linked_watching q i _
-newborn_watching q i (living s) = refl
-newborn_watching q i (ended r s) = refl
-
-leaves_watching : (r : Reason) (f : Phase) → (state_of (leaves r f)).watching ≡ (state_of f).watching
-leaves_watching r unborn = refl
-leaves_watching r (living s) = refl
-leaves_watching r (ended w s) = refl
-
-live_or_end_watching : (o : Option Reason) (s : ProcessState) → (state_of (live_or_end o s)).watching ≡ s.watching
-live_or_end_watching None s = refl
-live_or_end_watching (Some r) s = refl
-
 module _ (start : Start) (m : Ref) (w : Pid) where
   said_case : (past : Past) (a b : Pid) (x : Signal) (f : Phase) (t : Bool) → (t ≡ true → is_living f ≡ true) → (t ≡ true → MaySay start past (state_of f) w b x)
       → opens m (state_of (cond t (while_living (λ s. say s b x) f) f)).watching + one_if (t && is_demonitor m x) ≡ opens m (state_of f).watching + one_if (t && is_monitor m x)
@@ -118,7 +93,7 @@ module _ (start : Start) (m : Ref) (w : Pid) where
   came_case a b x unborn true = refl
   came_case a b x (living s) true =
       let h = handle_downs m w s a x in
-      let k = ap (opens m) (live_or_end_watching (handle w s a x).ending (handle w s a x).state) in
+      let k = ap (opens m) (end_keeps (λ s. s.watching) (handle w s a x).ending (handle w s a x).state) in
       omega arith
   came_case a b x (ended r s) true = omega arith
 
@@ -145,26 +120,23 @@ module _ (start : Start) (m : Ref) (w : Pid) where
       let ih = count_law past h.1 in
       let k = count-append (is_down_item m) (arrived_since start past w) [] in
       let c : opens_of (Born q parent link ∷ past) ≡ opens_of past =
-      each_branch (λ g. opens m (state_of g).watching ≡ opens_of past) (touches w (Born q parent link)) _ _
-      (each_branch (λ g. opens m (state_of g).watching ≡ opens_of past) (same_pid w q) _ _
-      (ap (opens m) (newborn_watching parent link (life start past w)))
-      (ap (opens m) (step_watching (linked (Some q) link) (λ s. linked_watching (Some q) link s) (life start past w)))) refl in
+      ap (opens m) (born_keeps (λ s. s.watching) (λ l s. refl) w q parent link (life start past w)) in
       omega arith
   count_law (Took q j i ∷ past) h =
       let ih = count_law past h.1 in
       let k = count-append (is_down_item m) (arrived_since start past w) [] in
       let c : opens_of (Took q j i ∷ past) ≡ opens_of past =
-      each_branch (λ g. opens m (state_of g).watching ≡ opens_of past) (same_pid w q) _ _ (ap (opens m) (step_watching _ (λ s. refl) (life start past w))) refl in
+      each_branch (λ g. opens m (state_of g).watching ≡ opens_of past) (same_pid w q) _ _ (ap (opens m) (while_keeps (λ s. s.watching) _ (λ s. refl) (life start past w))) refl in
       omega arith
   count_law (Flag q on ∷ past) h =
       let ih = count_law past h.1 in
       let k = count-append (is_down_item m) (arrived_since start past w) [] in
       let c : opens_of (Flag q on ∷ past) ≡ opens_of past =
-      each_branch (λ g. opens m (state_of g).watching ≡ opens_of past) (same_pid w q) _ _ (ap (opens m) (step_watching _ (λ s. refl) (life start past w))) refl in
+      each_branch (λ g. opens m (state_of g).watching ≡ opens_of past) (same_pid w q) _ _ (ap (opens m) (while_keeps (λ s. s.watching) _ (λ s. refl) (life start past w))) refl in
       omega arith
   count_law (Left q r ∷ past) h =
       let ih = count_law past h.1 in
       let k = count-append (is_down_item m) (arrived_since start past w) [] in
       let c : opens_of (Left q r ∷ past) ≡ opens_of past =
-      each_branch (λ g. opens m (state_of g).watching ≡ opens_of past) (same_pid w q) _ _ (ap (opens m) (leaves_watching r (life start past w))) refl in
+      each_branch (λ g. opens m (state_of g).watching ≡ opens_of past) (same_pid w q) _ _ (ap (opens m) (leaves_keeps (λ s. s.watching) r (life start past w))) refl in
       omega arith

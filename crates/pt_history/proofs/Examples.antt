@@ -1,95 +1,22 @@
--- Worked histories, shown legal by computation.
-use Rattle.std.proofs.Common.{◌≡◌, ℕ, true, [], ◌∷◌, Some, None, refl, pos, rules}
-use Rattle.pt_signal.specs.declared.pid.Pid.{Pid}
-use Rattle.pt_signal.specs.declared.item.Body.{Body}
-use Rattle.pt_signal.specs.declared.ids.LinkId.{LinkId}
-use Rattle.pt_signal.specs.declared.item.Pick.{Pick}
-use Rattle.pt_signal.specs.declared.item.Item.{Item}
-use Rattle.pt_signal.specs.declared.item.Item.TheVariants.{User}
-use Rattle.pt_signal.specs.declared.reason.Reason.TheVariants.{Normal, Noproc, Other}
-use Rattle.pt_signal.specs.declared.signal.Signal.TheVariants.{Message, Link, LinkExit}
-use Rattle.pt_history.specs.declared.event.Event.TheVariants.{Born, Said, Came, Took, Flag, Left}
-use Rattle.pt_signal.specs.Process.{one_id, held}
-use Rattle.pt_history.specs.History.{Past, IsLegal, alive, state, flying}
-
-abbrev pid : ℕ → Pid
-pid n = record { shard = 0; slot = n; version = 1 }
-
-abbrev body : ℕ → ℕ → Body
-body k n = record { kind = k; num = pos n; who = None }
-
-abbrev at : ℕ → LinkId
-at n = record { desk = 0; number = n }
-
-abbrev ten_lines : Past
-ten_lines =
-    Left (pid 0) Normal
-    ∷ Left (pid 1) Normal
-    ∷ Took (pid 0) (Pick.Kind 2) (User (pid 1) (body 2 8))
-    ∷ Came (pid 1) (pid 0) (Message (body 2 8))
-    ∷ Said (pid 1) (pid 0) (Message (body 2 8))
-    ∷ Took (pid 1) (Pick.Kind 1) (User (pid 0) (body 1 7))
-    ∷ Came (pid 0) (pid 1) (Message (body 1 7))
-    ∷ Said (pid 0) (pid 1) (Message (body 1 7))
-    ∷ Born (pid 1) None None
-    ∷ Born (pid 0) None None
-    ∷ []
+-- The worked histories, by computation.
+use Rattle.std.proofs.Common.{[], refl, rules}
+use Rattle.pt_history.specs.History.{IsLegal}
+use Rattle.pt_history.specs.Examples.{TenLines, Cascade, EarlyLink, ten_lines, cascade, early}
 
 ten_lines_legal : IsLegal [] ten_lines
 ten_lines_legal = (refl, (refl, ((refl, refl), (refl, ((refl, tt), ((refl, refl), (refl, ((refl, tt), ((refl, tt), ((refl, tt), tt))))))))))
 
-abbrev cascade : Past
-cascade =
-    Came (pid 1) (pid 2) (LinkExit (one_id (at 7)) (Other 7))
-    ∷ Came (pid 0) (pid 1) (LinkExit (one_id (at 6)) (Other 7))
-    ∷ Left (pid 0) (Other 7)
-    ∷ Came (pid 3) (pid 4) (Link (at 9))
-    ∷ Came (pid 2) (pid 3) (Link (at 8))
-    ∷ Came (pid 1) (pid 2) (Link (at 7))
-    ∷ Came (pid 0) (pid 1) (Link (at 6))
-    ∷ Flag (pid 2) true
-    ∷ Said (pid 3) (pid 4) (Link (at 9))
-    ∷ Said (pid 2) (pid 3) (Link (at 8))
-    ∷ Said (pid 1) (pid 2) (Link (at 7))
-    ∷ Said (pid 0) (pid 1) (Link (at 6))
-    ∷ Born (pid 4) None None
-    ∷ Born (pid 3) None None
-    ∷ Born (pid 2) None None
-    ∷ Born (pid 1) None None
-    ∷ Born (pid 0) None None
-    ∷ []
+pub ten_lines_hold : TenLines
+ten_lines_hold = (ten_lines_legal, refl)
 
 cascade_legal : IsLegal [] cascade
 cascade_legal = search rules
 
-cascade_end : (state [] cascade (pid 2)).waiting ≡ Item.Exit (pid 1) (Other 7) ∷ []
-cascade_end = refl
-
-cascade_quiet : flying [] cascade ≡ []
-cascade_quiet = refl
-
--- a parent that linked to its child's pid before the birth: legal event by event, quiet, and the two ends differ
-abbrev early : Past
-early =
-    Came (pid 1) (pid 0) (LinkExit (one_id (at 3)) Noproc)
-    ∷ Born (pid 1) (Some (pid 0)) (Some (at 5))
-    ∷ Came (pid 0) (pid 1) (Link (at 3))
-    ∷ Said (pid 0) (pid 1) (Link (at 3))
-    ∷ Flag (pid 0) true
-    ∷ Born (pid 0) None None
-    ∷ []
+pub cascade_holds : Cascade
+cascade_holds = (cascade_legal, refl, refl)
 
 early_legal : IsLegal [] early
 early_legal = search rules
 
-early_quiet : flying [] early ≡ []
-early_quiet = refl
-
-early_child : held (state [] early (pid 1)).links (pid 0) ≡ Some (one_id (at 5))
-early_child = refl
-
-early_parent : held (state [] early (pid 0)).links (pid 1) ≡ None
-early_parent = refl
-
-early_alive : (alive [] early (pid 0) ≡ true) × (alive [] early (pid 1) ≡ true)
-early_alive = (refl, refl)
+pub early_link : EarlyLink
+early_link = (early_legal, refl, refl, refl, refl, refl)

@@ -1,7 +1,6 @@
 -- What an event of a desk sends is from that desk, and is read from that desk's events.
-use Rattle.std.proofs.Common.{◌≡◌, ℕ, Bool, false, ◌==◌, ◌&&◌, List, [], ◌∷◌, ◌++◌, Option, Some, None, map, filter, refl, ap, subst}
+use Rattle.std.proofs.Common.{◌≡◌, ℕ, List, [], ◌∷◌, ◌++◌, Option, Some, None, map, refl, ap, subst}
 use Rattle.std.specs.Prelude.{⊤}
-use Rattle.std.proofs.lemmas.Bool.{eq-eqb}
 use Rattle.pt_signal.specs.declared.pid.Pid.{Pid}
 use Rattle.pt_signal.specs.declared.ids.Ref.{Ref}
 use Rattle.pt_signal.specs.declared.ids.Ids.{Ids}
@@ -14,7 +13,9 @@ use Rattle.pt_history.specs.declared.event.Stamped.{Stamped}
 use Rattle.pt_signal.specs.Process.{ProcessState, Sent, sent, estate, bounce, handle}
 use Rattle.pt_history.specs.History.{Past, Start, Phase, unborn, living, ended, life, sent_by, got_sends, left_sends, end_sends}
 use Rattle.pt_history.specs.Journal.{events, of_desk, IsHome}
-use Rattle.pt_history.proofs.Local.{AllHome, life_local}
+use Rattle.pt_history.specs.Locality.{AllHome}
+pub use Rattle.pt_history.specs.Laws.{in_lane}
+use Rattle.pt_history.proofs.Local.{life_local}
 
 abbrev pub AllFrom : ℕ → List Sent → Type 0
 AllFrom d [] = ⊤
@@ -61,18 +62,6 @@ from_home start past d (Came a b x) h = subst (λ d. AllFrom d (got_sends (life 
 from_home start past d (Took q k i) h = tt
 from_home start past d (Flag q on) h = tt
 from_home start past d (Left p r) h = subst (λ d. AllFrom d (left_sends (life start past p) p r)) h (AllFrom-left (life start past p) p r)
-
--- of one lane: from pids of d to pids of e
-abbrev pub in_lane : ℕ → ℕ → Sent → Bool
-in_lane d e l = (l.from.shard == d) && (l.to.shard == e)
-
-pub lane_same : (d e : ℕ) (ls : List Sent) → AllFrom d ls → filter (in_lane d e) ls ≡ filter (λ l. l.to.shard == e) ls
-lane_same d e [] h = refl
-lane_same d e (l ∷ ls) h = rw (eq-eqb l.from.shard d h.0, lane_same d e ls h.1)
-
-pub lane_other : (d e c : ℕ) (ls : List Sent) → (c == d) ≡ false → AllFrom c ls → filter (in_lane d e) ls ≡ []
-lane_other d e c [] n h = refl
-lane_other d e c (l ∷ ls) n h = let k : (l.from.shard == d) ≡ false = rw h.0 n in rw (k, lane_other d e c ls n h.1)
 
 module _ (start : Start) where
   pub life_home : (p : Pid) (d : ℕ) (merged : List Stamped) → p.shard ≡ d → AllHome merged → life start (events (of_desk d merged)) p ≡ life start (events merged) p

@@ -9,36 +9,14 @@ use Rattle.pt_signal.specs.declared.reason.Reason.{Reason}
 use Rattle.pt_signal.specs.declared.signal.Signal.{Signal}
 use Rattle.pt_signal.specs.declared.signal.Signal.TheVariants.{Message, Link, Unlink, LinkExit, Monitor, Demonitor}
 use Rattle.pt_signal.specs.Values.{same_pid, same_ref, without_first}
-use Rattle.pt_signal.specs.Process.{ProcessState, Verdict, drops, queues, ends, verdict, obey, holds_any, held, link_exit, down, handle, say, keep, same_watch}
+use Rattle.pt_signal.specs.Process.{ProcessState, verdict, holds_any, held, down, handle, say, keep, same_watch}
 use Rattle.pt_history.specs.History.{Past, Start, MaySay}
 use Rattle.pt_history.specs.Load.{one_if}
 use Rattle.pt_history.specs.Watch.{count, is_monitor, is_demonitor, is_down, is_open, opens_to, keeps}
 use Rattle.pt_signal.proofs.Same.{same_ref_is, same_pid_is}
 use Rattle.pt_history.proofs.Counts.{count-append, count-without, count_removed, count_missing, count_other, count_pass, count_narrower, count_entry_other, count_entry_less, count_entry_found}
 use Rattle.pt_history.proofs.Downs.{opens}
-
--- verdicts leave the kept watches and the open references
-obey_kept : (v : Verdict) (s : ProcessState) → (obey v s).state.kept ≡ s.kept
-obey_kept drops s = refl
-obey_kept (queues i) s = refl
-obey_kept (ends r) s = refl
-
-obey_watching : (v : Verdict) (s : ProcessState) → (obey v s).state.watching ≡ s.watching
-obey_watching drops s = refl
-obey_watching (queues i) s = refl
-obey_watching (ends r) s = refl
-
-link_exit_kept : (b : Bool) (me : Pid) (s : ProcessState) (from : Pid) (r : Reason) → (link_exit b me s from r).state.kept ≡ s.kept
-link_exit_kept false me s from r = refl
-link_exit_kept true me s from r = obey_kept (verdict true s.traps (same_pid from me) from r) _
-
-link_exit_watching : (b : Bool) (me : Pid) (s : ProcessState) (from : Pid) (r : Reason) → (link_exit b me s from r).state.watching ≡ s.watching
-link_exit_watching false me s from r = refl
-link_exit_watching true me s from r = obey_watching (verdict true s.traps (same_pid from me) from r) _
-
-down_kept : (o : Option Pid) (s : ProcessState) (from : Pid) (n : Ref) (r : Reason) → (down o s from n r).state.kept ≡ s.kept
-down_kept None s from n r = refl
-down_kept (Some b) s from n r = refl
+use Rattle.pt_history.proofs.Fields.{obey_keeps, link_exit_keeps, down_keeps}
 
 -- how often the watch is kept -------------------------------------------------------------------
 
@@ -118,11 +96,11 @@ module _ (m : Ref) (w : Pid) where
   kept_step me s a (Message b) = other_signal _ _ a refl
   kept_step me s a (Link i) = other_signal _ _ a refl
   kept_step me s a (Unlink ids) = other_signal _ _ a refl
-  kept_step me s a (Signal.Exit r) = other_signal _ _ a (ap (count (same_watch m w)) (obey_kept (verdict false s.traps (same_pid a me) a r) s))
-  kept_step me s a (LinkExit ids r) = other_signal _ _ a (ap (count (same_watch m w)) (link_exit_kept (holds_any (held s.links a) ids) me s a r))
+  kept_step me s a (Signal.Exit r) = other_signal _ _ a (ap (count (same_watch m w)) (obey_keeps (λ s. s.kept) (λ w s. refl) (verdict false s.traps (same_pid a me) a r) s))
+  kept_step me s a (LinkExit ids r) = other_signal _ _ a (ap (count (same_watch m w)) (link_exit_keeps (λ s. s.kept) (λ w s. refl) (λ l s. refl) (holds_any (held s.links a) ids) me s a r))
   kept_step me s a (Monitor n) = monitor_step a n s.kept
   kept_step me s a (Demonitor n) = demonitor_step a n s.kept
-  kept_step me s a (Signal.Down n r) = other_signal _ _ a (ap (count (same_watch m w)) (down_kept (lookup (same_ref n) s.watching) s a n r))
+  kept_step me s a (Signal.Down n r) = other_signal _ _ a (ap (count (same_watch m w)) (down_keeps (λ s. s.kept) (λ w s. refl) (λ l s. refl) (lookup (same_ref n) s.watching) s a n r))
 
 -- how often the reference is open -----------------------------------------------------------------
 
@@ -158,8 +136,8 @@ module _ (m : Ref) (t : Pid) where
   open_step me s a (Message b) = unchanged s _ _ refl refl
   open_step me s a (Link i) = unchanged s _ _ refl refl
   open_step me s a (Unlink ids) = unchanged s _ _ refl refl
-  open_step me s a (Signal.Exit r) = unchanged s _ _ (obey_watching (verdict false s.traps (same_pid a me) a r) s) refl
-  open_step me s a (LinkExit ids r) = unchanged s _ _ (link_exit_watching (holds_any (held s.links a) ids) me s a r) refl
+  open_step me s a (Signal.Exit r) = unchanged s _ _ (obey_keeps (λ s. s.watching) (λ w s. refl) (verdict false s.traps (same_pid a me) a r) s) refl
+  open_step me s a (LinkExit ids r) = unchanged s _ _ (link_exit_keeps (λ s. s.watching) (λ w s. refl) (λ l s. refl) (holds_any (held s.links a) ids) me s a r) refl
   open_step me s a (Monitor n) = unchanged s _ _ refl refl
   open_step me s a (Demonitor n) = unchanged s _ _ refl refl
   open_step me s a (Signal.Down n r) = down_step n s _ refl a r

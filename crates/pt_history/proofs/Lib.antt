@@ -1,4 +1,14 @@
 pub mod Examples
+pub mod Since
+pub mod Filters
+pub mod Fields
+pub mod Flags
+pub mod Peers
+pub mod LinksSince
+pub mod MonitorsSince
+pub mod WatchesSince
+pub mod Positions
+pub mod BirthsAndEnds
 pub mod Steps
 pub mod Local
 pub mod Flight
@@ -7,7 +17,7 @@ pub mod Sender
 pub mod Taken
 pub mod Lanes
 pub mod Homes
-pub mod Merge
+pub mod Merged
 pub mod Load
 pub mod Counts
 pub mod Downs
@@ -16,6 +26,7 @@ pub mod Watching
 pub mod Monitors
 pub mod Quiet
 pub mod Resumed
+pub mod StartAfter
 pub mod Orders
 pub mod Judge
 pub mod Entries

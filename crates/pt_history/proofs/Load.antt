@@ -163,9 +163,6 @@ receipt b a x (ended r s) = let h = spends_bounce b a x in omega arith
 
 -- all receivers -------------------------------------------------------------------------------------
 
-times_refl : (p : Pid) → one_if (same_pid p p) ≡ 1
-times_refl p = rw same_pid_refl refl
-
 module _ (f g : Pid → ℕ) (b : Pid) (others : (q : Pid) → same_pid b q ≡ false → g q ≡ f q) where
   total_none : (ps : List Pid) → times b ps ≡ 0 → total g ps ≡ total f ps
   total_none [] h = refl

@@ -1,6 +1,5 @@
 -- What a pid is after a history is read from the events of its own desk.
 use Rattle.std.proofs.Common.{◌≡◌, ℕ, Bool, true, false, cond, ◌==◌, List, [], ◌∷◌, ◌++◌, Option, Some, None, refl, sym, ap, ◌∙◌, append-nil}
-use Rattle.std.specs.Prelude.{⊤}
 use Rattle.std.proofs.lemmas.Bool.{ne_eqb, eqb-false}
 use Rattle.pt_signal.specs.declared.pid.Pid.{Pid}
 use Rattle.pt_history.specs.declared.event.Event.{Event}
@@ -9,6 +8,7 @@ use Rattle.pt_history.specs.declared.event.Stamped.{Stamped}
 use Rattle.pt_signal.specs.Values.{same_pid}
 use Rattle.pt_history.specs.History.{Past, Start, Phase, life, after, touches, is_the, arrived_since, arrives, items_of}
 use Rattle.pt_history.specs.Journal.{events, of_desk, IsHome, IsOf}
+pub use Rattle.pt_history.specs.Locality.{AllHome}
 use Rattle.pt_signal.proofs.Same.{same_pid_apart}
 
 -- shards ---------------------------------------------------------------------------
@@ -31,10 +31,6 @@ home_untouched d p (Came a b x) i h = apart p b d i h
 home_untouched d p (Took q k j) i h = apart p q d i h
 home_untouched d p (Flag q on) i h = apart p q d i h
 home_untouched d p (Left q r) i h = apart p q d i h
-
-abbrev pub AllHome : List Stamped → Type 0
-AllHome [] = ⊤
-AllHome (s ∷ merged) = IsHome s.desk s.event × AllHome merged
 
 module _ (start : Start) (p : Pid) where
   pub life_local : (merged : List Stamped) → AllHome merged → life start (events (of_desk p.shard merged)) p ≡ life start (events merged) p

@@ -1,5 +1,5 @@
 -- The invariant of monitors over legal histories, and what it says of quiet ones.
-use Rattle.std.proofs.Common.{◌≡◌, ℕ, zero, suc, ◌+◌, ◌-◌, ◌≤◌, Bool, true, false, cond, ◌&&◌, ◌⊎◌, inl, inr, List, [], ◌∷◌, ◌++◌, Option, Some, None, refl, sym, ap, ◌∙◌, subst, subst₂, arith}
+use Rattle.std.proofs.Common.{◌≡◌, ℕ, zero, suc, ◌+◌, ◌-◌, ◌≤◌, Bool, true, false, cond, ◌&&◌, ◌⊎◌, inl, inr, List, [], ◌∷◌, ◌++◌, Option, Some, refl, sym, ap, ◌∙◌, subst, subst₂, arith}
 use Rattle.std.specs.Prelude.{⊤}
 use Rattle.std.proofs.lemmas.Bool.{false≢true, both_ways, and_parts, and_right, or_parts}
 use Rattle.std.specs.List.{find}
@@ -18,6 +18,7 @@ use Rattle.pt_history.specs.Load.{one_if}
 use Rattle.pt_history.specs.Watch.{count, carries, is_monitor, is_demonitor, is_down, says, said_times, says_to, said_to, keeps, opens_to, open_in, kept_in}
 use Rattle.pt_signal.proofs.Same.{same_pid_is, same_pid_refl, same_ref_is}
 use Rattle.pt_history.proofs.Phases.{each_branch}
+use Rattle.pt_history.proofs.Fields.{linked_keeps, say_keeps}
 use Rattle.pt_history.proofs.Counts.{count-append, count-landed, count_less}
 use Rattle.pt_history.proofs.Downs.{opens, count_law}
 use Rattle.pt_history.proofs.Keeping.{say_step}
@@ -242,19 +243,6 @@ module _ (w t : Pid) (m : Ref) where
 
 -- phases where nothing of a monitor changes -------------------------------------------------------------
 
-said_kept : (s : ProcessState) (b : Pid) (x : Signal) → (say s b x).kept ≡ s.kept
-said_kept s b (Link i) = refl
-said_kept s b (Unlink ids) = refl
-said_kept s b (Monitor m) = refl
-said_kept s b (Demonitor m) = refl
-said_kept s b _ = refl
-
-linked_both : (q : Option Pid) (i : Option LinkId) (s : ProcessState) → ((linked q i s).kept ≡ s.kept) × ((linked q i s).watching ≡ s.watching)
-linked_both (Some q) (Some i) s = (refl, refl)
-linked_both None (Some i) s = (refl, refl)
-linked_both (Some q) None s = (refl, refl)
-linked_both None None s = (refl, refl)
-
 not_down : (start : Start) (past : Past) (s : ProcessState) (a b : Pid) (m : Ref) (x : Signal) → MaySay start past s a b x → is_down m x ≡ false
 not_down start past s a b m (Signal.Down n r) h = absurd h
 not_down start past s a b m _ h = refl
@@ -271,12 +259,12 @@ module _ (m : Ref) (w t : Pid) where
   open_while step h (ended r s) = refl
 
   kept_born : (q : Option Pid) (i : Option LinkId) (f : Phase) → kept_in w t m (newborn q i f) ≡ kept_in w t m f
-  kept_born q i unborn = ap (count _) (linked_both q i _).0
+  kept_born q i unborn = ap (count _) (linked_keeps (λ s. s.kept) (λ l s. refl) q i _)
   kept_born q i (living s) = refl
   kept_born q i (ended r s) = refl
 
   open_born : (q : Option Pid) (i : Option LinkId) (f : Phase) → open_in w t m (newborn q i f) ≡ open_in w t m f
-  open_born q i unborn = ap (count _) (linked_both q i _).1
+  open_born q i unborn = ap (count _) (linked_keeps (λ s. s.watching) (λ l s. refl) q i _)
   open_born q i (living s) = refl
   open_born q i (ended r s) = refl
 
@@ -425,7 +413,7 @@ module _ (m : Ref) where
       let ih = monitored past h.1 w t in
       let may = λ (e : same_pid w a ≡ true). subst (λ a. MaySay [] past (state [] past a) a b x) (sym (same_pid_is w a e)) h.0.1 in
       let o = open_said m w t past b x (life [] past w) (same_pid w a) (λ e. rw (same_pid_is w a e) h.0.0) may in
-      let k = each_branch (λ f. kept_in w t m f ≡ K_of w t m past) (same_pid t a) _ _ (kept_while m w t (λ s. say s b x) (λ s. said_kept s b x) (life [] past t)) refl in
+      let k = each_branch (λ f. kept_in w t m f ≡ K_of w t m past) (same_pid t a) _ _ (kept_while m w t (λ s. say s b x) (say_keeps (λ s. s.kept) (λ l s. refl) (λ l s. refl) b x) (life [] past t)) refl in
       let p = count-append (mon w t m) (flying [] past) (sent a b x ∷ []) in
       let q = count-append (dem w t m) (flying [] past) (sent a b x ∷ []) in
       let d = count-append (dwn w t m) (flying [] past) (sent a b x ∷ []) in
@@ -461,9 +449,9 @@ module _ (m : Ref) where
   monitored (Born c parent link ∷ past) h w t =
       let ih = monitored past h.1 w t in
       let o = each_branch (λ f. open_in w t m f ≡ O_of w t m past) (touches w (Born c parent link)) _ _
-      (each_branch (λ f. open_in w t m f ≡ O_of w t m past) (same_pid w c) _ _ (open_born m w t parent link (life [] past w)) (open_while m w t (linked (Some c) link) (λ s. (linked_both (Some c) link s).1) (life [] past w))) refl in
+      (each_branch (λ f. open_in w t m f ≡ O_of w t m past) (same_pid w c) _ _ (open_born m w t parent link (life [] past w)) (open_while m w t (linked (Some c) link) (linked_keeps (λ s. s.watching) (λ l s. refl) (Some c) link) (life [] past w))) refl in
       let k = each_branch (λ f. kept_in w t m f ≡ K_of w t m past) (touches t (Born c parent link)) _ _
-      (each_branch (λ f. kept_in w t m f ≡ K_of w t m past) (same_pid t c) _ _ (kept_born m w t parent link (life [] past t)) (kept_while m w t (linked (Some c) link) (λ s. (linked_both (Some c) link s).0) (life [] past t))) refl in
+      (each_branch (λ f. kept_in w t m f ≡ K_of w t m past) (same_pid t c) _ _ (kept_born m w t parent link (life [] past t)) (kept_while m w t (linked (Some c) link) (linked_keeps (λ s. s.kept) (λ l s. refl) (Some c) link) (life [] past t))) refl in
       let p = count-append (mon w t m) (flying [] past) [] in
       let q = count-append (dem w t m) (flying [] past) [] in
       let d = count-append (dwn w t m) (flying [] past) [] in

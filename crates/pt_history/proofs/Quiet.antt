@@ -82,8 +82,3 @@ module _ (m : Ref) (w t : Pid) (past : Past) (legal : IsLegal [] past) (quiet : 
           found : (o : Option Pid) → lookup (same_ref m) s.watching ≡ o → opens_to m t s ≡ opens m s.watching
           found None g = let c = count_missing (same_ref m) s.watching g in let l = less in omega arith
           found (Some b) g = let c = the_target b (found_open m s.watching b g) (same_pid t b) refl in let l = less in let f = few in omega arith
-
--- at most one DOWN, and none where the monitor was given up
-pub one_down : (m : Ref) (w : Pid) (past : Past) → IsLegal [] past
-    → said_times w (is_demonitor m) past + count (is_down_item m) (arrived_since [] past w) ≤ 1
-one_down m w past legal = let law = count_law [] m w past legal in let once = said_once m w [] past legal in omega arith

@@ -1,6 +1,6 @@
 -- Receipts alone end, and what quiet means pair by pair.
 use Rattle.std.proofs.Common.{◌≡◌, ◌+◌, ◌≤◌, true, List, [], ◌∷◌, ◌++◌, map, filter, length, refl, arith}
-use Rattle.std.specs.Prelude.{⊤}
+use Rattle.pt_history.specs.LoadLaws.{AllCame}
 use Rattle.pt_signal.specs.declared.pid.Pid.{Pid}
 use Rattle.pt_history.specs.declared.event.Event.TheVariants.{Born, Said, Came, Took, Flag, Left}
 use Rattle.pt_signal.specs.Process.{Sent}
@@ -8,11 +8,6 @@ use Rattle.pt_history.specs.History.{Past, Start, IsLegal, flying, flight, is_be
 use Rattle.pt_history.specs.Load.{IsStart, IsQuiet, load}
 use Rattle.pt_signal.proofs.Same.{same_pid_refl}
 use Rattle.pt_history.proofs.Load.{load_falls}
-
-abbrev pub AllCame : Past → Type 0
-AllCame [] = ⊤
-AllCame (Came a b x ∷ past) = AllCame past
-AllCame (e ∷ past) = ⊥
 
 -- a settling adds no more receipts than the load
 pub settled_bound : (start : Start) → IsStart start → (old new : Past) → AllCame new → IsLegal start (new ++ old) → length new + load start (new ++ old) ≤ load start old

@@ -1,12 +1,11 @@
--- Taken and waiting items together are the arrivals.
-use Rattle.std.proofs.Common.{◌≡◌, Bool, true, false, cond, not, ◌&&◌, List, [], ◌∷◌, ◌++◌, Option, Some, None, map, refl, sym, ap, ◌∙◌, append_assoc, append-nil}
+-- What waits are the arrivals that were not taken: each arrival has a mark that says whether it was.
+use Rattle.std.proofs.Common.{◌≡◌, Bool, true, false, cond, not, ◌&&◌, List, [], ◌∷◌, ◌++◌, Option, Some, None, map, filter, refl, sym, ap, ◌∙◌, append-nil}
 use Rattle.std.proofs.lemmas.List.{map-append}
 use Rattle.std.proofs.lemmas.List.Elements.{filter-append}
 use Rattle.std.proofs.lemmas.Bool.{false≢true}
 use Rattle.std.specs.Map.{lookup}
 use Rattle.pt_signal.specs.declared.pid.Pid.{Pid}
 use Rattle.pt_signal.specs.declared.ids.Ref.{Ref}
-use Rattle.pt_signal.specs.declared.ids.LinkId.{LinkId}
 use Rattle.pt_signal.specs.declared.item.Pick.{Pick}
 use Rattle.pt_signal.specs.declared.item.Item.{Item}
 use Rattle.pt_signal.specs.declared.reason.Reason.{Reason}
@@ -16,10 +15,36 @@ use Rattle.pt_history.specs.declared.event.Event.{Event}
 use Rattle.pt_history.specs.declared.event.Event.TheVariants.{Born, Said, Came, Took, Flag, Left}
 use Rattle.pt_signal.specs.Values.{same_pid, same_ref, fits, without_first}
 use Rattle.pt_signal.specs.Process.{ProcessState, Verdict, drops, queues, ends, verdict, obey, holds_any, held, link_exit, down, handle, say}
-use Rattle.pt_history.specs.History.{Past, Start, Phase, unborn, living, ended, life, touches, is_living, state_of, at_start, arrives, arrived, arrived_since, items_of, IsLegal, linked, newborn, live_or_end, while_living, leaves, gets, state}
-use Rattle.pt_history.specs.Taken.{Arrival, untaken, take_first, takes, arrivals, left_waiting, all_items}
+use Rattle.pt_history.specs.History.{Past, Start, Phase, unborn, living, ended, life, is_living, state_of, at_start, arrives, items_of, IsLegal, while_living, gets, state}
 use Rattle.pt_signal.proofs.Same.{same_pid_is}
 use Rattle.pt_history.proofs.Phases.{each_branch}
+use Rattle.pt_history.proofs.Fields.{end_keeps, while_keeps, leaves_keeps, born_keeps, say_keeps}
+
+-- an arrival, and whether it was taken
+abbrev pub Arrival : Type 0
+Arrival = Item × Bool
+
+abbrev pub untaken : Item → Arrival
+untaken i = (i, false)
+
+-- the first arrival that was not taken and fits is taken
+abbrev pub take_first : Pick → List Arrival → List Arrival
+take_first k [] = []
+take_first k (r ∷ rs) = cond (not r.1 && fits k r.0) ((r.0, true) ∷ rs) (r ∷ take_first k rs)
+
+-- what a Took of p takes
+abbrev pub takes : Pid → Event → List Arrival → List Arrival
+takes p (Took q k i) rs = cond (same_pid p q) (take_first k rs) rs
+takes p _ rs = rs
+
+-- all arrivals of p, each with whether it was taken
+abbrev pub arrivals : Start → Past → Pid → List Arrival
+arrivals start [] p = map untaken (state_of (at_start start p)).waiting
+arrivals start (e ∷ past) p = takes p e (arrivals start past p) ++ map untaken (arrives start past p e)
+
+-- those that were not taken
+abbrev pub left_waiting : List Arrival → List Item
+left_waiting rs = map (λ r. r.0) (filter (λ r. not r.1) rs)
 
 -- a signal adds its items at the end, and nothing else changes the waiting ones ----------------
 
@@ -46,38 +71,17 @@ handle_queues me s from (Monitor m) = sym (append-nil s.waiting)
 handle_queues me s from (Demonitor m) = sym (append-nil s.waiting)
 handle_queues me s from (Signal.Down m r) = downed (lookup (same_ref m) s.watching) s from m r
 
-said_waiting : (s : ProcessState) (b : Pid) (x : Signal) → (say s b x).waiting ≡ s.waiting
-said_waiting s b (Link i) = refl
-said_waiting s b (Unlink ids) = refl
-said_waiting s b (Monitor m) = refl
-said_waiting s b (Demonitor m) = refl
-said_waiting s b _ = refl
-
-linked_waiting : (q : Option Pid) (i : Option LinkId) (s : ProcessState) → (linked q i s).waiting ≡ s.waiting
-linked_waiting (Some q) (Some i) s = refl
-linked_waiting None (Some i) s = refl
-linked_waiting (Some q) None s = refl
-linked_waiting None None s = refl
-
-live_or_end_state : (o : Option Reason) (s : ProcessState) → state_of (live_or_end o s) ≡ s
-live_or_end_state None s = refl
-live_or_end_state (Some r) s = refl
-
 -- positions -----------------------------------------------------------------------------------
 
-waiting-append : (xs ys : List Arrival) → left_waiting (xs ++ ys) ≡ left_waiting xs ++ left_waiting ys
+pub waiting-append : (xs ys : List Arrival) → left_waiting (xs ++ ys) ≡ left_waiting xs ++ left_waiting ys
 waiting-append xs ys = rw (filter-append (λ (r : Arrival). not r.1) xs ys, map-append)
 
 nothing_more : (rs : List Arrival) → left_waiting (rs ++ []) ≡ left_waiting rs
 nothing_more rs = rw append-nil
 
-all_untaken : (is : List Item) → left_waiting (map untaken is) ≡ is
+pub all_untaken : (is : List Item) → left_waiting (map untaken is) ≡ is
 all_untaken [] = refl
 all_untaken (i ∷ is) = ap (λ z. i ∷ z) (all_untaken is)
-
-items_untaken : (is : List Item) → all_items (map untaken is) ≡ is
-items_untaken [] = refl
-items_untaken (i ∷ is) = ap (λ z. i ∷ z) (items_untaken is)
 
 -- the first that fits among those waiting is the first arrival that fits and was not taken
 pub take_first_waiting : (k : Pick) (rs : List Arrival) → left_waiting (take_first k rs) ≡ without_first (fits k) (left_waiting rs)
@@ -90,47 +94,12 @@ take_first_waiting k ((i, false) ∷ rs) = go (fits k i) refl (take_first_waitin
     go true e ih = rw e refl
     go false e ih = rw e (ap (λ z. i ∷ z) ih)
 
-take_first_items : (k : Pick) (rs : List Arrival) → all_items (take_first k rs) ≡ all_items rs
-take_first_items k [] = refl
-take_first_items k (r ∷ rs) = go (not r.1 && fits k r.0) (take_first_items k rs)
-  where
-    go : (b : Bool) → all_items (take_first k rs) ≡ all_items rs → all_items (cond b ((r.0, true) ∷ rs) (r ∷ take_first k rs)) ≡ all_items (r ∷ rs)
-    go true ih = refl
-    go false ih = ap (λ z. r.0 ∷ z) ih
-
 module _ (start : Start) (p : Pid) where
-  -- each arrival is one of the arrivals, in order
-  pub items_arrived : (past : Past) → all_items (arrivals start past p) ≡ arrived start past p
-  items_arrived [] = items_untaken (state_of (at_start start p)).waiting ∙ sym (append-nil _)
-  items_arrived (e ∷ past) =
-      map-append (λ (r : Arrival). r.0) (takes p e (arrivals start past p)) (map untaken (arrives start past p e))
-      ∙ rw (items_untaken (arrives start past p e), kept e, items_arrived past) (append_assoc (state_of (at_start start p)).waiting (arrived_since start past p) (arrives start past p e))
-    where
-      kept : (e : Event) → all_items (takes p e (arrivals start past p)) ≡ all_items (arrivals start past p)
-      kept (Took q k i) = each_branch (λ rs. all_items rs ≡ all_items (arrivals start past p)) (same_pid p q) _ _ (take_first_items k (arrivals start past p)) refl
-      kept _ = refl
-
-  -- an event that neither comes nor takes leaves what waits
-  born_waiting : (q : Option Pid) (i : Option LinkId) (f : Phase) → (state_of (newborn q i f)).waiting ≡ (state_of f).waiting
-  born_waiting q i unborn = linked_waiting q i _
-  born_waiting q i (living s) = refl
-  born_waiting q i (ended r s) = refl
-
-  step_waiting : (step : ProcessState → ProcessState) → ((s : ProcessState) → (step s).waiting ≡ s.waiting) → (f : Phase) → (state_of (while_living step f)).waiting ≡ (state_of f).waiting
-  step_waiting step h unborn = refl
-  step_waiting step h (living s) = h s
-  step_waiting step h (ended r s) = refl
-
-  left_waiting_end : (r : Reason) (f : Phase) → (state_of (leaves r f)).waiting ≡ (state_of f).waiting
-  left_waiting_end r unborn = refl
-  left_waiting_end r (living s) = refl
-  left_waiting_end r (ended w s) = refl
-
   -- a receipt
   came_waiting : (a b : Pid) (x : Signal) (f : Phase) (t : Bool) → (state_of (cond t (gets p a x f) f)).waiting ≡ (state_of f).waiting ++ cond t (items_of f p a x) []
   came_waiting a b x f false = sym (append-nil _)
   came_waiting a b x unborn true = refl
-  came_waiting a b x (living s) true = ap (λ z. z.waiting) (live_or_end_state (handle p s a x).ending (handle p s a x).state) ∙ handle_queues p s a x
+  came_waiting a b x (living s) true = end_keeps (λ s. s.waiting) (handle p s a x).ending (handle p s a x).state ∙ handle_queues p s a x
   came_waiting a b x (ended r s) true = sym (append-nil _)
 
   took_waiting : (k : Pick) (rs : List Arrival) (f : Phase) (t : Bool) → (t ≡ true → is_living f ≡ true) → left_waiting rs ≡ (state_of f).waiting
@@ -151,14 +120,13 @@ module _ (start : Start) (p : Pid) where
       ∙ took_waiting k (arrivals start past p) (life start past p) (same_pid p q) (λ e. rw (same_pid_is p q e) h.0.0) (waits past h.1)
   waits (Born q parent link ∷ past) h =
       nothing_more (arrivals start past p) ∙ waits past h.1
-      ∙ sym (each_branch (λ g. (state_of g).waiting ≡ (state start past p).waiting) (touches p (Born q parent link)) _ _
-      (each_branch (λ g. (state_of g).waiting ≡ (state start past p).waiting) (same_pid p q) _ _ (born_waiting parent link (life start past p)) (step_waiting (linked (Some q) link) (λ s. linked_waiting (Some q) link s) (life start past p))) refl)
+      ∙ sym (born_keeps (λ s. s.waiting) (λ l s. refl) p q parent link (life start past p))
   waits (Said a b x ∷ past) h =
       nothing_more (arrivals start past p) ∙ waits past h.1
-      ∙ sym (each_branch (λ g. (state_of g).waiting ≡ (state start past p).waiting) (same_pid p a) _ _ (step_waiting (λ s. say s b x) (λ s. said_waiting s b x) (life start past p)) refl)
+      ∙ sym (each_branch (λ g. (state_of g).waiting ≡ (state start past p).waiting) (same_pid p a) _ _ (while_keeps (λ s. s.waiting) (λ s. say s b x) (say_keeps (λ s. s.waiting) (λ l s. refl) (λ l s. refl) b x) (life start past p)) refl)
   waits (Flag q on ∷ past) h =
       nothing_more (arrivals start past p) ∙ waits past h.1
-      ∙ sym (each_branch (λ g. (state_of g).waiting ≡ (state start past p).waiting) (same_pid p q) _ _ (step_waiting (λ s. record s { traps = on }) (λ s. refl) (life start past p)) refl)
+      ∙ sym (each_branch (λ g. (state_of g).waiting ≡ (state start past p).waiting) (same_pid p q) _ _ (while_keeps (λ s. s.waiting) (λ s. record s { traps = on }) (λ s. refl) (life start past p)) refl)
   waits (Left q r ∷ past) h =
       nothing_more (arrivals start past p) ∙ waits past h.1
-      ∙ sym (each_branch (λ g. (state_of g).waiting ≡ (state start past p).waiting) (same_pid p q) _ _ (left_waiting_end r (life start past p)) refl)
+      ∙ sym (each_branch (λ g. (state_of g).waiting ≡ (state start past p).waiting) (same_pid p q) _ _ (leaves_keeps (λ s. s.waiting) r (life start past p)) refl)

@@ -47,10 +47,6 @@ and_comm true false = refl
 and_comm false true = refl
 and_comm false false = refl
 
-and_true : (x : Bool) → (x && true) ≡ x
-and_true true = refl
-and_true false = refl
-
 module _ (w t : Pid) (m : Ref) where
   pub estate_mon : (p : Pid) (s : ProcessState) (r : Reason) → count (carries w t (is_monitor m)) (estate p s r) ≡ 0
   estate_mon p s r =
@@ -152,12 +148,6 @@ module _ (w t : Pid) (m : Ref) where
   pair_false : (c d y : Bool) → d ≡ false → one_if ((c && d) && y) ≡ 0
   pair_false true d y e = rw e refl
   pair_false false d y e = refl
-
-  π_of2 : Pid → Pid → Signal → ℕ
-  π_of2 a b x = one_if ((same_pid w a && same_pid t b) && is_monitor m x)
-
-  κ_of2 : Pid → Pid → Signal → ℕ
-  κ_of2 a b x = one_if ((same_pid w a && same_pid t b) && is_demonitor m x)
 
   -- no Demonitor of the pair, where a Monitor or nothing goes back
   not_both : (c : Bool) (x : Signal) → one_if (c && is_monitor m x) + one_if (c && is_demonitor m x) ≤ 1

@@ -1,54 +1,60 @@
--- The laws, as statements.
-use Rattle.std.specs.Prelude.{◌≡◌, ℕ, ◌<◌, ◌≤◌, ◌+◌, true, false, List, [], ◌∷◌, ◌++◌}
+-- Laws on signals between two pids, on merges, and on histories that go on from others.
+use Rattle.std.specs.Prelude.{◌≡◌, ℕ, Bool, ◌==◌, ◌&&◌, List, ◌++◌, map, filter}
 use Rattle.pt_signal.specs.declared.pid.Pid.{Pid}
 use Rattle.pt_signal.specs.declared.letter.Letter.{Letter}
-use Rattle.pt_signal.specs.declared.signal.Signal.{Signal}
-use Rattle.pt_history.specs.declared.event.Event.TheVariants.{Came}
 use Rattle.pt_history.specs.declared.event.Stamped.{Stamped}
-use Rattle.pt_history.specs.History.{Past, Start, IsLegal, emitted, came, flight, state, life, alive, arrived, arrived_since}
-use Rattle.pt_history.specs.Taken.{arrivals, left_waiting, all_items}
-use Rattle.pt_history.specs.Journal.{Journals, LanesAgree, IsLocal, IsMerge, events}
+use Rattle.pt_signal.specs.Process.{Sent}
+use Rattle.pt_history.specs.History.{Past, Start, IsLegal, emitted, came, flight, flying, life}
+use Rattle.pt_history.specs.Journal.{Journals, LanesAgree, IsLocal, IsMerge, events, content}
 use Rattle.pt_history.specs.Sender.{IsSenderFront}
-use Rattle.pt_history.specs.Load.{IsStart, IsQuiet, load}
-use Rattle.pt_history.specs.Watch.{count, is_monitor, is_demonitor, is_down_item, said_times, said_to, open_in, kept_in}
-use Rattle.pt_signal.specs.declared.ids.Ref.{Ref}
+use Rattle.pt_history.specs.Load.{IsStart, IsQuiet}
+use Rattle.pt_history.specs.Resumed.{start_after, AllNewTo}
+use Rattle.pt_history.specs.Words.{HasOneEntryEach, KeepsEachOnce}
 
--- a legal history splits what was sent into what came and what flies
+-- what one pid sent another is what came, then what is in flight
 abbrev pub CameOrFlies : Type 0
-CameOrFlies = (start : Start) (past : Past) (a b : Pid) → IsLegal start past → emitted start past a b ≡ came past a b ++ flight start past a b
+CameOrFlies =
+    (start : Start) (past : Past) (a b : Pid) → IsLegal start past
+    → emitted start past a b ≡ came past a b ++ flight start past a b
 
--- lanes that agree give each sender's front
+-- where lanes agree, a's messages to p are those that came before p's birth, those that arrived, those that came after p's end, and those left over
 abbrev pub SenderFront : Type 0
-SenderFront = (start : Start) (journal : Journals) (over : ℕ → ℕ → List Letter) (a p : Pid) → LanesAgree start journal over → IsSenderFront a p start journal (over a.shard p.shard)
+SenderFront =
+    (start : Start) (journal : Journals) (over : ℕ → ℕ → List Letter) (a p : Pid) → LanesAgree start journal over
+    → IsSenderFront a p start journal (over a.shard p.shard)
 
--- taken and waiting items together are the arrivals
-abbrev pub TakenOrWaiting : Type 0
-TakenOrWaiting =
-    (start : Start) (past : Past) (p : Pid) → IsLegal start past
-    → (all_items (arrivals start past p) ≡ arrived start past p) × (left_waiting (arrivals start past p) ≡ (state start past p).waiting)
+-- from pids of desk d to pids of desk e
+abbrev pub in_lane : ℕ → ℕ → Sent → Bool
+in_lane d e l = (l.from.shard == d) && (l.to.shard == e)
 
--- the merge of local journals whose lanes agree is legal
+-- the history is legal, and what is in flight from desk to desk is what the lanes leave over
+abbrev pub LegalWithLeftOver : Start → List Stamped → (ℕ → ℕ → List Letter) → Type 0
+LegalWithLeftOver start merged over =
+    IsLegal start (events merged) × ((d e : ℕ) → filter (in_lane d e) (flying start (events merged)) ≡ map content (over d e))
+
+-- the merge of local journals whose lanes agree is so
 abbrev pub MergeLegal : Type 0
 MergeLegal =
     (start : Start) (low top : ℕ) (journal : Journals) (over : ℕ → ℕ → List Letter) (merged : List Stamped)
-    → ((d : ℕ) → IsLocal start low top d (journal d)) → LanesAgree start journal over → IsMerge journal merged → IsLegal start (events merged)
+    → ((d : ℕ) → IsLocal start low top d (journal d)) → LanesAgree start journal over → IsMerge journal merged
+    → LegalWithLeftOver start merged over
 
--- each receipt lowers the load
-abbrev pub LoadFalls : Type 0
-LoadFalls =
-    (start : Start) (past : Past) (a b : Pid) (x : Signal) → IsStart start → IsLegal start (Came a b x ∷ past) → load start (Came a b x ∷ past) < load start past
+-- after a legal and quiet history, one that is legal over its state and makes new ids and references is legal over both
+abbrev pub ResumedLegal : Type 0
+ResumedLegal =
+    (start : Start) (old new : Past) → IsStart start → IsLegal start old → IsQuiet start old → AllNewTo old new
+    → IsLegal (start_after start old) new → IsLegal start (new ++ old)
 
--- each monitor gives at most one DOWN, and none after its demonitor
-abbrev pub OneDown : Type 0
-OneDown =
-    (m : Ref) (w : Pid) (past : Past) → IsLegal [] past
-    → said_times w (is_demonitor m) past + count (is_down_item m) (arrived_since [] past w) ≤ 1
+-- and each pid is, and each letter flies, as after both
+abbrev pub ResumedSame : Type 0
+ResumedSame =
+    (start : Start) (old new : Past) → IsStart start → IsLegal start old → IsQuiet start old
+    → ((p : Pid) → life (start_after start old) new p ≡ life start (new ++ old) p) × (flying (start_after start old) new ≡ flying start (new ++ old))
 
--- in a quiet history a monitor that a live w made of t was given up, or had its DOWN, or is open and kept; and no live process keeps a watch of one that is not alive
-abbrev pub QuietMonitors : Type 0
-QuietMonitors =
-    (m : Ref) (w t : Pid) (past : Past) → IsLegal [] past → IsQuiet [] past
-    → (open_in w t m (life [] past w) ≡ kept_in w t m (life [] past t))
-    × (alive [] past w ≡ false → kept_in w t m (life [] past t) ≡ 0)
-    × (alive [] past w ≡ true → said_to w t (is_monitor m) past ≡ 1
-    → said_times w (is_demonitor m) past + count (is_down_item m) (arrived_since [] past w) + kept_in w t m (life [] past t) ≡ 1)
+-- the state after it is again a start, and keeps what the laws on words ask of a start
+abbrev pub ResumedStart : Type 0
+ResumedStart =
+    (start : Start) (old : Past) → IsStart start → IsLegal start old → IsQuiet start old
+    → IsStart (start_after start old)
+    × (HasOneEntryEach start → HasOneEntryEach (start_after start old))
+    × (KeepsEachOnce start → KeepsEachOnce (start_after start old))

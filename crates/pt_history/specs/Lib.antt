@@ -8,4 +8,11 @@ pub mod Load
 pub mod Watch
 pub mod Resumed
 pub mod Judge
+pub mod Since
+pub mod Lives
+pub mod Locality
 pub mod Laws
+pub mod MonitorLaws
+pub mod LoadLaws
+pub mod Words
+pub mod Examples
