@@ -43,19 +43,18 @@ is_unborn_only (living s) h = absurd (false≢true h)
 is_unborn_only (ended r s) h = absurd (false≢true h)
 
 module _ (start : Start) (ok : IsStart start) (old : Past) (legal : IsLegal start old) (quiet : IsQuiet start old) where
-  pub again : Start
+  abbrev pub again : Start
   again = start_after start old
 
   -- the start state gives what the history gave
   started : (p : Pid) → at_start again p ≡ life start old p
-  unfolding again
   started p = go (is_unborn (life start old p)) refl (born_once start ok old p)
     where
       go : (b : Bool) → is_unborn (life start old p) ≡ b → times p (pids start old) ≡ cond (is_unborn (life start old p)) 0 1 → at_start (start_after start old) p ≡ life start old p
       go true e k = let z : times p (pids start old) ≡ 0 = rw e at k in ap phase_or_unborn (unlisted (life start old) p (pids start old) z) ∙ sym (is_unborn_only (life start old p) e)
       go false e k = let z : times p (pids start old) ≡ 1 = rw e at k in ap phase_or_unborn (listed (life start old) p (pids start old) z)
 
-  same_life : (new : Past) (p : Pid) → life again new p ≡ life start (new ++ old) p
+  pub same_life : (new : Past) (p : Pid) → life again new p ≡ life start (new ++ old) p
   same_life [] p = started p
   same_life (e ∷ new) p = ap (after p e) (same_life new p)
 
@@ -65,7 +64,7 @@ module _ (start : Start) (ok : IsStart start) (old : Past) (legal : IsLegal star
   same_sent new (Said a b x) = refl
   same_sent new _ = refl
 
-  same_flying : (new : Past) → flying again new ≡ flying start (new ++ old)
+  pub same_flying : (new : Past) → flying again new ≡ flying start (new ++ old)
   same_flying [] = sym quiet
   same_flying (e ∷ new) = rw (same_flying new, same_sent new e) refl
 

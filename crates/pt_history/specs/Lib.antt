@@ -8,4 +8,7 @@ pub mod Load
 pub mod Watch
 pub mod Resumed
 pub mod Judge
+pub mod Links
+pub mod EarlyLinks
 pub mod Laws
+pub mod LinkLaws

@@ -8,6 +8,7 @@
 mod cause;
 mod event;
 mod journal;
+pub mod links;
 
 pub use cause::Cause;
 pub use event::{Event, Stamped};
