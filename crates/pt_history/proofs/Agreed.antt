@@ -48,29 +48,35 @@ module _ (made mine theirs : LinkId → Bool) (o : Option Ids) where
 
 -- the two phases of a quiet pair
 agreed : (made mine theirs : LinkId → Bool) (p q : Pid) (f g : Phase) → Bond made mine theirs (seen q f) (seen p g) [] [] → is_living f ≡ true
-    → (is_living g ≡ true → (i : LinkId) → holds_id (held (state_of f).links q) i ≡ holds_id (held (state_of g).links p) i) × (is_living g ≡ false → held (state_of f).links q ≡ None)
+    → (is_living g ≡ true → (i : LinkId) → holds_id (held (state_of f).links q) i ≡ holds_id (held (state_of g).links p) i)
+    × (is_living g ≡ false → held (state_of f).links q ≡ None)
 agreed made mine theirs p q unborn g b h = absurd (false≢true h)
 agreed made mine theirs p q (ended r s) g b h = absurd (false≢true h)
 agreed made mine theirs p q (living s) unborn b h = (λ k. absurd (false≢true k), λ k. with_unborn made mine theirs (held s.links q) b)
-agreed made mine theirs p q (living s) (living t) b h = (λ k. with_live made mine theirs (held s.links q) (held t.links p) b, λ k. absurd (true≢false k))
+agreed made mine theirs p q (living s) (living t) b h =
+    (λ k. with_live made mine theirs (held s.links q) (held t.links p) b, λ k. absurd (true≢false k))
 agreed made mine theirs p q (living s) (ended r t) b h = (λ k. absurd (false≢true k), λ k. with_ended made mine theirs (held s.links q) b)
 
-pub links_agree : (past : Past) → IsLegal [] past → IsQuiet [] past → IsBornFree past → (p q : Pid) → same_pid p q ≡ false → alive [] past p ≡ true → LinksAgree [] past p q
+pub links_agree : (past : Past) → IsLegal [] past → IsQuiet [] past → IsBornFree past → (p q : Pid) → same_pid p q ≡ false
+    → alive [] past p ≡ true → LinksAgree [] past p q
 links_agree past legal quiet free p q n lives =
     agreed (made_link past) (made_by p q past) (made_by q p past) p q (life [] past p) (life [] past q)
-    (subst (λ z. Bond (made_link past) (made_by p q past) (made_by q p past) (seen q (life [] past p)) (seen p (life [] past q)) (parts p q z) (parts q p z)) quiet (bonds past legal free p q n)) lives
+    (subst (λ z. Bond (made_link past) (made_by p q past) (made_by q p past) (seen q (life [] past p)) (seen p (life [] past q))
+    (parts p q z) (parts q p z)) quiet (bonds past legal free p q n)) lives
 
 -- the premise --------------------------------------------------------------------------------------
 
 -- to a pid of its own desk that is not born nothing was said
-unsaid : (start : Start) (a c : Pid) → c.shard ≡ a.shard → (past : Past) → IsKnownSaid start past → is_unborn (life start past c) ≡ true → said_to a c is_link past ≡ 0
+unsaid : (start : Start) (a c : Pid) → c.shard ≡ a.shard → (past : Past) → IsKnownSaid start past → is_unborn (life start past c) ≡ true
+    → said_to a c is_link past ≡ 0
 unsaid start a c e [] k u = refl
 unsaid start a c e (Said b d x ∷ past) k u = go (same_pid a b && same_pid c d) refl (unsaid start a c e past k.1 before_it)
   where
     before_it : is_unborn (life start past c) ≡ true
     before_it = was_unborn c (Said b d x) (life start past c) u
 
-    go : (t : Bool) → (same_pid a b && same_pid c d) ≡ t → said_to a c is_link past ≡ 0 → said_to a c is_link past + one_if ((same_pid a b && same_pid c d) && is_link x) ≡ 0
+    go : (t : Bool) → (same_pid a b && same_pid c d) ≡ t → said_to a c is_link past ≡ 0
+        → said_to a c is_link past + one_if ((same_pid a b && same_pid c d) && is_link x) ≡ 0
     go true f ih =
         let q = and_parts (same_pid a b) (same_pid c d) f in
         let e1 = same_pid_is a b q.0 in let e2 = same_pid_is c d q.1 in
@@ -108,12 +114,15 @@ module _ (start : Start) where
     -- a merge of local journals meets it
     pub merge_known : (merged : List Stamped) → AllLocal start low top merged → IsKnownSaid start (events merged)
     merge_known [] h = tt
-    merge_known (s ∷ merged) h = step s.event (head_local start low top s merged h).home (head_local start low top s merged h).known (merge_known merged (tail_local start low top s merged h))
+    merge_known (s ∷ merged) h =
+        step s.event (head_local start low top s merged h).home (head_local start low top s merged h).known
+        (merge_known merged (tail_local start low top s merged h))
       where
         homes : AllHome merged
         homes = all_home start low top merged (tail_local start low top s merged h)
 
-        step : (ev : Event) → IsHome s.desk ev → IsKnown start s.desk top (events (of_desk s.desk merged)) ev → IsKnownSaid start (events merged) → IsKnownSaid start (ev ∷ events merged)
+        step : (ev : Event) → IsHome s.desk ev → IsKnown start s.desk top (events (of_desk s.desk merged)) ev
+            → IsKnownSaid start (events merged) → IsKnownSaid start (ev ∷ events merged)
         step (Said a b x) i k ih = (λ e. let f : b.shard ≡ s.desk = e ∙ i in ap is_unborn (sym (life_home start b s.desk merged f homes)) ∙ k f, ih)
         step (Born p q l) i k ih = ih
         step (Came a b x) i k ih = ih
@@ -164,12 +173,16 @@ module _ (old : Past) (legal : IsLegal [] old) (quiet : IsQuiet [] old) where
   known_joined (Flag p on ∷ new) h k = known_joined new h k
   known_joined (Left p r ∷ new) h k = known_joined new h k
 
-  pub links_resumed : (new : Past) → IsKnownSaid [] old → IsBornHome old → AllNewTo old new → IsLegal (start_after [] old) new → IsQuiet (start_after [] old) new
-      → IsKnownSaid (start_after [] old) new → IsBornHome new → (p q : Pid) → same_pid p q ≡ false → alive (start_after [] old) new p ≡ true → LinksAgree (start_after [] old) new p q
+  pub links_resumed : (new : Past) → IsKnownSaid [] old → IsBornHome old → AllNewTo old new → IsLegal (start_after [] old) new
+      → IsQuiet (start_after [] old) new
+      → IsKnownSaid (start_after [] old) new → IsBornHome new → (p q : Pid) → same_pid p q ≡ false
+      → alive (start_after [] old) new p ≡ true → LinksAgree (start_after [] old) new p q
   links_resumed new k b fresh_ids l s k2 b2 p q n lives =
       let joined = resumed [] no_start old legal quiet new fresh_ids l in
       let free = born_free [] (new ++ old) joined (known_joined new k2 k) (home_joined new old b2 b) in
-      let law = links_agree (new ++ old) joined (sym (same_flying [] no_start old legal quiet new) ∙ s) free p q n (ap is_living (sym (same new p)) ∙ lives) in (
-        λ h i. ap (λ f. holds_id (held (state_of f).links q) i) (same new p) ∙ law.0 (ap is_living (sym (same new q)) ∙ h) i ∙ ap (λ f. holds_id (held (state_of f).links p) i) (sym (same new q)),
+      let law = links_agree (new ++ old) joined (sym (same_flying [] no_start old legal quiet new) ∙ s) free p q n
+      (ap is_living (sym (same new p)) ∙ lives) in (
+        λ h i. ap (λ f. holds_id (held (state_of f).links q) i) (same new p) ∙ law.0 (ap is_living (sym (same new q)) ∙ h) i
+            ∙ ap (λ f. holds_id (held (state_of f).links p) i) (sym (same new q)),
         λ h. ap (λ f. held (state_of f).links q) (same new p) ∙ law.1 (ap is_living (sym (same new q)) ∙ h),
       )

@@ -63,30 +63,37 @@ returns (clears ids ∷ xs) = []
 module _ (p q : Pid) where
   pub parts-append : (xs ys : List Sent) → parts p q (xs ++ ys) ≡ parts p q xs ++ parts p q ys
   parts-append [] ys = refl
-  parts-append (l ∷ xs) ys = ap (λ z. cond (is_between p q l) (part l.signal) [] ++ z) (parts-append xs ys) ∙ sym (append_assoc (cond (is_between p q l) (part l.signal) []) (parts p q xs) (parts p q ys))
+  parts-append (l ∷ xs) ys =
+      ap (λ z. cond (is_between p q l) (part l.signal) [] ++ z) (parts-append xs ys)
+      ∙ sym (append_assoc (cond (is_between p q l) (part l.signal) []) (parts p q xs) (parts p q ys))
 
   -- letters of another pair, or of other signals
   pub parts_single : (a b : Pid) (x : Signal) → (same_pid p a && same_pid q b) ≡ false → parts p q (sent a b x ∷ []) ≡ []
   parts_single a b x h = rw h refl
 
-  parts_other : {X : Type 0} (a : Pid) (f : X → Pid) (g : X → Signal) → same_pid p a ≡ false → (xs : List X) → parts p q (map (λ x. sent a (f x) (g x)) xs) ≡ []
+  parts_other : {X : Type 0} (a : Pid) (f : X → Pid) (g : X → Signal) → same_pid p a ≡ false → (xs : List X)
+      → parts p q (map (λ x. sent a (f x) (g x)) xs) ≡ []
   parts_other a f g h [] = refl
   parts_other a f g h (x ∷ xs) = rw (h, parts_other a f g h xs) refl
 
-  parts_apart : {X : Type 0} (a : Pid) (f : X → Pid) (g : X → Signal) → ((x : X) → part (g x) ≡ []) → (xs : List X) → parts p q (map (λ x. sent a (f x) (g x)) xs) ≡ []
+  parts_apart : {X : Type 0} (a : Pid) (f : X → Pid) (g : X → Signal) → ((x : X) → part (g x) ≡ []) → (xs : List X)
+      → parts p q (map (λ x. sent a (f x) (g x)) xs) ≡ []
   parts_apart a f g h [] = refl
   parts_apart a f g h (x ∷ xs) = go (same_pid p a && same_pid q (f x)) (parts_apart a f g h xs)
     where
-      go : (c : Bool) → parts p q (map (λ x. sent a (f x) (g x)) xs) ≡ [] → cond c (part (g x)) [] ++ parts p q (map (λ x. sent a (f x) (g x)) xs) ≡ []
+      go : (c : Bool) → parts p q (map (λ x. sent a (f x) (g x)) xs) ≡ []
+          → cond c (part (g x)) [] ++ parts p q (map (λ x. sent a (f x) (g x)) xs) ≡ []
       go true k = rw (h x, k) refl
       go false k = k
 
   -- a receipt of the pair, and of another
-  pub parts_landed : (x : Signal) (ls : List Sent) → find (is_between p q) ls ≡ Some (sent p q x) → parts p q ls ≡ part x ++ parts p q (without_first (is_between p q) ls)
+  pub parts_landed : (x : Signal) (ls : List Sent) → find (is_between p q) ls ≡ Some (sent p q x)
+      → parts p q ls ≡ part x ++ parts p q (without_first (is_between p q) ls)
   parts_landed x [] h = absurd (cc)
   parts_landed x (l ∷ ls) h = go (is_between p q l) refl h (parts_landed x ls)
     where
-      go : (c : Bool) → is_between p q l ≡ c → find (is_between p q) (l ∷ ls) ≡ Some (sent p q x) → (find (is_between p q) ls ≡ Some (sent p q x) → parts p q ls ≡ part x ++ parts p q (without_first (is_between p q) ls))
+      go : (c : Bool) → is_between p q l ≡ c → find (is_between p q) (l ∷ ls) ≡ Some (sent p q x)
+          → (find (is_between p q) ls ≡ Some (sent p q x) → parts p q ls ≡ part x ++ parts p q (without_first (is_between p q) ls))
           → parts p q (l ∷ ls) ≡ part x ++ parts p q (without_first (is_between p q) (l ∷ ls))
       go true e h ih =
           let k : Some l ≡ Some (sent p q x) = rw e at h in
@@ -95,7 +102,8 @@ module _ (p q : Pid) where
           rw e (ap (λ z. part z ++ parts p q ls) k3)
       go false e h ih = let k : find (is_between p q) ls ≡ Some (sent p q x) = rw e at h in rw (e, e) (ih k)
 
-  pub parts_kept : (P : Sent → Bool) → ((l : Sent) → P l ≡ true → is_between p q l ≡ false) → (ls : List Sent) → parts p q (without_first P ls) ≡ parts p q ls
+  pub parts_kept : (P : Sent → Bool) → ((l : Sent) → P l ≡ true → is_between p q l ≡ false) → (ls : List Sent)
+      → parts p q (without_first P ls) ≡ parts p q ls
   parts_kept P h [] = refl
   parts_kept P h (l ∷ ls) = go (P l) refl (parts_kept P h ls)
     where
@@ -103,13 +111,19 @@ module _ (p q : Pid) where
       go true e ih = rw (e, h l e) refl
       go false e ih = rw e (ap (λ z. cond (is_between p q l) (part l.signal) [] ++ z) ih)
 
-  estate_parts : (a : Pid) (s : ProcessState) (r : Reason) → parts p q (estate a s r) ≡ parts p q (map (λ (e : Pid × Ids). sent a e.0 (LinkExit e.1 r)) s.links)
+  estate_parts : (a : Pid) (s : ProcessState) (r : Reason)
+      → parts p q (estate a s r) ≡ parts p q (map (λ (e : Pid × Ids). sent a e.0 (LinkExit e.1 r)) s.links)
   estate_parts a s r =
-      parts-append (map (λ (e : Pid × Ids). sent a e.0 (LinkExit e.1 r)) s.links ++ map (λ (k : Ref × Pid). sent a k.1 (Signal.Down k.0 r)) s.kept) (map (λ (m : Ref × Pid). sent a m.1 (Demonitor m.0)) s.watching)
-      ∙ ap (λ z. parts p q (map (λ (e : Pid × Ids). sent a e.0 (LinkExit e.1 r)) s.links ++ map (λ (k : Ref × Pid). sent a k.1 (Signal.Down k.0 r)) s.kept) ++ z) (parts_apart a (λ (m : Ref × Pid). m.1) (λ m. Demonitor m.0) (λ m. refl) s.watching)
+      parts-append (map (λ (e : Pid × Ids). sent a e.0 (LinkExit e.1 r)) s.links
+      ++ map (λ (k : Ref × Pid). sent a k.1 (Signal.Down k.0 r)) s.kept)
+      (map (λ (m : Ref × Pid). sent a m.1 (Demonitor m.0)) s.watching)
+      ∙ ap (λ z. parts p q (map (λ (e : Pid × Ids). sent a e.0 (LinkExit e.1 r)) s.links
+      ++ map (λ (k : Ref × Pid). sent a k.1 (Signal.Down k.0 r)) s.kept) ++ z)
+      (parts_apart a (λ (m : Ref × Pid). m.1) (λ m. Demonitor m.0) (λ m. refl) s.watching)
       ∙ append-nil _
       ∙ parts-append (map (λ (e : Pid × Ids). sent a e.0 (LinkExit e.1 r)) s.links) (map (λ (k : Ref × Pid). sent a k.1 (Signal.Down k.0 r)) s.kept)
-      ∙ ap (λ z. parts p q (map (λ (e : Pid × Ids). sent a e.0 (LinkExit e.1 r)) s.links) ++ z) (parts_apart a (λ (k : Ref × Pid). k.1) (λ k. Signal.Down k.0 r) (λ k. refl) s.kept)
+      ∙ ap (λ z. parts p q (map (λ (e : Pid × Ids). sent a e.0 (LinkExit e.1 r)) s.links) ++ z)
+      (parts_apart a (λ (k : Ref × Pid). k.1) (λ k. Signal.Down k.0 r) (λ k. refl) s.kept)
       ∙ append-nil _
 
   -- what another sends -----------------------------------------------------------------------------
@@ -143,18 +157,22 @@ module _ (p q : Pid) where
 
   -- what p sends ---------------------------------------------------------------------------------------
 
-  no_exits : (r : Reason) (links : List (Pid × Ids)) → count (λ e. same_pid q e.0) links ≡ 0 → parts p q (map (λ (e : Pid × Ids). sent p e.0 (LinkExit e.1 r)) links) ≡ []
+  no_exits : (r : Reason) (links : List (Pid × Ids)) → count (λ e. same_pid q e.0) links ≡ 0
+      → parts p q (map (λ (e : Pid × Ids). sent p e.0 (LinkExit e.1 r)) links) ≡ []
   no_exits r [] h = refl
   no_exits r (e ∷ links) h =
       let z = zero_parts (λ (e : Pid × Ids). same_pid q e.0) e links h in
       let k : (same_pid p p && same_pid q e.0) ≡ false = and_right (same_pid p p) (same_pid q e.0) z.0 in
       rw (k, no_exits r links z.1) refl
 
-  exits_held : (r : Reason) (links : List (Pid × Ids)) → count (λ e. same_pid q e.0) links ≤ 1 → parts p q (map (λ (e : Pid × Ids). sent p e.0 (LinkExit e.1 r)) links) ≡ exits (held links q)
+  exits_held : (r : Reason) (links : List (Pid × Ids)) → count (λ e. same_pid q e.0) links ≤ 1
+      → parts p q (map (λ (e : Pid × Ids). sent p e.0 (LinkExit e.1 r)) links) ≡ exits (held links q)
   exits_held r [] h = refl
   exits_held r (e ∷ links) h = go (same_pid q e.0) refl (exits_held r links)
     where
-      go : (c : Bool) → same_pid q e.0 ≡ c → (count (λ e. same_pid q e.0) links ≤ 1 → parts p q (map (λ (e : Pid × Ids). sent p e.0 (LinkExit e.1 r)) links) ≡ exits (held links q))
+      go : (c : Bool) → same_pid q e.0 ≡ c
+          → (count (λ e. same_pid q e.0) links ≤ 1
+          → parts p q (map (λ (e : Pid × Ids). sent p e.0 (LinkExit e.1 r)) links) ≡ exits (held links q))
           → parts p q (map (λ (e : Pid × Ids). sent p e.0 (LinkExit e.1 r)) (e ∷ links)) ≡ exits (held (e ∷ links) q)
       go true f ih =
           let k : one_if (same_pid q e.0) ≡ 1 = rw f refl in
@@ -217,7 +235,9 @@ keyed_obey (Verdict.ends r) s k = k
 
 keyed_exit : (c : Bool) (me : Pid) (s : ProcessState) (a : Pid) (r : Reason) → Keyed s.links → Keyed (link_exit c me s a r).state.links
 keyed_exit false me s a r k = k
-keyed_exit true me s a r k = keyed_obey (verdict true s.traps (same_pid a me) a r) (record s { links = remove_entry (same_pid a) s.links }) (Keyed-removed a s.links k)
+keyed_exit true me s a r k =
+    keyed_obey (verdict true s.traps (same_pid a me) a r) (record s { links = remove_entry (same_pid a) s.links })
+    (Keyed-removed a s.links k)
 
 keyed_down : (o : Option Pid) (s : ProcessState) (a : Pid) (m : Ref) (r : Reason) → Keyed s.links → Keyed (down o s a m r).state.links
 keyed_down None s a m r k = k
@@ -237,7 +257,8 @@ keyed_end : (o : Option Reason) (s : ProcessState) → Keyed s.links → KeyedIn
 keyed_end None s k = k
 keyed_end (Some r) s k = tt
 
-keyed_while : (g : ProcessState → ProcessState) → ((s : ProcessState) → Keyed s.links → Keyed (g s).links) → (f : Phase) → KeyedIn f → KeyedIn (while_living g f)
+keyed_while : (g : ProcessState → ProcessState) → ((s : ProcessState) → Keyed s.links → Keyed (g s).links) → (f : Phase) → KeyedIn f
+    → KeyedIn (while_living g f)
 keyed_while g h unborn k = tt
 keyed_while g h (living s) k = h s k
 keyed_while g h (ended r s) k = tt
@@ -258,7 +279,9 @@ keyed_leaves r (living s) k = tt
 keyed_leaves r (ended w s) k = tt
 
 keyed_change : (p : Pid) (e : Event) (f : Phase) → KeyedIn f → KeyedIn (change p e f)
-keyed_change p (Born c parent link) f k = each_branch KeyedIn (same_pid p c) _ _ (keyed_newborn parent link f k) (keyed_while (linked (Some c) link) (keyed_linked (Some c) link) f k)
+keyed_change p (Born c parent link) f k =
+    each_branch KeyedIn (same_pid p c) _ _ (keyed_newborn parent link f k)
+    (keyed_while (linked (Some c) link) (keyed_linked (Some c) link) f k)
 keyed_change p (Said a b x) f k = keyed_while (λ s. say s b x) (λ s. keyed_say s b x) f k
 keyed_change p (Came a b x) f k = keyed_gets p a x f k
 keyed_change p (Took c j i) f k = keyed_while _ (λ s h. h) f k
@@ -273,7 +296,8 @@ keyed_life (e ∷ past) p = each_branch KeyedIn (touches p e) _ _ (keyed_change 
 
 module _ (q : Pid) where
   -- a signal of q's comes to a live process
-  pub taken_entry : (me : Pid) (s : ProcessState) (x : Signal) (t : Tie) → Keyed s.links → part x ≡ t ∷ [] → held (handle me s q x).state.links q ≡ got (held s.links q) t
+  pub taken_entry : (me : Pid) (s : ProcessState) (x : Signal) (t : Tie) → Keyed s.links → part x ≡ t ∷ []
+      → held (handle me s q x).state.links q ≡ got (held s.links q) t
   taken_entry me s (Message body) t k e = absurd (cc)
   taken_entry me s (Link j) t k e = let f : adds j ≡ t = cc in held-enter q j s.links ∙ ap (got (held s.links q)) f
   taken_entry me s (Unlink ids) t k e = let f : takes ids ≡ t = cc in held-cut q ids s.links k ∙ ap (got (held s.links q)) f
@@ -318,7 +342,8 @@ module _ (q : Pid) where
   bore_other c link (ended r s) n = refl
 
   -- a change that leaves the links
-  pub seen_while : (g : ProcessState → ProcessState) → ((s : ProcessState) → (g s).links ≡ s.links) → (f : Phase) → seen q (while_living g f) ≡ seen q f
+  pub seen_while : (g : ProcessState → ProcessState) → ((s : ProcessState) → (g s).links ≡ s.links) → (f : Phase)
+      → seen q (while_living g f) ≡ seen q f
   seen_while g h unborn = refl
   seen_while g h (living s) = ap (λ z. here (held z q)) (h s)
   seen_while g h (ended r s) = refl

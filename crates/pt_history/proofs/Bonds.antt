@@ -54,7 +54,8 @@ swapped made mine theirs A B F G b = record {
   gone_there = b.gone;
 }
 
-untied : (made mine theirs : LinkId → Bool) (A : Seen) (G : List Tie) → Side made mine theirs A G → (i : LinkId) → theirs i ≡ false → count (is_adds i) G ≡ 0
+untied : (made mine theirs : LinkId → Bool) (A : Seen) (G : List Tie) → Side made mine theirs A G → (i : LinkId) → theirs i ≡ false
+    → count (is_adds i) G ≡ 0
 untied made mine theirs A G s i h = go (count (is_adds i) G) refl
   where
     go : (n : ℕ) → count (is_adds i) G ≡ n → count (is_adds i) G ≡ 0
@@ -78,14 +79,17 @@ one_if_one false = omega arith
 
 module _ (made mine theirs : LinkId → Bool) (B : Seen) (F G : List Tie) where
   -- a Link is said
-  pub say_link : (j : LinkId) → made j ≡ false → Bond made mine theirs (here None) B F G → Bond (plus j made) (plus j mine) theirs (here (Some (one_id j))) B (F ++ adds j ∷ []) G
+  pub say_link : (j : LinkId) → made j ≡ false → Bond made mine theirs (here None) B F G
+      → Bond (plus j made) (plus j mine) theirs (here (Some (one_id j))) B (F ++ adds j ∷ []) G
   say_link j fresh b = record {
     left = said_mine made mine theirs j fresh G b.left;
     right = said_theirs made theirs mine j fresh B F (b.left.own j fresh) b.right;
     whole = λ ea eb. let p = b.whole refl eb in record {
       same = λ i. will-append i F (adds j ∷ []) _ ∙ each p i (same_link i j) refl;
       part = λ i h. let q = or_parts (same_link i j) (mine i) h in rw q.0 (p.part i q.1);
-      part_there = λ i h. parted-append i F (adds j) _ (p.part_there i h) (p.same i ∙ will_not i G (untied made mine theirs (here None) G b.left i h));
+      part_there =
+          λ i h. parted-append i F (adds j) _ (p.part_there i h)
+          (p.same i ∙ will_not i G (untied made mine theirs (here None) G b.left i h));
       front = p.front;
       front_there = front-append F (adds j) p.front_there (λ e. absurd (false≢true e));
       short = λ h. refl;
@@ -95,11 +99,13 @@ module _ (made mine theirs : LinkId → Bool) (B : Seen) (F G : List Tie) where
     gone_there = λ eb ea i h. on_way eb i (same_link i j) refl h;
   }
     where
-      each : Pair mine theirs (here None) B F G → (i : LinkId) → (c : Bool) → same_link i j ≡ c → (same_link i j || will i (has i (entry B)) F) ≡ will i (same_link i j || false) G
+      each : Pair mine theirs (here None) B F G → (i : LinkId) → (c : Bool) → same_link i j ≡ c
+          → (same_link i j || will i (has i (entry B)) F) ≡ will i (same_link i j || false) G
       each p i true e = let z = will_unnamed i G true (b.left.new i (subst (λ z. made z ≡ false) (sym (same_link_is i j e)) fresh)) in rw e (sym z)
       each p i false e = rw e (p.same i)
 
-      on_way : is_over B ≡ true → (i : LinkId) → (c : Bool) → same_link i j ≡ c → will i (same_link i j || false) G ≡ true → 1 ≤ count (is_adds i) (F ++ adds j ∷ [])
+      on_way : is_over B ≡ true → (i : LinkId) → (c : Bool) → same_link i j ≡ c → will i (same_link i j || false) G ≡ true
+          → 1 ≤ count (is_adds i) (F ++ adds j ∷ [])
       on_way eb i true e h = let c = count-append (is_adds i) F (adds j ∷ []) in let d : one_if (same_link i j) ≡ 1 = rw e refl in omega arith
       on_way eb i false e h =
           let c = count-append (is_adds i) F (adds j ∷ []) in
@@ -116,7 +122,9 @@ module _ (made mine theirs : LinkId → Bool) (B : Seen) (F G : List Tie) where
   -- all ids are given up
   pub say_unlink : (ids : Ids) → Bond made mine theirs (here (Some ids)) B F G → Bond made mine theirs (here None) B (F ++ takes ids ∷ []) G
   say_unlink ids b = record {
-    left = less made mine theirs (here (Some ids)) (here None) G G b.left (λ i h. absurd (false≢true h)) (omega arith) (λ i. omega arith) (λ i. omega arith) (λ e. absurd (false≢true e));
+    left =
+        less made mine theirs (here (Some ids)) (here None) G G b.left (λ i h. absurd (false≢true h)) (omega arith) (λ i. omega arith)
+        (λ i. omega arith) (λ e. absurd (false≢true e));
     right = removal made theirs mine B F (takes ids) (held_made ids b) (λ i. refl) b.right;
     whole = λ ea eb. let p = b.whole refl eb in record {
       same = λ i. will-append i F (takes ids ∷ []) _ ∙ each p i (has_id ids i) refl;
@@ -133,7 +141,8 @@ module _ (made mine theirs : LinkId → Bool) (B : Seen) (F G : List Tie) where
         let z = b.gone_there eb refl i (will_le i G false (has_id ids i) (λ e. absurd (false≢true e)) h) in omega arith;
   }
     where
-      each : Pair mine theirs (here (Some ids)) B F G → (i : LinkId) → (c : Bool) → has_id ids i ≡ c → (not (has_id ids i) && will i (has i (entry B)) F) ≡ will i false G
+      each : Pair mine theirs (here (Some ids)) B F G → (i : LinkId) → (c : Bool) → has_id ids i ≡ c
+          → (not (has_id ids i) && will i (has i (entry B)) F) ≡ will i false G
       each p i true e =
           let t = b.left.token i in
           let d : one_if (has_id ids i) ≡ 1 = rw e refl in
@@ -143,7 +152,9 @@ module _ (made mine theirs : LinkId → Bool) (B : Seen) (F G : List Tie) where
   -- the end of one that holds nothing
   pub ends_free : Bond made mine theirs (here None) B F G → Bond made mine theirs over B F G
   ends_free b = record {
-    left = less made mine theirs (here None) over G G b.left (λ i h. h) (omega arith) (λ i. omega arith) (λ i. omega arith) (λ e. absurd (false≢true e));
+    left =
+        less made mine theirs (here None) over G G b.left (λ i h. h) (omega arith) (λ i. omega arith) (λ i. omega arith)
+        (λ e. absurd (false≢true e));
     right = b.right;
     whole = λ ea. absurd (true≢false ea);
     gone = λ ea eb i h. will_adds i G (sym ((b.whole refl eb).same i) ∙ h);
@@ -153,7 +164,9 @@ module _ (made mine theirs : LinkId → Bool) (B : Seen) (F G : List Tie) where
   -- the end of one that holds ids
   pub ends_held : (ids : Ids) → Bond made mine theirs (here (Some ids)) B F G → Bond made mine theirs over B (F ++ clears ids ∷ []) G
   ends_held ids b = record {
-    left = less made mine theirs (here (Some ids)) over G G b.left (λ i h. absurd (false≢true h)) (omega arith) (λ i. omega arith) (λ i. omega arith) (λ e. absurd (false≢true e));
+    left =
+        less made mine theirs (here (Some ids)) over G G b.left (λ i h. absurd (false≢true h)) (omega arith) (λ i. omega arith)
+        (λ i. omega arith) (λ e. absurd (false≢true e));
     right = removal made theirs mine B F (clears ids) (held_made ids b) (λ i. refl) b.right;
     whole = λ ea. absurd (true≢false ea);
     gone = λ ea eb i h.
@@ -207,7 +220,8 @@ module _ (made mine theirs : LinkId → Bool) (B : Seen) (F G : List Tie) where
       shorter p (clears ids) e h = subst (λ z. full (got o z) ≡ false) (sym e) (full_cleared _ o (p.short (omega arith)))
 
   -- a removal comes to one that is not alive
-  pub ignored : (A : Seen) → ((i : LinkId) → has i (entry A) ≡ false) → (x : Tie) → ((i : LinkId) → is_adds i x ≡ false) → Bond made mine theirs A B F (x ∷ G) → Bond made mine theirs A B F G
+  pub ignored : (A : Seen) → ((i : LinkId) → has i (entry A) ≡ false) → (x : Tie) → ((i : LinkId) → is_adds i x ≡ false)
+      → Bond made mine theirs A B F (x ∷ G) → Bond made mine theirs A B F G
   ignored A none x not_new b = record {
     left = popped made mine theirs A A x G b.left (λ i h. h) (omega arith) (λ e. e);
     right = b.right;
@@ -229,7 +243,9 @@ module _ (made mine theirs : LinkId → Bool) (B : Seen) (F G : List Tie) where
       still i false e = turn_none i x (not_new i)
 
   returned_right : (A : Seen) (j : LinkId) → Bond made mine theirs A B F (adds j ∷ G) → Side made theirs mine B (F ++ clears (one_id j) ∷ [])
-  returned_right A j b = removal made theirs mine B F (clears (one_id j)) (λ i m. let z = (zero_parts (names i) (adds j) G (b.left.new i m)).0 in rw z refl) (λ i. refl) b.right
+  returned_right A j b =
+      removal made theirs mine B F (clears (one_id j)) (λ i m. let z = (zero_parts (names i) (adds j) G (b.left.new i m)).0 in rw z refl)
+      (λ i. refl) b.right
 
   -- a Link comes to one that is not born, and goes back
   pub returned_before : (j : LinkId) → Bond made mine theirs before B F (adds j ∷ G) → Bond made mine theirs before B (F ++ clears (one_id j) ∷ []) G
@@ -251,7 +267,8 @@ module _ (made mine theirs : LinkId → Bool) (B : Seen) (F G : List Tie) where
         let z = b.gone_there eb refl i (will_le i G false _ (λ e. absurd (false≢true e)) h) in omega arith;
   }
     where
-      each : Pair mine theirs before B F (adds j ∷ G) → (i : LinkId) → (c : Bool) → same_link i j ≡ c → (not (same_link i j || false) && will i (has i (entry B)) F) ≡ will i false G
+      each : Pair mine theirs before B F (adds j ∷ G) → (i : LinkId) → (c : Bool) → same_link i j ≡ c
+          → (not (same_link i j || false) && will i (has i (entry B)) F) ≡ will i false G
       each p i true e =
           let t = b.left.token i in
           let d : one_if (same_link i j) ≡ 1 = rw e refl in
@@ -276,7 +293,9 @@ module _ (made mine theirs : LinkId → Bool) (B : Seen) (F G : List Tie) where
   -- a birth that does not link the two
   pub born_alone : Bond made mine theirs before B F G → Bond made mine theirs (here None) B F G
   born_alone b = record {
-    left = less made mine theirs before (here None) G G b.left (λ i h. h) (omega arith) (λ i. omega arith) (λ i. omega arith) (λ e. absurd (false≢true e));
+    left =
+        less made mine theirs before (here None) G G b.left (λ i h. h) (omega arith) (λ i. omega arith) (λ i. omega arith)
+        (λ e. absurd (false≢true e));
     right = b.right;
     whole = λ ea eb. let p = b.whole refl eb in record {
       same = p.same;
@@ -292,7 +311,8 @@ module _ (made mine theirs : LinkId → Bool) (B : Seen) (F G : List Tie) where
   }
 
   -- ids are made for other pairs
-  pub made_elsewhere : (made2 : LinkId → Bool) → ((i : LinkId) → made2 i ≡ false → made i ≡ false) → (A : Seen) → Bond made mine theirs A B F G → Bond made2 mine theirs A B F G
+  pub made_elsewhere : (made2 : LinkId → Bool) → ((i : LinkId) → made2 i ≡ false → made i ≡ false) → (A : Seen)
+      → Bond made mine theirs A B F G → Bond made2 mine theirs A B F G
   made_elsewhere made2 h A b = record {
     left = made_more made mine theirs made2 h A G b.left;
     right = made_more made theirs mine made2 h B F b.right;
@@ -302,7 +322,8 @@ module _ (made mine theirs : LinkId → Bool) (B : Seen) (F G : List Tie) where
   }
 
 -- a birth that links the child, here, and the parent, there, where the parent made no link to it before
-module _ (made mine theirs : LinkId → Bool) (F G : List Tie) (o : Option Ids) (j : LinkId) (fresh : made j ≡ false) (none : (i : LinkId) → theirs i ≡ false) where
+module _ (made mine theirs : LinkId → Bool) (F G : List Tie) (o : Option Ids) (j : LinkId) (fresh : made j ≡ false)
+    (none : (i : LinkId) → theirs i ≡ false) where
   one_bond : Bond made mine theirs before (here o) F G → Bond (plus j made) mine (plus j theirs) (here (Some (one_id j))) (here (Some (one_id j))) F G
   one_bond b = record {
     left = record {
@@ -355,14 +376,18 @@ module _ (made mine theirs : LinkId → Bool) (F G : List Tie) (o : Option Ids) 
           go true e = absurd (not_or (theirs i) (mine i) (none i) (b.left.unborn refl i) (b.right.known i e))
           go false e = e
 
-      each : Pair mine theirs before (here o) F G → (i : LinkId) → (c : Bool) → same_link i j ≡ c → will i (same_link i j || false) F ≡ will i (same_link i j || false) G
+      each : Pair mine theirs before (here o) F G → (i : LinkId) → (c : Bool) → same_link i j ≡ c
+          → will i (same_link i j || false) F ≡ will i (same_link i j || false) G
       each p i true e =
           let m = subst (λ z. made z ≡ false) (sym (same_link_is i j e)) fresh in
           let y = will_unnamed i F true (b.right.new i m) in let z = will_unnamed i G true (b.left.new i m) in rw e (y ∙ sym z)
       each p i false e = let z : will i false F ≡ will i false G = ap (λ c. will i c F) (sym (unheld i)) ∙ p.same i in rw e z
 
-  pub born_linked : Bond made mine theirs before (here o) F G → Bond (plus j made) mine (plus j theirs) (here (Some (one_id j))) (here (Some (entered o j))) F G
-  born_linked b = subst (λ o. Bond (plus j made) mine (plus j theirs) (here (Some (one_id j))) (here (Some (entered o j))) F G) (sym (empty_entry o unheld)) (one_bond b)
+  pub born_linked : Bond made mine theirs before (here o) F G
+      → Bond (plus j made) mine (plus j theirs) (here (Some (one_id j))) (here (Some (entered o j))) F G
+  born_linked b =
+      subst (λ o. Bond (plus j made) mine (plus j theirs) (here (Some (one_id j))) (here (Some (entered o j))) F G)
+      (sym (empty_entry o unheld)) (one_bond b)
     where
       unheld : (i : LinkId) → has i o ≡ false
       unheld i = go (has i o) refl

@@ -91,8 +91,12 @@ module _ (made mine theirs : LinkId → Bool) where
 
   -- a signal comes to a live process
   pub taken : (o : Option Ids) (x : Tie) (G : List Tie) → Side made mine theirs (here o) (x ∷ G) → Side made mine theirs (here (got o x)) G
-  taken o (takes ids) G s = popped (here o) (here (cut_ids o ids)) (takes ids) G s (λ i h. and_last _ _ (got_has i o (takes ids) h)) (mines_cut mine ids o) (λ e. e)
-  taken o (clears ids) G s = popped (here o) (here (got o (clears ids))) (clears ids) G s (λ i h. and_last _ _ (got_has i o (clears ids) h)) (mines_cleared mine _ o) (λ e. e)
+  taken o (takes ids) G s =
+      popped (here o) (here (cut_ids o ids)) (takes ids) G s (λ i h. and_last _ _ (got_has i o (takes ids) h)) (mines_cut mine ids o)
+      (λ e. e)
+  taken o (clears ids) G s =
+      popped (here o) (here (got o (clears ids))) (clears ids) G s (λ i h. and_last _ _ (got_has i o (clears ids) h))
+      (mines_cleared mine _ o) (λ e. e)
   taken o (adds j) G s = record {
     new = λ i m. let a = s.new i m in omega arith;
     own = s.own;
@@ -110,8 +114,11 @@ module _ (made mine theirs : LinkId → Bool) where
       by_case i (inl e) = or_right (mine i) (theirs i) (subst (λ z. theirs z ≡ true) (sym (same_link_is i j e)) from_them.0)
       by_case i (inr e) = s.known i e
 
-      counted : (i : LinkId) → (b : Bool) → same_link i j ≡ b → (c : Bool) → has i (Some (entered o j)) ≡ c → count (is_adds i) G + one_if (has i (Some (entered o j))) ≤ 1
-      counted i true e c f = let t = s.token i in let z : one_if (same_link i j) ≡ 1 = rw e refl in let y = one_if_le (has i (Some (entered o j))) true (λ h. refl) in omega arith
+      counted : (i : LinkId) → (b : Bool) → same_link i j ≡ b → (c : Bool) → has i (Some (entered o j)) ≡ c
+          → count (is_adds i) G + one_if (has i (Some (entered o j))) ≤ 1
+      counted i true e c f =
+          let t = s.token i in let z : one_if (same_link i j) ≡ 1 = rw e refl in
+          let y = one_if_le (has i (Some (entered o j))) true (λ h. refl) in omega arith
       counted i false e true f =
           let t = s.token i in
           let k : (same_link i j || has i o) ≡ true = entered_has i o j f in
@@ -121,7 +128,8 @@ module _ (made mine theirs : LinkId → Bool) where
       counted i false e false f = let t = s.token i in let y : one_if (has i (Some (entered o j))) ≡ 0 = rw f refl in omega arith
 
   -- more ids are made elsewhere
-  pub made_more : (made2 : LinkId → Bool) → ((i : LinkId) → made2 i ≡ false → made i ≡ false) → (A : Seen) (G : List Tie) → Side made mine theirs A G → Side made2 mine theirs A G
+  pub made_more : (made2 : LinkId → Bool) → ((i : LinkId) → made2 i ≡ false → made i ≡ false) → (A : Seen) (G : List Tie)
+      → Side made mine theirs A G → Side made2 mine theirs A G
   made_more made2 h A G s = record {
     new = λ i m. s.new i (h i m);
     own = λ i m. s.own i (h i m);
@@ -133,7 +141,8 @@ module _ (made mine theirs : LinkId → Bool) where
   }
 
   -- the other side sends a removal of ids that were made
-  pub removal : (A : Seen) (G : List Tie) (x : Tie) → ((i : LinkId) → made i ≡ false → names i x ≡ false) → ((i : LinkId) → is_adds i x ≡ false) → Side made mine theirs A G → Side made mine theirs A (G ++ x ∷ [])
+  pub removal : (A : Seen) (G : List Tie) (x : Tie) → ((i : LinkId) → made i ≡ false → names i x ≡ false)
+      → ((i : LinkId) → is_adds i x ≡ false) → Side made mine theirs A G → Side made mine theirs A (G ++ x ∷ [])
   removal A G x old none s = record {
     new = λ i m. let a = s.new i m in let b = count-append (names i) G (x ∷ []) in let c : one_if (names i x) ≡ 0 = rw (old i m) refl in omega arith;
     own = s.own;
@@ -186,9 +195,12 @@ module _ (made mine theirs : LinkId → Bool) where
         counted i false e = let t = s.token i in let y : one_if (same_link i j || false) ≡ 0 = rw e refl in omega arith
 
     -- the other side says a Link
-    pub said_theirs : (A : Seen) (G : List Tie) → theirs j ≡ false → Side made mine theirs A G → Side (plus j made) mine (plus j theirs) A (G ++ adds j ∷ [])
+    pub said_theirs : (A : Seen) (G : List Tie) → theirs j ≡ false → Side made mine theirs A G
+        → Side (plus j made) mine (plus j theirs) A (G ++ adds j ∷ [])
     said_theirs A G unmade s = record {
-      new = λ i m. let q = older i m in let a = s.new i q.0 in let b = count-append (names i) G (adds j ∷ []) in let c : one_if (same_link i j) ≡ 0 = rw q.1 refl in omega arith;
+      new =
+          λ i m. let q = older i m in let a = s.new i q.0 in let b = count-append (names i) G (adds j ∷ []) in
+          let c : one_if (same_link i j) ≡ 0 = rw q.1 refl in omega arith;
       own = λ i m. s.own i (older i m).0;
       known = λ i h. widened (mine i) (theirs i) (same_link i j) (s.known i h);
       tied = λ i h. joined i h (same_link i j) refl;
@@ -208,7 +220,8 @@ module _ (made mine theirs : LinkId → Bool) where
         theirs_not : (i : LinkId) → same_link i j ≡ true → theirs i ≡ false
         theirs_not i e = subst (λ z. theirs z ≡ false) (sym (same_link_is i j e)) unmade
 
-        joined : (i : LinkId) → 1 ≤ count (is_adds i) (G ++ adds j ∷ []) → (b : Bool) → same_link i j ≡ b → (plus j theirs i ≡ true) × (mine i ≡ false)
+        joined : (i : LinkId) → 1 ≤ count (is_adds i) (G ++ adds j ∷ []) → (b : Bool) → same_link i j ≡ b
+            → (plus j theirs i ≡ true) × (mine i ≡ false)
         joined i h true e = (rw e refl, mine_not i e)
         joined i h false e =
             let b = count-append (is_adds i) G (adds j ∷ []) in let c : one_if (same_link i j) ≡ 0 = rw e refl in
@@ -220,7 +233,9 @@ module _ (made mine theirs : LinkId → Bool) where
             let a = s.new i (subst (λ z. made z ≡ false) (sym (same_link_is i j e)) fresh) in let d = adds_named i G in
             held (has i (entry A)) refl a b c d
           where
-            held : (c : Bool) → has i (entry A) ≡ c → count (names i) G ≡ 0 → count (is_adds i) (G ++ adds j ∷ []) ≡ count (is_adds i) G + (one_if (same_link i j) + 0) → one_if (same_link i j) ≡ 1 → count (is_adds i) G ≤ count (names i) G → count (is_adds i) (G ++ adds j ∷ []) + one_if (has i (entry A)) ≤ 1
+            held : (c : Bool) → has i (entry A) ≡ c → count (names i) G ≡ 0
+                → count (is_adds i) (G ++ adds j ∷ []) ≡ count (is_adds i) G + (one_if (same_link i j) + 0) → one_if (same_link i j) ≡ 1
+                → count (is_adds i) G ≤ count (names i) G → count (is_adds i) (G ++ adds j ∷ []) + one_if (has i (entry A)) ≤ 1
             held true f a b c d = absurd (not_or (mine i) (theirs i) (mine_not i e) (theirs_not i e) (s.known i f))
             held false f a b c d = let y : one_if (has i (entry A)) ≡ 0 = rw f refl in omega arith
         counted i false e =

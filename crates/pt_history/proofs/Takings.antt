@@ -51,7 +51,8 @@ or_swap true false = refl
 or_swap false true = refl
 or_swap false false = refl
 
-room_two : (i one : LinkId) (two : Option LinkId) (j : LinkId) → is_two two ≡ false → has i (Some (add_id (record { one = one; two = two }) j)) ≡ (same_link i j || has i (Some (record { one = one; two = two })))
+room_two : (i one : LinkId) (two : Option LinkId) (j : LinkId) → is_two two ≡ false
+    → has i (Some (add_id (record { one = one; two = two }) j)) ≡ (same_link i j || has i (Some (record { one = one; two = two })))
 room_two i one None j h = or_swap (same_link i one) (same_link i j)
 room_two i one (Some k) j h = absurd (true≢false h)
 
@@ -59,7 +60,8 @@ pub has_entered : (i : LinkId) (o : Option Ids) (j : LinkId) → full o ≡ fals
 has_entered i None j h = refl
 has_entered i (Some ids) j h = room_two i ids.one ids.two j h
 
-le_two : (i one : LinkId) (two : Option LinkId) (j : LinkId) → has i (Some (add_id (record { one = one; two = two }) j)) ≡ true → (same_link i j || has i (Some (record { one = one; two = two }))) ≡ true
+le_two : (i one : LinkId) (two : Option LinkId) (j : LinkId) → has i (Some (add_id (record { one = one; two = two }) j)) ≡ true
+    → (same_link i j || has i (Some (record { one = one; two = two }))) ≡ true
 le_two i one None j h = sym (or_swap (same_link i one) (same_link i j)) ∙ h
 le_two i one (Some k) j h = or_right (same_link i j) _ h
 
@@ -72,8 +74,11 @@ entered_has i (Some ids) j h = le_two i ids.one ids.two j h
 pub has_cut : (i : LinkId) (ids : Ids) (o : Option Ids) → has i (cut_ids o ids) ≡ (not (has_id ids i) && has i o)
 has_cut i ids o = go (has_id ids i) (has i o) refl refl (count_cut i ids o)
   where
-    go : (b c : Bool) → has_id ids i ≡ b → has i o ≡ c → count (same_link i) (held_ids (cut_ids o ids)) ≡ cond (has_id ids i) 0 (count (same_link i) (held_ids o)) → has i (cut_ids o ids) ≡ (not (has_id ids i) && has i o)
-    go true c e f k = let z : count (same_link i) (held_ids (cut_ids o ids)) ≡ 0 = rw e at k in rw e (not_has (same_link i) (held_ids (cut_ids o ids)) z)
+    go : (b c : Bool) → has_id ids i ≡ b → has i o ≡ c
+        → count (same_link i) (held_ids (cut_ids o ids)) ≡ cond (has_id ids i) 0 (count (same_link i) (held_ids o))
+        → has i (cut_ids o ids) ≡ (not (has_id ids i) && has i o)
+    go true c e f k =
+        let z : count (same_link i) (held_ids (cut_ids o ids)) ≡ 0 = rw e at k in rw e (not_has (same_link i) (held_ids (cut_ids o ids)) z)
     go false true e f k =
         let z : count (same_link i) (held_ids (cut_ids o ids)) ≡ count (same_link i) (held_ids o) = rw e at k in
         let y = has_count (same_link i) (held_ids o) f in
@@ -94,7 +99,8 @@ cleared_has i ids o h = go (holds_any o ids) refl h
         named true f = let k = not_shared i ids o e f in let y = has_count (same_link i) (held_ids o) h in absurd (omega arith)
         named false f = rw f h
 
-one_clears : (i : LinkId) (ids : Ids) (one : LinkId) → holds_any (Some (one_id one)) ids ≡ true → (not (has_id ids i) && has i (Some (one_id one))) ≡ false
+one_clears : (i : LinkId) (ids : Ids) (one : LinkId) → holds_any (Some (one_id one)) ids ≡ true
+    → (not (has_id ids i) && has i (Some (one_id one))) ≡ false
 one_clears i ids one h = go (same_link i one) refl
   where
     held_one : (c : Bool) → has_id ids one ≡ c → has_id ids one ≡ true
@@ -105,7 +111,9 @@ one_clears i ids one h = go (same_link i one) refl
     go true e = let k : has_id ids i ≡ true = subst (λ z. has_id ids z ≡ true) (sym (same_link_is i one e)) (held_one _ refl) in rw k refl
     go false e = rw e (and_right (not (has_id ids i)) false refl)
 
-two_clears : (i : LinkId) (ids : Ids) (one : LinkId) (two : Option LinkId) → is_two two ≡ false → holds_any (Some (record { one = one; two = two })) ids ≡ true → (not (has_id ids i) && has i (Some (record { one = one; two = two }))) ≡ false
+two_clears : (i : LinkId) (ids : Ids) (one : LinkId) (two : Option LinkId) → is_two two ≡ false
+    → holds_any (Some (record { one = one; two = two })) ids ≡ true
+    → (not (has_id ids i) && has i (Some (record { one = one; two = two }))) ≡ false
 two_clears i ids one None f h = one_clears i ids one h
 two_clears i ids one (Some k) f h = absurd (true≢false f)
 
@@ -137,7 +145,8 @@ full_cut_one ids one = go (has_id ids one)
     go true = refl
     go false = refl
 
-full_cut_two : (ids : Ids) (one : LinkId) (two : Option LinkId) → is_two two ≡ false → full (without_ids ids (record { one = one; two = two })) ≡ false
+full_cut_two : (ids : Ids) (one : LinkId) (two : Option LinkId) → is_two two ≡ false
+    → full (without_ids ids (record { one = one; two = two })) ≡ false
 full_cut_two ids one None f = full_cut_one ids one
 full_cut_two ids one (Some k) f = absurd (true≢false f)
 
@@ -153,7 +162,8 @@ module _ (mine : LinkId → Bool) where
   abbrev pub mines : Option Ids → ℕ
   mines o = count mine (held_ids o)
 
-  entered_two : (one : LinkId) (two : Option LinkId) (j : LinkId) → mines (Some (add_id (record { one = one; two = two }) j)) ≤ mines (Some (record { one = one; two = two })) + one_if (mine j)
+  entered_two : (one : LinkId) (two : Option LinkId) (j : LinkId)
+      → mines (Some (add_id (record { one = one; two = two }) j)) ≤ mines (Some (record { one = one; two = two })) + one_if (mine j)
   entered_two one None j = omega arith
   entered_two one (Some k) j = omega arith
 
@@ -161,7 +171,9 @@ module _ (mine : LinkId → Bool) where
   mines_entered None j = omega arith
   mines_entered (Some ids) j = entered_two ids.one ids.two j
 
-  cut_both : (ids : Ids) (one two : LinkId) → (b c : Bool) → mines (ids_of (cond (not b) (one ∷ cond (not c) (two ∷ []) []) (cond (not c) (two ∷ []) []))) ≤ one_if (mine one) + (one_if (mine two) + 0)
+  cut_both : (ids : Ids) (one two : LinkId) → (b c : Bool)
+      → mines (ids_of (cond (not b) (one ∷ cond (not c) (two ∷ []) []) (cond (not c) (two ∷ []) [])))
+      ≤ one_if (mine one) + (one_if (mine two) + 0)
   cut_both ids one two true true = omega arith
   cut_both ids one two true false = omega arith
   cut_both ids one two false true = omega arith
@@ -171,7 +183,8 @@ module _ (mine : LinkId → Bool) where
   cut_one ids one true = omega arith
   cut_one ids one false = omega arith
 
-  cut_two : (ids : Ids) (one : LinkId) (two : Option LinkId) → mines (without_ids ids (record { one = one; two = two })) ≤ mines (Some (record { one = one; two = two }))
+  cut_two : (ids : Ids) (one : LinkId) (two : Option LinkId)
+      → mines (without_ids ids (record { one = one; two = two })) ≤ mines (Some (record { one = one; two = two }))
   cut_two ids one None = cut_one ids one (has_id ids one)
   cut_two ids one (Some two) = cut_both ids one two (has_id ids one) (has_id ids two)
 
@@ -183,7 +196,8 @@ module _ (mine : LinkId → Bool) where
   mines_cleared true o = omega arith
   mines_cleared false o = omega arith
 
-  full_two : (one : LinkId) (two : Option LinkId) → ((i : LinkId) → has i (Some (record { one = one; two = two })) ≡ true → mine i ≡ true) → mines (Some (record { one = one; two = two })) ≤ 1 → is_two two ≡ false
+  full_two : (one : LinkId) (two : Option LinkId) → ((i : LinkId) → has i (Some (record { one = one; two = two })) ≡ true → mine i ≡ true)
+      → mines (Some (record { one = one; two = two })) ≤ 1 → is_two two ≡ false
   full_two one None h k = refl
   full_two one (Some two) h k =
       let a = h one (or_left (same_link one one) _ (same_link_refl one)) in
@@ -199,7 +213,8 @@ module _ (mine : LinkId → Bool) where
 -- an entry has an id
 pub empty_entry : (o : Option Ids) → ((i : LinkId) → has i o ≡ false) → o ≡ None
 empty_entry None h = refl
-empty_entry (Some e) h = let k : has e.one (Some e) ≡ true = or_left (same_link e.one e.one) _ (same_link_refl e.one) in absurd (both_ways _ (h e.one) k)
+empty_entry (Some e) h =
+    let k : has e.one (Some e) ≡ true = or_left (same_link e.one e.one) _ (same_link_refl e.one) in absurd (both_ways _ (h e.one) k)
 
 -- all ids leave
 pub cut_all : (ids : Ids) → cut_ids (Some ids) ids ≡ None

@@ -151,7 +151,8 @@ front-append (y ∷ xs) x h k = (behind y refl, front-append xs x h.1 (λ e j. (
         let a = count-append is_clears xs (x ∷ []) in let b = h.0 f in
         go (is_clears x) refl a b
       where
-        go : (c : Bool) → is_clears x ≡ c → count is_clears (xs ++ x ∷ []) ≡ count is_clears xs + (one_if (is_clears x) + 0) → count is_clears xs ≡ 0 → count is_clears (xs ++ x ∷ []) ≡ 0
+        go : (c : Bool) → is_clears x ≡ c → count is_clears (xs ++ x ∷ []) ≡ count is_clears xs + (one_if (is_clears x) + 0)
+            → count is_clears xs ≡ 0 → count is_clears (xs ++ x ∷ []) ≡ 0
         go true g a b =
             let z = (zero_parts (is_adds j) y xs (k g j)).0 in
             let v : is_adds j y ≡ true = rw e (same_link_refl j) in absurd (both_ways _ z v)
