@@ -1,7 +1,6 @@
 -- One side of a link: the entry of a pid for another, and the signals on their way to it.
-use Rattle.std.proofs.Common.{◌≡◌, ◌+◌, ◌≤◌, Bool, true, false, ◌&&◌, ◌||◌, List, [], ◌∷◌, ◌++◌, Option, Some, None, refl, sym, subst, arith}
+use Rattle.std.proofs.Common.{◌≡◌, ◌+◌, ◌≤◌, Bool, true, false, ◌&&◌, ◌||◌, ◌⊎◌, inl, inr, List, [], ◌∷◌, ◌++◌, Option, Some, None, refl, sym, subst, arith}
 use Rattle.std.proofs.lemmas.Bool.{false≢true, both_ways, or_parts, or_left, or_right, or_cases, and_parts}
-use Rattle.std.proofs.Common.{◌⊎◌, inl, inr}
 use Rattle.pt_signal.specs.declared.ids.Ids.{Ids}
 use Rattle.pt_signal.specs.declared.ids.LinkId.{LinkId}
 use Rattle.pt_signal.specs.Values.{same_link}

@@ -7,9 +7,9 @@ ghost use Rattle.pt_history.specs.EarlyLinks.{EarlyLinkUnknown, EarlyLinkAbroad}
 /// process lives, the two hold the same link ids with each other; where it has ended or was never born, the live
 /// one holds none. So a live process is linked to no dead one, and to no live one that does not know of it.
 ///
-/// It holds of every legal history in which each linked spawn found that the parent had not said `Link` to the
-/// child's pid before (`merge_links` for where that holds). Who is at which end of a link, and which calls of
-/// `link` and `unlink` crossed on the way, plays no part.
+/// It holds of every legal history that begins with no process and in which each linked spawn found that the parent
+/// had not said `Link` to the child's pid before (`known_born_free` and `merge_known` say where). Which of the two
+/// made a link, and which calls of `link` and `unlink` crossed on the way, plays no part.
 pub fn quiet_links()
     ensures { QuietLinks }
 {}
@@ -29,14 +29,15 @@ pub fn merge_known()
 
 /// In the merge of the desks' journals, where what each desk got is a front of what the others posted to it and
 /// nothing is on its way any more, a live process holds the same link ids with each other live process as that
-/// one holds with it, and none with a process that is not alive. Nothing is asked of linked spawns here.
+/// one holds with it, and none with a process that is not alive. Nothing is asked of linked spawns here, since no
+/// journal has one that would break it.
 pub fn merge_links()
     ensures { MergeLinks }
 {}
 
-/// The same holds of a quiet history that goes on from the state of an earlier quiet one with link ids and
-/// references of its own: links that were made before the resumption and links that were made after it stand at
-/// both ends or at neither.
+/// The same holds of a quiet history that goes on from the state that an earlier quiet one left, with link ids and
+/// references of its own, where both keep the two rules of `known_born_free`: links that were made before the
+/// resumption and links that were made after it stand at both ends or at neither.
 pub fn resumed_links()
     ensures { ResumedLinks }
 {}
