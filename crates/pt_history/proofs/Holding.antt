@@ -1,5 +1,5 @@
 -- What one receipt does to the ids that are held with a pid.
-use Rattle.std.proofs.Common.{◌≡◌, ℕ, ◌+◌, Bool, true, false, cond, not, ◌&&◌, List, [], ◌∷◌, Option, Some, None, filter, refl, sym, ap, ◌∙◌, subst, arith}
+use Rattle.std.proofs.Common.{◌≡◌, ℕ, ◌+◌, Bool, true, false, cond, not, List, [], ◌∷◌, Option, Some, None, filter, refl, sym, ap, ◌∙◌, subst, arith}
 use Rattle.std.specs.Map.{lookup, remove_entry}
 use Rattle.std.proofs.lemmas.Bool.{both_ways, or_parts}
 use Rattle.std.specs.List.{list_any}
@@ -11,19 +11,15 @@ use Rattle.pt_signal.specs.declared.reason.Reason.{Reason}
 use Rattle.pt_signal.specs.declared.signal.Signal.{Signal}
 use Rattle.pt_signal.specs.declared.signal.Signal.TheVariants.{Message, Link, Unlink, LinkExit, Monitor, Demonitor}
 use Rattle.pt_signal.specs.Values.{same_pid, same_ref, same_link}
-use Rattle.pt_signal.specs.Process.{ProcessState, Verdict, drops, queues, ends, verdict, obey, holds_any, has_id, id_list, ids_of, add_id, without_ids, held, link_exit, down, handle}
+use Rattle.pt_signal.specs.Process.{ProcessState, Verdict, drops, queues, ends, verdict, obey, holds_any, has_id, id_list, ids_of, without_ids, held, link_exit, down, handle}
 use Rattle.pt_history.specs.Load.{one_if}
 use Rattle.pt_history.specs.Watch.{count}
 use Rattle.pt_signal.proofs.Same.{same_link_is}
-use Rattle.pt_history.proofs.Entries.{Keyed, entered, cut_ids, held-enter, held-enter-other, held-cut, held-cut-other, held-removed, held-removed-other}
+use Rattle.pt_history.proofs.Entries.{Keyed, cut_ids, held-enter-other, held-cut-other, held-removed, held-removed-other}
 
 abbrev pub held_ids : Option Ids → List LinkId
 held_ids None = []
 held_ids (Some ids) = id_list ids
-
--- how often l is held with q
-abbrev pub holds : LinkId → List (Pid × Ids) → Pid → ℕ
-holds l links q = count (same_link l) (held_ids (held links q))
 
 abbrev pub is_two : Option LinkId → Bool
 is_two None = false
@@ -34,15 +30,6 @@ full None = false
 full (Some ids) = is_two ids.two
 
 module _ (l : LinkId) where
-  count_added : (one : LinkId) (two : Option LinkId) (i : LinkId)
-      → count (same_link l) (id_list (add_id (record { one = one; two = two }) i)) + one_if (is_two two && same_link l i) ≡ count (same_link l) (id_list (record { one = one; two = two })) + one_if (same_link l i)
-  count_added one None i = omega arith
-  count_added one (Some j) i = omega arith
-
-  pub count_entered : (o : Option Ids) (i : LinkId) → count (same_link l) (id_list (entered o i)) + one_if (full o && same_link l i) ≡ count (same_link l) (held_ids o) + one_if (same_link l i)
-  count_entered None i = omega arith
-  count_entered (Some ids) i = count_added ids.one ids.two i
-
   -- the ids that stay
   one_stays : (named : Ids) (i : LinkId) → (c : Bool) → has_id named i ≡ c → (b : Bool) → same_link l i ≡ b
       → count (same_link l) (cond (not (has_id named i)) (i ∷ []) []) ≡ cond (has_id named l) 0 (one_if (same_link l i) + 0)
@@ -115,13 +102,13 @@ module _ (l : LinkId) where
 
 -- a receipt at a live process ------------------------------------------------------------------------
 
-module _ (l : LinkId) (q : Pid) where
-  obey_links : (v : Verdict) (s : ProcessState) → (obey v s).state.links ≡ s.links
+module _ (q : Pid) where
+  pub obey_links : (v : Verdict) (s : ProcessState) → (obey v s).state.links ≡ s.links
   obey_links drops s = refl
   obey_links (queues i) s = refl
   obey_links (ends r) s = refl
 
-  down_links : (o : Option Pid) (s : ProcessState) (from : Pid) (n : Ref) (r : Reason) → (down o s from n r).state.links ≡ s.links
+  pub down_links : (o : Option Pid) (s : ProcessState) (from : Pid) (n : Ref) (r : Reason) → (down o s from n r).state.links ≡ s.links
   down_links None s from n r = refl
   down_links (Some b) s from n r = refl
 
@@ -140,13 +127,7 @@ module _ (l : LinkId) (q : Pid) where
   other_holds me s a (Demonitor m) n = refl
   other_holds me s a (Signal.Down m r) n = ap (λ z. held z q) (down_links (lookup (same_ref m) s.watching) s a m r)
 
-  -- from q: a Link enters, an Unlink takes the named out, a LinkExit that shares an id takes all out
-  pub link_holds : (me : Pid) (s : ProcessState) (i : LinkId) → holds l (handle me s q (Link i)).state.links q + one_if (full (held s.links q) && same_link l i) ≡ holds l s.links q + one_if (same_link l i)
-  link_holds me s i = let h = ap (λ o. count (same_link l) (held_ids o)) (held-enter q i s.links) in let c = count_entered l (held s.links q) i in omega arith
-
-  pub unlink_holds : (me : Pid) (s : ProcessState) (ids : Ids) → Keyed s.links → holds l (handle me s q (Unlink ids)).state.links q ≡ cond (has_id ids l) 0 (holds l s.links q)
-  unlink_holds me s ids k = ap (λ o. count (same_link l) (held_ids o)) (held-cut q ids s.links k) ∙ count_cut l ids (held s.links q)
-
+  -- from q: an exit signal that shares an id takes all out
   pub exit_holds : (me : Pid) (s : ProcessState) (ids : Ids) (r : Reason) → Keyed s.links → held (handle me s q (LinkExit ids r)).state.links q ≡ cond (holds_any (held s.links q) ids) None (held s.links q)
   exit_holds me s ids r k = go (holds_any (held s.links q) ids)
     where

@@ -32,3 +32,11 @@ pub mod Judge
 pub mod Entries
 pub mod Settled
 pub mod Holding
+pub mod Ties
+pub mod Takings
+pub mod Sides
+pub mod Bonds
+pub mod Between
+pub mod Linked
+pub mod Agreed
+pub mod EarlyLinks

@@ -29,10 +29,10 @@ module _ (start : Start) (low top : ℕ) where
   abbrev pub AllLocal : List Stamped → Type 0
   AllLocal merged = (d : ℕ) → IsLocal start low top d (of_desk d merged)
 
-  head_local : (s : Stamped) (merged : List Stamped) → AllLocal (s ∷ merged) → IsNext start low top s.desk (of_desk s.desk merged) s
+  pub head_local : (s : Stamped) (merged : List Stamped) → AllLocal (s ∷ merged) → IsNext start low top s.desk (of_desk s.desk merged) s
   head_local s merged h = (subst (λ c. IsLocal start low top s.desk (cond c (s ∷ of_desk s.desk merged) (of_desk s.desk merged))) (eq-eqb s.desk s.desk refl) (h s.desk)).0
 
-  tail_local : (s : Stamped) (merged : List Stamped) → AllLocal (s ∷ merged) → AllLocal merged
+  pub tail_local : (s : Stamped) (merged : List Stamped) → AllLocal (s ∷ merged) → AllLocal merged
   tail_local s merged h d = go (s.desk == d) refl (h d)
     where
       go : (b : Bool) → (s.desk == d) ≡ b → IsLocal start low top d (of_desk d (s ∷ merged)) → IsLocal start low top d (of_desk d merged)

@@ -16,3 +16,6 @@ pub mod MonitorLaws
 pub mod LoadLaws
 pub mod Words
 pub mod Examples
+pub mod Links
+pub mod EarlyLinks
+pub mod LinkLaws

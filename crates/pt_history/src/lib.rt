@@ -9,6 +9,7 @@ mod cause;
 mod event;
 mod journal;
 pub mod laws;
+pub mod links;
 
 pub use cause::Cause;
 pub use event::{Event, Stamped};
