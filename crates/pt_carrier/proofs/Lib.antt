@@ -1,0 +1,5 @@
+pub mod Lists
+pub mod Places
+pub mod Making
+pub mod Meeting
+pub mod Rooms

@@ -1,0 +1,83 @@
+-- All ends of one desk. Each list has an entry for each desk of the node, in order.
+use Rattle.std.specs.Prelude.{◌≡◌, ℕ, ◌+◌, ◌%◌, ◌<◌, ◌≤◌, List, [], ◌∷◌, ◌++◌, length, map, slice_index_or, slice_set}
+use mathlib.Core.List.{IsPrefix}
+use Rattle.pt_signal.specs.declared.letter.Letter.{Letter}
+use Rattle.pt_carrier.specs.Lanes.{Ring, Sending, Receiving}
+
+-- where a desk's sending or receiving ends stand: the desk's number, and the ring of the lane to or from
+-- each desk. No call changes it
+pub record Place : Type 0 where
+  pub number : ℕ
+  pub rings : List Ring
+
+-- the ends that send: what was posted to each desk, the capacity of the lane, and how many of the
+-- letters posted there are known to be collected
+pub record OutEnds : Type 0 where
+  pub place : Place
+  pub posted : List (List Letter)
+  pub capacity : List ℕ
+  pub seen : List ℕ
+
+-- the ends that receive: from which desk's lane the next look begins, what was collected from each
+-- desk, and the letters from it that are known to wait, oldest first
+pub record InEnds : Type 0 where
+  pub place : Place
+  pub cursor : ℕ
+  pub collected : List (List Letter)
+  pub known : List (List Letter)
+
+abbrev pub out_ends : ℕ → List Sending → OutEnds
+out_ends number lanes = record {
+  place = record { number = number; rings = map (λ (s : Sending). s.ring) lanes };
+  posted = map (λ (s : Sending). s.posted) lanes;
+  capacity = map (λ (s : Sending). s.capacity) lanes;
+  seen = map (λ (s : Sending). s.seen) lanes;
+}
+
+abbrev pub in_ends : ℕ → ℕ → List Receiving → InEnds
+in_ends number cursor lanes = record {
+  place = record { number = number; rings = map (λ (s : Receiving). s.ring) lanes };
+  cursor = cursor;
+  collected = map (λ (s : Receiving). s.collected) lanes;
+  known = map (λ (s : Receiving). s.known) lanes;
+}
+
+-- the lanes go out from one desk, in order of desk
+abbrev pub GoOutFrom : ℕ → List Sending → Type 0
+GoOutFrom number lanes = (k : ℕ) (d : Sending) → k < length lanes → ((slice_index_or lanes k d).from ≡ number) × ((slice_index_or lanes k d).to ≡ k)
+
+-- the lanes come in to one desk, in order of desk
+abbrev pub ComeInTo : ℕ → List Receiving → Type 0
+ComeInTo number lanes = (k : ℕ) (d : Receiving) → k < length lanes → ((slice_index_or lanes k d).from ≡ k) × ((slice_index_or lanes k d).to ≡ number)
+
+-- the list for desk k gets one more letter at its end
+abbrev pub one_more : List (List Letter) → ℕ → Letter → List (List Letter)
+one_more lists k letter = slice_set lists k (slice_index_or lists k [] ++ letter ∷ [])
+
+-- the letters posted to desk k less those known to be collected number the capacity of the lane
+abbrev pub IsFull : OutEnds → ℕ → Type 0
+IsFull o k = length (slice_index_or o.posted k []) ≡ slice_index_or o.capacity k 0 + slice_index_or o.seen k 0
+
+-- the lane to desk k may have been looked at, and no other
+pub record LooksAt (old new : OutEnds) (k : ℕ) : Type 0 where
+  pub more : slice_index_or old.seen k 0 ≤ slice_index_or new.seen k 0
+  pub others : new.seen ≡ slice_set old.seen k (slice_index_or new.seen k 0)
+
+-- one letter is collected from desk k, and the next look begins at the desk after it
+pub record Collects (old new : InEnds) (k : ℕ) (letter : Letter) : Type 0 where
+  pub from_desk : k < length old.place.rings
+  pub collected : new.collected ≡ one_more old.collected k letter
+  pub cursor : new.cursor ≡ (k + 1) % length old.place.rings
+  pub from_there : letter.from.shard ≡ k
+  pub to_here : letter.to.shard ≡ old.place.number
+  -- it is the oldest that was known to wait in that lane, if any was
+  pub oldest : IsPrefix (slice_index_or old.known k []) (letter ∷ slice_index_or new.known k [])
+
+-- no letter shows in the lanes from desk `low` up to below desk `high`: none was known before, and none is now
+abbrev pub ShowNone : InEnds → InEnds → ℕ → ℕ → Type 0
+ShowNone old new low high = (k : ℕ) → low ≤ k → k < high → (slice_index_or old.known k [] ≡ []) × (slice_index_or new.known k [] ≡ [])
+
+-- from the cursor upwards and round, no lane before that of desk k shows a letter
+pub record IsFirst (old new : InEnds) (k : ℕ) : Type 0 where
+  pub above : old.cursor ≤ k → ShowNone old new old.cursor k
+  pub around : k < old.cursor → ShowNone old new old.cursor (length old.place.rings) × ShowNone old new 0 k

@@ -1,0 +1,55 @@
+-- The two ends of one lane.
+use Rattle.std.specs.Prelude.{ℕ, List, []}
+use denote.RawPtr.{Ptr}
+use Rattle.pt_signal.specs.declared.letter.Letter.{Letter}
+use Rattle.pt_carrier.specs.declared.parcel.Parcel.{Parcel}
+use Rattle.rtrb.specs.declared.producer.Producer.{Producer}
+use Rattle.rtrb.specs.declared.consumer.Consumer.{Consumer}
+
+-- which ring a lane is: its memory and its names, the same at both ends
+pub record Ring : Type 0 where
+  pub words : Ptr
+  pub slots : Ptr
+  pub names : ℕ × (ℕ × ℕ)
+
+-- the end that sends: the lane's ring and desks, all letters posted so far with the oldest first,
+-- the lane's capacity, and how many of those letters this end knows to be collected
+pub record Sending : Type 0 where
+  pub ring : Ring
+  pub from : ℕ
+  pub to : ℕ
+  pub posted : List Letter
+  pub capacity : ℕ
+  pub seen : ℕ
+
+-- the end that receives: the lane's ring and desks, all letters collected so far with the oldest first,
+-- and those that this end knows to wait, oldest first
+pub record Receiving : Type 0 where
+  pub ring : Ring
+  pub from : ℕ
+  pub to : ℕ
+  pub collected : List Letter
+  pub known : List Letter
+
+module _ {T A P : Type 0} where
+  abbrev pub sending_ring : Producer T A P → Ring
+  sending_ring p = record { words = p.end.words; slots = p.end.slots; names = p.end.names }
+
+  abbrev pub receiving_ring : Consumer T A P → Ring
+  receiving_ring c = record { words = c.end.words; slots = c.end.slots; names = c.end.names }
+
+-- the letter that a lane between these desks keeps as this parcel
+abbrev pub unpacked : ℕ → ℕ → Parcel → Letter
+unpacked from to p = record {
+  from = record { shard = from; slot = p.from_slot; version = p.from_version };
+  to = record { shard = to; slot = p.to_slot; version = p.to_version };
+  signal = p.signal;
+  stamp = p.stamp;
+}
+
+-- the ends of a new lane
+abbrev pub new_sending : Ring → ℕ → ℕ → ℕ → Sending
+new_sending ring from to capacity = record { ring = ring; from = from; to = to; posted = []; capacity = capacity; seen = 0 }
+
+abbrev pub new_receiving : Ring → ℕ → ℕ → Receiving
+new_receiving ring from to = record { ring = ring; from = from; to = to; collected = []; known = [] }

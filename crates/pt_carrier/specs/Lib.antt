@@ -1,0 +1,5 @@
+pub mod Lanes
+pub mod Ends
+pub mod Node
+pub mod Opening
+pub mod Reunion

@@ -1,0 +1,206 @@
+// The ends of one desk.
+ghost use Rattle.std.specs.Prelude.{◌≡◌, ◌≢◌, ℕ, ◌⊎◌, ◌+◌, ◌*◌, ◌-◌, ◌^◌, ◌<◌, ◌≤◌, min, length, [], IsOk, OnOk, IfErr, IfSome, IfNone, slice_index_or};
+ghost use Rattle.pt_carrier.specs.declared.ends.TheConstants.{MAX_DESKS};
+ghost use Rattle.pt_carrier.specs.Ends.{OutEnds, InEnds, out_ends, in_ends, GoOutFrom, ComeInTo, one_more, IsFull, LooksAt, Collects, ShowNone, IsFirst};
+ghost use Rattle.pt_carrier.specs.Node.{lists};
+ghost use Rattle.pt_carrier.specs.Reunion.{out_kept, in_kept, Meets, IsWhole, HasRoom, room_at};
+
+use crate::lane::{InLane, OutLane};
+use pt_signal::Letter;
+use std::marker::Model;
+
+/// The most desks that a node may have.
+pub const MAX_DESKS: u8 = 64;
+
+/// The ends of a desk's lanes by which it posts, one to each desk.
+///
+/// They cannot be dropped: [`reunite`](crate::reunite) takes them.
+pub struct Outs {
+    number: u8,
+    lanes: Vec<OutLane>,
+}
+
+impl Model for Outs {
+    ghost Value = { OutEnds };
+
+    ghost view = { λ o. out_ends o.number o.lanes.items };
+
+    ghost invariant = { λ o. (o.number < length o.lanes.items) × (length o.lanes.items ≤ MAX_DESKS) × GoOutFrom o.number o.lanes.items };
+}
+
+/// The ends of a desk's lanes by which it collects, one from each desk.
+///
+/// They cannot be dropped: [`reunite`](crate::reunite) takes them.
+pub struct Ins {
+    number: u8,
+    cursor: u8,
+    lanes: Vec<InLane>,
+}
+
+impl Model for Ins {
+    ghost Value = { InEnds };
+
+    ghost view = { λ i. in_ends i.number i.cursor i.lanes.items };
+
+    ghost invariant = { λ i. (i.number < length i.lanes.items) × (length i.lanes.items ≤ MAX_DESKS) × (i.cursor < length i.lanes.items) × ComeInTo i.number i.lanes.items };
+}
+
+/// A letter that its lane has no place for.
+#[derive(Clone, Copy, Debug)]
+pub struct Refused {
+    /// The letter, as it was to be posted.
+    pub letter: Letter,
+}
+
+impl Outs {
+    pub(crate) fn new(number: u8, lanes: Vec<OutLane>) -> Outs
+        requires { (number < length lanes.items) × (length lanes.items ≤ MAX_DESKS) × GoOutFrom number lanes.items }
+        ensures { result ≡ out_ends number lanes.items }
+    {
+        Outs { number, lanes }
+    }
+
+    /// Posts a letter from a process of this desk to one of desk `to`.
+    ///
+    /// The letter goes behind all that were posted there before. It is handed back, and nothing is posted, only
+    /// where the lane is full: the letters posted to that desk, less those that this end knows to be collected,
+    /// number the capacity, after it has looked again. Takes no memory and waits for nobody.
+    pub fn post(&mut self, to: u8, letter: Letter) -> Result<(), Refused>
+        requires to { to < length self.old.place.rings }
+        requires from_here { letter.from.shard ≡ self.old.place.number }
+        requires to_there { letter.to.shard ≡ to }
+        ensures place { self.new.place ≡ self.old.place }
+        ensures ok { OnOk result (self.new.posted ≡ one_more self.old.posted to letter) }
+        ensures full { IfErr result (λ e. (e.letter ≡ letter) × (self.new.posted ≡ self.old.posted) × IsFull self.new to) }
+        ensures room { length (slice_index_or self.old.posted to []) < slice_index_or self.old.capacity to 0 + slice_index_or self.old.seen to 0 → IsOk result }
+        ensures capacity { self.new.capacity ≡ self.old.capacity }
+        ensures looks { LooksAt self.old self.new to }
+    {
+        match self.lanes[usize::from(to)].post(letter) {
+            Ok(()) => Ok(()),
+            Err(letter) => Err(Refused { letter }),
+        }
+    }
+
+    /// How many letters were posted to desk `to`, staying at `u64::MAX` once it is reached.
+    pub fn posted(&self, to: u8) -> u64
+        requires { to < length self.now.place.rings }
+        ensures { result ≡ min (length (slice_index_or self.now.posted to [])) (2 ^ 64 - 1) }
+    {
+        self.lanes[usize::from(to)].posted()
+    }
+
+    // Gives up the ends.
+    pub(crate) fn close(self) {
+        let Outs {
+            number: _,
+            lanes: _,
+        } = self;
+    }
+}
+
+impl Ins {
+    pub(crate) fn new(number: u8, lanes: Vec<InLane>) -> Ins
+        requires { (number < length lanes.items) × (length lanes.items ≤ MAX_DESKS) × ComeInTo number lanes.items }
+        ensures { result ≡ in_ends number 0 lanes.items }
+    {
+        Ins {
+            number,
+            cursor: 0,
+            lanes,
+        }
+    }
+
+    /// Collects a letter, and tells from which desk it came.
+    ///
+    /// The lanes are looked at from the cursor upwards and round. The first that shows a letter gives its oldest,
+    /// and the cursor goes to the desk after that one; it begins at desk 0. The answer is `None` only where this end
+    /// knows no letter of any lane, and the cursor then stays. Takes no memory and waits for nobody.
+    pub fn collect(&mut self) -> Option<(u8, Letter)>
+        ensures place { self.new.place ≡ self.old.place }
+        ensures some { IfSome result (λ r. Collects self.old self.new r.0 r.1) }
+        ensures first { IfSome result (λ r. IsFirst self.old self.new r.0) }
+        ensures none { IfNone result ((self.new.collected ≡ self.old.collected) × (self.new.cursor ≡ self.old.cursor) × ShowNone self.old self.new 0 (length self.old.place.rings)) }
+    {
+        let cursor = usize::from(self.cursor);
+        let desks = self.lanes.len();
+        if let Some(found) = self.first_of(cursor, desks) {
+            return Some(found);
+        }
+        self.first_of(0, cursor)
+    }
+
+    // The same, of the lanes from desk `low` up to below desk `high`.
+    fn first_of(&mut self, low: usize, high: usize) -> Option<(u8, Letter)>
+        requires { (low ≤ high) × (high ≤ length self.old.place.rings) }
+        ensures place { self.new.place ≡ self.old.place }
+        ensures some { IfSome result (λ r. (low ≤ r.0) × (r.0 < high) × Collects self.old self.new r.0 r.1 × ShowNone self.old self.new low r.0) }
+        ensures none { IfNone result ((self.new.collected ≡ self.old.collected) × (self.new.cursor ≡ self.old.cursor) × ShowNone self.old self.new low high) }
+        ensures others { (k : ℕ) → (k < low) ⊎ (high ≤ k) → slice_index_or self.new.known k [] ≡ slice_index_or self.old.known k [] }
+    {
+        for d in low..high {
+            if let Some(letter) = self.lanes[d].collect() {
+                self.cursor = ((d + 1) % self.lanes.len()) as u8;
+                return Some((d as u8, letter));
+            }
+        }
+        None
+    }
+
+    /// How many letters were collected from desk `from`, staying at `u64::MAX` once it is reached.
+    pub fn collected(&self, from: u8) -> u64
+        requires { from < length self.now.place.rings }
+        ensures { result ≡ min (length (slice_index_or self.now.collected from [])) (2 ^ 64 - 1) }
+    {
+        self.lanes[usize::from(from)].collected()
+    }
+
+    // Looks at the lane from the other desk, beside its other end.
+    pub(crate) fn meet(&mut self, outs: &mut Outs)
+        requires { Meets outs.old self.old }
+        ensures outs { out_kept outs.new ≡ out_kept outs.old }
+        ensures kept { in_kept self.new ≡ in_kept self.old }
+        ensures others { (k : ℕ) → k ≢ outs.old.place.number → slice_index_or self.new.known k [] ≡ slice_index_or self.old.known k [] }
+        ensures whole { IsWhole outs.new self.new }
+    {
+        let from = usize::from(outs.number);
+        let to = usize::from(self.number);
+        self.lanes[from].meet(&mut outs.lanes[to]);
+    }
+
+    // How many letters from that desk are known to wait.
+    pub(crate) fn known(&self, from: usize) -> usize
+        requires { from < length self.now.place.rings }
+        ensures { result ≡ length (slice_index_or self.now.known from []) }
+    {
+        self.lanes[from].known()
+    }
+
+    // Gives up the ends, and moves the letters that are known to wait to the lists of their lanes.
+    pub(crate) fn empty_into(self, left: &mut [Vec<Letter>])
+        requires here { self.place.number < length self.place.rings }
+        requires room { (d : ℕ) → d < length self.place.rings → HasRoom (slice_index_or self.known d []) left.old (d * length self.place.rings + self.place.number) }
+        ensures known { (d : ℕ) → d < length self.place.rings → slice_index_or (lists left.new) (d * length self.place.rings + self.place.number) [] ≡ slice_index_or self.known d [] }
+        ensures others { (d e : ℕ) → e < length self.place.rings → e ≢ self.place.number → room_at left.new (d * length self.place.rings + e) ≡ room_at left.old (d * length self.place.rings + e) }
+    {
+        let Ins {
+            number,
+            cursor: _,
+            lanes,
+        } = self;
+        let mut lanes = lanes;
+        let desks = lanes.len();
+        for d in 0..desks {
+            lanes[d].empty_into(&mut left[d * desks + usize::from(number)]);
+        }
+    }
+
+    // Gives up the ends, with the letters that stand in their lanes.
+    pub(crate) fn close(self) {
+        let Ins {
+            number: _,
+            cursor: _,
+            lanes: _,
+        } = self;
+    }
+}

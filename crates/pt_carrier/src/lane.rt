@@ -1,0 +1,163 @@
+// One lane: a ring with an end that sends and an end that receives.
+ghost use Rattle.std.specs.Prelude.{◌≡◌, ◌+◌, ◌-◌, ◌^◌, ◌<◌, ◌≤◌, min, vec_len, length, map, [], ◌∷◌, ◌++◌, IsOk, OnOk, IfOk, IfErr, IfSome, IfNone};
+ghost use mathlib.Core.List.{IsPrefix};
+ghost use Rattle.std.specs.Vec.{vec_capacity};
+ghost use Rattle.rtrb.specs.Ring.{sent, known_free, producer_capacity, received, known_items};
+ghost use Rattle.pt_carrier.specs.Lanes.{Sending, Receiving, sending_ring, receiving_ring, unpacked, new_sending, new_receiving};
+
+use crate::parcel::Parcel;
+use pt_signal::Letter;
+use rtrb::{Consumer, Producer, RingBuffer};
+use std::alloc::{AllocError, Global};
+use std::marker::Model;
+
+// The end that sends.
+#[derive(Drop)]
+pub(crate) struct OutLane {
+    ring: Producer<Parcel>,
+    from: u8,
+    to: u8,
+    count: u64,
+}
+
+impl Model for OutLane {
+    ghost Value = { Sending };
+
+    ghost view = { λ a. record { ring = sending_ring a.ring; from = a.from; to = a.to; posted = map (unpacked a.from a.to) (sent a.ring); capacity = producer_capacity a.ring; seen = (length (sent a.ring) + known_free a.ring) - producer_capacity a.ring } };
+
+    ghost invariant = { λ a. (a.count ≡ min (length (sent a.ring)) (2 ^ 64 - 1)) × (producer_capacity a.ring ≤ length (sent a.ring) + known_free a.ring) };
+}
+
+// The end that receives.
+#[derive(Drop)]
+pub(crate) struct InLane {
+    ring: Consumer<Parcel>,
+    from: u8,
+    to: u8,
+    count: u64,
+}
+
+impl Model for InLane {
+    ghost Value = { Receiving };
+
+    ghost view = { λ a. record { ring = receiving_ring a.ring; from = a.from; to = a.to; collected = map (unpacked a.from a.to) (received a.ring); known = map (unpacked a.from a.to) (known_items a.ring) } };
+
+    ghost invariant = { λ a. a.count ≡ min (length (received a.ring)) (2 ^ 64 - 1) };
+}
+
+impl OutLane {
+    // Posts the letter, or hands it back where no place is free.
+    pub(crate) fn post(&mut self, letter: Letter) -> Result<(), Letter>
+        requires { (letter.from.shard ≡ self.old.from) × (letter.to.shard ≡ self.old.to) }
+        ensures same { (self.new.ring ≡ self.old.ring) × (self.new.from ≡ self.old.from) × (self.new.to ≡ self.old.to) }
+        ensures ok { OnOk result (self.new.posted ≡ self.old.posted ++ letter ∷ []) }
+        ensures full { IfErr result (λ back. (back ≡ letter) × (self.new.posted ≡ self.old.posted)) }
+        ensures knows { (self.new.capacity ≡ self.old.capacity) × (self.old.seen ≤ self.new.seen) }
+        ensures full_lane { IfErr result (λ _. length self.old.posted ≡ self.new.capacity + self.new.seen) }
+        ensures room { length self.old.posted < self.old.capacity + self.old.seen → IsOk result }
+    {
+        match self.ring.push(Parcel::pack(letter)) {
+            Ok(()) => {
+                self.count = self.count.saturating_add(1);
+                Ok(())
+            }
+            Err(_) => Err(letter),
+        }
+    }
+
+    // How many letters were posted.
+    pub(crate) fn posted(&self) -> u64
+        ensures { result ≡ min (length self.now.posted) (2 ^ 64 - 1) }
+    {
+        self.count
+    }
+}
+
+impl InLane {
+    // Collects the oldest letter, or none where no letter shows.
+    pub(crate) fn collect(&mut self) -> Option<Letter>
+        ensures same { (self.new.ring ≡ self.old.ring) × (self.new.from ≡ self.old.from) × (self.new.to ≡ self.old.to) }
+        ensures some { IfSome result (λ letter. (self.new.collected ≡ self.old.collected ++ letter ∷ []) × IsPrefix self.old.known (letter ∷ self.new.known)) }
+        ensures shards { IfSome result (λ letter. (letter.from.shard ≡ self.old.from) × (letter.to.shard ≡ self.old.to)) }
+        ensures none { IfNone result ((self.new.collected ≡ self.old.collected) × (self.old.known ≡ []) × (self.new.known ≡ [])) }
+    {
+        match self.ring.pop() {
+            Ok(parcel) => {
+                self.count = self.count.saturating_add(1);
+                Some(parcel.unpack(self.from, self.to))
+            }
+            Err(_) => None,
+        }
+    }
+
+    // How many letters were collected.
+    pub(crate) fn collected(&self) -> u64
+        ensures { result ≡ min (length self.now.collected) (2 ^ 64 - 1) }
+    {
+        self.count
+    }
+
+    // Looks at the lane beside its other end: what was posted is what was collected, then what is known.
+    pub(crate) fn meet(&mut self, other: &mut OutLane)
+        requires { (other.old.ring ≡ self.old.ring) × (other.old.from ≡ self.old.from) × (other.old.to ≡ self.old.to) }
+        ensures same { (self.new.ring ≡ self.old.ring) × (self.new.from ≡ self.old.from) × (self.new.to ≡ self.old.to) × (self.new.collected ≡ self.old.collected) }
+        ensures other { (other.new.ring ≡ other.old.ring) × (other.new.from ≡ other.old.from) × (other.new.to ≡ other.old.to) × (other.new.posted ≡ other.old.posted) }
+        ensures whole { other.new.posted ≡ self.new.collected ++ self.new.known }
+    {
+        self.ring.slots_beside(&mut other.ring);
+    }
+
+    // How many letters are known to wait.
+    pub(crate) fn known(&self) -> usize
+        ensures { result ≡ length self.now.known }
+    {
+        self.ring.cached_slots()
+    }
+
+    // Takes the oldest letter that is known to wait.
+    pub(crate) fn take_known(&mut self) -> Letter
+        requires { 0 < length self.old.known }
+        ensures same { (self.new.ring ≡ self.old.ring) × (self.new.from ≡ self.old.from) × (self.new.to ≡ self.old.to) }
+        ensures taken { self.old.known ≡ result ∷ self.new.known }
+    {
+        let parcel = self.ring.pop_known();
+        self.count = self.count.saturating_add(1);
+        parcel.unpack(self.from, self.to)
+    }
+
+    // Moves the letters that are known to wait to the end of the list, which has room for them.
+    pub(crate) fn empty_into(&mut self, list: &mut Vec<Letter>)
+        requires { vec_len list.old + length self.old.known ≤ vec_capacity list.old }
+        ensures { list.new.items ≡ list.old.items ++ self.old.known }
+    {
+        for _k in 0..self.known() {
+            list.push_reserved(self.take_known());
+        }
+    }
+}
+
+// The two ends of a new lane.
+pub(crate) fn make(
+    alloc: Global,
+    from: u8,
+    to: u8,
+    capacity: usize,
+) -> Result<(OutLane, InLane), AllocError>
+    ensures out { IfOk result (λ r. r.0 ≡ new_sending r.0.ring from to capacity) }
+    ensures into { IfOk result (λ r. r.1 ≡ new_receiving r.0.ring from to) }
+{
+    let (producer, consumer) = RingBuffer::new(alloc, capacity)?;
+    let out = OutLane {
+        ring: producer,
+        from,
+        to,
+        count: 0,
+    };
+    let into = InLane {
+        ring: consumer,
+        from,
+        to,
+        count: 0,
+    };
+    Ok((out, into))
+}
