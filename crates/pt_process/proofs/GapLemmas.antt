@@ -103,8 +103,8 @@ module _ {K V : Type 0} {eq : K → K → Bool} (laws : IsEquivalence eq) (q : K
   present-set [] v w h = refl
   present-set (e ∷ es) v w h =
       present-set_step e es w (eq q e.0) refl
-          (λ t. (v, cc (lookup_head (eq q) e es t, h)))
-          (λ f. present-set es v w (sym (lookup_tail (eq q) e es f) ∙ h))
+      (λ t. (v, cc (lookup_head (eq q) e es t, h)))
+      (λ f. present-set es v w (sym (lookup_tail (eq q) e es f) ∙ h))
 
 module _ {K V : Type 0} where
   before-before : (k : K) (o : Option V) (xs ys : List (K × V)) → before k o (xs ++ ys) ≡ before k o xs ++ ys

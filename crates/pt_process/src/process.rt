@@ -133,7 +133,9 @@ impl Process {
     {
         match *signal {
             Signal::Exit(reason) => self.ends_by(from, reason, false),
-            Signal::LinkExit(ids, reason) if self.holds_any(from, ids) => self.ends_by(from, reason, true),
+            Signal::LinkExit(ids, reason) if self.holds_any(from, ids) => {
+                self.ends_by(from, reason, true)
+            }
             _ => None,
         }
     }

@@ -61,7 +61,13 @@ fn a_mailbox_is_drained_in_order(rt: HostRuntime) -> Result<(), Fail> {
         mailbox.push(message(kind))?;
     }
     let mut taken = Vec::new(rt.alloc());
-    for pick in [Pick::Kind(3), Pick::Kind(2), Pick::Any, Pick::From(pid(9)), Pick::Any] {
+    for pick in [
+        Pick::Kind(3),
+        Pick::Kind(2),
+        Pick::Any,
+        Pick::From(pid(9)),
+        Pick::Any,
+    ] {
         let (place, item) = mailbox.first(pick).ok_or("none")?;
         assert!(rt; place < mailbox.as_slice().len());
         assert_eq!(rt; mailbox.take_at(place), item);
@@ -76,8 +82,15 @@ fn a_mailbox_is_drained_in_order(rt: HostRuntime) -> Result<(), Fail> {
 #[test]
 fn an_entry_of_two_drops_a_third_link(rt: HostRuntime) -> Result<(), Fail> {
     let mut process = Process::new(rt.alloc(), pid(0));
-    for (number, outcome) in [(4, Outcome::Changed), (6, Outcome::Changed), (8, Outcome::Dropped)] {
-        assert_eq!(rt; process.accept(pid(1), Signal::Link(link(number)))?, outcome);
+    for (number, outcome) in [
+        (4, Outcome::Changed),
+        (6, Outcome::Changed),
+        (8, Outcome::Dropped),
+    ] {
+        assert_eq!(rt;
+            process.accept(pid(1), Signal::Link(link(number)))?,
+            outcome
+        );
     }
     let ids = process.linked(pid(1)).ok_or("none")?.to_string(rt.alloc())?;
     assert_eq!(rt; ids.as_str(), "~0.4+~0.6");
@@ -91,7 +104,10 @@ fn a_watch_is_kept_once(rt: HostRuntime) -> Result<(), Fail> {
     assert_eq!(rt; process.accept(pid(1), watch)?, Outcome::Changed);
     assert_eq!(rt; process.accept(pid(1), watch)?, Outcome::Dropped);
     assert_eq!(rt; process.accept(pid(2), watch)?, Outcome::Changed);
-    assert_eq!(rt; process.accept(pid(1), Signal::Demonitor(monitor(3)))?, Outcome::Changed);
+    assert_eq!(rt;
+        process.accept(pid(1), Signal::Demonitor(monitor(3)))?,
+        Outcome::Changed
+    );
     assert!(rt; process.kept(monitor(3)));
     assert_eq!(rt; process.owed_len(), 1);
     Ok(())
@@ -107,9 +123,18 @@ fn an_exit_signal_is_trapped_or_ends(rt: HostRuntime) -> Result<(), Fail> {
     assert_eq!(rt; process.accept(pid(2), normal)?, Outcome::Dropped);
     assert_eq!(rt; process.would_end(pid(0), &normal), Some(Reason::Normal));
     assert!(rt; !process.set_trap(true));
-    assert_eq!(rt; process.accept(pid(1), Signal::LinkExit(ids, Reason::Kill))?, Outcome::Queued);
-    assert_eq!(rt; process.accept(pid(1), Signal::LinkExit(ids, Reason::Kill))?, Outcome::Dropped);
-    assert_eq!(rt; process.take(Pick::ExitOf(pid(1))), Some(Item::Exit(pid(1), Reason::Kill)));
+    assert_eq!(rt;
+        process.accept(pid(1), Signal::LinkExit(ids, Reason::Kill))?,
+        Outcome::Queued
+    );
+    assert_eq!(rt;
+        process.accept(pid(1), Signal::LinkExit(ids, Reason::Kill))?,
+        Outcome::Dropped
+    );
+    assert_eq!(rt;
+        process.take(Pick::ExitOf(pid(1))),
+        Some(Item::Exit(pid(1), Reason::Kill))
+    );
     let kill = process.accept(pid(2), Signal::Exit(Reason::Kill))?;
     assert_eq!(rt; kill, Outcome::Ends(Reason::Killed));
     Ok(())

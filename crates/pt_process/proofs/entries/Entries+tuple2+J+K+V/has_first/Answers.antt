@@ -1,7 +1,6 @@
 use Rattle.std.proofs.Common.{◌∙◌, rules, tests, ap, is_some, ◌&&◌}
 use Rattle.std.specs.List.{list_any}
 use Rattle.std.specs.Map.{keys_of}
-
 use Rattle.std.proofs.lemmas.Iterator.Search.{any_from_yields_List}
 use Rattle.std.proofs.lemmas.Iterator.Consumers.{YieldsList-from_rest}
 use Rattle.pt_process.proofs.GapLemmas.{any-present}

@@ -11,7 +11,7 @@ invariant_of-self g c =
     let some = some_from_test c.get.result (sym c.is_some.ensures ∙ c.if-is_some.true) in
     let there = ap (λ l. lookup (eq c.args.key) l.entries) c.self.view_is ∙ sym c.get.ensures ∙ some.1 in
     counted_set c.self.invariant _ (eq c.args.key) c.args.value c.write.ensures.unique
-        (ap present c.write.ensures.entries ∙ present-put g.met.K.Eq.laws c.self.inside.map.entries c.self.invariant.unique c.args.key some.0 c.args.value there)
+    (ap present c.write.ensures.entries ∙ present-put g.met.K.Eq.laws c.self.inside.map.entries c.self.invariant.unique c.args.key some.0 c.args.value there)
 
 pub returns-then-is_some-clause-ok : goal.returns-then-is_some-clause-ok
 returns-then-is_some-clause-ok g c =
@@ -27,8 +27,8 @@ pub invariant_of-self-2 : goal.invariant_of-self-2
 invariant_of-self-2 g c =
     let m = c.drop_gap.new.map in
     let grown = ap present (c.in_ok-insert.ensures.entries ∙ insert_entry-new g.K.PartialEq.eq m c.args.key (Some c.args.value) c.drop_gap.ensures.absent)
-            ∙ present-append m.entries ((c.args.key, Some c.args.value) ∷ [])
-            ∙ ap (λ xs. xs ++ (c.args.key, c.args.value) ∷ []) c.drop_gap.ensures.entries in
+    ∙ present-append m.entries ((c.args.key, Some c.args.value) ∷ [])
+    ∙ ap (λ xs. xs ++ (c.args.key, c.args.value) ∷ []) c.drop_gap.ensures.entries in
     counted_push c.self.invariant _ c.args.key c.args.value c.in_ok-insert.ensures.unique grown c.if-self-eq-MOST.false
 
 pub returns-clause-ok : goal.returns-clause-ok

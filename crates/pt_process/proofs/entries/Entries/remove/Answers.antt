@@ -15,7 +15,7 @@ invariant_of-self g c =
     let unique = c.self.invariant.unique in
     let there = lookup-present g.met.K.Eq.laws c.args.key.now es unique ∙ sym c.write.ensures.before ∙ c.in-Some.is in
     counted_remove c.self.invariant _ (g.K.PartialEq.eq c.args.key.now) c.in-Some.value (c.settle.ensures.unique c.write.ensures.unique)
-        (c.settle.ensures.entries ∙ ap present c.write.ensures.entries ∙ present-gap g.met.K.Eq.laws c.args.key.now es unique) there
+    (c.settle.ensures.entries ∙ ap present c.write.ensures.entries ∙ present-gap g.met.K.Eq.laws c.args.key.now es unique) there
 
 pub invariant_of-self-in-None : goal.invariant_of-self-in-None
 invariant_of-self-in-None g c =
@@ -23,7 +23,7 @@ invariant_of-self-in-None g c =
     let unique = c.self.invariant.unique in
     let none = lookup-present g.met.K.Eq.laws c.args.key.now es unique ∙ sym c.write.ensures.before ∙ c.in-None.is in
     counted_same c.self.invariant _ c.write.ensures.unique
-        (ap present c.write.ensures.entries ∙ present-gap g.met.K.Eq.laws c.args.key.now es unique ∙ remove_entry-absent (g.K.PartialEq.eq c.args.key.now) (present es) none)
+    (ap present c.write.ensures.entries ∙ present-gap g.met.K.Eq.laws c.args.key.now es unique ∙ remove_entry-absent (g.K.PartialEq.eq c.args.key.now) (present es) none)
 
 pub returns-in-Some-clause-value : goal.returns-in-Some-clause-value
 returns-in-Some-clause-value g c =
