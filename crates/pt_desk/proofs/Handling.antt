@@ -126,4 +126,4 @@ module _ (config : Config) (log : LogState) (table : Table) (queue : List Letter
         rw (written.0, written.1, written.2, sent, vacant, ends) refl
 
     pub handled_answer : Handles now (Ok true) (desk_of config log' table' queue' (mark - 1))
-    handled_answer = (l, first, ready.1.0, handled_is)
+    handled_answer = (l, first, let k = ready.1 in omega arith, handled_is)
