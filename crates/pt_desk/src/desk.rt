@@ -345,15 +345,11 @@ impl Desk {
         };
         self.log.prepare(letter.stamp)?;
         let stamp = self.log.clock().max(letter.stamp) + 1;
-        deliver(
-            &self.log,
-            &mut self.table,
-            &mut self.queue,
-            letter,
-            stamp,
-        )?;
-        self.log
-            .write(letter.stamp, Event::Came(letter.from, letter.to, letter.signal));
+        deliver(&self.log, &mut self.table, &mut self.queue, letter, stamp)?;
+        self.log.write(
+            letter.stamp,
+            Event::Came(letter.from, letter.to, letter.signal),
+        );
         self.mark -= 1;
         Ok(true)
     }

@@ -27,8 +27,8 @@ returns c =
     let first : IsFirst c.in-Some.letter (desk_of c.self.inside.config c.self.inside.log c.self.inside.table c.self.inside.queue.items c.self.inside.mark)
     = (grind (arith, common_steps), omega arith) in
     let answer =
-        handled_answer c.self.inside.config c.self.inside.log c.self.inside.table c.self.inside.queue.items c.self.inside.mark c.self.invariant
-        c.in-Some.letter first c.prepare.new.self c.write.new.self c.deliver.new.table c.deliver.new.queue.items c.in_ok-prepare.ensures
-        (c.max-stamp.result + 1) (ap (λ k. k + 1) (c.max-stamp.ensures ∙ ap (λ k. max k c.in-Some.letter.stamp) c.clock.ensures))
-        c.in_ok-deliver.ensures.ok c.write.ensures.written in
+    handled_answer c.self.inside.config c.self.inside.log c.self.inside.table c.self.inside.queue.items c.self.inside.mark c.self.invariant
+    c.in-Some.letter first c.prepare.new.self c.write.new.self c.deliver.new.table c.deliver.new.queue.items c.in_ok-prepare.ensures
+    (c.max-stamp.result + 1) (ap (λ k. k + 1) (c.max-stamp.ensures ∙ ap (λ k. max k c.in-Some.letter.stamp) c.clock.ensures))
+    c.in_ok-deliver.ensures.ok c.write.ensures.written in
     subst (λ d. Handles d (Ok true) (desk_of c.self.inside.config c.write.new.self c.deliver.new.table c.deliver.new.queue.items (c.self.inside.mark - 1))) c.self.view_is answer
