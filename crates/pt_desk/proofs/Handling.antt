@@ -1,11 +1,10 @@
 -- A desk that handles its oldest letter is whole afterwards, and is as the receipt makes it.
-use Rattle.std.proofs.Common.{◌≡◌, ℕ, ◌+◌, ◌-◌, ◌^◌, ◌<◌, ◌≤◌, max, [], ◌∷◌, ◌++◌, List, map, drop, cond, true, Option, Some, None, refl, sym, ap, ◌∙◌, subst, arith}
+use Rattle.std.proofs.Common.{◌≡◌, ℕ, ◌+◌, ◌-◌, ◌^◌, ◌<◌, max, [], ◌∷◌, ◌++◌, List, map, drop, cond, true, Option, Some, None, refl, sym, ap, ◌∙◌, subst, arith}
 use Rattle.std.specs.Prelude.{Ok}
 use Rattle.pt_signal.specs.declared.pid.Pid.{Pid}
 use Rattle.pt_signal.specs.declared.reason.Reason.{Reason}
 use Rattle.pt_signal.specs.declared.letter.Letter.{Letter}
-use Rattle.pt_signal.specs.Values.{same_pid}
-use Rattle.pt_signal.specs.Process.{ProcessState, handle, Sent}
+use Rattle.pt_signal.specs.Process.{ProcessState, handle}
 use Rattle.pt_signal.proofs.Same.{same_pid_refl}
 use Rattle.pt_history.specs.declared.event.Event.{Event}
 use Rattle.pt_history.specs.declared.event.Event.TheVariants.{Came}
@@ -16,9 +15,9 @@ use Rattle.pt_desk.specs.declared.config.Config.{Config}
 use Rattle.pt_desk.specs.DeskState as desks
 use Rattle.pt_desk.specs.DeskState.{DeskState, past, handled, vacated}
 use Rattle.pt_desk.specs.LogState.{LogState, IsWritten, IsSameLog}
-use Rattle.pt_desk.specs.Sound.{IsSound, of_phase, resident}
+use Rattle.pt_desk.specs.Sound.{of_phase, resident}
 use Rattle.pt_desk.specs.Residents.{Table, resident_at, vacant_at}
-use Rattle.pt_desk.specs.Deliveries.{Standing, IsItself, unless_ended, remains, is_ended_by, replies, Delivers}
+use Rattle.pt_desk.specs.Deliveries.{IsItself, unless_ended, remains, is_ended_by, replies, Delivers}
 use Rattle.pt_desk.specs.Turns.{IsFirst, Handles}
 use Rattle.pt_desk.specs.Whole.{desk_of, IsWhole}
 use Rattle.pt_desk.proofs.Births.{issued_kept, issued_same}
