@@ -1,10 +1,10 @@
 -- A desk that handles its oldest letter is whole afterwards, and is as the receipt makes it.
-use Rattle.std.proofs.Common.{◌≡◌, ℕ, ◌+◌, ◌-◌, ◌^◌, ◌<◌, ◌≤◌, max, [], ◌∷◌, ◌++◌, List, map, drop, cond, true, Option, Some, None, refl, sym, ap, ◌∙◌, subst, arith}
+use Rattle.std.proofs.Common.{◌≡◌, ℕ, ◌+◌, ◌-◌, ◌^◌, ◌<◌, max, [], ◌∷◌, ◌++◌, List, map, drop, cond, true, Option, Some, None, refl, sym, ap, ◌∙◌, subst, arith}
+use Rattle.std.specs.Prelude.{Ok}
 use Rattle.pt_signal.specs.declared.pid.Pid.{Pid}
 use Rattle.pt_signal.specs.declared.reason.Reason.{Reason}
 use Rattle.pt_signal.specs.declared.letter.Letter.{Letter}
-use Rattle.pt_signal.specs.Values.{same_pid}
-use Rattle.pt_signal.specs.Process.{ProcessState, handle, Sent}
+use Rattle.pt_signal.specs.Process.{ProcessState, handle}
 use Rattle.pt_signal.proofs.Same.{same_pid_refl}
 use Rattle.pt_history.specs.declared.event.Event.{Event}
 use Rattle.pt_history.specs.declared.event.Event.TheVariants.{Came}
@@ -15,10 +15,10 @@ use Rattle.pt_desk.specs.declared.config.Config.{Config}
 use Rattle.pt_desk.specs.DeskState as desks
 use Rattle.pt_desk.specs.DeskState.{DeskState, past, handled, vacated}
 use Rattle.pt_desk.specs.LogState.{LogState, IsWritten, IsSameLog}
-use Rattle.pt_desk.specs.Sound.{IsSound, of_phase, resident}
+use Rattle.pt_desk.specs.Sound.{of_phase, resident}
 use Rattle.pt_desk.specs.Residents.{Table, resident_at, vacant_at}
-use Rattle.pt_desk.specs.Deliveries.{Standing, IsItself, unless_ended, remains, is_ended_by, replies, Delivers}
-use Rattle.pt_desk.specs.Turns.{IsFirst}
+use Rattle.pt_desk.specs.Deliveries.{IsItself, unless_ended, remains, is_ended_by, replies, Delivers}
+use Rattle.pt_desk.specs.Turns.{IsFirst, Handles}
 use Rattle.pt_desk.specs.Whole.{desk_of, IsWhole}
 use Rattle.pt_desk.proofs.Births.{issued_kept, issued_same}
 use Rattle.pt_desk.proofs.Frames.{IsPut, put_one}
@@ -61,10 +61,13 @@ module _ (config : Config) (log : LogState) (table : Table) (queue : List Letter
 
   module _ (l : Letter) (first : IsFirst l now) (prepared log' : LogState) (table' : Table) (queue' : List Letter)
       (ready : IsSameLog log prepared × (max log.clock l.stamp < 2 ^ 62) × (0 < prepared.room))
-      (n : ℕ) (stamp : n ≡ max log.clock l.stamp + 1) (delivers : Delivers log.desk l n table table' queue queue')
+      (n : ℕ) (stamp : n ≡ max prepared.clock l.stamp + 1) (delivers : Delivers prepared.desk l n table table' queue queue')
       (wrote : IsWritten (max prepared.clock l.stamp + 1) (Came l.from l.to l.signal) prepared log') where
     abbrev e : Event
     e = Came l.from l.to l.signal
+
+    delivered : Delivers log.desk l n table table' queue queue'
+    delivered = subst (λ d. Delivers d l n table table' queue queue') ready.0.0 delivers
 
     there : resident_at log.desk table l.to ≡ of_phase l.to (life [] (past now) l.to)
     there = whole.sound.residents l.to
@@ -88,18 +91,18 @@ module _ (config : Config) (log : LogState) (table : Table) (queue : List Letter
       near = (first_within now (resident_at log.desk table) (issued table) whole.sound l first).0.0;
       residents =
           put_one (past now) e l.to (λ q. refl) (resident_at log.desk table) (resident_at log.desk table') whole.sound.residents
-          (subst (λ v. IsPut l.to v (resident_at log.desk table) (resident_at log.desk table')) (sym came) delivers.live);
-      issues = λ slot. delivers.settings.issues slot ∙ whole.sound.issues slot ∙ sym (issued_same (past now) e slot refl);
+          (subst (λ v. IsPut l.to v (resident_at log.desk table) (resident_at log.desk table')) (sym came) delivered.live);
+      issues = λ slot. delivered.settings.issues slot ∙ whole.sound.issues slot ∙ sym (issued_same (past now) e slot refl);
       born = issued_kept log.desk (past now) e refl whole.sound.born;
     }
+
+    at : max prepared.clock l.stamp + 1 ≡ max log.clock l.stamp + 1
+    at = ap (λ k. max k l.stamp + 1) ready.0.1
 
     sent : queue' ≡ drop 1 queue ++ map (letter (max log.clock l.stamp + 1)) (sent_by [] (past now) e)
     sent =
         let replied : replies l (resident_at log.desk table l.to) ≡ sent_by [] (past now) e = ap (replies l) there ∙ sym (got_is l (life [] (past now) l.to)) in
-        delivers.sends ∙ rw (stamp, replied) refl
-
-    at : max prepared.clock l.stamp + 1 ≡ max log.clock l.stamp + 1
-    at = ap (λ k. max k l.stamp + 1) ready.0.1
+        delivered.sends ∙ rw (stamp, at, replied) refl
 
     written : (log'.desk ≡ log.desk) × (log'.clock ≡ max log.clock l.stamp + 1) × (log'.journal ≡ record { stamp = max log.clock l.stamp + 1; desk = log.desk; event = e } ∷ log.journal)
     written = (wrote.0 ∙ ready.0.0, wrote.1 ∙ at, wrote.2 ∙ rw (at, ready.0.0, ready.0.2) refl)
@@ -109,14 +112,17 @@ module _ (config : Config) (log : LogState) (table : Table) (queue : List Letter
         let sound = sound_came now (resident_at log.desk table) (issued table) whole.sound l first (resident_at log.desk table') (issued table') lawful (vacant_at log.desk table') in
         record {
           sound = rw (written.0, written.1, written.2, sent) sound;
-          capacity = delivers.settings.capacity ∙ whole.capacity;
-          top_version = delivers.settings.top_version ∙ whole.top_version;
+          capacity = delivered.settings.capacity ∙ whole.capacity;
+          top_version = delivered.settings.top_version ∙ whole.top_version;
         }
 
-    pub handled_is : desk_of config log' table' queue' (mark - 1) ≡ handled l now
+    handled_is : desk_of config log' table' queue' (mark - 1) ≡ handled l now
     handled_is =
         let ends : is_ended_by l (resident_at log.desk table l.to) ≡ desks.is_ended_by (life [] (past now) l.to) l.to l.from l.signal
         = ap (is_ended_by l) there ∙ sym (ends_is l (life [] (past now) l.to)) in
         let vacant : vacant_at log.desk table' ≡ vacated config.top_version (cond (is_ended_by l (resident_at log.desk table l.to)) (Some l.to) None) (vacant_at log.desk table)
-        = delivers.vacant ∙ ap (λ t. vacated t (cond (is_ended_by l (resident_at log.desk table l.to)) (Some l.to) None) (vacant_at log.desk table)) whole.top_version in
+        = delivered.vacant ∙ ap (λ t. vacated t (cond (is_ended_by l (resident_at log.desk table l.to)) (Some l.to) None) (vacant_at log.desk table)) whole.top_version in
         rw (written.0, written.1, written.2, sent, vacant, ends) refl
+
+    pub handled_answer : Handles now (Ok true) (desk_of config log' table' queue' (mark - 1))
+    handled_answer = (l, first, let k = ready.1 in omega arith, handled_is)

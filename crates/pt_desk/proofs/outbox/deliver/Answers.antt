@@ -1,4 +1,4 @@
-use Rattle.std.proofs.Common.{◌≡◌, sym, arith}
+use Rattle.std.proofs.Common.{sym, arith}
 use Rattle.pt_desk.proofs.Delivered.{room_after}
 use Rattle.pt_desk.proofs.outbox.deliver.Goals as goal
 

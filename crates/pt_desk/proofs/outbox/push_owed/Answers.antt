@@ -1,4 +1,4 @@
-use Rattle.std.proofs.Common.{◌≡◌, arith}
+use Rattle.std.proofs.Common.{arith}
 use Rattle.pt_desk.proofs.Endings.{pushed_more}
 use Rattle.pt_desk.proofs.outbox.push_owed.Goals as goal
 
