@@ -1,6 +1,7 @@
 -- A desk that bears a process is whole afterwards.
-use Rattle.std.proofs.Common.{◌≡◌, ℕ, ◌+◌, ◌^◌, ◌<◌, ◌≤◌, max, Bool, true, false, cond, ◌==◌, List, [], ◌∷◌, ◌++◌, Option, Some, None, refl, sym, ap, ◌∙◌, subst, append-nil, arith}
+use Rattle.std.proofs.Common.{◌≡◌, ℕ, ◌+◌, ◌^◌, ◌<◌, ◌≤◌, max, Bool, true, false, cond, ◌==◌, Ok, List, [], ◌∷◌, ◌++◌, Option, Some, None, refl, sym, ap, ◌∙◌, subst, append-nil, arith}
 use Rattle.std.specs.Prelude.{pred}
+use Rattle.std.specs.Bool.{then_some}
 use Rattle.std.specs.Option.{option_map}
 use Rattle.std.proofs.lemmas.Bool.{eqb-true, eq-eqb}
 use Rattle.std.proofs.lemmas.Bool.Decides.{nat_tests}
@@ -12,13 +13,14 @@ use Rattle.pt_signal.specs.Process.{ProcessState, fresh}
 use Rattle.pt_signal.proofs.Same.{same_pid_is}
 use Rattle.pt_history.specs.declared.event.Event.{Event}
 use Rattle.pt_history.specs.declared.event.Event.TheVariants.{Born}
-use Rattle.pt_history.specs.History.{Past, Phase, unborn, living, ended, life, linked, while_living, is_the, is_ended, is_unborn, MayBear}
+use Rattle.pt_history.specs.History.{Past, Phase, unborn, living, ended, life, linked, while_living, is_the, is_ended, is_living, made_link, MayBear}
 use Rattle.pt_history.specs.Journal.{IsLinkAt, IsOf}
 use Rattle.pt_slots.specs.declared.Key.{Key}
 use Rattle.pt_slots.specs.State.{SlotsState, at, issued, next_key}
 use Rattle.pt_slots.specs.Calls.{Inserted, names}
 use Rattle.pt_process.specs.Resident.{Resident}
 use Rattle.pt_desk.specs.declared.config.Config.{Config}
+use Rattle.pt_desk.specs.Calls.{BearsChild, birth_link, new_link}
 use Rattle.pt_desk.specs.DeskState.{DeskState, past}
 use Rattle.pt_desk.specs.LogState.{LogState, IsWritten, IsSameLog}
 use Rattle.pt_desk.specs.Sound.{resident, of_phase, issued_in}
@@ -26,6 +28,7 @@ use Rattle.pt_desk.specs.Residents.{Table, seen, resident_at, in_place, changed,
 use Rattle.pt_desk.specs.Whole.{desk_of, IsWhole}
 use Rattle.pt_desk.proofs.Births.{issued_more, next_unborn, previous, previous_born, is_unborn_is, ended_is}
 use Rattle.pt_desk.proofs.Frames.{lives_not}
+use Rattle.pt_desk.proofs.Fresh.{fresh_link}
 use Rattle.pt_desk.proofs.Keeps.{IsLawful, sound_own}
 use Rattle.pt_desk.proofs.Writes.{before, found, put_by_pid, at_home}
 use Rattle.pt_desk.proofs.Says.{same_stamp, written_since}
@@ -176,6 +179,100 @@ module _ (config : Config) (log : LogState) (table : Table) (queue : List Letter
     top_version = refl;
   }
 
+  module _ (par me : Pid) (s : ProcessState) (there : Some (me, s) ≡ resident_at log.desk table par) where
+    lives_here : life [] (past now) par ≡ living s
+    lives_here = (found config log table queue mark whole par me s there).0
+
+    at_place : (par.shard ≡ log.desk) × (in_place table par ≡ Some (me, s))
+    at_place = at_home log.desk table par (me, s) (sym there)
+
+    -- the parent is not its child
+    not_child : (p : Pid) → p ≡ par → p ≡ child → ⊥
+    not_child p h k =
+        let both : living s ≡ unborn = sym lives_here ∙ ap (life [] (past now)) (sym h ∙ k) ∙ not_yet in cc
+
+    still_there : same_pid par child ≡ false
+    still_there = go (same_pid par child) refl
+      where
+        go : (b : Bool) → same_pid par child ≡ b → same_pid par child ≡ false
+        go true h = absurd (not_child par refl (same_pid_is par child h))
+        go false h = h
+
+    parent_place : in_place mid par ≡ resident_at log.desk table par
+    parent_place =
+        let home : resident_at log.desk mid par ≡ in_place mid par = rw (eq-eqb par.shard log.desk at_place.0) refl in
+        sym home ∙ inserted_reading log.desk key r table mid ins par ∙ rw still_there refl
+
+    module _ (link : Option LinkId) (me_is : r.me ≡ child) (state_is : r.state ≡ linked (Some par) link fresh) (table' : Table) (changes : Changes par (adopts child link) mid table') where
+      child_reads : (p : Pid) → resident_at log.desk table' p ≡ read_born child (Some par) link p (resident_at log.desk table p)
+      child_reads p = go (same_pid p child) refl (same_pid p par) refl
+        where
+          first : resident_at log.desk mid p ≡ cond (same_pid p child) (Some (child, linked (Some par) link fresh)) (resident_at log.desk table p)
+          first = inserted_reading log.desk key r table mid ins p ∙ rw (me_is, state_is) refl
+
+          then_it : resident_at log.desk table' p ≡ cond (same_pid p par) (changed (adopts child link) (in_place mid par)) (resident_at log.desk mid p)
+          then_it = put_by_pid log.desk par _ mid table' at_place.0 changes.puts p
+
+          go : (a : Bool) → same_pid p child ≡ a → (b : Bool) → same_pid p par ≡ b → resident_at log.desk table' p ≡ read_born child (Some par) link p (resident_at log.desk table p)
+          go true h true k = absurd (not_child p (same_pid_is p par k) (same_pid_is p child h))
+          go true h false k = then_it ∙ rw (k, h) (first ∙ rw h refl)
+          go false h true k =
+              then_it ∙ rw (k, h) (ap (changed (adopts child link)) (parent_place ∙ ap (resident_at log.desk table) (sym (same_pid_is p par k))))
+          go false h false k = then_it ∙ rw (k, h) (first ∙ rw h refl)
+
+      child_born : log.clock < 2 ^ 62 → MayBear [] (past now) (Some par) link → IsLinkAt log.desk (log.clock + 1) link → IsBirth (Some par) link table'
+      child_born can may new_at = record {
+        can = can;
+        home = at_place.0;
+        may = may;
+        new_at = new_at;
+        reads = child_reads;
+        issues = changes.puts.settings.issues;
+        capacity = changes.puts.settings.capacity;
+        top_version = changes.puts.settings.top_version;
+      }
+
+-- the slots with more room -----------------------------------------------------------------
+
+same_reading : (desk : ℕ) (table roomy : Table) → IsSameTable table roomy → (p : Pid) → resident_at desk roomy p ≡ resident_at desk table p
+same_reading desk table roomy same p = ap (λ x. cond (p.shard == desk) x None) (same.live p.slot p.version)
+
+pub same_whole : (config : Config) (log : LogState) (table roomy : Table) (queue : List Letter) (mark : ℕ) → IsWhole config log table queue mark → IsSameTable table roomy
+    → IsWhole config log roomy queue mark
+same_whole config log table roomy queue mark whole same = record {
+  sound = record {
+    settings = whole.sound.settings;
+    alone = whole.sound.alone;
+    local = whole.sound.local;
+    clock_is = whole.sound.clock_is;
+    residents = λ p. same_reading log.desk table roomy same p ∙ whole.sound.residents p;
+    issues = λ slot. same.settings.issues slot ∙ whole.sound.issues slot;
+    born = whole.sound.born;
+    near = whole.sound.near;
+    account = whole.sound.account;
+    within = whole.sound.within;
+    marked = whole.sound.marked;
+    lane_full = whole.sound.lane_full;
+  };
+  capacity = same.settings.capacity ∙ whole.capacity;
+  top_version = same.settings.top_version ∙ whole.top_version;
+}
+
+-- the calls, step by step ------------------------------------------------------------------
+
+may_link : (earlier : Past) (par : Pid) (s : ProcessState) → life [] earlier par ≡ living s → (asked : Bool) (i : LinkId) → made_link earlier i ≡ false
+    → MayBear [] earlier (Some par) (then_some asked i)
+may_link earlier par s lives true i new = (ap is_living lives, new)
+may_link earlier par s lives false i new = ap is_living lives
+
+link_at : (desk n : ℕ) (asked : Bool) → IsLinkAt desk n (then_some asked (record { desk = desk; number = n }))
+link_at desk n true = (refl, refl)
+link_at desk n false = tt
+
+pub link_is : (d : DeskState) (asked : Bool) (desk clock : ℕ) → desk ≡ d.number → clock ≡ d.clock → (link : Option LinkId)
+    → link ≡ then_some asked (record { desk = desk; number = clock + 1 }) → link ≡ birth_link asked d
+link_is d asked desk clock here at link is = is ∙ rw (here, at) refl
+
 -- the key of the pid that was offered
 offered_key : (desk : ℕ) (o : Option Key) (key : Key) (q : Pid) → o ≡ Some key → Some q ≡ option_map (pid_at desk) o → q ≡ pid_at desk key
 offered_key desk None key q h k = absurd (cc)
@@ -193,3 +290,34 @@ spawned_whole config log prepared log' table mid queue mark whole q free ready r
     keeps_born config log table queue mark whole key r mid ins None None mid
     (alone_born config log table queue mark whole key r mid ins (let k = ready.1 in omega arith) (me ∙ at) state)
     m (same_stamp log prepared ready.0) log' (subst (λ x. IsWritten m (Born x None None) log log') at since)
+
+module _ (config : Config) (log prepared log' : LogState) (table roomy mid table' : Table) (queue : List Letter) (mark : ℕ) (whole : IsWhole config log table queue mark) where
+  module _ (par me : Pid) (s : ProcessState) (there : Some (me, s) ≡ resident_at log.desk table par) (q : Pid) (free : Some q ≡ vacant_at log.desk table) where
+    module _ (asked : Bool) (link : Option LinkId) (is : link ≡ birth_link asked (desk_of config log table queue mark)) (ready : IsSameLog log prepared × (max log.clock 0 < 2 ^ 62) × (0 < prepared.room)) (wrote : IsWritten (max prepared.clock 0 + 1) (Born q (Some par) link) prepared log') where
+      pub child_whole : (r : Resident) → r.me ≡ q → r.state ≡ linked (Some par) link fresh
+          → IsSameTable table roomy → (key : Key) → Inserted r key roomy mid → Changes par (adopts q link) mid table'
+          → IsWhole config log' table' queue mark
+      child_whole r me_is state_is same key ins changes =
+          let whole' = same_whole config log table roomy queue mark whole same in
+          let there' : Some (me, s) ≡ resident_at log.desk roomy par = there ∙ sym (same_reading log.desk table roomy same par) in
+          let free' : Some q ≡ vacant_at log.desk roomy = free ∙ ap (option_map (pid_at log.desk)) (sym same.next) in
+          let at : q ≡ pid_at log.desk key = offered_key log.desk (next_key roomy) key q ins.offered free' in
+          let m : ℕ = max prepared.clock 0 + 1 in
+          let since : IsWritten m (Born q (Some par) link) log log' = written_since m (Born q (Some par) link) log prepared log' ready.0 wrote in
+          let now : DeskState = desk_of config log table queue mark in
+          let lives = (found config log table queue mark whole par me s there).0 in
+          let new : made_link (past now) (new_link now) ≡ false = fresh_link config.start config.top_version log.desk log.journal (new_link now) whole.sound.local (omega (arith, whole.sound.clock_is)) in
+          let may : MayBear [] (past now) (Some par) link = subst (MayBear [] (past now) (Some par)) (sym is) (may_link (past now) par s lives asked (new_link now) new) in
+          let new_at : IsLinkAt log.desk (log.clock + 1) link = subst (IsLinkAt log.desk (log.clock + 1)) (sym is) (link_at log.desk (log.clock + 1) asked) in
+          let birth = child_born config log roomy queue mark whole' key r mid ins par me s there' link (me_is ∙ at) state_is table'
+          (subst (λ x. Changes par (adopts x link) mid table') at changes) (let k = ready.1 in omega arith) may new_at in
+          keeps_born config log roomy queue mark whole' key r mid ins (Some par) link table' birth
+          m (same_stamp log prepared ready.0) log' (subst (λ x. IsWritten m (Born x (Some par) link) log log') at since)
+
+      -- the answer
+      pub child_answers : BearsChild par asked (desk_of config log table queue mark) (Ok q) (desk_of config log' table' queue mark)
+      child_answers =
+          let m : ℕ = max prepared.clock 0 + 1 in
+          let since : IsWritten m (Born q (Some par) link) log log' = written_since m (Born q (Some par) link) log prepared log' ready.0 wrote in
+          let stamp : m ≡ log.clock + 1 = same_stamp log prepared ready.0 in
+          (ap is_living (found config log table queue mark whole par me s there).0, ((let k = ready.1 in omega arith), sym free, rw (since.0, since.1, since.2, stamp, is, append-nil) refl))

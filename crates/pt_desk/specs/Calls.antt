@@ -1,5 +1,6 @@
 -- What each call of a desk answers, and what it leaves.
 use Rattle.std.specs.Prelude.{◌≡◌, ℕ, ◌+◌, ◌^◌, ◌<◌, ◌≤◌, Bool, true, false, cond, ◌||◌, is_some, Option, Some, None, IsSome, Result, Ok, Err}
+use Rattle.std.specs.Bool.{then_some}
 use Rattle.std.specs.List.{find}
 use Rattle.std.specs.Map.{lookup}
 use Rattle.std.specs.Option.{option_map}
@@ -105,8 +106,7 @@ Bears parent link old (Err Gone) new = ⊥
 Bears parent link old (Err Myself) new = ⊥
 
 abbrev pub birth_link : Bool → DeskState → Option LinkId
-birth_link false d = None
-birth_link true d = Some (new_link d)
+birth_link linked d = then_some linked (new_link d)
 
 abbrev pub BearsChild : Pid → Bool → DeskState → Result Pid Fault → DeskState → Type 0
 BearsChild parent linked old (Ok p) new = (lives old parent ≡ true) × Bears (Some parent) (birth_link linked old) old (Ok p) new
