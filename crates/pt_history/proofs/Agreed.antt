@@ -18,7 +18,7 @@ use Rattle.pt_history.specs.Resumed.{start_after, AllNewTo}
 use Rattle.pt_signal.proofs.Same.{same_pid_is}
 use Rattle.pt_history.proofs.Local.{AllHome}
 use Rattle.pt_history.proofs.Homes.{life_home}
-use Rattle.pt_history.proofs.Merge.{AllLocal, head_local, tail_local, all_home}
+use Rattle.pt_history.proofs.Merged.{AllLocal, head_local, tail_local, all_home}
 use Rattle.pt_history.proofs.Resumed.{same_life, same_flying, resumed}
 use Rattle.pt_history.proofs.Phases.{was_unborn}
 use Rattle.pt_history.proofs.Takings.{has, empty_entry}

@@ -1,6 +1,6 @@
 use Rattle.std.proofs.Common.{ℕ, [], sym, subst₂}
 use Rattle.pt_history.specs.Journal.{Agrees, posts, gots, of_desk, events}
-use Rattle.pt_history.proofs.Merge.{merged_legal}
+use Rattle.pt_history.proofs.Merged.{merged_legal}
 use Rattle.pt_history.proofs.Agreed.{all_local, born_free, merge_known, merge_home, links_agree}
 use Rattle.pt_history.proofs.links.merge_links.Goals as goal
 
