@@ -21,3 +21,4 @@ pub mod Judge
 pub mod Entries
 pub mod Settled
 pub mod Holding
+pub mod InOrder
