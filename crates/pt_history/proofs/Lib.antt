@@ -7,7 +7,7 @@ pub mod Sender
 pub mod Taken
 pub mod Lanes
 pub mod Homes
-pub mod Merge
+pub mod Merged
 pub mod Load
 pub mod Counts
 pub mod Downs
@@ -22,3 +22,4 @@ pub mod Entries
 pub mod Settled
 pub mod Holding
 pub mod InOrder
+pub mod Race

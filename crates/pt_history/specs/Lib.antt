@@ -2,6 +2,7 @@ pub mod Text
 pub mod History
 pub mod JournalState
 pub mod Journal
+pub mod Merging
 pub mod Taken
 pub mod Sender
 pub mod Load

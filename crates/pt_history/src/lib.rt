@@ -8,7 +8,9 @@
 mod cause;
 mod event;
 mod journal;
+mod merging;
 
 pub use cause::Cause;
 pub use event::{Event, Stamped};
 pub use journal::Journal;
+pub use merging::merge;
