@@ -23,3 +23,4 @@ pub mod Settled
 pub mod Holding
 pub mod InOrder
 pub mod Race
+pub mod MergeStep

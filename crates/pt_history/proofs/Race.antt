@@ -1,18 +1,23 @@
 -- The race of journals: reading and writing its seats.
-use Rattle.std.proofs.Common.{◌≡◌, ◌⊎◌, ℕ, zero, suc, ◌+◌, ◌-◌, ◌/◌, ◌<◌, ◌≤◌, Bool, true, false, cond, ◌==◌, Option, Some, None, List, [], ◌∷◌, ◌++◌, drop, reverse, length, get_or, set, refl, sym, ap, ◌∙◌, subst, ⊎_elim, inl, inr, arith}
+use Rattle.std.proofs.Common.{◌≡◌, ◌⊎◌, ℕ, zero, suc, ◌+◌, ◌-◌, ◌/◌, ◌<◌, ◌≤◌, Bool, true, false, cond, ◌==◌, Option, Some, None, List, [], ◌∷◌, ◌++◌, drop, reverse, length, get_or, set, refl, sym, ap, ◌∙◌, subst, ⊎_elim, inl, inr, add-one, arith}
 use Rattle.std.proofs.lemmas.Bool.{cases_lt, cases_order}
 use Rattle.std.proofs.lemmas.List.{get_or_read, get_or-set_same, get_or-set_other}
 use denote.Ref.{Bor}
 use Rattle.pt_history.specs.declared.event.Stamped.{Stamped}
 use Rattle.pt_history.specs.declared.merging.Seat.{Seat}
 use Rattle.pt_history.specs.JournalState.{JournalState}
-use Rattle.pt_history.specs.Merging.{head_of, Given, events_at, seat_at, winner_at, taken_at, left_at, key_of, key_at, leads, middle, IsBest, IsPlayed, alone, matched, winner_in, OnlyWinners, IsTaken, IsFirst, TakesFirst}
+use Rattle.pt_history.specs.Merging.{head_of, Given, desk_at, past_at, events_at, seat_at, winner_at, taken_at, left_at, key_of, key_at, leads, middle, IsBest, IsPlayed, alone, matched, winner_in, OnlyWinners, IsTaken, IsFirst, TakesFirst}
 use Rattle.std.proofs.lemmas.Bool.Decides.{nat_tests}
 
-pub events_read : (js : Given) (j : ℕ) (x : Bor JournalState) → j < length js → x ≡ get_or js j x → reverse x.now.past ≡ events_at js j
-events_read [] j x h e = absurd (omega arith)
-events_read (b ∷ bs) zero x h e = ap (λ (y : Bor JournalState). reverse y.now.past) e
-events_read (b ∷ bs) (suc j) x h e = events_read bs j x (omega arith) e
+pub past_read : (js : Given) (j : ℕ) (x : Bor JournalState) → j < length js → x ≡ get_or js j x → x.now.past ≡ past_at js j
+past_read [] j x h e = absurd (omega arith)
+past_read (b ∷ bs) zero x h e = ap (λ (y : Bor JournalState). y.now.past) e
+past_read (b ∷ bs) (suc j) x h e = past_read bs j x (omega arith) e
+
+pub desk_read : (js : Given) (j : ℕ) (x : Bor JournalState) → j < length js → x ≡ get_or js j x → x.now.desk ≡ desk_at js j
+desk_read [] j x h e = absurd (omega arith)
+desk_read (b ∷ bs) zero x h e = ap (λ (y : Bor JournalState). y.now.desk) e
+desk_read (b ∷ bs) (suc j) x h e = desk_read bs j x (omega arith) e
 
 -- the order of the next events -------------------------------------------------------------
 
@@ -147,11 +152,14 @@ other_half key winner low high some (matched l h more one other best) = other
 
 -- taking the next event ---------------------------------------------------------------------------
 
+head_suc : (xs : List Stamped) (n : ℕ) (s : Stamped) → head_of (drop n xs) ≡ Some s → drop n xs ≡ s ∷ drop (suc n) xs
+head_suc [] zero s h = absurd (cc)
+head_suc [] (suc n) s h = absurd (cc)
+head_suc (x ∷ xs) zero s h = let e : x ≡ s = cc in ap (λ y. y ∷ xs) e
+head_suc (x ∷ xs) (suc n) s h = head_suc xs n s h
+
 head_taken : (xs : List Stamped) (n : ℕ) (s : Stamped) → head_of (drop n xs) ≡ Some s → drop n xs ≡ s ∷ drop (n + 1) xs
-head_taken [] zero s h = absurd (cc)
-head_taken [] (suc n) s h = absurd (cc)
-head_taken (x ∷ xs) zero s h = let e : x ≡ s = cc in ap (λ y. y ∷ xs) e
-head_taken (x ∷ xs) (suc n) s h = head_taken xs n s h
+head_taken xs n s h = rw add-one (head_suc xs n s h)
 
 no_head : (xs : List Stamped) → head_of xs ≡ None → xs ≡ []
 no_head [] h = refl

@@ -3,7 +3,7 @@ use Rattle.std.specs.Prelude.{◌≡◌, ◌⊎◌, length, ℕ, zero, suc, ◌+
 use denote.Ref.{Bor}
 use Rattle.pt_history.specs.declared.event.Stamped.{Stamped}
 use Rattle.pt_history.specs.declared.merging.Seat.{Seat}
-use Rattle.pt_history.specs.JournalState.{JournalState}
+use Rattle.pt_history.specs.JournalState.{JournalState, IsInOrder}
 use Rattle.pt_history.specs.Journal.{Journals}
 
 abbrev pub Given : Type 0
@@ -24,11 +24,24 @@ abbrev pub AreApart : Given → Type 0
 AreApart [] = Unit {0}
 AreApart (j ∷ js) = HasNone js j.now.desk × AreApart js
 
--- the events of one journal, oldest first
+-- the desk of one journal
+abbrev pub desk_at : Given → ℕ → ℕ
+desk_at [] j = 0
+desk_at (b ∷ bs) zero = b.now.desk
+desk_at (b ∷ bs) (suc j) = desk_at bs j
+
+-- the events of one journal, newest first
+abbrev pub past_at : Given → ℕ → List Stamped
+past_at [] j = []
+past_at (b ∷ bs) zero = b.now.past
+past_at (b ∷ bs) (suc j) = past_at bs j
+
+abbrev pub AreInOrder : Given → Type 0
+AreInOrder js = (j : ℕ) → j < length js → IsInOrder (desk_at js j) (past_at js j)
+
+-- and oldest first
 abbrev pub events_at : Given → ℕ → List Stamped
-events_at [] j = []
-events_at (b ∷ bs) zero = reverse b.now.past
-events_at (b ∷ bs) (suc j) = events_at bs j
+events_at js j = reverse (past_at js j)
 
 abbrev pub seat_at : List Seat → ℕ → Seat
 seat_at seats i = slice_index_or seats i (record { winner = 0; taken = 0 })

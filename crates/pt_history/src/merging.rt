@@ -2,7 +2,8 @@
 
 ghost use Rattle.std.specs.Prelude.{◌≡◌, ℕ, ◌+◌, ◌<◌, ◌≤◌, ◌^◌, length, reverse, IfOk, OnSome};
 ghost use Rattle.pt_history.specs.Journal.{IsMerge};
-ghost use Rattle.pt_history.specs.Merging.{AreApart, journal_of, events_at, left_at, head_of, key_at, taken_at, winner_at, winner_in, middle, leads, IsBest, IsPlayed, IsTaken, OnlyWinners, TakesFirst};
+ghost use Rattle.pt_history.specs.JournalState.{IsInOrder};
+ghost use Rattle.pt_history.specs.Merging.{AreApart, journal_of, AreInOrder, desk_at, past_at, events_at, left_at, head_of, key_at, taken_at, winner_at, winner_in, middle, leads, IsBest, IsPlayed, IsTaken, OnlyWinners, TakesFirst};
 
 use crate::{Journal, Stamped};
 use std::alloc::{AllocError, Global};
@@ -26,7 +27,8 @@ struct Seat {
 pub fn merge(alloc: Global, journals: &[&Journal]) -> Result<Vec<Stamped>, AllocError>
     ensures { IfOk result (λ merged. AreApart journals.now → IsMerge (journal_of journals.now) (reverse merged.items)) }
 {
-    let mut merged = Vec::with_capacity(alloc, count(journals))?;
+    let count = count(journals);
+    let mut merged = Vec::with_capacity(alloc, count)?;
     let mut seats = seats(alloc, journals)?;
     while let Some(event) = next(journals, &mut seats) {
         merged.push(event)?;
@@ -35,10 +37,12 @@ pub fn merge(alloc: Global, journals: &[&Journal]) -> Result<Vec<Stamped>, Alloc
 }
 
 // How many events there are.
-fn count(journals: &[&Journal]) -> usize {
+fn count(journals: &[&Journal]) -> usize
+    ensures { AreInOrder journals.now }
+{
     let mut count: usize = 0;
-    for journal in journals {
-        count = count.saturating_add(journal.events().len());
+    for which in 0..journals.len() {
+        count = count.saturating_add(events_of(journals, which).len());
     }
     count
 }
@@ -46,7 +50,8 @@ fn count(journals: &[&Journal]) -> usize {
 // The events of a journal, oldest first.
 fn events_of<'a>(journals: &[&'a Journal], which: usize) -> &'a [Stamped]
     requires { which < length journals.now }
-    ensures { result.now ≡ events_at journals.now which }
+    ensures events { result.now ≡ events_at journals.now which }
+    ensures order { IsInOrder (desk_at journals.now which) (past_at journals.now which) }
 {
     journals[which].events()
 }
