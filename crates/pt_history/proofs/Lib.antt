@@ -24,3 +24,4 @@ pub mod Holding
 pub mod InOrder
 pub mod Race
 pub mod MergeStep
+pub mod FirstPlaces

@@ -8,5 +8,7 @@ pub mod Sender
 pub mod Load
 pub mod Watch
 pub mod Resumed
+pub mod Places
+pub mod Same
 pub mod Judge
 pub mod Laws

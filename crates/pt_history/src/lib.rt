@@ -8,6 +8,7 @@
 mod cause;
 mod event;
 mod journal;
+mod judging;
 mod merging;
 
 pub use cause::Cause;

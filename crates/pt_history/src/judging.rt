@@ -1,0 +1,5 @@
+// The plain judge of histories.
+
+mod entries;
+mod links;
+mod same;
