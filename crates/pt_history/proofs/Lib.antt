@@ -25,3 +25,4 @@ pub mod InOrder
 pub mod Race
 pub mod MergeStep
 pub mod FirstPlaces
+pub mod Lives

@@ -9,6 +9,7 @@ pub mod Load
 pub mod Watch
 pub mod Resumed
 pub mod Places
+pub mod Judging
 pub mod Same
 pub mod Judge
 pub mod Laws
