@@ -26,3 +26,6 @@ pub mod Race
 pub mod MergeStep
 pub mod FirstPlaces
 pub mod Lives
+pub mod KeptNext
+pub mod SameValues
+pub mod Judged

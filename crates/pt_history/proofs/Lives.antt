@@ -39,7 +39,7 @@ IsNoBirth (Born q parent link) = ⊥
 IsNoBirth _ = Unit {0}
 
 -- an event that is not its birth leaves an unborn pid unborn
-after_unborn : (p : Pid) (e : Event) → IsNoBirth e → after p e unborn ≡ unborn
+pub after_unborn : (p : Pid) (e : Event) → IsNoBirth e → after p e unborn ≡ unborn
 after_unborn p (Born q parent link) h = absurd h
 after_unborn p (Said a b x) h = quiet_unborn (same_pid p a)
 after_unborn p (Came a b x) h = quiet_unborn (same_pid p b)
@@ -48,7 +48,7 @@ after_unborn p (Flag q on) h = quiet_unborn (same_pid p q)
 after_unborn p (Left q r) h = quiet_unborn (same_pid p q)
 
 -- a birth leaves every other unborn pid unborn
-other_unborn : (p q : Pid) (parent : Option Pid) (link : Option LinkId) → same_pid p q ≡ false → after p (Born q parent link) unborn ≡ unborn
+pub other_unborn : (p q : Pid) (parent : Option Pid) (link : Option LinkId) → same_pid p q ≡ false → after p (Born q parent link) unborn ≡ unborn
 other_unborn p q parent link h = rw h (quiet_unborn (is_the p parent))
 
 pub at_shown : (start : Start) (e : Event) (p : Pid) → after p e unborn ≡ unborn → at_start (map (shown e) start) p ≡ after p e (at_start start p)

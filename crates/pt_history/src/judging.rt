@@ -7,5 +7,7 @@ mod links;
 mod lives;
 mod same;
 mod state;
+mod trial;
 
 pub use state::State;
+pub use trial::replay;

@@ -14,5 +14,5 @@ mod merging;
 pub use cause::Cause;
 pub use event::{Event, Stamped};
 pub use journal::Journal;
-pub use judging::State;
+pub use judging::{State, replay};
 pub use merging::merge;
