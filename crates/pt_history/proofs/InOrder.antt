@@ -32,10 +32,10 @@ older_in_order d [] older h = h
 older_in_order d (s ∷ newer) older h = older_in_order d newer older h.2
 
 -- one more event of a list that is read from its front
-pub reverse_take : (xs : List Stamped) (i : ℕ) (d : Stamped) → i < length xs → reverse (take (i + 1) xs) ≡ get_or xs i d ∷ reverse (take i xs)
+pub reverse_take : {X : Type 0} (xs : List X) (i : ℕ) (d : X) → i < length xs → reverse (take (i + 1) xs) ≡ get_or xs i d ∷ reverse (take i xs)
 reverse_take xs i d h = ap reverse (take_more xs i d h) ∙ reverse-append (take i xs) (get_or xs i d ∷ [])
 
-pub reverse_split : (xs : List Stamped) (i : ℕ) → reverse xs ≡ reverse (drop i xs) ++ reverse (take i xs)
+pub reverse_split : {X : Type 0} (xs : List X) (i : ℕ) → reverse xs ≡ reverse (drop i xs) ++ reverse (take i xs)
 reverse_split xs i = ap reverse (sym (take-append-drop i xs)) ∙ reverse-append (take i xs) (drop i xs)
 
 -- a list read from its front, at its event i

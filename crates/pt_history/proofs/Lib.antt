@@ -29,3 +29,4 @@ pub mod Lives
 pub mod KeptNext
 pub mod SameValues
 pub mod Judged
+pub mod Trial

@@ -10,6 +10,8 @@ mod event;
 mod journal;
 mod judging;
 mod merging;
+#[cfg(test)]
+mod tests;
 
 pub use cause::Cause;
 pub use event::{Event, Stamped};
