@@ -1,5 +1,5 @@
 -- The judgement of one event more.
-use Rattle.std.proofs.Common.{◌≡◌, ℕ, ◌+◌, ◌<◌, Option, Some, None, Ok, Err, List, [], ◌∷◌, take, reverse, length, get_or, refl, sym, ap, ◌∙◌, subst, subst₂}
+use Rattle.std.proofs.Common.{◌≡◌, ℕ, ◌+◌, ◌<◌, Option, Some, None, Ok, Err, List, [], ◌∷◌, take, reverse, length, get_or, slice_get, refl, sym, ap, ◌∙◌, subst, subst₂}
 use Rattle.std.specs.declared.result.Result.{Result}
 use Rattle.std.proofs.lemmas.Option.{slice_get-get_or}
 use Rattle.pt_history.specs.declared.cause.Cause.{Cause}
@@ -9,6 +9,7 @@ use Rattle.pt_history.specs.declared.event.Event.TheVariants.{Born, Said, Came, 
 use Rattle.pt_history.specs.History.{Past, May, IsLegal}
 use Rattle.pt_history.specs.Judge.{Refuses, IsCause, IsJudged, Judges, Fails, Replays}
 use Rattle.pt_history.specs.Judging.{cause}
+use Rattle.pt_history.proofs.Judge.{no_cause}
 use Rattle.pt_history.proofs.Judged.{judged}
 use Rattle.pt_history.proofs.InOrder.{reverse_take}
 
@@ -34,13 +35,20 @@ judged_some past e o c h k = refused past e c (subst (IsJudged past e) (sym h �
 pub judged_none : (past : Past) (e : Event) (o : Option Cause) → o ≡ cause past e → o ≡ None → May [] past e
 judged_none past e o h k = subst (IsJudged past e) (sym h ∙ k) (judged past e)
 
+-- an event that is refused for a cause may not come
+cause_told : (h : List Event) (n : ℕ) (o : Event) (past : Past) (c : Cause) → n < length h → past ≡ reverse (take n h) → IsCause [] past (get_or h n o) c
+    → (e : Event) × (slice_get h n ≡ Some e) × ¬ May [] (reverse (take n h)) e × IsCause [] (reverse (take n h)) e c
+cause_told h n o past c k e j =
+    let at = subst (λ p. IsCause [] p (get_or h n o) c) e j in
+    (get_or h n o, slice_get-get_or h n o k, λ m. no_cause [] (reverse (take n h)) (get_or h n o) c m at.0, at)
+
 pub failed : (h : List Event) (n : ℕ) (o : Event) (past : Past) (c : Cause) → n < length h → past ≡ reverse (take n h) → Judges past (get_or h n o) (Err c) → Fails h n c
 failed h n o past Memory k e j = tt
-failed h n o past BornTwice k e j = (get_or h n o, slice_get-get_or h n o k, subst (λ p. IsCause [] p (get_or h n o) BornTwice) e j)
-failed h n o past NotAlive k e j = (get_or h n o, slice_get-get_or h n o k, subst (λ p. IsCause [] p (get_or h n o) NotAlive) e j)
-failed h n o past NotFront k e j = (get_or h n o, slice_get-get_or h n o k, subst (λ p. IsCause [] p (get_or h n o) NotFront) e j)
-failed h n o past NotFirstMatch k e j = (get_or h n o, slice_get-get_or h n o k, subst (λ p. IsCause [] p (get_or h n o) NotFirstMatch) e j)
-failed h n o past Unlawful k e j = (get_or h n o, slice_get-get_or h n o k, subst (λ p. IsCause [] p (get_or h n o) Unlawful) e j)
+failed h n o past BornTwice k e j = cause_told h n o past BornTwice k e j
+failed h n o past NotAlive k e j = cause_told h n o past NotAlive k e j
+failed h n o past NotFront k e j = cause_told h n o past NotFront k e j
+failed h n o past NotFirstMatch k e j = cause_told h n o past NotFirstMatch k e j
+failed h n o past Unlawful k e j = cause_told h n o past Unlawful k e j
 
 -- the judge has come to the place
 pub record IsAtPlace (h : List Event) (n : ℕ) (past : Past) : Type 0 where

@@ -62,7 +62,7 @@ Judges past e (Err c) = IsCause [] past e c
 -- the event at the place may not come for that cause, or memory was wanting for it
 abbrev pub Fails : List Event → ℕ → Cause → Type 0
 Fails h n Memory = Unit {0}
-Fails h n c = (e : Event) × (slice_get h n ≡ Some e) × IsCause [] (reverse (take n h)) e c
+Fails h n c = (e : Event) × (slice_get h n ≡ Some e) × ¬ May [] (reverse (take n h)) e × IsCause [] (reverse (take n h)) e c
 
 -- the judgement of a history, oldest event first: the state is that of the whole legal history; or the events
 -- before the place are legal, and the one at the place may not come, memory aside
