@@ -1,5 +1,5 @@
 -- The events of one desk in order, oldest first.
-use Rattle.std.proofs.Common.{◌≡◌, ℕ, ◌<◌, ◌≤◌, List, [], ◌∷◌, ◌++◌, Option, Some, None, reverse, take, drop, length, get_or, refl, subst, sym, ◌∙◌, ap, ◌+◌, Bool, true, false, ◌==◌, ◌&&◌, nat_lt, arith}
+use Rattle.std.proofs.Common.{◌≡◌, ℕ, ◌<◌, List, [], ◌∷◌, ◌++◌, Option, Some, None, reverse, take, drop, length, get_or, subst, sym, ◌∙◌, ap, ◌+◌, true, false, arith}
 use Rattle.std.proofs.lemmas.Bool.{both_ways, and_parts, eqb-true, eq-eqb, ltb-true}
 use Rattle.std.proofs.lemmas.Bool.Decides.{nat_tests}
 use Rattle.std.proofs.lemmas.List.{reverse-append, take-append-drop, take_more}
@@ -40,7 +40,7 @@ reverse_split xs i = ap reverse (sym (take-append-drop i xs)) ∙ reverse-append
 
 -- a list read from its front, at its event i
 module _ (d : ℕ) (xs : List Stamped) (i : ℕ) (o : Stamped) (newest : Option ℕ) (within : i < length xs)
-  (known : newest ≡ newest_stamp (reverse (take i xs))) where
+    (known : newest ≡ newest_stamp (reverse (take i xs))) where
   here : reverse (take (i + 1) xs) ≡ get_or xs i o ∷ reverse (take i xs)
   here = reverse_take xs i o within
 

@@ -1,5 +1,5 @@
 -- The causes that the judge finds by tests are the lowest that fit.
-use Rattle.std.proofs.Common.{◌≡◌, ℕ, ◌<◌, Bool, true, false, cond, not, ◌&&◌, Option, Some, None, is_none, List, [], ◌∷◌, refl, ap, sym, ◌∙◌, subst, arith}
+use Rattle.std.proofs.Common.{◌≡◌, ◌<◌, Bool, true, false, cond, not, Option, Some, None, is_none, List, [], ◌∷◌, refl, ap, sym, ◌∙◌, subst, arith}
 use Rattle.std.specs.Map.{lookup}
 use Rattle.std.specs.List.{find}
 use Rattle.std.specs.Option.{option_map}
@@ -17,13 +17,12 @@ use Rattle.pt_history.specs.declared.cause.Cause.TheVariants.{BornTwice, NotAliv
 use Rattle.pt_history.specs.declared.event.Event.{Event}
 use Rattle.pt_history.specs.declared.event.Event.TheVariants.{Born, Said, Came, Took, Flag, Left}
 use Rattle.pt_signal.specs.Values.{same_pid, same_ref, fits}
-use Rattle.pt_signal.specs.Process.{ProcessState, held, Sent, sent}
-use Rattle.pt_history.specs.History.{Past, Phase, unborn, living, ended, is_unborn, is_the, is_between, life, alive, state, flying, made_link, made_ref, May, MaySay, MayBear}
-use Rattle.pt_history.specs.Judge.{number, Refuses, IsCause, DeadParent, BadLink, IsJudged}
+use Rattle.pt_signal.specs.Process.{held, Sent, sent}
+use Rattle.pt_history.specs.History.{Past, Phase, unborn, living, ended, is_unborn, is_the, is_between, life, alive, state, flying, MaySay, MayBear}
+use Rattle.pt_history.specs.Judge.{number, Refuses, DeadParent, BadLink, IsJudged}
 use Rattle.pt_history.specs.Judging.{is_item, is_ids, is_signal, may_say, lacks, unlawful_link, cause}
 use Rattle.pt_signal.proofs.Same.{same_pid_is, same_pid_refl}
 use Rattle.pt_history.proofs.SameValues.{item_is, item_refl, ids_is, ids_refl, signal_is, signal_refl}
-use Rattle.pt_history.proofs.Judge.{no_cause}
 
 -- tests and what they tell ------------------------------------------------------------------
 

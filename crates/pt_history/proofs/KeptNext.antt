@@ -1,19 +1,17 @@
 -- The table and the signals on their way, after one event more.
-use Rattle.std.proofs.Common.{◌≡◌, Bool, true, false, cond, not, ◌||◌, Option, Some, None, is_some, List, [], ◌∷◌, ◌++◌, refl, ap, sym, ◌∙◌, subst, subst₂}
-use Rattle.std.specs.Map.{lookup}
+use Rattle.std.proofs.Common.{◌≡◌, Bool, true, false, cond, not, ◌||◌, Option, Some, None, List, [], ◌∷◌, ◌++◌, refl, ap, sym, ◌∙◌, subst₂}
 use Rattle.pt_signal.specs.declared.pid.Pid.{Pid}
-use Rattle.pt_signal.specs.declared.ids.LinkId.{LinkId}
 use Rattle.pt_signal.specs.declared.reason.Reason.{Reason}
 use Rattle.pt_signal.specs.declared.signal.Signal.{Signal}
 use Rattle.pt_history.specs.declared.event.Event.{Event}
 use Rattle.pt_history.specs.declared.event.Event.TheVariants.{Born, Said, Came, Took, Flag, Left}
 use Rattle.pt_signal.specs.Values.{same_pid}
-use Rattle.pt_signal.specs.Process.{ProcessState, handle, estate, Sent, bounce}
-use Rattle.pt_history.specs.History.{Past, Start, Phase, unborn, living, ended, is_living, is_unborn, at_start, after, touches, is_the, live_or_end, reason_of, state_of, end_sends, got_sends, left_sends, landed, life, flying, sent_by}
-use Rattle.pt_history.specs.Judging.{is_born, lived, owed, sends, IsObserved, IsKept}
+use Rattle.pt_signal.specs.Process.{ProcessState, handle, Sent, bounce}
+use Rattle.pt_history.specs.History.{Past, Start, Phase, unborn, living, ended, is_living, is_unborn, at_start, after, live_or_end, reason_of, state_of, end_sends, got_sends, left_sends, landed, life, flying, sent_by}
+use Rattle.pt_history.specs.Judging.{is_born, lived, sends, IsObserved, IsKept}
 use Rattle.pt_signal.proofs.Same.{same_pid_refl}
-use Rattle.pt_history.proofs.Phases.{each_branch, after_born}
-use Rattle.pt_history.proofs.Lives.{IsNoBirth, after_unborn, other_unborn}
+use Rattle.pt_history.proofs.Phases.{after_born}
+use Rattle.pt_history.proofs.Lives.{after_unborn, other_unborn}
 
 -- a pid is unborn until its birth
 born_after : (p : Pid) (e : Event) (f : Phase) → not (is_unborn f) || is_born p e ≡ not (is_unborn (after p e f))

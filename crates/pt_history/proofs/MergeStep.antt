@@ -1,13 +1,12 @@
 -- The merge, event by event.
-use Rattle.std.proofs.Common.{◌≡◌, ◌⊎◌, ℕ, zero, suc, ◌+◌, ◌<◌, ◌≤◌, Bool, true, false, cond, ◌==◌, Option, Some, None, List, [], ◌∷◌, ◌++◌, drop, reverse, length, refl, sym, ap, ◌∙◌, subst, ⊎_elim, inl, inr, append_assoc, append-nil, arith}
+use Rattle.std.proofs.Common.{◌≡◌, ◌⊎◌, ℕ, zero, suc, ◌+◌, ◌<◌, Bool, true, false, ◌==◌, Some, List, [], ◌∷◌, ◌++◌, drop, reverse, length, refl, sym, ap, ◌∙◌, subst, ⊎_elim, inl, inr, append_assoc, append-nil, arith}
 use Rattle.std.proofs.lemmas.Bool.{eq-eqb, ne_eqb, both_ways, eqb-true, leb-true, ltb-true, cases_eq, and_parts, or_cases}
 use Rattle.std.proofs.lemmas.List.{reverse-append, reverse-reverse}
-use denote.Ref.{Bor}
 use Rattle.pt_history.specs.declared.event.Stamped.{Stamped}
 use Rattle.pt_history.specs.declared.merging.Seat.{Seat}
-use Rattle.pt_history.specs.JournalState.{JournalState, IsInOrder}
+use Rattle.pt_history.specs.JournalState.{IsInOrder}
 use Rattle.pt_history.specs.Journal.{of_desk, IsAfter, AllBefore, IsRising, IsMerge}
-use Rattle.pt_history.specs.Merging.{Given, journal_of, HasNone, AreApart, AreInOrder, desk_at, past_at, events_at, taken_at, left_at, head_of, key_of, key_at, leads, IsFirst, TakesFirst}
+use Rattle.pt_history.specs.Merging.{Given, journal_of, HasNone, AreApart, AreInOrder, desk_at, past_at, events_at, taken_at, left_at, head_of, key_of, leads, IsFirst}
 use Rattle.pt_history.proofs.InOrder.{older_in_order}
 
 -- journals of different desks ---------------------------------------------------------------------
@@ -90,7 +89,7 @@ of_desk_other : (d : ℕ) (s : Stamped) (merged : List Stamped) → (s.desk ≡ 
 of_desk_other d s merged e = rw (ne_eqb s.desk d e) refl
 
 module _ (js : Given) (old new : List Seat) (merged : List Stamped) (s : Stamped) (which : ℕ) (order : AreInOrder js) (apart : AreApart js)
-  (m : IsMerging js old merged) (f : IsFirst js old new s which) where
+    (m : IsMerging js old merged) (f : IsFirst js old new s which) where
   -- what is next of any journal follows what the merge has of it
   next_in_order : (j : ℕ) (x : Stamped) → j < length js → head_of (left_at js old j) ≡ Some x → IsInOrder (desk_at js j) (x ∷ of_desk (desk_at js j) merged)
   next_in_order j x k e =
@@ -124,7 +123,7 @@ module _ (js : Given) (old new : List Seat) (merged : List Stamped) (s : Stamped
   later x e =
       let w = some_first (left_at js new which) x e in
       let o = front_in_order (desk_at js which) (past_at js which) (left_at js new which) (s ∷ of_desk (desk_at js which) merged) x w.0 w.1
-          (ap (λ z. reverse (left_at js new which) ++ z) (sym (of_desk_here (desk_at js which) s merged here)) ∙ joined_here) (order which f.within)
+      (ap (λ z. reverse (left_at js new which) ++ z) (sym (of_desk_here (desk_at js which) s merged here)) ∙ joined_here) (order which f.within)
       in
       inl o.1
 
@@ -157,11 +156,11 @@ merged_all js seats merged h m = (m.rising, whole)
     whole d =
         ⊎_elim (λ (w : HasNone js d × (journal_of js d ≡ [])). m.none_else d w.0 ∙ sym w.1)
         (λ (w : (j : ℕ) × IsAt js d j).
-            let k = w.1.within in
-            ap (λ i. of_desk i merged) (sym w.1.desk)
-            ∙ ap (λ z. reverse z ++ of_desk (desk_at js w.0) merged) (sym (h w.0 k))
-            ∙ m.joined w.0 k
-            ∙ sym w.1.past)
+        let k = w.1.within in
+        ap (λ i. of_desk i merged) (sym w.1.desk)
+        ∙ ap (λ z. reverse z ++ of_desk (desk_at js w.0) merged) (sym (h w.0 k))
+        ∙ m.joined w.0 k
+        ∙ sym w.1.past)
         (find_desk js d)
 
 -- how many events are left ---------------------------------------------------------------------------------
@@ -178,13 +177,13 @@ total_falls : (f g : ℕ → ℕ) (n which : ℕ) → which < n → suc (g which
 total_falls f g zero which k e h = absurd (omega arith)
 total_falls f g (suc n) which k e h =
     ⊎_elim (λ (q : which ≡ n).
-        let a = subst (λ i. suc (g i) ≡ f i) q e in
-        let b = total_same f g n (λ j l. h j (λ r. omega arith)) in
-        omega arith)
+    let a = subst (λ i. suc (g i) ≡ f i) q e in
+    let b = total_same f g n (λ j l. h j (λ r. omega arith)) in
+    omega arith)
     (λ (q : which ≡ n → ⊥).
-        let a = h n (λ r. q (sym r)) in
-        let b = total_falls f g n which (omega arith) e h in
-        omega arith)
+    let a = h n (λ r. q (sym r)) in
+    let b = total_falls f g n which (omega arith) e h in
+    omega arith)
     (cases_eq which n)
 
 abbrev pub left_total : Given → List Seat → ℕ

@@ -1,7 +1,7 @@
 -- The race of journals: reading and writing its seats.
-use Rattle.std.proofs.Common.{◌≡◌, ◌⊎◌, ℕ, zero, suc, ◌+◌, ◌-◌, ◌/◌, ◌<◌, ◌≤◌, Bool, true, false, cond, ◌==◌, Option, Some, None, List, [], ◌∷◌, ◌++◌, drop, reverse, length, get_or, set, refl, sym, ap, ◌∙◌, subst, ⊎_elim, inl, inr, add-one, arith}
+use Rattle.std.proofs.Common.{◌≡◌, ◌⊎◌, ℕ, zero, suc, ◌+◌, ◌-◌, ◌<◌, ◌≤◌, Bool, true, false, ◌==◌, Option, Some, None, List, [], ◌∷◌, drop, length, get_or, set, refl, sym, ap, ◌∙◌, subst, ⊎_elim, inl, inr, add-one, arith}
 use Rattle.std.proofs.lemmas.Bool.{cases_lt, cases_order}
-use Rattle.std.proofs.lemmas.List.{get_or_read, get_or-set_same, get_or-set_other}
+use Rattle.std.proofs.lemmas.List.{get_or-set_same, get_or-set_other}
 use denote.Ref.{Bor}
 use Rattle.pt_history.specs.declared.event.Stamped.{Stamped}
 use Rattle.pt_history.specs.declared.merging.Seat.{Seat}
@@ -69,16 +69,16 @@ played_kept key key' winner winner' low high h k (matched l g some one other bes
     let n : low < middle low high = omega arith in
     let m : middle low high < high = omega arith in
     matched low high some
-        (played_kept key key' winner winner' low (middle low high) (λ j a b. h j a (omega arith)) (λ i a b. k i a (omega arith)) one)
-        (played_kept key key' winner winner' (middle low high) high (λ j a b. h j (omega arith) b) (λ i a b. k i (omega arith) b) other)
-        (subst (IsBest key' low high) (sym (k (middle low high) n m))
-        (record {
-          from = best.from;
-          below = best.below;
-          leads_all = λ j a b.
-              subst (λ z. leads (key' (winner (middle low high))) z ≡ true) (sym (h j a b))
-              (subst (λ z. leads z (key j) ≡ true) (sym (h (winner (middle low high)) best.from best.below)) (best.leads_all j a b));
-        }))
+    (played_kept key key' winner winner' low (middle low high) (λ j a b. h j a (omega arith)) (λ i a b. k i a (omega arith)) one)
+    (played_kept key key' winner winner' (middle low high) high (λ j a b. h j (omega arith) b) (λ i a b. k i (omega arith) b) other)
+    (subst (IsBest key' low high) (sym (k (middle low high) n m))
+    (record {
+      from = best.from;
+      below = best.below;
+      leads_all = λ j a b.
+          subst (λ z. leads (key' (winner (middle low high))) z ≡ true) (sym (h j a b))
+          (subst (λ z. leads z (key j) ≡ true) (sym (h (winner (middle low high)) best.from best.below)) (best.leads_all j a b));
+    }))
 
 -- writes of seats -----------------------------------------------------------------------------
 
@@ -108,8 +108,8 @@ module _ (js : Given) where
       → IsPlayed (key_at js (set seats (middle low high) (record { winner = w; taken = t }))) (winner_at (set seats (middle low high) (record { winner = w; taken = t }))) low high
   match_played seats low high w t some within e one other best =
       matched low high some (half_kept seats new low m (λ j a b. taken j) (λ i a b. winners i (omega arith)) one)
-          (half_kept seats new m high (λ j a b. taken j) (λ i a b. winners i (omega arith)) other)
-          (subst (IsBest (key_at js new) low high) (sym (ap (λ (s : Seat). s.winner) here)) (best_same seats new low high w taken best))
+      (half_kept seats new m high (λ j a b. taken j) (λ i a b. winners i (omega arith)) other)
+      (subst (IsBest (key_at js new) low high) (sym (ap (λ (s : Seat). s.winner) here)) (best_same seats new low high w taken best))
     where
       m : ℕ
       m = middle low high
@@ -136,7 +136,7 @@ module _ (js : Given) where
       → low < high → IsPlayed (key_at js old) (winner_at old) low high → IsPlayed (key_at js new) (winner_at new) low high
   apart_taken old new low high from to which t w d some p =
       half_kept old new low high (λ j a b. t.same_taken j (λ e. ⊎_elim (λ (k : which < low). omega arith) (λ (k : high ≤ which). omega arith) w))
-          (λ i a b. t.same_outside i (⊎_elim (λ (k : to ≤ low). inr (omega arith)) (λ (k : high ≤ from). inl (omega arith)) d)) p
+      (λ i a b. t.same_outside i (⊎_elim (λ (k : to ≤ low). inr (omega arith)) (λ (k : high ≤ from). inl (omega arith)) d)) p
 
   pub apart_written : (old new : List Seat) (low high from to : ℕ) → OnlyWinners from to old new → high ≤ from
       → IsPlayed (key_at js old) (winner_at old) low high → IsPlayed (key_at js new) (winner_at new) low high

@@ -1,10 +1,8 @@
 -- The tests of values decide equality.
-use Rattle.std.proofs.Common.{◌≡◌, Bool, true, false, ◌==◌, ◌&&◌, Option, Some, None, refl, ap}
+use Rattle.std.proofs.Common.{◌≡◌, Bool, true, Option, Some, None, refl, ap}
 use Rattle.std.specs.Option.{option_eq}
-use Rattle.std.specs.Ordering.{int_eq}
 use Rattle.std.proofs.lemmas.Bool.{eqb-true, eq-eqb, and_parts}
 use Rattle.std.proofs.lemmas.Bool.Decides.{Decides-int_eq}
-use Rattle.pt_signal.specs.declared.pid.Pid.{Pid}
 use Rattle.pt_signal.specs.declared.item.Body.{Body}
 use Rattle.pt_signal.specs.declared.ids.Ids.{Ids}
 use Rattle.pt_signal.specs.declared.item.Item.{Item}
@@ -13,7 +11,7 @@ use Rattle.pt_signal.specs.declared.reason.Reason.{Reason}
 use Rattle.pt_signal.specs.declared.reason.Reason.TheVariants.{Normal, Kill, Killed, Noproc, Shutdown, Other}
 use Rattle.pt_signal.specs.declared.signal.Signal.{Signal}
 use Rattle.pt_signal.specs.declared.signal.Signal.TheVariants.{Message, Link, Unlink, LinkExit, Monitor, Demonitor}
-use Rattle.pt_signal.specs.Values.{same_pid, same_ref, same_link}
+use Rattle.pt_signal.specs.Values.{same_pid, same_link}
 use Rattle.pt_signal.proofs.Same.{same_pid_is, same_pid_refl, same_ref_is, same_ref_refl, same_link_is, same_link_refl}
 use Rattle.pt_history.specs.Same.{same_reason, same_body, same_item, same_ids, same_signal}
 

@@ -1,13 +1,12 @@
 -- The judgement of one event more.
-use Rattle.std.proofs.Common.{◌≡◌, ℕ, ◌+◌, ◌<◌, Option, Some, None, Ok, Err, List, [], ◌∷◌, take, reverse, length, get_or, slice_get, refl, sym, ap, ◌∙◌, subst, subst₂}
-use Rattle.std.specs.declared.result.Result.{Result}
+use Rattle.std.proofs.Common.{◌≡◌, ℕ, ◌+◌, ◌<◌, Option, Some, None, Ok, Err, List, [], ◌∷◌, take, reverse, length, get_or, slice_get, sym, ap, ◌∙◌, subst}
 use Rattle.std.proofs.lemmas.Option.{slice_get-get_or}
 use Rattle.pt_history.specs.declared.cause.Cause.{Cause}
 use Rattle.pt_history.specs.declared.cause.Cause.TheVariants.{BornTwice, NotAlive, NotFront, NotFirstMatch, Unlawful, Memory}
 use Rattle.pt_history.specs.declared.event.Event.{Event}
 use Rattle.pt_history.specs.declared.event.Event.TheVariants.{Born, Said, Came, Took, Flag, Left}
 use Rattle.pt_history.specs.History.{Past, May, IsLegal}
-use Rattle.pt_history.specs.Judge.{Refuses, IsCause, IsJudged, Judges, Fails, Replays}
+use Rattle.pt_history.specs.Judge.{Refuses, IsCause, IsJudged, Judges, Fails}
 use Rattle.pt_history.specs.Judging.{cause}
 use Rattle.pt_history.proofs.Judge.{no_cause}
 use Rattle.pt_history.proofs.Judged.{judged}

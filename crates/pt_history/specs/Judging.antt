@@ -1,5 +1,5 @@
 -- What the judge's own functions say.
-use Rattle.std.specs.Prelude.{◌≡◌, Bool, true, false, cond, not, ◌&&◌, ◌||◌, Option, Some, None, is_some, is_none, List, [], ◌∷◌, ◌++◌}
+use Rattle.std.specs.Prelude.{◌≡◌, Bool, true, false, cond, not, ◌&&◌, ◌||◌, Option, Some, None, is_some, is_none, List, [], ◌∷◌}
 use Rattle.std.specs.Map.{lookup}
 use Rattle.std.specs.List.{find}
 use Rattle.std.specs.Option.{option_map}

@@ -85,11 +85,26 @@ fn causes(rt: HostRuntime) {
     let message = Signal::Message(body(1, 1));
     let took = Event::Took(a, Pick::Any, Item::User(a, body(1, 1)));
     let own_link = Event::Said(a, a, Signal::Link(link(2)));
-    assert_eq!(rt; stop(alloc, &[born(0), born(0)]), Some((1, Cause::BornTwice)));
-    assert_eq!(rt; stop(alloc, &[Event::Said(a, a, message)]), Some((0, Cause::NotAlive)));
-    assert_eq!(rt; stop(alloc, &[born(0), Event::Came(a, a, message)]), Some((1, Cause::NotFront)));
-    assert_eq!(rt; stop(alloc, &[born(0), took]), Some((1, Cause::NotFirstMatch)));
-    assert_eq!(rt; stop(alloc, &[born(0), own_link]), Some((1, Cause::Unlawful)));
+    assert_eq!(rt;
+        stop(alloc, &[born(0), born(0)]),
+        Some((1, Cause::BornTwice))
+    );
+    assert_eq!(rt;
+        stop(alloc, &[Event::Said(a, a, message)]),
+        Some((0, Cause::NotAlive))
+    );
+    assert_eq!(rt;
+        stop(alloc, &[born(0), Event::Came(a, a, message)]),
+        Some((1, Cause::NotFront))
+    );
+    assert_eq!(rt;
+        stop(alloc, &[born(0), took]),
+        Some((1, Cause::NotFirstMatch))
+    );
+    assert_eq!(rt;
+        stop(alloc, &[born(0), own_link]),
+        Some((1, Cause::Unlawful))
+    );
 }
 
 #[test]
@@ -101,11 +116,23 @@ fn unlawful(rt: HostRuntime) {
     let watched = Event::Said(a, b, Signal::Monitor(monitor(3)));
     let not_its_own = Event::Said(b, a, Signal::Demonitor(monitor(3)));
     let never_said = Event::Said(a, b, Signal::LinkExit(Ids::of(link(3)), Reason::Normal));
-    assert_eq!(rt; stop(alloc, &[born(0), born(1), linked, other_ids]), Some((3, Cause::Unlawful)));
-    assert_eq!(rt; stop(alloc, &[born(0), born(1), watched, not_its_own]), Some((3, Cause::Unlawful)));
-    assert_eq!(rt; stop(alloc, &[born(0), born(1), linked, never_said]), Some((3, Cause::Unlawful)));
+    assert_eq!(rt;
+        stop(alloc, &[born(0), born(1), linked, other_ids]),
+        Some((3, Cause::Unlawful))
+    );
+    assert_eq!(rt;
+        stop(alloc, &[born(0), born(1), watched, not_its_own]),
+        Some((3, Cause::Unlawful))
+    );
+    assert_eq!(rt;
+        stop(alloc, &[born(0), born(1), linked, never_said]),
+        Some((3, Cause::Unlawful))
+    );
     let linked_twice = Event::Born(b, Some(a), Some(link(3)));
-    assert_eq!(rt; stop(alloc, &[born(0), linked, linked_twice]), Some((2, Cause::Unlawful)));
+    assert_eq!(rt;
+        stop(alloc, &[born(0), linked, linked_twice]),
+        Some((2, Cause::Unlawful))
+    );
 }
 
 // Five processes in a row of links, of which the middle one traps, and the first ends.
@@ -156,7 +183,12 @@ fn cascades(rt: HostRuntime) {
 fn watches(rt: HostRuntime) {
     let (a, b) = (pid(0), pid(1));
     let watch = Signal::Monitor(monitor(3));
-    let open = [born(0), born(1), Event::Said(a, b, watch), Event::Came(a, b, watch)];
+    let open = [
+        born(0),
+        born(1),
+        Event::Said(a, b, watch),
+        Event::Came(a, b, watch),
+    ];
     let state = legal(&rt, rt.alloc(), &open);
     assert!(rt; state.watching(a, monitor(3)));
     assert!(rt; !state.watching(b, monitor(3)));
@@ -173,7 +205,10 @@ fn watches(rt: HostRuntime) {
     let state = legal(&rt, rt.alloc(), &ended);
     assert!(rt; !state.watching(a, monitor(3)));
     assert!(rt; state.kept(b, monitor(3)));
-    assert_eq!(rt; state.waiting(a).expect(&rt, "alive"), [Item::Down(monitor(3), b, Reason::Shutdown)].as_slice());
+    assert_eq!(rt;
+        state.waiting(a).expect(&rt, "alive"),
+        [Item::Down(monitor(3), b, Reason::Shutdown)].as_slice()
+    );
 }
 
 fn at(stamp: u64, desk: u8) -> Stamped {
@@ -189,7 +224,12 @@ fn at(stamp: u64, desk: u8) -> Stamped {
     }
 }
 
-fn journal(rt: &impl Abort, alloc: Global, desk: u8, stamps: &[u64]) -> Result<Journal, AllocError> {
+fn journal(
+    rt: &impl Abort,
+    alloc: Global,
+    desk: u8,
+    stamps: &[u64],
+) -> Result<Journal, AllocError> {
     let mut events = Vec::new(alloc);
     for stamp in stamps {
         events.push(at(*stamp, desk))?;
@@ -212,13 +252,22 @@ fn merges(rt: HostRuntime) -> Result<(), Fail> {
     let one = journal(&rt, alloc, 0, &[1, 2])?;
     let other = journal(&rt, alloc, 1, &[1, 3])?;
     let wanted = [(1, 0), (1, 1), (2, 0), (3, 1)];
-    assert_eq!(rt; order(alloc, &[&one, &other])?.as_slice(), wanted.as_slice());
-    assert_eq!(rt; order(alloc, &[&other, &one])?.as_slice(), wanted.as_slice());
+    assert_eq!(rt;
+        order(alloc, &[&one, &other])?.as_slice(),
+        wanted.as_slice()
+    );
+    assert_eq!(rt;
+        order(alloc, &[&other, &one])?.as_slice(),
+        wanted.as_slice()
+    );
     assert!(rt; order(alloc, &[])?.is_empty());
     let none = journal(&rt, alloc, 2, &[])?;
     let third = journal(&rt, alloc, 3, &[1, 2, 9])?;
     let all = [(1, 0), (1, 1), (1, 3), (2, 0), (2, 3), (3, 1), (9, 3)];
-    assert_eq!(rt; order(alloc, &[&third, &none, &other, &one])?.as_slice(), all.as_slice());
+    assert_eq!(rt;
+        order(alloc, &[&third, &none, &other, &one])?.as_slice(),
+        all.as_slice()
+    );
     Ok(())
 }
 

@@ -80,7 +80,12 @@ fn send(flights: &mut Vec<Flight>, from: Pid, to: Pid, signal: Signal) -> Result
     Ok(())
 }
 
-fn send_exits(flights: &mut Vec<Flight>, me: Pid, links: &[(Pid, Ids)], reason: Reason) -> Result<(), AllocError>
+fn send_exits(
+    flights: &mut Vec<Flight>,
+    me: Pid,
+    links: &[(Pid, Ids)],
+    reason: Reason,
+) -> Result<(), AllocError>
     ensures { OnOk result (flights.new.items ≡ flights.old.items ++ map (λ e. sent me e.0 (LinkExit e.1 reason)) links.now) }
 {
     for place in 0..links.len() {
@@ -90,7 +95,12 @@ fn send_exits(flights: &mut Vec<Flight>, me: Pid, links: &[(Pid, Ids)], reason: 
     Ok(())
 }
 
-fn send_downs(flights: &mut Vec<Flight>, me: Pid, kept: &[(Ref, Pid)], reason: Reason) -> Result<(), AllocError>
+fn send_downs(
+    flights: &mut Vec<Flight>,
+    me: Pid,
+    kept: &[(Ref, Pid)],
+    reason: Reason,
+) -> Result<(), AllocError>
     ensures { OnOk result (flights.new.items ≡ flights.old.items ++ map (λ k. sent me k.1 (Down k.0 reason)) kept.now) }
 {
     for place in 0..kept.len() {
@@ -100,7 +110,11 @@ fn send_downs(flights: &mut Vec<Flight>, me: Pid, kept: &[(Ref, Pid)], reason: R
     Ok(())
 }
 
-fn send_demonitors(flights: &mut Vec<Flight>, me: Pid, watching: &[(Ref, Pid)]) -> Result<(), AllocError>
+fn send_demonitors(
+    flights: &mut Vec<Flight>,
+    me: Pid,
+    watching: &[(Ref, Pid)],
+) -> Result<(), AllocError>
     ensures { OnOk result (flights.new.items ≡ flights.old.items ++ map (λ m. sent me m.1 (Demonitor m.0)) watching.now) }
 {
     for place in 0..watching.len() {
@@ -111,7 +125,12 @@ fn send_demonitors(flights: &mut Vec<Flight>, me: Pid, watching: &[(Ref, Pid)]) 
 }
 
 // Sends what a process owes at its end.
-fn send_estate(flights: &mut Vec<Flight>, me: Pid, held: &Holdings, reason: Reason) -> Result<(), AllocError>
+fn send_estate(
+    flights: &mut Vec<Flight>,
+    me: Pid,
+    held: &Holdings,
+    reason: Reason,
+) -> Result<(), AllocError>
     ensures { OnOk result (flights.new.items ≡ flights.old.items ++ estate me held.now reason) }
 {
     send_exits(flights, me, held.links(), reason)?;
@@ -131,7 +150,12 @@ fn send_end(flights: &mut Vec<Flight>, lives: &[Life], pid: Pid) -> Result<(), A
 }
 
 // Sends what goes back from a process that is not alive.
-fn send_back(flights: &mut Vec<Flight>, me: Pid, from: Pid, signal: Signal) -> Result<(), AllocError>
+fn send_back(
+    flights: &mut Vec<Flight>,
+    me: Pid,
+    from: Pid,
+    signal: Signal,
+) -> Result<(), AllocError>
     ensures { OnOk result (flights.new.items ≡ flights.old.items ++ bounce me from signal) }
 {
     match signal.answer_of_dead() {
@@ -141,7 +165,12 @@ fn send_back(flights: &mut Vec<Flight>, me: Pid, from: Pid, signal: Signal) -> R
 }
 
 // Sends what the event sends, where the lives are those after it, and its process lived before it or did not.
-pub fn dispatch(flights: &mut Vec<Flight>, lives: &[Life], lived: bool, event: Event) -> Result<(), AllocError>
+pub fn dispatch(
+    flights: &mut Vec<Flight>,
+    lives: &[Life],
+    lived: bool,
+    event: Event,
+) -> Result<(), AllocError>
     ensures { OnOk result (flights.new.items ≡ flights.old.items ++ sends lives.now lived event) }
 {
     match event {

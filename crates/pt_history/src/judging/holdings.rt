@@ -99,7 +99,13 @@ impl Holdings {
     }
 
     // An exit signal comes, by a link or not; gives the reason of the end, where it ends the process.
-    fn exit(&mut self, by_link: bool, me: Pid, from: Pid, reason: Reason) -> Result<Option<Reason>, AllocError>
+    fn exit(
+        &mut self,
+        by_link: bool,
+        me: Pid,
+        from: Pid,
+        reason: Reason,
+    ) -> Result<Option<Reason>, AllocError>
         ensures { IfOk result (IsObeyed by_link me self.old from reason self.new) }
     {
         if is_kill(reason) && !by_link {
@@ -115,7 +121,13 @@ impl Holdings {
         Ok(Some(reason))
     }
 
-    fn link_exit(&mut self, me: Pid, from: Pid, ids: Ids, reason: Reason) -> Result<Option<Reason>, AllocError>
+    fn link_exit(
+        &mut self,
+        me: Pid,
+        from: Pid,
+        ids: Ids,
+        reason: Reason,
+    ) -> Result<Option<Reason>, AllocError>
         ensures { IfOk result (IsHandled me self.old from (LinkExit ids reason) self.new) }
     {
         match ids_with(self.links.as_slice(), from) {
@@ -127,7 +139,13 @@ impl Holdings {
         }
     }
 
-    fn down(&mut self, me: Pid, from: Pid, monitor: Ref, reason: Reason) -> Result<Option<Reason>, AllocError>
+    fn down(
+        &mut self,
+        me: Pid,
+        from: Pid,
+        monitor: Ref,
+        reason: Reason,
+    ) -> Result<Option<Reason>, AllocError>
         ensures { IfOk result (IsHandled me self.old from (Down monitor reason) self.new) }
     {
         if target_of(self.watching.as_slice(), monitor).is_some() {
@@ -172,7 +190,11 @@ impl Holdings {
         ensures { IfOk result (λ ending. live_or_end ending self.new ≡ change me event (living self.old)) }
     {
         match event {
-            Event::Born(child, _, Some(link)) if me != child => enter(&mut self.links, child, link)?,
+            Event::Born(child, _, Some(link)) if me != child => enter(
+                &mut self.links,
+                child,
+                link,
+            )?,
             Event::Born(_, _, _) => {}
             Event::Said(_, to, signal) => self.say(to, signal)?,
             Event::Came(from, _, signal) => return self.handle(me, from, signal),

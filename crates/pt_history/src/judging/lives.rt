@@ -56,7 +56,12 @@ fn touches(pid: Pid, event: Event) -> bool
 }
 
 impl Life {
-    fn born(alloc: Global, pid: Pid, parent: Option<Pid>, link: Option<LinkId>) -> Result<Life, AllocError>
+    fn born(
+        alloc: Global,
+        pid: Pid,
+        parent: Option<Pid>,
+        link: Option<LinkId>,
+    ) -> Result<Life, AllocError>
         ensures { IfOk result (λ life. life ≡ (pid, newborn parent link unborn)) }
     {
         let mut holdings = Holdings::new(alloc);

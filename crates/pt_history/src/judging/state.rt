@@ -240,7 +240,9 @@ impl State {
         match signal {
             Signal::Message(_) => true,
             Signal::Exit(_) => true,
-            Signal::Link(id) => !self.made_link(id) && self.linked(from, to).is_none() && from != to,
+            Signal::Link(id) => !self.made_link(id)
+                && self.linked(from, to).is_none()
+                && from != to,
             Signal::Unlink(ids) => self.holds(from, to, ids),
             Signal::Monitor(monitor) => !self.made_ref(monitor) && from != to,
             Signal::Demonitor(monitor) => self.watches(from, to, monitor),

@@ -25,9 +25,9 @@ play-requires-clause-one_half t c =
     let some : c.args.low + 1 < c.args.high = omega arith in
     let was = one_half (key_at js old) (winner_at old) c.args.low c.args.high some c.requires.played in
     elim c.if-which-middle.branch [
-      then-which-middle w ↦ subst (λ (seats : List Seat). IsPlayed (key_at js seats) (winner_at seats) c.args.low m) (sym (ap (λ v. v.items) w.seats-is)) w.advance.ensures.played
-    | else-which-middle w ↦ subst (λ (seats : List Seat). IsPlayed (key_at js seats) (winner_at seats) c.args.low m) (sym (ap (λ v. v.items) w.seats-is))
-        (apart_taken js old w.advance-else-which-middle.new.seats.items c.args.low m m c.args.high c.args.which w.advance-else-which-middle.ensures.taken (inr (omega arith)) (inr (omega arith)) (omega arith) was)
+      | then-which-middle w ↦ subst (λ (seats : List Seat). IsPlayed (key_at js seats) (winner_at seats) c.args.low m) (sym (ap (λ v. v.items) w.seats-is)) w.advance.ensures.played
+      | else-which-middle w ↦ subst (λ (seats : List Seat). IsPlayed (key_at js seats) (winner_at seats) c.args.low m) (sym (ap (λ v. v.items) w.seats-is))
+          (apart_taken js old w.advance-else-which-middle.new.seats.items c.args.low m m c.args.high c.args.which w.advance-else-which-middle.ensures.taken (inr (omega arith)) (inr (omega arith)) (omega arith) was)
     ]
 
 pub play-requires-clause-other_half : goal.play-requires-clause-other_half
@@ -38,7 +38,7 @@ play-requires-clause-other_half t c =
     let some : c.args.low + 1 < c.args.high = omega arith in
     let was = other_half (key_at js old) (winner_at old) c.args.low c.args.high some c.requires.played in
     elim c.if-which-middle.branch [
-      then-which-middle w ↦ subst (λ (seats : List Seat). IsPlayed (key_at js seats) (winner_at seats) m c.args.high) (sym (ap (λ v. v.items) w.seats-is))
-        (apart_taken js old w.advance.new.seats.items m c.args.high c.args.low m c.args.which w.advance.ensures.taken (inl (omega arith)) (inl (omega arith)) (omega arith) was)
-    | else-which-middle w ↦ subst (λ (seats : List Seat). IsPlayed (key_at js seats) (winner_at seats) m c.args.high) (sym (ap (λ v. v.items) w.seats-is)) w.advance-else-which-middle.ensures.played
+      | then-which-middle w ↦ subst (λ (seats : List Seat). IsPlayed (key_at js seats) (winner_at seats) m c.args.high) (sym (ap (λ v. v.items) w.seats-is))
+          (apart_taken js old w.advance.new.seats.items m c.args.high c.args.low m c.args.which w.advance.ensures.taken (inl (omega arith)) (inl (omega arith)) (omega arith) was)
+      | else-which-middle w ↦ subst (λ (seats : List Seat). IsPlayed (key_at js seats) (winner_at seats) m c.args.high) (sym (ap (λ v. v.items) w.seats-is)) w.advance-else-which-middle.ensures.played
     ]

@@ -1,8 +1,8 @@
-use Rattle.std.proofs.Common.{◌≡◌, Some, None, sym, ap, ◌∙◌, subst, ◌∷◌, List, reverse}
+use Rattle.std.proofs.Common.{sym, ap, ◌∙◌, subst, List, reverse}
 use Rattle.pt_history.specs.declared.event.Stamped.{Stamped}
 use Rattle.pt_history.specs.Merging.{TakesFirst}
 use Rattle.pt_history.proofs.Orders.{reverse_push}
-use Rattle.pt_history.proofs.MergeStep.{IsMerging, merging_next, merging_none, merged_all, left_falls}
+use Rattle.pt_history.proofs.MergeStep.{IsMerging, merging_next, merged_all, left_falls}
 use Rattle.pt_history.proofs.merging.merge.Goals as goal
 
 pub loop-event-smaller : goal.loop-event-smaller

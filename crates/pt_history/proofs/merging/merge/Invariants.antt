@@ -1,5 +1,5 @@
 use Rattle.std.proofs.Common.{◌≡◌, ◌<◌, length, reverse}
-use Rattle.pt_history.specs.Merging.{AreApart, AreInOrder, key_at, winner_at, IsPlayed}
+use Rattle.pt_history.specs.Merging.{AreApart, key_at, winner_at, IsPlayed}
 use Rattle.pt_history.proofs.MergeStep.{IsMerging, left_total}
 use Rattle.pt_history.proofs.merging.merge.Given as goal
 

@@ -1,4 +1,4 @@
-use Rattle.std.proofs.Common.{◌≡◌, Some, None, sym, ◌∙◌, subst, length, List, ap}
+use Rattle.std.proofs.Common.{sym, ◌∙◌, subst, length, List, ap}
 use Rattle.pt_history.specs.declared.merging.Seat.{Seat}
 use Rattle.pt_history.specs.Merging.{TakesFirst, head_of, left_at}
 use Rattle.pt_history.proofs.Race.{best_now, some_given, nothing_left, first_taken}

@@ -19,6 +19,6 @@ returns c =
     let a : c.send_exits.new.flights.items ≡ old ++ exits s.links = c.in_ok-send_exits.ensures ∙ ap (λ z. old ++ exits z) c.links.ensures in
     let b : c.send_downs.new.flights.items ≡ (old ++ exits s.links) ++ downs s.kept = c.in_ok-send_downs.ensures ∙ ap (λ z. z ++ downs c.kept.result.now) a ∙ ap (λ z. (old ++ exits s.links) ++ downs z) c.kept.ensures in
     let d : c.send_demonitors.new.flights.items ≡ ((old ++ exits s.links) ++ downs s.kept) ++ demonitors s.watching =
-        c.in_ok-send_demonitors.ensures ∙ ap (λ z. z ++ demonitors c.watching.result.now) b ∙ ap (λ z. ((old ++ exits s.links) ++ downs s.kept) ++ demonitors z) c.watching.ensures
+    c.in_ok-send_demonitors.ensures ∙ ap (λ z. z ++ demonitors c.watching.result.now) b ∙ ap (λ z. ((old ++ exits s.links) ++ downs s.kept) ++ demonitors z) c.watching.ensures
     in
     d ∙ ap (λ z. z ++ demonitors s.watching) (append_assoc old (exits s.links) (downs s.kept)) ∙ append_assoc old (exits s.links ++ downs s.kept) (demonitors s.watching)

@@ -1,6 +1,5 @@
 use Rattle.std.proofs.Common.{◌≡◌, ◌++◌, map, take}
-use Rattle.pt_signal.specs.declared.signal.Signal.{Signal}
-use Rattle.pt_signal.specs.declared.signal.Signal.TheVariants.{LinkExit, Demonitor}
+use Rattle.pt_signal.specs.declared.signal.Signal.TheVariants.{LinkExit}
 use Rattle.pt_signal.specs.Process.{sent}
 use Rattle.pt_history.proofs.judging.flights.send_exits.Given as goal
 

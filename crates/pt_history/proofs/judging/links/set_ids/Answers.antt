@@ -1,6 +1,4 @@
-use Rattle.std.proofs.Common.{◌≡◌, ◌<◌, ◌≤◌, ◌∙◌, List, ap, subst, set, length, get_or, arith}
-use Rattle.pt_signal.specs.declared.pid.Pid.{Pid}
-use Rattle.pt_signal.specs.declared.ids.Ids.{Ids}
+use Rattle.std.proofs.Common.{◌≡◌, ◌<◌, ◌≤◌, ◌∙◌, ap, subst, set, length, get_or, arith}
 use Rattle.pt_signal.specs.Values.{same_pid}
 use Rattle.pt_history.specs.Places.{first_place}
 use Rattle.pt_history.proofs.FirstPlaces.{at_key, set_at_first, none_set}

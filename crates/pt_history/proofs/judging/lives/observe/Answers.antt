@@ -12,9 +12,9 @@ returns-in_ok-push c =
     let e = Born q c.in-Born.parent c.in-Born.link in
     let absent = subst (MayBeBorn old) c.in-Born.is c.requires in
     let all : c.push.new.self.items ≡ map (shown e) old ++ (q, newborn c.in-Born.parent c.in-Born.link unborn) ∷ [] =
-        c.in_ok-push.ensures.items
-        ∙ ap (λ z. z ++ c.in_ok-born.field-0 ∷ []) (c.in_ok-show_all.ensures ∙ ap (λ event. map (shown event) old) c.in-Born.is)
-        ∙ ap (λ l. map (shown e) old ++ l ∷ []) c.in_ok-born.ensures
+    c.in_ok-push.ensures.items
+    ∙ ap (λ z. z ++ c.in_ok-born.field-0 ∷ []) (c.in_ok-show_all.ensures ∙ ap (λ event. map (shown event) old) c.in-Born.is)
+    ∙ ap (λ l. map (shown e) old ++ l ∷ []) c.in_ok-born.ensures
     in
     subst₂ (λ new event. IsObserved old new event) (sym all) (sym c.in-Born.is) (observed_birth old q c.in-Born.parent c.in-Born.link absent)
 

@@ -1,4 +1,4 @@
-use Rattle.std.proofs.Common.{◌≡◌, ◌++◌, map, take, drop, vec_len}
+use Rattle.std.proofs.Common.{◌≡◌, ◌++◌, map, take, drop}
 use Rattle.pt_history.specs.Judging.{shown}
 use Rattle.pt_history.proofs.judging.lives.show_all.Given as goal
 

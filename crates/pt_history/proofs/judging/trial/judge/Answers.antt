@@ -1,4 +1,3 @@
-use Rattle.std.proofs.Common.{◌∙◌, sym}
 use Rattle.pt_history.proofs.Trial.{judged_some, judged_none}
 use Rattle.pt_history.proofs.judging.trial.judge.Goals as goal
 

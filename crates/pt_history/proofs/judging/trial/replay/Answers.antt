@@ -11,12 +11,11 @@ pub loop-place-preserved : goal.loop-place-preserved
 loop-place-preserved c = next_place c.args.events.now c.loop-place.place _ c.loop-place.state c.in-Ok.next c.loop-place-test.true c.loop-place.invariant c.in-Ok.ensures
 
 pub returns-in-Err : goal.returns-in-Err
-returns-in-Err c =
-    (
-        c.loop-place-test.true,
-        c.loop-place.invariant.legal,
-        failed c.args.events.now c.loop-place.place _ c.loop-place.state c.in-Err.cause c.loop-place-test.true c.loop-place.invariant.past_is c.in-Err.ensures,
-    )
+returns-in-Err c = (
+  c.loop-place-test.true,
+  c.loop-place.invariant.legal,
+  failed c.args.events.now c.loop-place.place _ c.loop-place.state c.in-Err.cause c.loop-place-test.true c.loop-place.invariant.past_is c.in-Err.ensures,
+)
 
 pub returns : goal.returns
 returns c =
