@@ -40,3 +40,12 @@ pub mod Between
 pub mod Linked
 pub mod Agreed
 pub mod EarlyLinks
+pub mod InOrder
+pub mod Race
+pub mod MergeStep
+pub mod FirstPlaces
+pub mod Lives
+pub mod KeptNext
+pub mod SameValues
+pub mod Judged
+pub mod Trial

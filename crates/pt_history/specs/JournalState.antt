@@ -1,5 +1,5 @@
 -- A journal as its callers see it.
-use Rattle.std.specs.Prelude.{◌≡◌, ℕ, ◌<◌, List, [], ◌∷◌, ⊤}
+use Rattle.std.specs.Prelude.{◌≡◌, ℕ, ◌<◌, Bool, ◌==◌, ◌&&◌, nat_lt, Option, Some, None, List, [], ◌∷◌, ⊤}
 use Rattle.pt_history.specs.declared.event.Stamped.{Stamped}
 
 -- the desk, the events, newest first, and how many more are sure to find room
@@ -17,3 +17,8 @@ IsNewer s (t ∷ past) = t.stamp < s.stamp
 abbrev pub IsInOrder : ℕ → List Stamped → Type 0
 IsInOrder d [] = ⊤
 IsInOrder d (s ∷ past) = (s.desk ≡ d) × IsNewer s past × IsInOrder d past
+
+-- the event is the desk's, and stamped above the newest stamp
+abbrev pub is_next : ℕ → Option ℕ → Stamped → Bool
+is_next d None s = s.desk == d
+is_next d (Some n) s = nat_lt n s.stamp && (s.desk == d)

@@ -2,11 +2,15 @@ pub mod Text
 pub mod History
 pub mod JournalState
 pub mod Journal
+pub mod Merging
 pub mod Taken
 pub mod Sender
 pub mod Load
 pub mod Watch
 pub mod Resumed
+pub mod Places
+pub mod Judging
+pub mod Same
 pub mod Judge
 pub mod Since
 pub mod Lives

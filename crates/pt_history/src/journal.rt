@@ -1,7 +1,8 @@
 // The events of one desk.
 
-ghost use Rattle.std.specs.Prelude.{◌≡◌, ◌<◌, [], ◌∷◌, reverse, OnOk};
-ghost use Rattle.pt_history.specs.JournalState.{IsNewer, IsInOrder};
+ghost use Rattle.std.specs.Prelude.{◌≡◌, ◌<◌, [], ◌∷◌, reverse, OnOk, IfOk, IfErr, OnErr};
+ghost use Rattle.std.specs.Bool.{MatchBool};
+ghost use Rattle.pt_history.specs.JournalState.{IsNewer, IsInOrder, is_next};
 
 use crate::Stamped;
 use std::alloc::{AllocError, Global};
@@ -36,6 +37,21 @@ impl Journal {
         Journal {
             desk,
             events: Vec::new(alloc),
+        }
+    }
+
+    /// The journal of these events, oldest first. Hands them back exactly where one is another desk's, or their
+    /// stamps do not strictly rise.
+    pub fn of(desk: u8, events: Vec<Stamped>) -> Result<Journal, Vec<Stamped>>
+        ensures journal { IfOk result (λ journal. (journal.desk ≡ desk) × (journal.past ≡ reverse events.items)) }
+        ensures order { OnOk result (IsInOrder desk (reverse events.items)) }
+        ensures back { IfErr result (λ back. back ≡ events) }
+        ensures disorder { OnErr result (¬ IsInOrder desk (reverse events.items)) }
+    {
+        if is_in_order(desk, events.as_slice()) {
+            Ok(Journal { desk, events })
+        } else {
+            Err(events)
         }
     }
 
@@ -74,4 +90,29 @@ impl Journal {
     {
         self.events.push_reserved(event);
     }
+}
+
+// Whether the events, oldest first, are the desk's and their stamps strictly rise.
+fn is_in_order(desk: u8, events: &[Stamped]) -> bool
+    ensures { MatchBool result (IsInOrder desk (reverse events.now)) (¬ IsInOrder desk (reverse events.now)) }
+{
+    let mut newest = None;
+    for event in events {
+        if !is_next(desk, newest, event) {
+            return false;
+        }
+        newest = Some(event.stamp);
+    }
+    true
+}
+
+// Whether the event is the desk's and stamped above the newest one.
+fn is_next(desk: u8, newest: Option<u64>, event: &Stamped) -> bool
+    ensures { result ≡ is_next desk newest event.now }
+{
+    let rises = match newest {
+        Some(stamp) => stamp < event.stamp,
+        None => true,
+    };
+    rises && event.desk == desk
 }

@@ -10,7 +10,13 @@ mod event;
 mod journal;
 pub mod laws;
 pub mod links;
+mod judging;
+mod merging;
+#[cfg(test)]
+mod tests;
 
 pub use cause::Cause;
 pub use event::{Event, Stamped};
 pub use journal::Journal;
+pub use judging::{State, replay};
+pub use merging::merge;
