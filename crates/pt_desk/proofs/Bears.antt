@@ -1,6 +1,6 @@
 -- A desk that bears a process is whole afterwards.
 use Rattle.std.proofs.Common.{◌≡◌, ℕ, ◌+◌, ◌^◌, ◌<◌, ◌≤◌, max, Bool, true, false, cond, ◌==◌, Ok, List, [], ◌∷◌, ◌++◌, Option, Some, None, refl, sym, ap, ◌∙◌, subst, append-nil, arith}
-use Rattle.std.specs.Prelude.{pred}
+use Rattle.std.specs.Prelude.{pred, IfSome}
 use Rattle.std.specs.Bool.{then_some}
 use Rattle.std.specs.Option.{option_map}
 use Rattle.std.proofs.lemmas.Bool.{eqb-true, eq-eqb}
@@ -24,7 +24,7 @@ use Rattle.pt_desk.specs.Calls.{BearsChild, birth_link, new_link}
 use Rattle.pt_desk.specs.DeskState.{DeskState, past}
 use Rattle.pt_desk.specs.LogState.{LogState, IsWritten, IsSameLog}
 use Rattle.pt_desk.specs.Sound.{resident, of_phase, issued_in}
-use Rattle.pt_desk.specs.Residents.{Table, seen, resident_at, in_place, changed, vacant_at, pid_at, Changes, IsSameTable}
+use Rattle.pt_desk.specs.Residents.{Table, seen, resident_at, in_place, changed, vacant_at, pid_at, Changes, IsSameTable, HasRoomFor}
 use Rattle.pt_desk.specs.Whole.{desk_of, IsWhole}
 use Rattle.pt_desk.proofs.Births.{issued_more, next_unborn, previous, previous_born, is_unborn_is, ended_is}
 use Rattle.pt_desk.proofs.Frames.{lives_not}
@@ -258,6 +258,16 @@ same_whole config log table roomy queue mark whole same = record {
   top_version = same.settings.top_version ∙ whole.top_version;
 }
 
+-- a refusal leaves the desk whole, and as it was
+module _ (config : Config) (log prepared : LogState) (table roomy : Table) (queue : List Letter) (mark : ℕ) (logs : IsSameLog log prepared) (same : IsSameTable table roomy) where
+  pub refused_whole : IsWhole config log table queue mark → IsWhole config prepared roomy queue mark
+  refused_whole whole =
+      let w = same_whole config log table roomy queue mark whole same in
+      record { sound = rw (logs.0, logs.1, logs.2) w.sound; capacity = w.capacity; top_version = w.top_version }
+
+  pub refused_view : desk_of config prepared roomy queue mark ≡ desk_of config log table queue mark
+  refused_view = let e = same.next in rw (logs.0, logs.1, logs.2, e) refl
+
 -- the calls, step by step ------------------------------------------------------------------
 
 may_link : (earlier : Past) (par : Pid) (s : ProcessState) → life [] earlier par ≡ living s → (asked : Bool) (i : LinkId) → made_link earlier i ≡ false
@@ -321,3 +331,16 @@ module _ (config : Config) (log prepared log' : LogState) (table roomy mid table
           let since : IsWritten m (Born q (Some par) link) log log' = written_since m (Born q (Some par) link) log prepared log' ready.0 wrote in
           let stamp : m ≡ log.clock + 1 = same_stamp log prepared ready.0 in
           (ap is_living (found config log table queue mark whole par me s there).0, ((let k = ready.1 in omega arith), sym free, rw (since.0, since.1, since.2, stamp, is, append-nil) refl))
+
+-- the parent keeps its room when its child is taken in
+pub room_kept : (config : Config) (log : LogState) (table roomy mid : Table) (queue : List Letter) (mark : ℕ) (whole : IsWhole config log table queue mark)
+    → (par me : Pid) (s : ProcessState) → Some (me, s) ≡ resident_at log.desk table par → IsSameTable table roomy
+    → (key : Key) (r : Resident) → Inserted r key roomy mid → (link : Option LinkId) → HasRoomFor link par roomy → HasRoomFor link par mid
+room_kept config log table roomy mid queue mark whole par me s there same key r ins None room = tt
+room_kept config log table roomy mid queue mark whole par me s there same key r ins (Some i) room =
+    let whole' = same_whole config log table roomy queue mark whole same in
+    let there' : Some (me, s) ≡ resident_at log.desk roomy par = there ∙ sym (same_reading log.desk table roomy same par) in
+    let here = at_home log.desk roomy par (me, s) (sym there') in
+    let other : names key par.slot par.version ≡ false = names_is key par log.desk here.0 ∙ still_there config log roomy queue mark whole' key r mid ins par me s there' in
+    let kept : at mid par.slot par.version ≡ at roomy par.slot par.version = ins.live par.slot par.version ∙ rw other refl in
+    subst (λ o. IfSome o (λ x. 0 < x.room)) (sym kept) room

@@ -456,8 +456,8 @@ impl Desk {
             number: self.log.clock() + 1,
         });
         self.log.prepare(0)?;
-        let child = spawning::newborn(self.alloc, pid, parent, link)?;
         spawning::make_room(&mut self.table, parent, link)?;
+        let child = spawning::newborn(self.alloc, pid, parent, link)?;
         spawning::admit(&mut self.table, child)?;
         spawning::adopt(&mut self.table, parent, pid, link);
         self.log.write(0, Event::Born(pid, Some(parent), link));

@@ -1,7 +1,9 @@
-use Rattle.std.proofs.Common.{◌≡◌, Ok, sym, subst}
+use Rattle.std.proofs.Common.{◌≡◌, ◌∙◌, Ok, sym, subst, arith}
+use Rattle.std.proofs.lemmas.Grind.{common_steps}
 use Rattle.pt_desk.specs.Calls.{BearsChild, birth_link}
+use Rattle.pt_desk.specs.Residents.{IsSameTable}
 use Rattle.pt_desk.specs.Whole.{desk_of}
-use Rattle.pt_desk.proofs.Bears.{child_whole, child_answers, link_is}
+use Rattle.pt_desk.proofs.Bears.{child_whole, child_answers, link_is, refused_whole, refused_view, room_kept}
 use Rattle.pt_desk.proofs.desk.Desk.spawn_child.Goals as goal
 
 link_known : (c : goal.After-write) → c.then_some-link.result ≡ birth_link c.args.linked (desk_of c.self.inside.config c.self.inside.log c.self.inside.table c.self.inside.queue.items c.self.inside.mark)
@@ -26,3 +28,21 @@ returns c =
     c.self.inside.table c.make_room.new.table c.admit.new.table c.adopt.new.table c.self.inside.queue.items c.self.inside.mark c.self.invariant
     c.args.parent c.in-Some._process.now.me c.in-Some._process.now.state c.in-Some.ensures c.in-Some-vacant.pid c.in-Some-vacant.ensures
     c.args.linked c.then_some-link.result (link_known c) c.in_ok-prepare.ensures c.write.ensures.written)
+
+pub adopt-requires : goal.adopt-requires
+adopt-requires c =
+    room_kept c.self.inside.config c.self.inside.log c.self.inside.table c.make_room.new.table c.admit.new.table c.self.inside.queue.items c.self.inside.mark c.self.invariant
+    c.args.parent c.in-Some._process.now.me c.in-Some._process.now.state c.in-Some.ensures c.make_room.ensures.same
+    c.in_ok-admit.field-0 c.in_ok-child.child c.in_ok-admit.ensures.ok c.then_some-link.result c.in_ok-make_room.ensures.ok
+
+pub invariant_of-self-in_err-admit : goal.invariant_of-self-in_err-admit
+invariant_of-self-in_err-admit c =
+    refused_whole c.self.inside.config c.self.inside.log c.prepare.new.self c.self.inside.table c.admit.new.table c.self.inside.queue.items c.self.inside.mark
+    c.in_ok-prepare.ensures.0 (subst (IsSameTable c.self.inside.table) (sym c.in_err-admit.ensures.err) c.make_room.ensures.same) c.self.invariant
+
+pub returns-in_err-admit : goal.returns-in_err-admit
+returns-in_err-admit c =
+    subst (BearsChild c.args.parent c.args.linked c.args.self.now c.from_residual-in_err-admit.result)
+    (sym (refused_view c.self.inside.config c.self.inside.log c.prepare.new.self c.self.inside.table c.admit.new.table c.self.inside.queue.items c.self.inside.mark
+    c.in_ok-prepare.ensures.0 (subst (IsSameTable c.self.inside.table) (sym c.in_err-admit.ensures.err) c.make_room.ensures.same) ∙ c.self.view_is))
+    (grind (arith, common_steps))
