@@ -1,6 +1,7 @@
 -- A desk that bears a process is whole afterwards.
-use Rattle.std.proofs.Common.{◌≡◌, ℕ, ◌+◌, ◌^◌, ◌<◌, ◌≤◌, max, Bool, true, false, cond, ◌==◌, Ok, List, [], ◌∷◌, ◌++◌, Option, Some, None, refl, sym, ap, ◌∙◌, subst, append-nil, arith}
-use Rattle.std.specs.Prelude.{pred, IfSome}
+use Rattle.std.proofs.Common.{◌≡◌, ℕ, ◌+◌, ◌^◌, ◌<◌, ◌≤◌, max, Bool, true, false, cond, ◌==◌, Result, Ok, Err, List, [], ◌∷◌, ◌++◌, Option, Some, None, refl, sym, ap, ◌∙◌, subst, append-nil, arith, rules}
+use Rattle.std.specs.Prelude.{pred, IfSome, IsSome}
+use Rattle.std.specs.Result.{IsErrAnd}
 use Rattle.std.specs.Bool.{then_some}
 use Rattle.std.specs.Option.{option_map}
 use Rattle.std.proofs.lemmas.Bool.{eqb-true, eq-eqb}
@@ -20,6 +21,8 @@ use Rattle.pt_slots.specs.State.{SlotsState, at, issued, next_key}
 use Rattle.pt_slots.specs.Calls.{Inserted, names}
 use Rattle.pt_process.specs.Resident.{Resident}
 use Rattle.pt_desk.specs.declared.config.Config.{Config}
+use Rattle.pt_desk.specs.declared.fault.Fault.{Fault}
+use Rattle.pt_desk.specs.declared.fault.Fault.TheVariants.{Memory}
 use Rattle.pt_desk.specs.Calls.{BearsChild, birth_link, new_link}
 use Rattle.pt_desk.specs.DeskState.{DeskState, past}
 use Rattle.pt_desk.specs.LogState.{LogState, IsWritten, IsSameLog}
@@ -344,3 +347,14 @@ room_kept config log table roomy mid queue mark whole par me s there same key r 
     let other : names key par.slot par.version ≡ false = names_is key par log.desk here.0 ∙ still_there config log roomy queue mark whole' key r mid ins par me s there' in
     let kept : at mid par.slot par.version ≡ at roomy par.slot par.version = ins.live par.slot par.version ∙ rw other refl in
     subst (λ o. IfSome o (λ x. 0 < x.room)) (sym kept) room
+
+pub child_refused : (config : Config) (log prepared : LogState) (table : Table) (queue : List Letter) (mark : ℕ) (whole : IsWhole config log table queue mark)
+    → (par me : Pid) (s : ProcessState) → Some (me, s) ≡ resident_at log.desk table par → (q : Pid) → Some q ≡ vacant_at log.desk table
+    → IsSameLog log prepared × (max log.clock 0 < 2 ^ 62) × (0 < prepared.room) → (asked : Bool)
+    → (result : Result Pid Fault) → IsErrAnd result (λ f. f ≡ Memory) → BearsChild par asked (desk_of config log table queue mark) result (desk_of config log table queue mark)
+child_refused config log prepared table queue mark whole par me s there q free ready asked (Ok p) h = absurd h
+child_refused config log prepared table queue mark whole par me s there q free ready asked (Err f) h =
+    let now : DeskState = desk_of config log table queue mark in
+    let some : IsSome (Some q) = search rules in
+    subst (λ x. BearsChild par asked now (Err x) now) (sym h)
+    (ap is_living (found config log table queue mark whole par me s there).0, (let k = ready.1 in omega arith), subst IsSome free some, refl)

@@ -1,9 +1,8 @@
-use Rattle.std.proofs.Common.{◌≡◌, ◌∙◌, Ok, sym, subst, arith}
-use Rattle.std.proofs.lemmas.Grind.{common_steps}
+use Rattle.std.proofs.Common.{◌≡◌, ◌∙◌, Ok, sym, subst}
 use Rattle.pt_desk.specs.Calls.{BearsChild, birth_link}
 use Rattle.pt_desk.specs.Residents.{IsSameTable}
 use Rattle.pt_desk.specs.Whole.{desk_of}
-use Rattle.pt_desk.proofs.Bears.{child_whole, child_answers, link_is, refused_whole, refused_view, room_kept}
+use Rattle.pt_desk.proofs.Bears.{child_whole, child_answers, link_is, refused_whole, refused_view, room_kept, child_refused}
 use Rattle.pt_desk.proofs.desk.Desk.spawn_child.Goals as goal
 
 link_known : (c : goal.After-write) → c.then_some-link.result ≡ birth_link c.args.linked (desk_of c.self.inside.config c.self.inside.log c.self.inside.table c.self.inside.queue.items c.self.inside.mark)
@@ -45,4 +44,7 @@ returns-in_err-admit c =
     subst (BearsChild c.args.parent c.args.linked c.args.self.now c.from_residual-in_err-admit.result)
     (sym (refused_view c.self.inside.config c.self.inside.log c.prepare.new.self c.self.inside.table c.admit.new.table c.self.inside.queue.items c.self.inside.mark
     c.in_ok-prepare.ensures.0 (subst (IsSameTable c.self.inside.table) (sym c.in_err-admit.ensures.err) c.make_room.ensures.same) ∙ c.self.view_is))
-    (grind (arith, common_steps))
+    (subst (λ d. BearsChild c.args.parent c.args.linked d c.from_residual-in_err-admit.result d) c.self.view_is
+    (child_refused c.self.inside.config c.self.inside.log c.prepare.new.self c.self.inside.table c.self.inside.queue.items c.self.inside.mark c.self.invariant
+    c.args.parent c.in-Some._process.now.me c.in-Some._process.now.state c.in-Some.ensures c.in-Some-vacant.pid c.in-Some-vacant.ensures
+    c.in_ok-prepare.ensures c.args.linked c.from_residual-in_err-admit.result c.from_residual-in_err-admit.ensures.1))
