@@ -14,3 +14,4 @@ pub mod Delivered
 pub mod Leaves
 pub mod Handling
 pub mod Bears
+pub mod Removals

@@ -99,11 +99,6 @@ module _ (d : DeskState) (p : Pid) (s : ProcessState) (there : life [] (past d) 
 
 -- the calls -----------------------------------------------------------------------------------
 
-place_within : {X : Type 0} (xs : List X) (k : ℕ) (x : X) → slice_get xs k ≡ Some x → k < length xs
-place_within [] k x h = absurd (cc)
-place_within (y ∷ xs) zero x h = omega arith
-place_within (y ∷ xs) (suc k) x h = let j = place_within xs k x h in omega arith
-
 module _ (config : Config) (log prepared log' : LogState) (table table' : Table) (queue reserved queue' : List Letter) (mark : ℕ)
     (whole : IsWhole config log table queue mark) (p me : Pid) (s : ProcessState) (there : Some (me, s) ≡ resident_at log.desk table p) where
   abbrev before : DeskState
@@ -114,7 +109,7 @@ module _ (config : Config) (log prepared log' : LogState) (table table' : Table)
 
   pub first_within : (k : Pick) (place : ℕ) (i : Item) → IsFirst (fits k) s.waiting (Some (place, i)) → IfSome (in_place table p) (λ r. place < length r.1.waiting)
   first_within k place i first =
-      subst (λ o. IfSome o (λ r. place < length r.1.waiting)) (sym (stands config log table queue mark whole p me s there).1) (place_within s.waiting place i first.1)
+      subst (λ o. IfSome o (λ r. place < length r.1.waiting)) (sym (stands config log table queue mark whole p me s there).1) first.0
 
   pub receive_none : (k : Pick) → find (fits k) s.waiting ≡ None → Calls p (take_event before p k) (first_match before p k) before (Ok None) before
   receive_none k none =
@@ -127,5 +122,5 @@ module _ (config : Config) (log prepared log' : LogState) (table table' : Table)
       → Calls p (take_event before p k) (first_match before p k) before (Ok (Some i)) (desk_of config log' table' queue mark)
   receive_some k place i first ready wrote next =
       did p (take_event before p k) (first_match before p k) before (desk_of config log' table' queue mark) (Took p k i) (Some i) (is_alive before p s lives_there)
-      (take_event_is before p s lives_there k (Some i) first.0) (first_match_is before p s lives_there k ∙ first.0) (let j = ready.1 in omega arith)
+      (take_event_is before p s lives_there k (Some i) first.1) (first_match_is before p s lives_there k ∙ first.1) (let j = ready.1 in omega arith)
       (after_is config log prepared log' table table' queue queue mark (Took p k i) refl ready.0 wrote next (sym (append-nil queue)))

@@ -177,7 +177,7 @@ module _ (config : Config) (log prepared log' : LogState) (table table' : Table)
       → IsWhole config log' table' queue mark
   took_whole whole p me s there k place i first ready changes wrote =
       let m : ℕ = max prepared.clock 0 + 1 in
-      keeps_took config log table queue mark whole p me s there (let j = ready.1 in omega arith) m (same_stamp log prepared ready.0) log' queue table' k i place first.0 first.2
+      keeps_took config log table queue mark whole p me s there (let j = ready.1 in omega arith) m (same_stamp log prepared ready.0) log' queue table' k i place first.1 first.3
       (written_since m (Took p k i) log prepared log' ready.0 wrote) refl changes
 
   pub plain_whole : IsWhole config log table queue mark → (p me : Pid) (s : ProcessState) → Some (me, s) ≡ resident_at log.desk table p
