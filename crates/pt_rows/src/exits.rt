@@ -63,7 +63,10 @@ fn a_kill_is_not_trapped_and_goes_on_as_killed(rt: HostRuntime) -> Result<(), Fa
     assert_eq!(rt; desk.clock(), 15);
     assert_eq!(rt; turn(&rt, &mut desk), (1, 1));
     let came = events_after(rt.alloc(), &desk, 15)?;
-    assert_eq!(rt; came.as_str(), "16@0 came <0.3.1> -> <0.4.1> link-exit ~0.9 kill;");
+    assert_eq!(rt;
+        came.as_str(),
+        "16@0 came <0.3.1> -> <0.4.1> link-exit ~0.9 kill;"
+    );
     assert!(rt; !desk.alive_here(e));
     Ok(())
 }
@@ -108,6 +111,9 @@ fn trap_answers_the_flag_before(rt: HostRuntime) -> Result<(), Fail> {
     assert_eq!(rt; desk.trap(a, false), Ok(true));
     assert_eq!(rt; desk.trap(a, false), Ok(false));
     let flags = events_after(rt.alloc(), &desk, 1)?;
-    assert_eq!(rt; flags.as_str(), "2@0 flag <0.0.1> on;3@0 flag <0.0.1> off;4@0 flag <0.0.1> off;");
+    assert_eq!(rt;
+        flags.as_str(),
+        "2@0 flag <0.0.1> on;3@0 flag <0.0.1> off;4@0 flag <0.0.1> off;"
+    );
     Ok(())
 }

@@ -38,13 +38,7 @@ pub fn pid(shard: u8, slot: u32, version: u32) -> Pid {
     }
 }
 
-pub fn send(
-    rt: &impl Abort,
-    desk: &mut Desk,
-    from: Pid,
-    to: Pid,
-    body: Body,
-) -> Result<(), Fault> {
+pub fn send(rt: &impl Abort, desk: &mut Desk, from: Pid, to: Pid, body: Body) -> Result<(), Fault> {
     assert!(rt; desk.knows(to));
     desk.send(from, to, body)
 }

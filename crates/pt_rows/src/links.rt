@@ -56,7 +56,10 @@ fn unlink_takes_both_ids_of_crossing_links_back(rt: HostRuntime) -> Result<(), F
     assert_eq!(rt; back.as_str(), "~0.4+~0.3");
     unlink(&rt, &mut desk, a, b)?;
     let said = events_after(rt.alloc(), &desk, 6)?;
-    assert_eq!(rt; said.as_str(), "7@0 said <0.0.1> -> <0.1.1> unlink ~0.3+~0.4;");
+    assert_eq!(rt;
+        said.as_str(),
+        "7@0 said <0.0.1> -> <0.1.1> unlink ~0.3+~0.4;"
+    );
     assert_eq!(rt; turn(&rt, &mut desk), (1, 1));
     assert_eq!(rt; desk.clock(), 8);
     assert_eq!(rt; desk.linked(a, b), None);
@@ -81,7 +84,10 @@ fn a_linked_child_ends_with_its_parent(rt: HostRuntime) -> Result<(), Fail> {
     assert_eq!(rt; desk.clock(), 3);
     assert_eq!(rt; turn(&rt, &mut desk), (1, 1));
     let came = events_after(rt.alloc(), &desk, 3)?;
-    assert_eq!(rt; came.as_str(), "4@0 came <0.0.1> -> <0.1.1> link-exit ~0.2 shutdown;");
+    assert_eq!(rt;
+        came.as_str(),
+        "4@0 came <0.0.1> -> <0.1.1> link-exit ~0.2 shutdown;"
+    );
     assert!(rt; !desk.alive_here(child));
     assert_eq!(rt; desk.spawn_child(a, false), Err(Fault::Gone));
     Ok(())
@@ -106,12 +112,16 @@ fn a_late_bounce_finds_the_whole_entry_taken(rt: HostRuntime) -> Result<(), Fail
     assert_eq!(rt; desk.clock(), 7);
     assert_eq!(rt; turn(&rt, &mut desk), (1, 2));
     let came = events_after(rt.alloc(), &desk, 7)?;
-    let want = "8@0 came <0.0.1> -> <0.1.1> link ~0.5;9@0 came <0.1.1> -> <0.0.1> link-exit ~0.4 shutdown;";
+    let want =
+        "8@0 came <0.0.1> -> <0.1.1> link ~0.5;9@0 came <0.1.1> -> <0.0.1> link-exit ~0.4 shutdown;";
     assert_eq!(rt; came.as_str(), want);
     assert_eq!(rt; desk.linked(a, b), None);
     assert_eq!(rt; turn(&rt, &mut desk), (1, 1));
     let bounce = events_after(rt.alloc(), &desk, 9)?;
-    assert_eq!(rt; bounce.as_str(), "10@0 came <0.1.1> -> <0.0.1> link-exit ~0.5 noproc;");
+    assert_eq!(rt;
+        bounce.as_str(),
+        "10@0 came <0.1.1> -> <0.0.1> link-exit ~0.5 noproc;"
+    );
     let items = waiting(rt.alloc(), &desk, a)?;
     assert_eq!(rt; items.as_str(), "exit <0.1.1> shutdown;");
     Ok(())
@@ -154,7 +164,8 @@ fn unlink_leaves_the_links_with_others(rt: HostRuntime) -> Result<(), Fail> {
     assert_eq!(rt; desk.clock(), 12);
     assert_eq!(rt; turn(&rt, &mut desk), (2, 2));
     let came = events_after(rt.alloc(), &desk, 12)?;
-    let want = "13@0 came <0.0.1> -> <0.1.1> link-exit ~0.4 shutdown;14@0 came <0.0.1> -> <0.2.1> link-exit ~0.5 shutdown;";
+    let want =
+        "13@0 came <0.0.1> -> <0.1.1> link-exit ~0.4 shutdown;14@0 came <0.0.1> -> <0.2.1> link-exit ~0.5 shutdown;";
     assert_eq!(rt; came.as_str(), want);
     assert!(rt; !desk.alive_here(b));
     assert!(rt; !desk.alive_here(c));

@@ -48,7 +48,8 @@ fn receive_takes_the_first_item_that_fits(rt: HostRuntime) -> Result<(), Fail> {
     let left = waiting(rt.alloc(), &desk, b)?;
     assert_eq!(rt; left.as_str(), "user <0.0.1> 2 20;user <0.0.1> 1 30;");
     let came = events_after(rt.alloc(), &desk, 10)?;
-    let want = "11@0 took <0.1.1> kind 3 = user <0.0.1> 3 40;12@0 took <0.1.1> any = user <0.0.1> 1 10;";
+    let want =
+        "11@0 took <0.1.1> kind 3 = user <0.0.1> 3 40;12@0 took <0.1.1> any = user <0.0.1> 1 10;";
     assert_eq!(rt; came.as_str(), want);
     Ok(())
 }
@@ -100,7 +101,10 @@ fn a_turn_handles_no_more_than_its_budget(rt: HostRuntime) -> Result<(), Fail> {
     let first = desk.turn(3);
     assert_eq!(rt; (first.posted, first.handled, first.stopped), (4, 3, None));
     let second = desk.turn(3);
-    assert_eq!(rt; (second.posted, second.handled, second.stopped), (0, 1, None));
+    assert_eq!(rt;
+        (second.posted, second.handled, second.stopped),
+        (0, 1, None)
+    );
     assert_eq!(rt; desk.clock(), 10);
     Ok(())
 }

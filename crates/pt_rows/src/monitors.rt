@@ -60,7 +60,10 @@ fn demonitor_with_flush_takes_a_waiting_down(rt: HostRuntime) -> Result<(), Fail
     assert_eq!(rt; desk.clock(), 6);
     assert_eq!(rt; desk.demonitor(a, m, true)?, true);
     let taken = events_after(rt.alloc(), &desk, 6)?;
-    assert_eq!(rt; taken.as_str(), "7@0 took <0.0.1> down-of #0.3 = down #0.3 <0.1.1> normal;");
+    assert_eq!(rt;
+        taken.as_str(),
+        "7@0 took <0.0.1> down-of #0.3 = down #0.3 <0.1.1> normal;"
+    );
     let items = waiting(rt.alloc(), &desk, a)?;
     assert_eq!(rt; items.as_str(), "");
     assert_eq!(rt; desk.demonitor(a, m, true)?, false);
@@ -83,14 +86,18 @@ fn an_end_pays_its_links_then_its_watchers_then_its_monitors(rt: HostRuntime) ->
     assert_eq!(rt; desk.clock(), 10);
     assert_eq!(rt; turn(&rt, &mut desk), (3, 3));
     let ends = events_after(rt.alloc(), &desk, 10)?;
-    let want = "11@0 came <0.2.1> -> <0.1.1> link-exit ~0.6 other:1;12@0 came <0.2.1> -> <0.0.1> down #0.4 other:1;13@0 came <0.2.1> -> <0.1.1> down #0.5 other:1;";
+    let want =
+        "11@0 came <0.2.1> -> <0.1.1> link-exit ~0.6 other:1;12@0 came <0.2.1> -> <0.0.1> down #0.4 other:1;13@0 came <0.2.1> -> <0.1.1> down #0.5 other:1;";
     assert_eq!(rt; ends.as_str(), want);
     assert!(rt; !desk.alive_here(b));
     let items = waiting(rt.alloc(), &desk, a)?;
     assert_eq!(rt; items.as_str(), "down #0.4 <0.2.1> other:1;");
     assert_eq!(rt; turn(&rt, &mut desk), (1, 1));
     let last = events_after(rt.alloc(), &desk, 13)?;
-    assert_eq!(rt; last.as_str(), "14@0 came <0.1.1> -> <0.2.1> demonitor #0.5;");
+    assert_eq!(rt;
+        last.as_str(),
+        "14@0 came <0.1.1> -> <0.2.1> demonitor #0.5;"
+    );
     assert_eq!(rt; turn(&rt, &mut desk), (0, 0));
     Ok(())
 }
