@@ -1,5 +1,5 @@
 -- A desk that bears a process is whole afterwards.
-use Rattle.std.proofs.Common.{◌≡◌, ℕ, ◌+◌, ◌^◌, ◌<◌, ◌≤◌, max, Bool, true, false, cond, ◌==◌, Result, Ok, Err, List, [], ◌∷◌, ◌++◌, Option, Some, None, refl, sym, ap, ◌∙◌, subst, append-nil, arith, rules}
+use Rattle.std.proofs.Common.{◌≡◌, ℕ, ◌+◌, ◌^◌, ◌<◌, max, Bool, true, false, cond, ◌==◌, Result, Ok, Err, List, [], ◌∷◌, ◌++◌, Option, Some, None, refl, sym, ap, ◌∙◌, subst, append-nil, arith, rules}
 use Rattle.std.specs.Prelude.{pred, IfSome, IsSome}
 use Rattle.std.specs.Result.{IsErrAnd}
 use Rattle.std.specs.Bool.{then_some}
@@ -12,12 +12,11 @@ use Rattle.pt_signal.specs.declared.letter.Letter.{Letter}
 use Rattle.pt_signal.specs.Values.{same_pid}
 use Rattle.pt_signal.specs.Process.{ProcessState, fresh}
 use Rattle.pt_signal.proofs.Same.{same_pid_is}
-use Rattle.pt_history.specs.declared.event.Event.{Event}
 use Rattle.pt_history.specs.declared.event.Event.TheVariants.{Born}
 use Rattle.pt_history.specs.History.{Past, Phase, unborn, living, ended, life, linked, while_living, is_the, is_ended, is_living, made_link, MayBear}
 use Rattle.pt_history.specs.Journal.{IsLinkAt, IsOf}
 use Rattle.pt_slots.specs.declared.Key.{Key}
-use Rattle.pt_slots.specs.State.{SlotsState, at, issued, next_key}
+use Rattle.pt_slots.specs.State.{at, issued, next_key}
 use Rattle.pt_slots.specs.Calls.{Inserted, names}
 use Rattle.pt_process.specs.Resident.{Resident}
 use Rattle.pt_desk.specs.declared.config.Config.{Config}

@@ -1,14 +1,11 @@
 -- Which pids were born: those up to the latest version of their slot.
-use Rattle.std.proofs.Common.{◌≡◌, ℕ, ◌+◌, ◌<◌, ◌≤◌, [], ◌∷◌, Bool, true, false, cond, not, ◌&&◌, ◌||◌, ◌==◌, Option, Some, None, refl, sym, ap, ◌∙◌, subst, arith, rules}
+use Rattle.std.proofs.Common.{◌≡◌, ℕ, ◌+◌, ◌<◌, [], ◌∷◌, Bool, true, false, not, ◌&&◌, ◌==◌, Option, refl, sym, ap, ◌∙◌, subst, arith}
 use Rattle.std.specs.Prelude.{nat_lt, nat_le, pred}
 use Rattle.std.proofs.lemmas.Bool.{eqb-true, eq-eqb}
 use Rattle.std.proofs.lemmas.Bool.Decides.{nat_tests}
 use Rattle.pt_signal.specs.declared.pid.Pid.{Pid}
 use Rattle.pt_signal.specs.declared.ids.LinkId.{LinkId}
-use Rattle.pt_signal.specs.declared.reason.Reason.{Reason}
-use Rattle.pt_signal.specs.declared.signal.Signal.{Signal}
 use Rattle.pt_signal.specs.Values.{same_pid}
-use Rattle.pt_signal.specs.Process.{ProcessState}
 use Rattle.pt_signal.proofs.Same.{same_pid_refl, same_pid_is}
 use Rattle.pt_history.specs.declared.event.Event.{Event}
 use Rattle.pt_history.specs.declared.event.Event.TheVariants.{Born, Said, Came, Took, Flag, Left}

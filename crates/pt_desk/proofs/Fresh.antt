@@ -1,14 +1,12 @@
 -- An id or a reference with the next stamp was never made before.
-use Rattle.std.proofs.Common.{◌≡◌, ℕ, ◌<◌, ◌≤◌, Bool, false, ◌||◌, List, [], ◌∷◌, Option, Some, None, refl, arith}
+use Rattle.std.proofs.Common.{◌≡◌, ℕ, ◌<◌, false, List, [], ◌∷◌, Option, Some, None, refl, arith}
 use Rattle.std.proofs.lemmas.Bool.Decides.{nat_tests}
-use Rattle.pt_signal.specs.declared.pid.Pid.{Pid}
 use Rattle.pt_signal.specs.declared.ids.Ref.{Ref}
 use Rattle.pt_signal.specs.declared.ids.LinkId.{LinkId}
-use Rattle.pt_signal.specs.declared.signal.Signal.{Signal}
 use Rattle.pt_signal.specs.declared.signal.Signal.TheVariants.{Link, Monitor}
 use Rattle.pt_signal.specs.Values.{same_link, same_ref}
 use Rattle.pt_history.specs.declared.event.Event.{Event}
-use Rattle.pt_history.specs.declared.event.Event.TheVariants.{Born, Said, Came, Took, Flag, Left}
+use Rattle.pt_history.specs.declared.event.Event.TheVariants.{Born, Said}
 use Rattle.pt_history.specs.declared.event.Stamped.{Stamped}
 use Rattle.pt_history.specs.History.{makes_link, makes_ref, made_link, made_ref, is_this}
 use Rattle.pt_history.specs.Journal.{events, clock, IsLocal, IsNewAt, IsLinkAt}

@@ -1,22 +1,20 @@
 -- One more event keeps a desk sound.
-use Rattle.std.proofs.Common.{◌≡◌, ℕ, ◌+◌, ◌-◌, ◌^◌, ◌<◌, ◌≤◌, Bool, true, false, cond, ◌==◌, suc, List, [], ◌∷◌, ◌++◌, length, max, map, filter, drop, Option, Some, None, refl, sym, ap, ◌∙◌, subst, append-nil, arith}
+use Rattle.std.proofs.Common.{◌≡◌, ℕ, ◌+◌, ◌^◌, ◌<◌, ◌≤◌, Bool, true, false, ◌==◌, suc, List, [], ◌∷◌, ◌++◌, length, max, map, drop, Option, Some, refl, ap, ◌∙◌, subst, append-nil, arith}
 use Rattle.std.specs.Prelude.{slice_get}
 use Rattle.std.proofs.Common.{length-append}
 use Rattle.std.proofs.lemmas.Bool.{eq-eqb}
 use Rattle.std.proofs.lemmas.List.Elements.{filter-append}
 use Rattle.pt_signal.specs.declared.pid.Pid.{Pid}
 use Rattle.pt_signal.specs.declared.letter.Letter.{Letter}
-use Rattle.pt_signal.specs.Process.{ProcessState, Sent, sent}
+use Rattle.pt_signal.specs.Process.{Sent, sent}
 use Rattle.pt_history.specs.declared.event.Event.{Event}
 use Rattle.pt_history.specs.declared.event.Event.TheVariants.{Born, Said, Came, Took, Flag, Left}
-use Rattle.pt_history.specs.declared.event.Stamped.{Stamped}
-use Rattle.pt_history.specs.History.{Past, life, sent_by}
-use Rattle.pt_history.specs.Journal.{events, clock, letter, got, gots, letters, posts, Agrees, IsHome, MayHere, IsNewAt, IsKnown}
+use Rattle.pt_history.specs.History.{sent_by}
+use Rattle.pt_history.specs.Journal.{letter, got, gots, letters, posts, Agrees, IsHome, MayHere, IsNewAt, IsKnown}
 use Rattle.pt_history.proofs.Homes.{AllFrom, from_home}
-use Rattle.pt_desk.specs.DeskState.{DeskState, past, written, after, popped, handled}
+use Rattle.pt_desk.specs.DeskState.{DeskState, past, written, handled}
 use Rattle.pt_desk.specs.Turns.{IsFirst}
-use Rattle.pt_desk.specs.LogState.{LogState, IsWritten}
-use Rattle.pt_desk.specs.Sound.{IsSound, BornAreIssued, IsNear, AllNear, AreWithin, resident, issued_in}
+use Rattle.pt_desk.specs.Sound.{IsSound, BornAreIssued, IsNear, AreWithin, resident, issued_in}
 use Rattle.pt_desk.proofs.Frames.{Reading}
 use Rattle.pt_desk.proofs.Near.{Every, IsOpen, near_life, near_sent, IsToNode}
 use Rattle.pt_desk.proofs.Accounts.{Agrees-posted, Agrees-got, posts_all}

@@ -1,10 +1,10 @@
 -- A process that exits leaves the desk whole.
-use Rattle.std.proofs.Common.{◌≡◌, ℕ, ◌+◌, ◌^◌, ◌<◌, max, [], ◌∷◌, ◌++◌, List, map, Option, Some, None, refl, sym, ap, ◌∙◌, arith}
+use Rattle.std.proofs.Common.{◌≡◌, ℕ, ◌+◌, ◌^◌, ◌<◌, max, [], ◌++◌, List, map, Some, None, refl, sym, ap, ◌∙◌, arith}
 use Rattle.std.specs.Prelude.{Ok}
 use Rattle.pt_signal.specs.declared.pid.Pid.{Pid}
 use Rattle.pt_signal.specs.declared.reason.Reason.{Reason}
 use Rattle.pt_signal.specs.declared.letter.Letter.{Letter}
-use Rattle.pt_signal.specs.Process.{ProcessState, estate}
+use Rattle.pt_signal.specs.Process.{ProcessState}
 use Rattle.pt_history.specs.declared.event.Event.TheVariants.{Left}
 use Rattle.pt_history.specs.History.{living, is_living, left_sends, sent_by}
 use Rattle.pt_history.specs.Journal.{letter}

@@ -1,5 +1,5 @@
 -- An event stamped above the clock is newer than the journal.
-use Rattle.std.proofs.Common.{ℕ, ◌<◌, ◌≤◌, List, [], ◌∷◌, arith}
+use Rattle.std.proofs.Common.{ℕ, ◌<◌, List, [], ◌∷◌, arith}
 use Rattle.pt_history.specs.declared.event.Stamped.{Stamped}
 use Rattle.pt_history.specs.JournalState.{IsNewer}
 use Rattle.pt_desk.specs.LogState.{IsUpTo}

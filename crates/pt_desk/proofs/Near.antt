@@ -1,6 +1,6 @@
 -- A process knows pids of the node's desks alone, so what it owes goes to them alone; and its open references
 -- are none that is yet to be made.
-use Rattle.std.proofs.Common.{◌≡◌, ℕ, ◌<◌, ◌≤◌, refl, List, [], ◌∷◌, ◌++◌, Bool, true, false, cond, Option, Some, None, map, subst, arith}
+use Rattle.std.proofs.Common.{◌≡◌, ℕ, ◌<◌, ◌≤◌, refl, List, [], ◌∷◌, ◌++◌, Bool, true, false, Option, Some, None, map, subst, arith}
 use Rattle.std.specs.Prelude.{⊤}
 use Rattle.std.specs.Map.{lookup, remove_entry, set_value}
 use Rattle.std.proofs.lemmas.Bool.Decides.{nat_tests}
@@ -9,15 +9,14 @@ use Rattle.pt_signal.specs.declared.ids.Ref.{Ref}
 use Rattle.pt_signal.specs.declared.ids.Ids.{Ids}
 use Rattle.pt_signal.specs.declared.ids.LinkId.{LinkId}
 use Rattle.pt_signal.specs.declared.reason.Reason.{Reason}
-use Rattle.pt_signal.specs.declared.reason.Reason.TheVariants.{Normal, Kill, Killed, Noproc, Shutdown, Other}
 use Rattle.pt_signal.specs.declared.signal.Signal.{Signal}
 use Rattle.pt_signal.specs.declared.signal.Signal.TheVariants.{Message, Link, Unlink, LinkExit, Monitor, Demonitor}
 use Rattle.pt_signal.specs.Values.{without_first, same_pid, same_ref}
-use Rattle.pt_signal.specs.Process.{ProcessState, Handled, fresh, held, enter, enter_at, cut, cut_at, leave_at, without_ids, one_id, keep, same_watch, handle, say, obey, Verdict, drops, queues, ends, verdict, link_exit, down, Sent, sent, estate, bounce}
+use Rattle.pt_signal.specs.Process.{ProcessState, fresh, held, enter_at, cut_at, leave_at, without_ids, keep, same_watch, handle, say, obey, Verdict, drops, queues, ends, verdict, link_exit, down, Sent, sent, estate, bounce}
 use Rattle.pt_history.specs.declared.event.Event.{Event}
 use Rattle.pt_history.specs.declared.event.Event.TheVariants.{Born, Said, Came, Took, Flag, Left}
 use Rattle.pt_history.specs.declared.event.Stamped.{Stamped}
-use Rattle.pt_history.specs.History.{Past, Phase, unborn, living, ended, life, after, change, touches, newborn, while_living, linked, gets, leaves, live_or_end, sent_by, got_sends, left_sends, end_sends, is_unborn}
+use Rattle.pt_history.specs.History.{Past, Phase, unborn, living, ended, life, change, touches, newborn, while_living, linked, gets, leaves, live_or_end, sent_by, got_sends, left_sends, end_sends, is_unborn}
 use Rattle.pt_history.specs.Journal.{events, clock, IsLocal, IsHome, IsNewAt, IsOf, IsKnown}
 use Rattle.pt_history.proofs.Phases.{each_branch, after_born}
 use Rattle.pt_desk.specs.Sound.{IsNear, AllNear}

@@ -1,7 +1,7 @@
 -- What the calls answer, told by the parts of the desk before and after.
-use Rattle.std.proofs.Common.{◌≡◌, ℕ, suc, zero, length, append-nil, ◌+◌, ◌^◌, ◌<◌, ◌≤◌, max, Bool, true, false, cond, ◌||◌, List, [], ◌∷◌, ◌++◌, map, Option, Some, None, is_some, IsSome, refl, sym, ap, ◌∙◌, subst, arith}
-use Rattle.std.specs.Prelude.{Result, Ok, Err, slice_get, IfSome}
-use Rattle.std.specs.List.{find, remove}
+use Rattle.std.proofs.Common.{◌≡◌, ℕ, length, append-nil, ◌+◌, ◌^◌, ◌<◌, max, Bool, true, false, cond, ◌||◌, List, [], ◌++◌, map, Option, Some, None, is_some, IsSome, refl, sym, ap, ◌∙◌, subst, arith}
+use Rattle.std.specs.Prelude.{Ok, Err, IfSome}
+use Rattle.std.specs.List.{find}
 use Rattle.std.specs.Map.{lookup}
 use Rattle.std.specs.Option.{option_map}
 use Rattle.pt_signal.specs.declared.pid.Pid.{Pid}
@@ -10,8 +10,7 @@ use Rattle.pt_signal.specs.declared.ids.Ref.{Ref}
 use Rattle.pt_signal.specs.declared.item.Item.{Item}
 use Rattle.pt_signal.specs.declared.item.Pick.{Pick}
 use Rattle.pt_signal.specs.declared.letter.Letter.{Letter}
-use Rattle.pt_signal.specs.declared.signal.Signal.{Signal}
-use Rattle.pt_signal.specs.declared.signal.Signal.TheVariants.{Link, Unlink, Monitor, Demonitor}
+use Rattle.pt_signal.specs.declared.signal.Signal.TheVariants.{Link, Unlink}
 use Rattle.pt_signal.specs.Values.{fits, same_pid, same_ref}
 use Rattle.pt_signal.specs.Process.{ProcessState, held}
 use Rattle.pt_history.specs.declared.event.Event.{Event}
@@ -21,12 +20,11 @@ use Rattle.pt_history.specs.Journal.{letter}
 use Rattle.pt_slots.specs.State.{next_key}
 use Rattle.pt_process.specs.Places.{IsFirst}
 use Rattle.pt_desk.specs.declared.config.Config.{Config}
-use Rattle.pt_desk.specs.declared.fault.Fault.{Fault}
-use Rattle.pt_desk.specs.declared.fault.Fault.TheVariants.{Memory, Worn}
+use Rattle.pt_desk.specs.declared.fault.Fault.TheVariants.{Memory}
 use Rattle.pt_desk.specs.declared.turned.Stop.{Stop}
 use Rattle.pt_desk.specs.declared.turned.Stop.TheVariants as stop
 use Rattle.pt_desk.specs.Faults.{fault_of}
-use Rattle.pt_desk.specs.DeskState.{DeskState, past, lives, state_in, after, ended_by}
+use Rattle.pt_desk.specs.DeskState.{DeskState, past, lives, after, ended_by}
 use Rattle.pt_desk.specs.LogState.{LogState, IsWritten, IsSameLog, Prepares}
 use Rattle.pt_desk.specs.Calls.{Calls, CanWrite, CanWriteIf, after_if, held_by, link_event, unlink_event, new_link, first_match, take_event, demonitor_event, demonitor_at}
 use Rattle.pt_desk.specs.Residents.{Table, resident_at, in_place}

@@ -1,12 +1,12 @@
 -- A process that is taken out of the slots.
-use Rattle.std.proofs.Common.{◌≡◌, ℕ, Bool, true, false, cond, ◌==◌, ◌&&◌, Option, Some, None, is_some, refl, sym, ap, ◌∙◌, subst}
+use Rattle.std.proofs.Common.{◌≡◌, ℕ, Bool, true, false, cond, Some, None, refl, sym, ap, ◌∙◌, subst}
 use Rattle.std.specs.Prelude.{IfSome, IsSome}
 use Rattle.pt_signal.specs.declared.pid.Pid.{Pid}
 use Rattle.pt_signal.specs.declared.reason.Reason.{Reason}
-use Rattle.pt_signal.specs.Process.{ProcessState, estate}
+use Rattle.pt_signal.specs.Process.{estate}
 use Rattle.pt_slots.specs.declared.Key.{Key}
 use Rattle.pt_slots.specs.State.{at}
-use Rattle.pt_slots.specs.Calls.{Removed, names}
+use Rattle.pt_slots.specs.Calls.{Removed}
 use Rattle.pt_process.specs.Resident.{Resident, Owing}
 use Rattle.pt_desk.specs.Residents.{Table, Ends, seen, in_place, is_place_of}
 

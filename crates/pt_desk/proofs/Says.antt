@@ -1,18 +1,17 @@
 -- A process that says a signal, takes an item, or sets its flag leaves the desk whole.
-use Rattle.std.proofs.Common.{◌≡◌, ℕ, ◌+◌, ◌^◌, ◌<◌, max, Bool, true, false, List, [], ◌∷◌, ◌++◌, Option, Some, None, refl, sym, ap, ◌∙◌, subst, append-nil, arith}
+use Rattle.std.proofs.Common.{◌≡◌, ℕ, ◌+◌, ◌^◌, ◌<◌, max, Bool, true, false, List, [], ◌∷◌, ◌++◌, Some, refl, sym, ap, ◌∙◌, append-nil, arith}
 use Rattle.std.specs.List.{find, remove}
-use Rattle.std.specs.Map.{lookup}
 use Rattle.pt_signal.specs.declared.pid.Pid.{Pid}
 use Rattle.pt_signal.specs.declared.item.Item.{Item}
 use Rattle.pt_signal.specs.declared.item.Pick.{Pick}
 use Rattle.pt_signal.specs.declared.letter.Letter.{Letter}
 use Rattle.pt_signal.specs.declared.signal.Signal.{Signal}
 use Rattle.pt_signal.specs.declared.signal.Signal.TheVariants.{Message, Link, Unlink, Monitor, Demonitor, LinkExit}
-use Rattle.pt_signal.specs.Values.{fits, without_first, same_ref}
-use Rattle.pt_signal.specs.Process.{ProcessState, say, held}
+use Rattle.pt_signal.specs.Values.{fits, without_first}
+use Rattle.pt_signal.specs.Process.{ProcessState, say}
 use Rattle.pt_history.specs.declared.event.Event.{Event}
 use Rattle.pt_history.specs.declared.event.Event.TheVariants.{Said, Took, Flag}
-use Rattle.pt_history.specs.History.{living, life, is_unborn, state_of, MaySay}
+use Rattle.pt_history.specs.History.{living, life, is_unborn, MaySay}
 use Rattle.pt_history.specs.Journal.{IsNewAt}
 use Rattle.pt_history.proofs.Steps.{said, took, flagged}
 use Rattle.pt_desk.specs.declared.config.Config.{Config}

@@ -1,23 +1,23 @@
 -- A desk that writes an event of one process is whole afterwards.
-use Rattle.std.proofs.Common.{◌≡◌, ℕ, ◌+◌, ◌^◌, ◌<◌, Bool, true, false, cond, ◌==◌, List, [], ◌∷◌, ◌++◌, map, Option, Some, None, is_some, refl, sym, ap, ◌∙◌, subst, arith}
-use Rattle.std.proofs.lemmas.Bool.{eqb-true, eq-eqb}
+use Rattle.std.proofs.Common.{◌≡◌, ℕ, ◌+◌, ◌^◌, ◌<◌, Bool, true, false, cond, ◌==◌, List, [], ◌∷◌, ◌++◌, map, Option, Some, None, refl, sym, ap, ◌∙◌, subst, arith}
+use Rattle.std.proofs.lemmas.Bool.{eqb-true}
 use Rattle.std.proofs.lemmas.Bool.Decides.{nat_tests}
 use Rattle.pt_signal.specs.declared.pid.Pid.{Pid}
 use Rattle.pt_signal.specs.declared.letter.Letter.{Letter}
 use Rattle.pt_signal.specs.Values.{same_pid}
 use Rattle.pt_signal.specs.Process.{ProcessState}
 use Rattle.pt_history.specs.declared.event.Event.{Event}
-use Rattle.pt_history.specs.History.{Phase, living, life, touches, sent_by}
+use Rattle.pt_history.specs.History.{living, life, touches, sent_by}
 use Rattle.pt_history.specs.Journal.{letter, IsHome, MayHere, IsNewAt, IsKnown}
 use Rattle.pt_slots.specs.State.{at, issued}
 use Rattle.pt_desk.specs.declared.config.Config.{Config}
-use Rattle.pt_desk.specs.DeskState.{DeskState, past, written}
+use Rattle.pt_desk.specs.DeskState.{DeskState, past}
 use Rattle.pt_desk.specs.LogState.{LogState, IsWritten}
-use Rattle.pt_desk.specs.Sound.{IsSound, IsNear, resident}
-use Rattle.pt_desk.specs.Residents.{Table, seen, resident_at, in_place, changed, is_place_of, vacant_at, Puts, Changes, SameSettings, IsSameTable}
+use Rattle.pt_desk.specs.Sound.{IsNear, resident}
+use Rattle.pt_desk.specs.Residents.{Table, seen, resident_at, in_place, changed, is_place_of, vacant_at, Puts, Changes, SameSettings}
 use Rattle.pt_desk.specs.Whole.{desk_of, IsWhole}
 use Rattle.pt_desk.proofs.Births.{is_birth, issued_kept, issued_same}
-use Rattle.pt_desk.proofs.Frames.{Reading, IsPut, put_one, lives_there}
+use Rattle.pt_desk.proofs.Frames.{IsPut, put_one, lives_there}
 use Rattle.pt_desk.proofs.Keeps.{IsLawful, is_receipt, sound_own}
 
 -- the table by places, and by pids ------------------------------------------------------

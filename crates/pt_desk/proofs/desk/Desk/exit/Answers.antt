@@ -1,4 +1,4 @@
-use Rattle.std.proofs.Common.{◌≡◌, Some, subst}
+use Rattle.std.proofs.Common.{Some, subst}
 use Rattle.std.specs.Prelude.{Ok}
 use Rattle.pt_history.specs.declared.event.Event.TheVariants.{Left}
 use Rattle.pt_desk.specs.Calls.{Calls}

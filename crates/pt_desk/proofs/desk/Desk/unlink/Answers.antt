@@ -1,4 +1,4 @@
-use Rattle.std.proofs.Common.{◌≡◌, true, sym, subst, Some, None}
+use Rattle.std.proofs.Common.{◌≡◌, true, sym, subst}
 use Rattle.std.specs.Prelude.{Ok}
 use Rattle.pt_signal.specs.declared.signal.Signal.TheVariants.{Unlink}
 use Rattle.pt_history.specs.declared.event.Event.TheVariants.{Said}
