@@ -1,5 +1,5 @@
 -- Entries with gaps, and what is left of them.
-use Rattle.std.proofs.Common.{◌≡◌, ℕ, ◌+◌, ◌-◌, ◌<◌, ◌≤◌, Bool, true, false, cond, List, [], ◌∷◌, ◌++◌, map, length, slice_get, refl, sym, ap, subst, ◌≢◌, ◌^◌, ◌∙◌, arith, Option, Some, None, is_some, unwrap_or, ◌&&◌, ◌||◌, filter, append-nil, length-append, if◌then◌else◌}
+use Rattle.std.proofs.Common.{◌≡◌, ℕ, ◌+◌, ◌-◌, ◌≤◌, Bool, true, false, cond, List, [], ◌∷◌, ◌++◌, length, slice_get, refl, sym, ap, subst, ◌≢◌, ◌^◌, ◌∙◌, arith, Option, Some, None, is_some, unwrap_or, ◌&&◌, ◌||◌, filter, append-nil, length-append, if◌then◌else◌}
 use Rattle.std.proofs.lemmas.Option.{slice_get-map}
 use Rattle.std.specs.Option.{option_map, option_to_list}
 use Rattle.std.specs.Cmp.{IsEquivalence}

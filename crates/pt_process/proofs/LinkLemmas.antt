@@ -1,12 +1,12 @@
 -- Which signals change the lists of a process, and which leave them as they are.
-use Rattle.std.proofs.Common.{◌≡◌, ◌≢◌, ℕ, ◌+◌, ◌<◌, Bool, true, false, cond, not, ◌||◌, List, [], ◌∷◌, ◌++◌, length, filter, refl, sym, ap, ◌∙◌, arith, length-append, Option, Some, None, is_some, unwrap_or, if◌then◌else◌}
+use Rattle.std.proofs.Common.{◌≡◌, ◌≢◌, ◌+◌, Bool, true, false, cond, not, ◌||◌, List, [], ◌∷◌, ◌++◌, length, filter, refl, sym, ap, ◌∙◌, arith, length-append, Option, Some, None, is_some, unwrap_or, if◌then◌else◌}
 use Rattle.std.specs.List.{list_any}
 use Rattle.std.specs.Option.{option_to_list}
-use Rattle.std.specs.Map.{lookup, remove_entry, set_value, keys_of}
+use Rattle.std.specs.Map.{lookup, remove_entry, set_value}
 use Rattle.pt_signal.specs.declared.pid.Pid.{Pid}
 use Rattle.pt_signal.specs.declared.ids.LinkId.{LinkId}
 use Rattle.pt_signal.specs.declared.ids.Ids.{Ids}
-use Rattle.pt_signal.specs.Values.{same_pid, without_first}
+use Rattle.pt_signal.specs.Values.{same_pid}
 use Rattle.pt_signal.specs.Process.{held, holds_any, has_id, share_id, without_ids, one_id, ids_of, second_id, enter, enter_at, add_id, cut, cut_at, leave_at}
 use Rattle.pt_process.specs.Outcome.{has_two}
 use Rattle.pt_process.proofs.GapLemmas.{length-remove_entry}

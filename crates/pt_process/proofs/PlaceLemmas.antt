@@ -1,6 +1,6 @@
 -- The first of a list that passes a test, and the list without it.
 use Rattle.std.proofs.Common.{◌≡◌, ℕ, suc, ◌+◌, ◌-◌, ◌<◌, ◌≤◌, Bool, true, false, not, cond, ltb, List, [], ◌∷◌, ◌++◌, length, get_or, take, drop, refl, ap, sym, subst, ◌∙◌, arith, length-append, length-take, length-drop, Option, Some, None}
-use Rattle.std.specs.List.{find, position, position_or_len, prefix_len, remove, slice_get}
+use Rattle.std.specs.List.{find, position, position_or_len, remove, slice_get}
 use Rattle.std.proofs.lemmas.List.{take_at, drop_at, take_more, drop-drop}
 use Rattle.std.proofs.lemmas.Grind.{common_steps}
 use Rattle.std.proofs.lemmas.Bool.Decides.{nat_tests}

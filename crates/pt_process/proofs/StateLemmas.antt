@@ -9,7 +9,7 @@ use Rattle.pt_signal.specs.declared.ids.Ids.{Ids}
 use Rattle.pt_signal.specs.declared.item.Item.{Item}
 use Rattle.pt_signal.specs.declared.reason.Reason.{Reason}
 use Rattle.pt_signal.specs.Values.{same_pid}
-use Rattle.pt_signal.specs.Process.{ProcessState, Handled, Verdict, verdict, obey, stays, link_exit, holds_any, same_watch, keep}
+use Rattle.pt_signal.specs.Process.{ProcessState, Verdict, verdict, obey, stays, link_exit, holds_any, same_watch, keep}
 
 module _ (s : ProcessState) where
   pub waiting_same : (items : List Item) → items ≡ s.waiting → record s { waiting = items } ≡ s

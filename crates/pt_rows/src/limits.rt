@@ -1,7 +1,7 @@
 // Settings out of range, pids that a desk does not know, and a clock at its limit.
 
-use crate::fixture::{body, desk, pid, send, settings};
-use pt_desk::{Config, Desk, Fault, OpenError};
+use crate::fixture::{body, desk, desk_with, pid, send, settings};
+use pt_desk::{Config, Fault, OpenError};
 use pt_signal::Pick;
 use std::test::Fail;
 
@@ -13,13 +13,13 @@ fn a_clock_at_its_limit_refuses_what_has_an_event(rt: HostRuntime) -> Result<(),
         start: LIMIT - 1,
         ..settings(8, u32::MAX)
     };
-    let mut desk = Desk::alone(rt.alloc(), config)?;
+    let mut desk = desk_with(rt.alloc(), config)?;
     let a = desk.spawn()?;
     assert_eq!(rt; desk.clock(), LIMIT);
     assert_eq!(rt; send(&rt, &mut desk, a, a, body(1, 0)), Err(Fault::Worn));
     assert_eq!(rt; desk.trap(a, true), Err(Fault::Worn));
     assert_eq!(rt; desk.receive(a, Pick::Any), Ok(None));
-    assert_eq!(rt; desk.journal().events().len(), 1);
+    assert_eq!(rt; desk.events(), 1);
     Ok(())
 }
 
@@ -50,11 +50,8 @@ fn settings_out_of_range_are_refused(rt: HostRuntime) -> Result<(), Fail> {
         },
     ];
     for config in refused {
-        match Desk::alone(rt.alloc(), config) {
-            Ok(desk) => {
-                drop(desk.close());
-                assert!(rt; false, "{config:?}");
-            }
+        match desk_with(rt.alloc(), config) {
+            Ok(_) => assert!(rt; false, "{config:?}"),
             Err(error) => assert_eq!(rt; error, OpenError::Bounds, "{config:?}"),
         }
     }
@@ -63,7 +60,7 @@ fn settings_out_of_range_are_refused(rt: HostRuntime) -> Result<(), Fail> {
 
 #[test]
 fn a_desk_knows_only_pids_that_it_may_have_issued(rt: HostRuntime) -> Result<(), Fail> {
-    let mut desk = Desk::alone(rt.alloc(), settings(8, 2))?;
+    let mut desk = desk_with(rt.alloc(), settings(8, 2))?;
     assert!(rt; !desk.knows(pid(1, 0, 1)));
     assert!(rt; !desk.knows(pid(0, 8, 1)));
     assert!(rt; !desk.knows(pid(0, 0, 0)));

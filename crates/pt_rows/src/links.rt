@@ -11,7 +11,7 @@ fn a_link_to_oneself_or_made_twice_has_no_event(rt: HostRuntime) -> Result<(), F
     let a = desk.spawn()?;
     let b = desk.spawn()?;
     link(&rt, &mut desk, a, a)?;
-    assert_eq!(rt; desk.journal().events().len(), 2);
+    assert_eq!(rt; desk.events(), 2);
     link(&rt, &mut desk, a, b)?;
     link(&rt, &mut desk, a, b)?;
     let events = events_after(rt.alloc(), &desk, 2)?;

@@ -120,6 +120,6 @@ fn a_reference_of_another_desk_has_no_down_here(rt: HostRuntime) -> Result<(), F
     let foreign = Ref { desk: 5, number: 7 };
     assert_eq!(rt; desk.demonitor(a, foreign, true), Ok(false));
     assert_eq!(rt; desk.receive(a, Pick::DownOf(foreign)), Ok(None));
-    assert_eq!(rt; desk.journal().events().len(), 1);
+    assert_eq!(rt; desk.events(), 1);
     Ok(())
 }

@@ -1,4 +1,4 @@
-use Rattle.std.specs.Prelude.{ℕ, ◌≡◌, ◌≤◌, length}
+use Rattle.std.specs.Prelude.{◌≡◌, ◌≤◌, length}
 use Rattle.std.specs.HashMap.{spare, IsUnique}
 use Rattle.pt_process.specs.Gaps.{present}
 use Rattle.pt_process.proofs.entries.drop_last_gaps.Given as goal

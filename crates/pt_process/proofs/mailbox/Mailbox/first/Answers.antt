@@ -1,4 +1,4 @@
-use Rattle.std.proofs.Common.{◌≡◌, sym, ap, ◌∙◌}
+use Rattle.std.proofs.Common.{sym, ◌∙◌}
 use Rattle.std.proofs.lemmas.Option.{slice_get-get_or}
 use Rattle.pt_signal.specs.Values.{fits}
 use Rattle.pt_process.proofs.PlaceLemmas.{IsFirst-place, IsFirst-none, within_from_position}

@@ -1,4 +1,4 @@
-use Rattle.std.proofs.Common.{◌≡◌, sym, ap, ◌∙◌, Some, is_some, slice_get}
+use Rattle.std.proofs.Common.{sym, ap, ◌∙◌, Some, is_some, slice_get}
 use Rattle.std.specs.Option.{option_map}
 use Rattle.std.specs.Map.Iter.{deref_pair}
 use Rattle.pt_process.proofs.GapLemmas.{row_at}
