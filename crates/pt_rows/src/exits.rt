@@ -33,6 +33,7 @@ fn a_trap_stops_a_cascade(rt: HostRuntime) -> Result<(), Fail> {
     assert!(rt; desk.alive_here(p2));
     assert!(rt; desk.alive_here(p3));
     assert!(rt; desk.alive_here(p4));
+    assert!(rt; desk.is_legal(rt.alloc())?);
     Ok(())
 }
 
@@ -68,6 +69,7 @@ fn a_kill_is_not_trapped_and_goes_on_as_killed(rt: HostRuntime) -> Result<(), Fa
         "16@0 came <0.3.1> -> <0.4.1> link-exit ~0.9 kill;"
     );
     assert!(rt; !desk.alive_here(e));
+    assert!(rt; desk.is_legal(rt.alloc())?);
     Ok(())
 }
 
@@ -82,6 +84,7 @@ fn a_normal_exit_signal_ends_only_its_own_sender(rt: HostRuntime) -> Result<(), 
     exit_signal(&rt, &mut desk, b, b, Reason::Normal)?;
     assert_eq!(rt; turn(&rt, &mut desk), (1, 1));
     assert!(rt; !desk.alive_here(b));
+    assert!(rt; desk.is_legal(rt.alloc())?);
     Ok(())
 }
 
@@ -100,6 +103,7 @@ fn a_linked_normal_exit_takes_the_link_alone(rt: HostRuntime) -> Result<(), Fail
     assert_eq!(rt; desk.linked(a, b), None);
     let items = waiting(rt.alloc(), &desk, a)?;
     assert_eq!(rt; items.as_str(), "");
+    assert!(rt; desk.is_legal(rt.alloc())?);
     Ok(())
 }
 
@@ -115,5 +119,6 @@ fn trap_answers_the_flag_before(rt: HostRuntime) -> Result<(), Fail> {
         flags.as_str(),
         "2@0 flag <0.0.1> on;3@0 flag <0.0.1> off;4@0 flag <0.0.1> off;"
     );
+    assert!(rt; desk.is_legal(rt.alloc())?);
     Ok(())
 }

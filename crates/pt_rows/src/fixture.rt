@@ -1,6 +1,7 @@
 // A desk for tests, calls whose target the desk knows, and what there is to see as text.
 
 use pt_desk::{Config, Desk, Fault, OpenError, Turned};
+use pt_history::{Event, replay};
 use pt_signal::{Body, Ids, Item, Pick, Pid, Reason, Ref};
 use std::alloc::{AllocError, Global};
 use std::fmt::Display;
@@ -99,6 +100,15 @@ impl Bench {
             Some(event) => event.stamp,
             None => 0,
         }
+    }
+
+    /// Whether the judge of histories lets the journal pass.
+    pub fn is_legal(&self, alloc: Global) -> Result<bool, AllocError> {
+        let mut events: Vec<Event> = Vec::new(alloc);
+        for stamped in self.desk.journal().events() {
+            events.push(stamped.event)?;
+        }
+        Ok(replay(alloc, events.as_slice()).is_ok())
     }
 
     /// Closes the desk, and answers the desk and the length of the journal that it gives back.

@@ -20,6 +20,7 @@ fn a_clock_at_its_limit_refuses_what_has_an_event(rt: HostRuntime) -> Result<(),
     assert_eq!(rt; desk.trap(a, true), Err(Fault::Worn));
     assert_eq!(rt; desk.receive(a, Pick::Any), Ok(None));
     assert_eq!(rt; desk.events(), 1);
+    assert!(rt; desk.is_legal(rt.alloc())?);
     Ok(())
 }
 
@@ -69,6 +70,7 @@ fn a_desk_knows_only_pids_that_it_may_have_issued(rt: HostRuntime) -> Result<(),
     let a = desk.spawn()?;
     assert!(rt; desk.knows(a));
     assert!(rt; !desk.knows(pid(0, 0, 2)));
+    assert!(rt; desk.is_legal(rt.alloc())?);
     Ok(())
 }
 
@@ -80,5 +82,6 @@ fn a_pid_never_issued_is_gone(rt: HostRuntime) -> Result<(), Fail> {
     assert_eq!(rt; desk.receive(pid(1, 0, 1), Pick::Any), Err(Fault::Gone));
     assert!(rt; !desk.alive_here(pid(0, 0, 2)));
     assert!(rt; !desk.alive_here(pid(1, 0, 1)));
+    assert!(rt; desk.is_legal(rt.alloc())?);
     Ok(())
 }

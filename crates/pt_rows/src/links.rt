@@ -17,6 +17,7 @@ fn a_link_to_oneself_or_made_twice_has_no_event(rt: HostRuntime) -> Result<(), F
     let events = events_after(rt.alloc(), &desk, 2)?;
     assert_eq!(rt; events.as_str(), "3@0 said <0.0.1> -> <0.1.1> link ~0.3;");
     assert_eq!(rt; turn(&rt, &mut desk), (1, 1));
+    assert!(rt; desk.is_legal(rt.alloc())?);
     Ok(())
 }
 
@@ -38,6 +39,7 @@ fn a_link_to_a_dead_process_comes_back_as_noproc(rt: HostRuntime) -> Result<(), 
     assert_eq!(rt; desk.linked(a, b), None);
     let item = text(rt.alloc(), desk.receive(a, Pick::ExitOf(b))?)?;
     assert_eq!(rt; item.as_str(), "exit <0.1.1> noproc");
+    assert!(rt; desk.is_legal(rt.alloc())?);
     Ok(())
 }
 
@@ -66,6 +68,7 @@ fn unlink_takes_both_ids_of_crossing_links_back(rt: HostRuntime) -> Result<(), F
     assert_eq!(rt; desk.linked(b, a), None);
     unlink(&rt, &mut desk, a, b)?;
     assert_eq!(rt; desk.clock(), 8);
+    assert!(rt; desk.is_legal(rt.alloc())?);
     Ok(())
 }
 
@@ -90,6 +93,7 @@ fn a_linked_child_ends_with_its_parent(rt: HostRuntime) -> Result<(), Fail> {
     );
     assert!(rt; !desk.alive_here(child));
     assert_eq!(rt; desk.spawn_child(a, false), Err(Fault::Gone));
+    assert!(rt; desk.is_legal(rt.alloc())?);
     Ok(())
 }
 
@@ -124,6 +128,7 @@ fn a_late_bounce_finds_the_whole_entry_taken(rt: HostRuntime) -> Result<(), Fail
     );
     let items = waiting(rt.alloc(), &desk, a)?;
     assert_eq!(rt; items.as_str(), "exit <0.1.1> shutdown;");
+    assert!(rt; desk.is_legal(rt.alloc())?);
     Ok(())
 }
 
@@ -142,6 +147,7 @@ fn an_exit_that_comes_after_unlink_is_dropped(rt: HostRuntime) -> Result<(), Fai
     assert_eq!(rt; desk.clock(), 8);
     assert!(rt; desk.alive_here(a));
     assert_eq!(rt; turn(&rt, &mut desk), (0, 0));
+    assert!(rt; desk.is_legal(rt.alloc())?);
     Ok(())
 }
 
@@ -169,5 +175,6 @@ fn unlink_leaves_the_links_with_others(rt: HostRuntime) -> Result<(), Fail> {
     assert_eq!(rt; came.as_str(), want);
     assert!(rt; !desk.alive_here(b));
     assert!(rt; !desk.alive_here(c));
+    assert!(rt; desk.is_legal(rt.alloc())?);
     Ok(())
 }

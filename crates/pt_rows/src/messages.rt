@@ -21,6 +21,7 @@ fn two_processes_exchange_a_message_each(rt: HostRuntime) -> Result<(), Fail> {
     desk.exit(ping, Reason::Normal)?;
     assert_eq!(rt; desk.clock(), 10);
     assert_eq!(rt; desk.number(), 0);
+    assert!(rt; desk.is_legal(rt.alloc())?);
     assert_eq!(rt; desk.close(), (0, 10));
     Ok(())
 }
@@ -49,6 +50,7 @@ fn receive_takes_the_first_item_that_fits(rt: HostRuntime) -> Result<(), Fail> {
     let want =
         "11@0 took <0.1.1> kind 3 = user <0.0.1> 3 40;12@0 took <0.1.1> any = user <0.0.1> 1 10;";
     assert_eq!(rt; came.as_str(), want);
+    assert!(rt; desk.is_legal(rt.alloc())?);
     Ok(())
 }
 
@@ -69,6 +71,7 @@ fn receive_without_a_match_changes_nothing(rt: HostRuntime) -> Result<(), Fail> 
     let left = waiting(rt.alloc(), &desk, b)?;
     assert_eq!(rt; left.as_str(), "user <0.0.1> 2 20;user <0.0.1> 1 30;");
     assert_eq!(rt; desk.events(), 12);
+    assert!(rt; desk.is_legal(rt.alloc())?);
     Ok(())
 }
 
@@ -85,6 +88,7 @@ fn receive_from_a_sender_passes_over_the_others(rt: HostRuntime) -> Result<(), F
     assert_eq!(rt; own.as_str(), "user <0.1.1> 1 2");
     let left = waiting(rt.alloc(), &desk, b)?;
     assert_eq!(rt; left.as_str(), "user <0.0.1> 1 1;user <0.1.1> 1 3;");
+    assert!(rt; desk.is_legal(rt.alloc())?);
     Ok(())
 }
 
@@ -104,5 +108,6 @@ fn a_turn_handles_no_more_than_its_budget(rt: HostRuntime) -> Result<(), Fail> {
         (0, 1, None)
     );
     assert_eq!(rt; desk.clock(), 10);
+    assert!(rt; desk.is_legal(rt.alloc())?);
     Ok(())
 }

@@ -22,6 +22,7 @@ fn a_monitor_of_a_dead_process_is_answered_noproc(rt: HostRuntime) -> Result<(),
     let down = text(rt.alloc(), desk.receive(a, Pick::Any)?)?;
     assert_eq!(rt; down.as_str(), "down #0.4 <0.1.1> noproc");
     assert_eq!(rt; desk.receive(a, Pick::Any)?, None);
+    assert!(rt; desk.is_legal(rt.alloc())?);
     Ok(())
 }
 
@@ -41,6 +42,7 @@ fn each_monitor_has_its_own_down(rt: HostRuntime) -> Result<(), Fail> {
     assert_eq!(rt; desk.clock(), 11);
     let items = waiting(rt.alloc(), &desk, a)?;
     assert_eq!(rt; items.as_str(), "down #0.4 <0.1.1> other:9;");
+    assert!(rt; desk.is_legal(rt.alloc())?);
     Ok(())
 }
 
@@ -68,6 +70,7 @@ fn demonitor_with_flush_takes_a_waiting_down(rt: HostRuntime) -> Result<(), Fail
     assert_eq!(rt; items.as_str(), "");
     assert_eq!(rt; desk.demonitor(a, m, true)?, false);
     assert_eq!(rt; desk.clock(), 7);
+    assert!(rt; desk.is_legal(rt.alloc())?);
     Ok(())
 }
 
@@ -99,6 +102,7 @@ fn an_end_pays_its_links_then_its_watchers_then_its_monitors(rt: HostRuntime) ->
         "14@0 came <0.1.1> -> <0.2.1> demonitor #0.5;"
     );
     assert_eq!(rt; turn(&rt, &mut desk), (0, 0));
+    assert!(rt; desk.is_legal(rt.alloc())?);
     Ok(())
 }
 
@@ -110,6 +114,7 @@ fn a_process_cannot_monitor_itself(rt: HostRuntime) -> Result<(), Fail> {
     assert_eq!(rt; desk.clock(), 1);
     desk.exit(a, Reason::Normal)?;
     assert_eq!(rt; monitor(&rt, &mut desk, a, a), Err(Fault::Gone));
+    assert!(rt; desk.is_legal(rt.alloc())?);
     Ok(())
 }
 
@@ -121,5 +126,6 @@ fn a_reference_of_another_desk_has_no_down_here(rt: HostRuntime) -> Result<(), F
     assert_eq!(rt; desk.demonitor(a, foreign, true), Ok(false));
     assert_eq!(rt; desk.receive(a, Pick::DownOf(foreign)), Ok(None));
     assert_eq!(rt; desk.events(), 1);
+    assert!(rt; desk.is_legal(rt.alloc())?);
     Ok(())
 }

@@ -22,6 +22,7 @@ fn a_slot_at_its_top_version_is_retired(rt: HostRuntime) -> Result<(), Fail> {
     assert!(rt; !desk.alive_here(second));
     assert_eq!(rt; desk.vacant(), None);
     assert_eq!(rt; desk.clock(), 4);
+    assert!(rt; desk.is_legal(rt.alloc())?);
     Ok(())
 }
 
@@ -41,6 +42,7 @@ fn a_used_again_slot_gets_no_letter_for_its_old_pid(rt: HostRuntime) -> Result<(
     assert_eq!(rt; desk.receive(c, Pick::Any), Ok(None));
     assert_eq!(rt; desk.receive(b, Pick::Any), Err(Fault::Gone));
     assert_eq!(rt; waiting(rt.alloc(), &desk, b)?.as_str() == "gone", true);
+    assert!(rt; desk.is_legal(rt.alloc())?);
     Ok(())
 }
 
@@ -59,6 +61,7 @@ fn four_slots_with_two_versions_give_eight_pids(rt: HostRuntime) -> Result<(), F
     for event in 0..16 {
         assert_eq!(rt; desk.stamp(event), event as u64 + 1);
     }
+    assert!(rt; desk.is_legal(rt.alloc())?);
     Ok(())
 }
 
@@ -72,5 +75,6 @@ fn a_child_is_born_by_its_parent(rt: HostRuntime) -> Result<(), Fail> {
     assert_eq!(rt; born.as_str(), "2@0 born <0.1.1> by <0.0.1>;");
     let ids = text(rt.alloc(), desk.linked(a, child))?;
     assert_eq!(rt; ids.as_str(), "none");
+    assert!(rt; desk.is_legal(rt.alloc())?);
     Ok(())
 }
