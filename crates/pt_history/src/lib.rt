@@ -8,9 +8,9 @@
 mod cause;
 mod event;
 mod journal;
+mod judging;
 pub mod laws;
 pub mod links;
-mod judging;
 mod merging;
 #[cfg(test)]
 mod tests;
