@@ -1,8 +1,48 @@
 //! What happened on the desks of a node: events, journals, and what a history means.
 //!
-//! The definitions stand in `specs/`: `History` says what each process is after a history, what an event
-//! sends, and which event may come next; `Journal` says what one desk's journal is, and how the journals of
-//! several desks make one history.
+//! Each desk of a process table writes a [`Journal`]: its events, with rising stamps. The journals of all desks
+//! make one history, the list by (stamp, desk). This crate has the journal, the merge of journals, a judge that
+//! tells whether a history is one that processes can have, and the laws that every such history keeps.
+//!
+//! ```
+//! let merged = merge(alloc, &[&first, &second])?;
+//! let mut events = Vec::new(alloc);
+//! for stamped in merged {
+//!     println!(rt; "{stamped}")?;                  // 3@0 said <0.0.1> -> <1.0.1> message 1 7
+//!     events.push(stamped.event)?;
+//! }
+//! match replay(alloc, events.as_slice()) {
+//!     Ok(state) => ..                              // state.alive(pid), state.waiting(pid), state.in_flight(), ..
+//!     Err((place, cause)) => ..                    // the first event that may not come there, and why
+//! }
+//! ```
+//!
+//! # Journals
+//!
+//! A journal is made by `Journal::new` and grows by one event at a time, or by [`Journal::of`] from a list, which
+//! it hands back where an event is another desk's or the stamps do not rise. [`merge`] takes journals of different
+//! desks and gives the one list that rises by (stamp, desk) and holds each journal whole.
+//!
+//! # The judge
+//!
+//! [`replay`] runs through a history from its first event. It answers the [`State`] after the last one exactly
+//! where each event may come after those before it, and else the place of the first that may not, with the lowest
+//! [`Cause`] that fits. It is written from the definitions, shares no body with a desk, and is slow: use it to judge
+//! what another program wrote, or in tests. In a `State` a process that ended is read as it was at its end.
+//!
+//! # Laws
+//!
+//! What a history means stands in `specs/`: `History` says what each process is after a history, what an event
+//! sends, and which event may come next; `Journal` says what one desk's journal is, and how the journals of several
+//! desks make one history. Each law over these words is the contract of a function in [`laws`] or [`links`] that
+//! does nothing: a pid is born once and ends once; between two processes nothing is lost, doubled or overtaken; a
+//! monitor has one `DOWN` at most; the merge of journals whose lanes agree is legal; settling is bounded; in a
+//! quiet history links stand at both ends or at neither.
+//!
+//! # Cost
+//!
+//! Adding an event takes constant time on average. `merge` takes two pieces of memory and for each event the
+//! logarithm of the number of journals. `replay` takes time that grows with the square of the number of events.
 #![tactic(auto, unfolding(crate::specs::Text::parent_text, crate::specs::Text::link_text, crate::specs::Text::switch_text, crate::specs::Text::event_text, crate::specs::Text::stamped_text))]
 
 mod cause;
