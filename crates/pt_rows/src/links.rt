@@ -173,3 +173,68 @@ fn unlink_leaves_the_links_with_others(rt: HostRuntime) -> Result<(), Fail> {
     ];
     play(&rt, rt.alloc(), settings(8), &steps)
 }
+
+#[test]
+fn an_end_by_a_link_owes_its_sender_nothing(rt: HostRuntime) -> Result<(), Fail> {
+    let steps = [
+        (Spawn, "<0.0.1>"),
+        (Spawn, "<0.1.1>"),
+        (Link(B, A), "ok"),
+        (Link(A, B), "ok"),
+        (Turn(1), "posted 2 handled 1"),
+        (Clock, "5"),
+        (Linked(A, B), "~0.4+~0.3"),
+        (Linked(B, A), "~0.3"),
+        (Exit(B, Reason::Shutdown), "ok"),
+        (Clock, "6"),
+        (Turn(16), "posted 1 handled 2"),
+        (Event(7), "7@0 came <0.0.1> -> <0.1.1> link ~0.4"),
+        (
+            Event(8),
+            "8@0 came <0.1.1> -> <0.0.1> link-exit ~0.3 shutdown",
+        ),
+        (Events, "8"),
+        (Ended(A), "shutdown"),
+        (Turn(16), "posted 1 handled 1"),
+        (
+            Event(9),
+            "9@0 came <0.1.1> -> <0.0.1> link-exit ~0.4 noproc",
+        ),
+        (Turn(16), "posted 0 handled 0"),
+        (Events, "9"),
+    ];
+    play(&rt, rt.alloc(), settings(8), &steps)
+}
+
+#[test]
+fn an_exit_of_an_old_link_leaves_a_new_one(rt: HostRuntime) -> Result<(), Fail> {
+    let steps = [
+        (Spawn, "<0.0.1>"),
+        (Spawn, "<0.1.1>"),
+        (Link(A, B), "ok"),
+        (Turn(16), "posted 1 handled 1"),
+        (Exit(B, Reason::Shutdown), "ok"),
+        (Clock, "5"),
+        (Unlink(A, B), "ok"),
+        (Link(A, B), "ok"),
+        (Clock, "7"),
+        (Turn(16), "posted 3 handled 3"),
+        (
+            Event(8),
+            "8@0 came <0.1.1> -> <0.0.1> link-exit ~0.3 shutdown",
+        ),
+        (Event(9), "9@0 came <0.0.1> -> <0.1.1> unlink ~0.3"),
+        (Event(10), "10@0 came <0.0.1> -> <0.1.1> link ~0.7"),
+        (Events, "10"),
+        (Alive(A), "true"),
+        (Linked(A, B), "~0.7"),
+        (Turn(16), "posted 1 handled 1"),
+        (
+            Event(11),
+            "11@0 came <0.1.1> -> <0.0.1> link-exit ~0.7 noproc",
+        ),
+        (Events, "11"),
+        (Ended(A), "noproc"),
+    ];
+    play(&rt, rt.alloc(), settings(8), &steps)
+}
