@@ -1,10 +1,15 @@
 //! Histories worked by hand, as tests through the public calls of a desk.
+//!
+//! Each is a table: a call and its answer a line (`play`). What a helper or a test does is compared when it runs;
+//! none of them promises anything, so that they are proved fast.
 #![tactic(auto)]
 
 #[cfg(test)]
+mod bench;
+#[cfg(test)]
 mod exits;
 #[cfg(test)]
-mod fixture;
+mod known;
 #[cfg(test)]
 mod limits;
 #[cfg(test)]
@@ -13,5 +18,7 @@ mod links;
 mod messages;
 #[cfg(test)]
 mod monitors;
+#[cfg(test)]
+mod play;
 #[cfg(test)]
 mod slots;

@@ -1,0 +1,46 @@
+// Settings, and the names that the processes of a desk get.
+
+use pt_desk::Config;
+use pt_signal::Pid;
+
+/// Settings of one desk with so many slots, a lane of eight letters and all versions.
+pub fn settings(slots: u32) -> Config {
+    Config {
+        desks: 1,
+        slots,
+        top_version: u32::MAX,
+        lane: 8,
+        start: 0,
+    }
+}
+
+/// The first process of a desk.
+pub const A: Pid = Pid {
+    shard: 0,
+    slot: 0,
+    version: 1,
+};
+/// The second one.
+pub const B: Pid = Pid {
+    shard: 0,
+    slot: 1,
+    version: 1,
+};
+/// The third one.
+pub const C: Pid = Pid {
+    shard: 0,
+    slot: 2,
+    version: 1,
+};
+/// The fourth one.
+pub const D: Pid = Pid {
+    shard: 0,
+    slot: 3,
+    version: 1,
+};
+/// The fifth one.
+pub const E: Pid = Pid {
+    shard: 0,
+    slot: 4,
+    version: 1,
+};

@@ -1,0 +1,145 @@
+// Settings out of range, pids that a desk does not know, and a clock at its limit.
+
+use crate::bench::Bench;
+use crate::known::{A, settings};
+use crate::play::Call::*;
+use crate::play::play;
+use pt_desk::{Config, OpenError};
+use pt_signal::{Pick, Pid};
+use std::test::Fail;
+
+const LIMIT: u64 = 4_611_686_018_427_387_904;
+
+/// A pid of a second desk.
+const ABROAD: Pid = Pid {
+    shard: 1,
+    slot: 0,
+    version: 1,
+};
+
+/// The next pid of the first slot.
+const NEXT: Pid = Pid {
+    shard: 0,
+    slot: 0,
+    version: 2,
+};
+
+#[test]
+fn a_clock_at_its_limit_refuses_what_has_an_event(rt: HostRuntime) -> Result<(), Fail> {
+    let late = Config {
+        start: LIMIT - 1,
+        ..settings(8)
+    };
+    let steps = [
+        (Spawn, "<0.0.1>"),
+        (Clock, "4611686018427387904"),
+        (Send(A, A, 1, 0), "Worn"),
+        (Trap(A, true), "Worn"),
+        (Receive(A, Pick::Any), "none"),
+        (Events, "1"),
+    ];
+    play(&rt, rt.alloc(), late, &steps)
+}
+
+#[test]
+fn a_turn_stops_at_the_limit_of_the_clock(rt: HostRuntime) -> Result<(), Fail> {
+    let late = Config {
+        start: LIMIT - 2,
+        ..settings(8)
+    };
+    let steps = [
+        (Spawn, "<0.0.1>"),
+        (Send(A, A, 1, 0), "ok"),
+        (Clock, "4611686018427387904"),
+        (Turn(16), "posted 1 handled 0, then Worn"),
+        (Turn(16), "posted 0 handled 0, then Worn"),
+        (Turn(0), "posted 0 handled 0"),
+        (Waiting(A), ""),
+        (Events, "2"),
+    ];
+    play(&rt, rt.alloc(), late, &steps)
+}
+
+#[test]
+fn a_worn_clock_is_told_before_a_full_desk(rt: HostRuntime) -> Result<(), Fail> {
+    let late = Config {
+        start: LIMIT - 1,
+        ..settings(1)
+    };
+    let steps = [
+        (Spawn, "<0.0.1>"),
+        (Vacant, "none"),
+        (Spawn, "Worn"),
+        (Child(A), "Worn"),
+        (Child(NEXT), "Gone"),
+        (Events, "1"),
+    ];
+    play(&rt, rt.alloc(), late, &steps)
+}
+
+#[test]
+fn settings_out_of_range_are_refused(rt: HostRuntime) -> Result<(), Fail> {
+    let fine = settings(8);
+    let refused = [
+        Config { desks: 0, ..fine },
+        Config { desks: 2, ..fine },
+        Config { desks: 65, ..fine },
+        Config { slots: 0, ..fine },
+        Config {
+            slots: 65_537,
+            ..fine
+        },
+        Config {
+            top_version: 0,
+            ..fine
+        },
+        Config { lane: 0, ..fine },
+        Config {
+            lane: 65_537,
+            ..fine
+        },
+        Config {
+            start: LIMIT + 1,
+            ..fine
+        },
+    ];
+    for config in refused {
+        match Bench::open(rt.alloc(), config) {
+            Ok(_) => assert!(rt; false, "{config:?}"),
+            Err(error) => assert_eq!(rt; error, OpenError::Bounds, "{config:?}"),
+        }
+    }
+    Ok(())
+}
+
+#[test]
+fn a_desk_knows_only_pids_that_it_may_have_issued(rt: HostRuntime) -> Result<(), Fail> {
+    let two_versions = Config {
+        top_version: 2,
+        ..settings(8)
+    };
+    let steps = [
+        (Knows(ABROAD), "false"),
+        (Knows(Pid { slot: 8, ..A }), "false"),
+        (Knows(Pid { version: 0, ..A }), "false"),
+        (Knows(Pid { version: 3, ..A }), "false"),
+        (Knows(A), "false"),
+        (Spawn, "<0.0.1>"),
+        (Knows(A), "true"),
+        (Knows(NEXT), "false"),
+        (Send(A, NEXT, 1, 0), "unknown"),
+    ];
+    play(&rt, rt.alloc(), two_versions, &steps)
+}
+
+#[test]
+fn a_pid_never_issued_is_gone(rt: HostRuntime) -> Result<(), Fail> {
+    let steps = [
+        (Spawn, "<0.0.1>"),
+        (Receive(NEXT, Pick::Any), "Gone"),
+        (Receive(ABROAD, Pick::Any), "Gone"),
+        (Alive(NEXT), "false"),
+        (Alive(ABROAD), "false"),
+    ];
+    play(&rt, rt.alloc(), settings(8), &steps)
+}

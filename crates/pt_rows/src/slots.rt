@@ -1,0 +1,88 @@
+// Slots that are used again, and slots that are retired.
+
+use crate::bench::Bench;
+use crate::known::{A, B, settings};
+use crate::play::Call::*;
+use crate::play::{close, play, run};
+use pt_desk::Config;
+use pt_signal::{Pick, Pid, Reason};
+use std::test::Fail;
+
+#[test]
+fn a_slot_at_its_top_version_is_retired(rt: HostRuntime) -> Result<(), Fail> {
+    let one_slot = Config {
+        top_version: 2,
+        ..settings(1)
+    };
+    let second = Pid { version: 2, ..A };
+    let steps = [
+        (Spawn, "<0.0.1>"),
+        (Spawn, "Full"),
+        (Exit(A, Reason::Normal), "ok"),
+        (Spawn, "<0.0.2>"),
+        (Exit(second, Reason::Normal), "ok"),
+        (Spawn, "Full"),
+        (Alive(A), "false"),
+        (Alive(second), "false"),
+        (Vacant, "none"),
+        (Clock, "4"),
+    ];
+    play(&rt, rt.alloc(), one_slot, &steps)
+}
+
+#[test]
+fn a_used_again_slot_gets_no_letter_for_its_old_pid(rt: HostRuntime) -> Result<(), Fail> {
+    let second = Pid { version: 2, ..B };
+    let steps = [
+        (Spawn, "<0.0.1>"),
+        (Spawn, "<0.1.1>"),
+        (Exit(B, Reason::Normal), "ok"),
+        (Clock, "3"),
+        (Vacant, "<0.1.2>"),
+        (Spawn, "<0.1.2>"),
+        (Clock, "4"),
+        (Send(A, B, 1, 0), "ok"),
+        (Clock, "5"),
+        (Turn(16), "posted 1 handled 1"),
+        (Clock, "6"),
+        (Receive(second, Pick::Any), "none"),
+        (Receive(B, Pick::Any), "Gone"),
+        (Waiting(B), "none"),
+        (Waiting(second), ""),
+    ];
+    play(&rt, rt.alloc(), settings(2), &steps)
+}
+
+#[test]
+fn four_slots_with_two_versions_give_eight_pids(rt: HostRuntime) -> Result<(), Fail> {
+    let config = Config {
+        top_version: 2,
+        ..settings(4)
+    };
+    let mut bench = Bench::open(rt.alloc(), config)?;
+    let mut seen = Vec::new(rt.alloc());
+    for _ in 0..8 {
+        let p = bench.spawn_and_exit()?;
+        assert!(rt; !seen.contains(&p));
+        seen.push(p)?;
+    }
+    let steps = [
+        (Clock, "16"),
+        (Spawn, "Full"),
+        (Stamps, "1 2 3 4 5 6 7 8 9 10 11 12 13 14 15 16 "),
+    ];
+    run(&rt, rt.alloc(), &mut bench, &steps)?;
+    close(&rt, rt.alloc(), bench)
+}
+
+#[test]
+fn a_child_is_born_by_its_parent(rt: HostRuntime) -> Result<(), Fail> {
+    let steps = [
+        (Spawn, "<0.0.1>"),
+        (Child(A), "<0.1.1>"),
+        (Event(2), "2@0 born <0.1.1> by <0.0.1>"),
+        (Events, "2"),
+        (Linked(A, B), "none"),
+    ];
+    play(&rt, rt.alloc(), settings(8), &steps)
+}
