@@ -1,21 +1,12 @@
 -- Kept watches, as the keys of entries.
-use Rattle.std.proofs.Common.{◌≡◌, ◌≢◌, ◌+◌, Bool, true, false, cond, ◌||◌, List, [], ◌∷◌, ◌++◌, length, refl, ap, ◌∙◌, arith, Option, Some, is_some}
+use Rattle.std.proofs.Common.{◌≡◌, ◌≢◌, ◌+◌, Bool, true, false, cond, ◌||◌, List, [], ◌∷◌, ◌++◌, length, refl, ap, ◌∙◌, arith}
 use Rattle.std.specs.List.{list_any}
 use Rattle.std.specs.Map.{lookup, remove_entry, keys_of}
 use Rattle.pt_signal.specs.Values.{without_first}
 use Rattle.pt_process.specs.Gaps.{put, put_at}
-use Rattle.pt_process.proofs.GapLemmas.{none_from_test}
+use Rattle.pt_process.proofs.GapLemmas.{none_from_test, any-keys_of}
 
 module _ {K V : Type 0} (test : K → Bool) where
-  any_step : (b : Bool) (v : V) (r : Option V) → is_some (cond b (Some v) r) ≡ b || is_some r
-  any_step true v r = refl
-  any_step false v r = refl
-
-  -- a key is found where one passes
-  pub any-keys_of : (es : List (K × V)) → is_some (lookup test es) ≡ list_any test (keys_of es)
-  any-keys_of [] = refl
-  any-keys_of (e ∷ es) = any_step (test e.0) e.1 (lookup test es) ∙ ap (λ b. test e.0 || b) (any-keys_of es)
-
   remove_step : (b : Bool) (e : K × V) (es rest : List (K × V)) (keys : List K) → keys_of rest ≡ keys → keys_of (cond b es (e ∷ rest)) ≡ cond b (keys_of es) (e.0 ∷ keys)
   remove_step true e es rest keys h = refl
   remove_step false e es rest keys h = ap (λ ks. e.0 ∷ ks) h

@@ -1,6 +1,7 @@
 -- Entries in order of entry, some of which have gone and left a gap.
-use Rattle.std.specs.Prelude.{◌≡◌, ℕ, ◌≤◌, ◌^◌, Bool, List, [], ◌∷◌, ◌++◌, map, length, Option, Some, None}
-use Rattle.std.specs.List.{IsDistinct}
+use Rattle.std.specs.Prelude.{◌≡◌, ℕ, suc, ◌≤◌, ◌^◌, Bool, List, [], ◌∷◌, ◌++◌, map, length, Option, Some, None}
+use Rattle.std.specs.Option.{option_map}
+use Rattle.std.specs.List.{IsDistinct, filter_map, cons_option}
 use Rattle.std.specs.Map.{lookup, set_value, keys_of}
 
 -- the entries as a caller sees them, and how many more there is surely room for
@@ -8,28 +9,24 @@ pub record Listed (K V : Type 0) : Type 0 where
   pub entries : List (K × V)
   pub room : ℕ
 
-abbrev pub before : {K V : Type 0} → K → Option V → List (K × V) → List (K × V)
-before k None rest = rest
-before k (Some v) rest = (k, v) ∷ rest
+-- the entries, where a gap is no entry
+abbrev pub present : {K V : Type 0} → List (Option (K × V)) → List (K × V)
+present places = filter_map (λ place. place) places
 
--- the entries that are no gaps
-abbrev pub present : {K V : Type 0} → List (K × Option V) → List (K × V)
-present [] = []
-present (e ∷ es) = before e.0 e.1 (present es)
+-- each entry's key with the number of its place, where the first place has the number n
+abbrev pub placed : {K V : Type 0} → ℕ → List (Option (K × V)) → List (K × ℕ)
+placed n [] = []
+placed n (place ∷ places) = cons_option (option_map (λ e. (e.0, n)) place) (placed (suc n) places)
 
--- what a look-up finds, where a gap is nothing
-abbrev pub found : {V : Type 0} → Option (Option V) → Option V
-found None = None
-found (Some value) = value
+-- the index finds each entry's place and nothing else, no key stands there twice, and the entries are not too many to be counted
+pub record AreIndexed {K V : Type 0} (eq : K → K → Bool) (index : List (K × ℕ)) (places : List (Option (K × V))) : Type 0 where
+  pub found : (key : K) → lookup (eq key) index ≡ lookup (eq key) (placed 0 places)
+  pub distinct : IsDistinct eq (keys_of (present places))
+  pub counted : length index ≡ length (present places)
+  pub limited : length index ≤ 2 ^ 62
 
--- no key stands there twice, and there are this many entries, which are not too many to be counted
-pub record AreCounted {K V : Type 0} (eq : K → K → Bool) (es : List (K × Option V)) (len : ℕ) : Type 0 where
-  pub unique : IsDistinct eq (keys_of es)
-  pub counted : len ≡ length (present es)
-  pub limited : len ≤ 2 ^ 62
-
-abbrev pub HasNoGap : {K V : Type 0} → List (K × Option V) → Type 0
-HasNoGap es = es ≡ map (λ e. (e.0, Some e.1)) (present es)
+abbrev pub HasNoGap : {K V : Type 0} → List (Option (K × V)) → Type 0
+HasNoGap places = places ≡ map Some (present places)
 
 module _ {K V : Type 0} where
   abbrev pub put_at : Option V → (K → Bool) → K → V → List (K × V) → List (K × V)

@@ -1,17 +1,17 @@
 // Entries in order of entry.
 
-ghost use Rattle.std.specs.Prelude.{◌≡◌, ◌+◌, ◌-◌, ◌<◌, ◌≤◌, ◌^◌, [], length, is_some, filter, slice_get, option_map, Some, None, IsTrue, IsOk, OnOk, OnErr};
-ghost use Rattle.std.specs.HashMap.{spare, IsUnique};
-ghost use Rattle.std.specs.List.{list_any};
+ghost use Rattle.std.specs.Prelude.{◌≡◌, ◌<◌, ◌≤◌, ◌^◌, ◌∷◌, ◌++◌, [], length, is_some, None, IsOk, OnOk, OnErr};
+ghost use Rattle.std.specs.HashMap.{spare};
+ghost use Rattle.std.specs.List.{list_any, IsDistinct};
 ghost use Rattle.std.specs.Map.{lookup, remove_entry, set_value, keys_of};
-ghost use Rattle.pt_process.specs.Gaps.{found, present, put};
+ghost use Rattle.std.specs.Vec.{vec_capacity};
+ghost use Rattle.pt_process.specs.Gaps.{placed, present, put, HasNoGap};
 
 use crate::Rows;
-use indexmap::IndexMap;
 use std::alloc::{AllocError, Global};
+use std::collections::HashMap;
 use std::hash::Hash;
 use std::marker::Model;
-use std::mem;
 
 /// The most entries that are ever kept, so that a process can count all that it owes.
 const MOST: usize = 1 << 62;
@@ -19,23 +19,26 @@ const MOST: usize = 1 << 62;
 /// A map whose entries stand in order of entry.
 ///
 /// A removal leaves a gap in place, so that no other entry moves; gaps are closed at once where they
-/// outnumber the entries.
+/// outnumber the entries. So a look-up costs O(1), and an insertion and a removal O(1) amortised.
 #[derive(Drop)]
 pub struct Entries<K: Eq + Hash + Copy, V: Copy> {
-    map: IndexMap<K, Option<V>>,
-    len: usize,
+    /// Where each key stands among the places.
+    index: HashMap<K, usize>,
+    /// The entries in order of entry, where `None` is a gap.
+    places: Vec<Option<(K, V)>>,
 }
 
 impl<K: Eq + Hash + Copy, V: Copy> Model for Entries<K, V> {
-    ghost use Rattle.std.specs.Prelude.{◌^◌, ◌-◌, min};
+    ghost use Rattle.std.specs.Prelude.{◌^◌, ◌-◌, length, min};
     ghost use Rattle.std.specs.HashMap.{spare};
-    ghost use Rattle.pt_process.specs.Gaps.{Listed, present, AreCounted};
+    ghost use Rattle.std.specs.Vec.{vec_capacity};
+    ghost use Rattle.pt_process.specs.Gaps.{Listed, present, AreIndexed};
 
     ghost Value = { Listed K V };
 
-    ghost view = { λ e. record { entries = present e.map.entries; room = min (spare e.map) (2 ^ 62 - e.len) } };
+    ghost view = { λ e. record { entries = present e.places.items; room = min (min (spare e.index) (vec_capacity e.places - length e.places.items)) (2 ^ 62 - length e.index.entries) } };
 
-    ghost invariant = { λ e. AreCounted K.eq e.map.entries e.len };
+    ghost invariant = { λ e. AreIndexed K.eq e.index.entries e.places.items };
 }
 
 impl<K: Eq + Hash + Copy, V: Copy> Entries<K, V> {
@@ -44,8 +47,8 @@ impl<K: Eq + Hash + Copy, V: Copy> Entries<K, V> {
         ensures { result.entries ≡ [] }
     {
         Entries {
-            map: IndexMap::new(alloc),
-            len: 0,
+            index: HashMap::new(alloc),
+            places: Vec::new(alloc),
         }
     }
 
@@ -54,15 +57,15 @@ impl<K: Eq + Hash + Copy, V: Copy> Entries<K, V> {
         ensures len { result ≡ length self.now.entries }
         ensures small { result ≤ 2 ^ 62 }
     {
-        self.len
+        self.index.len()
     }
 
     /// The value at a key.
     pub fn get(&self, key: &K) -> Option<V>
         ensures { result ≡ lookup (K.eq key.now) self.now.entries }
     {
-        match self.map.get(key) {
-            Some(value) => *value,
+        match self.index.get(key) {
+            Some(place) => Some(self.places[*place].unwrap().1),
             None => None,
         }
     }
@@ -72,11 +75,13 @@ impl<K: Eq + Hash + Copy, V: Copy> Entries<K, V> {
         ensures same { self.new.entries ≡ self.old.entries }
         ensures ok { OnOk result (0 < self.new.room) }
         ensures room { self.old.room ≤ self.new.room }
+        ensures succeeds { 0 < self.old.room → IsOk result }
     {
-        if self.len == MOST {
+        if self.index.len() == MOST {
             return Err(AllocError);
         }
-        self.map.reserve(1)
+        self.index.reserve(1)?;
+        self.places.reserve(1)
     }
 
     /// Gives the key this value: a key that is there keeps its place, and a new one goes last.
@@ -86,16 +91,11 @@ impl<K: Eq + Hash + Copy, V: Copy> Entries<K, V> {
         ensures absent { OnErr result (lookup (K.eq key) self.old.entries ≡ None) }
         ensures succeeds { 0 < self.old.room → IsOk result }
     {
-        if self.get(&key).is_some() {
-            write(&mut self.map, &key, Some(value));
+        if self.replace(&key, value) {
             return Ok(());
         }
-        if self.len == MOST {
-            return Err(AllocError);
-        }
-        drop_gap(&mut self.map, &key);
-        self.map.insert(key, Some(value))?;
-        self.len += 1;
+        self.reserve()?;
+        self.push(key, value);
         Ok(())
     }
 
@@ -105,10 +105,11 @@ impl<K: Eq + Hash + Copy, V: Copy> Entries<K, V> {
         ensures rest { self.new.entries ≡ remove_entry (K.eq key.now) self.old.entries }
         ensures room { self.old.room ≤ self.new.room }
     {
-        match write(&mut self.map, key, None) {
-            Some(value) => {
-                self.len -= 1;
-                settle(&mut self.map, self.len);
+        match self.index.remove(key) {
+            Some(place) => {
+                let (_, value) = self.places[place].unwrap();
+                self.places[place] = None;
+                self.settle();
                 Some(value)
             }
             None => None,
@@ -119,9 +120,51 @@ impl<K: Eq + Hash + Copy, V: Copy> Entries<K, V> {
     pub fn into_rows(self) -> Rows<K, V>
         ensures { result ≡ self.entries }
     {
-        let Entries { mut map, len: _ } = self;
-        close_gaps(&mut map);
-        Rows { map }
+        let Entries {
+            index: _,
+            mut places,
+        } = self;
+        drop_gaps(&mut places);
+        Rows { places }
+    }
+
+    // Whether the key is there, in which case it keeps its place and takes the value.
+    fn replace(&mut self, key: &K, value: V) -> bool
+        ensures there { result ≡ is_some (lookup (K.eq key.now) self.old.entries) }
+        ensures entries { self.new.entries ≡ set_value (K.eq key.now) self.old.entries value }
+        ensures room { self.new.room ≡ self.old.room }
+    {
+        match self.index.get(key) {
+            Some(place) => {
+                let place = *place;
+                let (stored, _) = self.places[place].unwrap();
+                self.places[place] = Some((stored, value));
+                true
+            }
+            None => false,
+        }
+    }
+
+    fn push(&mut self, key: K, value: V)
+        requires absent { lookup (K.eq key) self.old.entries ≡ None }
+        requires room { 0 < self.old.room }
+        ensures { self.new.entries ≡ self.old.entries ++ (key, value) ∷ [] }
+    {
+        let numbered: Result<_, _> = self.index.insert(key, self.places.len());
+        numbered.unwrap();
+        let placed: Result<_, _> = self.places.push(Some((key, value)));
+        placed.unwrap();
+    }
+
+    // After a removal: gaps go where they outnumber the entries, so that the cost was paid by as many removals.
+    fn settle(&mut self)
+        ensures entries { self.new.entries ≡ self.old.entries }
+        ensures room { self.old.room ≤ self.new.room }
+    {
+        if self.places.len() / 2 > self.index.len() {
+            drop_gaps(&mut self.places);
+            renumber(&mut self.index, &self.places);
+        }
     }
 }
 
@@ -130,77 +173,44 @@ impl<J: PartialEq + Eq + Hash + Copy, K: Eq + Hash + Copy, V: Copy> Entries<(J, 
     pub fn has_first(&self, first: J) -> bool
         ensures { result ≡ list_any (λ k. J.eq first k.0) (keys_of self.now.entries) }
     {
-        self.map
-            .iter()
-            .any(|(key, value)| value.is_some() && first == key.0)
+        self.places.iter().any(|place| match place {
+            Some((key, _)) => first == key.0,
+            None => false,
+        })
     }
 }
 
-// A key that is there takes the value, in its place.
-fn write<K: Eq + Hash + Copy, V: Copy>(
-    map: &mut IndexMap<K, Option<V>>,
-    key: &K,
-    value: Option<V>,
-) -> Option<V>
-    ensures before { result ≡ found (lookup (K.eq key.now) map.old.entries) }
-    ensures entries { map.new.entries ≡ set_value (K.eq key.now) map.old.entries value }
-    ensures unique { IsUnique K.eq map.new }
-    ensures room { spare map.new ≡ spare map.old }
+fn drop_gaps<K: Copy, V: Copy>(places: &mut Vec<Option<(K, V)>>)
+    ensures entries { present places.new.items ≡ present places.old.items }
+    ensures closed { HasNoGap places.new.items }
+    ensures length { length places.new.items ≤ length places.old.items }
+    ensures capacity { vec_capacity places.new ≡ vec_capacity places.old }
 {
-    match map.get_mut(key) {
-        Some(slot) => mem::replace(slot, value),
-        None => None,
+    places.retain(|place| place.is_some());
+}
+
+// The number of each key's place is written again.
+fn renumber<K: Eq + Hash + Copy, V: Copy>(index: &mut HashMap<K, usize>, places: &[Option<(K, V)>])
+    requires distinct { IsDistinct K.eq (keys_of (present places.now)) }
+    requires there { (key : K) → is_some (lookup (K.eq key) index.old.entries) ≡ is_some (lookup (K.eq key) (present places.now)) }
+    ensures found { (key : K) → lookup (K.eq key) index.new.entries ≡ lookup (K.eq key) (placed 0 places.now) }
+    ensures length { length index.new.entries ≡ length index.old.entries }
+    ensures room { spare index.new ≡ spare index.old }
+{
+    for (number, place) in places.iter().enumerate() {
+        if let Some((key, _)) = place {
+            write(index, key, number);
+        }
     }
 }
 
-fn close_gaps<K: Eq + Hash + Copy, V: Copy>(map: &mut IndexMap<K, Option<V>>)
-    ensures entries { map.new.entries ≡ filter (λ e. is_some e.1) map.old.entries }
-    ensures unique { IsUnique K.eq map.new }
-    ensures room { spare map.old ≤ spare map.new }
+// A key that is there takes the number.
+fn write<K: Eq + Hash + Copy>(index: &mut HashMap<K, usize>, key: &K, number: usize)
+    ensures entries { index.new.entries ≡ set_value (K.eq key.now) index.old.entries number }
+    ensures room { spare index.new ≡ spare index.old }
 {
-    map.retain(|_, value| value.is_some());
-}
-
-// The key stands nowhere afterwards, so that it can go last; its gap goes with all others.
-fn drop_gap<K: Eq + Hash + Copy, V: Copy>(map: &mut IndexMap<K, Option<V>>, key: &K)
-    requires { lookup (K.eq key.now) (present map.old.entries) ≡ None }
-    ensures absent { lookup (K.eq key.now) map.new.entries ≡ None }
-    ensures entries { present map.new.entries ≡ present map.old.entries }
-    ensures unique { IsUnique K.eq map.old → IsUnique K.eq map.new }
-    ensures room { spare map.old ≤ spare map.new }
-{
-    if map.contains_key(key) {
-        close_gaps(map);
-    }
-}
-
-// After a removal: gaps at the end go at once, and all go where they outnumber the entries.
-fn settle<K: Eq + Hash + Copy, V: Copy>(map: &mut IndexMap<K, Option<V>>, len: usize)
-    ensures entries { present map.new.entries ≡ present map.old.entries }
-    ensures unique { IsUnique K.eq map.old → IsUnique K.eq map.new }
-    ensures room { spare map.old ≤ spare map.new }
-{
-    drop_last_gaps(map);
-    if map.len() / 2 > len {
-        close_gaps(map);
-    }
-}
-
-fn ends_in_gap<K: Eq + Hash + Copy, V: Copy>(map: &IndexMap<K, Option<V>>) -> bool
-    ensures { IsTrue result → option_map (λ e. e.1) (slice_get map.now.entries (length map.now.entries - 1)) ≡ Some None }
-{
-    match map.last() {
-        Some((_, value)) => value.is_none(),
-        None => false,
-    }
-}
-
-fn drop_last_gaps<K: Eq + Hash + Copy, V: Copy>(map: &mut IndexMap<K, Option<V>>)
-    ensures entries { present map.new.entries ≡ present map.old.entries }
-    ensures unique { IsUnique K.eq map.old → IsUnique K.eq map.new }
-    ensures room { spare map.old ≤ spare map.new }
-{
-    while ends_in_gap(map) {
-        map.pop();
+    match index.get_mut(key) {
+        Some(slot) => *slot = number,
+        None => {}
     }
 }

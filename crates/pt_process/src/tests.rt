@@ -74,6 +74,27 @@ fn entries_stand_in_order_of_entry(rt: HostRuntime) -> Result<(), Fail> {
 }
 
 #[test]
+fn entries_are_found_once_gaps_are_closed(rt: HostRuntime) -> Result<(), Fail> {
+    let mut entries: Entries<u32, u32> = Entries::new(rt.alloc());
+    for key in [1, 2, 3, 4, 5] {
+        entries.insert(key, key + 10)?;
+    }
+    for key in [2, 1, 4] {
+        entries.remove(&key);
+    }
+    entries.insert(2, 22)?;
+    assert_eq!(rt; entries.remove(&3), Some(13));
+    entries.insert(1, 21)?;
+    assert_eq!(rt; entries.get(&5), Some(15));
+    let rows = entries.into_rows();
+    assert_eq!(rt; rows.len(), 3);
+    assert_eq!(rt; rows.at(0), (5, 15));
+    assert_eq!(rt; rows.at(1), (2, 22));
+    assert_eq!(rt; rows.at(2), (1, 21));
+    Ok(())
+}
+
+#[test]
 fn a_mailbox_is_drained_in_order(rt: HostRuntime) {
     let mut process = process(rt.alloc());
     for kind in [1, 2, 3, 2] {

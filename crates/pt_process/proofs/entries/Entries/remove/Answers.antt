@@ -1,46 +1,42 @@
-use Rattle.std.proofs.Common.{◌∙◌, ap, sym}
+use Rattle.std.proofs.Common.{sym, ap, ◌∙◌, arith, is_some}
+use Rattle.std.specs.Option.{option_map}
 use Rattle.std.specs.Map.{lookup, remove_entry}
-use Rattle.pt_process.specs.Gaps.{present}
-use Rattle.pt_process.proofs.GapLemmas.{lookup-present, present-gap, remove_entry-absent, counted_same, counted_remove, counted_some}
+use Rattle.pt_process.proofs.GapLemmas.{found, read, absent, indexed_gone, remove_entry-absent}
 use Rattle.pt_process.proofs.entries.Entries.remove.Goals as goal
 
-pub overflow_sub-self : goal.overflow_sub-self
-overflow_sub-self g c =
-    let there = lookup-present g.met.K.Eq.laws c.args.key.now c.self.inside.map.entries c.self.invariant.unique ∙ sym c.write.ensures.before ∙ c.in-Some.is in
-    counted_some c.self.invariant (g.K.PartialEq.eq c.args.key.now) c.in-Some.value there
+pub index-requires : goal.index-requires
+index-requires g c =
+    let f = found g.met.K.Eq.laws c.self.invariant c.args.key.now _ (sym c.in-Some.ensures.value) in
+    omega (arith, f.within, c.self.inside.places.ok.0)
+
+pub unwrap-value-requires : goal.unwrap-value-requires
+unwrap-value-requires g c = ap is_some (read g.met.K.Eq.laws c.self.invariant c.args.key.now _ (sym c.in-Some.ensures.value) _ c.index.ensures)
+
+pub index_mut-requires : goal.index_mut-requires
+index_mut-requires g c =
+    let f = found g.met.K.Eq.laws c.self.invariant c.args.key.now _ (sym c.in-Some.ensures.value) in
+    omega (arith, f.within, c.self.inside.places.ok.0)
 
 pub invariant_of-self : goal.invariant_of-self
 invariant_of-self g c =
-    let es = c.self.inside.map.entries in
-    let unique = c.self.invariant.unique in
-    let there = lookup-present g.met.K.Eq.laws c.args.key.now es unique ∙ sym c.write.ensures.before ∙ c.in-Some.is in
-    counted_remove c.self.invariant _ (g.K.PartialEq.eq c.args.key.now) c.in-Some.value (c.settle.ensures.unique c.write.ensures.unique)
-    (c.settle.ensures.entries ∙ ap present c.write.ensures.entries ∙ present-gap g.met.K.Eq.laws c.args.key.now es unique) there
-
-pub invariant_of-self-in-None : goal.invariant_of-self-in-None
-invariant_of-self-in-None g c =
-    let es = c.self.inside.map.entries in
-    let unique = c.self.invariant.unique in
-    let none = lookup-present g.met.K.Eq.laws c.args.key.now es unique ∙ sym c.write.ensures.before ∙ c.in-None.is in
-    counted_same c.self.invariant _ c.write.ensures.unique
-    (ap present c.write.ensures.entries ∙ present-gap g.met.K.Eq.laws c.args.key.now es unique ∙ remove_entry-absent (g.K.PartialEq.eq c.args.key.now) (present es) none)
+    indexed_gone g.met.K.Eq.laws c.self.invariant c.args.key.now c.in-Some.place c.remove.new.self.entries (sym c.in-Some.ensures.value) c.in-Some.ensures.updates.0 c.in-Some.ensures.len
 
 pub returns-in-Some-clause-value : goal.returns-in-Some-clause-value
 returns-in-Some-clause-value g c =
-    sym c.in-Some.is ∙ c.write.ensures.before ∙ sym (lookup-present g.met.K.Eq.laws c.args.key.now c.self.inside.map.entries c.self.invariant.unique)
-    ∙ ap (λ l. lookup (g.K.PartialEq.eq c.args.key.now) l.entries) c.self.view_is
+    let h = sym c.in-Some.ensures.value in
+    let f = found g.met.K.Eq.laws c.self.invariant c.args.key.now _ h in
+    let there = read g.met.K.Eq.laws c.self.invariant c.args.key.now _ h _ c.index.ensures in
+    ap (option_map (λ (e : g.row.K.Denot × g.row.V.Denot). e.1)) (sym c.unwrap-value.ensures ∙ there) ∙ sym f.seen ∙ ap (λ l. lookup (g.K.PartialEq.eq c.args.key.now) l.entries) c.self.view_is
 
 pub returns-in-Some-clause-rest : goal.returns-in-Some-clause-rest
 returns-in-Some-clause-rest g c =
-    c.settle.ensures.entries ∙ ap present c.write.ensures.entries ∙ present-gap g.met.K.Eq.laws c.args.key.now c.self.inside.map.entries c.self.invariant.unique
-    ∙ ap (λ l. remove_entry (g.K.PartialEq.eq c.args.key.now) l.entries) c.self.view_is
+    let f = found g.met.K.Eq.laws c.self.invariant c.args.key.now _ (sym c.in-Some.ensures.value) in
+    c.settle.ensures.entries ∙ f.gone ∙ ap (λ l. remove_entry (g.K.PartialEq.eq c.args.key.now) l.entries) c.self.view_is
 
 pub returns-in-None-clause-value : goal.returns-in-None-clause-value
 returns-in-None-clause-value g c =
-    sym c.in-None.is ∙ c.write.ensures.before ∙ sym (lookup-present g.met.K.Eq.laws c.args.key.now c.self.inside.map.entries c.self.invariant.unique)
-    ∙ ap (λ l. lookup (g.K.PartialEq.eq c.args.key.now) l.entries) c.self.view_is
+    sym (absent g.met.K.Eq.laws c.self.invariant c.args.key.now (sym c.in-None.ensures.value)) ∙ ap (λ l. lookup (g.K.PartialEq.eq c.args.key.now) l.entries) c.self.view_is
 
 pub returns-in-None-clause-rest : goal.returns-in-None-clause-rest
 returns-in-None-clause-rest g c =
-    ap present c.write.ensures.entries ∙ present-gap g.met.K.Eq.laws c.args.key.now c.self.inside.map.entries c.self.invariant.unique
-    ∙ ap (λ l. remove_entry (g.K.PartialEq.eq c.args.key.now) l.entries) c.self.view_is
+    sym (remove_entry-absent _ _ (absent g.met.K.Eq.laws c.self.invariant c.args.key.now (sym c.in-None.ensures.value))) ∙ ap (λ l. remove_entry (g.K.PartialEq.eq c.args.key.now) l.entries) c.self.view_is
