@@ -2,15 +2,15 @@
 use Rattle.std.proofs.Common.{◌≡◌, ◌≢◌, ℕ, ◌+◌, ◌<◌, ◌≤◌, ◌^◌, ◌==◌, ◌&&◌, Bool, true, false, List, length, get_or, set, Option, Some, None, IsSome, is_some, cond, count_by, unwrap_or, refl, sym, ap, ◌∙◌, inl, inr, arith}
 use Rattle.std.proofs.lemmas.Bool.{cases_eq, cases_lt}
 use Rattle.std.proofs.lemmas.Grind.{common_steps}
-use Rattle.std.proofs.lemmas.List.{get_or_past, get_or-set_same, get_or-set_other}
+use Rattle.std.proofs.lemmas.List.{get_or_past, get_or-set_same, get_or-set_other, length-set}
 use Rattle.slab.specs.Slab.{Slab, Updates}
 use Rattle.pt_slots.specs.Calls.{Inserted, Removed, Written}
 use Rattle.pt_slots.specs.Sound.{IsSound}
 use Rattle.pt_slots.specs.State.{SlotsState, at, issued, is_live, is_retired, live_count, retired_count, next_key, with_value}
 use Rattle.pt_slots.specs.declared.Key.{Key}
 use Rattle.pt_slots.proofs.Changes.{Changes, sound_changed, at_changed, issued_changed, count_changed}
-use Rattle.pt_slots.proofs.Counts.{taken_split}
-use Rattle.pt_slots.proofs.Offers.{Offers, next_offered, next_kept, offers_next}
+use Rattle.pt_slots.proofs.Counts.{taken_split, count_with_free}
+use Rattle.pt_slots.proofs.Offers.{Offers, next_offered, next_kept}
 
 pub found : {X : Type 0} (o : Option X) → IsSome o → (x : X) × (o ≡ Some x)
 found None some = absurd (cc)
@@ -36,15 +36,56 @@ module _ {T : Type 0} where
       let held = held_by value (get_or s.versions key.slot 0 == key.version) (get_or s.slots key.slot None) live in
       record { entry = held.1; latest = grind (arith, common_steps, held.0) }
 
-  pub below_capacity : (s : SlotsState T) (key : Key) (value : T) (retired : ℕ) → IsSound s retired → at s key.slot key.version ≡ Some value → key.slot < s.capacity
-  below_capacity s key value retired sound live =
-      elim (cases_lt key.slot s.capacity) [
+  -- a slot with a value has a version
+  pub below_versions : (s : SlotsState T) (key : Key) (value : T) (retired room : ℕ) → IsSound s retired room → at s key.slot key.version ≡ Some value → key.slot < length s.versions
+  below_versions s key value retired room sound live =
+      elim (cases_lt key.slot (length s.versions)) [
         | inl below ↦ below
         | inr past ↦
-            let none = sound.none_past_capacity key.slot past in
+            let none = sound.none_past key.slot past in
             let some = (holds s key value live).entry in
             absurd (cc)
       ]
+
+  -- the invariant says no more where the slab has more room
+  pub sound_room : (s : SlotsState T) (retired room room' : ℕ) → room ≤ room' → IsSound s retired room → IsSound s retired room'
+  sound_room s retired room room' more sound =
+      record {
+        capacity_fits = sound.capacity_fits;
+        top_fits = sound.top_fits;
+        within = sound.within;
+        retired_is = sound.retired_is;
+        none_past = sound.none_past;
+        slots_fit = sound.slots_fit;
+        slots_stored = omega (arith, sound.slots_stored, more);
+        retired_at_top = sound.retired_at_top;
+        issued_fits = sound.issued_fits;
+        free_below_top = sound.free_below_top;
+      }
+
+  -- a free slot that has a version leaves room for its value in the slab
+  pub room_for_free : (s : SlotsState T) (retired room : ℕ) → IsSound s retired room → s.vacant < length s.versions → get_or s.slots s.vacant None ≡ None → count_by is_some s.slots + 1 ≤ room
+  room_for_free s retired room sound below free =
+      omega (arith, sound.slots_stored, count_with_free s.slots (length s.versions) s.vacant sound.none_past below free)
+
+  -- and is the one that `next` tells
+  pub offers_free : (s : SlotsState T) (retired room : ℕ) (key : Key) → IsSound s retired room → s.vacant < length s.versions → get_or s.slots s.vacant None ≡ None → key.slot ≡ s.vacant → key.version ≡ get_or s.versions key.slot 0 + 1 → Offers s key
+  offers_free s retired room key sound below free slot_is version_is =
+      record {
+        room = λ all. omega (arith, all, sound.slots_fit, count_with_free s.slots (length s.versions) s.vacant sound.none_past below free);
+        below = omega (arith, below, sound.slots_fit);
+        slot_is = slot_is;
+        version_is = version_is;
+      }
+
+  -- a slot that has a version left holds no tombstone
+  pub value_below_top : (s : SlotsState T) (key : Key) (retired room : ℕ) (held : Option T) → IsSound s retired room → get_or s.slots key.slot None ≡ Some held → get_or s.versions key.slot 0 ≡ key.version → key.version < s.top_version → (value : T) × (held ≡ Some value) × (at s key.slot key.version ≡ Some value)
+  unfolding at
+  value_below_top s key retired room None sound entry latest below =
+      let top = sound.retired_at_top key.slot entry in
+      absurd (omega (arith, top, latest, below))
+  value_below_top s key retired room (Some value) sound entry latest below =
+      (value, refl, grind (arith, common_steps, entry, latest))
 
   -- a slot has no value under another version than its latest
   pub dead_others : (s : SlotsState T) (slot : ℕ) → (other : ℕ) → other ≢ get_or s.versions slot 0 → at s slot other ≡ None
@@ -93,7 +134,7 @@ module _ {T : Type 0} where
           settings = record { capacity = refl; top_version = refl };
         }
 
-  module _ (s : SlotsState T) (key : Key) (value : T) (retired : ℕ) (sound : IsSound s retired) (live : at s key.slot key.version ≡ Some value) where
+  module _ (s : SlotsState T) (key : Key) (value : T) (retired room : ℕ) (sound : IsSound s retired room) (live : at s key.slot key.version ≡ Some value) where
     -- a removal below the top version, which leaves the slot free
     abbrev pub freed : SlotsState T
     freed = record s { slots = set s.slots key.slot None; vacant = key.slot }
@@ -111,23 +152,27 @@ module _ {T : Type 0} where
           retired = rw test (omega (arith, count_entry s key value None key.slot live is_retired refl));
           next = rw test (next_offered freed _ (record {
             room = λ all. omega (arith, taken, sound.within, all);
-            below = below_capacity s key value retired sound live;
+            below = omega (arith, below_versions s key value retired room sound live, sound.slots_fit);
             slot_is = refl;
             version_is = ap (λ n. n + 1) (sym (holds s key value live).latest);
           }));
           settings = record { capacity = refl; top_version = refl };
         }
 
-    pub sound_freed : key.version < s.top_version → IsSound freed retired
+    pub sound_freed : key.version < s.top_version → IsSound freed retired room
     sound_freed below_top =
         let taken = count_entry s key value None key.slot live is_some refl in
         let retires = count_entry s key value None key.slot live is_retired refl in
-        sound_changed _ _ _ _ _ (changes_entry s key value None key.slot live) retired retired sound
-        (below_capacity s key value retired sound live)
+        sound_changed _ _ _ _ _ (changes_entry s key value None key.slot live) retired retired room room sound
+        (below_versions s key value retired room sound live)
         (rw (holds s key value live).latest at (sound.issued_fits key.slot))
         (λ _. below_top)
+        (λ spent. absurd (cc))
         (omega (arith, taken, sound.within))
         (omega (arith, retires, sound.retired_is))
+        (omega arith)
+        sound.slots_fit
+        sound.slots_stored
 
     -- a removal at the top version, which retires the slot
     abbrev pub spent : SlotsState T
@@ -150,37 +195,42 @@ module _ {T : Type 0} where
           settings = record { capacity = refl; top_version = refl };
         }
 
-    pub sound_spent : IsSound spent (retired + 1)
-    sound_spent =
+    pub sound_spent : s.top_version ≤ key.version → IsSound spent (retired + 1) room
+    sound_spent at_top =
+        let fits : key.version ≤ s.top_version = rw (holds s key value live).latest at (sound.issued_fits key.slot) in
         let taken = count_entry s key value (Some None) s.vacant live is_some refl in
         let retires = count_entry s key value (Some None) s.vacant live is_retired refl in
-        sound_changed _ _ _ _ _ (changes_entry s key value (Some None) s.vacant live) retired (retired + 1) sound
-        (below_capacity s key value retired sound live)
-        (rw (holds s key value live).latest at (sound.issued_fits key.slot))
+        sound_changed _ _ _ _ _ (changes_entry s key value (Some None) s.vacant live) retired (retired + 1) room room sound
+        (below_versions s key value retired room sound live)
+        fits
         (λ none. absurd (cc))
+        (λ _. omega (arith, fits, at_top))
         (omega (arith, taken, sound.within))
         (omega (arith, retires, sound.retired_is))
+        (omega arith)
+        sound.slots_fit
+        sound.slots_stored
 
     -- so one more retired slot can be counted
-    pub retired_fits : retired + 1 < 2 ^ 32
-    retired_fits =
-        let next = sound_spent in
+    pub retired_fits : s.top_version ≤ key.version → retired + 1 < 2 ^ 32
+    retired_fits at_top =
+        let next = sound_spent at_top in
         omega (arith, next.retired_is, next.within, next.capacity_fits, taken_split spent.slots)
 
   -- a slab that took in a value at the offered slot, and versions with room for it
   module _
-      (old : SlotsState T) (retired : ℕ) (sound : IsSound old retired)
-      (key : Key) (next : Some key ≡ next_key old) (value : T)
+      (old : SlotsState T) (retired room : ℕ) (sound : IsSound old retired room)
+      (key : Key) (offers : Offers old key) (value : T)
       (before after : Slab (Option T)) (place : ℕ) (versions : List ℕ)
       (slots : before.slots ≡ old.slots) (vacant : before.vacant_key ≡ old.vacant)
       (here : place ≡ before.vacant_key) (free : get_or before.slots place None ≡ None)
       (updates : Updates before after place (Some (Some value)))
-      (room : place < length versions)
+      (has_version : place < length versions)
+      (longer : length old.versions ≤ length versions)
+      (in_capacity : length versions ≤ old.capacity)
+      (in_room : length versions ≤ after.capacity)
       (kept : (k : ℕ) → get_or versions k 0 ≡ get_or old.versions k 0)
     where
-      offers : Offers old key
-      offers = offers_next old key (sym next)
-
       at_slot : place ≡ key.slot
       at_slot = here ∙ vacant ∙ sym offers.slot_is
 
@@ -204,7 +254,7 @@ module _ {T : Type 0} where
           record {
             entry_is = rw at_slot at updates.changed;
             entries = λ other differs. updates.others other (λ e. differs (e ∙ at_slot)) ∙ ap (λ (xs : List (Option (Option T))). get_or xs other None) slots;
-            version_is = rw (← at_slot) (get_or-set_same versions place key.version 0 room);
+            version_is = rw (← at_slot) (get_or-set_same versions place key.version 0 has_version);
             versions = λ other differs. get_or-set_other versions place other key.version 0 (λ e. differs (e ∙ at_slot)) ∙ kept other;
             capacity = refl;
             top_version = refl;
@@ -219,7 +269,7 @@ module _ {T : Type 0} where
       unfolding issued live_count retired_count
       inserted_filled =
           record {
-            offered = sym next;
+            offered = next_offered old key offers;
             slot_in_range = omega (arith, offers.below, offers.slot_is);
             version_is_next = offers.version_is;
             version_in_range = version_fits;
@@ -230,14 +280,19 @@ module _ {T : Type 0} where
             settings = record { capacity = refl; top_version = refl };
           }
 
-      pub sound_filled : IsSound filled retired
+      pub sound_filled : IsSound filled retired after.capacity
       sound_filled =
-          sound_changed _ _ _ _ _ change retired retired sound
-          (omega (arith, offers.below, offers.slot_is))
+          let as_long = length-set versions place key.version in
+          sound_changed _ _ _ _ _ change retired retired room after.capacity sound
+          (omega (arith, as_long, at_slot, has_version))
           version_fits
           (λ none. absurd (cc))
+          (λ spent. absurd (cc))
           (omega (arith, count_filled is_some refl, sound.within, offers.room))
           (omega (arith, count_filled is_retired refl, sound.retired_is))
+          (omega (arith, as_long, longer))
+          (omega (arith, as_long, in_capacity))
+          (omega (arith, as_long, in_room))
 
       pub never_falls : (slot : ℕ) → issued old slot ≤ issued filled slot
       unfolding issued

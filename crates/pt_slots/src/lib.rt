@@ -95,7 +95,7 @@ impl<T> Model for Slots<T> {
     ghost view = { λ s. state s.entries s.versions.items s.capacity s.top_version };
 
     ghost invariant = { λ s.
-        IsSound (state s.entries s.versions.items s.capacity s.top_version) s.retired };
+        IsSound (state s.entries s.versions.items s.capacity s.top_version) s.retired s.entries.capacity };
 }
 
 // The value of a slot that has one.
@@ -110,10 +110,12 @@ fn value_mut<T>(entry: &mut Option<T>) -> &mut T
     }
 }
 
-// Gives each slot that the slab has room for a version to count up from. The slab grows by doubling, so
-// this seldom has anything to do.
+// Gives each of so many slots a version to count up from. The slab grows by doubling, so this seldom
+// has anything to do.
 fn make_room(versions: &mut Vec<u32>, slots: usize) -> Result<(), AllocError>
     ensures room { OnOk result (slots ≤ vec_len versions.new) }
+    ensures never_shrinks { OnOk result (vec_len versions.old ≤ vec_len versions.new) }
+    ensures no_more { OnOk result ((n : ℕ) → vec_len versions.old ≤ n → slots ≤ n → vec_len versions.new ≤ n) }
     ensures kept { (k : ℕ) → slice_index_or versions.new.items k 0 ≡ slice_index_or versions.old.items k 0 }
     ensures err { OnErr result (versions.new.items ≡ versions.old.items) }
 {
@@ -161,6 +163,7 @@ impl<T> Slots<T> {
 
     /// The latest version that a slot has issued, or 0 where it has issued none. It never falls.
     #[tactic(auto, unfolding(crate::specs::State::issued))]
+    #[inline]
     pub fn issued(&self, slot: u32) -> u32
         ensures { result ≡ issued self.now slot }
     {
@@ -188,7 +191,28 @@ impl<T> Slots<T> {
     /// Where it cannot, it hands the value back and changes nothing: `Full` where the taken and the retired
     /// slots number the capacity, or the slot that the storage offers is not below it, and else `Memory`
     /// where the storage cannot grow.
+    #[inline]
     pub fn insert(&mut self, value: T) -> Result<Key, InsertError<T>>
+        ensures cases { Inserts value self.old result self.new }
+        ensures never_falls { (slot : ℕ) → issued self.old slot ≤ issued self.new slot }
+    {
+        // A free slot that has a version also has its place in the slab, and is below the capacity.
+        if self.entries.vacant_key() >= self.versions.len() {
+            return self.insert_anew(value);
+        }
+        let slot = self.entries.insert_reserved(Some(value));
+        let version = self.versions[slot] + 1;
+        self.versions[slot] = version;
+        Ok(Key {
+            slot: slot as u32,
+            version,
+        })
+    }
+
+    // `insert` for a slot that was never used, for which the storage may have to grow.
+    #[cold]
+    #[inline(never)]
+    fn insert_anew(&mut self, value: T) -> Result<Key, InsertError<T>>
         ensures cases { Inserts value self.old result self.new }
         ensures never_falls { (slot : ℕ) → issued self.old slot ≤ issued self.new slot }
     {
@@ -198,7 +222,8 @@ impl<T> Slots<T> {
         if self.entries.reserve(1).is_err() {
             return Err(InsertError::Memory(value));
         }
-        if make_room(&mut self.versions, self.entries.capacity()).is_err() {
+        let slots = self.entries.capacity().min(self.capacity as usize);
+        if make_room(&mut self.versions, slots).is_err() {
             return Err(InsertError::Memory(value));
         }
         let slot = self.entries.insert_reserved(Some(value));
@@ -209,22 +234,36 @@ impl<T> Slots<T> {
     /// Takes out the value under `key`, or answers `None` where the key is not live.
     ///
     /// The slot is then the next one used, with its next version, or under the top version it is retired.
+    #[inline]
     pub fn remove(&mut self, key: Key) -> Option<T>
+        ensures { Removes key self.old result self.new }
+    {
+        if self.issued(key.slot) != key.version {
+            return None;
+        }
+        if key.version >= self.top_version {
+            return self.remove_last(key);
+        }
+        self.entries.try_remove(key.slot as usize)?
+    }
+
+    // `remove` for the top version of a slot, which it retires.
+    #[cold]
+    #[inline(never)]
+    fn remove_last(&mut self, key: Key) -> Option<T>
+        requires { self.old.top_version ≤ key.version }
         ensures { Removes key self.old result self.new }
     {
         if !self.contains(key) {
             return None;
         }
-        let slot = key.slot as usize;
-        if key.version < self.top_version {
-            return self.entries.remove(slot);
-        }
         self.retired += 1;
-        mem::replace(&mut self.entries[slot], None)
+        mem::replace(&mut self.entries[key.slot as usize], None)
     }
 
     /// The value under `key`, or `None` where the key is not live.
     #[tactic(auto, unfolding(crate::specs::State::at, crate::specs::State::issued))]
+    #[inline]
     pub fn get(&self, key: Key) -> Option<&T>
         ensures { option_copied result ≡ at self.now key.slot key.version }
     {
