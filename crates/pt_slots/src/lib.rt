@@ -198,7 +198,12 @@ impl<T> Slots<T> {
     {
         // A free slot that has a version also has its place in the slab, and is below the capacity.
         if self.entries.vacant_key() >= self.versions.len() {
-            return self.insert_anew(value);
+            // Each part is moved by itself, so that the answer need not lie in memory on the way below.
+            return match self.insert_anew(value) {
+                Ok(key) => Ok(key),
+                Err(InsertError::Full(back)) => Err(InsertError::Full(back)),
+                Err(InsertError::Memory(back)) => Err(InsertError::Memory(back)),
+            };
         }
         let slot = self.entries.insert_reserved(Some(value));
         let version = self.versions[slot] + 1;
@@ -234,17 +239,22 @@ impl<T> Slots<T> {
     /// Takes out the value under `key`, or answers `None` where the key is not live.
     ///
     /// The slot is then the next one used, with its next version, or under the top version it is retired.
+    #[tactic(auto, unfolding(crate::specs::State::at, crate::specs::State::issued))]
     #[inline]
     pub fn remove(&mut self, key: Key) -> Option<T>
         ensures { Removes key self.old result self.new }
     {
-        if self.issued(key.slot) != key.version {
+        let slot = key.slot as usize;
+        if *self.versions.get(slot)? != key.version {
             return None;
         }
         if key.version >= self.top_version {
             return self.remove_last(key);
         }
-        self.entries.try_remove(key.slot as usize)?
+        match self.entries.try_remove(slot)? {
+            Some(value) => Some(value),
+            None => unreachable!(),
+        }
     }
 
     // `remove` for the top version of a slot, which it retires.
@@ -267,10 +277,11 @@ impl<T> Slots<T> {
     pub fn get(&self, key: Key) -> Option<&T>
         ensures { option_copied result ≡ at self.now key.slot key.version }
     {
-        if self.issued(key.slot) != key.version {
+        let slot = key.slot as usize;
+        if *self.versions.get(slot)? != key.version {
             return None;
         }
-        self.entries.get(key.slot as usize)?.as_ref()
+        self.entries.get(slot)?.as_ref()
     }
 
     /// The value under `key` for writing, or `None` where the key is not live.
