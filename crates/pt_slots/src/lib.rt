@@ -43,6 +43,7 @@ ghost use Rattle.std.specs.Borrow.{Lends, sem};
 ghost use Rattle.std.specs.Option.Follows.{option_follows_value};
 ghost use Rattle.pt_slots.specs.State.{at, issued, live_count, retired_count, next_key, with_value};
 ghost use Rattle.pt_slots.specs.Calls.{IsEmpty, Inserts, Removes, Written};
+ghost use Rattle.pt_slots.specs.Grows.{Grows};
 
 use slab::Slab;
 use std::alloc::{AllocError, Global};
@@ -70,6 +71,13 @@ pub enum InsertError<T> {
     Full(T),
     /// There was no memory to store one more value.
     Memory(T),
+}
+
+// What `grow` did: made room, or found every slot taken or retired, or found no memory.
+enum Growth {
+    Ready,
+    Full,
+    Memory,
 }
 
 /// Values of one type, each under a key that is never issued again.
@@ -196,14 +204,10 @@ impl<T> Slots<T> {
         ensures cases { Inserts value self.old result self.new }
         ensures never_falls { (slot : ℕ) → issued self.old slot ≤ issued self.new slot }
     {
-        // A free slot that has a version also has its place in the slab, and is below the capacity.
-        if self.entries.vacant_key() >= self.versions.len() {
-            // Each part is moved by itself, so that the answer need not lie in memory on the way below.
-            return match self.insert_anew(value) {
-                Ok(key) => Ok(key),
-                Err(InsertError::Full(back)) => Err(InsertError::Full(back)),
-                Err(InsertError::Memory(back)) => Err(InsertError::Memory(back)),
-            };
+        match self.ready() {
+            Growth::Ready => {}
+            Growth::Full => return Err(InsertError::Full(value)),
+            Growth::Memory => return Err(InsertError::Memory(value)),
         }
         let slot = self.entries.insert_reserved(Some(value));
         let version = self.versions[slot] + 1;
@@ -214,26 +218,41 @@ impl<T> Slots<T> {
         })
     }
 
-    // `insert` for a slot that was never used, for which the storage may have to grow.
+    // Sees to it that the slot that is offered can take a value. A slot that has a version also has its
+    // place in the slab, and is below the capacity.
+    #[inline]
+    fn ready(&mut self) -> Growth
+        ensures { Grows self.old result self.new }
+    {
+        if self.entries.vacant_key() < self.versions.len() {
+            Growth::Ready
+        } else {
+            self.grow()
+        }
+    }
+
+    // Makes room for the slot that is offered, which was never used. It takes no value and answers in a
+    // register, so that `insert` keeps nothing in memory.
     #[cold]
     #[inline(never)]
-    fn insert_anew(&mut self, value: T) -> Result<Key, InsertError<T>>
-        ensures cases { Inserts value self.old result self.new }
-        ensures never_falls { (slot : ℕ) → issued self.old slot ≤ issued self.new slot }
+    fn grow(&mut self) -> Growth
+        ensures { Grows self.old result self.new }
     {
-        let Some(key) = self.next() else {
-            return Err(InsertError::Full(value));
-        };
+        if self.next().is_none() {
+            return Growth::Full;
+        }
         if self.entries.reserve(1).is_err() {
-            return Err(InsertError::Memory(value));
+            return Growth::Memory;
         }
         let slots = self.entries.capacity().min(self.capacity as usize);
-        if make_room(&mut self.versions, slots).is_err() {
-            return Err(InsertError::Memory(value));
+        // The slab says of a key only once it is given out that there is room for it.
+        if self.entries.vacant_key() >= slots {
+            return Growth::Memory;
         }
-        let slot = self.entries.insert_reserved(Some(value));
-        self.versions[slot] = key.version;
-        Ok(key)
+        if make_room(&mut self.versions, slots).is_err() {
+            return Growth::Memory;
+        }
+        Growth::Ready
     }
 
     /// Takes out the value under `key`, or answers `None` where the key is not live.
@@ -277,11 +296,10 @@ impl<T> Slots<T> {
     pub fn get(&self, key: Key) -> Option<&T>
         ensures { option_copied result ≡ at self.now key.slot key.version }
     {
-        let slot = key.slot as usize;
-        if *self.versions.get(slot)? != key.version {
+        if *self.versions.get(key.slot as usize)? != key.version {
             return None;
         }
-        self.entries.get(slot)?.as_ref()
+        self.entries.get(key.slot as usize)?.as_ref()
     }
 
     /// The value under `key` for writing, or `None` where the key is not live.
