@@ -7,7 +7,7 @@ use Rattle.slab.specs.Slab.{Slab, Updates}
 use Rattle.pt_slots.specs.Calls.{Inserted, Removed, Written}
 use Rattle.pt_slots.specs.Grows.{HasRoom}
 use Rattle.pt_slots.specs.Sound.{IsSound}
-use Rattle.pt_slots.specs.State.{SlotsState, at, issued, is_live, is_retired, live_count, retired_count, next_key, with_value}
+use Rattle.pt_slots.specs.State.{SlotsState, at, issued, is_live, is_retired, live_count, retired_count, with_value}
 use Rattle.pt_slots.specs.declared.Key.{Key}
 use Rattle.pt_slots.proofs.Changes.{Changes, sound_changed, at_changed, issued_changed, count_changed}
 use Rattle.pt_slots.proofs.Counts.{taken_split, count_with_free}

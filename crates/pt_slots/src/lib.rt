@@ -34,7 +34,13 @@
 //!
 //! Every call takes constant time; `insert` does so on average, since the storage doubles where it has
 //! to grow. Beside a value and the `slab`'s own mark, a slot costs four bytes for its version and the
-//! tag of an `Option`. The storage grows with the slots that are used, not with `capacity`.
+//! tag of an `Option`, which marks a retired slot: with both marks a `u64` takes 24 bytes, where a plain
+//! slab takes 16. The storage grows with the slots that are used, not with `capacity`.
+//!
+//! A look-up reads the version first, so an old key never touches the storage of the values. Beside a
+//! plain slab with a vector of versions, at `u64` values, filling and old keys cost the same at 1,000
+//! slots, and `get` a quarter more, which is the test of the `Option`. At 65,000 slots `get` and removals
+//! with insertions cost a tenth to a quarter more, for the wider entries. The README has the figures.
 #![tactic(auto)]
 
 ghost use Rattle.std.specs.Prelude.{◌≡◌, ℕ, ◌<◌, ◌≤◌, ◌^◌, Some, IsSome, OnSome, IsOkAnd, OnOk, OnErr, is_some, option_copied, slice_index_or, vec_len};

@@ -1,4 +1,4 @@
-use Rattle.std.proofs.Common.{refl, rules, ap, arith, ◌≤◌, ◌<◌, length}
+use Rattle.std.proofs.Common.{refl, rules, ap, arith, ◌≤◌, length}
 use Rattle.pt_slots.proofs.Slots.grow.Goals as goal
 
 pub returns : goal.returns
