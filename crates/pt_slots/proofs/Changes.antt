@@ -1,5 +1,5 @@
 -- What the change of one slot changes in the state.
-use Rattle.std.proofs.Common.{◌≡◌, ◌≢◌, ℕ, ◌+◌, ◌<◌, ◌≤◌, ◌==◌, ◌&&◌, Bool, false, get_or, Option, None, is_some, cond, count_by, refl, sym, ◌∙◌, inl, inr, arith, unwrap_or}
+use Rattle.std.proofs.Common.{◌≡◌, ◌≢◌, ℕ, ◌+◌, ◌<◌, ◌≤◌, ◌==◌, ◌&&◌, Bool, false, length, get_or, Option, Some, None, is_some, cond, count_by, refl, sym, ◌∙◌, inl, inr, arith, unwrap_or}
 use Rattle.std.proofs.lemmas.Bool.{cases_eq}
 use Rattle.std.proofs.lemmas.Grind.{common_steps}
 use Rattle.pt_slots.specs.State.{SlotsState, at, issued, is_retired}
@@ -17,14 +17,20 @@ module _ {T : Type 0} where
     pub top_version : new.top_version ≡ old.top_version
 
   module _ (old new : SlotsState T) (slot version : ℕ) (entry : Option (Option T)) (changes : Changes old new slot version entry) where
-    pub sound_changed : (retired retired' : ℕ) → IsSound old retired → slot < old.capacity → version ≤ old.top_version → (entry ≡ None → version < old.top_version) → count_by is_some new.slots ≤ old.capacity → retired' ≡ count_by is_retired new.slots → IsSound new retired'
-    sound_changed retired retired' sound below fits left within counted =
+    pub sound_changed : (retired retired' room room' : ℕ) → IsSound old retired room → slot < length new.versions → version ≤ old.top_version → (entry ≡ None → version < old.top_version) → (entry ≡ Some None → version ≡ old.top_version) → count_by is_some new.slots ≤ old.capacity → retired' ≡ count_by is_retired new.slots → length old.versions ≤ length new.versions → length new.versions ≤ old.capacity → length new.versions ≤ room' → IsSound new retired' room'
+    sound_changed retired retired' room room' sound below fits left last within counted longer in_capacity in_room =
         record {
           capacity_fits = rw changes.capacity sound.capacity_fits;
           top_fits = rw changes.top_version sound.top_fits;
           within = rw changes.capacity within;
           retired_is = counted;
-          none_past_capacity = λ k past. changes.entries k (λ e. omega (arith, e, past, below, changes.capacity)) ∙ sound.none_past_capacity k (omega (arith, past, changes.capacity));
+          none_past = λ k past. changes.entries k (λ e. omega (arith, e, past, below)) ∙ sound.none_past k (omega (arith, past, longer));
+          slots_fit = rw changes.capacity in_capacity;
+          slots_stored = in_room;
+          retired_at_top = λ k is_retired. elim (cases_eq k slot) [
+            | inl same ↦ rw (same, changes.version_is, changes.top_version) (last (sym changes.entry_is ∙ rw same at is_retired))
+            | inr differs ↦ rw (changes.versions k differs, changes.top_version) (sound.retired_at_top k (sym (changes.entries k differs) ∙ is_retired))
+          ];
           issued_fits = λ k. elim (cases_eq k slot) [
             | inl same ↦ rw (same, changes.version_is, changes.top_version) fits
             | inr differs ↦ rw (changes.versions k differs, changes.top_version) (sound.issued_fits k)

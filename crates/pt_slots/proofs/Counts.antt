@@ -1,5 +1,5 @@
 -- How a count over slots follows the change of one slot.
-use Rattle.std.proofs.Common.{◌≡◌, ◌≢◌, ℕ, zero, suc, ◌+◌, List, [], ◌∷◌, get_or, Option, Some, None, is_some, cond, count_by, sum_by, refl, ap, arith}
+use Rattle.std.proofs.Common.{◌≡◌, ◌≢◌, ℕ, zero, suc, ◌+◌, ◌<◌, ◌≤◌, List, [], ◌∷◌, get_or, Option, Some, None, is_some, cond, count_by, sum_by, refl, ap, arith}
 use Rattle.std.proofs.lemmas.List.Sums.{sum_by-cons}
 use Rattle.pt_slots.specs.State.{is_live, is_retired}
 
@@ -29,6 +29,32 @@ module _ {X : Type 0} (f : X → ℕ) (d : X) (nothing : f d ≡ 0) where
       omega (arith, sum_by-cons f x xs, sum_by-cons f y ys, sum_by-same xs ys (λ i. others (suc i) (λ e. omega (arith, e))))
   sum_by-changed (x ∷ xs) (y ∷ ys) (suc key) others =
       omega (arith, sum_by-cons f x xs, sum_by-cons f y ys, ap f (others 0 (λ e. omega (arith, e))), sum_by-changed xs ys key (λ i differs. others (suc i) (λ e. differs (omega (arith, e)))))
+
+module _ {X : Type 0} where
+  count_cons : (x : Option X) (xs : List (Option X)) → count_by is_some (x ∷ xs) ≤ count_by is_some xs + 1
+  count_cons None xs = omega (arith, sum_by-cons (λ o. cond (is_some o) 1 0) None xs)
+  count_cons (Some x) xs = omega (arith, sum_by-cons (λ o. cond (is_some o) 1 0) (Some x) xs)
+
+  count_none : (x : Option X) (xs : List (Option X)) → x ≡ None → count_by is_some (x ∷ xs) ≡ count_by is_some xs
+  count_none None xs none = omega (arith, sum_by-cons (λ o. cond (is_some o) 1 0) None xs)
+  count_none (Some x) xs none = absurd (cc)
+
+  -- with nothing from n on, there are at most n values
+  count_within : (xs : List (Option X)) (n : ℕ) → ((k : ℕ) → n ≤ k → get_or xs k None ≡ None) → count_by is_some xs ≤ n
+  count_within [] n past = omega arith
+  count_within (x ∷ xs) zero past =
+      omega (arith, count_none x xs (past 0 (omega arith)), count_within xs zero (λ k _. past (suc k) (omega arith)))
+  count_within (x ∷ xs) (suc n) past =
+      omega (arith, count_cons x xs, count_within xs n (λ k more. past (suc k) (omega (arith, more))))
+
+  -- and fewer where one of those places is free
+  pub count_with_free : (xs : List (Option X)) (n free : ℕ) → ((k : ℕ) → n ≤ k → get_or xs k None ≡ None) → free < n → get_or xs free None ≡ None → count_by is_some xs < n
+  count_with_free [] n free past below none = omega (arith, below)
+  count_with_free (x ∷ xs) zero free past below none = absurd (omega (arith, below))
+  count_with_free (x ∷ xs) (suc n) zero past below none =
+      omega (arith, count_none x xs none, count_within xs n (λ k more. past (suc k) (omega (arith, more))))
+  count_with_free (x ∷ xs) (suc n) (suc free) past below none =
+      omega (arith, count_cons x xs, count_with_free xs n free (λ k more. past (suc k) (omega (arith, more))) (omega (arith, below)) none)
 
 module _ {T : Type 0} where
   -- a slot that is not free has a live value or is retired

@@ -1,16 +1,17 @@
 -- Each change of a slot: what a caller sees of it, and that the slots stay sound.
 use Rattle.std.proofs.Common.{◌≡◌, ◌≢◌, ℕ, ◌+◌, ◌<◌, ◌≤◌, ◌^◌, ◌==◌, ◌&&◌, Bool, true, false, List, length, get_or, set, Option, Some, None, IsSome, is_some, cond, count_by, unwrap_or, refl, sym, ap, ◌∙◌, inl, inr, arith}
 use Rattle.std.proofs.lemmas.Bool.{cases_eq, cases_lt}
-use Rattle.std.proofs.lemmas.Grind.{common_steps}
-use Rattle.std.proofs.lemmas.List.{get_or_past, get_or-set_same, get_or-set_other}
+use Rattle.std.proofs.lemmas.Grind.{common_steps, get_or_default_zero}
+use Rattle.std.proofs.lemmas.List.{get_or_past, get_or-set_same, get_or-set_other, length-set}
 use Rattle.slab.specs.Slab.{Slab, Updates}
 use Rattle.pt_slots.specs.Calls.{Inserted, Removed, Written}
+use Rattle.pt_slots.specs.Grows.{HasRoom}
 use Rattle.pt_slots.specs.Sound.{IsSound}
-use Rattle.pt_slots.specs.State.{SlotsState, at, issued, is_live, is_retired, live_count, retired_count, next_key, with_value}
+use Rattle.pt_slots.specs.State.{SlotsState, at, issued, is_live, is_retired, live_count, retired_count, with_value}
 use Rattle.pt_slots.specs.declared.Key.{Key}
 use Rattle.pt_slots.proofs.Changes.{Changes, sound_changed, at_changed, issued_changed, count_changed}
-use Rattle.pt_slots.proofs.Counts.{taken_split}
-use Rattle.pt_slots.proofs.Offers.{Offers, next_offered, next_kept, offers_next}
+use Rattle.pt_slots.proofs.Counts.{taken_split, count_with_free}
+use Rattle.pt_slots.proofs.Offers.{Offers, next_offered, next_kept}
 
 pub found : {X : Type 0} (o : Option X) → IsSome o → (x : X) × (o ≡ Some x)
 found None some = absurd (cc)
@@ -36,15 +37,43 @@ module _ {T : Type 0} where
       let held = held_by value (get_or s.versions key.slot 0 == key.version) (get_or s.slots key.slot None) live in
       record { entry = held.1; latest = grind (arith, common_steps, held.0) }
 
-  pub below_capacity : (s : SlotsState T) (key : Key) (value : T) (retired : ℕ) → IsSound s retired → at s key.slot key.version ≡ Some value → key.slot < s.capacity
-  below_capacity s key value retired sound live =
-      elim (cases_lt key.slot s.capacity) [
+  -- a slot with a value has a version
+  pub below_versions : (s : SlotsState T) (key : Key) (value : T) (retired room : ℕ) → IsSound s retired room → at s key.slot key.version ≡ Some value → key.slot < length s.versions
+  below_versions s key value retired room sound live =
+      elim (cases_lt key.slot (length s.versions)) [
         | inl below ↦ below
         | inr past ↦
-            let none = sound.none_past_capacity key.slot past in
+            let none = sound.none_past key.slot past in
             let some = (holds s key value live).entry in
             absurd (cc)
       ]
+
+  module _ (old mid : SlotsState T) (retired room : ℕ) (sound : IsSound mid retired room) (has : HasRoom old mid) where
+    fewer : count_by is_some mid.slots < length mid.versions
+    fewer = count_with_free mid.slots (length mid.versions) mid.vacant sound.none_past has.has_version has.free
+
+    -- a free slot that has a version leaves room for its value in the slab
+    pub room_for_free : count_by is_some mid.slots + 1 ≤ room
+    room_for_free = omega (arith, sound.slots_stored, fewer)
+
+    -- and is the one that `next` tells
+    pub offers_free : (key : Key) → key.slot ≡ mid.vacant → key.version ≡ get_or mid.versions key.slot 0 + 1 → Offers old key
+    offers_free key slot_is version_is =
+        record {
+          room = λ all. omega (arith, all, sound.slots_fit, fewer, has.capacity_kept, ap (λ (xs : List (Option (Option T))). count_by is_some xs) has.slots_kept);
+          below = omega (arith, has.has_version, sound.slots_fit, has.capacity_kept, has.vacant_kept);
+          slot_is = slot_is ∙ has.vacant_kept;
+          version_is = version_is ∙ ap (λ (n : ℕ). n + 1) (has.versions_kept key.slot);
+        }
+
+  -- a slot that has a version left holds no tombstone
+  pub value_below_top : (s : SlotsState T) (key : Key) (retired room : ℕ) (held : Option T) → IsSound s retired room → get_or s.slots key.slot None ≡ Some held → get_or s.versions key.slot 0 ≡ key.version → key.version < s.top_version → (value : T) × (held ≡ Some value) × (at s key.slot key.version ≡ Some value)
+  unfolding at
+  value_below_top s key retired room None sound entry latest below =
+      let top = sound.retired_at_top key.slot entry in
+      absurd (omega (arith, top, latest, below))
+  value_below_top s key retired room (Some value) sound entry latest below =
+      (value, refl, grind (arith, common_steps, entry, latest))
 
   -- a slot has no value under another version than its latest
   pub dead_others : (s : SlotsState T) (slot : ℕ) → (other : ℕ) → other ≢ get_or s.versions slot 0 → at s slot other ≡ None
@@ -93,7 +122,7 @@ module _ {T : Type 0} where
           settings = record { capacity = refl; top_version = refl };
         }
 
-  module _ (s : SlotsState T) (key : Key) (value : T) (retired : ℕ) (sound : IsSound s retired) (live : at s key.slot key.version ≡ Some value) where
+  module _ (s : SlotsState T) (key : Key) (value : T) (retired room : ℕ) (sound : IsSound s retired room) (live : at s key.slot key.version ≡ Some value) where
     -- a removal below the top version, which leaves the slot free
     abbrev pub freed : SlotsState T
     freed = record s { slots = set s.slots key.slot None; vacant = key.slot }
@@ -111,23 +140,27 @@ module _ {T : Type 0} where
           retired = rw test (omega (arith, count_entry s key value None key.slot live is_retired refl));
           next = rw test (next_offered freed _ (record {
             room = λ all. omega (arith, taken, sound.within, all);
-            below = below_capacity s key value retired sound live;
+            below = omega (arith, below_versions s key value retired room sound live, sound.slots_fit);
             slot_is = refl;
             version_is = ap (λ n. n + 1) (sym (holds s key value live).latest);
           }));
           settings = record { capacity = refl; top_version = refl };
         }
 
-    pub sound_freed : key.version < s.top_version → IsSound freed retired
+    pub sound_freed : key.version < s.top_version → IsSound freed retired room
     sound_freed below_top =
         let taken = count_entry s key value None key.slot live is_some refl in
         let retires = count_entry s key value None key.slot live is_retired refl in
-        sound_changed _ _ _ _ _ (changes_entry s key value None key.slot live) retired retired sound
-        (below_capacity s key value retired sound live)
+        sound_changed _ _ _ _ _ (changes_entry s key value None key.slot live) retired retired room room sound
+        (below_versions s key value retired room sound live)
         (rw (holds s key value live).latest at (sound.issued_fits key.slot))
         (λ _. below_top)
+        (λ spent. absurd (cc))
         (omega (arith, taken, sound.within))
         (omega (arith, retires, sound.retired_is))
+        (omega arith)
+        sound.slots_fit
+        sound.slots_stored
 
     -- a removal at the top version, which retires the slot
     abbrev pub spent : SlotsState T
@@ -150,62 +183,75 @@ module _ {T : Type 0} where
           settings = record { capacity = refl; top_version = refl };
         }
 
-    pub sound_spent : IsSound spent (retired + 1)
-    sound_spent =
+    pub sound_spent : s.top_version ≤ key.version → IsSound spent (retired + 1) room
+    sound_spent at_top =
+        let fits : key.version ≤ s.top_version = rw (holds s key value live).latest at (sound.issued_fits key.slot) in
         let taken = count_entry s key value (Some None) s.vacant live is_some refl in
         let retires = count_entry s key value (Some None) s.vacant live is_retired refl in
-        sound_changed _ _ _ _ _ (changes_entry s key value (Some None) s.vacant live) retired (retired + 1) sound
-        (below_capacity s key value retired sound live)
-        (rw (holds s key value live).latest at (sound.issued_fits key.slot))
+        sound_changed _ _ _ _ _ (changes_entry s key value (Some None) s.vacant live) retired (retired + 1) room room sound
+        (below_versions s key value retired room sound live)
+        fits
         (λ none. absurd (cc))
+        (λ _. omega (arith, fits, at_top))
         (omega (arith, taken, sound.within))
         (omega (arith, retires, sound.retired_is))
+        (omega arith)
+        sound.slots_fit
+        sound.slots_stored
 
     -- so one more retired slot can be counted
-    pub retired_fits : retired + 1 < 2 ^ 32
-    retired_fits =
-        let next = sound_spent in
+    pub retired_fits : s.top_version ≤ key.version → retired + 1 < 2 ^ 32
+    retired_fits at_top =
+        let next = sound_spent at_top in
         omega (arith, next.retired_is, next.within, next.capacity_fits, taken_split spent.slots)
 
-  -- a slab that took in a value at the offered slot, and versions with room for it
+  -- a slab that took in a value at the offered slot, once there was room
   module _
-      (old : SlotsState T) (retired : ℕ) (sound : IsSound old retired)
-      (key : Key) (next : Some key ≡ next_key old) (value : T)
-      (before after : Slab (Option T)) (place : ℕ) (versions : List ℕ)
-      (slots : before.slots ≡ old.slots) (vacant : before.vacant_key ≡ old.vacant)
-      (here : place ≡ before.vacant_key) (free : get_or before.slots place None ≡ None)
+      (old mid : SlotsState T) (retired room : ℕ) (sound : IsSound mid retired room) (has : HasRoom old mid)
+      (value : T) (before after : Slab (Option T)) (place latest : ℕ)
+      (slots : before.slots ≡ mid.slots) (vacant : before.vacant_key ≡ mid.vacant)
+      (here : place ≡ before.vacant_key)
       (updates : Updates before after place (Some (Some value)))
-      (room : place < length versions)
-      (kept : (k : ℕ) → get_or versions k 0 ≡ get_or old.versions k 0)
+      (same_room : after.capacity ≡ room)
+      (read : latest ≡ get_or mid.versions place latest)
     where
-      offers : Offers old key
-      offers = offers_next old key (sym next)
+      at_slot : place ≡ mid.vacant
+      at_slot = here ∙ vacant
 
-      at_slot : place ≡ key.slot
-      at_slot = here ∙ vacant ∙ sym offers.slot_is
+      below : place < length mid.versions
+      below = omega (arith, at_slot, has.has_version)
 
-      was_free : get_or old.slots key.slot None ≡ None
-      was_free = rw (slots, at_slot) at free
+      latest_is : latest ≡ get_or mid.versions place 0
+      latest_is = read ∙ get_or_default_zero mid.versions place latest below
 
-      version_fits : key.version ≤ old.top_version
-      version_fits = omega (arith, offers.version_is, sound.free_below_top key.slot was_free)
+      was_free : get_or mid.slots place None ≡ None
+      was_free = rw (← at_slot) at has.free
+
+      version_fits : latest + 1 ≤ mid.top_version
+      version_fits = omega (arith, latest_is, sound.free_below_top place was_free)
+
+      abbrev pub issues_key : Key
+      issues_key = record { slot = place; version = latest + 1 }
+
+      offers : Offers old issues_key
+      offers = offers_free old mid retired room sound has issues_key at_slot (ap (λ (n : ℕ). n + 1) latest_is)
 
       abbrev pub filled : SlotsState T
       filled = record {
         slots = after.slots;
-        versions = set versions place key.version;
+        versions = set mid.versions place (latest + 1);
         vacant = after.vacant_key;
-        capacity = old.capacity;
-        top_version = old.top_version;
+        capacity = mid.capacity;
+        top_version = mid.top_version;
       }
 
-      change : Changes old filled key.slot key.version (Some (Some value))
+      change : Changes mid filled place (latest + 1) (Some (Some value))
       change =
           record {
-            entry_is = rw at_slot at updates.changed;
-            entries = λ other differs. updates.others other (λ e. differs (e ∙ at_slot)) ∙ ap (λ (xs : List (Option (Option T))). get_or xs other None) slots;
-            version_is = rw (← at_slot) (get_or-set_same versions place key.version 0 room);
-            versions = λ other differs. get_or-set_other versions place other key.version 0 (λ e. differs (e ∙ at_slot)) ∙ kept other;
+            entry_is = updates.changed;
+            entries = λ other differs. updates.others other differs ∙ ap (λ (xs : List (Option (Option T))). get_or xs other None) slots;
+            version_is = get_or-set_same mid.versions place (latest + 1) 0 below;
+            versions = λ other differs. get_or-set_other mid.versions place other (latest + 1) 0 differs;
             capacity = refl;
             top_version = refl;
           }
@@ -213,35 +259,47 @@ module _ {T : Type 0} where
       count_filled : (p : Option (Option T) → Bool) → p None ≡ false → count_by p after.slots ≡ count_by p old.slots + cond (p (Some (Some value))) 1 0
       count_filled p none =
           let nothing : ◌≡◌ {A = ℕ} (cond (p None) 1 0) 0 = rw none refl in
-          omega (arith, nothing, rw was_free at (count_changed _ _ _ _ _ change p none))
+          let same = ap (λ (xs : List (Option (Option T))). count_by p xs) has.slots_kept in
+          omega (arith, nothing, same, rw was_free at (count_changed _ _ _ _ _ change p none))
 
-      pub inserted_filled : Inserted value key old filled
+      at_kept : (s v : ℕ) → at mid s v ≡ at old s v
+      unfolding at
+      at_kept s v = rw (has.versions_kept s, has.slots_kept) refl
+
+      pub inserted_filled : Inserted value issues_key old filled
       unfolding issued live_count retired_count
       inserted_filled =
           record {
-            offered = sym next;
+            offered = next_offered old issues_key offers;
             slot_in_range = omega (arith, offers.below, offers.slot_is);
             version_is_next = offers.version_is;
-            version_in_range = version_fits;
-            live = at_changed _ _ _ _ _ change (λ other _. dead_free old key.slot was_free other);
-            issues = issued_changed _ _ _ _ _ change;
+            version_in_range = omega (arith, version_fits, has.top_version_kept);
+            live = λ s v. at_changed _ _ _ _ _ change (λ other _. dead_free mid place was_free other) s v ∙ ap (λ (x : Option T). cond ((place == s) && (latest + 1 == v)) (Some value) x) (at_kept s v);
+            issues = λ s. issued_changed _ _ _ _ _ change s ∙ ap (λ (n : ℕ). cond (place == s) (latest + 1) n) (has.versions_kept s);
             counted = count_filled is_live refl;
             retired = omega (arith, count_filled is_retired refl);
-            settings = record { capacity = refl; top_version = refl };
+            settings = record { capacity = has.capacity_kept; top_version = has.top_version_kept };
           }
 
-      pub sound_filled : IsSound filled retired
+      pub sound_filled : IsSound filled retired after.capacity
       sound_filled =
-          sound_changed _ _ _ _ _ change retired retired sound
-          (omega (arith, offers.below, offers.slot_is))
+          let as_long = length-set mid.versions place (latest + 1) in
+          let same = ap (λ (xs : List (Option (Option T))). count_by is_some xs) has.slots_kept in
+          let same_retired = ap (λ (xs : List (Option (Option T))). count_by is_retired xs) has.slots_kept in
+          sound_changed _ _ _ _ _ change retired retired room after.capacity sound
+          (omega (arith, as_long, below))
           version_fits
           (λ none. absurd (cc))
-          (omega (arith, count_filled is_some refl, sound.within, offers.room))
-          (omega (arith, count_filled is_retired refl, sound.retired_is))
+          (λ spent. absurd (cc))
+          (omega (arith, count_filled is_some refl, same, room_for_free old mid retired room sound has, sound.slots_fit, fewer old mid retired room sound has))
+          (omega (arith, count_filled is_retired refl, same_retired, sound.retired_is))
+          (omega (arith, as_long))
+          (omega (arith, as_long, sound.slots_fit))
+          (omega (arith, as_long, sound.slots_stored, same_room))
 
       pub never_falls : (slot : ℕ) → issued old slot ≤ issued filled slot
       unfolding issued
-      never_falls slot = elim (cases_eq slot key.slot) [
-        | inl same ↦ rw same (omega (arith, change.version_is, offers.version_is))
-        | inr differs ↦ omega (arith, change.versions slot differs)
+      never_falls slot = elim (cases_eq slot place) [
+        | inl same ↦ rw same (omega (arith, change.version_is, latest_is, has.versions_kept place))
+        | inr differs ↦ omega (arith, change.versions slot differs, has.versions_kept slot)
       ]

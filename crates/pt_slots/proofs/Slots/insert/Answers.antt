@@ -1,24 +1,21 @@
-use Rattle.std.proofs.Common.{ap, rules, ◌<◌, length}
-use Rattle.pt_slots.proofs.Steps.{inserted_filled, sound_filled, never_falls}
+use Rattle.std.proofs.Common.{refl}
+use Rattle.pt_slots.proofs.Steps.{room_for_free, inserted_filled, sound_filled, never_falls}
 use Rattle.pt_slots.proofs.Slots.insert.Goals as goal
 
-pub invariant_of-self-2 : goal.invariant_of-self-2
-invariant_of-self-2 g c =
-    let room : c.insert_reserved-slot.result < length c.make_room.new.versions.items = search rules in
-    sound_filled _ _ c.self.invariant c.in-Some.key (rw (← c.self.view_is) at c.in-Some.ensures) c.args.value _ _ _ _
-    (ap (λ s. s.slots) c.reserve.ensures.rest_kept) (ap (λ s. s.vacant_key) c.reserve.ensures.rest_kept)
-    c.insert_reserved-slot.ensures.key c.insert_reserved-slot.ensures.was_vacant c.insert_reserved-slot.ensures.updates room c.make_room.ensures.kept
+pub insert_reserved-slot-requires : goal.insert_reserved-slot-requires
+insert_reserved-slot-requires g c = room_for_free _ _ _ _ c.self.invariant (rw (← c.self.view_is) at c.in-Ready.ensures)
+
+pub invariant_of-self : goal.invariant_of-self
+invariant_of-self g c =
+    sound_filled _ _ _ _ c.self.invariant (rw (← c.self.view_is) at c.in-Ready.ensures) c.args.value c.self.inside.entries _ _ _ refl refl
+    c.insert_reserved-slot.ensures.key c.insert_reserved-slot.ensures.updates c.insert_reserved-slot.ensures.capacity c.index.ensures
 
 pub returns-clause-cases : goal.returns-clause-cases
 returns-clause-cases g c =
-    let room : c.insert_reserved-slot.result < length c.make_room.new.versions.items = search rules in
-    rw (← c.self.view_is) (inserted_filled _ _ c.self.invariant c.in-Some.key (rw (← c.self.view_is) at c.in-Some.ensures) c.args.value _ _ _ _
-    (ap (λ s. s.slots) c.reserve.ensures.rest_kept) (ap (λ s. s.vacant_key) c.reserve.ensures.rest_kept)
-    c.insert_reserved-slot.ensures.key c.insert_reserved-slot.ensures.was_vacant c.insert_reserved-slot.ensures.updates room c.make_room.ensures.kept)
+    inserted_filled _ _ _ _ c.self.invariant (rw (← c.self.view_is) at c.in-Ready.ensures) c.args.value c.self.inside.entries _ _ _ refl refl
+    c.insert_reserved-slot.ensures.key c.insert_reserved-slot.ensures.updates c.insert_reserved-slot.ensures.capacity c.index.ensures
 
 pub returns-clause-never_falls : goal.returns-clause-never_falls
 returns-clause-never_falls g c =
-    let room : c.insert_reserved-slot.result < length c.make_room.new.versions.items = search rules in
-    rw (← c.self.view_is) (never_falls _ _ c.self.invariant c.in-Some.key (rw (← c.self.view_is) at c.in-Some.ensures) c.args.value _ _ _ _
-    (ap (λ s. s.slots) c.reserve.ensures.rest_kept) (ap (λ s. s.vacant_key) c.reserve.ensures.rest_kept)
-    c.insert_reserved-slot.ensures.key c.insert_reserved-slot.ensures.was_vacant c.insert_reserved-slot.ensures.updates room c.make_room.ensures.kept)
+    never_falls _ _ _ _ c.self.invariant (rw (← c.self.view_is) at c.in-Ready.ensures) c.args.value c.self.inside.entries _ _ _ refl refl
+    c.insert_reserved-slot.ensures.key c.insert_reserved-slot.ensures.updates c.insert_reserved-slot.ensures.capacity c.index.ensures
