@@ -50,9 +50,10 @@ impl Model for Desk {
 }
 
 impl Desk {
-    /// The one desk of a node.
+    /// The one desk of a node, on which nothing has happened. The first birth has the pid `<0.0.1>`.
     ///
-    /// It is refused as `Bounds` exactly where a setting is out of its range, or `desks` is not 1.
+    /// Refused as `Bounds` exactly where a setting is out of its range, or `desks` is not 1; else as `Memory` where
+    /// there is none.
     pub fn alone(alloc: Global, config: Config) -> Result<Desk, OpenError>
         ensures { Opens config result }
     {
@@ -77,7 +78,7 @@ impl Desk {
         })
     }
 
-    /// Gives the journal back, and nothing else.
+    /// Gives the journal back; processes, items and letters are dropped.
     pub fn close(self) -> Journal
         ensures desk { result.desk ≡ self.number }
         ensures past { result.past ≡ self.journal }
@@ -100,7 +101,11 @@ impl Desk {
         self.log.clock()
     }
 
-    /// What happened here.
+    /// What happened here, oldest event first.
+    ///
+    /// It is a lawful journal of this desk: each event was allowed after those before it, the versions of a slot
+    /// are 1, 2, 3 and so on, each after the end of the one before, and what was sent is what came and then the
+    /// letters still on their way, in order for each pair of processes.
     pub fn journal(&self) -> &Journal
         ensures desk { result.now.desk ≡ self.now.number }
         ensures past { result.now.past ≡ self.now.journal }
@@ -111,14 +116,14 @@ impl Desk {
         self.log.journal()
     }
 
-    /// Whether p lives here.
+    /// Whether p lives here. False of a pid whose slot another process has by now.
     pub fn alive_here(&self, p: Pid) -> bool
         ensures { result ≡ lives self.now p }
     {
         find(&self.log, &self.table, p).is_some()
     }
 
-    /// The items that wait in the mailbox of p, oldest first, if it lives here.
+    /// The items that wait in the mailbox of p, oldest first, or `None` where it does not live here.
     pub fn waiting(&self, p: Pid) -> Option<&[Item]>
         ensures { option_copied result ≡ cond (lives self.now p) (Some (state_in self.now p).waiting) None }
     {
@@ -128,7 +133,9 @@ impl Desk {
         }
     }
 
-    /// The ids under which p, if it lives here, is linked with q.
+    /// The ids under which p is linked with q, or `None` where there is no link, or p does not live here.
+    ///
+    /// It is p's own half of the link: that of q may differ while letters of the two are on their way.
     pub fn linked(&self, p: Pid, q: Pid) -> Option<Ids>
         ensures { result ≡ cond (lives self.now p) (held_by self.now p q) None }
     {
@@ -147,19 +154,17 @@ impl Desk {
             && (p.shard != self.log.desk() || p.version <= self.table.issued(p.slot))
     }
 
-    /// The pid that the next birth on this desk has, or `None` where no slot is free.
+    /// The pid that the next birth on this desk has, or `None` exactly where it would be refused as `Full`.
     pub fn vacant(&self) -> Option<Pid>
         ensures { result ≡ self.now.vacant }
     {
-        let key = self.table.next()?;
-        Some(Pid {
-            shard: self.log.desk(),
-            slot: key.slot,
-            version: key.version,
-        })
+        spawning::vacant(&self.log, &self.table)
     }
 
-    /// Sends a message.
+    /// Sends a message: Erlang's `!`, chapter Processes, section Signals.
+    ///
+    /// It comes to the receiver in a later turn, after all that the sender sent it before. A receiver that is not
+    /// alive then loses it, and nobody is told. Refused as `Gone`, `Worn` or `Memory`.
     pub fn send(&mut self, from: Pid, to: Pid, body: Body) -> Result<(), Fault>
         requires { knows self.old to ≡ true }
         ensures { Calls from (Some (Event.Said from to (Signal.Message body))) tt self.old result self.new }
@@ -167,7 +172,11 @@ impl Desk {
         self.say(from, to, Signal::Message(body))
     }
 
-    /// Sends an exit signal that no link carries: Erlang's `exit/2`.
+    /// Sends an exit signal that no link carries: Erlang's `exit/2`, section Receiving Exit Signals.
+    ///
+    /// `kill` ends its receiver whether it traps or not, with the reason `killed`. A receiver that traps gets any
+    /// other as an item; of one that does not, `normal` ends it only where it is the sender itself. Refused as
+    /// `Gone`, `Worn` or `Memory`.
     pub fn exit_signal(&mut self, from: Pid, to: Pid, reason: Reason) -> Result<(), Fault>
         requires { knows self.old to ≡ true }
         ensures { Calls from (Some (Event.Said from to (Signal.Exit reason))) tt self.old result self.new }
@@ -196,7 +205,10 @@ impl Desk {
         Ok(())
     }
 
-    /// Links p with another process: Erlang's `link/1`. Nothing happens where they are linked, or p is the target.
+    /// Links p with another process: Erlang's `link/1`, section Links.
+    ///
+    /// Nothing happens where p is the target, or holds a link with it. A target that is not alive when the link
+    /// comes answers it by an exit signal with `noproc`. Refused as `Gone`, `Worn` or `Memory`.
     pub fn link(&mut self, p: Pid, to: Pid) -> Result<(), Fault>
         requires { knows self.old to ≡ true }
         ensures { Calls p (link_event self.old p to) tt self.old result self.new }
@@ -228,7 +240,10 @@ impl Desk {
         Ok(())
     }
 
-    /// Takes the link of p with another process back: Erlang's `unlink/1`. Nothing happens where there is none.
+    /// Takes the link of p with another process back: Erlang's `unlink/1`, section Links.
+    ///
+    /// Nothing happens where there is none. No exit signal that the link carries reaches p from here on. Refused as
+    /// `Gone`, `Worn` or `Memory`.
     pub fn unlink(&mut self, p: Pid, to: Pid) -> Result<(), Fault>
         requires { knows self.old to ≡ true }
         ensures { Calls p (unlink_event self.old p to) tt self.old result self.new }
@@ -253,7 +268,10 @@ impl Desk {
         Ok(())
     }
 
-    /// Sets whether p traps exits, and answers whether it did: Erlang's `process_flag(trap_exit, _)`.
+    /// Sets whether p traps exits, and answers whether it did: Erlang's `process_flag(trap_exit, _)`, section
+    /// Receiving Exit Signals.
+    ///
+    /// The flag counts when an exit signal comes, not when it is sent. Refused as `Gone`, `Worn` or `Memory`.
     pub fn trap(&mut self, p: Pid, on: bool) -> Result<bool, Fault>
         ensures { Calls p (Some (Event.Flag p on)) (state_in self.old p).traps self.old result self.new }
     {
@@ -268,7 +286,10 @@ impl Desk {
     }
 
     /// Takes the first item that fits out of the mailbox of p; the others stay, in order: Erlang's `receive`
-    /// with `after 0`.
+    /// with `after 0`, chapter Expressions, section Receive.
+    ///
+    /// `Ok(None)` says that nothing fits; it has no event. Refused as `Gone`, or where an item fits, as `Worn` or
+    /// `Memory`.
     pub fn receive(&mut self, p: Pid, pick: Pick) -> Result<Option<Item>, Fault>
         ensures { Calls p (take_event self.old p pick) (first_match self.old p pick) self.old result self.new }
     {
@@ -284,7 +305,11 @@ impl Desk {
         Ok(Some(item))
     }
 
-    /// Watches another process: Erlang's `monitor/2`. It answers the reference, which the one DOWN will have.
+    /// Watches another process: Erlang's `monitor/2`, section Monitors. It answers the reference, which the one
+    /// DOWN will have.
+    ///
+    /// A target that is not alive when the monitor comes is answered by a DOWN with `noproc`. Refused as `Gone`,
+    /// as `Myself` where w is the target, as `Worn` or `Memory`.
     pub fn monitor(&mut self, w: Pid, t: Pid) -> Result<Ref, Fault>
         requires { knows self.old t ≡ true }
         ensures { Monitors w t self.old result self.new }
@@ -313,8 +338,11 @@ impl Desk {
         Ok(monitor)
     }
 
-    /// Gives a monitor of w up: Erlang's `demonitor/2`. Of one that is not open the DOWN is taken, where `flush`
-    /// asks for it and it waits. It answers whether it did either.
+    /// Gives a monitor of w up: Erlang's `demonitor/2`, section Monitors. It answers whether it wrote an event.
+    ///
+    /// A monitor is open until its DOWN comes to w. Of an open one no DOWN comes any more. Of any other the DOWN is
+    /// taken out of the mailbox, where `flush` asks for it and it waits. Refused as `Gone`, or where there is an
+    /// event to write, as `Worn` or `Memory`.
     pub fn demonitor(&mut self, w: Pid, monitor: Ref, flush: bool) -> Result<bool, Fault>
         ensures { Calls w (demonitor_event self.old w monitor flush) (is_some (demonitor_event self.old w monitor flush)) self.old result self.new }
     {
@@ -342,9 +370,11 @@ impl Desk {
         Ok(true)
     }
 
-    /// Ends p with this reason: Erlang's `exit/1`.
+    /// Ends p with this reason: Erlang's `exit/1`, section Process Termination.
     ///
-    /// Its links and the watchers on it get their signals; the items that wait are dropped.
+    /// Each process that it holds a link with is sent an exit signal, then each watcher its DOWN, then each target of
+    /// an open monitor is told that it is watched no more. The items that wait are dropped, and the slot is free.
+    /// Refused as `Gone`, `Worn` or `Memory`.
     pub fn exit(&mut self, p: Pid, reason: Reason) -> Result<(), Fault>
         ensures { Calls p (Some (Event.Left p reason)) tt self.old result self.new }
     {
@@ -359,6 +389,10 @@ impl Desk {
     }
 
     /// Posts letters into the lane, and then handles at most `budget` of those that are there, oldest first.
+    ///
+    /// It stops before the budget is used up where the lane is empty, or where `stopped` says why: the letter at
+    /// which it stopped stays the oldest, and a later turn goes on with it. Letters that are sent while it handles
+    /// wait for the next turn.
     pub fn turn(&mut self, budget: u32) -> Turned
         ensures { Turns budget self.old result self.new }
     {
@@ -416,9 +450,11 @@ impl Desk {
         Ok(true)
     }
 
-    /// Makes a process that no other one bears: Erlang's `spawn/1`, called from outside of the desk.
+    /// Makes a process that no other one bears: Erlang's `spawn/1`, called from outside of the desk (section Process
+    /// Creation).
     ///
-    /// It is refused as `Worn` where the clock is at its limit, then as `Full` where no slot is free.
+    /// Its pid is the one that `vacant` tells, which no process had before. Refused as `Worn` where the clock is at
+    /// its limit, then as `Full` where no slot is free, then as `Memory`.
     pub fn spawn(&mut self) -> Result<Pid, Fault>
         ensures { Bears None None self.old result self.new }
     {
@@ -435,10 +471,10 @@ impl Desk {
     }
 
     /// Makes a process that its parent bears, linked with it where that is asked: Erlang's `spawn/1` and
-    /// `spawn_link/1`.
+    /// `spawn_link/1`, sections Process Creation and Links.
     ///
-    /// It is refused as `Gone` where the parent is not alive here, then as `Worn` where the clock is at its limit,
-    /// then as `Full` where no slot is free.
+    /// Both halves of the link stand at once, without a letter. Refused as `Gone` where the parent is not alive here,
+    /// then as `Worn` where the clock is at its limit, then as `Full` where no slot is free, then as `Memory`.
     pub fn spawn_child(&mut self, parent: Pid, linked: bool) -> Result<Pid, Fault>
         ensures { BearsChild parent linked self.old result self.new }
     {
