@@ -12,10 +12,6 @@ use Rattle.std.proofs.lemmas.Map.Keys.{IsDistinct-push}
 use Rattle.std.proofs.lemmas.Map.Entries.{none_past_head}
 use Rattle.pt_process.specs.Gaps.{present, placed, HasNoGap, AreIndexed}
 
-pub some_from_test : {V : Type 0} (o : Option V) → is_some o ≡ true → (v : V) × (o ≡ Some v)
-some_from_test None h = cc
-some_from_test (Some v) h = (v, refl)
-
 pub none_from_test : {V : Type 0} (o : Option V) → is_some o ≡ false → o ≡ None
 none_from_test None h = refl
 none_from_test (Some v) h = cc
@@ -223,11 +219,6 @@ module _ {K V : Type 0} where
       let m : suc n + length places ≡ n + suc (length places) = omega arith in
       ap (λ es. (d.0, n) ∷ es) (placed-push (suc n) places e ∙ ap (λ m. placed (suc n) places ++ (e.0, m) ∷ []) m)
 
-  pub placed-push_gap : (n : ℕ) (places : List (Option (K × V))) → placed n (places ++ None ∷ []) ≡ placed n places
-  placed-push_gap n [] = refl
-  placed-push_gap n (None ∷ places) = placed-push_gap (suc n) places
-  placed-push_gap n (Some d ∷ places) = ap (λ es. (d.0, n) ∷ es) (placed-push_gap (suc n) places)
-
   -- to close the gaps changes nothing that is seen
   pub present-closed : (places : List (Option (K × V))) → present (filter (λ p. is_some p) places) ≡ present places
   present-closed [] = refl
@@ -422,14 +413,4 @@ module _ {K V : Type 0} {eq : K → K → Bool} (laws : IsEquivalence eq) {index
         distinct = subst (IsDistinct eq) (sym keys) sound.distinct;
         counted = sound.counted ∙ sym (ap length (f.written w) ∙ length-set_value (eq key) (present places) w);
         limited = sound.limited;
-      }
-
-  pub indexed_closed : (index' : List (K × ℕ)) (places' : List (Option (K × V))) → present places' ≡ present places → ((q : K) → lookup (eq q) index' ≡ lookup (eq q) (placed 0 places'))
-      → length index' ≡ length index → AreIndexed eq index' places'
-  indexed_closed index' places' same renumbered count =
-      record {
-        found = renumbered;
-        distinct = subst (λ es. IsDistinct eq (keys_of es)) (sym same) sound.distinct;
-        counted = count ∙ sound.counted ∙ ap length (sym same);
-        limited = omega (arith, count, sound.limited);
       }
