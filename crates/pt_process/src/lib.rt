@@ -1,7 +1,39 @@
 //! One process: its mailbox, its links, its monitors, and the watches that others hold on it.
 //!
-//! What a signal does to a live process, and what a process owes at its end, are the words `handle` and
-//! `estate` of `pt_signal`; here they run over the process's own lists.
+//! A `Process` is the state that a desk keeps in a slot. It sends nothing itself: it takes signals in, and says at
+//! its end what it owes to whom. What a signal does to a live process, and what a process owes at its end, are the
+//! words `handle` and `estate` of `pt_signal`; here they run over the process's own lists.
+//!
+//! ```
+//! let mut process = Process::new(alloc, me);
+//! match process.accept(from, signal)? {
+//!     Outcome::Queued => ..                    // an item waits: process.first(Pick::Any)
+//!     Outcome::Changed | Outcome::Dropped => ..
+//!     Outcome::Ends(reason) => {
+//!         let estate = process.estate(reason); // the process is spent
+//!         for i in 0..estate.len() {
+//!             let (to, signal) = estate.owed(i);
+//!         }
+//!     }
+//! }
+//! ```
+//!
+//! # The two ends of a call
+//!
+//! A call of the process's own (`add_link`, `cut_link`, `add_monitor`, `cut_monitor`, `set_trap`, `take`) changes its
+//! half at once; the signal that tells the other process is the caller's to send. `accept` is the other half, run
+//! where the signal comes.
+//!
+//! # Want of memory
+//!
+//! `accept`, `add_link`, `add_monitor` and `room` may be refused memory, and nothing has changed then. After `room`
+//! the next link and the next monitor need none. All else takes no memory: an end reads its lists where they stand.
+//!
+//! # Cost
+//!
+//! Every call takes constant time, on average where a list grows, closes its gaps or is looked up by hash, but for
+//! these: `first` and `take` cost what they look at, `kept` looks through the watches, and `estate` and reading it
+//! cost what is owed. Links, monitors and watches keep the order of entry through all removals.
 #![tactic(auto)]
 
 mod entries;
