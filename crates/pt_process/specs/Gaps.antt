@@ -1,5 +1,5 @@
 -- Entries in order of entry, some of which have gone and left a gap.
-use Rattle.std.specs.Prelude.{◌≡◌, ℕ, suc, ◌≤◌, ◌^◌, Bool, List, [], ◌∷◌, ◌++◌, map, length, Option, Some, None}
+use Rattle.std.specs.Prelude.{◌≡◌, ℕ, suc, ◌+◌, ◌*◌, ◌≤◌, ◌^◌, Bool, List, [], ◌∷◌, ◌++◌, map, length, Option, Some, None}
 use Rattle.std.specs.Option.{option_map}
 use Rattle.std.specs.List.{IsDistinct, filter_map, cons_option}
 use Rattle.std.specs.Map.{lookup, set_value, keys_of}
@@ -24,6 +24,11 @@ pub record AreIndexed {K V : Type 0} (eq : K → K → Bool) (index : List (K ×
   pub distinct : IsDistinct eq (keys_of (present places))
   pub counted : length index ≡ length (present places)
   pub limited : length index ≤ 2 ^ 62
+
+-- what holds between two calls: the entries are indexed, and the gaps are at most one more than the entries
+pub record AreSettled {K V : Type 0} (eq : K → K → Bool) (index : List (K × ℕ)) (places : List (Option (K × V))) : Type 0 where
+  pub indexed : AreIndexed eq index places
+  pub bounded : length places ≤ 2 * length index + 1
 
 abbrev pub HasNoGap : {K V : Type 0} → List (Option (K × V)) → Type 0
 HasNoGap places = places ≡ map Some (present places)

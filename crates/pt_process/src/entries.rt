@@ -5,7 +5,7 @@ ghost use Rattle.std.specs.HashMap.{spare};
 ghost use Rattle.std.specs.List.{list_any, IsDistinct};
 ghost use Rattle.std.specs.Map.{lookup, remove_entry, set_value, keys_of};
 ghost use Rattle.std.specs.Vec.{vec_capacity};
-ghost use Rattle.pt_process.specs.Gaps.{placed, present, put, HasNoGap};
+ghost use Rattle.pt_process.specs.Gaps.{placed, present, put, AreIndexed, AreSettled, HasNoGap};
 
 use crate::Rows;
 use std::alloc::{AllocError, Global};
@@ -19,7 +19,9 @@ const MOST: usize = 1 << 62;
 /// A map whose entries stand in order of entry.
 ///
 /// A removal leaves a gap in place, so that no other entry moves; gaps are closed at once where they
-/// outnumber the entries. So a look-up costs O(1), and an insertion and a removal O(1) amortised.
+/// outnumber the entries by more than one. So n entries stand in at most 2n + 1 places, which the invariant
+/// says, and a walk over them costs O(n), a look-up O(1), and an insertion and a removal O(1) amortised. The
+/// memory of the most places that there were is kept.
 #[derive(Drop)]
 pub struct Entries<K: Eq + Hash + Copy, V: Copy> {
     /// Where each key stands among the places.
@@ -32,13 +34,13 @@ impl<K: Eq + Hash + Copy, V: Copy> Model for Entries<K, V> {
     ghost use Rattle.std.specs.Prelude.{◌^◌, ◌-◌, length, min};
     ghost use Rattle.std.specs.HashMap.{spare};
     ghost use Rattle.std.specs.Vec.{vec_capacity};
-    ghost use Rattle.pt_process.specs.Gaps.{Listed, present, AreIndexed};
+    ghost use Rattle.pt_process.specs.Gaps.{Listed, present, AreSettled};
 
     ghost Value = { Listed K V };
 
     ghost view = { λ e. record { entries = present e.places.items; room = min (min (spare e.index) (vec_capacity e.places - length e.places.items)) (2 ^ 62 - length e.index.entries) } };
 
-    ghost invariant = { λ e. AreIndexed K.eq e.index.entries e.places.items };
+    ghost invariant = { λ e. AreSettled K.eq e.index.entries e.places.items };
 }
 
 impl<K: Eq + Hash + Copy, V: Copy> Entries<K, V> {
@@ -109,7 +111,7 @@ impl<K: Eq + Hash + Copy, V: Copy> Entries<K, V> {
             Some(place) => {
                 let (_, value) = self.places[place].unwrap();
                 self.places[place] = None;
-                self.settle();
+                settle(&mut self.index, &mut self.places);
                 Some(value)
             }
             None => None,
@@ -155,17 +157,6 @@ impl<K: Eq + Hash + Copy, V: Copy> Entries<K, V> {
         let placed: Result<_, _> = self.places.push(Some((key, value)));
         placed.unwrap();
     }
-
-    // After a removal: gaps go where they outnumber the entries, so that the cost was paid by as many removals.
-    fn settle(&mut self)
-        ensures entries { self.new.entries ≡ self.old.entries }
-        ensures room { self.old.room ≤ self.new.room }
-    {
-        if self.places.len() / 2 > self.index.len() {
-            drop_gaps(&mut self.places);
-            renumber(&mut self.index, &self.places);
-        }
-    }
 }
 
 impl<J: PartialEq + Eq + Hash + Copy, K: Eq + Hash + Copy, V: Copy> Entries<(J, K), V> {
@@ -177,6 +168,26 @@ impl<J: PartialEq + Eq + Hash + Copy, K: Eq + Hash + Copy, V: Copy> Entries<(J, 
             Some((key, _)) => first == key.0,
             None => false,
         })
+    }
+}
+
+// After a removal: gaps go where they outnumber the entries by more than one, so that the cost was paid by as
+// many removals.
+fn settle<K: Eq + Hash + Copy, V: Copy>(
+    index: &mut HashMap<K, usize>,
+    places: &mut Vec<Option<(K, V)>>,
+)
+    requires { AreIndexed K.eq index.old.entries places.old.items }
+    ensures settled { AreSettled K.eq index.new.entries places.new.items }
+    ensures entries { present places.new.items ≡ present places.old.items }
+    ensures count { length index.new.entries ≡ length index.old.entries }
+    ensures length { length places.new.items ≤ length places.old.items }
+    ensures room { spare index.new ≡ spare index.old }
+    ensures capacity { vec_capacity places.new ≡ vec_capacity places.old }
+{
+    if places.len() / 2 > index.len() {
+        drop_gaps(places);
+        renumber(index, places);
     }
 }
 

@@ -1,6 +1,6 @@
 // The items that wait for a receive.
 
-ghost use Rattle.std.specs.Prelude.{◌≡◌, ◌<◌, ◌++◌, ◌∷◌, [], length, slice_get, Some, OnOk, OnErr};
+ghost use Rattle.std.specs.Prelude.{◌≡◌, ◌*◌, ◌<◌, ◌≤◌, ◌++◌, ◌∷◌, [], drop, length, slice_get, Some, OnOk, OnErr};
 ghost use Rattle.std.specs.List.{position, remove};
 ghost use Rattle.pt_signal.specs.Values.{fits};
 ghost use Rattle.pt_process.specs.Places.{IsFirst};
@@ -11,23 +11,24 @@ use std::marker::Model;
 
 /// A queue of items, oldest first, from which a selective receive takes the first that fits.
 ///
-/// To take an item costs what was looked at before it, and to take all of n items in order costs O(n).
+/// To take an item costs what was looked at before it, and to take all of n items in order costs O(n). At least
+/// half of the places that are in use hold items that wait, which the invariant says.
 #[derive(Drop)]
 pub struct Mailbox {
     items: Vec<Item>,
-    /// How many of the items have been taken.
+    /// How many of the items have been taken: no more than wait.
     head: usize,
 }
 
 impl Model for Mailbox {
-    ghost use Rattle.std.specs.Prelude.{List, ◌≤◌, drop, length};
+    ghost use Rattle.std.specs.Prelude.{List, ◌*◌, ◌≤◌, drop, length};
     ghost use Rattle.pt_signal.specs.declared.item.Item.{Item};
 
     ghost Value = { List Item };
 
     ghost view = { λ m. drop m.head m.items.items };
 
-    ghost invariant = { λ m. m.head ≤ length m.items.items };
+    ghost invariant = { λ m. 2 * m.head ≤ length m.items.items };
 }
 
 impl Mailbox {
@@ -91,20 +92,22 @@ impl Mailbox {
         let item = self.items[taken];
         self.items[self.head..taken + 1].rotate_right(1);
         self.head += 1;
-        self.close_gap();
+        close_gap(&mut self.items, &mut self.head);
         item
     }
+}
 
-    // Closes the gap before the head where it is more than half, so that its cost was paid by as many takes.
-    fn close_gap(&mut self)
-        ensures { self.new ≡ self.old }
-    {
-        let waiting = self.items.len() - self.head;
-        if self.head > waiting {
-            self.items.rotate_left(self.head);
-            self.items.truncate(waiting);
-            self.head = 0;
-        }
+// Closes the gap before the head where it is more than half, so that its cost was paid by as many takes.
+fn close_gap(items: &mut Vec<Item>, head: &mut usize)
+    requires { head.old ≤ length items.old.items }
+    ensures waiting { drop head.new items.new.items ≡ drop head.old items.old.items }
+    ensures bounded { 2 * head.new ≤ length items.new.items }
+{
+    let waiting = items.len() - *head;
+    if *head > waiting {
+        items.rotate_left(*head);
+        items.truncate(waiting);
+        *head = 0;
     }
 }
 

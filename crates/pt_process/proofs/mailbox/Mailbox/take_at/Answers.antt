@@ -15,7 +15,7 @@ returns-clause-rest c =
     let same = c.deref_mut.ensures.value in
     let within : head + place < length seen = omega (arith, c.requires, ap length c.self.view_is, length-drop head items.items, ap length same) in
     let len : length (take head seen ++ (turned ++ drop k (drop head seen))) ≡ items.len = omega (arith, within, length-append (take head seen) (turned ++ drop k (drop head seen)), length-append turned (drop k (drop head seen)), length-take head seen, length-take k (drop head seen), length-drop head seen, length-drop k (drop head seen), c.rotate_right.ensures.len, ap length same, items.ok.0) in
-    c.close_gap.ensures
+    c.close_gap.ensures.waiting
     ∙ ap (drop (head + 1)) (with_items_is items (take head seen ++ (turned ++ drop k (drop head seen))) len)
     ∙ drop-brought_front seen turned head place k c.index-item.result.now within (omega arith) c.rotate_right.ensures.after
     ∙ ap (λ items. remove (drop head items) place) same
