@@ -43,9 +43,10 @@
 //! # Cost
 //!
 //! `send`, `trap`, `link`, `unlink`, `monitor`, `demonitor`, `spawn` and the readers take constant time, on average
-//! where a vector or a table has to grow. `receive` costs what it looks at, so the first item is O(1). `exit` costs
-//! the links, watchers and open monitors that the process has; a turn the letters that it handles, and what they
-//! end. Nothing grows with the journal or with the number of processes.
+//! where a vector or a table has to grow. `receive` costs what it looks at, so the first item is O(1); a `demonitor`
+//! that looks for a DOWN to flush is such a receive. `exit` costs the links, watchers and open monitors that the
+//! process has; a turn the letters that it handles, and what they end. Nothing grows with the journal or with the
+//! number of processes.
 //!
 //! # What is proved
 //!
