@@ -154,7 +154,8 @@ impl Desk {
             && (p.shard != self.log.desk() || p.version <= self.table.issued(p.slot))
     }
 
-    /// The pid that the next birth on this desk has, or `None` exactly where it would be refused as `Full`.
+    /// The pid that the next birth on this desk has, or `None` exactly where no slot is free: a birth is then
+    /// refused as `Full`, or as `Worn` where the clock is at its limit.
     pub fn vacant(&self) -> Option<Pid>
         ensures { result ≡ self.now.vacant }
     {
@@ -175,8 +176,8 @@ impl Desk {
     /// Sends an exit signal that no link carries: Erlang's `exit/2`, section Receiving Exit Signals.
     ///
     /// `kill` ends its receiver whether it traps or not, with the reason `killed`. A receiver that traps gets any
-    /// other as an item; of one that does not, `normal` ends it only where it is the sender itself. Refused as
-    /// `Gone`, `Worn` or `Memory`.
+    /// other as an item. One that does not is ended by it, with that reason, except that `normal` ends it only where
+    /// it is the sender itself. Refused as `Gone`, `Worn` or `Memory`.
     pub fn exit_signal(&mut self, from: Pid, to: Pid, reason: Reason) -> Result<(), Fault>
         requires { knows self.old to ≡ true }
         ensures { Calls from (Some (Event.Said from to (Signal.Exit reason))) tt self.old result self.new }
@@ -242,8 +243,8 @@ impl Desk {
 
     /// Takes the link of p with another process back: Erlang's `unlink/1`, section Links.
     ///
-    /// Nothing happens where there is none. No exit signal that the link carries reaches p from here on. Refused as
-    /// `Gone`, `Worn` or `Memory`.
+    /// Nothing happens where there is none. An exit signal that the link carries has no effect on p from here on: it
+    /// may still come, and is dropped. Refused as `Gone`, `Worn` or `Memory`.
     pub fn unlink(&mut self, p: Pid, to: Pid) -> Result<(), Fault>
         requires { knows self.old to ≡ true }
         ensures { Calls p (unlink_event self.old p to) tt self.old result self.new }
@@ -340,9 +341,9 @@ impl Desk {
 
     /// Gives a monitor of w up: Erlang's `demonitor/2`, section Monitors. It answers whether it wrote an event.
     ///
-    /// A monitor is open until its DOWN comes to w. Of an open one no DOWN comes any more. Of any other the DOWN is
-    /// taken out of the mailbox, where `flush` asks for it and it waits. Refused as `Gone`, or where there is an
-    /// event to write, as `Worn` or `Memory`.
+    /// A monitor is open until its DOWN comes to w, or w gives it up or ends. Of an open one no DOWN joins the mailbox
+    /// any more. Of any other the DOWN is taken out of the mailbox, where `flush` asks for it and it waits. Refused as
+    /// `Gone`, or where there is an event to write, as `Worn` or `Memory`.
     pub fn demonitor(&mut self, w: Pid, monitor: Ref, flush: bool) -> Result<bool, Fault>
         ensures { Calls w (demonitor_event self.old w monitor flush) (is_some (demonitor_event self.old w monitor flush)) self.old result self.new }
     {
@@ -373,8 +374,8 @@ impl Desk {
     /// Ends p with this reason: Erlang's `exit/1`, section Process Termination.
     ///
     /// Each process that it holds a link with is sent an exit signal, then each watcher its DOWN, then each target of
-    /// an open monitor is told that it is watched no more. The items that wait are dropped, and the slot is free.
-    /// Refused as `Gone`, `Worn` or `Memory`.
+    /// an open monitor is told that it is watched no more. The items that wait are dropped. The slot is free for its
+    /// next version, or retired where p had the top one. Refused as `Gone`, `Worn` or `Memory`.
     pub fn exit(&mut self, p: Pid, reason: Reason) -> Result<(), Fault>
         ensures { Calls p (Some (Event.Left p reason)) tt self.old result self.new }
     {
