@@ -15,7 +15,7 @@ abbrev pub Handles : DeskState → Result Bool Stop → DeskState → Type 0
 Handles old (Ok true) new = (l : Letter) × IsFirst l old × (max old.clock l.stamp < 2 ^ 62) × (new ≡ handled l old)
 Handles old (Ok false) new = (old.mark ≡ 0) × (new ≡ old)
 Handles old (Err Worn) new = (l : Letter) × IsFirst l old × (2 ^ 62 ≤ max old.clock l.stamp) × (new ≡ old)
-Handles old (Err Memory) new = (0 < old.mark) × (new ≡ old)
+Handles old (Err Memory) new = (l : Letter) × IsFirst l old × (max old.clock l.stamp < 2 ^ 62) × (new ≡ old)
 
 -- the desk after its lane was filled from the outbox
 abbrev pub filled : DeskState → DeskState
@@ -33,11 +33,13 @@ received (suc n) d = handled_if (slice_get (received n d).queue 0) (received n d
 -- a turn ends where its budget is used up or the lane is empty, unless a refusal stops it at the oldest letter, which stays
 abbrev pub EndsWith : Option Stop → DeskState → ℕ → ℕ → Type 0
 EndsWith None new count budget = (count ≡ budget) ⊎ (new.mark ≡ 0)
-EndsWith (Some Worn) new count budget = (l : Letter) × IsFirst l new × (2 ^ 62 ≤ max new.clock l.stamp)
-EndsWith (Some Memory) new count budget = 0 < new.mark
+EndsWith (Some Worn) new count budget = (count < budget) × (l : Letter) × IsFirst l new × (2 ^ 62 ≤ max new.clock l.stamp)
+EndsWith (Some Memory) new count budget = (count < budget) × (l : Letter) × IsFirst l new × (max new.clock l.stamp < 2 ^ 62)
 
 pub record Turns (budget : ℕ) (old : DeskState) (turn : Turned) (new : DeskState) : Type 0 where
   pub posted : turn.posted + old.mark ≡ min old.config.lane (length old.queue)
   pub receipts : new ≡ received turn.handled (filled old)
   pub within : turn.handled ≤ budget
+  -- so each of them was in the lane when the turn began to handle, and what is sent meanwhile waits for the next turn
+  pub from_lane : turn.handled + new.mark ≡ (filled old).mark
   pub ends : EndsWith turn.stopped new turn.handled budget

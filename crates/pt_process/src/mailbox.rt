@@ -90,8 +90,9 @@ impl Mailbox {
     {
         let taken = self.head + place;
         let item = self.items[taken];
-        self.items[self.head..taken + 1].rotate_right(1);
-        self.head += 1;
+        let next = self.head + 1;
+        self.items.copy_within(self.head..taken, next);
+        self.head = next;
         close_gap(&mut self.items, &mut self.head);
         item
     }
@@ -105,7 +106,7 @@ fn close_gap(items: &mut Vec<Item>, head: &mut usize)
 {
     let waiting = items.len() - *head;
     if *head > waiting {
-        items.rotate_left(*head);
+        items.copy_within(*head.., 0);
         items.truncate(waiting);
         *head = 0;
     }

@@ -9,6 +9,7 @@ ghost use Rattle.pt_signal.specs.Process.{held};
 ghost use Rattle.pt_history.specs.declared.cause.Cause.TheVariants.{NotAlive};
 ghost use Rattle.pt_history.specs.declared.event.Event.TheVariants.{Born, Said, Came, Took};
 ghost use Rattle.pt_history.specs.History.{reason_of, is_unborn, is_the, is_between, life, alive, state, flying, makes_link, makes_ref, made_link, made_ref, May};
+ghost use Rattle.pt_history.specs.Words.{open_monitors};
 ghost use Rattle.pt_history.specs.Judging.{cause, may_say, lacks, unlawful_link, is_item, is_ids, is_signal, IsHeldBy};
 
 use crate::judging::flights::{Flight, dispatch, land, oldest};
@@ -131,10 +132,13 @@ impl State {
         }
     }
 
-    /// Whether the monitor is open at the process that made it, or was at its end.
+    /// Whether the monitor is open at the process that made it: not where that process has ended.
     pub fn watching(&self, watcher: Pid, monitor: Ref) -> bool
-        ensures { result ≡ is_some (lookup (same_ref monitor) (state [] self.now watcher).watching) }
+        ensures { result ≡ is_some (lookup (same_ref monitor) (open_monitors (life [] self.now watcher))) }
     {
+        if !self.alive(watcher) {
+            return false;
+        }
         match self.holdings(watcher) {
             Some(held) => target_of(held.watching(), monitor).is_some(),
             None => false,
