@@ -1,8 +1,7 @@
 -- The first of a list that passes a test, and the list without it.
-use Rattle.std.proofs.Common.{◌≡◌, ℕ, suc, ◌+◌, ◌<◌, ◌≤◌, Bool, true, false, not, cond, ltb, List, [], ◌∷◌, ◌++◌, length, take, drop, refl, ap, sym, subst, ◌∙◌, arith, append_assoc, length-take, Option, Some, None}
+use Rattle.std.proofs.Common.{◌≡◌, ℕ, suc, ◌+◌, ◌-◌, ◌<◌, ◌≤◌, Bool, true, false, not, cond, ltb, List, [], ◌∷◌, ◌++◌, length, get_or, take, drop, refl, ap, sym, subst, ◌∙◌, arith, length-append, length-take, length-drop, Option, Some, None}
 use Rattle.std.specs.List.{find, position, position_or_len, remove, slice_get}
-use Rattle.std.proofs.lemmas.List.{drop_at, drop-drop}
-use lib.Seq.{paste}
+use Rattle.std.proofs.lemmas.List.{take_at, drop_at, take_more, drop-drop}
 use Rattle.std.proofs.lemmas.Grind.{common_steps}
 use Rattle.std.proofs.lemmas.Bool.Decides.{nat_tests}
 use Rattle.std.proofs.lemmas.Bool.{ltb-true}
@@ -17,15 +16,29 @@ IsFirstPlace test items None = (find test items ≡ None) × (without_first test
 IsFirstPlace test items (Some k) = (k < length items) × (find test items ≡ slice_get items k) × (remove items k ≡ without_first test items)
 
 module _ {X : Type 0} where
-  -- the items before a place move up by one, over the item there, and then the head moves past the first of them
-  pub drop-moved_up : (xs : List X) (head place n : ℕ) → head + place < length xs → n ≡ place
-      → drop (head + 1) (paste xs (head + 1) (drop head xs) n) ≡ remove (drop head xs) place
-  drop-moved_up xs head place n within same =
-      let front : length (take (head + 1) xs) ≡ head + 1 = omega (arith, length-take (head + 1) xs) in
-      ap (drop (head + 1)) (append_assoc (take (head + 1) xs) (take n (drop head xs)) (drop (head + 1 + n) xs))
-      ∙ drop_at (take (head + 1) xs) (take n (drop head xs) ++ drop (head + 1 + n) xs) (head + 1) front
-      ∙ ap (λ m. take m (drop head xs) ++ drop (head + 1 + n) xs) same
-      ∙ ap (λ l. take place (drop head xs) ++ l) (ap (λ m. drop m xs) (omega arith) ∙ sym (drop-drop (suc place) head xs))
+  spun : (front : List X) (z : X) (back : List X) (all : List X) → all ≡ front ++ z ∷ []
+      → drop 1 ((drop (length all - 1) all ++ take (length all - 1) all) ++ back) ≡ front ++ back
+  spun front z back all whole =
+      let n : length front ≡ length all - 1 = omega (arith, ap length whole, length-append front (z ∷ [])) in
+      let last : drop (length all - 1) all ≡ z ∷ [] = ap (drop (length all - 1)) whole ∙ drop_at front (z ∷ []) _ n in
+      let rest : take (length all - 1) all ≡ front = ap (take (length all - 1)) whole ∙ take_at front (z ∷ []) _ n in
+      rw (last, rest) refl
+
+  -- the item at a place goes before those before it, and then the head moves past it
+  pub drop-brought_front : (xs ys : List X) (head place k : ℕ) (d : X) → head + place < length xs → k ≡ place + 1
+      → ys ≡ drop (length (take k (drop head xs)) - 1) (take k (drop head xs)) ++ take (length (take k (drop head xs)) - 1) (take k (drop head xs))
+      → drop (head + 1) (take head xs ++ (ys ++ drop k (drop head xs))) ≡ remove (drop head xs) place
+  drop-brought_front xs ys head place k d within wide turned =
+      let zs = drop head xs in
+      let short : place < length zs = omega (arith, length-drop head xs) in
+      let whole : take k zs ≡ take place zs ++ get_or zs place d ∷ [] = ap (λ n. take n zs) wide ∙ take_more zs place d short in
+      let front : length (take head xs) ≡ head = omega (arith, length-take head xs) in
+      let past : k ≡ suc place = omega arith in
+      sym (drop-drop 1 head _)
+      ∙ ap (drop 1) (drop_at (take head xs) (ys ++ drop k zs) head front)
+      ∙ ap (λ l. drop 1 (l ++ drop k zs)) turned
+      ∙ spun (take place zs) (get_or zs place d) (drop k zs) (take k zs) whole
+      ∙ ap (λ n. take place zs ++ drop n zs) past
 
 module _ {X : Type 0} (test : X → Bool) where
   step : (b : Bool) (i : X) (items rest : List X) (n : ℕ) → remove items n ≡ rest

@@ -90,9 +90,8 @@ impl Mailbox {
     {
         let taken = self.head + place;
         let item = self.items[taken];
-        let next = self.head + 1;
-        self.items.copy_within(self.head..taken, next);
-        self.head = next;
+        self.items[self.head..taken + 1].rotate_right(1);
+        self.head += 1;
         close_gap(&mut self.items, &mut self.head);
         item
     }

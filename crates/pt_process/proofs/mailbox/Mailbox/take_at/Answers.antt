@@ -1,15 +1,22 @@
-use Rattle.std.proofs.Common.{◌+◌, ◌-◌, ◌<◌, length, drop, ap, ◌∙◌, arith, length-drop}
+use Rattle.std.proofs.Common.{◌≡◌, ◌+◌, ◌-◌, ◌<◌, ◌++◌, length, take, drop, ap, ◌∙◌, arith, length-drop, length-take, length-append}
 use Rattle.std.specs.List.{remove}
-use Rattle.pt_process.proofs.PlaceLemmas.{drop-moved_up}
+use Rattle.std.proofs.lemmas.List.{with_items_is}
+use Rattle.pt_process.proofs.PlaceLemmas.{drop-brought_front}
 use Rattle.pt_process.proofs.mailbox.Mailbox.take_at.Goals as goal
 
 pub returns-clause-rest : goal.returns-clause-rest
 returns-clause-rest c =
     let place = c.args.place in
     let head = c.self.inside.head in
-    let items = c.self.inside.items.items in
-    let within : head + place < length items = omega (arith, c.requires, ap length c.self.view_is, length-drop head items) in
+    let items = c.self.inside.items in
+    let seen = c.deref_mut.result.now in
+    let turned = c.rotate_right.new.self in
+    let k = head + place + 1 - head in
+    let same = c.deref_mut.ensures.value in
+    let within : head + place < length seen = omega (arith, c.requires, ap length c.self.view_is, length-drop head items.items, ap length same) in
+    let len : length (take head seen ++ (turned ++ drop k (drop head seen))) ≡ items.len = omega (arith, within, length-append (take head seen) (turned ++ drop k (drop head seen)), length-append turned (drop k (drop head seen)), length-take head seen, length-take k (drop head seen), length-drop head seen, length-drop k (drop head seen), c.rotate_right.ensures.len, ap length same, items.ok.0) in
     c.close_gap.ensures.waiting
-    ∙ ap (drop (head + 1)) c.copy_within.ensures.items
-    ∙ drop-moved_up items head place (head + place - head) within (omega arith)
+    ∙ ap (drop (head + 1)) (with_items_is items (take head seen ++ (turned ++ drop k (drop head seen))) len)
+    ∙ drop-brought_front seen turned head place k c.index-item.result.now within (omega arith) c.rotate_right.ensures.after
+    ∙ ap (λ items. remove (drop head items) place) same
     ∙ ap (λ items. remove items place) c.self.view_is
