@@ -3,7 +3,7 @@ use Rattle.std.proofs.Common.{◌≡◌, ℕ, List, [], ◌∷◌, ◌++◌, ◌
 use Rattle.std.proofs.lemmas.Bool.{eq-eqb}
 use Rattle.pt_signal.specs.declared.letter.Letter.{Letter}
 use Rattle.pt_signal.specs.Process.{Sent}
-use Rattle.pt_history.specs.Journal.{Agrees, IsReceiptOf, letter}
+use Rattle.pt_events.specs.Journal.{Agrees, IsReceiptOf, letter}
 use Rattle.pt_desk.proofs.Near.{Every}
 
 pub Agrees-posted : (posted gots over more : List Letter) → Agrees posted gots over → Agrees (posted ++ more) gots (over ++ more)

@@ -12,9 +12,9 @@ use Rattle.pt_signal.specs.declared.letter.Letter.{Letter}
 use Rattle.pt_signal.specs.Values.{same_pid}
 use Rattle.pt_signal.specs.Process.{ProcessState, fresh}
 use Rattle.pt_signal.proofs.Same.{same_pid_is}
-use Rattle.pt_history.specs.declared.event.Event.TheVariants.{Born}
-use Rattle.pt_history.specs.History.{Past, Phase, unborn, living, ended, life, linked, while_living, is_the, is_ended, is_living, made_link, MayBear}
-use Rattle.pt_history.specs.Journal.{IsLinkAt, IsOf}
+use Rattle.pt_events.specs.declared.event.Event.TheVariants.{Born}
+use Rattle.pt_events.specs.History.{Past, Phase, unborn, living, ended, life, linked, while_living, is_the, is_ended, is_living, made_link, MayBear}
+use Rattle.pt_events.specs.Journal.{IsLinkAt, IsOf}
 use Rattle.pt_slots.specs.declared.Key.{Key}
 use Rattle.pt_slots.specs.State.{at, issued, next_key}
 use Rattle.pt_slots.specs.Calls.{Inserted, names}

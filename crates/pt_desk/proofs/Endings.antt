@@ -13,8 +13,8 @@ use Rattle.pt_signal.specs.declared.signal.Signal.{Signal}
 use Rattle.pt_signal.specs.declared.signal.Signal.TheVariants.{Message, Link, Unlink, LinkExit, Monitor, Demonitor}
 use Rattle.pt_signal.specs.Values.{same_pid, same_ref}
 use Rattle.pt_signal.specs.Process.{ProcessState, Handled, held, holds_any, handle, obey, Verdict, drops, queues, ends, verdict, link_exit, down, Sent, sent, estate}
-use Rattle.pt_history.specs.Journal.{letter}
-use Rattle.pt_history.proofs.Phases.{each_branch}
+use Rattle.pt_events.specs.Journal.{letter}
+use Rattle.pt_events.proofs.Phases.{each_branch}
 
 pub pushed_more : (owed : List Sent) (i n : ℕ) (me from to : Pid) (x : Signal) (queue before after : List Letter) → i < length owed → me ≡ from
     → slice_get owed i ≡ Some (sent me to x) → before ≡ queue ++ map (letter n) (take i owed)

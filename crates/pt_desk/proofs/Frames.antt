@@ -4,9 +4,9 @@ use Rattle.pt_signal.specs.declared.pid.Pid.{Pid}
 use Rattle.pt_signal.specs.Values.{same_pid}
 use Rattle.pt_signal.specs.Process.{ProcessState}
 use Rattle.pt_signal.proofs.Same.{same_pid_is}
-use Rattle.pt_history.specs.declared.event.Event.{Event}
-use Rattle.pt_history.specs.History.{Past, Phase, unborn, living, ended, touches, is_living}
-use Rattle.pt_history.proofs.Steps.{untouched}
+use Rattle.pt_events.specs.declared.event.Event.{Event}
+use Rattle.pt_events.specs.History.{Past, Phase, unborn, living, ended, touches, is_living}
+use Rattle.pt_events.proofs.Steps.{untouched}
 use Rattle.pt_desk.specs.Sound.{resident, of_phase}
 
 abbrev pub Reading : Type 0

@@ -5,11 +5,11 @@ use Rattle.pt_signal.specs.declared.ids.Ref.{Ref}
 use Rattle.pt_signal.specs.declared.ids.LinkId.{LinkId}
 use Rattle.pt_signal.specs.declared.signal.Signal.TheVariants.{Link, Monitor}
 use Rattle.pt_signal.specs.Values.{same_link, same_ref}
-use Rattle.pt_history.specs.declared.event.Event.{Event}
-use Rattle.pt_history.specs.declared.event.Event.TheVariants.{Born, Said}
-use Rattle.pt_history.specs.declared.event.Stamped.{Stamped}
-use Rattle.pt_history.specs.History.{makes_link, makes_ref, made_link, made_ref, is_this}
-use Rattle.pt_history.specs.Journal.{events, clock, IsLocal, IsNewAt, IsLinkAt}
+use Rattle.pt_events.specs.declared.event.Event.{Event}
+use Rattle.pt_events.specs.declared.event.Event.TheVariants.{Born, Said}
+use Rattle.pt_events.specs.declared.event.Stamped.{Stamped}
+use Rattle.pt_events.specs.History.{makes_link, makes_ref, made_link, made_ref, is_this}
+use Rattle.pt_events.specs.Journal.{events, clock, IsLocal, IsNewAt, IsLinkAt}
 
 other_link : (i j : LinkId) (n : ℕ) → j.number ≡ n → n < i.number → same_link i j ≡ false
 other_link i j n at new = grind (arith, nat_tests)

@@ -6,10 +6,10 @@ use Rattle.pt_signal.specs.declared.reason.Reason.{Reason}
 use Rattle.pt_signal.specs.declared.letter.Letter.{Letter}
 use Rattle.pt_signal.specs.Process.{ProcessState, handle}
 use Rattle.pt_signal.proofs.Same.{same_pid_refl}
-use Rattle.pt_history.specs.declared.event.Event.{Event}
-use Rattle.pt_history.specs.declared.event.Event.TheVariants.{Came}
-use Rattle.pt_history.specs.History.{Phase, unborn, living, ended, life, gets, live_or_end, got_sends, sent_by}
-use Rattle.pt_history.specs.Journal.{letter}
+use Rattle.pt_events.specs.declared.event.Event.{Event}
+use Rattle.pt_events.specs.declared.event.Event.TheVariants.{Came}
+use Rattle.pt_events.specs.History.{Phase, unborn, living, ended, life, gets, live_or_end, got_sends, sent_by}
+use Rattle.pt_events.specs.Journal.{letter}
 use Rattle.pt_slots.specs.State.{issued}
 use Rattle.pt_desk.specs.declared.config.Config.{Config}
 use Rattle.pt_desk.specs.DeskState as desks

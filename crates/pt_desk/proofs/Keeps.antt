@@ -7,11 +7,11 @@ use Rattle.std.proofs.lemmas.List.Elements.{filter-append}
 use Rattle.pt_signal.specs.declared.pid.Pid.{Pid}
 use Rattle.pt_signal.specs.declared.letter.Letter.{Letter}
 use Rattle.pt_signal.specs.Process.{Sent, sent}
-use Rattle.pt_history.specs.declared.event.Event.{Event}
-use Rattle.pt_history.specs.declared.event.Event.TheVariants.{Born, Said, Came, Took, Flag, Left}
-use Rattle.pt_history.specs.History.{sent_by}
-use Rattle.pt_history.specs.Journal.{letter, got, gots, letters, posts, Agrees, IsHome, MayHere, IsNewAt, IsKnown}
-use Rattle.pt_history.proofs.Homes.{AllFrom, from_home}
+use Rattle.pt_events.specs.declared.event.Event.{Event}
+use Rattle.pt_events.specs.declared.event.Event.TheVariants.{Born, Said, Came, Took, Flag, Left}
+use Rattle.pt_events.specs.History.{sent_by}
+use Rattle.pt_events.specs.Journal.{letter, got, gots, letters, posts, Agrees, IsHome, MayHere, IsNewAt, IsKnown}
+use Rattle.pt_events.proofs.Homes.{AllFrom, from_home}
 use Rattle.pt_desk.specs.DeskState.{DeskState, past, written, handled}
 use Rattle.pt_desk.specs.Turns.{IsFirst}
 use Rattle.pt_desk.specs.Sound.{IsSound, BornAreIssued, IsNear, AreWithin, resident, issued_in}

@@ -5,10 +5,10 @@ use Rattle.pt_signal.specs.declared.pid.Pid.{Pid}
 use Rattle.pt_signal.specs.declared.reason.Reason.{Reason}
 use Rattle.pt_signal.specs.declared.letter.Letter.{Letter}
 use Rattle.pt_signal.specs.Process.{ProcessState}
-use Rattle.pt_history.specs.declared.event.Event.TheVariants.{Left}
-use Rattle.pt_history.specs.History.{living, is_living, left_sends, sent_by}
-use Rattle.pt_history.specs.Journal.{letter}
-use Rattle.pt_history.proofs.Steps.{left}
+use Rattle.pt_events.specs.declared.event.Event.TheVariants.{Left}
+use Rattle.pt_events.specs.History.{living, is_living, left_sends, sent_by}
+use Rattle.pt_events.specs.Journal.{letter}
+use Rattle.pt_events.proofs.Steps.{left}
 use Rattle.pt_desk.specs.declared.config.Config.{Config}
 use Rattle.pt_desk.specs.DeskState.{DeskState, past, after}
 use Rattle.pt_desk.specs.LogState.{LogState, IsWritten, IsSameLog}

@@ -13,12 +13,12 @@ use Rattle.pt_signal.specs.declared.signal.Signal.{Signal}
 use Rattle.pt_signal.specs.declared.signal.Signal.TheVariants.{Message, Link, Unlink, LinkExit, Monitor, Demonitor}
 use Rattle.pt_signal.specs.Values.{without_first, same_pid, same_ref}
 use Rattle.pt_signal.specs.Process.{ProcessState, fresh, held, enter_at, cut_at, leave_at, without_ids, keep, same_watch, handle, say, obey, Verdict, drops, queues, ends, verdict, link_exit, down, Sent, sent, estate, bounce}
-use Rattle.pt_history.specs.declared.event.Event.{Event}
-use Rattle.pt_history.specs.declared.event.Event.TheVariants.{Born, Said, Came, Took, Flag, Left}
-use Rattle.pt_history.specs.declared.event.Stamped.{Stamped}
-use Rattle.pt_history.specs.History.{Past, Phase, unborn, living, ended, life, change, touches, newborn, while_living, linked, gets, leaves, live_or_end, sent_by, got_sends, left_sends, end_sends, is_unborn}
-use Rattle.pt_history.specs.Journal.{events, clock, IsLocal, IsHome, IsNewAt, IsOf, IsKnown}
-use Rattle.pt_history.proofs.Phases.{each_branch, after_born}
+use Rattle.pt_events.specs.declared.event.Event.{Event}
+use Rattle.pt_events.specs.declared.event.Event.TheVariants.{Born, Said, Came, Took, Flag, Left}
+use Rattle.pt_events.specs.declared.event.Stamped.{Stamped}
+use Rattle.pt_events.specs.History.{Past, Phase, unborn, living, ended, life, change, touches, newborn, while_living, linked, gets, leaves, live_or_end, sent_by, got_sends, left_sends, end_sends, is_unborn}
+use Rattle.pt_events.specs.Journal.{events, clock, IsLocal, IsHome, IsNewAt, IsOf, IsKnown}
+use Rattle.pt_events.proofs.Phases.{each_branch, after_born}
 use Rattle.pt_desk.specs.Sound.{IsNear, AllNear}
 
 -- lists ---

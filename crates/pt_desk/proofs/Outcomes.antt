@@ -13,10 +13,10 @@ use Rattle.pt_signal.specs.declared.letter.Letter.{Letter}
 use Rattle.pt_signal.specs.declared.signal.Signal.TheVariants.{Link, Unlink}
 use Rattle.pt_signal.specs.Values.{fits, same_pid, same_ref}
 use Rattle.pt_signal.specs.Process.{ProcessState, held}
-use Rattle.pt_history.specs.declared.event.Event.{Event}
-use Rattle.pt_history.specs.declared.event.Event.TheVariants.{Said, Took}
-use Rattle.pt_history.specs.History.{living, life, is_living, state_of, sent_by}
-use Rattle.pt_history.specs.Journal.{letter}
+use Rattle.pt_events.specs.declared.event.Event.{Event}
+use Rattle.pt_events.specs.declared.event.Event.TheVariants.{Said, Took}
+use Rattle.pt_events.specs.History.{living, life, is_living, state_of, sent_by}
+use Rattle.pt_events.specs.Journal.{letter}
 use Rattle.pt_slots.specs.State.{next_key}
 use Rattle.pt_process.specs.Places.{IsFirst}
 use Rattle.pt_desk.specs.declared.config.Config.{Config}

@@ -9,11 +9,11 @@ use Rattle.pt_signal.specs.declared.signal.Signal.{Signal}
 use Rattle.pt_signal.specs.declared.signal.Signal.TheVariants.{Message, Link, Unlink, Monitor, Demonitor, LinkExit}
 use Rattle.pt_signal.specs.Values.{fits, without_first}
 use Rattle.pt_signal.specs.Process.{ProcessState, say}
-use Rattle.pt_history.specs.declared.event.Event.{Event}
-use Rattle.pt_history.specs.declared.event.Event.TheVariants.{Said, Took, Flag}
-use Rattle.pt_history.specs.History.{living, life, is_unborn, MaySay}
-use Rattle.pt_history.specs.Journal.{IsNewAt}
-use Rattle.pt_history.proofs.Steps.{said, took, flagged}
+use Rattle.pt_events.specs.declared.event.Event.{Event}
+use Rattle.pt_events.specs.declared.event.Event.TheVariants.{Said, Took, Flag}
+use Rattle.pt_events.specs.History.{living, life, is_unborn, MaySay}
+use Rattle.pt_events.specs.Journal.{IsNewAt}
+use Rattle.pt_events.proofs.Steps.{said, took, flagged}
 use Rattle.pt_desk.specs.declared.config.Config.{Config}
 use Rattle.pt_desk.specs.DeskState.{DeskState, past}
 use Rattle.pt_desk.specs.Plain.{IsPlain}

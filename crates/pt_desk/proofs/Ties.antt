@@ -12,9 +12,9 @@ use Rattle.pt_signal.specs.declared.signal.Signal.{Signal}
 use Rattle.pt_signal.specs.declared.signal.Signal.TheVariants.{Link, Unlink, Monitor, Demonitor}
 use Rattle.pt_signal.specs.Values.{same_pid, same_ref}
 use Rattle.pt_signal.specs.Process.{ProcessState, held, say}
-use Rattle.pt_history.specs.declared.event.Event.{Event}
-use Rattle.pt_history.specs.declared.event.Event.TheVariants.{Said}
-use Rattle.pt_history.specs.History.{living, life}
+use Rattle.pt_events.specs.declared.event.Event.{Event}
+use Rattle.pt_events.specs.declared.event.Event.TheVariants.{Said}
+use Rattle.pt_events.specs.History.{living, life}
 use Rattle.pt_slots.specs.State.{next_key}
 use Rattle.pt_desk.specs.declared.config.Config.{Config}
 use Rattle.pt_desk.specs.declared.fault.Fault.{Fault}

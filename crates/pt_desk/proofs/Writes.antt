@@ -6,9 +6,9 @@ use Rattle.pt_signal.specs.declared.pid.Pid.{Pid}
 use Rattle.pt_signal.specs.declared.letter.Letter.{Letter}
 use Rattle.pt_signal.specs.Values.{same_pid}
 use Rattle.pt_signal.specs.Process.{ProcessState}
-use Rattle.pt_history.specs.declared.event.Event.{Event}
-use Rattle.pt_history.specs.History.{living, life, touches, sent_by}
-use Rattle.pt_history.specs.Journal.{letter, IsHome, MayHere, IsNewAt, IsKnown}
+use Rattle.pt_events.specs.declared.event.Event.{Event}
+use Rattle.pt_events.specs.History.{living, life, touches, sent_by}
+use Rattle.pt_events.specs.Journal.{letter, IsHome, MayHere, IsNewAt, IsKnown}
 use Rattle.pt_slots.specs.State.{at, issued}
 use Rattle.pt_desk.specs.declared.config.Config.{Config}
 use Rattle.pt_desk.specs.DeskState.{DeskState, past}

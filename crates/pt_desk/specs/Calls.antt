@@ -13,8 +13,8 @@ use Rattle.pt_signal.specs.declared.ids.LinkId.{LinkId}
 use Rattle.pt_signal.specs.declared.item.Item.{Item}
 use Rattle.pt_signal.specs.declared.item.Pick.{Pick}
 use Rattle.pt_signal.specs.declared.signal.Signal.TheVariants.{Link, Unlink, Monitor, Demonitor}
-use Rattle.pt_history.specs.declared.event.Event.{Event}
-use Rattle.pt_history.specs.declared.event.Event.TheVariants.{Born, Said, Took}
+use Rattle.pt_events.specs.declared.event.Event.{Event}
+use Rattle.pt_events.specs.declared.event.Event.TheVariants.{Born, Said, Took}
 use Rattle.pt_desk.specs.declared.fault.Fault.{Fault}
 use Rattle.pt_desk.specs.declared.fault.Fault.TheVariants.{Full, Memory, Worn, Gone, Myself}
 use Rattle.pt_desk.specs.DeskState.{DeskState, lives, state_in, after}

@@ -5,8 +5,8 @@ use Rattle.pt_signal.specs.declared.reason.Reason.{Reason}
 use Rattle.pt_signal.specs.declared.letter.Letter.{Letter}
 use Rattle.pt_signal.specs.Values.{same_pid}
 use Rattle.pt_signal.specs.Process.{ProcessState, Handled, handle, Sent, estate, bounce}
-use Rattle.pt_history.specs.History.{end_sends}
-use Rattle.pt_history.specs.Journal.{letter}
+use Rattle.pt_events.specs.History.{end_sends}
+use Rattle.pt_events.specs.Journal.{letter}
 use Rattle.pt_slots.specs.State.{next_key}
 use Rattle.pt_desk.specs.DeskState.{vacated}
 use Rattle.pt_desk.specs.Residents.{Table, resident_at, in_place, vacant_at, Puts, SameSettings}

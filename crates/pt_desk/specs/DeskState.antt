@@ -4,11 +4,11 @@ use Rattle.pt_signal.specs.declared.pid.Pid.{Pid}
 use Rattle.pt_signal.specs.declared.letter.Letter.{Letter}
 use Rattle.pt_signal.specs.declared.signal.Signal.{Signal}
 use Rattle.pt_signal.specs.Process.{ProcessState, handle}
-use Rattle.pt_history.specs.declared.event.Event.{Event}
-use Rattle.pt_history.specs.declared.event.Event.TheVariants.{Came, Left}
-use Rattle.pt_history.specs.declared.event.Stamped.{Stamped}
-use Rattle.pt_history.specs.History.{Past, Phase, living, life, is_living, state_of, sent_by}
-use Rattle.pt_history.specs.Journal.{events, letter}
+use Rattle.pt_events.specs.declared.event.Event.{Event}
+use Rattle.pt_events.specs.declared.event.Event.TheVariants.{Came, Left}
+use Rattle.pt_events.specs.declared.event.Stamped.{Stamped}
+use Rattle.pt_events.specs.History.{Past, Phase, living, life, is_living, state_of, sent_by}
+use Rattle.pt_events.specs.Journal.{events, letter}
 use Rattle.pt_desk.specs.declared.config.Config.{Config}
 
 pub record DeskState : Type 0 where

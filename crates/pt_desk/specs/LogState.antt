@@ -1,7 +1,7 @@
 -- The clock and the journal of a desk.
 use Rattle.std.specs.Prelude.{◌≡◌, ℕ, ◌^◌, ◌<◌, ◌≤◌, List, [], ◌∷◌, Result, Ok, Err, max, ⊤}
-use Rattle.pt_history.specs.declared.event.Event.{Event}
-use Rattle.pt_history.specs.declared.event.Stamped.{Stamped}
+use Rattle.pt_events.specs.declared.event.Event.{Event}
+use Rattle.pt_events.specs.declared.event.Stamped.{Stamped}
 use Rattle.pt_desk.specs.declared.turned.Stop.{Stop}
 use Rattle.pt_desk.specs.declared.turned.Stop.TheVariants.{Memory, Worn}
 

@@ -3,10 +3,10 @@ use Rattle.std.specs.Prelude.{◌≡◌, ℕ, ◌<◌, ◌≤◌, Bool, ◌&&◌
 use Rattle.pt_signal.specs.declared.pid.Pid.{Pid}
 use Rattle.pt_signal.specs.declared.letter.Letter.{Letter}
 use Rattle.pt_signal.specs.Process.{ProcessState}
-use Rattle.pt_history.specs.declared.event.Event.{Event}
-use Rattle.pt_history.specs.declared.event.Event.TheVariants.{Born, Said, Came}
-use Rattle.pt_history.specs.History.{Past, Phase, living, life, is_unborn}
-use Rattle.pt_history.specs.Journal.{IsLocal, clock, posts, gots, Agrees}
+use Rattle.pt_events.specs.declared.event.Event.{Event}
+use Rattle.pt_events.specs.declared.event.Event.TheVariants.{Born, Said, Came}
+use Rattle.pt_events.specs.History.{Past, Phase, living, life, is_unborn}
+use Rattle.pt_events.specs.Journal.{IsLocal, clock, posts, gots, Agrees}
 use Rattle.pt_desk.specs.DeskState.{DeskState, past}
 use Rattle.pt_desk.specs.Opening.{IsInRange}
 

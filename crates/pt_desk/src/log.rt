@@ -4,7 +4,7 @@ ghost use Rattle.std.specs.Prelude.{◌≡◌, ◌+◌, ◌<◌, ◌^◌, [], ma
 ghost use Rattle.pt_desk.specs.LogState.{IsWritten, Prepares};
 
 use crate::turned::Stop;
-use pt_history::{Event, Journal, Stamped};
+use pt_events::{Event, Journal, Stamped};
 use std::alloc::Global;
 use std::marker::Model;
 

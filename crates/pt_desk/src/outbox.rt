@@ -3,7 +3,7 @@
 ghost use Rattle.std.specs.Prelude.{◌≡◌, ◌+◌, ◌≤◌, ◌++◌, length, drop, map, slice_get, IsSome, Some, OnOk, OnErr};
 ghost use Rattle.std.specs.VecDeque.{deque_len, deque_capacity};
 ghost use Rattle.pt_signal.specs.Process.{bounce};
-ghost use Rattle.pt_history.specs.Journal.{letter};
+ghost use Rattle.pt_events.specs.Journal.{letter};
 ghost use Rattle.pt_desk.specs.Residents.{in_place, resident_at, IsSameTable};
 ghost use Rattle.pt_desk.specs.Deliveries.{IsItself, owed_by, Retires, Delivers};
 

@@ -2,7 +2,7 @@
 
 ghost use Rattle.std.specs.Prelude.{◌≡◌, Some, IsSome, IfOk, OnOk, OnErr};
 ghost use Rattle.pt_signal.specs.Process.{fresh};
-ghost use Rattle.pt_history.specs.History.{linked};
+ghost use Rattle.pt_events.specs.History.{linked};
 ghost use Rattle.pt_slots.specs.State.{next_key};
 ghost use Rattle.pt_slots.specs.Calls.{Inserted};
 ghost use Rattle.pt_desk.specs.Residents.{vacant_at, Changes, IsSameTable, HasRoomFor};

@@ -44,20 +44,12 @@
 //!
 //! Adding an event takes constant time on average. `merge` takes two pieces of memory and for each event the
 //! logarithm of the number of journals. `replay` takes time that grows with the square of the number of events.
-#![tactic(auto, unfolding(crate::specs::Text::parent_text, crate::specs::Text::link_text, crate::specs::Text::switch_text, crate::specs::Text::event_text, crate::specs::Text::stamped_text))]
+#![tactic(auto)]
 
-mod cause;
-mod event;
-mod journal;
-mod judging;
-pub mod laws;
-pub mod links;
-mod merging;
 #[cfg(test)]
 mod tests;
 
-pub use cause::Cause;
-pub use event::{Event, Stamped};
-pub use journal::Journal;
-pub use judging::{State, replay};
-pub use merging::merge;
+pub use pt_events::{Event, Journal, Stamped};
+pub use pt_judge::{Cause, State, replay};
+pub use pt_laws::{laws, links};
+pub use pt_merge::merge;

@@ -4,10 +4,10 @@ use Rattle.pt_signal.specs.declared.pid.Pid.{Pid}
 use Rattle.pt_signal.specs.declared.reason.Reason.TheVariants.{Normal}
 use Rattle.pt_signal.specs.declared.item.Body.{Body}
 use Rattle.pt_signal.specs.declared.signal.Signal.TheVariants.{Message}
-use Rattle.pt_history.specs.declared.event.Event.TheVariants.{Born, Said, Came, Took, Left}
-use Rattle.pt_history.specs.History.{Past}
-use Rattle.pt_history.specs.Journal.{events}
-use Rattle.pt_history.specs.declared.event.Stamped.{Stamped}
+use Rattle.pt_events.specs.declared.event.Event.TheVariants.{Born, Said, Came, Took, Left}
+use Rattle.pt_events.specs.History.{Past}
+use Rattle.pt_events.specs.Journal.{events}
+use Rattle.pt_events.specs.declared.event.Stamped.{Stamped}
 
 -- a history, the newest event first, without receipts and takes
 abbrev pub calls : Past → Past

@@ -1,7 +1,7 @@
 use Rattle.std.specs.Prelude.{ℕ, List, ◌++◌, codes}
 use Rattle.std.specs.List.{flat_map}
-use Rattle.pt_history.specs.declared.event.Stamped.{Stamped}
-use Rattle.pt_history.specs.Text.{stamped_text}
+use Rattle.pt_events.specs.declared.event.Stamped.{Stamped}
+use Rattle.pt_events.specs.Text.{stamped_text}
 
 -- one event, and a line feed
 abbrev pub line : Stamped → List ℕ

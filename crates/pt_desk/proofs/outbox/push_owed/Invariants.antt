@@ -1,6 +1,6 @@
 use Rattle.std.proofs.Common.{◌≡◌, ◌+◌, ◌-◌, ◌≤◌, ◌++◌, length, map, take}
 use Rattle.std.specs.VecDeque.{deque_len, deque_capacity}
-use Rattle.pt_history.specs.Journal.{letter}
+use Rattle.pt_events.specs.Journal.{letter}
 use Rattle.pt_desk.proofs.outbox.push_owed.Given as goal
 
 abbrev pub invariant-loop-i : goal.invariant-loop-i

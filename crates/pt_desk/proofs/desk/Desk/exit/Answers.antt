@@ -1,6 +1,6 @@
 use Rattle.std.proofs.Common.{Some, subst}
 use Rattle.std.specs.Prelude.{Ok}
-use Rattle.pt_history.specs.declared.event.Event.TheVariants.{Left}
+use Rattle.pt_events.specs.declared.event.Event.TheVariants.{Left}
 use Rattle.pt_desk.specs.Calls.{Calls}
 use Rattle.pt_desk.specs.Whole.{desk_of}
 use Rattle.pt_desk.proofs.Leaves.{left_whole, left_answer}

@@ -1,7 +1,7 @@
 use Rattle.std.proofs.Common.{◌≡◌, true, sym, subst}
 use Rattle.std.specs.Prelude.{Ok}
 use Rattle.pt_signal.specs.declared.signal.Signal.TheVariants.{Unlink}
-use Rattle.pt_history.specs.declared.event.Event.TheVariants.{Said}
+use Rattle.pt_events.specs.declared.event.Event.TheVariants.{Said}
 use Rattle.pt_desk.specs.Calls.{Calls, unlink_event}
 use Rattle.pt_desk.specs.Sound.{knows}
 use Rattle.pt_desk.specs.Whole.{desk_of}

@@ -1,0 +1,6 @@
+pub mod Steps
+pub mod Local
+pub mod Phases
+pub mod Homes
+pub mod Orders
+pub mod InOrder

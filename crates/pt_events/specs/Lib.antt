@@ -1,0 +1,5 @@
+pub mod Text
+pub mod History
+pub mod JournalState
+pub mod Journal
+pub mod Locality

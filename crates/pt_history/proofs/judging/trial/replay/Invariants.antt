@@ -1,5 +1,0 @@
-use Rattle.pt_history.proofs.Trial.{IsAtPlace}
-use Rattle.pt_history.proofs.judging.trial.replay.Given as goal
-
-abbrev pub invariant-loop-place : goal.invariant-loop-place
-invariant-loop-place l = IsAtPlace l.events l.place l.state

@@ -1,6 +1,0 @@
-use Rattle.std.proofs.Common.{sym}
-use Rattle.pt_history.proofs.BirthsAndEnds.{alive_until_end, end_reason_is}
-use Rattle.pt_history.proofs.laws.alive_until_its_end.Goals as goal
-
-pub returns : goal.returns
-returns c start past p h = (alive_until_end start past p h, sym (end_reason_is start past p h))

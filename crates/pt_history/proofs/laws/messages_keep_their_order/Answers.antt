@@ -1,5 +1,0 @@
-use Rattle.pt_history.proofs.Sender.{sender_front}
-use Rattle.pt_history.proofs.laws.messages_keep_their_order.Goals as goal
-
-pub returns : goal.returns
-returns c start journal over a p h = sender_front a p start journal over h

@@ -1,5 +1,0 @@
-use Rattle.pt_history.proofs.Flight.{came_or_flies}
-use Rattle.pt_history.proofs.laws.sent_came_or_flies.Goals as goal
-
-pub returns : goal.returns
-returns c = came_or_flies

@@ -1,5 +1,0 @@
-use Rattle.pt_history.proofs.Positions.{placed}
-use Rattle.pt_history.proofs.laws.taken_or_waiting.Goals as goal
-
-pub returns : goal.returns
-returns c start past p h = let r = placed start p past h in (r.took_there, r.arrivals, r.distinct, r.waits)

@@ -1,5 +1,0 @@
-use Rattle.pt_history.proofs.Agreed.{born_free}
-use Rattle.pt_history.proofs.links.known_born_free.Goals as goal
-
-pub returns : goal.returns
-returns c = born_free

@@ -1,5 +1,0 @@
-use Rattle.std.proofs.Common.{◌-◌}
-use Rattle.pt_history.proofs.merging.+advance.Given as goal
-
-abbrev pub decreases-advance : goal.decreases-advance
-decreases-advance l = l.high - l.low

@@ -1,5 +1,0 @@
-use Rattle.std.proofs.Common.{◌-◌}
-use Rattle.pt_history.proofs.merging.+play_all.Given as goal
-
-abbrev pub decreases-play_all : goal.decreases-play_all
-decreases-play_all l = l.high - l.low

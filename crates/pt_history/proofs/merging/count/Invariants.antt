@@ -1,7 +1,0 @@
-use Rattle.std.proofs.Common.{ℕ, ◌<◌}
-use Rattle.pt_history.specs.JournalState.{IsInOrder}
-use Rattle.pt_history.specs.Merging.{desk_at, past_at}
-use Rattle.pt_history.proofs.merging.count.Given as goal
-
-abbrev pub invariant-loop-which : goal.invariant-loop-which
-invariant-loop-which l = (j : ℕ) → j < l.which → IsInOrder (desk_at l.journals j) (past_at l.journals j)

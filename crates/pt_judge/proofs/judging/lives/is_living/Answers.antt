@@ -1,0 +1,11 @@
+use Rattle.std.proofs.Common.{◌∙◌, ap}
+use Rattle.pt_events.specs.History.{is_living, phase_or_unborn}
+use Rattle.pt_judge.proofs.Lives.{found_some, found_none}
+use Rattle.pt_judge.proofs.judging.lives.is_living.Goals as goal
+
+pub returns-in-Some : goal.returns-in-Some
+returns-in-Some c =
+    c.is_living.ensures ∙ ap (λ o. is_living (phase_or_unborn o)) (found_some c.found.result c.in-Some.life c.args.lives.now c.args.pid c.in-Some.is c.found.ensures)
+
+pub returns-in-None : goal.returns-in-None
+returns-in-None c = ap (λ o. is_living (phase_or_unborn o)) (found_none c.found.result c.args.lives.now c.args.pid c.in-None.is c.found.ensures)

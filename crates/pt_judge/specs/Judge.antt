@@ -1,0 +1,71 @@
+-- Why an event may not come.
+use Rattle.std.specs.Prelude.{◌≡◌, ℕ, ◌<◌, true, false, Option, Some, None, Ok, Err, List, [], ◌∷◌, length, reverse, take, slice_get}
+use Rattle.std.specs.declared.result.Result.{Result}
+use Rattle.std.specs.List.{find}
+use Rattle.pt_signal.specs.declared.pid.Pid.{Pid}
+use Rattle.pt_signal.specs.declared.ids.LinkId.{LinkId}
+use Rattle.pt_judge.specs.declared.cause.Cause.{Cause}
+use Rattle.pt_judge.specs.declared.cause.Cause.TheVariants.{BornTwice, NotAlive, NotFront, NotFirstMatch, Unlawful, Memory}
+use Rattle.pt_events.specs.declared.event.Event.{Event}
+use Rattle.pt_events.specs.declared.event.Event.TheVariants.{Born, Said, Came, Took, Flag, Left}
+use Rattle.pt_signal.specs.Values.{fits}
+use Rattle.pt_signal.specs.Process.{sent}
+use Rattle.pt_events.specs.History.{Past, Start, unborn, life, alive, state, flying, is_between, made_link, MaySay, May, IsLegal}
+
+abbrev pub number : Cause → ℕ
+number BornTwice = 1
+number NotAlive = 2
+number NotFront = 3
+number NotFirstMatch = 4
+number Unlawful = 5
+number Memory = 6
+
+module _ (start : Start) where
+  abbrev pub DeadParent : Past → Option Pid → Type 0
+  DeadParent past None = ⊥
+  DeadParent past (Some q) = alive start past q ≡ false
+
+  abbrev pub BadLink : Past → Option Pid → Option LinkId → Type 0
+  BadLink past parent None = ⊥
+  BadLink past None (Some i) = Unit {0}
+  BadLink past (Some q) (Some i) = made_link past i ≡ true
+
+  -- the cause fits the event after the history
+  abbrev pub Refuses : Past → Event → Cause → Type 0
+  Refuses past (Born p parent link) BornTwice = ¬ (life start past p ≡ unborn)
+  Refuses past (Born p parent link) NotAlive = DeadParent past parent
+  Refuses past (Born p parent link) Unlawful = BadLink past parent link
+  Refuses past (Said a b x) NotAlive = alive start past a ≡ false
+  Refuses past (Said a b x) Unlawful = ¬ MaySay start past (state start past a) a b x
+  Refuses past (Came a b x) NotFront = ¬ (find (is_between a b) (flying start past) ≡ Some (sent a b x))
+  Refuses past (Took p k i) NotAlive = alive start past p ≡ false
+  Refuses past (Took p k i) NotFirstMatch = ¬ (find (fits k) (state start past p).waiting ≡ Some i)
+  Refuses past (Flag p on) NotAlive = alive start past p ≡ false
+  Refuses past (Left p r) NotAlive = alive start past p ≡ false
+  Refuses past e c = ⊥
+
+  -- the cause that is given: the lowest that fits
+  abbrev pub IsCause : Past → Event → Cause → Type 0
+  IsCause past e c = Refuses past e c × ((lower : Cause) → number lower < number c → ¬ Refuses past e lower)
+
+-- the event may come next, or the cause is the one that is given
+abbrev pub IsJudged : Past → Event → Option Cause → Type 0
+IsJudged past e None = May [] past e
+IsJudged past e (Some c) = IsCause [] past e c
+
+-- the state after one event more; memory may be wanting for an event that may come
+abbrev pub Judges : Past → Event → Result Past Cause → Type 0
+Judges past e (Ok now) = May [] past e × (now ≡ e ∷ past)
+Judges past e (Err Memory) = May [] past e
+Judges past e (Err c) = IsCause [] past e c
+
+-- the event at the place may not come for that cause, or memory was wanting for it
+abbrev pub Fails : List Event → ℕ → Cause → Type 0
+Fails h n Memory = Unit {0}
+Fails h n c = (e : Event) × (slice_get h n ≡ Some e) × ¬ May [] (reverse (take n h)) e × IsCause [] (reverse (take n h)) e c
+
+-- the judgement of a history, oldest event first: the state is that of the whole legal history; or the events
+-- before the place are legal, and the one at the place may not come, memory aside
+abbrev pub Replays : List Event → Result Past (ℕ × Cause) → Type 0
+Replays h (Ok past) = (past ≡ reverse h) × IsLegal [] (reverse h)
+Replays h (Err stop) = (stop.0 < length h) × IsLegal [] (reverse (take stop.0 h)) × Fails h stop.0 stop.1

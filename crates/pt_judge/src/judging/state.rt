@@ -1,0 +1,369 @@
+// What a legal history leads to.
+
+ghost use Rattle.std.specs.Prelude.{◌≡◌, ◌∷◌, [], Some, None, cond, reverse, length, is_some, IfOk};
+ghost use Rattle.std.specs.Option.{option_map};
+ghost use Rattle.std.specs.Map.{lookup};
+ghost use Rattle.std.specs.List.{find};
+ghost use Rattle.pt_signal.specs.Values.{same_ref, fits};
+ghost use Rattle.pt_signal.specs.Process.{held};
+ghost use Rattle.pt_judge.specs.declared.cause.Cause.TheVariants.{NotAlive};
+ghost use Rattle.pt_events.specs.declared.event.Event.TheVariants.{Born, Said, Came, Took};
+ghost use Rattle.pt_events.specs.History.{open_monitors, reason_of, is_unborn, is_the, is_between, life, alive, state, flying, makes_link, makes_ref, made_link, made_ref, May};
+ghost use Rattle.pt_judge.specs.Judging.{cause, may_say, lacks, unlawful_link, is_item, is_ids, is_signal, IsHeldBy};
+
+use crate::judging::flights::{Flight, dispatch, land, oldest};
+use crate::judging::holdings::Holdings;
+use crate::judging::links::{first_match, ids_with, target_of};
+use crate::judging::lives::{Life, holdings, is_known, is_living, lived, observe, reason};
+use crate::judging::same;
+use crate::Cause;
+use pt_events::Event;
+use pt_signal::{Ids, Item, LinkId, Pick, Pid, Reason, Ref, Signal};
+use std::alloc::{AllocError, Global};
+use std::marker::Model;
+
+/// What a legal history leads to, for each pid that there could be.
+///
+/// Contracts see it as that history, newest event first.
+#[derive(Drop)]
+pub struct State {
+    events: Vec<Event>,
+    lives: Vec<Life>,
+    flights: Vec<Flight>,
+}
+
+impl Model for State {
+    ghost use Rattle.std.specs.Prelude.{reverse};
+    ghost use Rattle.pt_events.specs.History.{Past};
+    ghost use Rattle.pt_judge.specs.Judging.{IsKept};
+
+    ghost Value = { Past };
+
+    ghost view = { λ s. reverse s.events.items };
+
+    ghost invariant = { λ s. IsKept (reverse s.events.items) s.lives.items s.flights.items };
+}
+
+fn makes_link(id: LinkId, event: Event) -> bool
+    ensures { result ≡ makes_link id event }
+{
+    match event {
+        Event::Born(_, _, Some(made)) => id == made,
+        Event::Said(_, _, Signal::Link(made)) => id == made,
+        _ => false,
+    }
+}
+
+fn makes_ref(monitor: Ref, event: Event) -> bool
+    ensures { result ≡ makes_ref monitor event }
+{
+    match event {
+        Event::Said(_, _, Signal::Monitor(made)) => monitor == made,
+        _ => false,
+    }
+}
+
+fn made_link(events: &[Event], id: LinkId) -> bool
+    ensures { result ≡ made_link (reverse events.now) id }
+{
+    let mut made = false;
+    for place in 0..events.len() {
+        made = makes_link(id, events[place]) || made;
+    }
+    made
+}
+
+fn made_ref(events: &[Event], monitor: Ref) -> bool
+    ensures { result ≡ made_ref (reverse events.now) monitor }
+{
+    let mut made = false;
+    for place in 0..events.len() {
+        made = makes_ref(monitor, events[place]) || made;
+    }
+    made
+}
+
+impl State {
+    // The state before any event.
+    pub fn new(alloc: Global) -> State
+        ensures { result ≡ [] }
+    {
+        State {
+            events: Vec::new(alloc),
+            lives: Vec::new(alloc),
+            flights: Vec::new(alloc),
+        }
+    }
+
+    /// Whether the process was born and has not ended.
+    pub fn alive(&self, pid: Pid) -> bool
+        ensures { result ≡ alive [] self.now pid }
+    {
+        is_living(self.lives.as_slice(), pid)
+    }
+
+    /// Why the process ended, if it has.
+    pub fn ended(&self, pid: Pid) -> Option<Reason>
+        ensures { result ≡ reason_of (life [] self.now pid) }
+    {
+        reason(self.lives.as_slice(), pid)
+    }
+
+    /// What waits in the process's mailbox, oldest first, or `None` where it is not alive.
+    pub fn waiting(&self, pid: Pid) -> Option<&[Item]>
+        ensures { option_map (λ items. items.now) result ≡ cond (alive [] self.now pid) (Some (state [] self.now pid).waiting) None }
+    {
+        if !self.alive(pid) {
+            return None;
+        }
+        match self.holdings(pid) {
+            Some(held) => Some(held.waiting()),
+            None => None,
+        }
+    }
+
+    /// The ids under which the first process is linked with the second; those that it had last, where it has ended.
+    pub fn linked(&self, pid: Pid, peer: Pid) -> Option<Ids>
+        ensures { result ≡ held (state [] self.now pid).links peer }
+    {
+        match self.holdings(pid) {
+            Some(held) => ids_with(held.links(), peer),
+            None => None,
+        }
+    }
+
+    /// Whether the monitor is open at the process that made it: not where that process has ended.
+    pub fn watching(&self, watcher: Pid, monitor: Ref) -> bool
+        ensures { result ≡ is_some (lookup (same_ref monitor) (open_monitors (life [] self.now watcher))) }
+    {
+        if !self.alive(watcher) {
+            return false;
+        }
+        match self.holdings(watcher) {
+            Some(held) => target_of(held.watching(), monitor).is_some(),
+            None => false,
+        }
+    }
+
+    /// Whether the process keeps the watch that was made under the reference, or did at its end.
+    pub fn kept(&self, target: Pid, monitor: Ref) -> bool
+        ensures { result ≡ is_some (lookup (same_ref monitor) (state [] self.now target).kept) }
+    {
+        match self.holdings(target) {
+            Some(held) => target_of(held.kept(), monitor).is_some(),
+            None => false,
+        }
+    }
+
+    /// The process's `trap_exit` flag, or what it was at its end.
+    pub fn traps(&self, pid: Pid) -> bool
+        ensures { result ≡ (state [] self.now pid).traps }
+    {
+        match self.holdings(pid) {
+            Some(held) => held.traps(),
+            None => false,
+        }
+    }
+
+    /// How many signals are on their way.
+    pub fn in_flight(&self) -> u64
+        ensures { result ≡ length (flying [] self.now) }
+    {
+        self.flights.len() as u64
+    }
+
+    fn holdings(&self, pid: Pid) -> Option<&Holdings>
+        ensures { IsHeldBy self.now pid (option_map (λ held. held.now) result) }
+    {
+        holdings(self.lives.as_slice(), pid)
+    }
+
+    fn is_unborn(&self, pid: Pid) -> bool
+        ensures { result ≡ is_unborn (life [] self.now pid) }
+    {
+        !is_known(self.lives.as_slice(), pid)
+    }
+
+    fn made_link(&self, id: LinkId) -> bool
+        ensures { result ≡ made_link self.now id }
+    {
+        made_link(self.events.as_slice(), id)
+    }
+
+    fn made_ref(&self, monitor: Ref) -> bool
+        ensures { result ≡ made_ref self.now monitor }
+    {
+        made_ref(self.events.as_slice(), monitor)
+    }
+
+    fn is_waiting_first(&self, pid: Pid, pick: Pick, item: Item) -> bool
+        ensures { result ≡ is_item (find (fits pick) (state [] self.now pid).waiting) item }
+    {
+        match self.holdings(pid) {
+            Some(held) => match first_match(held.waiting(), pick) {
+                Some(first) => same::items(first, item),
+                None => false,
+            },
+            None => false,
+        }
+    }
+
+    fn is_front(&self, from: Pid, to: Pid, signal: Signal) -> bool
+        ensures { result ≡ is_signal (option_map (λ flight. flight.signal) (find (is_between from to) (flying [] self.now))) signal }
+    {
+        match oldest(self.flights.as_slice(), from, to) {
+            Some(first) => same::signals(first, signal),
+            None => false,
+        }
+    }
+
+    fn holds(&self, pid: Pid, peer: Pid, ids: Ids) -> bool
+        ensures { result ≡ is_ids (held (state [] self.now pid).links peer) ids }
+    {
+        match self.linked(pid, peer) {
+            Some(held) => same::ids(held, ids),
+            None => false,
+        }
+    }
+
+    fn watches(&self, watcher: Pid, target: Pid, monitor: Ref) -> bool
+        ensures { result ≡ is_the target (lookup (same_ref monitor) (state [] self.now watcher).watching) }
+    {
+        match self.holdings(watcher) {
+            Some(held) => match target_of(held.watching(), monitor) {
+                Some(watched) => target == watched,
+                None => false,
+            },
+            None => false,
+        }
+    }
+
+    fn may_say(&self, from: Pid, to: Pid, signal: Signal) -> bool
+        ensures { result ≡ may_say self.now from to signal }
+    {
+        match signal {
+            Signal::Message(_) => true,
+            Signal::Exit(_) => true,
+            Signal::Link(id) => !self.made_link(id)
+                && self.linked(from, to).is_none()
+                && from != to,
+            Signal::Unlink(ids) => self.holds(from, to, ids),
+            Signal::Monitor(monitor) => !self.made_ref(monitor) && from != to,
+            Signal::Demonitor(monitor) => self.watches(from, to, monitor),
+            Signal::LinkExit(_, _) => false,
+            Signal::Down(_, _) => false,
+        }
+    }
+
+    fn lacks(&self, parent: Option<Pid>) -> bool
+        ensures { result ≡ lacks self.now parent }
+    {
+        match parent {
+            Some(parent) => !self.alive(parent),
+            None => false,
+        }
+    }
+
+    fn is_unlawful_link(&self, parent: Option<Pid>, link: Option<LinkId>) -> bool
+        ensures { result ≡ unlawful_link self.now parent link }
+    {
+        match (parent, link) {
+            (_, None) => false,
+            (None, Some(_)) => true,
+            (Some(_), Some(id)) => self.made_link(id),
+        }
+    }
+
+    fn birth_cause(&self, pid: Pid, parent: Option<Pid>, link: Option<LinkId>) -> Option<Cause>
+        ensures { result ≡ cause self.now (Born pid parent link) }
+    {
+        if !self.is_unborn(pid) {
+            return Some(Cause::BornTwice);
+        }
+        if self.lacks(parent) {
+            return Some(Cause::NotAlive);
+        }
+        if self.is_unlawful_link(parent, link) {
+            return Some(Cause::Unlawful);
+        }
+        None
+    }
+
+    fn saying_cause(&self, from: Pid, to: Pid, signal: Signal) -> Option<Cause>
+        ensures { result ≡ cause self.now (Said from to signal) }
+    {
+        if !self.alive(from) {
+            return Some(Cause::NotAlive);
+        }
+        if !self.may_say(from, to, signal) {
+            return Some(Cause::Unlawful);
+        }
+        None
+    }
+
+    fn coming_cause(&self, from: Pid, to: Pid, signal: Signal) -> Option<Cause>
+        ensures { result ≡ cause self.now (Came from to signal) }
+    {
+        if !self.is_front(from, to, signal) {
+            return Some(Cause::NotFront);
+        }
+        None
+    }
+
+    fn taking_cause(&self, pid: Pid, pick: Pick, item: Item) -> Option<Cause>
+        ensures { result ≡ cause self.now (Took pid pick item) }
+    {
+        if !self.alive(pid) {
+            return Some(Cause::NotAlive);
+        }
+        if !self.is_waiting_first(pid, pick, item) {
+            return Some(Cause::NotFirstMatch);
+        }
+        None
+    }
+
+    fn life_cause(&self, pid: Pid) -> Option<Cause>
+        ensures { result ≡ cond (alive [] self.now pid) None (Some NotAlive) }
+    {
+        if !self.alive(pid) {
+            return Some(Cause::NotAlive);
+        }
+        None
+    }
+
+    // Why the event may not come next; memory aside.
+    pub fn cause(&self, event: Event) -> Option<Cause>
+        ensures { result ≡ cause self.now event }
+    {
+        match event {
+            Event::Born(pid, parent, link) => self.birth_cause(pid, parent, link),
+            Event::Said(from, to, signal) => self.saying_cause(from, to, signal),
+            Event::Came(from, to, signal) => self.coming_cause(from, to, signal),
+            Event::Took(pid, pick, item) => self.taking_cause(pid, pick, item),
+            Event::Flag(pid, _) => self.life_cause(pid),
+            Event::Left(pid, _) => self.life_cause(pid),
+        }
+    }
+
+    // The state after an event that may come next.
+    pub fn after(self, alloc: Global, event: Event) -> Result<State, AllocError>
+        requires { May [] self event }
+        ensures { IfOk result (λ state. state ≡ event ∷ self) }
+    {
+        let State {
+            mut events,
+            mut lives,
+            mut flights,
+        } = self;
+        let lived = lived(lives.as_slice(), event);
+        observe(alloc, &mut lives, event)?;
+        land(&mut flights, event);
+        dispatch(&mut flights, lives.as_slice(), lived, event)?;
+        events.push(event)?;
+        Ok(State {
+            events,
+            lives,
+            flights,
+        })
+    }
+}

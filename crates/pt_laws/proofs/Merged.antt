@@ -1,0 +1,325 @@
+-- The merge of local journals whose lanes agree is legal.
+use Rattle.std.proofs.Common.{◌≡◌, ℕ, ◌≤◌, Bool, true, false, cond, ◌==◌, List, [], ◌∷◌, ◌++◌, Option, Some, None, map, filter, refl, sym, ap, ◌∙◌, subst, append-nil, ⊎_elim, arith}
+use Rattle.std.specs.Map.{lookup}
+use Rattle.std.proofs.lemmas.List.{map-append}
+use Rattle.std.proofs.lemmas.List.Elements.{filter-append}
+use Rattle.std.proofs.lemmas.Bool.{eq-eqb, eqb-true, and_parts, and_from, and_right}
+use Rattle.std.specs.List.{find}
+use Rattle.pt_signal.specs.declared.pid.Pid.{Pid}
+use Rattle.pt_signal.specs.declared.ids.Ref.{Ref}
+use Rattle.pt_signal.specs.declared.ids.LinkId.{LinkId}
+use Rattle.pt_signal.specs.declared.letter.Letter.{Letter}
+use Rattle.pt_signal.specs.declared.signal.Signal.{Signal}
+use Rattle.pt_signal.specs.declared.signal.Signal.TheVariants.{Message, Link, Unlink, LinkExit, Monitor, Demonitor}
+use Rattle.pt_events.specs.declared.event.Event.{Event}
+use Rattle.pt_events.specs.declared.event.Event.TheVariants.{Born, Said, Came, Took, Flag, Left}
+use Rattle.pt_events.specs.declared.event.Stamped.{Stamped}
+use Rattle.pt_signal.specs.Values.{same_pid, same_ref, same_link, without_first, fits}
+use Rattle.pt_signal.specs.Process.{Sent, sent, held}
+use Rattle.pt_events.specs.History.{Start, life, alive, state, is_living, state_of, is_between, flying, landed, sent_by, made_link, made_ref, makes_link, makes_ref, is_this, May, MaySay, MayBear, IsLegal}
+use Rattle.pt_events.specs.Journal.{events, of_desk, letter, content, IsHome, IsOf, IsNewAt, IsLinkAt, MayHere, IsNext, IsLocal, letters, posts, got, got_of, gots, Agrees, LanesAgree, IsAfter, AllBefore, IsRising}
+use Rattle.pt_signal.proofs.Same.{same_pid_is, same_pid_refl, same_ref_is, same_link_is}
+use Rattle.pt_events.proofs.Local.{AllHome}
+use Rattle.pt_signal.proofs.Firsts.{filter_wider, filter_other, first_wider}
+use Rattle.pt_laws.proofs.Lanes.{AllUpTo, AllUpTo-append, AllAt-letters, Back, back, contents}
+use Rattle.pt_events.proofs.Homes.{AllFrom, from_home, in_lane, life_home, sent_home}
+
+module _ (start : Start) (low top : ℕ) where
+  -- each desk's events are a local journal
+  abbrev pub AllLocal : List Stamped → Type 0
+  AllLocal merged = (d : ℕ) → IsLocal start low top d (of_desk d merged)
+
+  pub head_local : (s : Stamped) (merged : List Stamped) → AllLocal (s ∷ merged) → IsNext start low top s.desk (of_desk s.desk merged) s
+  head_local s merged h = (subst (λ c. IsLocal start low top s.desk (cond c (s ∷ of_desk s.desk merged) (of_desk s.desk merged))) (eq-eqb s.desk s.desk refl) (h s.desk)).0
+
+  pub tail_local : (s : Stamped) (merged : List Stamped) → AllLocal (s ∷ merged) → AllLocal merged
+  tail_local s merged h d = go (s.desk == d) refl (h d)
+    where
+      go : (b : Bool) → (s.desk == d) ≡ b → IsLocal start low top d (of_desk d (s ∷ merged)) → IsLocal start low top d (of_desk d merged)
+      go true e k = (subst (λ c. IsLocal start low top d (cond c (s ∷ of_desk d merged) (of_desk d merged))) e k).1
+      go false e k = subst (λ c. IsLocal start low top d (cond c (s ∷ of_desk d merged) (of_desk d merged))) e k
+
+  pub all_home : (merged : List Stamped) → AllLocal merged → AllHome merged
+  all_home [] h = tt
+  all_home (s ∷ merged) h = ((head_local s merged h).home, all_home merged (tail_local s merged h))
+
+  -- new ids and references ----------------------------------------------------------------
+
+  -- of events before s, none makes an id of the desk and the stamp of s
+  fresh_link : (s : Stamped) (merged : List Stamped) (i : LinkId) → i.desk ≡ s.desk → i.number ≡ s.stamp → AllBefore s merged → AllLocal merged
+      → made_link (events merged) i ≡ false
+  fresh_link s [] i e f b h = refl
+  fresh_link s (t ∷ merged) i e f b h =
+      rw (not_this t.event (head_local t merged h).new_at, fresh_link s merged i e f b.1 (tail_local t merged h)) refl
+    where
+      differs : (j : LinkId) → (j.desk ≡ t.desk) × (j.number ≡ t.stamp) → (c : Bool) → same_link i j ≡ c → same_link i j ≡ false
+      differs j k false g = g
+      differs j k true g =
+          let p = same_link_is i j g in
+          let p1 : s.desk ≡ t.desk = sym e ∙ ap (λ z. z.desk) p ∙ k.0 in
+          let p2 : s.stamp ≡ t.stamp = sym f ∙ ap (λ z. z.number) p ∙ k.1 in
+          absurd (⊎_elim (λ w. omega arith) (λ w. omega (arith, w.1)) b.0)
+
+      maybe : (link : Option LinkId) → IsLinkAt t.desk t.stamp link → is_this i link ≡ false
+      maybe None k = refl
+      maybe (Some j) k = differs j k _ refl
+
+      not_this : (ev : Event) → IsNewAt t.desk t.stamp ev → makes_link i ev ≡ false
+      not_this (Born q parent link) k = maybe link k
+      not_this (Said a c (Link j)) k = differs j k _ refl
+      not_this _ k = refl
+
+  fresh_ref : (s : Stamped) (merged : List Stamped) (m : Ref) → m.desk ≡ s.desk → m.number ≡ s.stamp → AllBefore s merged → AllLocal merged
+      → made_ref (events merged) m ≡ false
+  fresh_ref s [] m e f b h = refl
+  fresh_ref s (t ∷ merged) m e f b h =
+      rw (not_this t.event (head_local t merged h).new_at, fresh_ref s merged m e f b.1 (tail_local t merged h)) refl
+    where
+      differs : (n : Ref) → (n.desk ≡ t.desk) × (n.number ≡ t.stamp) → (c : Bool) → same_ref m n ≡ c → same_ref m n ≡ false
+      differs n k false g = g
+      differs n k true g =
+          let p = same_ref_is m n g in
+          let p1 : s.desk ≡ t.desk = sym e ∙ ap (λ z. z.desk) p ∙ k.0 in
+          let p2 : s.stamp ≡ t.stamp = sym f ∙ ap (λ z. z.number) p ∙ k.1 in
+          absurd (⊎_elim (λ w. omega arith) (λ w. omega (arith, w.1)) b.0)
+
+      not_this : (ev : Event) → IsNewAt t.desk t.stamp ev → makes_ref m ev ≡ false
+      not_this (Said a c (Monitor n)) k = differs n k _ refl
+      not_this _ k = refl
+
+  -- what the journal allows the merge allows ------------------------------------------------
+
+  module _ (s : Stamped) (merged : List Stamped) (b : AllBefore s merged) (h : AllLocal merged) where
+    same_life : (p : Pid) → p.shard ≡ s.desk → life start (events (of_desk s.desk merged)) p ≡ life start (events merged) p
+    same_life p e = life_home start p s.desk merged e (all_home merged h)
+
+    may_say : (a c : Pid) (x : Signal) → a.shard ≡ s.desk → IsNewAt s.desk s.stamp (Said a c x)
+        → MaySay start (events (of_desk s.desk merged)) (state start (events (of_desk s.desk merged)) a) a c x
+        → MaySay start (events merged) (state start (events merged) a) a c x
+    may_say a c (Message body) e n k = tt
+    may_say a c (Signal.Exit r) e n k = tt
+    may_say a c (Link i) e n k = (fresh_link s merged i n.0 n.1 b h, ap (λ f. held (state_of f).links c) (sym (same_life a e)) ∙ k.1, k.2)
+    may_say a c (Unlink ids) e n k = ap (λ f. held (state_of f).links c) (sym (same_life a e)) ∙ k
+    may_say a c (Monitor m) e n k = (fresh_ref s merged m n.0 n.1 b h, k.1)
+    may_say a c (Demonitor m) e n k = ap (λ f. lookup (same_ref m) (state_of f).watching) (sym (same_life a e)) ∙ k
+    may_say a c (LinkExit ids r) e n k = k
+    may_say a c (Signal.Down m r) e n k = k
+
+    may_live : (p : Pid) → p.shard ≡ s.desk → alive start (events (of_desk s.desk merged)) p ≡ true → alive start (events merged) p ≡ true
+    may_live p e k = ap is_living (sym (same_life p e)) ∙ k
+
+    may_bear : (parent : Option Pid) (link : Option LinkId) → IsOf s.desk parent → IsLinkAt s.desk s.stamp link
+        → MayBear start (events (of_desk s.desk merged)) parent link → MayBear start (events merged) parent link
+    may_bear None None e n k = tt
+    may_bear None (Some i) e n k = k
+    may_bear (Some q) None e n k = may_live q e k
+    may_bear (Some q) (Some i) e n k = (may_live q e k.0, fresh_link s merged i n.0 n.1 b h)
+
+    -- every event but a receipt
+    may_plain : (ev : Event) → IsHome s.desk ev → IsNewAt s.desk s.stamp ev → MayHere start (events (of_desk s.desk merged)) ev
+        → ((a c : Pid) (x : Signal) → ev ≡ Came a c x → May start (events merged) ev) → May start (events merged) ev
+    may_plain (Born p parent link) i n k came = (sym (same_life p i.0) ∙ k.0, may_bear parent link i.1 n k.1)
+    may_plain (Said a c x) i n k came = (may_live a i k.0, may_say a c x i n k.1)
+    may_plain (Came a c x) i n k came = came a c x refl
+    may_plain (Took p j it) i n k came = (may_live p i k.0, ap (λ f. find (fits j) (state_of f).waiting) (sym (same_life p i)) ∙ k.1)
+    may_plain (Flag p on) i n k came = may_live p i k
+    may_plain (Left p r) i n k came = may_live p i k
+
+  -- one event more in the lanes --------------------------------------------------------------
+
+  -- the letters of the newest event in one lane
+  abbrev new_posts : Stamped → List Stamped → ℕ → ℕ → List Letter
+  new_posts s merged d e = filter (λ l. in_lane d e (content l)) (map (letter s.stamp) (sent_by start (events merged) s.event))
+
+  abbrev new_gots : Stamped → ℕ → ℕ → List Letter
+  new_gots s d e = cond (s.desk == e) (got d s) []
+
+  gots_step : (s : Stamped) (merged : List Stamped) (d e : ℕ) → gots (of_desk e (s ∷ merged)) d ≡ gots (of_desk e merged) d ++ new_gots s d e
+  gots_step s merged d e = go (s.desk == e) refl
+    where
+      go : (b : Bool) → (s.desk == e) ≡ b → gots (of_desk e (s ∷ merged)) d ≡ gots (of_desk e merged) d ++ new_gots s d e
+      go true f = rw (f, gots) refl
+      go false f = rw (f, gots) (sym (append-nil _))
+
+  lane_letters : (d e n : ℕ) (ls : List Sent) → AllFrom d ls → filter (λ l. l.to.shard == e) (map (letter n) ls) ≡ filter (λ l. in_lane d e (content l)) (map (letter n) ls)
+  lane_letters d e n [] h = refl
+  lane_letters d e n (l ∷ ls) h = rw (eq-eqb l.from.shard d h.0, lane_letters d e n ls h.1) refl
+
+  no_letters : (d e c n : ℕ) (ls : List Sent) → (c == d) ≡ false → AllFrom c ls → filter (λ l. in_lane d e (content l)) (map (letter n) ls) ≡ []
+  no_letters d e c n [] f h = refl
+  no_letters d e c n (l ∷ ls) f h = let k : (l.from.shard == d) ≡ false = rw h.0 f in rw (k, no_letters d e c n ls f h.1) refl
+
+  posts_step : (s : Stamped) (merged : List Stamped) (d e : ℕ) → IsHome s.desk s.event → AllHome merged
+      → posts start (of_desk d (s ∷ merged)) e ≡ posts start (of_desk d merged) e ++ new_posts s merged d e
+  posts_step s merged d e i k = go (s.desk == d) refl
+    where
+      X : List Sent
+      X = sent_by start (events merged) s.event
+
+      go : (b : Bool) → (s.desk == d) ≡ b → posts start (of_desk d (s ∷ merged)) e ≡ posts start (of_desk d merged) e ++ new_posts s merged d e
+      go true f =
+          let same : s.desk ≡ d = eqb-true _ _ f in
+          let home : IsHome d s.event = subst (λ d. IsHome d s.event) same i in
+          subst (λ c. posts start (cond c (s ∷ of_desk d merged) (of_desk d merged)) e ≡ posts start (of_desk d merged) e ++ new_posts s merged d e) (sym f)
+          (filter-append (λ l. l.to.shard == e) (letters start (of_desk d merged)) (map (letter s.stamp) (sent_by start (events (of_desk d merged)) s.event))
+          ∙ ap (λ z. posts start (of_desk d merged) e ++ z)
+          (ap (λ z. filter (λ l. l.to.shard == e) (map (letter s.stamp) z)) (sent_home start d merged s.event home k)
+          ∙ lane_letters d e s.stamp (sent_by start (events merged) s.event) (from_home start (events merged) d s.event home)))
+      go false f =
+          subst (λ c. posts start (cond c (s ∷ of_desk d merged) (of_desk d merged)) e ≡ posts start (of_desk d merged) e ++ new_posts s merged d e) (sym f)
+          (sym (append-nil _)
+          ∙ ap (λ z. posts start (of_desk d merged) e ++ z) (sym (no_letters d e s.desk s.stamp (sent_by start (events merged) s.event) f (from_home start (events merged) s.desk s.event i))))
+
+  -- stamps of receipts are no later than the newest event
+  up_to_of : (n d : ℕ) (t : Stamped) → t.stamp ≤ n → (ev : Event) → AllUpTo n (got_of d t.stamp ev)
+  up_to_of n d t h (Came a c x) = go (a.shard == d)
+    where
+      go : (b : Bool) → AllUpTo n (cond b (letter t.stamp (sent a c x) ∷ []) [])
+      go true = (h, tt)
+      go false = tt
+  up_to_of n d t h _ = tt
+
+  before_le : (s t : Stamped) → IsAfter s t → t.stamp ≤ s.stamp
+  before_le s t h = ⊎_elim (λ w. omega arith) (λ w. omega (arith, w.0)) h
+
+  gots_up_to : (s : Stamped) (merged : List Stamped) (d e : ℕ) → AllBefore s merged → AllUpTo s.stamp (gots (of_desk e merged) d)
+  gots_up_to s [] d e h = tt
+  gots_up_to s (t ∷ merged) d e h = go (t.desk == e) (gots_up_to s merged d e h.1)
+    where
+      go : (b : Bool) → AllUpTo s.stamp (gots (of_desk e merged) d) → AllUpTo s.stamp (gots (cond b (t ∷ of_desk e merged) (of_desk e merged)) d)
+      go true ih = AllUpTo-append s.stamp _ _ ih (up_to_of s.stamp d t (before_le s t h.0) t.event)
+      go false ih = ih
+
+  new_up_to : (s : Stamped) (d e : ℕ) → AllUpTo s.stamp (new_gots s d e)
+  new_up_to s d e = go (s.desk == e)
+    where
+      go : (b : Bool) → AllUpTo s.stamp (cond b (got d s) [])
+      go true = up_to_of s.stamp d s (omega arith) s.event
+      go false = tt
+
+  -- letters that land -----------------------------------------------------------------------
+
+  no_lead : (lead rest : List Letter) → map content lead ≡ [] → map content (lead ++ rest) ≡ map content rest
+  no_lead lead rest h = map-append content lead rest ∙ ap (λ z. z ++ map content rest) h
+
+  none_at : {X : Type 0} (b : Bool) → ◌≡◌ {A = List X} (cond b [] []) []
+  none_at true = refl
+  none_at false = refl
+
+  landed_lane : (home d e n : ℕ) (ev : Event) (fl : List Sent) (lead rest : List Letter) → IsHome home ev
+      → filter (in_lane d e) fl ≡ map content (lead ++ rest) → map content lead ≡ map content (cond (home == e) (got_of d n ev) [])
+      → filter (in_lane d e) (landed ev fl) ≡ map content rest
+  landed_lane home d e n (Came a c x) fl lead rest i f same = go (home == e) refl (a.shard == d) refl
+    where
+      to_lane : (home == e) ≡ true → (a.shard == d) ≡ true → (l : Sent) → is_between a c l ≡ true → in_lane d e l ≡ true
+      to_lane g k l p =
+          let q = and_parts _ _ p in
+          let e1 = same_pid_is a l.from q.0 in
+          let e2 = same_pid_is c l.to q.1 in
+          and_from (l.from.shard == d) (l.to.shard == e) (rw (← e1) k) (rw (← e2, i) g)
+
+      off_home : (home == e) ≡ false → (l : Sent) → is_between a c l ≡ true → in_lane d e l ≡ false
+      off_home g l p =
+          let e2 = same_pid_is c l.to (and_parts (same_pid a l.from) (same_pid c l.to) p).1 in
+          let k : (l.to.shard == e) ≡ false = rw (← e2, i) g in
+          and_right (l.from.shard == d) (l.to.shard == e) k
+
+      off_from : (a.shard == d) ≡ false → (l : Sent) → is_between a c l ≡ true → in_lane d e l ≡ false
+      off_from g l p =
+          let e1 = same_pid_is a l.from (and_parts (same_pid a l.from) (same_pid c l.to) p).0 in
+          let k : (l.from.shard == d) ≡ false = rw (← e1) g in
+          rw k refl
+
+      go : (b : Bool) → (home == e) ≡ b → (t : Bool) → (a.shard == d) ≡ t → filter (in_lane d e) (landed (Came a c x) fl) ≡ map content rest
+      go true g true k =
+          let one : map content lead ≡ sent a c x ∷ [] = same ∙ rw (g, k) refl in
+          let all : filter (in_lane d e) fl ≡ sent a c x ∷ map content rest = f ∙ map-append content lead rest ∙ ap (λ z. z ++ map content rest) one in
+          filter_wider (is_between a c) (in_lane d e) (to_lane g k) fl ∙ ap (without_first (is_between a c)) all ∙ rw (same_pid_refl a, same_pid_refl c) refl
+      go true g false k =
+          let none : map content lead ≡ [] = same ∙ rw (g, k) refl in
+          filter_other (in_lane d e) (is_between a c) (off_from k) fl ∙ f ∙ no_lead lead rest none
+      go false g t k =
+          let none : map content lead ≡ [] = same ∙ rw g refl in
+          filter_other (in_lane d e) (is_between a c) (off_home g) fl ∙ f ∙ no_lead lead rest none
+  landed_lane home d e n (Born q parent link) fl lead rest i f same = f ∙ no_lead lead rest (same ∙ ap (map content) (none_at (home == e)))
+  landed_lane home d e n (Said a b x) fl lead rest i f same = f ∙ no_lead lead rest (same ∙ ap (map content) (none_at (home == e)))
+  landed_lane home d e n (Took q k it) fl lead rest i f same = f ∙ no_lead lead rest (same ∙ ap (map content) (none_at (home == e)))
+  landed_lane home d e n (Flag q on) fl lead rest i f same = f ∙ no_lead lead rest (same ∙ ap (map content) (none_at (home == e)))
+  landed_lane home d e n (Left q r) fl lead rest i f same = f ∙ no_lead lead rest (same ∙ ap (map content) (none_at (home == e)))
+
+  -- the theorem --------------------------------------------------------------------------------
+
+  -- the history is legal, and what flies in it is what the lanes leave over
+  pub record IsMerged (merged : List Stamped) (over : ℕ → ℕ → List Letter) : Type 0 where
+    pub legal : IsLegal start (events merged)
+    pub flies : (d e : ℕ) → filter (in_lane d e) (flying start (events merged)) ≡ map content (over d e)
+
+  came_may : (s : Stamped) (merged : List Stamped) (ev : Event) → s.event ≡ ev → (lead rest : (d e : ℕ) → List Letter) → IsHome s.desk ev
+      → ((d e : ℕ) → filter (in_lane d e) (flying start (events merged)) ≡ map content (lead d e ++ rest d e))
+      → ((d e : ℕ) → map content (lead d e) ≡ map content (new_gots s d e))
+      → (a c : Pid) (x : Signal) → ev ≡ Came a c x → May start (events merged) ev
+  came_may s merged ev q lead rest i f same a c x r =
+      subst (May start (events merged)) (sym r)
+      (sym (first_wider (is_between a c) (in_lane a.shard c.shard) (λ l p. wide l p) (flying start (events merged)))
+      ∙ ap (find (is_between a c)) (f a.shard c.shard ∙ map-append content (lead a.shard c.shard) (rest a.shard c.shard) ∙ ap (λ z. z ++ map content (rest a.shard c.shard)) one)
+      ∙ rw (same_pid_refl a, same_pid_refl c) refl)
+    where
+      wide : (l : Sent) → is_between a c l ≡ true → in_lane a.shard c.shard l ≡ true
+      wide l p =
+          let e = and_parts _ _ p in
+          and_from (l.from.shard == a.shard) (l.to.shard == c.shard)
+          (eq-eqb _ _ (sym (ap (λ z. z.shard) (same_pid_is a l.from e.0)))) (eq-eqb _ _ (sym (ap (λ z. z.shard) (same_pid_is c l.to e.1))))
+
+      home : c.shard ≡ s.desk
+      home = subst (IsHome s.desk) r i
+
+      one : map content (lead a.shard c.shard) ≡ sent a c x ∷ []
+      one =
+          same a.shard c.shard
+          ∙ ap (λ z. map content (cond (s.desk == c.shard) (got_of a.shard s.stamp z) [])) (q ∙ r)
+          ∙ rw (eq-eqb s.desk c.shard (sym home), eq-eqb a.shard a.shard refl) refl
+
+  pub merged_legal : (merged : List Stamped) (over : ℕ → ℕ → List Letter) → IsRising merged → AllLocal merged
+      → LanesAgree start (λ d. of_desk d merged) over → IsMerged merged over
+  merged_legal [] over r h a = record { legal = tt; flies = λ d e. ap (map content) (a d e) }
+  merged_legal (s ∷ merged) over r h a = step (merged_legal merged)
+    where
+      tail : AllLocal merged
+      tail = tail_local s merged h
+
+      next : IsNext start low top s.desk (of_desk s.desk merged) s
+      next = head_local s merged h
+
+      homes : AllHome merged
+      homes = all_home merged tail
+
+      backs : (d e : ℕ) → Back (posts start (of_desk d merged) e) (new_posts s merged d e) (gots (of_desk e merged) d) (new_gots s d e) (over d e)
+      backs d e =
+          back s.stamp _ _ _ _ _ (AllAt-letters s.stamp (λ l. in_lane d e (content l)) (sent_by start (events merged) s.event)) (gots_up_to s merged d e r.0) (new_up_to s d e)
+          (subst (λ z. Agrees z (gots (of_desk e merged) d ++ new_gots s d e) (over d e)) (posts_step s merged d e next.home homes)
+          (subst (λ z. Agrees (posts start (of_desk d (s ∷ merged)) e) z (over d e)) (gots_step s merged d e) (a d e)))
+
+      before : ℕ → ℕ → List Letter
+      before d e = (backs d e).lead ++ (backs d e).rest
+
+      step : ((over : ℕ → ℕ → List Letter) → IsRising merged → AllLocal merged → LanesAgree start (λ d. of_desk d merged) over → IsMerged merged over)
+          → IsMerged (s ∷ merged) over
+      step ih =
+          let k = ih before r.1 tail (λ d e. (backs d e).agrees) in
+          record {
+            legal = (
+              may_plain s merged r.0 tail s.event next.home next.new_at next.may
+                  (came_may s merged s.event refl (λ d e. (backs d e).lead) (λ d e. (backs d e).rest) next.home k.flies (λ d e. (backs d e).same)),
+              k.legal,
+            );
+            flies = λ d e.
+                filter-append (in_lane d e) (landed s.event (flying start (events merged))) (sent_by start (events merged) s.event)
+                ∙ ap (λ z. z ++ filter (in_lane d e) (sent_by start (events merged) s.event))
+                (landed_lane s.desk d e s.stamp s.event (flying start (events merged)) (backs d e).lead (backs d e).rest next.home (k.flies d e) (same_again d e))
+                ∙ ap (λ z. map content (backs d e).rest ++ z) (sym (contents s.stamp (in_lane d e) (sent_by start (events merged) s.event)))
+                ∙ sym (map-append content (backs d e).rest (new_posts s merged d e))
+                ∙ ap (map content) (sym (backs d e).left);
+          }
+        where
+          same_again : (d e : ℕ) → map content (backs d e).lead ≡ map content (cond (s.desk == e) (got_of d s.stamp s.event) [])
+          same_again d e = (backs d e).same

@@ -1,0 +1,8 @@
+use Rattle.pt_laws.proofs.BirthsAndEnds.{born_once, ended_once, stays_ended}
+use Rattle.pt_laws.proofs.laws.lives_once.Goals as goal
+
+pub returns-clause-once : goal.returns-clause-once
+returns-clause-once c start past p h = (born_once start past p h, ended_once start past p h)
+
+pub returns-clause-after : goal.returns-clause-after
+returns-clause-after c = stays_ended

@@ -1,0 +1,12 @@
+use Rattle.pt_laws.proofs.Resumed.{resumed, same_life, same_flying}
+use Rattle.pt_laws.proofs.StartAfter.{is_start, one_entry_each, keeps_once}
+use Rattle.pt_laws.proofs.laws.resumed_is_legal.Goals as goal
+
+pub returns-clause-legal : goal.returns-clause-legal
+returns-clause-legal c start old new ok legal quiet n h = resumed start ok old legal quiet new n h
+
+pub returns-clause-same : goal.returns-clause-same
+returns-clause-same c start old new ok legal quiet = (same_life start ok old legal quiet new, same_flying start ok old legal quiet new)
+
+pub returns-clause-start : goal.returns-clause-start
+returns-clause-start c start old ok legal quiet = (is_start start ok old legal quiet, one_entry_each start ok old legal quiet, keeps_once start ok old legal quiet)

@@ -1,0 +1,5 @@
+use Rattle.pt_laws.proofs.EarlyLinks.{early_link_abroad}
+use Rattle.pt_laws.proofs.links.early_link_abroad.Goals as goal
+
+pub returns : goal.returns
+returns c = early_link_abroad

@@ -1,0 +1,5 @@
+use Rattle.pt_laws.proofs.Agreed.{born_free}
+use Rattle.pt_laws.proofs.links.known_born_free.Goals as goal
+
+pub returns : goal.returns
+returns c = born_free

@@ -1,0 +1,15 @@
+pub mod Taken
+pub mod Sender
+pub mod Load
+pub mod Watch
+pub mod Resumed
+pub mod Since
+pub mod Lives
+pub mod Laws
+pub mod MonitorLaws
+pub mod LoadLaws
+pub mod Words
+pub mod Examples
+pub mod Links
+pub mod EarlyLinks
+pub mod LinkLaws

@@ -1,0 +1,56 @@
+-- Quiet histories, and what may still happen in one that is not.
+use Rattle.std.specs.Prelude.{◌≡◌, ℕ, ◌+◌, Bool, true, false, cond, List, [], ◌∷◌, ◌++◌, length}
+use Rattle.std.specs.Map.{keys_of}
+use Rattle.pt_signal.specs.declared.pid.Pid.{Pid}
+use Rattle.pt_signal.specs.declared.signal.Signal.{Signal}
+use Rattle.pt_signal.specs.declared.signal.Signal.TheVariants.{Link, Monitor}
+use Rattle.pt_events.specs.declared.event.Event.TheVariants.{Born}
+use Rattle.pt_signal.specs.Values.{same_pid}
+use Rattle.pt_signal.specs.Process.{Sent}
+use Rattle.pt_events.specs.History.{Past, Start, Phase, living, life, at_start, is_unborn, flying}
+
+-- no letter is in flight
+abbrev pub IsQuiet : Start → Past → Type 0
+IsQuiet start past = flying start past ≡ []
+
+-- a Link and a Monitor count twice
+abbrev pub weight : Signal → ℕ
+weight (Link i) = 2
+weight (Monitor m) = 2
+weight _ = 1
+
+abbrev pub weights : List Sent → ℕ
+weights [] = 0
+weights (l ∷ ls) = weight l.signal + weights ls
+
+-- the link entries, kept watches and open references of a live process
+abbrev pub size : Phase → ℕ
+size (living s) = length s.links + length s.kept + length s.watching
+size _ = 0
+
+abbrev pub total : (Pid → ℕ) → List Pid → ℕ
+total f [] = 0
+total f (p ∷ ps) = f p + total f ps
+
+abbrev pub one_if : Bool → ℕ
+one_if true = 1
+one_if false = 0
+
+-- how often p is in the list
+abbrev pub times : Pid → List Pid → ℕ
+times p [] = 0
+times p (q ∷ qs) = one_if (same_pid p q) + times p qs
+
+-- the start has each process once, and none that was not born
+abbrev pub IsStart : Start → Type 0
+IsStart start = (p : Pid) → times p (keys_of start) ≡ cond (is_unborn (at_start start p)) 0 1
+
+module _ (start : Start) where
+  -- the pids born, in order of birth
+  abbrev pub pids : Past → List Pid
+  pids [] = keys_of start
+  pids (Born p parent link ∷ past) = pids past ++ cond (is_unborn (life start past p)) (p ∷ []) []
+  pids (e ∷ past) = pids past
+
+  abbrev pub load : Past → ℕ
+  load past = weights (flying start past) + total (λ p. size (life start past p)) (pids past)

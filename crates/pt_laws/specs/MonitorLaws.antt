@@ -1,0 +1,54 @@
+-- Laws on monitors.
+use Rattle.std.specs.Prelude.{◌≡◌, ℕ, ◌≤◌, ◌+◌, true, false, [], ◌++◌}
+use Rattle.pt_signal.specs.declared.pid.Pid.{Pid}
+use Rattle.pt_signal.specs.declared.ids.Ref.{Ref}
+use Rattle.pt_signal.specs.Values.{same_ref}
+use Rattle.pt_events.specs.History.{Past, Start, IsLegal, life, state, alive, arrived_since}
+use Rattle.pt_laws.specs.Load.{IsQuiet}
+use Rattle.pt_laws.specs.Resumed.{start_after, AllNewTo}
+use Rattle.pt_laws.specs.Watch.{count, is_monitor, is_demonitor, is_down_item, said_times, said_to, open_in, kept_in}
+
+-- how often w said Demonitor m, and the DOWNs of m that arrived at w
+abbrev pub demonitors_and_downs : Start → Past → Pid → Ref → ℕ
+demonitors_and_downs start past w m = said_times w (is_demonitor m) past + count (is_down_item m) (arrived_since start past w)
+
+-- w made the monitor m at most once, before the start or since
+abbrev pub IsMadeOnce : Start → Past → Pid → Ref → Type 0
+IsMadeOnce start past w m = count (λ e. same_ref m e.0) (state start [] w).watching + said_times w (is_monitor m) past ≤ 1
+
+-- a monitor has one DOWN at most, and none where it was demonitored
+abbrev pub OneDown : Type 0
+OneDown = (start : Start) (past : Past) (w : Pid) (m : Ref) → IsLegal start past → IsMadeOnce start past w m → demonitors_and_downs start past w m ≤ 1
+
+-- from the empty start each monitor is made once
+abbrev pub MadeOnce : Type 0
+MadeOnce = (past : Past) (w : Pid) (m : Ref) → IsLegal [] past → IsMadeOnce [] past w m
+
+-- so it is where a history goes on from a legal and quiet one and makes new references
+abbrev pub MadeOnceResumed : Type 0
+MadeOnceResumed =
+    (old new : Past) (w : Pid) (m : Ref) → IsLegal [] old → IsQuiet [] old → AllNewTo old new → IsLegal (start_after [] old) new
+    → IsMadeOnce (start_after [] old) new w m
+
+-- in a quiet history the monitor m that a live w made of t was demonitored, or had its one DOWN, or is open at w and kept by a live t
+abbrev pub QuietMonitor : Type 0
+QuietMonitor =
+    (past : Past) (w t : Pid) (m : Ref) → IsLegal [] past → IsQuiet [] past → alive [] past w ≡ true → said_to w t (is_monitor m) past ≡ 1
+    → (demonitors_and_downs [] past w m + kept_in w t m (life [] past t) ≡ 1) × (open_in w t m (life [] past w) ≡ kept_in w t m (life [] past t))
+
+-- and no live t keeps a monitor of a w that is not alive
+abbrev pub QuietWatch : Type 0
+QuietWatch = (past : Past) (w t : Pid) (m : Ref) → IsLegal [] past → IsQuiet [] past → alive [] past w ≡ false → kept_in w t m (life [] past t) ≡ 0
+
+-- both hold of a history that goes on from a legal and quiet one; what was said and what arrived counts from the very beginning
+abbrev pub QuietMonitorResumed : Type 0
+QuietMonitorResumed =
+    (old new : Past) (w t : Pid) (m : Ref) → IsLegal [] old → IsQuiet [] old → AllNewTo old new
+    → IsLegal (start_after [] old) new → IsQuiet (start_after [] old) new → alive (start_after [] old) new w ≡ true → said_to w t (is_monitor m) (new ++ old) ≡ 1
+    → (demonitors_and_downs [] (new ++ old) w m + kept_in w t m (life (start_after [] old) new t) ≡ 1)
+    × (open_in w t m (life (start_after [] old) new w) ≡ kept_in w t m (life (start_after [] old) new t))
+
+abbrev pub QuietWatchResumed : Type 0
+QuietWatchResumed =
+    (old new : Past) (w t : Pid) (m : Ref) → IsLegal [] old → IsQuiet [] old → AllNewTo old new
+    → IsLegal (start_after [] old) new → IsQuiet (start_after [] old) new → alive (start_after [] old) new w ≡ false → kept_in w t m (life (start_after [] old) new t) ≡ 0

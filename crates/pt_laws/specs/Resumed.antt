@@ -1,0 +1,28 @@
+-- A history that goes on from another one.
+use Rattle.std.specs.Prelude.{◌≡◌, false, [], ◌∷◌, map, ⊤}
+use Rattle.pt_events.specs.declared.event.Event.{Event}
+use Rattle.pt_events.specs.declared.event.Event.TheVariants.{Born, Said}
+use Rattle.pt_signal.specs.declared.signal.Signal.TheVariants.{Link, Monitor}
+use Rattle.pt_signal.specs.declared.ids.LinkId.{LinkId}
+use Rattle.std.specs.Prelude.{Option, Some, None}
+use Rattle.pt_events.specs.History.{Past, Start, life, made_link, made_ref}
+use Rattle.pt_laws.specs.Load.{pids}
+
+-- what each pid is after the history, as the start of the next
+abbrev pub start_after : Start → Past → Start
+start_after start past = map (λ p. (p, life start past p)) (pids start past)
+
+-- the ids and references that the event makes were not made in the history
+abbrev pub IsNewLink : Past → Option LinkId → Type 0
+IsNewLink old None = ⊤
+IsNewLink old (Some i) = made_link old i ≡ false
+
+abbrev pub IsNewTo : Past → Event → Type 0
+IsNewTo old (Born p parent link) = IsNewLink old link
+IsNewTo old (Said a b (Link i)) = made_link old i ≡ false
+IsNewTo old (Said a b (Monitor m)) = made_ref old m ≡ false
+IsNewTo old _ = ⊤
+
+abbrev pub AllNewTo : Past → Past → Type 0
+AllNewTo old [] = ⊤
+AllNewTo old (e ∷ past) = IsNewTo old e × AllNewTo old past

@@ -1,0 +1,133 @@
+// The laws of histories: each is the contract of a function that does nothing.
+
+ghost use Rattle.pt_laws.specs.Lives.{LivesOnce, StaysEnded, AliveUntilEnd};
+ghost use Rattle.pt_laws.specs.Words.{TrapIsLastFlag, HeldSince, IsHeldSince, PeersSince, OpenSince, IsOpenSince, KeptSince, IsKeptSince};
+ghost use Rattle.pt_events.specs.Locality.{ReadLocally, SentLocally, JournalsSay};
+ghost use Rattle.pt_laws.specs.Taken.{TakenByPosition};
+ghost use Rattle.pt_laws.specs.Laws.{CameOrFlies, SenderFront, MergeLegal, ResumedLegal, ResumedSame, ResumedStart};
+ghost use Rattle.pt_laws.specs.MonitorLaws.{OneDown, MadeOnce, MadeOnceResumed, QuietMonitor, QuietWatch, QuietMonitorResumed, QuietWatchResumed};
+ghost use Rattle.pt_laws.specs.LoadLaws.{LoadFalls, ReceiptsBounded, QuietFlights};
+ghost use Rattle.pt_laws.specs.Examples.{TenLines, Cascade, EarlyLink};
+
+/// A pid is born once and ends once, and is ever after as it ended.
+pub fn lives_once()
+    ensures once { LivesOnce }
+    ensures after { StaysEnded }
+{}
+
+/// A process is alive where it was born and has not ended, by its own exit or by a signal that came while it lived.
+pub fn alive_until_its_end()
+    ensures { AliveUntilEnd }
+{}
+
+/// A process's trap flag is the last one that it set; where it set none, it is off, or as at the start.
+pub fn trap_is_the_last_flag()
+    ensures { TrapIsLastFlag }
+{}
+
+/// The link ids that a process holds with another, in order of entry, are those that entered and have not left
+/// since. An id enters where the two are linked at a birth, where the process says `Link`, and where a `Link` comes
+/// while it lives, unless two are held. It leaves where the process says an `Unlink` of it, and where there comes,
+/// while it lives, an `Unlink` of it or a `LinkExit` of an id that is held.
+pub fn links_are_held_since()
+    ensures list { HeldSince }
+    ensures each { IsHeldSince }
+{}
+
+/// The processes that a process is linked with stand in the order of the events at which it came to hold a link id
+/// with them.
+pub fn peers_are_linked_since()
+    ensures { PeersSince }
+{}
+
+/// The open monitors of a live process, in order of making, are those that it made and for which it has since said
+/// no `Demonitor` and got no `DOWN`.
+pub fn monitors_are_open_since()
+    ensures list { OpenSince }
+    ensures each { IsOpenSince }
+{}
+
+/// The monitors that a process keeps for its watchers, in order of coming, are those that came while it lived and
+/// whose `Demonitor` has not come since, up to its end.
+pub fn watches_are_kept_since()
+    ensures list { KeptSince }
+    ensures each { IsKeptSince }
+{}
+
+/// What a process is after a history (alive or not, its trap flag, links, monitors and waiting items), all that
+/// arrived in its mailbox, and what an event sends, is told by the events of its own desk. So a desk's journal
+/// says of its own pids what every merge says.
+pub fn journals_tell_their_pids()
+    ensures life { ReadLocally }
+    ensures sent { SentLocally }
+    ensures journals { JournalsSay }
+{}
+
+/// In a legal history the signals that one pid sent another are those that came, in that order, then those in
+/// flight.
+pub fn sent_came_or_flies()
+    ensures { CameOrFlies }
+{}
+
+/// Where lanes agree, one process's messages to another are four lists joined: those that came before the
+/// receiver's birth, those that arrived in its mailbox, those that came after its end, and those left over.
+pub fn messages_keep_their_order()
+    ensures { SenderFront }
+{}
+
+/// The merge of local journals whose lanes agree is legal, and what is in flight in it is what the lanes leave
+/// over.
+pub fn merge_is_legal()
+    ensures { MergeLegal }
+{}
+
+/// A monitor has one `DOWN` at most, and none where it was demonitored. From the empty start each reference is
+/// made once, and so it is in a history that goes on from a legal and quiet one.
+pub fn one_down()
+    ensures down { OneDown }
+    ensures made { MadeOnce }
+    ensures resumed { MadeOnceResumed }
+{}
+
+/// Each take took the arrival at one position, no two took the same, and what waits in the mailbox are the arrivals
+/// at the other positions, in the order of arrival. A take takes at the first position that no earlier one took and
+/// whose item its pick fits.
+pub fn taken_or_waiting()
+    ensures { TakenByPosition }
+{}
+
+/// Each receipt lowers the load, so no more receipts than the load can follow one another; a history is quiet
+/// exactly where nothing is in flight between any two pids.
+pub fn receipts_lower_the_load()
+    ensures falls { LoadFalls }
+    ensures bounded { ReceiptsBounded }
+    ensures quiet { QuietFlights }
+{}
+
+/// In a quiet history each monitor of a live watcher was demonitored, or had its one `DOWN`, or is open and kept
+/// by its live target; no live target keeps a watch of a process that is not alive. The same holds of a history that
+/// goes on from a legal and quiet one.
+pub fn quiet_monitors()
+    ensures monitors { QuietMonitor }
+    ensures watches { QuietWatch }
+    ensures resumed_monitors { QuietMonitorResumed }
+    ensures resumed_watches { QuietWatchResumed }
+{}
+
+/// A legal and quiet history, followed by one that is legal over its state and makes new link ids and references,
+/// is legal; each pid and each flight is then what it is after both. So every law of legal histories holds of a
+/// history that goes on from another one. The state after it is again a start as these laws want it.
+pub fn resumed_is_legal()
+    ensures legal { ResumedLegal }
+    ensures same { ResumedSame }
+    ensures start { ResumedStart }
+{}
+
+/// Histories worked by hand are legal and quiet and end as they should: ten lines of two processes that send each
+/// other a message; an exit that goes down a chain of links as far as a process that traps it; a link made before
+/// the birth of its target, by which the two ends come to differ.
+pub fn worked_histories()
+    ensures ten_lines { TenLines }
+    ensures cascade { Cascade }
+    ensures early_link { EarlyLink }
+{}

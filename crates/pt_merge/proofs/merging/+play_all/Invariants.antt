@@ -1,0 +1,5 @@
+use Rattle.std.proofs.Common.{◌-◌}
+use Rattle.pt_merge.proofs.merging.+play_all.Given as goal
+
+abbrev pub decreases-play_all : goal.decreases-play_all
+decreases-play_all l = l.high - l.low

@@ -1,0 +1,9 @@
+//! The merge of journals: the one list that rises by (stamp, desk) and holds each journal whole.
+//!
+//! [`merge`] takes journals of different desks. It takes two pieces of memory, and for each event the logarithm of
+//! the number of journals.
+#![tactic(auto)]
+
+mod merging;
+
+pub use merging::merge;
