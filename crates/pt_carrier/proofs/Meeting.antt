@@ -32,9 +32,9 @@ module _ (a b cursor : ℕ) (xs : List Sending) (ys : List Receiving) (out : GoO
     same_to = ap (λ (s : Sending). s.to) x_is ∙ (out b x xs_within).1 ∙ sym (ap (λ (s : Receiving). s.to) y_is ∙ (into a y ys_within).1)
 
     -- once they have met
-    module _ (v : Sending) (w : Receiving) (v_ring : v.ring ≡ x.ring) (v_posted : v.posted ≡ x.posted) (w_ring : w.ring ≡ y.ring) (w_collected : w.collected ≡ y.collected) (whole : v.posted ≡ w.collected ++ w.known) where
+    module _ (v : Sending) (w : Receiving) (v_ring : v.ring ≡ x.ring) (v_posted : v.posted ≡ x.posted) (v_capacity : v.capacity ≡ x.capacity) (w_ring : w.ring ≡ y.ring) (w_collected : w.collected ≡ y.collected) (whole : v.posted ≡ w.collected ++ w.known) where
       pub outs_kept : out_kept (out_ends a (set xs b v)) ≡ out_kept (out_ends a xs)
-      outs_kept = λ i. (record { number = a; rings = map-set_same (λ (s : Sending). s.ring) xs b x v xs_within x_is v_ring i }, map-set_same (λ (s : Sending). s.posted) xs b x v xs_within x_is v_posted i)
+      outs_kept = λ i. (record { number = a; rings = map-set_same (λ (s : Sending). s.ring) xs b x v xs_within x_is v_ring i }, map-set_same (λ (s : Sending). s.posted) xs b x v xs_within x_is v_posted i, map-set_same (λ (s : Sending). s.capacity) xs b x v xs_within x_is v_capacity i)
 
       pub ins_kept : in_kept (in_ends b cursor (set ys a w)) ≡ in_kept (in_ends b cursor ys)
       ins_kept = λ i. (record { number = b; rings = map-set_same (λ (s : Receiving). s.ring) ys a y w ys_within y_is w_ring i }, cursor, map-set_same (λ (s : Receiving). s.collected) ys a y w ys_within y_is w_collected i)

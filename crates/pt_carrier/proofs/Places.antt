@@ -25,13 +25,16 @@ module _ {X : Type 0} (ends : X → Place × Place) (desks : List X) (node : IsN
   pub in_lanes : length (ends x).1.rings ≡ length desks
   in_lanes = sym (ap (λ (y : Place × Place). length y.1.rings) (place_read (ends x))) ∙ (node.lanes d (ends x) within_map).1 ∙ length-map desks ends
 
--- what is kept of the ends tells where they stand, what was posted and what was collected
+-- what is kept of the ends tells where they stand, what was posted, for how many letters, and what was collected
 module _ (xs ys : List (OutEnds × InEnds)) (same : map kept xs ≡ map kept ys) where
   pub kept_places : map places xs ≡ map places ys
   kept_places = map-through kept (λ k. (k.0.0, k.1.0)) xs ys same
 
   pub kept_posted : all_posted xs ≡ all_posted ys
   kept_posted = map-through kept (λ k. k.0.1) xs ys same
+
+  pub kept_capacity : map (λ (p : OutEnds × InEnds). p.0.capacity) xs ≡ map (λ (p : OutEnds × InEnds). p.0.capacity) ys
+  kept_capacity = map-through kept (λ k. k.0.2) xs ys same
 
   pub kept_collected : all_collected xs ≡ all_collected ys
   kept_collected = map-through kept (λ k. k.1.2) xs ys same

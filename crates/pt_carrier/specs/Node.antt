@@ -41,8 +41,8 @@ pub record AreLeft (pairs : List (OutEnds × InEnds)) (left : List (List Letter)
   pub lanes : (d e : ℕ) → d < length pairs → e < length pairs → entry (all_posted pairs) d e ≡ entry (all_collected pairs) e d ++ slice_index_or left (d * length pairs + e) []
 
 -- all of a desk's ends but what they know of the other end of each lane
-abbrev pub kept : OutEnds × InEnds → (Place × List (List Letter)) × (Place × ℕ × List (List Letter))
-kept p = ((p.0.place, p.0.posted), (p.1.place, p.1.cursor, p.1.collected))
+abbrev pub kept : OutEnds × InEnds → (Place × List (List Letter) × List ℕ) × (Place × ℕ × List (List Letter))
+kept p = ((p.0.place, p.0.posted, p.0.capacity), (p.1.place, p.1.cursor, p.1.collected))
 
 -- the lists of a list of vectors
 abbrev pub lists : {X A : Type 0} → List (Vec X A) → List (List X)

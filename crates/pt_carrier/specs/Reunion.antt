@@ -7,8 +7,8 @@ use Rattle.pt_carrier.specs.Ends.{Place, OutEnds, InEnds}
 use Rattle.pt_carrier.specs.Node.{kept, all_posted, all_collected, entry}
 
 -- what a look at the lanes leaves of one desk's ends
-abbrev pub out_kept : OutEnds → Place × List (List Letter)
-out_kept o = (o.place, o.posted)
+abbrev pub out_kept : OutEnds → Place × List (List Letter) × List ℕ
+out_kept o = (o.place, o.posted, o.capacity)
 
 abbrev pub in_kept : InEnds → Place × ℕ × List (List Letter)
 in_kept i = (i.place, i.cursor, i.collected)

@@ -8,6 +8,7 @@ ghost use Rattle.pt_carrier.specs.Reunion.{out_kept, in_kept, Meets, IsWhole, Ha
 use crate::lane::{InLane, OutLane};
 use pt_signal::Letter;
 use std::marker::Model;
+use thiserror::Error;
 
 /// The most desks that a node may have.
 pub const MAX_DESKS: u8 = 64;
@@ -45,9 +46,20 @@ impl Model for Ins {
     ghost invariant = { λ i. (i.number < length i.lanes.items) × (length i.lanes.items ≤ MAX_DESKS) × (i.cursor < length i.lanes.items) × ComeInTo i.number i.lanes.items };
 }
 
-/// A letter that its lane has no place for.
-#[derive(Clone, Copy, Debug)]
+/// Why a letter is refused.
+#[derive(Clone, Copy, Debug, PartialEq, Eq, Error)]
+pub enum PostCause {
+    /// Its lane has no place left.
+    #[error("the lane is full")]
+    Full,
+}
+
+/// A letter that was not posted.
+#[derive(Clone, Copy, Debug, PartialEq, Eq, Error)]
+#[error("letter refused: {cause}")]
 pub struct Refused {
+    /// Why it was not.
+    pub cause: PostCause,
     /// The letter, as it was to be posted.
     pub letter: Letter,
 }
@@ -63,14 +75,15 @@ impl Outs {
     /// Posts a letter from a process of this desk to one of desk `to`.
     ///
     /// The letter goes behind all that were posted there before. It is handed back, and nothing is posted, only
-    /// where the lane is full: the letters posted to that desk, less those that this end knows to be collected,
-    /// number the capacity, after it has looked again. Takes no memory and waits for nobody.
+    /// where the lane is full (`Full`): the letters posted to that desk, less those that this end knows to be
+    /// collected, number the capacity, after it has looked again. Takes no memory and waits for nobody.
     pub fn post(&mut self, to: u8, letter: Letter) -> Result<(), Refused>
         requires to { to < length self.old.place.rings }
         requires from_here { letter.from.shard ≡ self.old.place.number }
         requires to_there { letter.to.shard ≡ to }
         ensures place { self.new.place ≡ self.old.place }
         ensures ok { OnOk result (self.new.posted ≡ one_more self.old.posted to letter) }
+        ensures cause { IfErr result (λ e. e.cause ≡ PostCause.Full) }
         ensures full { IfErr result (λ e. (e.letter ≡ letter) × (self.new.posted ≡ self.old.posted) × IsFull self.new to) }
         ensures room { length (slice_index_or self.old.posted to []) < slice_index_or self.old.capacity to 0 + slice_index_or self.old.seen to 0 → IsOk result }
         ensures capacity { self.new.capacity ≡ self.old.capacity }
@@ -78,7 +91,10 @@ impl Outs {
     {
         match self.lanes[usize::from(to)].post(letter) {
             Ok(()) => Ok(()),
-            Err(letter) => Err(Refused { letter }),
+            Err(letter) => Err(Refused {
+                cause: PostCause::Full,
+                letter,
+            }),
         }
     }
 

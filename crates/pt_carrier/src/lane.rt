@@ -101,7 +101,7 @@ impl InLane {
     pub(crate) fn meet(&mut self, other: &mut OutLane)
         requires { (other.old.ring ≡ self.old.ring) × (other.old.from ≡ self.old.from) × (other.old.to ≡ self.old.to) }
         ensures same { (self.new.ring ≡ self.old.ring) × (self.new.from ≡ self.old.from) × (self.new.to ≡ self.old.to) × (self.new.collected ≡ self.old.collected) }
-        ensures other { (other.new.ring ≡ other.old.ring) × (other.new.from ≡ other.old.from) × (other.new.to ≡ other.old.to) × (other.new.posted ≡ other.old.posted) }
+        ensures other { (other.new.ring ≡ other.old.ring) × (other.new.from ≡ other.old.from) × (other.new.to ≡ other.old.to) × (other.new.posted ≡ other.old.posted) × (other.new.capacity ≡ other.old.capacity) }
         ensures whole { other.new.posted ≡ self.new.collected ++ self.new.known }
     {
         self.ring.slots_beside(&mut other.ring);

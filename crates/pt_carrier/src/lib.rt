@@ -55,6 +55,6 @@ mod reunion;
 #[cfg(test)]
 mod tests;
 
-pub use ends::{Ins, MAX_DESKS, Outs, Refused};
+pub use ends::{Ins, MAX_DESKS, Outs, PostCause, Refused};
 pub use opening::{MAX_CAPACITY, open};
 pub use reunion::{Cause, EndsBack, Leftovers, reunite};

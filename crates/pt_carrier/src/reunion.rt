@@ -7,7 +7,9 @@ ghost use Rattle.pt_carrier.specs.Reunion.{MeetAt, WholeAt, HasRoom, all_known};
 use crate::ends::{Ins, Outs};
 use pt_signal::Letter;
 use std::alloc::{AllocError, Global};
+use std::fmt;
 use std::marker::Model;
+use thiserror::Error;
 
 /// The letters that were posted and not collected.
 #[derive(Drop)]
@@ -17,17 +19,25 @@ pub struct Leftovers {
 }
 
 /// Why ends come back.
-#[derive(Clone, Copy, Debug, PartialEq, Eq)]
+#[derive(Clone, Copy, Debug, PartialEq, Eq, Error)]
 pub enum Cause {
     /// There was no memory for the lists of the left-over letters.
+    #[error("no memory for the letters left over")]
     Memory,
 }
 
 /// The ends of a node that were not reunited.
 ///
-/// They cannot be dropped: they are taken out or abandoned.
+/// They cannot be dropped: they are taken out or abandoned. So this is no [`Error`](std::error::Error), which can be
+/// dropped, but its [`cause`](EndsBack::cause) is one.
 pub struct EndsBack {
     pairs: Vec<(Outs, Ins)>,
+}
+
+impl fmt::Display for EndsBack {
+    fn fmt<W: fmt::Write>(&self, f: &mut fmt::Formatter<W>) -> fmt::Result {
+        write!(f, "the ends come back: {}", self.cause())
+    }
 }
 
 impl Model for EndsBack {
@@ -69,8 +79,8 @@ impl EndsBack {
 /// Brings all ends of one [`open`](crate::open) together, in order of desk, and gives the letters left over.
 ///
 /// For each pair of desks, what was posted is what was collected, then what is left over. Where memory is refused
-/// all ends come back in order, with what they posted and collected and each cursor unchanged; the receiving ends may
-/// know of more letters than before.
+/// all ends come back in order, with what they posted and collected, the capacity of each lane and each cursor
+/// unchanged; the ends may know more of each other than before, which no call tells.
 pub fn reunite(alloc: Global, pairs: Vec<(Outs, Ins)>) -> Result<Leftovers, EndsBack>
     requires { IsNode (map places pairs.items) }
     ensures ok { IfOk result (λ left. AreLeft pairs.items (lists left.lanes.items)) }

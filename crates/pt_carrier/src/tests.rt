@@ -134,6 +134,23 @@ fn a_full_lane_refuses_and_looks_again(rt: HostRuntime) -> Result<(), Fail> {
 }
 
 #[test]
+fn refusals_say_why(rt: HostRuntime) -> Result<(), Fail> {
+    let refused = Refused {
+        cause: PostCause::Full,
+        letter: letter(0, 1, 2),
+    };
+    assert_eq!(rt;
+        refused.to_string(rt.alloc())?.as_str(),
+        "letter refused: the lane is full"
+    );
+    assert_eq!(rt;
+        Cause::Memory.to_string(rt.alloc())?.as_str(),
+        "no memory for the letters left over"
+    );
+    Ok(())
+}
+
+#[test]
 fn the_lanes_of_two_senders_are_collected(rt: HostRuntime) -> Result<(), Fail> {
     let mut pairs = opened(&rt, rt.alloc(), 3, 8);
     assert_eq!(rt; post(&mut pairs, 0, 2, 1), None);

@@ -38,8 +38,8 @@ returns c =
     let same = c.meet.ensures.same in
     let whole = c.meet.ensures.whole in
     rw (← c.outs.view_is, ← c.self.view_is, c.from-from.ensures, c.from-to.ensures) (record {
-      outs = outs_kept a b cursor xs ys out into m x y x_is y_is v w other.0 other.3 same.0 same.3 whole;
-      kept = ins_kept a b cursor xs ys out into m x y x_is y_is v w other.0 other.3 same.0 same.3 whole;
+      outs = outs_kept a b cursor xs ys out into m x y x_is y_is v w other.0 other.3 other.4 same.0 same.3 whole;
+      kept = ins_kept a b cursor xs ys out into m x y x_is y_is v w other.0 other.3 other.4 same.0 same.3 whole;
       others = λ k n. get_or-map_set_other (λ (s : Receiving). s.known) ys a k w [] n;
-      whole = is_whole a b cursor xs ys out into m x y x_is y_is v w other.0 other.3 same.0 same.3 whole;
+      whole = is_whole a b cursor xs ys out into m x y x_is y_is v w other.0 other.3 other.4 same.0 same.3 whole;
     })
