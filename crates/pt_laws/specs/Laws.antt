@@ -5,7 +5,7 @@ use Rattle.pt_signal.specs.declared.letter.Letter.{Letter}
 use Rattle.pt_events.specs.declared.event.Stamped.{Stamped}
 use Rattle.pt_signal.specs.Process.{Sent}
 use Rattle.pt_events.specs.History.{Past, Start, IsLegal, emitted, came, flight, flying, life}
-use Rattle.pt_events.specs.Journal.{Journals, LanesAgree, IsLocal, IsMerge, events, content}
+use Rattle.pt_events.specs.Journal.{Journals, LanesAgree, in_lane, IsLocal, IsMerge, events, content}
 use Rattle.pt_laws.specs.Sender.{IsSenderFront}
 use Rattle.pt_laws.specs.Load.{IsStart, IsQuiet}
 use Rattle.pt_laws.specs.Resumed.{start_after, AllNewTo}
