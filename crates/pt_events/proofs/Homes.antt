@@ -1,12 +1,12 @@
 -- What an event of a desk sends is from that desk, and is read from that desk's events.
-use Rattle.std.proofs.Common.{◌≡◌, ℕ, List, [], ◌∷◌, ◌++◌, Option, Some, None, map, refl, ap, subst}
+use Rattle.std.proofs.Common.{◌≡◌, ℕ, List, [], ◌∷◌, ◌++◌, Option, Some, None, map, refl, ap, sym, subst}
 use Rattle.std.specs.Prelude.{⊤}
 use Rattle.pt_signal.specs.declared.pid.Pid.{Pid}
 use Rattle.pt_signal.specs.declared.ids.Ref.{Ref}
 use Rattle.pt_signal.specs.declared.ids.Ids.{Ids}
 use Rattle.pt_signal.specs.declared.reason.Reason.{Reason}
 use Rattle.pt_signal.specs.declared.signal.Signal.{Signal}
-use Rattle.pt_signal.specs.declared.signal.Signal.TheVariants.{Link, LinkExit, Monitor, Demonitor}
+use Rattle.pt_signal.specs.declared.signal.Signal.TheVariants.{Message, Link, Unlink, LinkExit, Monitor, Demonitor, AliveAsk, AliveSay}
 use Rattle.pt_events.specs.declared.event.Event.{Event}
 use Rattle.pt_events.specs.declared.event.Event.TheVariants.{Born, Said, Came, Took, Flag, Left}
 use Rattle.pt_events.specs.declared.event.Stamped.{Stamped}
@@ -16,6 +16,7 @@ use Rattle.pt_events.specs.Journal.{events, of_desk, IsHome}
 use Rattle.pt_events.specs.Locality.{AllHome}
 pub use Rattle.pt_events.specs.Journal.{in_lane}
 use Rattle.pt_events.proofs.Local.{life_local}
+use Rattle.pt_signal.proofs.Handling.{living_answer, handle_answer}
 
 abbrev pub AllFrom : ℕ → List Sent → Type 0
 AllFrom d [] = ⊤
@@ -39,15 +40,23 @@ AllFrom-estate me s r =
 AllFrom-bounce : (me c : Pid) (x : Signal) → AllFrom me.shard (bounce me c x)
 AllFrom-bounce me c (Link i) = (refl, tt)
 AllFrom-bounce me c (Monitor m) = (refl, tt)
+AllFrom-bounce me c (AliveAsk m) = (refl, tt)
 AllFrom-bounce me c _ = tt
 
 AllFrom-end : (me : Pid) (o : Option Reason) (s : ProcessState) → AllFrom me.shard (end_sends me o s)
 AllFrom-end me None s = tt
 AllFrom-end me (Some r) s = AllFrom-estate me s r
 
+AllFrom-answer : (me c : Pid) (x : Signal) → AllFrom me.shard (living_answer me c x)
+AllFrom-answer me c (AliveAsk m) = (refl, tt)
+AllFrom-answer me c _ = tt
+
 AllFrom-got : (f : Phase) (me c : Pid) (x : Signal) → AllFrom me.shard (got_sends f me c x)
 AllFrom-got unborn me c x = AllFrom-bounce me c x
-AllFrom-got (living s) me c x = AllFrom-end me (handle me s c x).ending (handle me s c x).state
+AllFrom-got (living s) me c x =
+    AllFrom-append me.shard _ _
+    (subst (AllFrom me.shard) (sym (handle_answer me s c x)) (AllFrom-answer me c x))
+    (AllFrom-end me (handle me s c x).ending (handle me s c x).state)
 AllFrom-got (ended r s) me c x = AllFrom-bounce me c x
 
 AllFrom-left : (f : Phase) (me : Pid) (r : Reason) → AllFrom me.shard (left_sends f me r)

@@ -8,7 +8,7 @@ use Rattle.pt_signal.specs.declared.ids.LinkId.{LinkId}
 use Rattle.pt_signal.specs.declared.item.Item.{Item}
 use Rattle.pt_signal.specs.declared.reason.Reason.{Reason}
 use Rattle.pt_signal.specs.declared.signal.Signal.{Signal}
-use Rattle.pt_signal.specs.declared.signal.Signal.TheVariants.{Message, Link, Unlink, LinkExit, Monitor, Demonitor}
+use Rattle.pt_signal.specs.declared.signal.Signal.TheVariants.{Message, Link, Unlink, LinkExit, Monitor, Demonitor, AliveAsk, AliveSay}
 use Rattle.pt_events.specs.declared.event.Event.{Event}
 use Rattle.pt_events.specs.declared.event.Event.TheVariants.{Born, Said, Came, Took, Flag, Left}
 use Rattle.pt_signal.specs.Values.{same_pid, same_ref, same_link, fits, without_first}
@@ -120,7 +120,7 @@ end_sends p None s = []
 end_sends p (Some r) s = estate p s r
 
 abbrev pub got_sends : Phase → Pid → Pid → Signal → List Sent
-got_sends (living s) b a x = let h = handle b s a x in end_sends b h.ending h.state
+got_sends (living s) b a x = let h = handle b s a x in h.answer ++ end_sends b h.ending h.state
 got_sends _ b a x = bounce b a x
 
 abbrev pub left_sends : Phase → Pid → Reason → List Sent
@@ -147,8 +147,10 @@ makes_link i (Born q parent link) = is_this i link
 makes_link i (Said a b (Link j)) = same_link i j
 makes_link i _ = false
 
+-- as a monitor, or as the question whether a process is alive
 abbrev pub makes_ref : Ref → Event → Bool
 makes_ref m (Said a b (Monitor n)) = same_ref m n
+makes_ref m (Said a b (AliveAsk n)) = same_ref m n
 makes_ref m _ = false
 
 abbrev pub made_link : Past → LinkId → Bool
@@ -226,6 +228,8 @@ module _ (start : Start) where
   MaySay past s a b (Demonitor m) = lookup (same_ref m) s.watching ≡ Some b
   MaySay past s a b (LinkExit ids r) = ⊥
   MaySay past s a b (Signal.Down m r) = ⊥
+  MaySay past s a b (AliveAsk m) = made_ref past m ≡ false
+  MaySay past s a b (AliveSay m x) = ⊥
 
   abbrev pub MayBear : Past → Option Pid → Option LinkId → Type 0
   MayBear past None None = ⊤

@@ -2,7 +2,7 @@
 use Rattle.std.specs.Prelude.{◌≡◌, ℕ, ◌<◌, ◌≤◌, ◌^◌, pred, Bool, true, false, cond, ◌==◌, ◌&&◌, ◌⊎◌, Option, Some, None, List, [], ◌∷◌, ◌++◌, map, filter, ⊤}
 use Rattle.pt_signal.specs.declared.pid.Pid.{Pid}
 use Rattle.pt_signal.specs.declared.ids.LinkId.{LinkId}
-use Rattle.pt_signal.specs.declared.signal.Signal.TheVariants.{Link, Monitor}
+use Rattle.pt_signal.specs.declared.signal.Signal.TheVariants.{Link, Monitor, AliveAsk}
 use Rattle.pt_events.specs.declared.event.Event.{Event}
 use Rattle.pt_events.specs.declared.event.Event.TheVariants.{Born, Said, Came, Took, Flag, Left}
 use Rattle.pt_events.specs.declared.event.Stamped.{Stamped}
@@ -48,6 +48,7 @@ abbrev pub IsNewAt : ℕ → ℕ → Event → Type 0
 IsNewAt d n (Born p parent link) = IsLinkAt d n link
 IsNewAt d n (Said a b (Link i)) = (i.desk ≡ d) × (i.number ≡ n)
 IsNewAt d n (Said a b (Monitor m)) = (m.desk ≡ d) × (m.number ≡ n)
+IsNewAt d n (Said a b (AliveAsk m)) = (m.desk ≡ d) × (m.number ≡ n)
 IsNewAt d n _ = ⊤
 
 module _ (start : Start) where

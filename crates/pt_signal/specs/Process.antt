@@ -11,7 +11,7 @@ use Rattle.pt_signal.specs.declared.item.Item.TheVariants.{User}
 use Rattle.pt_signal.specs.declared.reason.Reason.{Reason}
 use Rattle.pt_signal.specs.declared.reason.Reason.TheVariants.{Normal, Kill, Killed, Noproc}
 use Rattle.pt_signal.specs.declared.signal.Signal.{Signal}
-use Rattle.pt_signal.specs.declared.signal.Signal.TheVariants.{Message, Link, Unlink, LinkExit, Monitor, Demonitor}
+use Rattle.pt_signal.specs.declared.signal.Signal.TheVariants.{Message, Link, Unlink, LinkExit, Monitor, Demonitor, AliveAsk, AliveSay}
 use Rattle.pt_signal.specs.Values.{same_pid, same_ref, same_link, without_first}
 
 -- what a live process holds, each list in order of entry
@@ -113,24 +113,39 @@ verdict by_link true own from r = queues (Item.Exit from r)
 verdict by_link false false from Normal = drops
 verdict by_link false own from r = ends r
 
+-- a signal on its way ---------------------------------------------------------------
+
+pub record Sent : Type 0 where
+  pub from : Pid
+  pub to : Pid
+  pub signal : Signal
+
+abbrev pub sent : Pid → Pid → Signal → Sent
+sent a b x = record { from = a; to = b; signal = x }
+
 -- what a signal does to a live process --------------------------------------------
 
--- the state afterwards, the item that was queued, if any, and the reason of its end, if it ends
+-- the state afterwards, the item that was queued, if any, what goes back, if anything, and the reason of its
+-- end, if it ends
 pub record Handled : Type 0 where
   pub state : ProcessState
   pub items : List Item
+  pub answer : List Sent
   pub ending : Option Reason
 
 abbrev pub stays : ProcessState → Handled
-stays s = record { state = s; items = []; ending = None }
+stays s = record { state = s; items = []; answer = []; ending = None }
 
 abbrev pub queued : Item → ProcessState → Handled
-queued item s = record { state = record s { waiting = s.waiting ++ item ∷ [] }; items = item ∷ []; ending = None }
+queued item s = record { state = record s { waiting = s.waiting ++ item ∷ [] }; items = item ∷ []; answer = []; ending = None }
+
+abbrev pub answers : Sent → ProcessState → Handled
+answers back s = record { state = s; items = []; answer = back ∷ []; ending = None }
 
 abbrev pub obey : Verdict → ProcessState → Handled
 obey drops s = stays s
 obey (queues item) s = queued item s
-obey (ends r) s = record { state = s; items = []; ending = Some r }
+obey (ends r) s = record { state = s; items = []; answer = []; ending = Some r }
 
 abbrev pub link_exit : Bool → Pid → ProcessState → Pid → Reason → Handled
 link_exit false me s from r = stays s
@@ -149,6 +164,8 @@ handle me s from (LinkExit ids r) = link_exit (holds_any (held s.links from) ids
 handle me s from (Monitor m) = stays (record s { kept = keep m from s.kept })
 handle me s from (Demonitor m) = stays (record s { kept = without_first (same_watch m from) s.kept })
 handle me s from (Signal.Down m r) = down (lookup (same_ref m) s.watching) s from m r
+handle me s from (AliveAsk m) = answers (sent me from (AliveSay m true)) s
+handle me s from (AliveSay m x) = queued (Item.Alive m from x) s
 
 -- what saying a signal does to the sayer
 abbrev pub say : ProcessState → Pid → Signal → ProcessState
@@ -158,15 +175,7 @@ say s to (Monitor m) = record s { watching = s.watching ++ (m, to) ∷ [] }
 say s to (Demonitor m) = record s { watching = remove_entry (same_ref m) s.watching }
 say s to _ = s
 
--- a signal on its way ---------------------------------------------------------------
-
-pub record Sent : Type 0 where
-  pub from : Pid
-  pub to : Pid
-  pub signal : Signal
-
-abbrev pub sent : Pid → Pid → Signal → Sent
-sent a b x = record { from = a; to = b; signal = x }
+-- what goes out -------------------------------------------------------------------
 
 -- what a process owes at its end
 abbrev pub estate : Pid → ProcessState → Reason → List Sent
@@ -179,6 +188,7 @@ estate me s r =
 abbrev pub answer_of_dead : Signal → Option Signal
 answer_of_dead (Link i) = Some (LinkExit (one_id i) Noproc)
 answer_of_dead (Monitor m) = Some (Signal.Down m Noproc)
+answer_of_dead (AliveAsk m) = Some (AliveSay m false)
 answer_of_dead _ = None
 
 abbrev pub bounce : Pid → Pid → Signal → List Sent

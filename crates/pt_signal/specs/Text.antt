@@ -1,5 +1,5 @@
 -- The printed texts, as lists of characters.
-use Rattle.std.specs.Prelude.{ℕ, List, ◌++◌, codes, decimal, Option, Some, None}
+use Rattle.std.specs.Prelude.{ℕ, Bool, true, false, List, ◌++◌, codes, decimal, Option, Some, None}
 use Rattle.std.specs.Fmt.{signed_decimal}
 use Rattle.pt_signal.specs.declared.pid.Pid.{Pid}
 use Rattle.pt_signal.specs.declared.ids.Ref.{Ref}
@@ -12,7 +12,7 @@ use Rattle.pt_signal.specs.declared.item.Pick.{Pick}
 use Rattle.pt_signal.specs.declared.item.Item.{Item}
 use Rattle.pt_signal.specs.declared.item.Item.TheVariants.{User}
 use Rattle.pt_signal.specs.declared.signal.Signal.{Signal}
-use Rattle.pt_signal.specs.declared.signal.Signal.TheVariants.{Message, Link, Unlink, LinkExit, Monitor, Demonitor}
+use Rattle.pt_signal.specs.declared.signal.Signal.TheVariants.{Message, Link, Unlink, LinkExit, Monitor, Demonitor, AliveAsk, AliveSay}
 use Rattle.pt_signal.specs.declared.letter.Letter.{Letter}
 
 -- `<shard.slot.version>`
@@ -51,10 +51,16 @@ reason_text Noproc = codes "noproc"
 reason_text Shutdown = codes "shutdown"
 reason_text (Other number) = codes "other:" ++ decimal number
 
+-- whether a process is alive
+unfoldable pub yes_or_no_text : Bool → List ℕ
+yes_or_no_text true = codes "yes"
+yes_or_no_text false = codes "no"
+
 unfoldable pub item_text : Item → List ℕ
 item_text (User from body) = codes "user " ++ pid_text from ++ codes " " ++ body_text body
 item_text (Item.Exit from r) = codes "exit " ++ pid_text from ++ codes " " ++ reason_text r
 item_text (Item.Down m from r) = codes "down " ++ ref_text m ++ codes " " ++ pid_text from ++ codes " " ++ reason_text r
+item_text (Item.Alive m from x) = codes "alive " ++ ref_text m ++ codes " " ++ pid_text from ++ codes " " ++ yes_or_no_text x
 
 unfoldable pub pick_text : Pick → List ℕ
 pick_text Pick.Any = codes "any"
@@ -62,6 +68,7 @@ pick_text (Pick.Kind k) = codes "kind " ++ decimal k
 pick_text (Pick.From p) = codes "from " ++ pid_text p
 pick_text (Pick.ExitOf p) = codes "exit-of " ++ pid_text p
 pick_text (Pick.DownOf m) = codes "down-of " ++ ref_text m
+pick_text (Pick.AliveOf m) = codes "alive-of " ++ ref_text m
 
 unfoldable pub signal_text : Signal → List ℕ
 signal_text (Message body) = codes "message " ++ body_text body
@@ -72,6 +79,8 @@ signal_text (LinkExit ids r) = codes "link-exit " ++ ids_text ids ++ codes " " +
 signal_text (Monitor m) = codes "monitor " ++ ref_text m
 signal_text (Demonitor m) = codes "demonitor " ++ ref_text m
 signal_text (Signal.Down m r) = codes "down " ++ ref_text m ++ codes " " ++ reason_text r
+signal_text (AliveAsk m) = codes "alive-ask " ++ ref_text m
+signal_text (AliveSay m x) = codes "alive-say " ++ ref_text m ++ codes " " ++ yes_or_no_text x
 
 -- `PID -> PID`
 unfoldable pub route_text : Pid → Pid → List ℕ

@@ -23,6 +23,7 @@ fits (Pick.Kind k) (User from body) = body.kind == k
 fits (Pick.From p) (User from body) = same_pid p from
 fits (Pick.ExitOf p) (Item.Exit from r) = same_pid p from
 fits (Pick.DownOf m) (Item.Down n from r) = same_ref m n
+fits (Pick.AliveOf m) (Item.Alive n from x) = same_ref m n
 fits _ _ = false
 
 -- the list without the first that passes the test

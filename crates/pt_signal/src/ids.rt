@@ -1,16 +1,16 @@
-// References of monitors, and ids of links.
+// References of monitors and questions, and ids of links.
 
 ghost use Rattle.std.specs.Prelude.{◌≡◌};
 ghost use Rattle.pt_signal.specs.Process.{one_id, has_id, share_id, add_id, without_ids};
 
 use std::fmt;
 
-/// The reference of one monitor.
+/// The reference of one monitor, or of one question whether a process is alive.
 #[derive(Clone, Copy, Debug, PartialOrd, Ord, Hash)]
 pub struct Ref {
-    /// The desk of the watching process.
+    /// The desk of the process that watches or asks.
     pub desk: u8,
-    /// The stamp of the event that made the monitor.
+    /// The stamp of the event that made the monitor or asked.
     pub number: u64,
 }
 

@@ -24,6 +24,8 @@ pub enum Item {
     Exit(Pid, Reason),
     /// The one answer to a monitor: Erlang's `{'DOWN', Ref, process, Pid, Reason}`.
     Down(Ref, Pid, Reason),
+    /// The answer to the question whether a process is alive.
+    Alive(Ref, Pid, bool),
 }
 
 /// Which items a selective receive takes.
@@ -39,6 +41,8 @@ pub enum Pick {
     ExitOf(Pid),
     /// The DOWN of this monitor.
     DownOf(Ref),
+    /// The answer to this question whether a process is alive.
+    AliveOf(Ref),
 }
 
 impl Pick {
@@ -52,8 +56,24 @@ impl Pick {
             (Pick::From(pid), Item::User(from, _)) => pid == from,
             (Pick::ExitOf(pid), Item::Exit(from, _)) => pid == from,
             (Pick::DownOf(monitor), Item::Down(answered, _, _)) => monitor == answered,
+            (Pick::AliveOf(question), Item::Alive(answered, _, _)) => question == answered,
             _ => false,
         }
+    }
+}
+
+/// Whether a process is alive, as it is printed.
+#[derive(Clone, Copy)]
+pub(crate) struct YesOrNo(pub(crate) bool);
+
+impl fmt::Display for YesOrNo {
+    ghost use Rattle.std.specs.Prelude.{Some};
+    ghost use Rattle.pt_signal.specs.Text.{yes_or_no_text};
+
+    ghost output = { λ x. Some (yes_or_no_text x.0) };
+
+    fn fmt<W: fmt::Write>(&self, f: &mut fmt::Formatter<W>) -> fmt::Result {
+        f.write_str(if self.0 { "yes" } else { "no" })
     }
 }
 
@@ -83,6 +103,10 @@ impl fmt::Display for Item {
             Item::User(from, body) => write!(f, "user {from} {body}"),
             Item::Exit(from, reason) => write!(f, "exit {from} {reason}"),
             Item::Down(monitor, from, reason) => write!(f, "down {monitor} {from} {reason}"),
+            Item::Alive(question, pid, alive) => {
+                let answer = YesOrNo(*alive);
+                write!(f, "alive {question} {pid} {answer}")
+            }
         }
     }
 }
@@ -100,6 +124,7 @@ impl fmt::Display for Pick {
             Pick::From(pid) => write!(f, "from {pid}"),
             Pick::ExitOf(pid) => write!(f, "exit-of {pid}"),
             Pick::DownOf(monitor) => write!(f, "down-of {monitor}"),
+            Pick::AliveOf(question) => write!(f, "alive-of {question}"),
         }
     }
 }

@@ -3,7 +3,7 @@
 //! All are `Copy`. Beside them, in `specs/`, stand the words that every layer above cites: which items a
 //! selective receive takes, what a signal does to a live process, what an end owes, and what goes back
 //! from a process that is not alive.
-#![tactic(auto, unfolding(crate::specs::Text::pid_text, crate::specs::Text::ref_text, crate::specs::Text::link_id_text, crate::specs::Text::ids_text, crate::specs::Text::body_text, crate::specs::Text::reason_text, crate::specs::Text::item_text, crate::specs::Text::pick_text, crate::specs::Text::signal_text, crate::specs::Text::route_text, crate::specs::Text::letter_text))]
+#![tactic(auto, unfolding(crate::specs::Text::pid_text, crate::specs::Text::ref_text, crate::specs::Text::link_id_text, crate::specs::Text::ids_text, crate::specs::Text::body_text, crate::specs::Text::reason_text, crate::specs::Text::yes_or_no_text, crate::specs::Text::item_text, crate::specs::Text::pick_text, crate::specs::Text::signal_text, crate::specs::Text::route_text, crate::specs::Text::letter_text))]
 
 mod ids;
 mod item;

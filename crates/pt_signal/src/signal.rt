@@ -4,6 +4,7 @@ ghost use Rattle.std.specs.Prelude.{◌≡◌};
 ghost use Rattle.std.specs.Option.{option_map};
 ghost use Rattle.pt_signal.specs.Process.{answer_of_dead};
 
+use crate::item::YesOrNo;
 use crate::{Body, Ids, LinkId, Reason, Ref};
 use std::fmt;
 
@@ -26,17 +27,22 @@ pub enum Signal {
     Demonitor(Ref),
     /// The sender, watched under this reference, has ended.
     Down(Ref, Reason),
+    /// The sender asks whether the receiver is alive.
+    AliveAsk(Ref),
+    /// The sender answers whether it is alive.
+    AliveSay(Ref, bool),
 }
 
 impl Signal {
     /// What goes back where this signal comes to a process that is not alive: a link is answered by an exit
-    /// signal with `noproc`, a monitor by its DOWN, and all else vanishes.
+    /// signal with `noproc`, a monitor by its DOWN, the question whether it is alive by no, and all else vanishes.
     pub fn answer_of_dead(self) -> Option<Signal>
         ensures { result ≡ answer_of_dead self }
     {
         match self {
             Signal::Link(id) => Some(Signal::LinkExit(Ids::of(id), Reason::Noproc)),
             Signal::Monitor(monitor) => Some(Signal::Down(monitor, Reason::Noproc)),
+            Signal::AliveAsk(question) => Some(Signal::AliveSay(question, false)),
             _ => None,
         }
     }
@@ -58,6 +64,11 @@ impl fmt::Display for Signal {
             Signal::Monitor(monitor) => write!(f, "monitor {monitor}"),
             Signal::Demonitor(monitor) => write!(f, "demonitor {monitor}"),
             Signal::Down(monitor, reason) => write!(f, "down {monitor} {reason}"),
+            Signal::AliveAsk(question) => write!(f, "alive-ask {question}"),
+            Signal::AliveSay(question, alive) => {
+                let answer = YesOrNo(*alive);
+                write!(f, "alive-say {question} {answer}")
+            }
         }
     }
 }
