@@ -12,7 +12,9 @@ use Rattle.pt_events.specs.declared.event.Event.{Event}
 use Rattle.pt_events.specs.declared.event.Event.TheVariants.{Born, Said, Came, Took, Flag, Left}
 use Rattle.pt_signal.specs.Values.{same_pid, same_ref}
 use Rattle.pt_signal.specs.Process.{ProcessState, Verdict, drops, queues, ends, verdict, obey, held, holds_any, link_exit, down, handle}
-use Rattle.pt_events.specs.History.{Past, Start, Phase, unborn, living, ended, life, after, is_the, is_unborn, is_ended, is_living, reason_of, newborn, while_living, live_or_end, gets, leaves, May, IsLegal}
+use Rattle.pt_events.specs.History.{Past, Start, Phase, unborn, living, ended, life, after, is_the, is_unborn, is_ended, is_living, reason_of, newborn, while_living, live_or_end, gets, leaves}
+use Rattle.pt_events.specs.Journal.{MayHere}
+use Rattle.pt_laws.specs.Acts.{ActsMayCome}
 use Rattle.pt_laws.specs.Load.{one_if}
 use Rattle.std.specs.Map.{lookup}
 use Rattle.pt_signal.proofs.Same.{same_pid_is}
@@ -144,7 +146,7 @@ leaves_reason false r (living s) h = refl
 leaves_reason false r (ended w s) h = refl
 
 module _ (start : Start) where
-  pub reason_step : (past : Past) (p : Pid) (e : Event) → May start past e → reason_of (life start (e ∷ past) p) ≡ option_or (reason_of (life start past p)) (ends_with p (life start past p) e)
+  pub reason_step : (past : Past) (p : Pid) (e : Event) → MayHere start past e → reason_of (life start (e ∷ past) p) ≡ option_or (reason_of (life start past p)) (ends_with p (life start past p) e)
   reason_step past p (Born q parent link) h = born_reason (same_pid p q) (is_the p parent) _ parent link (life start past p)
   reason_step past p (Said a b x) h = step_reason (same_pid p a) _ (life start past p)
   reason_step past p (Came a b x) h = came_reason p a b x (life start past p)
@@ -155,7 +157,7 @@ module _ (start : Start) where
   -- the laws ---------------------------------------------------------------------------------------
 
   -- a birth is of a pid that was unborn
-  birth_is_new : (past : Past) (p : Pid) (e : Event) → May start past e → is_birth p e ≡ true → is_unborn (life start past p) ≡ true
+  birth_is_new : (past : Past) (p : Pid) (e : Event) → MayHere start past e → is_birth p e ≡ true → is_unborn (life start past p) ≡ true
   birth_is_new past p (Born q parent link) h e = rw (same_pid_is p q e, h.0) refl
   birth_is_new past p (Said a b x) h e = absurd (false≢true e)
   birth_is_new past p (Came a b x) h e = absurd (false≢true e)
@@ -163,7 +165,7 @@ module _ (start : Start) where
   birth_is_new past p (Flag q on) h e = absurd (false≢true e)
   birth_is_new past p (Left q r) h e = absurd (false≢true e)
 
-  pub born_once : (past : Past) (p : Pid) → IsLegal start past
+  pub born_once : (past : Past) (p : Pid) → ActsMayCome start past
       → births past p + one_if (not (is_unborn (life start [] p))) ≡ one_if (not (is_unborn (life start past p)))
   born_once [] p h = omega arith
   born_once (e ∷ past) p h = go (is_birth p e) refl (is_unborn (life start past p)) refl (birth_is_new past p e h.0) (born_once past p h.1)
@@ -181,7 +183,7 @@ module _ (start : Start) where
   reason_is_end (ended r s) = refl
 
   -- an event that ends a pid finds it alive
-  end_is_new : (past : Past) (p : Pid) (e : Event) → May start past e → is_some (ends_with p (life start past p) e) ≡ true → reason_of (life start past p) ≡ None
+  end_is_new : (past : Past) (p : Pid) (e : Event) → MayHere start past e → is_some (ends_with p (life start past p) e) ≡ true → reason_of (life start past p) ≡ None
   end_is_new past p (Left q r) h g = go (same_pid p q) refl g
     where
       lives : (f : Phase) → is_living f ≡ true → reason_of f ≡ None
@@ -228,7 +230,7 @@ module _ (start : Start) where
   later_some (Some r) None h = refl
   later_some (Some r) (Some w) h = let k = h refl in absurd (cc)
 
-  pub ended_once : (past : Past) (p : Pid) → IsLegal start past
+  pub ended_once : (past : Past) (p : Pid) → ActsMayCome start past
       → deaths start past p + one_if (is_ended (life start [] p)) ≡ one_if (is_ended (life start past p))
   ended_once [] p h = omega arith
   ended_once (e ∷ past) p h =
@@ -251,11 +253,11 @@ module _ (start : Start) where
       go true false = refl
       go false b = refl
 
-  pub end_reason_is : (past : Past) (p : Pid) → IsLegal start past → end_reason start past p ≡ reason_of (life start past p)
+  pub end_reason_is : (past : Past) (p : Pid) → ActsMayCome start past → end_reason start past p ≡ reason_of (life start past p)
   end_reason_is [] p h = refl
   end_reason_is (e ∷ past) p h = rw (end_reason_is past p h.1) (sym (reason_step past p e h.0))
 
-  pub alive_until_end : (past : Past) (p : Pid) → IsLegal start past → is_living (life start past p) ≡ (was_born start past p && not (is_some (end_reason start past p)))
+  pub alive_until_end : (past : Past) (p : Pid) → ActsMayCome start past → is_living (life start past p) ≡ (was_born start past p && not (is_some (end_reason start past p)))
   alive_until_end past p h = rw (was_born_is past p, end_reason_is past p h) (go (life start past p))
     where
       go : (f : Phase) → is_living f ≡ (not (is_unborn f) && not (is_some (reason_of f)))

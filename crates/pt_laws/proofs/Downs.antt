@@ -11,7 +11,8 @@ use Rattle.pt_signal.specs.declared.signal.Signal.TheVariants.{Message, Link, Un
 use Rattle.pt_events.specs.declared.event.Event.TheVariants.{Born, Said, Came, Took, Flag, Left}
 use Rattle.pt_signal.specs.Values.{same_pid, same_ref}
 use Rattle.pt_signal.specs.Process.{ProcessState, verdict, obey, holds_any, held, link_exit, down, handle, say}
-use Rattle.pt_events.specs.History.{Past, Start, Phase, unborn, living, ended, life, at_start, state, state_of, while_living, gets, items_of, arrives, arrived_since, is_living, MaySay, IsLegal}
+use Rattle.pt_events.specs.History.{Past, Start, Phase, unborn, living, ended, life, at_start, state, state_of, while_living, gets, items_of, arrives, arrived_since, is_living, MaySay}
+use Rattle.pt_laws.specs.Acts.{ActsMayCome}
 use Rattle.pt_laws.specs.Load.{one_if}
 use Rattle.pt_laws.specs.Watch.{count, is_monitor, is_demonitor, is_down_item, said_times}
 use Rattle.pt_signal.proofs.Same.{same_ref_is, same_ref_refl, same_pid_is}
@@ -100,7 +101,7 @@ module _ (start : Start) (m : Ref) (w : Pid) where
   abbrev pub opens_of : Past → ℕ
   opens_of past = opens m (state start past w).watching
 
-  pub count_law : (past : Past) → IsLegal start past
+  pub count_law : (past : Past) → ActsMayCome start past
       → opens_of past + said_times w (is_demonitor m) past + count (is_down_item m) (arrived_since start past w)
       ≡ opens m (state_of (at_start start w)).watching + said_times w (is_monitor m) past
   count_law [] h = omega arith

@@ -10,7 +10,9 @@ use Rattle.pt_events.specs.declared.event.Event.{Event}
 use Rattle.pt_events.specs.declared.event.Event.TheVariants.{Born, Said, Came, Took, Flag, Left}
 use Rattle.pt_signal.specs.Values.{same_pid, same_ref}
 use Rattle.pt_signal.specs.Process.{ProcessState, verdict, held, holds_any, handle, say, or_else}
-use Rattle.pt_events.specs.History.{Past, Start, Phase, unborn, living, ended, life, state, is_living, state_of, while_living, May, IsLegal}
+use Rattle.pt_events.specs.History.{Past, Start, Phase, unborn, living, ended, life, state, is_living, state_of, while_living}
+use Rattle.pt_events.specs.Journal.{MayHere}
+use Rattle.pt_laws.specs.Acts.{ActsMayCome}
 use Rattle.pt_laws.specs.Words.{flag_of, last_flag}
 use Rattle.pt_signal.proofs.Same.{same_pid_is}
 use Rattle.pt_events.proofs.Phases.{each_branch}
@@ -34,7 +36,7 @@ flagged true on (ended r s) h = absurd (false≢true (h refl))
 flagged false on f h = refl
 
 module _ (start : Start) (p : Pid) where
-  flag_step : (past : Past) (e : Event) → May start past e → (state start (e ∷ past) p).traps ≡ or_else (flag_of p e) (state start past p).traps
+  flag_step : (past : Past) (e : Event) → MayHere start past e → (state start (e ∷ past) p).traps ≡ or_else (flag_of p e) (state start past p).traps
   flag_step past (Born c parent link) h = born_keeps (λ s. s.traps) (λ l s. refl) p c parent link (life start past p)
   flag_step past (Said a b x) h = each_branch (λ g. (state_of g).traps ≡ (state start past p).traps) (same_pid p a) _ _ (while_keeps (λ s. s.traps) (λ s. say s b x) (say_keeps (λ s. s.traps) (λ l s. refl) (λ l s. refl) b x) (life start past p)) refl
   flag_step past (Came a b x) h = each_branch (λ g. (state_of g).traps ≡ (state start past p).traps) (same_pid p b) _ _ (gets_keeps (λ s. s.traps) p a x (λ s. handle_traps p s a x) (life start past p)) refl
@@ -46,6 +48,6 @@ module _ (start : Start) (p : Pid) where
   or_else-or None n t = refl
   or_else-or (Some b) n t = refl
 
-  pub trap_is_last_flag : (past : Past) → IsLegal start past → (state start past p).traps ≡ or_else (last_flag past p) (state start [] p).traps
+  pub trap_is_last_flag : (past : Past) → ActsMayCome start past → (state start past p).traps ≡ or_else (last_flag past p) (state start [] p).traps
   trap_is_last_flag [] h = refl
   trap_is_last_flag (e ∷ past) h = flag_step past e h.0 ∙ ap (or_else (flag_of p e)) (trap_is_last_flag past h.1) ∙ or_else-or (flag_of p e) (last_flag past p) _

@@ -1,4 +1,5 @@
 pub mod Examples
+pub mod Acts
 pub mod Since
 pub mod Filters
 pub mod Fields
@@ -13,6 +14,9 @@ pub mod Flight
 pub mod Sender
 pub mod Taken
 pub mod Lanes
+pub mod AfterEnd
+pub mod MadeOnce
+pub mod Heading
 pub mod Merged
 pub mod Load
 pub mod Counts

@@ -13,7 +13,9 @@ use Rattle.pt_events.specs.declared.event.Event.{Event}
 use Rattle.pt_events.specs.declared.event.Event.TheVariants.{Born, Said, Came, Took, Flag, Left}
 use Rattle.pt_signal.specs.Values.{same_pid, same_ref}
 use Rattle.pt_signal.specs.Process.{ProcessState, verdict, held, holds_any, has_id, id_list, ids_of, add_id, enter, cut, link_exit, handle, say}
-use Rattle.pt_events.specs.History.{Past, Start, Phase, unborn, living, ended, life, state, at_start, after, touches, is_living, state_of, linked, newborn, while_living, live_or_end, gets, leaves, May, IsLegal}
+use Rattle.pt_events.specs.History.{Past, Start, Phase, unborn, living, ended, life, state, at_start, after, touches, is_living, state_of, linked, newborn, while_living, live_or_end, gets, leaves}
+use Rattle.pt_events.specs.Journal.{MayHere}
+use Rattle.pt_laws.specs.Acts.{ActsMayCome}
 use Rattle.pt_laws.specs.Since.{standing}
 use Rattle.pt_laws.specs.Words.{link_ids, ids_with, are_two, link_enters, link_leaves, HasOneEntryEach}
 use Rattle.pt_signal.proofs.Same.{same_pid_is}
@@ -258,7 +260,7 @@ module _ (p q : Pid) where
   born_linked c a i false false f l k = same_ids (are_two (ids_with f q)) (ids_with f q)
 
 module _ (start : Start) (p q : Pid) where
-  links_step : (past : Past) (e : Event) → May start past e → Keyed (state start past p).links → LinksStep p q (life start (e ∷ past) p) (life start past p) e
+  links_step : (past : Past) (e : Event) → MayHere start past e → Keyed (state start past p).links → LinksStep p q (life start (e ∷ past) p) (life start past p) e
   links_step past (Born c None None) h k = born_other p q None None (linked (Some c) None) (λ s. refl) (λ s. refl) (same_pid p c) false (life start past p)
   links_step past (Born c None (Some i)) h k = absurd h.1
   links_step past (Born c (Some a) None) h k = born_other p q (Some a) None (linked (Some c) None) (λ s. refl) (λ s. refl) (same_pid p c) (same_pid p a) (life start past p)
@@ -334,7 +336,7 @@ module _ (start : Start) (ok : HasOneEntryEach start) (p : Pid) where
   keyed [] = ok p
   keyed (e ∷ past) = keyed_step p e (life start past p) (keyed past)
 
-  pub held_since : (q : Pid) (past : Past) → IsLegal start past
+  pub held_since : (q : Pid) (past : Past) → ActsMayCome start past
       → ids_with (life start past p) q
       ≡ standing (ids_with (at_start start p) q) (λ before. link_enters p q (life start before p)) (λ before. link_leaves p q (life start before p)) past
   held_since q [] h = refl

@@ -14,6 +14,7 @@ use Rattle.pt_events.specs.declared.event.Event.TheVariants.{Born, Said, Came, T
 use Rattle.pt_signal.specs.Values.{same_pid, same_ref, without_first}
 use Rattle.pt_signal.specs.Process.{ProcessState, say, Sent, sent}
 use Rattle.pt_events.specs.History.{Past, Start, Phase, unborn, living, ended, life, state, state_of, is_living, is_between, flying, landed, got_sends, left_sends, linked, newborn, while_living, leaves, touches, made_ref, makes_ref, MaySay, IsLegal}
+use Rattle.pt_laws.specs.Acts.{ActsMayCome}
 use Rattle.pt_laws.specs.Load.{one_if}
 use Rattle.pt_laws.specs.Watch.{count, carries, is_monitor, is_demonitor, is_down, says, said_times, says_to, said_to, keeps, opens_to, open_in, kept_in}
 use Rattle.pt_signal.proofs.Same.{same_pid_is, same_pid_refl, same_ref_is}
@@ -21,6 +22,7 @@ use Rattle.pt_events.proofs.Phases.{each_branch}
 use Rattle.pt_laws.proofs.Fields.{linked_keeps, say_keeps}
 use Rattle.pt_laws.proofs.Counts.{count-append, count-landed, count_less}
 use Rattle.pt_laws.proofs.Downs.{opens, count_law}
+use Rattle.pt_laws.proofs.Acts.{legal_acts}
 use Rattle.pt_laws.proofs.Keeping.{say_step}
 use Rattle.pt_laws.proofs.Watching.{got_mon, t_side, w_side, estate_mon, estate_dem, estate_down}
 
@@ -46,7 +48,7 @@ module _ (m : Ref) (w : Pid) where
       none (Flag q on) h = refl
       none (Left q r) h = refl
 
-  pub said_once : (start : Start) (past : Past) → IsLegal start past → said_times w (is_monitor m) past ≤ 1
+  pub said_once : (start : Start) (past : Past) → ActsMayCome start past → said_times w (is_monitor m) past ≤ 1
   said_once start [] h = omega arith
   said_once start (Said a b x ∷ past) h = go (same_pid w a && is_monitor m x) refl (said_once start past h.1)
     where
@@ -343,13 +345,13 @@ module _ (m : Ref) where
       rest = landed (Came a b x) (flying [] past)
 
       said : said_times w (is_monitor m) past ≤ 1
-      said = said_once m w [] past legal
+      said = said_once m w [] past (legal_acts [] past legal)
 
       once : M_of w t m past ≤ 1
       once = let u = said_to_one m w t past in let v = said in omega arith
 
       few : opens m (state_of (life [] past w)).watching ≤ 1
-      few = let c = count_law [] m w past legal in let v = said in omega arith
+      few = let c = count_law [] m w past (legal_acts [] past legal) in let v = said in omega arith
 
       p1 : count (mon w t m) rest + one_if ((same_pid w a && same_pid t b) && is_monitor m x) ≡ P_of w t m past
       p1 = count-landed (mon w t m) (is_between a b) (flying [] past) (sent a b x) f

@@ -12,7 +12,9 @@ use Rattle.pt_events.specs.declared.event.Event.{Event}
 use Rattle.pt_events.specs.declared.event.Event.TheVariants.{Born, Said, Came, Took, Flag, Left}
 use Rattle.pt_signal.specs.Values.{same_pid, same_ref, fits, without_first}
 use Rattle.pt_signal.specs.Process.{ProcessState, verdict, held, holds_any, down, handle, say}
-use Rattle.pt_events.specs.History.{Past, Start, Phase, unborn, living, ended, life, state, at_start, after, touches, is_the, is_living, state_of, open_monitors, linked, newborn, while_living, live_or_end, gets, leaves, May, IsLegal}
+use Rattle.pt_events.specs.History.{Past, Start, Phase, unborn, living, ended, life, state, at_start, after, touches, is_the, is_living, state_of, open_monitors, linked, newborn, while_living, live_or_end, gets, leaves}
+use Rattle.pt_events.specs.Journal.{MayHere}
+use Rattle.pt_laws.specs.Acts.{ActsMayCome}
 use Rattle.pt_laws.specs.Lives.{signal_ends}
 use Rattle.pt_laws.specs.Since.{standing}
 use Rattle.pt_laws.specs.MonitorLaws.{IsMadeOnce}
@@ -162,7 +164,7 @@ module _ (w : Pid) where
   open_step e (living s) n h = living_step e s h
   open_step e (ended r s) n h = ap open_monitors (after_ended w e r s) ∙ sym (n refl)
 
-  opens_none : (start : Start) (past : Past) (e : Event) → May start past e → is_living (life start past w) ≡ false → monitor_opens w e ≡ []
+  opens_none : (start : Start) (past : Past) (e : Event) → MayHere start past e → is_living (life start past w) ≡ false → monitor_opens w e ≡ []
   opens_none start past (Said a b x) h n = opens_alive a b x (life start past w) (λ e. rw (same_pid_is w a e) h.0) n
   opens_none start past _ h n = refl
 
@@ -170,10 +172,10 @@ module _ (start : Start) (w : Pid) where
   once_before : (past : Past) (e : Event) (m : Ref) → IsMadeOnce start (e ∷ past) w m → IsMadeOnce start past w m
   once_before past e m h = omega arith
 
-  pub open_once : (past : Past) (m : Ref) → IsLegal start past → IsMadeOnce start past w m → opens m (state start past w).watching ≤ 1
+  pub open_once : (past : Past) (m : Ref) → ActsMayCome start past → IsMadeOnce start past w m → opens m (state start past w).watching ≤ 1
   open_once past m h o = let law = count_law start m w past h in omega arith
 
-  pub open_since : (past : Past) → IsLegal start past → ((m : Ref) → IsMadeOnce start past w m)
+  pub open_since : (past : Past) → ActsMayCome start past → ((m : Ref) → IsMadeOnce start past w m)
       → open_monitors (life start past w)
       ≡ standing (open_monitors (at_start start w)) (λ before. monitor_opens w) (λ before. monitor_closes w (life start before w)) past
   open_since [] h o = refl

@@ -13,7 +13,8 @@ use Rattle.pt_signal.specs.declared.item.Pick.{Pick}
 use Rattle.pt_events.specs.declared.event.Event.{Event}
 use Rattle.pt_events.specs.declared.event.Event.TheVariants.{Born, Said, Came, Took, Flag, Left}
 use Rattle.pt_signal.specs.Values.{same_pid, fits, without_first}
-use Rattle.pt_events.specs.History.{Past, Start, state, state_of, at_start, arrived, arrived_since, arrives, IsLegal}
+use Rattle.pt_events.specs.History.{Past, Start, state, state_of, at_start, arrived, arrived_since, arrives}
+use Rattle.pt_laws.specs.Acts.{ActsMayCome}
 use Rattle.pt_laws.specs.Taken.{taken, Place, is_among, free_of, first_fit, places, AllDistinct, AllArrivals}
 use Rattle.pt_signal.proofs.Same.{same_pid_is}
 use Rattle.pt_laws.proofs.Since.{element_cases}
@@ -237,7 +238,7 @@ module _ (start : Start) (p : Pid) where
   abbrev next_waiting : Past → Event → List Item
   next_waiting past e = left_waiting (takes_mark p e (arrivals start past p)) ++ arrives start past p e
 
-  waits_next : (past : Past) (e : Event) → IsLegal start (e ∷ past) → (state start (e ∷ past) p).waiting ≡ next_waiting past e
+  waits_next : (past : Past) (e : Event) → ActsMayCome start (e ∷ past) → (state start (e ∷ past) p).waiting ≡ next_waiting past e
   waits_next past e h =
       sym (waits start p (e ∷ past) h)
       ∙ waiting-append (takes_mark p e (arrivals start past p)) (map untaken (arrives start past p e))
@@ -250,7 +251,7 @@ module _ (start : Start) (p : Pid) where
   IsPlaced past = Placed (arrived start past p) (places start p past) (taken past p) (state start past p).waiting
 
   -- an event that takes nothing
-  arrive_next : (past : Past) (e : Event) → IsLegal start (e ∷ past) → left_waiting (takes_mark p e (arrivals start past p)) ≡ left_waiting (arrivals start past p) → IsPlaced past
+  arrive_next : (past : Past) (e : Event) → ActsMayCome start (e ∷ past) → left_waiting (takes_mark p e (arrivals start past p)) ≡ left_waiting (arrivals start past p) → IsPlaced past
       → Placed (arrived start (e ∷ past) p) (places start p past) (taken past p ++ []) (state start (e ∷ past) p).waiting
   arrive_next past e h same ih =
       subst (λ w. Placed (arrived start (e ∷ past) p) (places start p past) (taken past p ++ []) w)
@@ -265,7 +266,7 @@ module _ (start : Start) (p : Pid) where
       subst (λ ps. Placed (arrived start past p) ps (taken past p ++ []) (state start past p).waiting) (sym (append-nil (places start p past)))
       (subst (λ l. Placed (arrived start past p) (places start p past) l (state start past p).waiting) (sym (append-nil (taken past p))) ih)
 
-  pub placed : (past : Past) → IsLegal start past → IsPlaced past
+  pub placed : (past : Past) → ActsMayCome start past → IsPlaced past
   placed [] h = record {
     took_there = refl;
     arrivals = tt;

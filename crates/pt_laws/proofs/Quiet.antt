@@ -12,6 +12,7 @@ use Rattle.pt_laws.specs.Watch.{count, is_monitor, is_demonitor, is_down_item, s
 use Rattle.pt_signal.proofs.Same.{same_pid_is, same_pid_refl}
 use Rattle.pt_laws.proofs.Counts.{count_missing, count_narrower}
 use Rattle.pt_laws.proofs.Downs.{opens, count_law}
+use Rattle.pt_laws.proofs.Acts.{legal_acts}
 use Rattle.pt_laws.proofs.Monitors.{monitored, said_once, said_to_one, said_to_two, mon, dem, dwn}
 
 -- the entry that is found is counted
@@ -51,8 +52,8 @@ module _ (m : Ref) (w t : Pid) (past : Past) (legal : IsLegal [] past) (quiet : 
   pub one_of_three : is_living (life [] past w) ≡ true → said_to w t (is_monitor m) past ≡ 1
       → said_times w (is_demonitor m) past + count (is_down_item m) (arrived_since [] past w) + kept_in w t m (life [] past t) ≡ 1
   one_of_three h e =
-      let law = count_law [] m w past legal in
-      let once = said_once m w [] past legal in
+      let law = count_law [] m w past (legal_acts [] past legal) in
+      let once = said_once m w [] past (legal_acts [] past legal) in
       let one = said_to_one m w t past in
       let k = open_is_kept in
       let o = all_open (life [] past w) refl h in
@@ -64,7 +65,7 @@ module _ (m : Ref) (w t : Pid) (past : Past) (legal : IsLegal [] past) (quiet : 
       all_open (living s) l h = rw l (found (lookup (same_ref m) s.watching) refl)
         where
           few : opens m s.watching ≤ 1
-          few = let law = count_law [] m w past legal in let once = said_once m w [] past legal in
+          few = let law = count_law [] m w past (legal_acts [] past legal) in let once = said_once m w [] past (legal_acts [] past legal) in
               let z : opens m (state_of (life [] past w)).watching ≡ opens m s.watching = rw l refl in omega arith
 
           less : opens_to m t s ≤ opens m s.watching
@@ -77,7 +78,7 @@ module _ (m : Ref) (w t : Pid) (past : Past) (legal : IsLegal [] past) (quiet : 
               let mk = i.maker in
               let z : open_in w b m (life [] past w) ≡ count (is_open m b) s.watching = rw l refl in
               let two = said_to_two m w t b g past in
-              let once = said_once m w [] past legal in absurd (omega arith)
+              let once = said_once m w [] past (legal_acts [] past legal) in absurd (omega arith)
 
           found : (o : Option Pid) → lookup (same_ref m) s.watching ≡ o → opens_to m t s ≡ opens m s.watching
           found None g = let c = count_missing (same_ref m) s.watching g in let l = less in omega arith

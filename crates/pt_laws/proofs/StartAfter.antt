@@ -14,6 +14,7 @@ use Rattle.pt_laws.specs.MonitorLaws.{IsMadeOnce}
 use Rattle.pt_laws.specs.Words.{HasOneEntryEach, KeepsEachOnce}
 use Rattle.pt_laws.proofs.Load.{born_once}
 use Rattle.pt_laws.proofs.Downs.{opens, count_law}
+use Rattle.pt_laws.proofs.Acts.{legal_acts}
 use Rattle.pt_laws.proofs.Monitors.{said_once}
 use Rattle.pt_laws.proofs.Resumed.{started, resumed}
 use Rattle.pt_laws.proofs.LinksSince.{keyed}
@@ -44,8 +45,8 @@ empty_start p = refl
 
 pub made_once : (old new : Past) (w : Pid) (m : Ref) → IsLegal [] old → IsQuiet [] old → AllNewTo old new → IsLegal (start_after [] old) new → IsMadeOnce (start_after [] old) new w m
 made_once old new w m legal quiet fresh h =
-    let law = count_law [] m w old legal in
-    let once = said_once m w [] (new ++ old) (resumed [] empty_start old legal quiet new fresh h) in
+    let law = count_law [] m w old (legal_acts [] old legal) in
+    let once = said_once m w [] (new ++ old) (legal_acts [] (new ++ old) (resumed [] empty_start old legal quiet new fresh h)) in
     let split = said_times-append w (is_monitor m) new old in
     let begun : opens m (state (start_after [] old) [] w).watching ≡ opens m (state [] old w).watching = ap (λ f. opens m (state_of f).watching) (started [] empty_start old legal quiet w) in
     omega arith

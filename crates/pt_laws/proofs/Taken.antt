@@ -16,6 +16,7 @@ use Rattle.pt_events.specs.declared.event.Event.TheVariants.{Born, Said, Came, T
 use Rattle.pt_signal.specs.Values.{same_pid, same_ref, fits, without_first}
 use Rattle.pt_signal.specs.Process.{ProcessState, Verdict, drops, queues, ends, verdict, obey, holds_any, held, link_exit, down, handle, say}
 use Rattle.pt_events.specs.History.{Past, Start, Phase, unborn, living, ended, life, is_living, state_of, at_start, arrives, items_of, IsLegal, while_living, gets, state}
+use Rattle.pt_laws.specs.Acts.{ActsMayCome}
 use Rattle.pt_signal.proofs.Same.{same_pid_is}
 use Rattle.pt_events.proofs.Phases.{each_branch}
 use Rattle.pt_laws.proofs.Fields.{end_keeps, while_keeps, leaves_keeps, born_keeps, say_keeps}
@@ -110,7 +111,7 @@ module _ (start : Start) (p : Pid) where
   took_waiting k rs (ended r s) true h ih = absurd (false≢true (h refl))
 
   -- what waits is the arrivals that were not taken
-  pub waits : (past : Past) → IsLegal start past → left_waiting (arrivals start past p) ≡ (state start past p).waiting
+  pub waits : (past : Past) → ActsMayCome start past → left_waiting (arrivals start past p) ≡ (state start past p).waiting
   waits [] h = all_untaken (state_of (at_start start p)).waiting
   waits (Came a b x ∷ past) h =
       waiting-append (arrivals start past p) (map untaken (arrives start past p (Came a b x)))

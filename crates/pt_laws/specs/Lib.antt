@@ -1,3 +1,4 @@
+pub mod Acts
 pub mod Taken
 pub mod Sender
 pub mod Load
@@ -8,6 +9,7 @@ pub mod Lives
 pub mod Laws
 pub mod MonitorLaws
 pub mod LoadLaws
+pub mod Headline
 pub mod Words
 pub mod Examples
 pub mod Links

@@ -9,7 +9,8 @@ use Rattle.pt_events.specs.declared.event.Event.{Event}
 use Rattle.pt_events.specs.declared.event.Event.TheVariants.{Born, Came, Left}
 use Rattle.pt_signal.specs.Values.{same_pid}
 use Rattle.pt_signal.specs.Process.{ProcessState, Verdict, ends, verdict, held, holds_any}
-use Rattle.pt_events.specs.History.{Past, Start, Phase, living, ended, at_start, life, alive, is_unborn, is_ended, reason_of, IsLegal}
+use Rattle.pt_events.specs.History.{Past, Start, Phase, living, ended, at_start, life, alive, arrived, is_unborn, is_ended, reason_of}
+use Rattle.pt_laws.specs.Acts.{ActsMayCome}
 use Rattle.pt_laws.specs.Load.{one_if}
 
 abbrev pub is_birth : Pid → Event → Bool
@@ -55,7 +56,7 @@ module _ (start : Start) where
 -- a pid is born once, ends once, and is ever after as it ended
 abbrev pub LivesOnce : Type 0
 LivesOnce =
-    (start : Start) (past : Past) (p : Pid) → IsLegal start past
+    (start : Start) (past : Past) (p : Pid) → ActsMayCome start past
     → (births past p + one_if (not (is_unborn (at_start start p))) ≡ one_if (not (is_unborn (life start past p))))
     × (deaths start past p + one_if (is_ended (at_start start p)) ≡ one_if (is_ended (life start past p)))
 
@@ -67,6 +68,12 @@ StaysEnded =
 -- alive is born and not ended
 abbrev pub AliveUntilEnd : Type 0
 AliveUntilEnd =
-    (start : Start) (past : Past) (p : Pid) → IsLegal start past
+    (start : Start) (past : Past) (p : Pid) → ActsMayCome start past
     → (alive start past p ≡ was_born start past p && not (is_some (end_reason start past p)))
     × (reason_of (life start past p) ≡ end_reason start past p)
+
+-- nothing enters the mailbox after the end
+abbrev pub NothingAfterEnd : Type 0
+NothingAfterEnd =
+    (start : Start) (later past : Past) (p : Pid) (r : Reason) (s : ProcessState)
+    → life start past p ≡ ended r s → arrived start (later ++ past) p ≡ arrived start past p

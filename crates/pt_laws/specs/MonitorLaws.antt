@@ -1,9 +1,12 @@
 -- Laws on monitors.
-use Rattle.std.specs.Prelude.{◌≡◌, ℕ, ◌≤◌, ◌+◌, true, false, [], ◌++◌}
+use Rattle.std.specs.Prelude.{◌≡◌, ℕ, ◌≤◌, ◌<◌, ◌+◌, true, false, List, [], ◌++◌}
 use Rattle.pt_signal.specs.declared.pid.Pid.{Pid}
 use Rattle.pt_signal.specs.declared.ids.Ref.{Ref}
 use Rattle.pt_signal.specs.Values.{same_ref}
+use Rattle.pt_events.specs.declared.event.Stamped.{Stamped}
 use Rattle.pt_events.specs.History.{Past, Start, IsLegal, life, state, alive, arrived_since}
+use Rattle.pt_events.specs.Journal.{IsLocal, events}
+use Rattle.pt_laws.specs.Acts.{ActsMayCome}
 use Rattle.pt_laws.specs.Load.{IsQuiet}
 use Rattle.pt_laws.specs.Resumed.{start_after, AllNewTo}
 use Rattle.pt_laws.specs.Watch.{count, is_monitor, is_demonitor, is_down_item, said_times, said_to, open_in, kept_in}
@@ -18,11 +21,27 @@ IsMadeOnce start past w m = count (λ e. same_ref m e.0) (state start [] w).watc
 
 -- a monitor has one DOWN at most, and none where it was demonitored
 abbrev pub OneDown : Type 0
-OneDown = (start : Start) (past : Past) (w : Pid) (m : Ref) → IsLegal start past → IsMadeOnce start past w m → demonitors_and_downs start past w m ≤ 1
+OneDown = (start : Start) (past : Past) (w : Pid) (m : Ref) → ActsMayCome start past → IsMadeOnce start past w m → demonitors_and_downs start past w m ≤ 1
 
 -- from the empty start each monitor is made once
 abbrev pub MadeOnce : Type 0
-MadeOnce = (past : Past) (w : Pid) (m : Ref) → IsLegal [] past → IsMadeOnce [] past w m
+MadeOnce = (past : Past) (w : Pid) (m : Ref) → ActsMayCome [] past → IsMadeOnce [] past w m
+
+-- at the start no process has a reference open twice, nor one that is numbered above low
+abbrev pub HasOldRefs : ℕ → Start → Type 0
+HasOldRefs low start =
+    (w : Pid) (m : Ref)
+    → (count (λ e. same_ref m e.0) (state start [] w).watching ≤ 1)
+    × (low < m.number → count (λ e. same_ref m e.0) (state start [] w).watching ≡ 0)
+
+abbrev pub EmptyHasOldRefs : Type 0
+EmptyHasOldRefs = (low : ℕ) → HasOldRefs low []
+
+-- so it is in a journal that goes on from such a start, since its references are numbered above low
+abbrev pub MadeOnceLocal : Type 0
+MadeOnceLocal =
+    (start : Start) (low top d : ℕ) (journal : List Stamped) (w : Pid) (m : Ref) → HasOldRefs low start → IsLocal start low top d journal
+    → IsMadeOnce start (events journal) w m
 
 -- so it is where a history goes on from a legal and quiet one and makes new references
 abbrev pub MadeOnceResumed : Type 0

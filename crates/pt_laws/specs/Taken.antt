@@ -7,7 +7,8 @@ use Rattle.pt_signal.specs.declared.item.Pick.{Pick}
 use Rattle.pt_events.specs.declared.event.Event.{Event}
 use Rattle.pt_events.specs.declared.event.Event.TheVariants.{Took}
 use Rattle.pt_signal.specs.Values.{same_pid, fits}
-use Rattle.pt_events.specs.History.{Past, Start, IsLegal, arrived, state}
+use Rattle.pt_events.specs.History.{Past, Start, arrived, state}
+use Rattle.pt_laws.specs.Acts.{ActsMayCome}
 
 abbrev pub taken_by : Pid → Event → List Item
 taken_by p (Took q k i) = cond (same_pid p q) (i ∷ []) []
@@ -50,7 +51,7 @@ AllArrivals items (e ∷ es) = Contains (enumerate_from 0 items) e × AllArrival
 -- each take took the arrival at one position, no two at the same; what waits are the arrivals at the other positions, in order
 abbrev pub TakenByPosition : Type 0
 TakenByPosition =
-    (start : Start) (past : Past) (p : Pid) → IsLegal start past
+    (start : Start) (past : Past) (p : Pid) → ActsMayCome start past
     → (taken past p ≡ map (λ e. e.1) (places start p past))
     × AllArrivals (arrived start past p) (places start p past)
     × AllDistinct (places start p past)

@@ -13,7 +13,8 @@ use Rattle.pt_events.specs.declared.event.Event.{Event}
 use Rattle.pt_events.specs.declared.event.Event.TheVariants.{Born, Said, Came, Flag}
 use Rattle.pt_signal.specs.Values.{same_pid, same_ref}
 use Rattle.pt_signal.specs.Process.{or_else, id_list, has_id, held, same_watch}
-use Rattle.pt_events.specs.History.{Past, Start, Phase, living, open_monitors, at_start, life, after, state, state_of, is_living, IsLegal}
+use Rattle.pt_events.specs.History.{Past, Start, Phase, living, open_monitors, at_start, life, after, state, state_of, is_living}
+use Rattle.pt_laws.specs.Acts.{ActsMayCome}
 use Rattle.pt_laws.specs.Watch.{count}
 use Rattle.pt_laws.specs.Lives.{ends_with}
 use Rattle.pt_laws.specs.Since.{standing, StandsSince}
@@ -34,7 +35,7 @@ last_flag (e ∷ past) p = option_or (flag_of p e) (last_flag past p)
 
 -- the flag is the last one that was set; where none was, it is off, or as it was at the start
 abbrev pub TrapIsLastFlag : Type 0
-TrapIsLastFlag = (start : Start) (past : Past) (p : Pid) → IsLegal start past → (state start past p).traps ≡ or_else (last_flag past p) (state start [] p).traps
+TrapIsLastFlag = (start : Start) (past : Past) (p : Pid) → ActsMayCome start past → (state start past p).traps ≡ or_else (last_flag past p) (state start [] p).traps
 
 -- link ids -----------------------------------------------------------------------------------------
 
@@ -75,13 +76,13 @@ HasOneEntryEach start = (p q : Pid) → count (λ e. same_pid q e.0) (state star
 -- the ids that p holds with q, in order of entry, are those that entered and have not left since; an ended process holds what it held at its end
 abbrev pub HeldSince : Type 0
 HeldSince =
-    (start : Start) (past : Past) (p q : Pid) → IsLegal start past → HasOneEntryEach start
+    (start : Start) (past : Past) (p q : Pid) → ActsMayCome start past → HasOneEntryEach start
     → ids_with (life start past p) q
     ≡ standing (ids_with (at_start start p) q) (λ before. link_enters p q (life start before p)) (λ before. link_leaves p q (life start before p)) past
 
 abbrev pub IsHeldSince : Type 0
 IsHeldSince =
-    (start : Start) (past : Past) (p q : Pid) (i : LinkId) → IsLegal start past → HasOneEntryEach start
+    (start : Start) (past : Past) (p q : Pid) (i : LinkId) → ActsMayCome start past → HasOneEntryEach start
     → Contains (ids_with (life start past p) q) i
     ↔ StandsSince (ids_with (at_start start p) q) (λ before. link_enters p q (life start before p)) (λ before. link_leaves p q (life start before p)) past i
 
@@ -134,13 +135,13 @@ monitor_closes w f e k = monitor_answered w e k || is_some (ends_with w f e)
 -- the open monitors of w, in order of making, are those that it made and that were not closed since
 abbrev pub OpenSince : Type 0
 OpenSince =
-    (start : Start) (past : Past) (w : Pid) → IsLegal start past → ((m : Ref) → IsMadeOnce start past w m)
+    (start : Start) (past : Past) (w : Pid) → ActsMayCome start past → ((m : Ref) → IsMadeOnce start past w m)
     → open_monitors (life start past w)
     ≡ standing (open_monitors (at_start start w)) (λ before. monitor_opens w) (λ before. monitor_closes w (life start before w)) past
 
 abbrev pub IsOpenSince : Type 0
 IsOpenSince =
-    (start : Start) (past : Past) (w t : Pid) (m : Ref) → IsLegal start past → ((n : Ref) → IsMadeOnce start past w n)
+    (start : Start) (past : Past) (w t : Pid) (m : Ref) → ActsMayCome start past → ((n : Ref) → IsMadeOnce start past w n)
     → Contains (open_monitors (life start past w)) (m, t)
     ↔ StandsSince (open_monitors (at_start start w)) (λ before. monitor_opens w) (λ before. monitor_closes w (life start before w)) past (m, t)
 

@@ -1,18 +1,28 @@
 // The laws of histories: each is the contract of a function that does nothing.
 
-ghost use Rattle.pt_laws.specs.Lives.{LivesOnce, StaysEnded, AliveUntilEnd};
+ghost use Rattle.pt_laws.specs.Acts.{LocalActs, LegalActs};
+ghost use Rattle.pt_laws.specs.Lives.{LivesOnce, StaysEnded, NothingAfterEnd, AliveUntilEnd};
 ghost use Rattle.pt_laws.specs.Words.{TrapIsLastFlag, HeldSince, IsHeldSince, PeersSince, OpenSince, IsOpenSince, KeptSince, IsKeptSince};
 ghost use Rattle.pt_events.specs.Locality.{ReadLocally, SentLocally, JournalsSay};
 ghost use Rattle.pt_laws.specs.Taken.{TakenByPosition};
 ghost use Rattle.pt_laws.specs.Laws.{CameOrFlies, SenderFront, MergeLegal, ResumedLegal, ResumedSame, ResumedStart};
-ghost use Rattle.pt_laws.specs.MonitorLaws.{OneDown, MadeOnce, MadeOnceResumed, QuietMonitor, QuietWatch, QuietMonitorResumed, QuietWatchResumed};
+ghost use Rattle.pt_laws.specs.MonitorLaws.{OneDown, MadeOnce, MadeOnceLocal, EmptyHasOldRefs, MadeOnceResumed, QuietMonitor, QuietWatch, QuietMonitorResumed, QuietWatchResumed};
 ghost use Rattle.pt_laws.specs.LoadLaws.{LoadFalls, ReceiptsBounded, QuietFlights};
+ghost use Rattle.pt_laws.specs.Headline.{HeadlineHolds};
 ghost use Rattle.pt_laws.specs.Examples.{TenLines, Cascade, EarlyLink};
 
-/// A pid is born once and ends once, and is ever after as it ended.
+/// In one desk's local journal, and in a legal history, each event but a receipt may come. The laws that ask no more
+/// than that hold of both.
+pub fn acts_may_come()
+    ensures local { LocalActs }
+    ensures legal { LegalActs }
+{}
+
+/// A pid is born once and ends once, and is ever after as it ended; nothing enters its mailbox any more.
 pub fn lives_once()
     ensures once { LivesOnce }
     ensures after { StaysEnded }
+    ensures closed { NothingAfterEnd }
 {}
 
 /// A process is alive where it was born and has not ended, by its own exit or by a signal that came while it lived.
@@ -82,11 +92,22 @@ pub fn merge_is_legal()
 {}
 
 /// A monitor has one `DOWN` at most, and none where it was demonitored. From the empty start each reference is
-/// made once, and so it is in a history that goes on from a legal and quiet one.
+/// made once, and so it is in a journal that goes on from a start whose references are numbered below its stamps, and
+/// in a history that goes on from a legal and quiet one.
 pub fn one_down()
     ensures down { OneDown }
     ensures made { MadeOnce }
+    ensures local { MadeOnceLocal }
+    ensures empty { EmptyHasOldRefs }
     ensures resumed { MadeOnceResumed }
+{}
+
+/// The headline, where each desk's journal is local and the lanes agree. Of each sender the messages to each mailbox,
+/// in order and each once, are those that came before its birth, those that arrived, those that came after its end
+/// and those left over. A pid is born once. Nothing enters after the end. What was taken and what waits together are
+/// what arrived. A monitor has one `DOWN` at most, and none once it was demonitored.
+pub fn headline_holds()
+    ensures { HeadlineHolds }
 {}
 
 /// Each take took the arrival at one position, no two took the same, and what waits in the mailbox are the arrivals

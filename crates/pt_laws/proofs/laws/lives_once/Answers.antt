@@ -1,3 +1,4 @@
+use Rattle.pt_laws.proofs.AfterEnd.{nothing_after_end}
 use Rattle.pt_laws.proofs.BirthsAndEnds.{born_once, ended_once, stays_ended}
 use Rattle.pt_laws.proofs.laws.lives_once.Goals as goal
 
@@ -6,3 +7,6 @@ returns-clause-once c start past p h = (born_once start past p h, ended_once sta
 
 pub returns-clause-after : goal.returns-clause-after
 returns-clause-after c = stays_ended
+
+pub returns-clause-closed : goal.returns-clause-closed
+returns-clause-closed c = nothing_after_end

@@ -1,0 +1,5 @@
+use Rattle.pt_laws.proofs.Heading.{headline}
+use Rattle.pt_laws.proofs.laws.headline_holds.Goals as goal
+
+pub returns : goal.returns
+returns c = headline
