@@ -4,3 +4,4 @@ pub mod Phases
 pub mod Homes
 pub mod Orders
 pub mod InOrder
+pub mod Agreeing
