@@ -1,5 +1,7 @@
 -- The plain values: when two of them are the same, and which items a selective receive takes.
 use Rattle.std.specs.Prelude.{Bool, true, false, cond, ◌==◌, ◌&&◌, List, [], ◌∷◌}
+use Rattle.std.specs.declared.cmp.Ordering.{Ordering}
+use Rattle.std.specs.Ordering.{nat_cmp, on, then_cmp}
 use Rattle.pt_signal.specs.declared.pid.Pid.{Pid}
 use Rattle.pt_signal.specs.declared.ids.Ref.{Ref}
 use Rattle.pt_signal.specs.declared.ids.LinkId.{LinkId}
@@ -9,6 +11,10 @@ use Rattle.pt_signal.specs.declared.item.Pick.{Pick}
 
 abbrev pub same_pid : Pid → Pid → Bool
 same_pid p q = (p.shard == q.shard) && (p.slot == q.slot) && (p.version == q.version)
+
+-- by shard, then slot, then version
+abbrev pub pid_order : Pid → Pid → Ordering
+pid_order = then_cmp (on (λ p. p.shard) nat_cmp) (then_cmp (on (λ p. p.slot) nat_cmp) (on (λ p. p.version) nat_cmp))
 
 abbrev pub same_ref : Ref → Ref → Bool
 same_ref m n = (m.desk == n.desk) && (m.number == n.number)
