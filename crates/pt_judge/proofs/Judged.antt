@@ -11,7 +11,7 @@ use Rattle.pt_signal.specs.declared.item.Item.{Item}
 use Rattle.pt_signal.specs.declared.item.Pick.{Pick}
 use Rattle.pt_signal.specs.declared.reason.Reason.{Reason}
 use Rattle.pt_signal.specs.declared.signal.Signal.{Signal}
-use Rattle.pt_signal.specs.declared.signal.Signal.TheVariants.{Message, Link, Unlink, LinkExit, Monitor, Demonitor}
+use Rattle.pt_signal.specs.declared.signal.Signal.TheVariants.{Message, Link, Unlink, LinkExit, Monitor, Demonitor, AliveAsk, AliveSay}
 use Rattle.pt_judge.specs.declared.cause.Cause.{Cause}
 use Rattle.pt_judge.specs.declared.cause.Cause.TheVariants.{BornTwice, NotAlive, NotFront, NotFirstMatch, Unlawful, Memory}
 use Rattle.pt_events.specs.declared.event.Event.{Event}
@@ -106,6 +106,8 @@ module _ (past : Past) where
   say_true a b (Demonitor m) h = the_found b (lookup (same_ref m) (state [] past a).watching) h
   say_true a b (LinkExit ids r) h = absurd (cc)
   say_true a b (Signal.Down m r) h = absurd (cc)
+  say_true a b (AliveAsk m) h = not_true _ h
+  say_true a b (AliveSay m x) h = absurd (cc)
 
   say_false : (a b : Pid) (x : Signal) → may_say past a b x ≡ false → ¬ MaySay [] past (state [] past a) a b x
   say_false a b (Message body) h k = absurd (cc)
@@ -116,6 +118,8 @@ module _ (past : Past) where
   say_false a b (Demonitor m) h k = the_not_found b (lookup (same_ref m) (state [] past a).watching) h k
   say_false a b (LinkExit ids r) h k = k
   say_false a b (Signal.Down m r) h k = k
+  say_false a b (AliveAsk m) h k = both_ways _ k (not_false _ h)
+  say_false a b (AliveSay m x) h k = k
 
   bear_true : (parent : Option Pid) (link : Option LinkId) → lacks past parent ≡ false → unlawful_link past parent link ≡ false → MayBear [] past parent link
   bear_true None None h k = tt

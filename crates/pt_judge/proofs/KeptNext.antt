@@ -1,15 +1,17 @@
 -- The table and the signals on their way, after one event more.
-use Rattle.std.proofs.Common.{◌≡◌, Bool, true, false, cond, not, ◌||◌, Option, Some, None, List, [], ◌∷◌, ◌++◌, refl, ap, sym, ◌∙◌, subst₂}
+use Rattle.std.proofs.Common.{◌≡◌, Bool, true, false, cond, not, ◌||◌, Option, Some, None, List, [], ◌∷◌, ◌++◌, refl, ap, ap₂, sym, ◌∙◌, subst₂}
 use Rattle.pt_signal.specs.declared.pid.Pid.{Pid}
 use Rattle.pt_signal.specs.declared.reason.Reason.{Reason}
 use Rattle.pt_signal.specs.declared.signal.Signal.{Signal}
+use Rattle.pt_signal.specs.declared.signal.Signal.TheVariants.{AliveAsk}
 use Rattle.pt_events.specs.declared.event.Event.{Event}
 use Rattle.pt_events.specs.declared.event.Event.TheVariants.{Born, Said, Came, Took, Flag, Left}
 use Rattle.pt_signal.specs.Values.{same_pid}
 use Rattle.pt_signal.specs.Process.{ProcessState, handle, Sent, bounce}
 use Rattle.pt_events.specs.History.{Past, Start, Phase, unborn, living, ended, is_living, is_unborn, at_start, after, live_or_end, reason_of, state_of, end_sends, got_sends, left_sends, landed, life, flying, sent_by}
-use Rattle.pt_judge.specs.Judging.{is_born, lived, sends, IsObserved, IsKept}
+use Rattle.pt_judge.specs.Judging.{is_born, answered, lived, sends, IsObserved, IsKept}
 use Rattle.pt_signal.proofs.Same.{same_pid_refl}
+use Rattle.pt_signal.proofs.Handling.{living_answer, handle_answer}
 use Rattle.pt_events.proofs.Phases.{after_born}
 use Rattle.pt_judge.proofs.Lives.{after_unborn, other_unborn}
 
@@ -32,11 +34,15 @@ end_sent : (p : Pid) (o : Option Reason) (s : ProcessState) → end_sends p (rea
 end_sent p None s = refl
 end_sent p (Some r) s = refl
 
+answer_sent : (b a : Pid) (x : Signal) → answered b a x ≡ living_answer b a x
+answer_sent b a (AliveAsk m) = refl
+answer_sent b a _ = refl
+
 came_sent : (a b : Pid) (x : Signal) (f : Phase)
-    → cond (is_living f) (end_sends b (reason_of (after b (Came a b x) f)) (state_of (after b (Came a b x) f))) (bounce b a x) ≡ got_sends f b a x
+    → cond (is_living f) (answered b a x ++ end_sends b (reason_of (after b (Came a b x) f)) (state_of (after b (Came a b x) f))) (bounce b a x) ≡ got_sends f b a x
 came_sent a b x unborn = refl
 came_sent a b x (ended r s) = refl
-came_sent a b x (living s) = rw (same_pid_refl b) (end_sent b (handle b s a x).ending (handle b s a x).state)
+came_sent a b x (living s) = rw (same_pid_refl b) (ap₂ (λ y z. y ++ z) (answer_sent b a x ∙ sym (handle_answer b s a x)) (end_sent b (handle b s a x).ending (handle b s a x).state))
 
 left_sent : (p : Pid) (r : Reason) (f : Phase)
     → cond (is_living f) (end_sends p (reason_of (after p (Left p r) f)) (state_of (after p (Left p r) f))) [] ≡ left_sends f p r
@@ -52,7 +58,7 @@ module _ (past : Past) (lives lives' : Start) (flights : List Sent) (k : IsKept 
   sent_next (Born q parent link) o = refl
   sent_next (Said a b x) o = refl
   sent_next (Came a b x) o =
-      subst₂ (λ f g. cond (is_living f) (end_sends b (reason_of g) (state_of g)) (bounce b a x) ≡ got_sends (life [] past b) b a x) (sym (k.alike b)) (sym (alike_next (Came a b x) o b))
+      subst₂ (λ f g. cond (is_living f) (answered b a x ++ end_sends b (reason_of g) (state_of g)) (bounce b a x) ≡ got_sends (life [] past b) b a x) (sym (k.alike b)) (sym (alike_next (Came a b x) o b))
       (came_sent a b x (life [] past b))
   sent_next (Took q j i) o = refl
   sent_next (Flag q on) o = refl

@@ -1,5 +1,6 @@
 -- The tests of values decide equality.
-use Rattle.std.proofs.Common.{◌≡◌, Bool, true, Option, Some, None, refl, ap}
+use Rattle.std.proofs.Common.{◌≡◌, Bool, true, false, Option, Some, None, refl, ap}
+use Rattle.std.specs.Bool.{beq}
 use Rattle.std.specs.Option.{option_eq}
 use Rattle.std.proofs.lemmas.Bool.{eqb-true, eq-eqb, and_parts}
 use Rattle.std.proofs.lemmas.Bool.Decides.{Decides-int_eq}
@@ -10,7 +11,7 @@ use Rattle.pt_signal.specs.declared.item.Item.TheVariants.{User}
 use Rattle.pt_signal.specs.declared.reason.Reason.{Reason}
 use Rattle.pt_signal.specs.declared.reason.Reason.TheVariants.{Normal, Kill, Killed, Noproc, Shutdown, Other}
 use Rattle.pt_signal.specs.declared.signal.Signal.{Signal}
-use Rattle.pt_signal.specs.declared.signal.Signal.TheVariants.{Message, Link, Unlink, LinkExit, Monitor, Demonitor}
+use Rattle.pt_signal.specs.declared.signal.Signal.TheVariants.{Message, Link, Unlink, LinkExit, Monitor, Demonitor, AliveAsk, AliveSay}
 use Rattle.pt_signal.specs.Values.{same_pid, same_link}
 use Rattle.pt_signal.proofs.Same.{same_pid_is, same_pid_refl, same_ref_is, same_ref_refl, same_link_is, same_link_refl}
 use Rattle.pt_judge.specs.Same.{same_reason, same_body, same_item, same_ids, same_signal}
@@ -25,6 +26,16 @@ module _ {X : Type 0} (E : X → X → Bool) where
   option_refl : ((x : X) → E x x ≡ true) → (a : Option X) → option_eq E a a ≡ true
   option_refl h None = refl
   option_refl h (Some x) = h x
+
+bool_is : (x y : Bool) → beq x y ≡ true → x ≡ y
+bool_is true true h = refl
+bool_is true false h = absurd (cc)
+bool_is false true h = absurd (cc)
+bool_is false false h = refl
+
+bool_refl : (x : Bool) → beq x x ≡ true
+bool_refl true = refl
+bool_refl false = refl
 
 reason_is : (r s : Reason) → same_reason r s ≡ true → r ≡ s
 reason_is Normal Normal h = refl
@@ -75,12 +86,20 @@ item_is (Item.Down m p r) (Item.Down n q s) h =
     let e2 = same_pid_is p q l.1 in
     let e3 = reason_is r s k.1 in
     cc
+item_is (Item.Alive m p x) (Item.Alive n q y) h =
+    let k = and_parts _ _ h in
+    let l = and_parts _ _ k.0 in
+    let e1 = same_ref_is m n l.0 in
+    let e2 = same_pid_is p q l.1 in
+    let e3 = bool_is x y k.1 in
+    cc
 item_is _ _ h = absurd (cc)
 
 pub item_refl : (i : Item) → same_item i i ≡ true
 item_refl (User p a) = rw (same_pid_refl p, body_refl a) refl
 item_refl (Item.Exit p r) = rw (same_pid_refl p, reason_refl r) refl
 item_refl (Item.Down m p r) = rw (same_ref_refl m, same_pid_refl p, reason_refl r) refl
+item_refl (Item.Alive m p x) = rw (same_ref_refl m, same_pid_refl p, bool_refl x) refl
 
 pub signal_is : (x y : Signal) → same_signal x y ≡ true → x ≡ y
 signal_is (Message a) (Message b) h = ap (λ z. Message z) (body_is a b h)
@@ -91,6 +110,8 @@ signal_is (LinkExit a r) (LinkExit b s) h = let k = and_parts _ _ h in let e1 = 
 signal_is (Monitor m) (Monitor n) h = ap (λ z. Monitor z) (same_ref_is m n h)
 signal_is (Demonitor m) (Demonitor n) h = ap (λ z. Demonitor z) (same_ref_is m n h)
 signal_is (Signal.Down m r) (Signal.Down n s) h = let k = and_parts _ _ h in let e1 = same_ref_is m n k.0 in let e2 = reason_is r s k.1 in cc
+signal_is (AliveAsk m) (AliveAsk n) h = ap (λ z. AliveAsk z) (same_ref_is m n h)
+signal_is (AliveSay m x) (AliveSay n y) h = let k = and_parts _ _ h in let e1 = same_ref_is m n k.0 in let e2 = bool_is x y k.1 in cc
 signal_is _ _ h = absurd (cc)
 
 pub signal_refl : (x : Signal) → same_signal x x ≡ true
@@ -102,3 +123,5 @@ signal_refl (LinkExit a r) = rw (ids_refl a, reason_refl r) refl
 signal_refl (Monitor m) = same_ref_refl m
 signal_refl (Demonitor m) = same_ref_refl m
 signal_refl (Signal.Down m r) = rw (same_ref_refl m, reason_refl r) refl
+signal_refl (AliveAsk m) = same_ref_refl m
+signal_refl (AliveSay m x) = rw (same_ref_refl m, bool_refl x) refl

@@ -1,5 +1,5 @@
 -- What the judge's own functions say.
-use Rattle.std.specs.Prelude.{◌≡◌, Bool, true, false, cond, not, ◌&&◌, ◌||◌, Option, Some, None, is_some, is_none, List, [], ◌∷◌}
+use Rattle.std.specs.Prelude.{◌≡◌, Bool, true, false, cond, not, ◌&&◌, ◌||◌, Option, Some, None, is_some, is_none, List, [], ◌∷◌, ◌++◌}
 use Rattle.std.specs.Map.{lookup}
 use Rattle.std.specs.List.{find}
 use Rattle.std.specs.Option.{option_map}
@@ -10,7 +10,7 @@ use Rattle.pt_signal.specs.declared.item.Item.{Item}
 use Rattle.pt_signal.specs.declared.reason.Reason.{Reason}
 use Rattle.pt_signal.specs.declared.reason.Reason.TheVariants.{Normal, Kill}
 use Rattle.pt_signal.specs.declared.signal.Signal.{Signal}
-use Rattle.pt_signal.specs.declared.signal.Signal.TheVariants.{Message, Link, Unlink, LinkExit, Monitor, Demonitor}
+use Rattle.pt_signal.specs.declared.signal.Signal.TheVariants.{Message, Link, Unlink, LinkExit, Monitor, Demonitor, AliveAsk, AliveSay}
 use Rattle.pt_judge.specs.declared.cause.Cause.{Cause}
 use Rattle.pt_judge.specs.declared.cause.Cause.TheVariants.{BornTwice, NotAlive, NotFront, NotFirstMatch, Unlawful}
 use Rattle.pt_events.specs.declared.event.Event.{Event}
@@ -66,10 +66,15 @@ lived start _ = false
 abbrev pub owed : Start → Pid → List Sent
 owed start p = end_sends p (reason_of (at_start start p)) (state_of (at_start start p))
 
+-- what a live process answers
+abbrev pub answered : Pid → Pid → Signal → List Sent
+answered p a (AliveAsk m) = sent p a (AliveSay m true) ∷ []
+answered p a _ = []
+
 -- what the event sends, told from the table after it, and from whether its process lived before it
 abbrev pub sends : Start → Bool → Event → List Sent
 sends start lived (Said a b x) = sent a b x ∷ []
-sends start lived (Came a b x) = cond lived (owed start b) (bounce b a x)
+sends start lived (Came a b x) = cond lived (answered b a x ++ owed start b) (bounce b a x)
 sends start lived (Left p r) = cond lived (owed start p) []
 sends start lived _ = []
 
@@ -105,6 +110,8 @@ may_say past a b (Monitor m) = not (made_ref past m) && not (same_pid a b)
 may_say past a b (Demonitor m) = is_the b (lookup (same_ref m) (state [] past a).watching)
 may_say past a b (LinkExit ids r) = false
 may_say past a b (Signal.Down m r) = false
+may_say past a b (AliveAsk m) = not (made_ref past m)
+may_say past a b (AliveSay m x) = false
 
 -- a parent is named that is not alive
 abbrev pub lacks : Past → Option Pid → Bool

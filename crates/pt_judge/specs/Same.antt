@@ -1,5 +1,6 @@
 -- When two values are the same, as tests.
 use Rattle.std.specs.Prelude.{Bool, true, false, ◌==◌, ◌&&◌}
+use Rattle.std.specs.Bool.{beq}
 use Rattle.std.specs.Ordering.{int_eq}
 use Rattle.std.specs.Option.{option_eq}
 use Rattle.pt_signal.specs.declared.item.Body.{Body}
@@ -9,7 +10,7 @@ use Rattle.pt_signal.specs.declared.item.Item.TheVariants.{User}
 use Rattle.pt_signal.specs.declared.reason.Reason.{Reason}
 use Rattle.pt_signal.specs.declared.reason.Reason.TheVariants.{Normal, Kill, Killed, Noproc, Shutdown, Other}
 use Rattle.pt_signal.specs.declared.signal.Signal.{Signal}
-use Rattle.pt_signal.specs.declared.signal.Signal.TheVariants.{Message, Link, Unlink, LinkExit, Monitor, Demonitor}
+use Rattle.pt_signal.specs.declared.signal.Signal.TheVariants.{Message, Link, Unlink, LinkExit, Monitor, Demonitor, AliveAsk, AliveSay}
 use Rattle.pt_signal.specs.Values.{same_pid, same_ref, same_link}
 
 abbrev pub same_reason : Reason → Reason → Bool
@@ -28,6 +29,7 @@ abbrev pub same_item : Item → Item → Bool
 same_item (User p a) (User q b) = same_pid p q && same_body a b
 same_item (Item.Exit p r) (Item.Exit q s) = same_pid p q && same_reason r s
 same_item (Item.Down m p r) (Item.Down n q s) = same_ref m n && same_pid p q && same_reason r s
+same_item (Item.Alive m p x) (Item.Alive n q y) = same_ref m n && same_pid p q && beq x y
 same_item i j = false
 
 abbrev pub same_ids : Ids → Ids → Bool
@@ -42,4 +44,6 @@ same_signal (LinkExit a r) (LinkExit b s) = same_ids a b && same_reason r s
 same_signal (Monitor m) (Monitor n) = same_ref m n
 same_signal (Demonitor m) (Demonitor n) = same_ref m n
 same_signal (Signal.Down m r) (Signal.Down n s) = same_ref m n && same_reason r s
+same_signal (AliveAsk m) (AliveAsk n) = same_ref m n
+same_signal (AliveSay m x) (AliveSay n y) = same_ref m n && beq x y
 same_signal x y = false

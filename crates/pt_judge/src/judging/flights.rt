@@ -6,12 +6,12 @@ ghost use Rattle.std.specs.Option.{option_map};
 ghost use Rattle.pt_signal.specs.declared.signal.Signal.TheVariants.{LinkExit, Down, Demonitor};
 ghost use Rattle.pt_signal.specs.Process.{sent, estate, bounce};
 ghost use Rattle.pt_events.specs.History.{is_between, landed};
-ghost use Rattle.pt_judge.specs.Judging.{owed, sends};
+ghost use Rattle.pt_judge.specs.Judging.{answered, owed, sends};
 
-use pt_events::Event;
 use crate::judging::entries::{Test, first, take_out};
 use crate::judging::holdings::Holdings;
 use crate::judging::lives::{Life, holdings, reason};
+use pt_events::Event;
 use pt_signal::{Ids, Pid, Reason, Ref, Signal};
 use std::alloc::AllocError;
 use std::marker::Model;
@@ -164,6 +164,21 @@ fn send_back(
     }
 }
 
+// Sends what a live process answers.
+fn send_answer(
+    flights: &mut Vec<Flight>,
+    me: Pid,
+    from: Pid,
+    signal: Signal,
+) -> Result<(), AllocError>
+    ensures { OnOk result (flights.new.items ≡ flights.old.items ++ answered me from signal) }
+{
+    match signal {
+        Signal::AliveAsk(question) => send(flights, me, from, Signal::AliveSay(question, true)),
+        _ => Ok(()),
+    }
+}
+
 // Sends what the event sends, where the lives are those after it, and its process lived before it or did not.
 pub fn dispatch(
     flights: &mut Vec<Flight>,
@@ -176,7 +191,10 @@ pub fn dispatch(
     match event {
         Event::Said(from, to, signal) => send(flights, from, to, signal),
         Event::Came(from, to, signal) if !lived => send_back(flights, to, from, signal),
-        Event::Came(_, to, _) => send_end(flights, lives, to),
+        Event::Came(from, to, signal) => {
+            send_answer(flights, to, from, signal)?;
+            send_end(flights, lives, to)
+        }
         Event::Left(pid, _) if lived => send_end(flights, lives, pid),
         _ => Ok(()),
     }

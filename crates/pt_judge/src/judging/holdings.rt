@@ -7,8 +7,8 @@ ghost use Rattle.pt_signal.specs.Process.{fresh, enter, say};
 ghost use Rattle.pt_events.specs.History.{living, live_or_end, change};
 ghost use Rattle.pt_judge.specs.Judging.{is_kill, is_normal, IsHandled, IsObeyed};
 
-use pt_events::Event;
 use crate::judging::links::{close, cut, enter, forget, ids_with, keep, leave, take, target_of};
+use pt_events::Event;
 use pt_signal::{Ids, Item, LinkId, Pid, Reason, Ref, Signal};
 use std::alloc::{AllocError, Global};
 use std::marker::Model;
@@ -168,6 +168,10 @@ impl Holdings {
             Signal::Monitor(monitor) => keep(&mut self.kept, monitor, from)?,
             Signal::Demonitor(monitor) => forget(&mut self.kept, monitor, from),
             Signal::Down(monitor, reason) => return self.down(me, from, monitor, reason),
+            Signal::AliveAsk(_) => {}
+            Signal::AliveSay(question, alive) => {
+                self.waiting.push(Item::Alive(question, from, alive))?;
+            }
         }
         Ok(None)
     }

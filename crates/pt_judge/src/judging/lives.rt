@@ -7,9 +7,9 @@ ghost use Rattle.pt_signal.specs.Values.{same_pid};
 ghost use Rattle.pt_events.specs.History.{unborn, newborn, is_living, reason_of, state_of, touches, at_start};
 ghost use Rattle.pt_judge.specs.Judging.{shown, MayBeBorn, IsObserved, lived};
 
-use pt_events::Event;
 use crate::judging::entries::{Test, first};
 use crate::judging::holdings::Holdings;
+use pt_events::Event;
 use pt_signal::{LinkId, Pid, Reason};
 use std::alloc::{AllocError, Global};
 use std::marker::Model;

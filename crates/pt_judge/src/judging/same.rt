@@ -34,6 +34,9 @@ pub fn items(one: Item, other: Item) -> bool
         (Item::Down(one, from, why), Item::Down(other, by, because)) => {
             one == other && from == by && reasons(why, because)
         }
+        (Item::Alive(one, from, alive), Item::Alive(other, by, lives)) => {
+            one == other && from == by && alive == lives
+        }
         _ => false,
     }
 }
@@ -59,6 +62,10 @@ pub fn signals(one: Signal, other: Signal) -> bool
         (Signal::Demonitor(one), Signal::Demonitor(other)) => one == other,
         (Signal::Down(one, why), Signal::Down(other, because)) => {
             one == other && reasons(why, because)
+        }
+        (Signal::AliveAsk(one), Signal::AliveAsk(other)) => one == other,
+        (Signal::AliveSay(one, alive), Signal::AliveSay(other, lives)) => {
+            one == other && alive == lives
         }
         _ => false,
     }

@@ -11,12 +11,12 @@ ghost use Rattle.pt_events.specs.declared.event.Event.TheVariants.{Born, Said, C
 ghost use Rattle.pt_events.specs.History.{open_monitors, reason_of, is_unborn, is_the, is_between, life, alive, state, flying, makes_link, makes_ref, made_link, made_ref, May};
 ghost use Rattle.pt_judge.specs.Judging.{cause, may_say, lacks, unlawful_link, is_item, is_ids, is_signal, IsHeldBy};
 
+use crate::Cause;
 use crate::judging::flights::{Flight, dispatch, land, oldest};
 use crate::judging::holdings::Holdings;
 use crate::judging::links::{first_match, ids_with, target_of};
 use crate::judging::lives::{Life, holdings, is_known, is_living, lived, observe, reason};
 use crate::judging::same;
-use crate::Cause;
 use pt_events::Event;
 use pt_signal::{Ids, Item, LinkId, Pick, Pid, Reason, Ref, Signal};
 use std::alloc::{AllocError, Global};
@@ -59,6 +59,7 @@ fn makes_ref(monitor: Ref, event: Event) -> bool
 {
     match event {
         Event::Said(_, _, Signal::Monitor(made)) => monitor == made,
+        Event::Said(_, _, Signal::AliveAsk(made)) => monitor == made,
         _ => false,
     }
 }
@@ -252,6 +253,8 @@ impl State {
             Signal::Demonitor(monitor) => self.watches(from, to, monitor),
             Signal::LinkExit(_, _) => false,
             Signal::Down(_, _) => false,
+            Signal::AliveAsk(question) => !self.made_ref(question),
+            Signal::AliveSay(_, _) => false,
         }
     }
 

@@ -3,8 +3,8 @@
 ghost use Rattle.std.specs.Prelude.{◌≡◌};
 ghost use Rattle.pt_judge.specs.Judge.{Judges, Replays};
 
-use crate::judging::state::State;
 use crate::Cause;
+use crate::judging::state::State;
 use pt_events::Event;
 use std::alloc::Global;
 
