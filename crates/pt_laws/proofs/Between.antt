@@ -10,7 +10,7 @@ use Rattle.pt_signal.specs.declared.ids.Ids.{Ids}
 use Rattle.pt_signal.specs.declared.ids.LinkId.{LinkId}
 use Rattle.pt_signal.specs.declared.reason.Reason.{Reason}
 use Rattle.pt_signal.specs.declared.signal.Signal.{Signal}
-use Rattle.pt_signal.specs.declared.signal.Signal.TheVariants.{Message, Link, Unlink, LinkExit, Monitor, Demonitor}
+use Rattle.pt_signal.specs.declared.signal.Signal.TheVariants.{Message, Link, Unlink, LinkExit, Monitor, Demonitor, AliveAsk, AliveSay}
 use Rattle.pt_events.specs.declared.event.Event.{Event}
 use Rattle.pt_events.specs.declared.event.Event.TheVariants.{Born, Said, Came, Took, Flag, Left}
 use Rattle.pt_signal.specs.Values.{same_pid, without_first}
@@ -19,6 +19,7 @@ use Rattle.pt_events.specs.History.{Past, Phase, unborn, living, ended, life, ch
 use Rattle.pt_laws.specs.Load.{one_if}
 use Rattle.pt_laws.specs.Watch.{count}
 use Rattle.pt_signal.proofs.Same.{same_pid_refl}
+use Rattle.pt_signal.proofs.Handling.{living_answer, handle_answer}
 use Rattle.pt_events.proofs.Phases.{each_branch}
 use Rattle.pt_laws.proofs.Entries.{Keyed, held-enter, held-enter-other, held-cut, held-cut-other, Keyed-enter, Keyed-cut, Keyed-removed}
 use Rattle.pt_laws.proofs.Holding.{obey_links, down_links, exit_holds}
@@ -36,6 +37,8 @@ part (LinkExit ids r) = clears ids ∷ []
 part (Monitor m) = []
 part (Demonitor m) = []
 part (Signal.Down m r) = []
+part (AliveAsk m) = []
+part (AliveSay m x) = []
 
 -- the signals of links from p to q among letters
 abbrev pub parts : Pid → Pid → List Sent → List Tie
@@ -140,14 +143,36 @@ module _ (p q : Pid) where
   bounce_other b a (LinkExit ids r) h = refl
   bounce_other b a (Demonitor m) h = refl
   bounce_other b a (Signal.Down m r) h = refl
+  bounce_other b a (AliveAsk m) h = rw h refl
+  bounce_other b a (AliveSay m x) h = refl
 
   end_other : (b : Pid) (o : Option Reason) (s : ProcessState) → same_pid p b ≡ false → parts p q (end_sends b o s) ≡ []
   end_other b None s h = refl
   end_other b (Some r) s h = estate_other b s r h
 
+  -- what a live process answers is no signal of links
+  answer_parts : (b a : Pid) (x : Signal) → parts p q (living_answer b a x) ≡ []
+  answer_parts b a (AliveAsk m) = each_branch (λ z. z ++ [] ≡ []) (same_pid p b && same_pid q a) [] [] refl refl
+  answer_parts b a (Message body) = refl
+  answer_parts b a (Link i) = refl
+  answer_parts b a (Unlink ids) = refl
+  answer_parts b a (Signal.Exit r) = refl
+  answer_parts b a (LinkExit ids r) = refl
+  answer_parts b a (Monitor m) = refl
+  answer_parts b a (Demonitor m) = refl
+  answer_parts b a (Signal.Down m r) = refl
+  answer_parts b a (AliveSay m x) = refl
+
+  pub got_living : (s : ProcessState) (b a : Pid) (x : Signal)
+      → parts p q (got_sends (living s) b a x) ≡ parts p q (end_sends b (handle b s a x).ending (handle b s a x).state)
+  got_living s b a x =
+      parts-append (handle b s a x).answer (end_sends b (handle b s a x).ending (handle b s a x).state)
+      ∙ ap (λ z. z ++ parts p q (end_sends b (handle b s a x).ending (handle b s a x).state))
+      (ap (parts p q) (handle_answer b s a x) ∙ answer_parts b a x)
+
   pub got_other : (f : Phase) (b a : Pid) (x : Signal) → same_pid p b ≡ false → parts p q (got_sends f b a x) ≡ []
   got_other unborn b a x h = bounce_other b a x h
-  got_other (living s) b a x h = end_other b (handle b s a x).ending (handle b s a x).state h
+  got_other (living s) b a x h = got_living s b a x ∙ end_other b (handle b s a x).ending (handle b s a x).state h
   got_other (ended r s) b a x h = bounce_other b a x h
 
   pub left_other : (f : Phase) (b : Pid) (r : Reason) → same_pid p b ≡ false → parts p q (left_sends f b r) ≡ []
@@ -194,6 +219,8 @@ module _ (p q : Pid) where
   bounce_own (LinkExit ids r) = refl
   bounce_own (Demonitor m) = refl
   bounce_own (Signal.Down m r) = refl
+  bounce_own (AliveAsk m) = rw (same_pid_refl p, same_pid_refl q) refl
+  bounce_own (AliveSay m x) = refl
 
   pub bounce_not : (a : Pid) (x : Signal) → same_pid q a ≡ false → parts p q (bounce p a x) ≡ []
   bounce_not a (Link j) h = rw (and_right (same_pid p p) (same_pid q a) h) refl
@@ -204,6 +231,8 @@ module _ (p q : Pid) where
   bounce_not a (LinkExit ids r) h = refl
   bounce_not a (Demonitor m) h = refl
   bounce_not a (Signal.Down m r) h = refl
+  bounce_not a (AliveAsk m) h = rw (and_right (same_pid p p) (same_pid q a) h) refl
+  bounce_not a (AliveSay m x) h = refl
 
 -- each pid has at most one entry in a live process -----------------------------------------------------
 
@@ -227,6 +256,8 @@ keyed_say s b (LinkExit ids r) k = k
 keyed_say s b (Monitor m) k = k
 keyed_say s b (Demonitor m) k = k
 keyed_say s b (Signal.Down m r) k = k
+keyed_say s b (AliveAsk m) k = k
+keyed_say s b (AliveSay m x) k = k
 
 keyed_obey : (v : Verdict) (s : ProcessState) → Keyed s.links → Keyed (obey v s).state.links
 keyed_obey Verdict.drops s k = k
@@ -252,6 +283,8 @@ keyed_handle me s a (LinkExit ids r) k = keyed_exit (holds_any (held s.links a) 
 keyed_handle me s a (Monitor m) k = k
 keyed_handle me s a (Demonitor m) k = k
 keyed_handle me s a (Signal.Down m r) k = keyed_down (lookup _ s.watching) s a m r k
+keyed_handle me s a (AliveAsk m) k = k
+keyed_handle me s a (AliveSay m x) k = k
 
 keyed_end : (o : Option Reason) (s : ProcessState) → Keyed s.links → KeyedIn (live_or_end o s)
 keyed_end None s k = k
@@ -306,6 +339,8 @@ module _ (q : Pid) where
   taken_entry me s (Monitor m) t k e = absurd (cc)
   taken_entry me s (Demonitor m) t k e = absurd (cc)
   taken_entry me s (Signal.Down m r) t k e = absurd (cc)
+  taken_entry me s (AliveAsk m) t k e = absurd (cc)
+  taken_entry me s (AliveSay m x) t k e = absurd (cc)
 
   -- a signal that is none of links
   pub other_entry : (me : Pid) (s : ProcessState) (a : Pid) (x : Signal) → part x ≡ [] → held (handle me s a x).state.links q ≡ held s.links q
@@ -317,6 +352,8 @@ module _ (q : Pid) where
   other_entry me s a (Monitor m) e = refl
   other_entry me s a (Demonitor m) e = refl
   other_entry me s a (Signal.Down m r) e = ap (λ z. held z q) (down_links q (lookup _ s.watching) s a m r)
+  other_entry me s a (AliveAsk m) e = refl
+  other_entry me s a (AliveSay m x) e = refl
 
   -- what is said to another
   pub said_other : (b : Pid) (x : Signal) (f : Phase) → same_pid q b ≡ false → seen q (while_living (λ s. say s b x) f) ≡ seen q f
@@ -330,6 +367,8 @@ module _ (q : Pid) where
   said_other b (Monitor m) (living s) n = refl
   said_other b (Demonitor m) (living s) n = refl
   said_other b (Signal.Down m r) (living s) n = refl
+  said_other b (AliveAsk m) (living s) n = refl
+  said_other b (AliveSay m x) (living s) n = refl
 
   linked_other : (c : Pid) (link : Option LinkId) (s : ProcessState) → same_pid q c ≡ false → held (linked (Some c) link s).links q ≡ held s.links q
   linked_other c None s n = refl

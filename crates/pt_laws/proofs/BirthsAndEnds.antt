@@ -7,7 +7,7 @@ use Rattle.pt_signal.specs.declared.pid.Pid.{Pid}
 use Rattle.pt_signal.specs.declared.ids.LinkId.{LinkId}
 use Rattle.pt_signal.specs.declared.reason.Reason.{Reason}
 use Rattle.pt_signal.specs.declared.signal.Signal.{Signal}
-use Rattle.pt_signal.specs.declared.signal.Signal.TheVariants.{Message, Link, Unlink, LinkExit, Monitor, Demonitor}
+use Rattle.pt_signal.specs.declared.signal.Signal.TheVariants.{Message, Link, Unlink, LinkExit, Monitor, Demonitor, AliveAsk, AliveSay}
 use Rattle.pt_events.specs.declared.event.Event.{Event}
 use Rattle.pt_events.specs.declared.event.Event.TheVariants.{Born, Said, Came, Took, Flag, Left}
 use Rattle.pt_signal.specs.Values.{same_pid, same_ref}
@@ -46,6 +46,8 @@ handle_ending p s a (LinkExit ids r) = link_exit_ending (holds_any (held s.links
 handle_ending p s a (Monitor m) = refl
 handle_ending p s a (Demonitor m) = refl
 handle_ending p s a (Signal.Down m r) = down_ending (lookup (same_ref m) s.watching) s a m r
+handle_ending p s a (AliveAsk m) = refl
+handle_ending p s a (AliveSay m x) = refl
 
 -- births -------------------------------------------------------------------------------------------
 

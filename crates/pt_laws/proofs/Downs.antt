@@ -7,7 +7,7 @@ use Rattle.pt_signal.specs.declared.ids.Ref.{Ref}
 use Rattle.pt_signal.specs.declared.reason.Reason.{Reason}
 use Rattle.pt_signal.specs.declared.reason.Reason.TheVariants.{Normal, Kill}
 use Rattle.pt_signal.specs.declared.signal.Signal.{Signal}
-use Rattle.pt_signal.specs.declared.signal.Signal.TheVariants.{Message, Link, Unlink, LinkExit, Monitor, Demonitor}
+use Rattle.pt_signal.specs.declared.signal.Signal.TheVariants.{Message, Link, Unlink, LinkExit, Monitor, Demonitor, AliveAsk, AliveSay}
 use Rattle.pt_events.specs.declared.event.Event.TheVariants.{Born, Said, Came, Took, Flag, Left}
 use Rattle.pt_signal.specs.Values.{same_pid, same_ref}
 use Rattle.pt_signal.specs.Process.{ProcessState, verdict, obey, holds_any, held, link_exit, down, handle, say}
@@ -66,6 +66,8 @@ module _ (m : Ref) where
   handle_downs me s from (Monitor n) = omega arith
   handle_downs me s from (Demonitor n) = omega arith
   handle_downs me s from (Signal.Down n r) = downs n s _ refl from r
+  handle_downs me s from (AliveAsk n) = omega arith
+  handle_downs me s from (AliveSay n x) = omega arith
 
   say_downs : (start : Start) (past : Past) (s : ProcessState) (a b : Pid) (x : Signal) → MaySay start past s a b x
       → opens m (say s b x).watching + one_if (is_demonitor m x) ≡ opens m s.watching + one_if (is_monitor m x)
@@ -77,6 +79,8 @@ module _ (m : Ref) where
   say_downs start past s a b (Monitor n) h = let k = count-append (λ (e : Ref × Pid). same_ref m e.0) s.watching ((n, b) ∷ []) in omega arith
   say_downs start past s a b (Demonitor n) h = let k = removed_by m n s.watching b h in omega arith
   say_downs start past s a b (Signal.Down n r) h = absurd h
+  say_downs start past s a b (AliveAsk n) h = omega arith
+  say_downs start past s a b (AliveSay n x) h = absurd h
 
 -- event by event --------------------------------------------------------------------------------
 

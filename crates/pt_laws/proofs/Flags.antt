@@ -5,7 +5,7 @@ use Rattle.std.specs.Map.{lookup}
 use Rattle.std.proofs.lemmas.Bool.{false≢true}
 use Rattle.pt_signal.specs.declared.pid.Pid.{Pid}
 use Rattle.pt_signal.specs.declared.signal.Signal.{Signal}
-use Rattle.pt_signal.specs.declared.signal.Signal.TheVariants.{Message, Link, Unlink, LinkExit, Monitor, Demonitor}
+use Rattle.pt_signal.specs.declared.signal.Signal.TheVariants.{Message, Link, Unlink, LinkExit, Monitor, Demonitor, AliveAsk, AliveSay}
 use Rattle.pt_events.specs.declared.event.Event.{Event}
 use Rattle.pt_events.specs.declared.event.Event.TheVariants.{Born, Said, Came, Took, Flag, Left}
 use Rattle.pt_signal.specs.Values.{same_pid, same_ref}
@@ -27,6 +27,8 @@ handle_traps p s a (LinkExit ids r) = link_exit_keeps (λ s. s.traps) (λ w s. r
 handle_traps p s a (Monitor m) = refl
 handle_traps p s a (Demonitor m) = refl
 handle_traps p s a (Signal.Down m r) = down_keeps (λ s. s.traps) (λ w s. refl) (λ l s. refl) (lookup (same_ref m) s.watching) s a m r
+handle_traps p s a (AliveAsk m) = refl
+handle_traps p s a (AliveSay m x) = refl
 
 flagged : (b on : Bool) (f : Phase) → (b ≡ true → is_living f ≡ true)
     → (state_of (cond b (while_living (λ s. record s { traps = on }) f) f)).traps ≡ or_else (cond b (Some on) None) (state_of f).traps

@@ -7,7 +7,7 @@ use Rattle.pt_signal.specs.declared.pid.Pid.{Pid}
 use Rattle.pt_signal.specs.declared.ids.Ref.{Ref}
 use Rattle.pt_signal.specs.declared.reason.Reason.{Reason}
 use Rattle.pt_signal.specs.declared.signal.Signal.{Signal}
-use Rattle.pt_signal.specs.declared.signal.Signal.TheVariants.{Message, Link, Unlink, LinkExit, Monitor, Demonitor}
+use Rattle.pt_signal.specs.declared.signal.Signal.TheVariants.{Message, Link, Unlink, LinkExit, Monitor, Demonitor, AliveAsk, AliveSay}
 use Rattle.pt_signal.specs.Values.{same_pid, same_ref, without_first}
 use Rattle.pt_signal.specs.Process.{ProcessState, verdict, holds_any, held, down, handle, say, keep, same_watch}
 use Rattle.pt_events.specs.History.{Past, Start, MaySay}
@@ -101,6 +101,8 @@ module _ (m : Ref) (w : Pid) where
   kept_step me s a (Monitor n) = monitor_step a n s.kept
   kept_step me s a (Demonitor n) = demonitor_step a n s.kept
   kept_step me s a (Signal.Down n r) = other_signal _ _ a (ap (count (same_watch m w)) (down_keeps (λ s. s.kept) (λ w s. refl) (λ l s. refl) (lookup (same_ref n) s.watching) s a n r))
+  kept_step me s a (AliveAsk n) = other_signal _ _ a refl
+  kept_step me s a (AliveSay n x) = other_signal _ _ a refl
 
 -- how often the reference is open -----------------------------------------------------------------
 
@@ -141,6 +143,8 @@ module _ (m : Ref) (t : Pid) where
   open_step me s a (Monitor n) = unchanged s _ _ refl refl
   open_step me s a (Demonitor n) = unchanged s _ _ refl refl
   open_step me s a (Signal.Down n r) = down_step n s _ refl a r
+  open_step me s a (AliveAsk n) = unchanged s _ _ refl refl
+  open_step me s a (AliveSay n x) = unchanged s _ _ refl refl
 
   -- what the sayer opens and closes
   pub say_step : (start : Start) (past : Past) (s : ProcessState) (w b : Pid) (x : Signal) → MaySay start past s w b x
@@ -157,3 +161,5 @@ module _ (m : Ref) (t : Pid) where
       let k = count_entry_found (is_open m t) (same_ref n) n b (λ e f. rw (same_ref_is n e.0 f) refl) s.watching h in
       let z : one_if (same_pid t b && false) ≡ 0 = rw (and_right (same_pid t b) false refl) refl in omega arith
   say_step start past s w b (Signal.Down n r) h = absurd h
+  say_step start past s w b (AliveAsk n) h = refl
+  say_step start past s w b (AliveSay n x) h = absurd h

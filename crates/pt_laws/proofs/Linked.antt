@@ -7,7 +7,7 @@ use Rattle.pt_signal.specs.declared.ids.Ids.{Ids}
 use Rattle.pt_signal.specs.declared.ids.LinkId.{LinkId}
 use Rattle.pt_signal.specs.declared.reason.Reason.{Reason}
 use Rattle.pt_signal.specs.declared.signal.Signal.{Signal}
-use Rattle.pt_signal.specs.declared.signal.Signal.TheVariants.{Message, Link, Unlink, LinkExit, Monitor, Demonitor}
+use Rattle.pt_signal.specs.declared.signal.Signal.TheVariants.{Message, Link, Unlink, LinkExit, Monitor, Demonitor, AliveAsk, AliveSay}
 use Rattle.pt_events.specs.declared.event.Event.{Event}
 use Rattle.pt_events.specs.declared.event.Event.TheVariants.{Born, Said, Came, Took, Flag, Left}
 use Rattle.pt_signal.specs.Values.{same_pid, same_link, without_first}
@@ -25,7 +25,7 @@ use Rattle.pt_laws.proofs.Ties.{Tie, adds, takes, clears}
 use Rattle.pt_laws.proofs.Takings.{cut_all}
 use Rattle.pt_laws.proofs.Sides.{Seen, before, here, over, plus}
 use Rattle.pt_laws.proofs.Bonds.{Bond, swapped, say_link, say_unlink, ends_free, ends_held, take_in, ignored, returned_before, returned_over, born_alone, born_linked, made_elsewhere}
-use Rattle.pt_laws.proofs.Between.{part, parts, seen, exits, returns, parts-append, parts_single, parts_landed, parts_kept, got_other, left_other, estate_own, bounce_own, bounce_not, KeyedIn, keyed_handle, keyed_life, taken_entry, other_entry, said_other, bore_other, seen_while}
+use Rattle.pt_laws.proofs.Between.{part, parts, seen, exits, returns, parts-append, parts_single, parts_landed, parts_kept, got_other, left_other, estate_own, bounce_own, bounce_not, KeyedIn, keyed_handle, keyed_life, taken_entry, other_entry, said_other, bore_other, seen_while, got_living}
 
 -- the event makes the id for a link from p to q
 abbrev pub makes_by : Pid → Pid → Event → LinkId → Bool
@@ -124,6 +124,8 @@ makes_said p q a b (LinkExit ids r) i h = refl
 makes_said p q a b (Monitor m) i h = refl
 makes_said p q a b (Demonitor m) i h = refl
 makes_said p q a b (Signal.Down m r) i h = refl
+makes_said p q a b (AliveAsk m) i h = refl
+makes_said p q a b (AliveSay m x) i h = refl
 
 is_state : (f : Phase) → is_living f ≡ true → f ≡ living (state_of f)
 is_state unborn h = absurd (false≢true h)
@@ -171,6 +173,8 @@ module _ (past : Past) (a q : Pid) (n : same_pid a q ≡ false) where
     said_here (Demonitor m) may b = plain (Demonitor m) refl (λ s. refl) (λ i. refl) b
     said_here (LinkExit ids r) may b = absurd may
     said_here (Signal.Down m r) may b = absurd may
+    said_here (AliveAsk m) may b = plain (AliveAsk m) refl (λ s. refl) (λ i. refl) b
+    said_here (AliveSay m x) may b = absurd may
     said_here (Link j) may b =
         let e : seen q (life [] past a) ≡ here None = near_is ∙ ap here may.1 in
         let c = subst (λ z. Bond (made_link past) (made_by a q past) (made_by q a past) z (seen a (life [] past q)) F G) e b in
@@ -259,13 +263,17 @@ module _ (m mi th : LinkId → Bool) (p q : Pid) (B : Seen) (F : List Tie) where
   one_part (Monitor m) = inl refl
   one_part (Demonitor m) = inl refl
   one_part (Signal.Down m r) = inl refl
+  one_part (AliveAsk m) = inl refl
+  one_part (AliveSay m x) = inl refl
 
   -- from q
   came_from : (f : Phase) (x : Signal) (G : List Tie) → KeyedIn f → Bond m mi th (seen q f) B F (part x ++ G)
       → Bond m mi th (seen q (gets p q x f)) B (F ++ parts p q (got_sends f p q x)) G
   came_from unborn x G k b = subst (λ z. Bond m mi th before B (F ++ z) G) (sym (bounce_own p q x)) (came_before (part x) G (one_part x) b)
   came_from (ended r s) x G k b = subst (λ z. Bond m mi th over B (F ++ z) G) (sym (bounce_own p q x)) (came_over (part x) G (one_part x) b)
-  came_from (living s) x G k b = ends_or_stays (handle p s q x).ending (handle p s q x).state G (keyed_handle p s q x k) (entered_bond (one_part x))
+  came_from (living s) x G k b =
+      subst (λ z. Bond m mi th (seen q (gets p q x (living s))) B (F ++ z) G) (sym (got_living p q s p q x))
+      (ends_or_stays (handle p s q x).ending (handle p s q x).state G (keyed_handle p s q x k) (entered_bond (one_part x)))
     where
       entered_bond : part x ≡ [] ⊎ (t : Tie) × (part x ≡ t ∷ []) → Bond m mi th (here (held (handle p s q x).state.links q)) B F G
       entered_bond (inl e) =
@@ -282,7 +290,8 @@ module _ (m mi th : LinkId → Bool) (p q : Pid) (B : Seen) (F : List Tie) where
   came_not (ended r s) a x G n k b = subst (λ z. Bond m mi th over B (F ++ z) G) (sym (bounce_not p q a x n)) (stay_over G b)
   came_not (living s) a x G n k b =
       let e : held (handle p s a x).state.links q ≡ held s.links q = other_holds q p s a x n in
-      ends_or_stays (handle p s a x).ending (handle p s a x).state G (keyed_handle p s a x k) (subst (λ z. Bond m mi th (here z) B F G) (sym e) b)
+      subst (λ z. Bond m mi th (seen q (gets p a x (living s))) B (F ++ z) G) (sym (got_living p q s p a x))
+      (ends_or_stays (handle p s a x).ending (handle p s a x).state G (keyed_handle p s a x k) (subst (λ z. Bond m mi th (here z) B F G) (sym e) b))
 
 -- a receipt -------------------------------------------------------------------------------------------
 
@@ -415,6 +424,8 @@ none_made a c (e ∷ past) u h i = rw (here_not e u (omega arith)) (none_made a 
     here_not (Said b d (Monitor m)) u h = refl
     here_not (Said b d (Demonitor m)) u h = refl
     here_not (Said b d (Signal.Down m r)) u h = refl
+    here_not (Said b d (AliveAsk m)) u h = refl
+    here_not (Said b d (AliveSay m x)) u h = refl
     here_not (Came b d x) u h = refl
     here_not (Took d k j) u h = refl
     here_not (Flag d on) u h = refl

@@ -8,7 +8,7 @@ use Rattle.pt_signal.specs.declared.ids.Ids.{Ids}
 use Rattle.pt_signal.specs.declared.ids.LinkId.{LinkId}
 use Rattle.pt_signal.specs.declared.reason.Reason.{Reason}
 use Rattle.pt_signal.specs.declared.signal.Signal.{Signal}
-use Rattle.pt_signal.specs.declared.signal.Signal.TheVariants.{Message, Link, Unlink, LinkExit, Monitor, Demonitor}
+use Rattle.pt_signal.specs.declared.signal.Signal.TheVariants.{Message, Link, Unlink, LinkExit, Monitor, Demonitor, AliveAsk, AliveSay}
 use Rattle.pt_events.specs.declared.event.Event.{Event}
 use Rattle.pt_events.specs.declared.event.Event.TheVariants.{Born, Said, Came, Took, Flag, Left}
 use Rattle.pt_signal.specs.Values.{same_pid, same_ref}
@@ -188,6 +188,8 @@ module _ (p q : Pid) where
   came_step a b (Monitor m) f k = came_other a (Monitor m) (λ s. refl) (same_pid p b) f
   came_step a b (Demonitor m) f k = came_other a (Demonitor m) (λ s. refl) (same_pid p b) f
   came_step a b (Signal.Down m r) f k = came_other a (Signal.Down m r) (λ s. down_keeps (λ s. s.links) (λ w s. refl) (λ l s. refl) (lookup (same_ref m) s.watching) s a m r) (same_pid p b) f
+  came_step a b (AliveAsk m) f k = came_other a (AliveAsk m) (λ s. refl) (same_pid p b) f
+  came_step a b (AliveSay m x) f k = came_other a (AliveSay m x) (λ s. refl) (same_pid p b) f
 
   -- the other events -------------------------------------------------------------------------------
 
@@ -223,6 +225,8 @@ module _ (p q : Pid) where
   said_step a b (Monitor m) f l k = said_other (λ s. say s b (Monitor m)) (λ s. refl) (same_pid p a) f
   said_step a b (Demonitor m) f l k = said_other (λ s. say s b (Demonitor m)) (λ s. refl) (same_pid p a) f
   said_step a b (Signal.Down m r) f l k = said_other (λ s. s) (λ s. refl) (same_pid p a) f
+  said_step a b (AliveAsk m) f l k = said_other (λ s. s) (λ s. refl) (same_pid p a) f
+  said_step a b (AliveSay m x) f l k = said_other (λ s. s) (λ s. refl) (same_pid p a) f
 
   leaves_links : (t : Bool) (r : Reason) (f : Phase) → ids_with (cond t (leaves r f) f) q ≡ filter (λ i. true) (ids_with f q) ++ cond (are_two (ids_with f q)) [] []
   leaves_links true r unborn = refl
@@ -300,6 +304,8 @@ keyed_handled p s a (LinkExit ids r) k = keyed_exit (holds_any (held s.links a) 
 keyed_handled p s a (Monitor m) k = k
 keyed_handled p s a (Demonitor m) k = k
 keyed_handled p s a (Signal.Down m r) k = rw (down_keeps (λ s. s.links) (λ w s. refl) (λ l s. refl) (lookup (same_ref m) s.watching) s a m r) k
+keyed_handled p s a (AliveAsk m) k = k
+keyed_handled p s a (AliveSay m x) k = k
 
 keyed_while : (step : ProcessState → ProcessState) → ((s : ProcessState) → Keyed s.links → Keyed (step s).links) → (f : Phase) → Keyed (state_of f).links → Keyed (state_of (while_living step f)).links
 keyed_while step h unborn k = k

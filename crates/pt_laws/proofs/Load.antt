@@ -9,7 +9,7 @@ use Rattle.pt_signal.specs.declared.ids.LinkId.{LinkId}
 use Rattle.pt_signal.specs.declared.ids.Ids.{Ids}
 use Rattle.pt_signal.specs.declared.reason.Reason.{Reason}
 use Rattle.pt_signal.specs.declared.signal.Signal.{Signal}
-use Rattle.pt_signal.specs.declared.signal.Signal.TheVariants.{Message, Link, Unlink, LinkExit, Monitor, Demonitor}
+use Rattle.pt_signal.specs.declared.signal.Signal.TheVariants.{Message, Link, Unlink, LinkExit, Monitor, Demonitor, AliveAsk, AliveSay}
 use Rattle.pt_events.specs.declared.event.Event.{Event}
 use Rattle.pt_events.specs.declared.event.Event.TheVariants.{Born, Said, Came, Took, Flag, Left}
 use Rattle.pt_signal.specs.Values.{same_pid, same_ref, without_first}
@@ -103,7 +103,7 @@ weights-landed P (l ∷ ls) y h = go (P l) refl h (weights-landed P ls y)
 
 -- the process afterwards and what it sends weigh no more than the process before
 Spends : Pid → Handled → ℕ → Type 0
-Spends me h n = size (live_or_end h.ending h.state) + weights (end_sends me h.ending h.state) ≤ n
+Spends me h n = size (live_or_end h.ending h.state) + weights (h.answer ++ end_sends me h.ending h.state) ≤ n
 
 spends_obey : (me : Pid) (v : Verdict) (s : ProcessState) → Spends me (obey v s) (size (living s))
 unfolding Spends
@@ -134,6 +134,8 @@ spends_handle me s from (LinkExit ids r) = let h = spends_link me (holds_any (he
 spends_handle me s from (Monitor m) = let h = length-keep m from s.kept in omega arith
 spends_handle me s from (Demonitor m) = let h = length-without_first (same_watch m from) s.kept in omega arith
 spends_handle me s from (Signal.Down m r) = let h = spends_down me (lookup (same_ref m) s.watching) s from m r in omega arith
+spends_handle me s from (AliveAsk m) = omega arith
+spends_handle me s from (AliveSay m x) = omega arith
 
 spends_bounce : (me from : Pid) (x : Signal) → weights (bounce me from x) + 1 ≤ weight x
 spends_bounce me from (Message b) = le_refl 1
@@ -144,6 +146,8 @@ spends_bounce me from (LinkExit ids r) = le_refl 1
 spends_bounce me from (Monitor m) = le_refl 2
 spends_bounce me from (Demonitor m) = le_refl 1
 spends_bounce me from (Signal.Down m r) = le_refl 1
+spends_bounce me from (AliveAsk m) = le_refl 2
+spends_bounce me from (AliveSay m x) = le_refl 1
 
 weight_some : (x : Signal) → 1 ≤ weight x
 weight_some (Message b) = le_refl 1
@@ -154,6 +158,8 @@ weight_some (LinkExit ids r) = le_refl 1
 weight_some (Monitor m) = omega arith
 weight_some (Demonitor m) = le_refl 1
 weight_some (Signal.Down m r) = le_refl 1
+weight_some (AliveAsk m) = omega arith
+weight_some (AliveSay m x) = le_refl 1
 
 -- the receiver afterwards and what goes out weigh less than the receiver before and the letter
 receipt : (b a : Pid) (x : Signal) (f : Phase) → size (gets b a x f) + weights (got_sends f b a x) + 1 ≤ size f + weight x

@@ -10,7 +10,7 @@ use Rattle.pt_signal.specs.declared.ids.Ref.{Ref}
 use Rattle.pt_signal.specs.declared.ids.LinkId.{LinkId}
 use Rattle.pt_signal.specs.declared.letter.Letter.{Letter}
 use Rattle.pt_signal.specs.declared.signal.Signal.{Signal}
-use Rattle.pt_signal.specs.declared.signal.Signal.TheVariants.{Message, Link, Unlink, LinkExit, Monitor, Demonitor}
+use Rattle.pt_signal.specs.declared.signal.Signal.TheVariants.{Message, Link, Unlink, LinkExit, Monitor, Demonitor, AliveAsk, AliveSay}
 use Rattle.pt_events.specs.declared.event.Event.{Event}
 use Rattle.pt_events.specs.declared.event.Event.TheVariants.{Born, Said, Came, Took, Flag, Left}
 use Rattle.pt_events.specs.declared.event.Stamped.{Stamped}
@@ -85,6 +85,7 @@ module _ (start : Start) (low top : ℕ) where
 
       not_this : (ev : Event) → IsNewAt t.desk t.stamp ev → makes_ref m ev ≡ false
       not_this (Said a c (Monitor n)) k = differs n k _ refl
+      not_this (Said a c (AliveAsk n)) k = differs n k _ refl
       not_this _ k = refl
 
   -- what the journal allows the merge allows ------------------------------------------------
@@ -104,6 +105,8 @@ module _ (start : Start) (low top : ℕ) where
     may_say a c (Demonitor m) e n k = ap (λ f. lookup (same_ref m) (state_of f).watching) (sym (same_life a e)) ∙ k
     may_say a c (LinkExit ids r) e n k = k
     may_say a c (Signal.Down m r) e n k = k
+    may_say a c (AliveAsk m) e n k = fresh_ref s merged m n.0 n.1 b h
+    may_say a c (AliveSay m x) e n k = k
 
     may_live : (p : Pid) → p.shard ≡ s.desk → alive start (events (of_desk s.desk merged)) p ≡ true → alive start (events merged) p ≡ true
     may_live p e k = ap is_living (sym (same_life p e)) ∙ k

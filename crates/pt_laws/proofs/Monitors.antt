@@ -8,7 +8,7 @@ use Rattle.pt_signal.specs.declared.ids.Ref.{Ref}
 use Rattle.pt_signal.specs.declared.ids.LinkId.{LinkId}
 use Rattle.pt_signal.specs.declared.reason.Reason.{Reason}
 use Rattle.pt_signal.specs.declared.signal.Signal.{Signal}
-use Rattle.pt_signal.specs.declared.signal.Signal.TheVariants.{Message, Link, Unlink, LinkExit, Monitor, Demonitor}
+use Rattle.pt_signal.specs.declared.signal.Signal.TheVariants.{Message, Link, Unlink, LinkExit, Monitor, Demonitor, AliveAsk, AliveSay}
 use Rattle.pt_events.specs.declared.event.Event.{Event}
 use Rattle.pt_events.specs.declared.event.Event.TheVariants.{Born, Said, Came, Took, Flag, Left}
 use Rattle.pt_signal.specs.Values.{same_pid, same_ref, without_first}
@@ -42,6 +42,8 @@ module _ (m : Ref) (w : Pid) where
       none (Said a b (LinkExit i r)) h = rw (and_right (same_pid w a) false refl) refl
       none (Said a b (Demonitor n)) h = rw (and_right (same_pid w a) false refl) refl
       none (Said a b (Signal.Down n r)) h = rw (and_right (same_pid w a) false refl) refl
+      none (Said a b (AliveAsk n)) h = rw (and_right (same_pid w a) false refl) refl
+      none (Said a b (AliveSay n x)) h = rw (and_right (same_pid w a) false refl) refl
       none (Born q p l) h = refl
       none (Came a b x) h = refl
       none (Took q k i) h = refl

@@ -7,7 +7,7 @@ use Rattle.pt_signal.specs.declared.ids.Ref.{Ref}
 use Rattle.pt_signal.specs.declared.ids.LinkId.{LinkId}
 use Rattle.pt_signal.specs.declared.reason.Reason.{Reason}
 use Rattle.pt_signal.specs.declared.signal.Signal.{Signal}
-use Rattle.pt_signal.specs.declared.signal.Signal.TheVariants.{Message, Link, Unlink, LinkExit, Monitor, Demonitor}
+use Rattle.pt_signal.specs.declared.signal.Signal.TheVariants.{Message, Link, Unlink, LinkExit, Monitor, Demonitor, AliveAsk, AliveSay}
 use Rattle.pt_events.specs.declared.event.Event.{Event}
 use Rattle.pt_events.specs.declared.event.Event.TheVariants.{Born, Said, Came, Took, Flag, Left}
 use Rattle.pt_signal.specs.Values.{same_pid, same_ref, fits, without_first}
@@ -95,6 +95,8 @@ module _ (w : Pid) where
   came_step a b (Monitor m) s h = came_other a (Monitor m) s refl (same_pid w b)
   came_step a b (Demonitor m) s h = came_other a (Demonitor m) s refl (same_pid w b)
   came_step a b (Signal.Down n r) s h = came_down a n r s (h n) (same_pid w b)
+  came_step a b (AliveAsk m) s h = came_other a (AliveAsk m) s refl (same_pid w b)
+  came_step a b (AliveSay m x) s h = came_other a (AliveSay m x) s refl (same_pid w b)
 
   -- the other events ---------------------------------------------------------------------------------
 
@@ -122,6 +124,8 @@ module _ (w : Pid) where
   said_step a b (Monitor m) s h = said_monitor b m (same_pid w a) s
   said_step a b (Demonitor m) s h = said_demonitor b m (same_pid w a) s (h m)
   said_step a b (Signal.Down m r) s h = step_other (λ s. s) (λ s. refl) (same_pid w a) s
+  said_step a b (AliveAsk m) s h = step_other (λ s. s) (λ s. refl) (same_pid w a) s
+  said_step a b (AliveSay m x) s h = step_other (λ s. s) (λ s. refl) (same_pid w a) s
 
   born_living : (parent : Option Pid) (link : Option LinkId) (step : ProcessState → ProcessState) → ((s : ProcessState) → (step s).watching ≡ s.watching) → (t u : Bool) (s : ProcessState)
       → open_monitors (cond (t || u) (cond t (newborn parent link (living s)) (while_living step (living s))) (living s)) ≡ filter (λ k. true) s.watching ++ []

@@ -9,7 +9,7 @@ use Rattle.pt_signal.specs.declared.ids.Ids.{Ids}
 use Rattle.pt_signal.specs.declared.ids.LinkId.{LinkId}
 use Rattle.pt_signal.specs.declared.reason.Reason.{Reason}
 use Rattle.pt_signal.specs.declared.signal.Signal.{Signal}
-use Rattle.pt_signal.specs.declared.signal.Signal.TheVariants.{Message, Link, Unlink, LinkExit, Monitor, Demonitor}
+use Rattle.pt_signal.specs.declared.signal.Signal.TheVariants.{Message, Link, Unlink, LinkExit, Monitor, Demonitor, AliveAsk, AliveSay}
 use Rattle.pt_events.specs.declared.event.Event.{Event}
 use Rattle.pt_events.specs.declared.event.Event.TheVariants.{Born, Said, Came, Took, Flag, Left}
 use Rattle.pt_signal.specs.Values.{same_pid, same_ref}
@@ -212,6 +212,8 @@ module _ (p : Pid) where
   handle_step s a (Monitor m) k = same_in_order s.links (a ∷ [])
   handle_step s a (Demonitor m) k = same_in_order s.links (a ∷ [])
   handle_step s a (Signal.Down m r) k = subst (λ l. InOrder s.links l (a ∷ [])) (sym (down_keeps (λ s. s.links) (λ w s. refl) (λ l s. refl) (lookup (same_ref m) s.watching) s a m r)) (same_in_order s.links (a ∷ []))
+  handle_step s a (AliveAsk m) k = same_in_order s.links (a ∷ [])
+  handle_step s a (AliveSay m x) k = same_in_order s.links (a ∷ [])
 
   came_step : (t : Bool) (a : Pid) (x : Signal) (f : Phase) → Keyed (links_of f) → Step f (cond t (gets p a x f) f) (cond t (Some a) None)
   came_step true a x unborn k = same_in_order [] (a ∷ [])

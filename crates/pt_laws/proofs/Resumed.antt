@@ -7,7 +7,7 @@ use Rattle.pt_signal.specs.declared.pid.Pid.{Pid}
 use Rattle.pt_signal.specs.declared.ids.Ref.{Ref}
 use Rattle.pt_signal.specs.declared.ids.LinkId.{LinkId}
 use Rattle.pt_signal.specs.declared.signal.Signal.{Signal}
-use Rattle.pt_signal.specs.declared.signal.Signal.TheVariants.{Message, Link, Unlink, LinkExit, Monitor, Demonitor}
+use Rattle.pt_signal.specs.declared.signal.Signal.TheVariants.{Message, Link, Unlink, LinkExit, Monitor, Demonitor, AliveAsk, AliveSay}
 use Rattle.pt_events.specs.declared.event.Event.{Event}
 use Rattle.pt_events.specs.declared.event.Event.TheVariants.{Born, Said, Came, Took, Flag, Left}
 use Rattle.pt_signal.specs.Values.{same_pid, same_ref, fits}
@@ -85,6 +85,8 @@ module _ (start : Start) (ok : IsStart start) (old : Past) (legal : IsLegal star
   same_say new a b (Demonitor m) n h = ap (λ f. lookup (same_ref m) (state_of f).watching) (sym (same_life new a)) ∙ h
   same_say new a b (LinkExit ids r) n h = h
   same_say new a b (Signal.Down m r) n h = h
+  same_say new a b (AliveAsk m) n h = made_ref_both new m h n
+  same_say new a b (AliveSay m x) n h = h
 
   same_alive : (new : Past) (p : Pid) → alive again new p ≡ true → alive start (new ++ old) p ≡ true
   same_alive new p h = ap is_living (sym (same_life new p)) ∙ h

@@ -11,7 +11,7 @@ use Rattle.pt_signal.specs.declared.letter.Letter.{Letter}
 use Rattle.pt_signal.specs.declared.reason.Reason.{Reason}
 use Rattle.pt_signal.specs.declared.reason.Reason.TheVariants.{Normal, Kill}
 use Rattle.pt_signal.specs.declared.signal.Signal.{Signal}
-use Rattle.pt_signal.specs.declared.signal.Signal.TheVariants.{Message, Link, Unlink, LinkExit, Monitor, Demonitor}
+use Rattle.pt_signal.specs.declared.signal.Signal.TheVariants.{Message, Link, Unlink, LinkExit, Monitor, Demonitor, AliveAsk, AliveSay}
 use Rattle.pt_events.specs.declared.event.Event.{Event}
 use Rattle.pt_events.specs.declared.event.Event.TheVariants.{Born, Said, Came, Took, Flag, Left}
 use Rattle.pt_events.specs.declared.event.Stamped.{Stamped}
@@ -21,6 +21,7 @@ use Rattle.pt_events.specs.History.{Past, Start, Phase, unborn, living, ended, l
 use Rattle.pt_events.specs.Journal.{Journals, LanesAgree, Agrees, content, letter, events, letters, got, gots}
 use Rattle.pt_laws.specs.Sender.{body_of, message_of, messages, said_by, said_messages, user_of, users, came_by_when, came_when, IsSenderFront}
 use Rattle.pt_signal.proofs.Same.{same_pid_is}
+use Rattle.pt_signal.proofs.Handling.{living_answer, handle_answer}
 use Rattle.pt_events.proofs.Phases.{was_unborn, was_not_ended}
 
 module _ (a p : Pid) where
@@ -131,6 +132,8 @@ user_items a p me s c (LinkExit ids r) = no_user_by_link a p (holds_any (held s.
 user_items a p me s c (Monitor m) = both _
 user_items a p me s c (Demonitor m) = both _
 user_items a p me s c (Signal.Down m r) = no_user_down a p (lookup (same_ref m) s.watching) s c m r ∙ both _
+user_items a p me s c (AliveAsk m) = both _
+user_items a p me s c (AliveSay m x) = both _
 
 -- what the event adds to the three parts, by the phase
 module _ (a p : Pid) where
@@ -226,6 +229,7 @@ module _ (a p : Pid) where
   unfolding bodies
   bodies_of_bounce me c (Link i) = rw none refl
   bodies_of_bounce me c (Monitor m) = rw none refl
+  bodies_of_bounce me c (AliveAsk m) = rw none refl
   bodies_of_bounce me c _ = refl
 
   bodies_of_end : (me : Pid) (o : Option Reason) (s : ProcessState) → bodies (end_sends me o s) ≡ []
@@ -233,9 +237,17 @@ module _ (a p : Pid) where
   bodies_of_end me None s = refl
   bodies_of_end me (Some r) s = bodies_of_estate me s r
 
+  bodies_of_answer : (me c : Pid) (x : Signal) → bodies (living_answer me c x) ≡ []
+  unfolding bodies
+  bodies_of_answer me c (AliveAsk m) = rw none refl
+  bodies_of_answer me c _ = refl
+
   bodies_of_got : (f : Phase) (me c : Pid) (x : Signal) → bodies (got_sends f me c x) ≡ []
   bodies_of_got unborn me c x = bodies_of_bounce me c x
-  bodies_of_got (living s) me c x = bodies_of_end me (handle me s c x).ending (handle me s c x).state
+  bodies_of_got (living s) me c x =
+      bodies-append (handle me s c x).answer (end_sends me (handle me s c x).ending (handle me s c x).state)
+      ∙ ap (λ z. z ++ bodies (end_sends me (handle me s c x).ending (handle me s c x).state)) (ap bodies (handle_answer me s c x) ∙ bodies_of_answer me c x)
+      ∙ bodies_of_end me (handle me s c x).ending (handle me s c x).state
   bodies_of_got (ended r s) me c x = bodies_of_bounce me c x
 
   bodies_of_left : (f : Phase) (me : Pid) (r : Reason) → bodies (left_sends f me r) ≡ []

@@ -10,7 +10,7 @@ use Rattle.pt_signal.specs.declared.item.Pick.{Pick}
 use Rattle.pt_signal.specs.declared.item.Item.{Item}
 use Rattle.pt_signal.specs.declared.reason.Reason.{Reason}
 use Rattle.pt_signal.specs.declared.signal.Signal.{Signal}
-use Rattle.pt_signal.specs.declared.signal.Signal.TheVariants.{Message, Link, Unlink, LinkExit, Monitor, Demonitor}
+use Rattle.pt_signal.specs.declared.signal.Signal.TheVariants.{Message, Link, Unlink, LinkExit, Monitor, Demonitor, AliveAsk, AliveSay}
 use Rattle.pt_events.specs.declared.event.Event.{Event}
 use Rattle.pt_events.specs.declared.event.Event.TheVariants.{Born, Said, Came, Took, Flag, Left}
 use Rattle.pt_signal.specs.Values.{same_pid, same_ref, fits, without_first}
@@ -71,6 +71,8 @@ handle_queues me s from (LinkExit ids r) = link_exited (holds_any (held s.links 
 handle_queues me s from (Monitor m) = sym (append-nil s.waiting)
 handle_queues me s from (Demonitor m) = sym (append-nil s.waiting)
 handle_queues me s from (Signal.Down m r) = downed (lookup (same_ref m) s.watching) s from m r
+handle_queues me s from (AliveAsk m) = sym (append-nil s.waiting)
+handle_queues me s from (AliveSay m x) = refl
 
 -- positions -----------------------------------------------------------------------------------
 

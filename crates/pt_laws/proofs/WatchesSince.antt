@@ -6,7 +6,7 @@ use Rattle.std.proofs.lemmas.Bool.{and_parts}
 use Rattle.pt_signal.specs.declared.pid.Pid.{Pid}
 use Rattle.pt_signal.specs.declared.ids.Ref.{Ref}
 use Rattle.pt_signal.specs.declared.signal.Signal.{Signal}
-use Rattle.pt_signal.specs.declared.signal.Signal.TheVariants.{Message, Link, Unlink, LinkExit, Monitor, Demonitor}
+use Rattle.pt_signal.specs.declared.signal.Signal.TheVariants.{Message, Link, Unlink, LinkExit, Monitor, Demonitor, AliveAsk, AliveSay}
 use Rattle.pt_events.specs.declared.event.Event.{Event}
 use Rattle.pt_events.specs.declared.event.Event.TheVariants.{Born, Said, Came, Took, Flag, Left}
 use Rattle.pt_signal.specs.Values.{same_pid, same_ref, without_first}
@@ -95,6 +95,8 @@ module _ (t : Pid) where
   kept_step (Came a b (Monitor m)) f h = came_monitor a m (same_pid t b) f
   kept_step (Came a b (Demonitor m)) f h = came_demonitor a m (same_pid t b) f h
   kept_step (Came a b (Signal.Down m r)) f h = came_other a (Signal.Down m r) (λ s. down_keeps (λ s. s.kept) (λ w s. refl) (λ l s. refl) (lookup (same_ref m) s.watching) s a m r) (same_pid t b) f
+  kept_step (Came a b (AliveAsk m)) f h = came_other a (AliveAsk m) (λ s. refl) (same_pid t b) f
+  kept_step (Came a b (AliveSay m x)) f h = came_other a (AliveSay m x) (λ s. refl) (same_pid t b) f
   kept_step (Born q parent link) f h = same_kept (after t (Born q parent link) f) f (born_keeps (λ s. s.kept) (λ l s. refl) t q parent link f)
   kept_step (Said a b x) f h =
       each_branch (λ g. (state_of g).kept ≡ filter (λ k. true) (state_of f).kept ++ []) (same_pid t a) _ _
@@ -116,6 +118,8 @@ module _ (t : Pid) where
   once_handled s a (Signal.Exit r) h = rw (obey_keeps (λ s. s.kept) (λ w s. refl) (verdict false s.traps (same_pid a t) a r) s) h
   once_handled s a (LinkExit ids r) h = rw (link_exit_keeps (λ s. s.kept) (λ w s. refl) (λ l s. refl) (holds_any (held s.links a) ids) t s a r) h
   once_handled s a (Signal.Down m r) h = rw (down_keeps (λ s. s.kept) (λ w s. refl) (λ l s. refl) (lookup (same_ref m) s.watching) s a m r) h
+  once_handled s a (AliveAsk m) h = h
+  once_handled s a (AliveSay m x) h = h
 
   once_gets : (a : Pid) (x : Signal) (f : Phase) → KeptOnce (state_of f).kept → KeptOnce (state_of (gets t a x f)).kept
   once_gets a x unborn h = h

@@ -6,13 +6,14 @@ use Rattle.pt_signal.specs.declared.ids.Ref.{Ref}
 use Rattle.pt_signal.specs.declared.ids.Ids.{Ids}
 use Rattle.pt_signal.specs.declared.reason.Reason.{Reason}
 use Rattle.pt_signal.specs.declared.signal.Signal.{Signal}
-use Rattle.pt_signal.specs.declared.signal.Signal.TheVariants.{Message, Link, Unlink, LinkExit, Monitor, Demonitor}
+use Rattle.pt_signal.specs.declared.signal.Signal.TheVariants.{Message, Link, Unlink, LinkExit, Monitor, Demonitor, AliveAsk, AliveSay}
 use Rattle.pt_signal.specs.Values.{same_pid, same_ref}
 use Rattle.pt_signal.specs.Process.{ProcessState, handle, same_watch, Sent, sent, estate, bounce}
 use Rattle.pt_events.specs.History.{Phase, unborn, living, ended, gets, live_or_end, got_sends, end_sends, state_of}
 use Rattle.pt_laws.specs.Load.{one_if}
 use Rattle.pt_laws.specs.Watch.{count, carries, is_monitor, is_demonitor, is_down, is_open, keeps, opens_to, open_in, kept_in}
 use Rattle.pt_signal.proofs.Same.{same_pid_is, same_pid_refl}
+use Rattle.pt_signal.proofs.Handling.{living_answer, handle_answer}
 use Rattle.pt_laws.proofs.Counts.{count-append, count-map, count-none, count_agree}
 use Rattle.pt_laws.proofs.Downs.{opens}
 use Rattle.pt_laws.proofs.Keeping.{kept_step, open_step}
@@ -31,6 +32,20 @@ module _ (a b : Pid) (test : Signal → Bool) where
   estate_parts p s r =
       let x = count-append (carries a b test) (map (λ (e : Pid × Ids). sent p e.0 (LinkExit e.1 r)) s.links ++ map (λ (k : Ref × Pid). sent p k.1 (Signal.Down k.0 r)) s.kept) (map (λ (m : Ref × Pid). sent p m.1 (Demonitor m.0)) s.watching) in
       let y = count-append (carries a b test) (map (λ (e : Pid × Ids). sent p e.0 (LinkExit e.1 r)) s.links) (map (λ (k : Ref × Pid). sent p k.1 (Signal.Down k.0 r)) s.kept) in
+      omega arith
+
+-- what a live process answers does not carry
+module _ (a b : Pid) (test : Signal → Bool) (not_said : (n : Ref) → test (AliveSay n true) ≡ false) where
+  answer_none : (me c : Pid) (x : Signal) → count (carries a b test) (living_answer me c x) ≡ 0
+  answer_none me c (AliveAsk n) = let z = and_right (same_pid a me && same_pid b c) (test (AliveSay n true)) (not_said n) in rw z refl
+  answer_none me c _ = refl
+
+  got_living : (s : ProcessState) (me c : Pid) (x : Signal)
+      → count (carries a b test) (got_sends (living s) me c x) ≡ count (carries a b test) (end_sends me (handle me s c x).ending (handle me s c x).state)
+  got_living s me c x =
+      let h = count-append (carries a b test) (handle me s c x).answer (end_sends me (handle me s c x).ending (handle me s c x).state) in
+      let k = ap (count (carries a b test)) (handle_answer me s c x) in
+      let n = answer_none me c x in
       omega arith
 
 and_cond : {X : Type 0} (b : Bool) (T : X → Bool) (xs : List X) → count (λ x. b && T x) xs ≡ cond b (count T xs) 0
@@ -82,11 +97,13 @@ module _ (w t : Pid) (m : Ref) where
   bounce_mon : (b a : Pid) (x : Signal) → count (carries w t (is_monitor m)) (bounce b a x) ≡ 0
   bounce_mon b a (Link i) = let z = and_right (same_pid w b && same_pid t a) false refl in rw z refl
   bounce_mon b a (Monitor n) = let z = and_right (same_pid w b && same_pid t a) false refl in rw z refl
+  bounce_mon b a (AliveAsk n) = let z = and_right (same_pid w b && same_pid t a) false refl in rw z refl
   bounce_mon b a _ = refl
 
   bounce_dem : (b a : Pid) (x : Signal) → count (carries w t (is_demonitor m)) (bounce b a x) ≡ 0
   bounce_dem b a (Link i) = let z = and_right (same_pid w b && same_pid t a) false refl in rw z refl
   bounce_dem b a (Monitor n) = let z = and_right (same_pid w b && same_pid t a) false refl in rw z refl
+  bounce_dem b a (AliveAsk n) = let z = and_right (same_pid w b && same_pid t a) false refl in rw z refl
   bounce_dem b a _ = refl
 
   no_count : (b : Bool) → 0 ≡ one_if (b && false)
@@ -102,6 +119,8 @@ module _ (w t : Pid) (m : Ref) where
   bounce_down b a (Monitor n) = let z = and_comm (same_pid t b) (same_pid w a) in rw z (omega arith)
   bounce_down b a (Demonitor n) = no_count _
   bounce_down b a (Signal.Down n r) = no_count _
+  bounce_down b a (AliveAsk n) = let z = and_right (same_pid t b && same_pid w a) false refl in rw z (no_count _)
+  bounce_down b a (AliveSay n x) = no_count _
 
   -- an open reference and a kept watch of a live process -----------------------------------------------
 
@@ -111,7 +130,7 @@ module _ (w t : Pid) (m : Ref) where
 
   pub got_mon : (f : Phase) (b a : Pid) (x : Signal) → count (carries w t (is_monitor m)) (got_sends f b a x) ≡ 0
   got_mon unborn b a x = bounce_mon b a x
-  got_mon (living s) b a x = ended_mon b (handle b s a x).ending (handle b s a x).state
+  got_mon (living s) b a x = got_living w t (is_monitor m) (λ n. refl) s b a x ∙ ended_mon b (handle b s a x).ending (handle b s a x).state
   got_mon (ended r s) b a x = bounce_mon b a x
 
   -- the end of w, or its staying
@@ -168,10 +187,12 @@ module _ (w t : Pid) (m : Ref) where
       go true = omega arith
       go false = omega arith
   not_both true (Signal.Down n r) = omega arith
+  not_both true (AliveAsk n) = omega arith
+  not_both true (AliveSay n x) = omega arith
 
   got_down_off : (f : Phase) (b a : Pid) (x : Signal) → same_pid t b ≡ false → count (carries t w (is_down m)) (got_sends f b a x) ≡ 0
   got_down_off unborn b a x e = bounce_down b a x ∙ pair_false (same_pid w a) (same_pid t b) (is_monitor m x) e
-  got_down_off (living s) b a x e = kept_not b (handle b s a x).ending (handle b s a x).state e
+  got_down_off (living s) b a x e = got_living t w (is_down m) (λ n. refl) s b a x ∙ kept_not b (handle b s a x).ending (handle b s a x).state e
   got_down_off (ended r s) b a x e = bounce_down b a x ∙ pair_false (same_pid w a) (same_pid t b) (is_monitor m x) e
 
   t_same : (a : Pid) (x : Signal) (f : Phase)
@@ -184,6 +205,7 @@ module _ (w t : Pid) (m : Ref) where
       record { up = omega arith; stay = λ z. omega arith; off = λ z. omega arith }
   t_same a x (living s) =
       let h = kept_step m w t s a x in
+      let g = got_living t w (is_down m) (λ n. refl) s t a x in
       let e = kept_end t (handle t s a x).ending (handle t s a x).state (same_pid_refl t) in
       let p = pair_true (same_pid w a) (same_pid t t) (is_monitor m x) (same_pid_refl t) in
       let q = pair_true (same_pid w a) (same_pid t t) (is_demonitor m x) (same_pid_refl t) in
@@ -212,7 +234,7 @@ module _ (w t : Pid) (m : Ref) where
 
   got_dem_off : (f : Phase) (b a : Pid) (x : Signal) → same_pid w b ≡ false → count (carries w t (is_demonitor m)) (got_sends f b a x) ≡ 0
   got_dem_off unborn b a x e = bounce_dem b a x
-  got_dem_off (living s) b a x e = open_not b (handle b s a x).ending (handle b s a x).state e
+  got_dem_off (living s) b a x e = got_living w t (is_demonitor m) (λ n. refl) s b a x ∙ open_not b (handle b s a x).ending (handle b s a x).state e
   got_dem_off (ended r s) b a x e = bounce_dem b a x
 
   w_same : (a : Pid) (x : Signal) (f : Phase)
@@ -221,6 +243,7 @@ module _ (w t : Pid) (m : Ref) where
   w_same a x (ended r s) = let d = bounce_dem w a x in record { less = omega arith; same = λ z. omega arith; closed = λ z k. omega arith }
   w_same a x (living s) =
       let h = open_step m t w s a x in
+      let g = got_living w t (is_demonitor m) (λ n. refl) s w a x in
       let e = open_end w (handle w s a x).ending (handle w s a x).state (same_pid_refl w) in
       let u = h.less in
       record { less = omega arith; same = λ z. let v = h.same z in omega arith; closed = λ z k. let v = h.closed z k in omega arith }

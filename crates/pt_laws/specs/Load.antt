@@ -3,7 +3,7 @@ use Rattle.std.specs.Prelude.{◌≡◌, ℕ, ◌+◌, Bool, true, false, cond, 
 use Rattle.std.specs.Map.{keys_of}
 use Rattle.pt_signal.specs.declared.pid.Pid.{Pid}
 use Rattle.pt_signal.specs.declared.signal.Signal.{Signal}
-use Rattle.pt_signal.specs.declared.signal.Signal.TheVariants.{Link, Monitor}
+use Rattle.pt_signal.specs.declared.signal.Signal.TheVariants.{Link, Monitor, AliveAsk}
 use Rattle.pt_events.specs.declared.event.Event.TheVariants.{Born}
 use Rattle.pt_signal.specs.Values.{same_pid}
 use Rattle.pt_signal.specs.Process.{Sent}
@@ -13,10 +13,11 @@ use Rattle.pt_events.specs.History.{Past, Start, Phase, living, life, at_start, 
 abbrev pub IsQuiet : Start → Past → Type 0
 IsQuiet start past = flying start past ≡ []
 
--- a Link and a Monitor count twice
+-- a Link, a Monitor and a question count twice
 abbrev pub weight : Signal → ℕ
 weight (Link i) = 2
 weight (Monitor m) = 2
+weight (AliveAsk m) = 2
 weight _ = 1
 
 abbrev pub weights : List Sent → ℕ

@@ -2,7 +2,7 @@
 use Rattle.std.specs.Prelude.{◌≡◌, false, [], ◌∷◌, map, ⊤}
 use Rattle.pt_events.specs.declared.event.Event.{Event}
 use Rattle.pt_events.specs.declared.event.Event.TheVariants.{Born, Said}
-use Rattle.pt_signal.specs.declared.signal.Signal.TheVariants.{Link, Monitor}
+use Rattle.pt_signal.specs.declared.signal.Signal.TheVariants.{Link, Monitor, AliveAsk}
 use Rattle.pt_signal.specs.declared.ids.LinkId.{LinkId}
 use Rattle.std.specs.Prelude.{Option, Some, None}
 use Rattle.pt_events.specs.History.{Past, Start, life, made_link, made_ref}
@@ -21,6 +21,7 @@ abbrev pub IsNewTo : Past → Event → Type 0
 IsNewTo old (Born p parent link) = IsNewLink old link
 IsNewTo old (Said a b (Link i)) = made_link old i ≡ false
 IsNewTo old (Said a b (Monitor m)) = made_ref old m ≡ false
+IsNewTo old (Said a b (AliveAsk m)) = made_ref old m ≡ false
 IsNewTo old _ = ⊤
 
 abbrev pub AllNewTo : Past → Past → Type 0
