@@ -29,7 +29,7 @@ is_between_other a b c d h l p =
     rw (← e1, ← e2) h
 
 -- a receipt takes the first of its pair
-landed_same : (a b : Pid) (x : Signal) (ls : List Sent) → find (is_between a b) ls ≡ Some (sent a b x)
+pub landed_same : (a b : Pid) (x : Signal) (ls : List Sent) → find (is_between a b) ls ≡ Some (sent a b x)
     → between a b ls ≡ x ∷ between a b (landed (Came a b x) ls)
 landed_same a b x ls h = ap (map (λ l. l.signal)) (filter_first (is_between a b) ls (sent a b x) h)
 

@@ -38,3 +38,4 @@ pub mod Between
 pub mod Linked
 pub mod Agreed
 pub mod EarlyLinks
+pub mod Asking

@@ -15,3 +15,4 @@ pub mod Examples
 pub mod Links
 pub mod EarlyLinks
 pub mod LinkLaws
+pub mod Asking

@@ -9,6 +9,7 @@ ghost use Rattle.pt_laws.specs.Laws.{CameOrFlies, SenderFront, MergeLegal, Resum
 ghost use Rattle.pt_laws.specs.MonitorLaws.{OneDown, MadeOnce, MadeOnceLocal, EmptyHasOldRefs, MadeOnceResumed, QuietMonitor, QuietWatch, QuietMonitorResumed, QuietWatchResumed};
 ghost use Rattle.pt_laws.specs.LoadLaws.{LoadFalls, ReceiptsBounded, QuietFlights};
 ghost use Rattle.pt_laws.specs.Headline.{HeadlineHolds};
+ghost use Rattle.pt_laws.specs.Asking.{AnswersAreTrue};
 ghost use Rattle.pt_laws.specs.Examples.{TenLines, Cascade, EarlyLink};
 
 /// In one desk's local journal, and in a legal history, each event but a receipt may come. The laws that ask no more
@@ -142,6 +143,12 @@ pub fn resumed_is_legal()
     ensures legal { ResumedLegal }
     ensures same { ResumedSame }
     ensures start { ResumedStart }
+{}
+
+/// An answer to the question whether a process is alive says whether it was alive just before the question came to
+/// it; and by then all had come to it that the asker had sent it before it asked.
+pub fn answers_are_true()
+    ensures { AnswersAreTrue }
 {}
 
 /// Histories worked by hand are legal and quiet and end as they should: ten lines of two processes that send each
