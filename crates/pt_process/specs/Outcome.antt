@@ -1,19 +1,26 @@
 -- What `accept` answers, and what the process is afterwards.
-use Rattle.std.specs.Prelude.{◌≡◌, ◌≢◌, ◌<◌, ◌⊎◌, Bool, false, [], length, is_some, Option, Some, None, Result, Ok, Err}
+use Rattle.std.specs.Prelude.{◌≡◌, ◌≢◌, ◌<◌, ◌⊎◌, Bool, true, false, List, [], ◌∷◌, length, is_some, Option, Some, None, Result, Ok, Err}
 use Rattle.pt_signal.specs.declared.ids.Ids.{Ids}
+use Rattle.pt_signal.specs.declared.ids.Ref.{Ref}
+use Rattle.pt_signal.specs.declared.signal.Signal.TheVariants.{AliveSay}
 use Rattle.pt_signal.specs.Process as one
-use Rattle.pt_signal.specs.Process.{ProcessState, Handled}
+use Rattle.pt_signal.specs.Process.{ProcessState, Sent, Handled}
 use Rattle.pt_process.specs.declared.outcome.Outcome.{Outcome}
-use Rattle.pt_process.specs.declared.outcome.Outcome.TheVariants.{Queued, Changed, Dropped, Ends}
+use Rattle.pt_process.specs.declared.outcome.Outcome.TheVariants.{Queued, Changed, Dropped, Asked, Ends}
 use Rattle.pt_process.specs.declared.verdict.Verdict.{Verdict}
 use Rattle.pt_process.specs.declared.verdict.Verdict.TheVariants as code
 use Rattle.pt_process.specs.Resident.{Resident}
 
+-- what goes back is the answer yes to this question, and nothing else
+abbrev pub IsYes : Ref → List Sent → Type 0
+IsYes m answer = (back : Sent) × (answer ≡ back ∷ []) × (back.signal ≡ AliveSay m true)
+
 abbrev pub IsOutcome : ProcessState → Handled → Outcome → Type 0
-IsOutcome old h Queued = (h.ending ≡ None) × (h.items ≢ [])
-IsOutcome old h Changed = (h.ending ≡ None) × (h.items ≡ []) × (h.state ≢ old)
-IsOutcome old h Dropped = (h.ending ≡ None) × (h.items ≡ []) × (h.state ≡ old)
-IsOutcome old h (Ends r) = h.ending ≡ Some r
+IsOutcome old h Queued = (h.ending ≡ None) × (h.answer ≡ []) × (h.items ≢ [])
+IsOutcome old h Changed = (h.ending ≡ None) × (h.answer ≡ []) × (h.items ≡ []) × (h.state ≢ old)
+IsOutcome old h Dropped = (h.ending ≡ None) × (h.answer ≡ []) × (h.items ≡ []) × (h.state ≡ old)
+IsOutcome old h (Asked m) = (h.ending ≡ None) × IsYes m h.answer × (h.items ≡ []) × (h.state ≡ old)
+IsOutcome old h (Ends r) = (h.ending ≡ Some r) × (h.answer ≡ [])
 
 -- one of the lists that a signal can add to is longer
 abbrev pub IsLonger : ProcessState → ProcessState → Type 0

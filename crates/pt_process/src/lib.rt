@@ -9,6 +9,7 @@
 //! match process.accept(from, signal)? {
 //!     Outcome::Queued => ..                    // an item waits: process.first(Pick::Any)
 //!     Outcome::Changed | Outcome::Dropped => ..
+//!     Outcome::Asked(question) => ..           // Signal::AliveSay(question, true) goes back to the sender
 //!     Outcome::Ends(reason) => {
 //!         let estate = process.estate(reason); // the process is spent
 //!         for i in 0..estate.len() {

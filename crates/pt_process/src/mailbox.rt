@@ -69,6 +69,7 @@ impl Mailbox {
             Pick::From(from) => waiting.iter().position(|item| is_from(item, from)),
             Pick::ExitOf(pid) => waiting.iter().position(|item| is_exit_of(item, pid)),
             Pick::DownOf(monitor) => waiting.iter().position(|item| is_down_of(item, monitor)),
+            Pick::AliveOf(question) => waiting.iter().position(|item| is_alive_of(item, question)),
         }
     }
 
@@ -133,4 +134,10 @@ fn is_down_of(item: &Item, monitor: Ref) -> bool
     ensures { result ≡ fits (Pick.DownOf monitor) item.now }
 {
     matches!(item, Item::Down(answered, _, _) if monitor == *answered)
+}
+
+fn is_alive_of(item: &Item, question: Ref) -> bool
+    ensures { result ≡ fits (Pick.AliveOf question) item.now }
+{
+    matches!(item, Item::Alive(answered, _, _) if question == *answered)
 }

@@ -1,6 +1,6 @@
 // What became of a signal.
 
-use pt_signal::{Item, Reason};
+use pt_signal::{Reason, Ref};
 
 /// What a signal did to the process that it came to.
 #[derive(Clone, Copy, Debug, PartialEq, Eq)]
@@ -11,6 +11,8 @@ pub enum Outcome {
     Changed,
     /// Nothing changed.
     Dropped,
+    /// Nothing changed, and it was asked under this reference whether it is alive: yes is to go back to the sender.
+    Asked(Ref),
     /// The process ends with this reason.
     Ends(Reason),
 }

@@ -111,7 +111,8 @@ impl Process {
     /// Signals.
     ///
     /// Memory is refused only where a list would grow, and nothing has changed then. Where it answers `Ends`, the
-    /// process is still as the signal left it, and `estate` tells what it owes.
+    /// process is still as the signal left it, and `estate` tells what it owes. Where it answers `Asked`, the sender
+    /// asks whether the process is alive, and `Signal::AliveSay` of that reference and `true` is to go back to it.
     pub fn accept(&mut self, from: Pid, signal: Signal) -> Result<Outcome, AllocError>
         ensures { Accepts self.old (handle self.old.me self.old.state from signal) result self.new }
     {
@@ -124,6 +125,8 @@ impl Process {
             Signal::Monitor(monitor) => self.keep(from, monitor),
             Signal::Demonitor(monitor) => Ok(self.forget(from, monitor)),
             Signal::Down(monitor, reason) => self.down(from, monitor, reason),
+            Signal::AliveAsk(question) => Ok(Outcome::Asked(question)),
+            Signal::AliveSay(question, alive) => self.queue(Item::Alive(question, from, alive)),
         }
     }
 

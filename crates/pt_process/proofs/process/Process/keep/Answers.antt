@@ -7,9 +7,9 @@ pub returns-then-keeps : goal.returns-then-keeps
 returns-then-keeps c =
     let s = c.args.self.now.state in
     let same = kept_same s _ (keep_same c.args.monitor c.args.from s.kept (sym c.keeps.ensures ∙ c.if-keeps.true)) in
-    (refl, sym same, (refl, refl, same))
+    (refl, sym same, (refl, refl, refl, same))
 
 pub returns : goal.returns
 returns c =
     let s = c.args.self.now.state in
-    rw (keep_more c.args.monitor c.args.from s.kept (sym c.keeps.ensures ∙ c.if-keeps.false)) (c.add_kept.ensures.me, c.in_ok-add_kept.ensures.state, (refl, refl, kept_other s _ (longer_other s.kept _)))
+    rw (keep_more c.args.monitor c.args.from s.kept (sym c.keeps.ensures ∙ c.if-keeps.false)) (c.add_kept.ensures.me, c.in_ok-add_kept.ensures.state, (refl, refl, refl, kept_other s _ (longer_other s.kept _)))

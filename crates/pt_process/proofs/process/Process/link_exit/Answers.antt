@@ -16,4 +16,4 @@ returns-then-holds_any c =
 pub returns-else-holds_any : goal.returns-else-holds_any
 returns-else-holds_any c =
     let p = c.args.self.now in
-    rw (link_exit_drops p.state p.me c.args.from c.args.reason _ (sym c.holds_any.ensures ∙ c.if-holds_any.false)) (refl, refl, (refl, refl, refl))
+    rw (link_exit_drops p.state p.me c.args.from c.args.reason _ (sym c.holds_any.ensures ∙ c.if-holds_any.false)) (refl, refl, (refl, refl, refl, refl))
