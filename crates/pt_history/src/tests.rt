@@ -211,6 +211,76 @@ fn watches(rt: HostRuntime) {
     );
 }
 
+// The second process is asked whether it is alive after it was sent `kill`; its answer, as the last event has it.
+fn asked_after_kill(alive: bool) -> [Event; 7] {
+    let (a, b) = (pid(0), pid(1));
+    let kill = Signal::Exit(Reason::Kill);
+    let ask = Signal::AliveAsk(monitor(4));
+    [
+        born(0),
+        born(1),
+        Event::Said(a, b, kill),
+        Event::Said(a, b, ask),
+        Event::Came(a, b, kill),
+        Event::Came(a, b, ask),
+        Event::Came(b, a, Signal::AliveSay(monitor(4), alive)),
+    ]
+}
+
+#[test]
+fn asks_the_dead(rt: HostRuntime) {
+    let (a, b) = (pid(0), pid(1));
+    let state = legal(&rt, rt.alloc(), &asked_after_kill(false));
+    assert_eq!(rt; state.in_flight(), 0);
+    assert_eq!(rt; state.ended(b), Some(Reason::Killed));
+    assert_eq!(rt;
+        state.waiting(a).expect(&rt, "alive"),
+        [Item::Alive(monitor(4), b, false)].as_slice()
+    );
+    assert_eq!(rt;
+        stop(rt.alloc(), &asked_after_kill(true)),
+        Some((6, Cause::NotFront))
+    );
+}
+
+#[test]
+fn asks_the_living(rt: HostRuntime) {
+    let (a, b) = (pid(0), pid(1));
+    let ask = Signal::AliveAsk(monitor(3));
+    let yes = Item::Alive(monitor(3), b, true);
+    let asked = [
+        born(0),
+        born(1),
+        Event::Said(a, b, ask),
+        Event::Came(a, b, ask),
+        Event::Came(b, a, Signal::AliveSay(monitor(3), true)),
+        Event::Took(a, Pick::AliveOf(monitor(3)), yes),
+    ];
+    let state = legal(&rt, rt.alloc(), &asked);
+    assert_eq!(rt; state.in_flight(), 0);
+    assert!(rt; state.waiting(a).expect(&rt, "alive").is_empty());
+}
+
+#[test]
+fn asks_unlawfully(rt: HostRuntime) {
+    let alloc = rt.alloc();
+    let (a, b) = (pid(0), pid(1));
+    let watched = Event::Said(a, b, Signal::Monitor(monitor(3)));
+    let asked = Event::Said(a, b, Signal::AliveAsk(monitor(3)));
+    let own = Event::Said(a, a, Signal::AliveAsk(monitor(3)));
+    let told = Event::Said(a, b, Signal::AliveSay(monitor(3), true));
+    assert_eq!(rt;
+        stop(alloc, &[born(0), watched, asked]),
+        Some((2, Cause::Unlawful))
+    );
+    assert_eq!(rt;
+        stop(alloc, &[born(0), asked, watched]),
+        Some((2, Cause::Unlawful))
+    );
+    assert_eq!(rt; stop(alloc, &[born(0), told]), Some((1, Cause::Unlawful)));
+    assert_eq!(rt; stop(alloc, &[born(0), own]), None);
+}
+
 fn at(stamp: u64, desk: u8) -> Stamped {
     let owner = Pid {
         shard: desk,
