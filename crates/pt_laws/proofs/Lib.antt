@@ -19,6 +19,9 @@ pub mod MadeOnce
 pub mod Heading
 pub mod Merged
 pub mod Load
+pub mod Sums
+pub mod DeskLoads
+pub mod Emptied
 pub mod Counts
 pub mod Downs
 pub mod Keeping

@@ -1,6 +1,6 @@
 -- Each receipt lowers the load.
-use Rattle.std.proofs.Common.{◌≡◌, ℕ, suc, ◌+◌, ◌≤◌, ◌<◌, ◌-◌, subst, Bool, true, false, cond, List, [], ◌∷◌, ◌++◌, Option, Some, None, map, length, refl, sym, ap, ◌∙◌, arith, length-append, le_refl, le_of_eq}
-use Rattle.std.proofs.lemmas.Bool.{false≢true, both_ways}
+use Rattle.std.proofs.Common.{◌≡◌, ℕ, suc, ◌+◌, ◌≤◌, ◌<◌, ◌-◌, ◌==◌, filter, subst, Bool, true, false, cond, List, [], ◌∷◌, ◌++◌, Option, Some, None, map, length, refl, sym, ap, ◌∙◌, arith, length-append, le_refl, le_of_eq}
+use Rattle.std.proofs.lemmas.Bool.{false≢true, both_ways, eq-eqb}
 use Rattle.std.specs.Map.{lookup, remove_entry, set_value}
 use Rattle.std.specs.List.{find, list_any}
 use Rattle.pt_signal.specs.declared.pid.Pid.{Pid}
@@ -14,8 +14,8 @@ use Rattle.pt_events.specs.declared.event.Event.{Event}
 use Rattle.pt_events.specs.declared.event.Event.TheVariants.{Born, Said, Came, Took, Flag, Left}
 use Rattle.pt_signal.specs.Values.{same_pid, same_ref, without_first}
 use Rattle.pt_signal.specs.Process.{ProcessState, Verdict, drops, queues, ends, verdict, obey, Handled, handle, held, holds_any, link_exit, down, enter, enter_at, cut, cut_at, leave_at, without_ids, keep, same_watch, Sent, sent, estate, bounce}
-use Rattle.pt_events.specs.History.{Past, Start, Phase, unborn, living, ended, life, after, is_unborn, is_between, flying, got_sends, end_sends, live_or_end, gets, change, touches, IsLegal}
-use Rattle.pt_laws.specs.Load.{weight, weights, size, total, one_if, times, IsStart, pids, load}
+use Rattle.pt_events.specs.History.{Past, Start, Phase, unborn, living, ended, life, after, is_unborn, is_between, flying, got_sends, end_sends, live_or_end, gets, change, touches, sent_by, IsLegal}
+use Rattle.pt_laws.specs.Load.{weight, weights, size, total, one_if, times, IsStart, pids, load, desk_sizes}
 use Rattle.pt_signal.proofs.Same.{same_pid_is, same_pid_refl}
 use Rattle.pt_events.proofs.Phases.{after_born, each_branch}
 
@@ -73,7 +73,7 @@ length-keep m w kept = go (list_any (same_watch m w) kept)
 
 -- weights --------------------------------------------------------------------------------------
 
-weights-append : (xs ys : List Sent) → weights (xs ++ ys) ≡ weights xs + weights ys
+pub weights-append : (xs ys : List Sent) → weights (xs ++ ys) ≡ weights xs + weights ys
 weights-append [] ys = omega arith
 weights-append (x ∷ xs) ys = let h = weights-append xs ys in omega arith
 
@@ -254,9 +254,10 @@ module _ (start : Start) (ok : IsStart start) where
   born_once (Flag q on ∷ past) p = born_once past p ∙ ap (λ z. cond z 0 1) (sym (keeps_unborn p (Flag q on) (life start past p) refl))
   born_once (Left q r ∷ past) p = born_once past p ∙ ap (λ z. cond z 0 1) (sym (keeps_unborn p (Left q r) (life start past p) refl))
 
-  -- a receipt lowers the load
-  pub load_falls : (past : Past) (a b : Pid) (x : Signal) → IsLegal start (Came a b x ∷ past) → load start (Came a b x ∷ past) < load start past
-  load_falls past a b x h = go (is_unborn f) refl (born_once past b)
+  -- of one receipt: the processes afterwards and what goes out weigh less than the processes before and the letter
+  pub came_sizes : (past : Past) (a b : Pid) (x : Signal) (ps : List Pid) → times b ps ≡ cond (is_unborn (life start past b)) 0 1
+      → total (λ p. size (life start (Came a b x ∷ past) p)) ps + weights (got_sends (life start past b) b a x) + 1 ≤ total (λ p. size (life start past p)) ps + weight x
+  came_sizes past a b x ps k = go (is_unborn f) refl k
     where
       f : Phase
       f = life start past b
@@ -273,20 +274,38 @@ module _ (start : Start) (ok : IsStart start) where
       here : G b ≡ size (gets b a x f)
       here = rw (same_pid_refl b) refl
 
-      go : (t : Bool) → is_unborn f ≡ t → times b (pids start past) ≡ cond (is_unborn f) 0 1 → load start (Came a b x ∷ past) < load start past
+      go : (t : Bool) → is_unborn f ≡ t → times b ps ≡ cond (is_unborn f) 0 1 → total G ps + weights (got_sends f b a x) + 1 ≤ total F ps + weight x
       go true e k =
-          let k0 : times b (pids start past) ≡ 0 = rw e at k in
-          let t = total_none F G b others (pids start past) k0 in
-          let w = weights-landed (is_between a b) (flying start past) (sent a b x) h.0 in
-          let v = weights-append (without_first (is_between a b) (flying start past)) (got_sends f b a x) in
+          let k0 : times b ps ≡ 0 = rw e at k in
+          let t = total_none F G b others ps k0 in
           let r = receipt b a x f in
           let z = size_unborn f e in
           omega arith
       go false e k =
-          let k1 : times b (pids start past) ≡ 1 = rw e at k in
-          let t = total_one F G b others (pids start past) k1 in
-          let w = weights-landed (is_between a b) (flying start past) (sent a b x) h.0 in
-          let v = weights-append (without_first (is_between a b) (flying start past)) (got_sends f b a x) in
+          let k1 : times b ps ≡ 1 = rw e at k in
+          let t = total_one F G b others ps k1 in
           let r = receipt b a x f in
           let z = here in
           omega arith
+
+  -- a receipt lowers the load
+  pub load_falls : (past : Past) (a b : Pid) (x : Signal) → IsLegal start (Came a b x ∷ past) → load start (Came a b x ∷ past) < load start past
+  load_falls past a b x h =
+      let w = weights-landed (is_between a b) (flying start past) (sent a b x) h.0 in
+      let v = weights-append (without_first (is_between a b) (flying start past)) (got_sends (life start past b) b a x) in
+      let r = came_sizes past a b x (pids start past) (born_once past b) in
+      omega arith
+
+  times-filter : (p : Pid) (ps : List Pid) → times p (filter (λ q. q.shard == p.shard) ps) ≡ times p ps
+  times-filter p [] = refl
+  times-filter p (q ∷ qs) = go (q.shard == p.shard) refl (same_pid p q) refl (times-filter p qs)
+    where
+      go : (b : Bool) → (q.shard == p.shard) ≡ b → (c : Bool) → same_pid p q ≡ c → times p (filter (λ q. q.shard == p.shard) qs) ≡ times p qs
+          → times p (filter (λ q. q.shard == p.shard) (q ∷ qs)) ≡ times p (q ∷ qs)
+      go true e c f ih = rw e (ap (λ n. one_if (same_pid p q) + n) ih)
+      go false e true f ih = absurd (both_ways _ e (eq-eqb q.shard p.shard (ap (λ z. z.shard) (sym (same_pid_is p q f)))))
+      go false e false f ih = rw (e, f) (omega arith)
+
+  -- at the receiver's desk
+  pub one_receipt : (past : Past) (a b : Pid) (x : Signal) → desk_sizes start b.shard (Came a b x ∷ past) + weights (sent_by start past (Came a b x)) + 1 ≤ desk_sizes start b.shard past + weight x
+  one_receipt past a b x = came_sizes past a b x (filter (λ p. p.shard == b.shard) (pids start past)) (times-filter b (pids start past) ∙ born_once past b)

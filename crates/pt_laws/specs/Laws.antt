@@ -23,10 +23,13 @@ SenderFront =
     (start : Start) (journal : Journals) (over : ℕ → ℕ → List Letter) (a p : Pid) → LanesAgree start journal over
     → IsSenderFront a p start journal (over a.shard p.shard)
 
--- the history is legal, and what is in flight from desk to desk is what the lanes leave over
+-- what is in flight from desk to desk is what the lanes leave over
+abbrev pub LanesFly : Start → Past → (ℕ → ℕ → List Letter) → Type 0
+LanesFly start past over = (d e : ℕ) → filter (in_lane d e) (flying start past) ≡ map content (over d e)
+
+-- the history is legal, and its flights are what the lanes leave over
 abbrev pub LegalWithLeftOver : Start → List Stamped → (ℕ → ℕ → List Letter) → Type 0
-LegalWithLeftOver start merged over =
-    IsLegal start (events merged) × ((d e : ℕ) → filter (in_lane d e) (flying start (events merged)) ≡ map content (over d e))
+LegalWithLeftOver start merged over = IsLegal start (events merged) × LanesFly start (events merged) over
 
 -- the merge of local journals whose lanes agree is so
 abbrev pub MergeLegal : Type 0

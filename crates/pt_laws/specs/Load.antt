@@ -1,13 +1,15 @@
 -- Quiet histories, and what may still happen in one that is not.
-use Rattle.std.specs.Prelude.{◌≡◌, ℕ, ◌+◌, Bool, true, false, cond, List, [], ◌∷◌, ◌++◌, length}
+use Rattle.std.specs.Prelude.{◌≡◌, ℕ, zero, suc, ◌+◌, ◌==◌, Bool, true, false, cond, List, [], ◌∷◌, ◌++◌, length, map, filter}
 use Rattle.std.specs.Map.{keys_of}
 use Rattle.pt_signal.specs.declared.pid.Pid.{Pid}
 use Rattle.pt_signal.specs.declared.signal.Signal.{Signal}
 use Rattle.pt_signal.specs.declared.signal.Signal.TheVariants.{Link, Monitor, AliveAsk}
+use Rattle.pt_signal.specs.declared.letter.Letter.{Letter}
 use Rattle.pt_events.specs.declared.event.Event.TheVariants.{Born}
 use Rattle.pt_signal.specs.Values.{same_pid}
 use Rattle.pt_signal.specs.Process.{Sent}
 use Rattle.pt_events.specs.History.{Past, Start, Phase, living, life, at_start, is_unborn, flying}
+use Rattle.pt_events.specs.Journal.{Journals, events, content}
 
 -- no letter is in flight
 abbrev pub IsQuiet : Start → Past → Type 0
@@ -55,3 +57,21 @@ module _ (start : Start) where
 
   abbrev pub load : Past → ℕ
   load past = weights (flying start past) + total (λ p. size (life start past p)) (pids past)
+
+  -- of the live processes of desk d: the link entries, kept watches and open references
+  abbrev pub desk_sizes : ℕ → Past → ℕ
+  desk_sizes d past = total (λ p. size (life start past p)) (filter (λ p. p.shard == d) (pids past))
+
+-- the load, desk by desk ---------------------------------------------------------------
+
+-- the sum of f below n
+abbrev pub below : (ℕ → ℕ) → ℕ → ℕ
+below f zero = 0
+below f (suc n) = f n + below f n
+
+abbrev pub left_weight : List Letter → ℕ
+left_weight over = weights (map content over)
+
+-- of the desks below n: the lists of each journal's live processes, and the letters left over in each lane
+abbrev pub load_by_desk : Start → Journals → (ℕ → ℕ → List Letter) → ℕ → ℕ
+load_by_desk start journal over n = below (λ d. desk_sizes start d (events (journal d))) n + below (λ d. below (λ e. left_weight (over d e)) n) n

@@ -7,7 +7,7 @@ ghost use Rattle.pt_events.specs.Locality.{ReadLocally, SentLocally, JournalsSay
 ghost use Rattle.pt_laws.specs.Taken.{TakenByPosition};
 ghost use Rattle.pt_laws.specs.Laws.{CameOrFlies, SenderFront, MergeLegal, ResumedLegal, ResumedSame, ResumedStart};
 ghost use Rattle.pt_laws.specs.MonitorLaws.{OneDown, MadeOnce, MadeOnceLocal, EmptyHasOldRefs, MadeOnceResumed, QuietMonitor, QuietWatch, QuietMonitorResumed, QuietWatchResumed};
-ghost use Rattle.pt_laws.specs.LoadLaws.{LoadFalls, ReceiptsBounded, QuietFlights};
+ghost use Rattle.pt_laws.specs.LoadLaws.{LoadFalls, ReceiptsBounded, QuietFlights, EmptyIsQuiet, OldestMayCome, OneReceipt, ReceiptLowers, LoadByDesk};
 ghost use Rattle.pt_laws.specs.Headline.{HeadlineHolds};
 ghost use Rattle.pt_laws.specs.Asking.{AnswersAreTrue};
 ghost use Rattle.pt_laws.specs.Examples.{TenLines, Cascade, EarlyLink};
@@ -118,12 +118,25 @@ pub fn taken_or_waiting()
     ensures { TakenByPosition }
 {}
 
-/// Each receipt lowers the load, so no more receipts than the load can follow one another; a history is quiet
-/// exactly where nothing is in flight between any two pids.
+/// Each receipt lowers the load, so no more receipts than the load can follow one another. A history is quiet exactly
+/// where nothing is in flight between any two pids, and so where no lane leaves a letter over; while one does, the
+/// oldest letter of that lane may come.
 pub fn receipts_lower_the_load()
     ensures falls { LoadFalls }
     ensures bounded { ReceiptsBounded }
     ensures quiet { QuietFlights }
+    ensures empty { EmptyIsQuiet }
+    ensures oldest { OldestMayCome }
+{}
+
+/// The load is told desk by desk: the letters left over in each lane, and for each desk the link entries and monitors
+/// that its own journal gives its live processes. One receipt, of which only its own desk's journal is looked at,
+/// lowers it; and it is the load of every merge of the journals. So settling, which gives a desk one letter after the
+/// other, ends after no more receipts than the load.
+pub fn load_by_desk_falls()
+    ensures one { OneReceipt }
+    ensures lowers { ReceiptLowers }
+    ensures merge { LoadByDesk }
 {}
 
 /// In a quiet history each monitor of a live watcher was demonitored, or had its one `DOWN`, or is open and kept

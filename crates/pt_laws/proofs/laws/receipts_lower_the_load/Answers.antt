@@ -1,5 +1,6 @@
 use Rattle.pt_laws.proofs.Load.{load_falls}
 use Rattle.pt_laws.proofs.Settled.{settled_bound, quiet_flights, flights_quiet}
+use Rattle.pt_laws.proofs.Emptied.{empty_is_quiet, oldest_may_come}
 use Rattle.pt_laws.proofs.laws.receipts_lower_the_load.Goals as goal
 
 pub returns-clause-falls : goal.returns-clause-falls
@@ -10,3 +11,9 @@ returns-clause-bounded c start old new ok a h = settled_bound start ok old new a
 
 pub returns-clause-quiet : goal.returns-clause-quiet
 returns-clause-quiet c start past = (quiet_flights start past, flights_quiet start past)
+
+pub returns-clause-empty : goal.returns-clause-empty
+returns-clause-empty c = empty_is_quiet
+
+pub returns-clause-oldest : goal.returns-clause-oldest
+returns-clause-oldest c = oldest_may_come
