@@ -18,6 +18,9 @@ pub mod AfterEnd
 pub mod MadeOnce
 pub mod Heading
 pub mod Merged
+pub mod Telling
+pub mod OneMerge
+pub mod Gathering
 pub mod Load
 pub mod Sums
 pub mod DeskLoads

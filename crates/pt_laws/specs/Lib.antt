@@ -7,6 +7,7 @@ pub mod Resumed
 pub mod Since
 pub mod Lives
 pub mod Laws
+pub mod JournalLaws
 pub mod MonitorLaws
 pub mod LoadLaws
 pub mod Headline

@@ -3,7 +3,7 @@
 ghost use Rattle.pt_laws.specs.Acts.{LocalActs, LegalActs};
 ghost use Rattle.pt_laws.specs.Lives.{LivesOnce, StaysEnded, NothingAfterEnd, AliveUntilEnd};
 ghost use Rattle.pt_laws.specs.Words.{TrapIsLastFlag, HeldSince, IsHeldSince, PeersSince, OpenSince, IsOpenSince, KeptSince, IsKeptSince};
-ghost use Rattle.pt_events.specs.Locality.{ReadLocally, SentLocally, JournalsSay};
+ghost use Rattle.pt_laws.specs.JournalLaws.{ReadLocally, SentLocally, JournalsSay, MergeIsThere, MergeIsOne};
 ghost use Rattle.pt_laws.specs.Taken.{TakenByPosition};
 ghost use Rattle.pt_laws.specs.Laws.{CameOrFlies, SenderFront, MergeLegal, ResumedLegal, ResumedSame, ResumedStart};
 ghost use Rattle.pt_laws.specs.MonitorLaws.{OneDown, MadeOnce, MadeOnceLocal, EmptyHasOldRefs, MadeOnceResumed, QuietMonitor, QuietWatch, QuietMonitorResumed, QuietWatchResumed};
@@ -66,12 +66,18 @@ pub fn watches_are_kept_since()
 {}
 
 /// What a process is after a history (alive or not, its trap flag, links, monitors and waiting items), all that
-/// arrived in its mailbox, and what an event sends, is told by the events of its own desk. So a desk's journal
+/// arrived in its mailbox, what it took, and what an event sends, is told by the events of its own desk. So a desk's journal
 /// says of its own pids what every merge says.
 pub fn journals_tell_their_pids()
     ensures life { ReadLocally }
     ensures sent { SentLocally }
     ensures journals { JournalsSay }
+{}
+
+/// The local journals of finitely many desks have a merge, and one only.
+pub fn journals_have_one_merge()
+    ensures there { MergeIsThere }
+    ensures one { MergeIsOne }
 {}
 
 /// In a legal history the signals that one pid sent another are those that came, in that order, then those in
