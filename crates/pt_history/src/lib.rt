@@ -27,9 +27,10 @@
 //!
 //! [`replay`] runs through a history from its first event. It answers the [`State`] after the last one exactly
 //! where each event may come after those before it, and else the place of the first that may not, with the lowest
-//! [`Cause`] that fits. It is written from the definitions, shares no body with a desk, and is slow: use it to judge
-//! what another program wrote, or in tests. In a `State` the links, watches and flag of a process that ended are those
-//! that it had at its end; it has no open monitor and nothing waits.
+//! [`Cause`] that fits. It is written from the definitions, shares with a desk no more than the values of `pt_signal`
+//! with their methods, and is slow: use it to judge what another program wrote, or in tests. In a `State` the links,
+//! watches and flag of a process that ended are those that it had at its end; it has no open monitor and nothing
+//! waits.
 //!
 //! # Laws
 //!

@@ -18,9 +18,9 @@ use Rattle.pt_events.specs.declared.event.Event.{Event}
 use Rattle.pt_events.specs.declared.event.Event.TheVariants.{Born, Said, Came, Took, Flag, Left}
 use Rattle.pt_signal.specs.Values.{same_pid, same_ref, fits}
 use Rattle.pt_signal.specs.Process.{held, Sent, sent}
-use Rattle.pt_events.specs.History.{Past, Phase, unborn, living, ended, is_unborn, is_the, is_between, life, alive, state, flying, MaySay, MayBear}
+use Rattle.pt_events.specs.History.{Past, Start, Phase, unborn, living, ended, is_unborn, is_the, is_between, life, alive, state, flying, MaySay, MayBear}
 use Rattle.pt_judge.specs.Judge.{number, Refuses, DeadParent, BadLink, IsJudged}
-use Rattle.pt_judge.specs.Judging.{is_item, is_ids, is_signal, may_say, lacks, unlawful_link, cause}
+use Rattle.pt_judge.specs.Judging.{Known, known_after, is_item, is_ids, is_signal, may_say, lacks, unlawful_link, cause}
 use Rattle.pt_signal.proofs.Same.{same_pid_is, same_pid_refl}
 use Rattle.pt_judge.proofs.SameValues.{item_is, item_refl, ids_is, ids_refl, signal_is, signal_refl}
 
@@ -93,49 +93,52 @@ front_found a b x flights h = go (find (is_between a b) flights) refl h
 front_not_found : (a b : Pid) (x : Signal) (flights : List Sent) → is_signal (option_map (λ (l : Sent). l.signal) (find (is_between a b) flights)) x ≡ false → ¬ (find (is_between a b) flights ≡ Some (sent a b x))
 front_not_found a b x flights h e = both_ways _ h (ap (λ o. is_signal (option_map (λ (l : Sent). l.signal) o) x) e ∙ signal_refl x)
 
-module _ (past : Past) where
-  say_true : (a b : Pid) (x : Signal) → may_say past a b x ≡ true → MaySay [] past (state [] past a) a b x
+module _ (start : Start) (past : Past) where
+  abbrev K : Known
+  K = known_after start past
+
+  say_true : (a b : Pid) (x : Signal) → may_say K a b x ≡ true → MaySay start past (state start past a) a b x
   say_true a b (Message body) h = tt
   say_true a b (Signal.Exit r) h = tt
   say_true a b (Link i) h =
       let p = and_parts _ _ h in
       let q = and_parts _ _ p.0 in
       (not_true _ q.0, none_is _ q.1, not_true _ p.1)
-  say_true a b (Unlink ids) h = ids_found (held (state [] past a).links b) ids h
+  say_true a b (Unlink ids) h = ids_found (held (state start past a).links b) ids h
   say_true a b (Monitor m) h = let p = and_parts _ _ h in (not_true _ p.0, not_true _ p.1)
-  say_true a b (Demonitor m) h = the_found b (lookup (same_ref m) (state [] past a).watching) h
+  say_true a b (Demonitor m) h = the_found b (lookup (same_ref m) (state start past a).watching) h
   say_true a b (LinkExit ids r) h = absurd (cc)
   say_true a b (Signal.Down m r) h = absurd (cc)
   say_true a b (AliveAsk m) h = not_true _ h
   say_true a b (AliveSay m x) h = absurd (cc)
 
-  say_false : (a b : Pid) (x : Signal) → may_say past a b x ≡ false → ¬ MaySay [] past (state [] past a) a b x
+  say_false : (a b : Pid) (x : Signal) → may_say K a b x ≡ false → ¬ MaySay start past (state start past a) a b x
   say_false a b (Message body) h k = absurd (cc)
   say_false a b (Signal.Exit r) h k = absurd (cc)
-  say_false a b (Link i) h k = let l : may_say past a b (Link i) ≡ true = rw (k.0, k.1, k.2) refl in both_ways _ h l
-  say_false a b (Unlink ids) h k = ids_not_found (held (state [] past a).links b) ids h k
-  say_false a b (Monitor m) h k = let l : may_say past a b (Monitor m) ≡ true = rw (k.0, k.1) refl in both_ways _ h l
-  say_false a b (Demonitor m) h k = the_not_found b (lookup (same_ref m) (state [] past a).watching) h k
+  say_false a b (Link i) h k = let l : may_say K a b (Link i) ≡ true = rw (k.0, k.1, k.2) refl in both_ways _ h l
+  say_false a b (Unlink ids) h k = ids_not_found (held (state start past a).links b) ids h k
+  say_false a b (Monitor m) h k = let l : may_say K a b (Monitor m) ≡ true = rw (k.0, k.1) refl in both_ways _ h l
+  say_false a b (Demonitor m) h k = the_not_found b (lookup (same_ref m) (state start past a).watching) h k
   say_false a b (LinkExit ids r) h k = k
   say_false a b (Signal.Down m r) h k = k
   say_false a b (AliveAsk m) h k = both_ways _ k (not_false _ h)
   say_false a b (AliveSay m x) h k = k
 
-  bear_true : (parent : Option Pid) (link : Option LinkId) → lacks past parent ≡ false → unlawful_link past parent link ≡ false → MayBear [] past parent link
+  bear_true : (parent : Option Pid) (link : Option LinkId) → lacks K parent ≡ false → unlawful_link past parent link ≡ false → MayBear start past parent link
   bear_true None None h k = tt
   bear_true None (Some i) h k = absurd (cc)
-  bear_true (Some q) None h k = not_false (alive [] past q) h
-  bear_true (Some q) (Some i) h k = (not_false (alive [] past q) h, k)
+  bear_true (Some q) None h k = not_false (alive start past q) h
+  bear_true (Some q) (Some i) h k = (not_false (alive start past q) h, k)
 
-  lacks_true : (parent : Option Pid) → lacks past parent ≡ true → DeadParent [] past parent
+  lacks_true : (parent : Option Pid) → lacks K parent ≡ true → DeadParent start past parent
   lacks_true None h = absurd (cc)
   lacks_true (Some q) h = not_true _ h
 
-  lacks_false : (parent : Option Pid) → lacks past parent ≡ false → ¬ DeadParent [] past parent
+  lacks_false : (parent : Option Pid) → lacks K parent ≡ false → ¬ DeadParent start past parent
   lacks_false None h k = k
   lacks_false (Some q) h k = both_ways _ k (not_false _ h)
 
-  link_true : (parent : Option Pid) (link : Option LinkId) → unlawful_link past parent link ≡ true → BadLink [] past parent link
+  link_true : (parent : Option Pid) (link : Option LinkId) → unlawful_link past parent link ≡ true → BadLink start past parent link
   link_true parent None h = absurd (cc)
   link_true None (Some i) h = tt
   link_true (Some q) (Some i) h = h
@@ -149,15 +152,15 @@ module _ (past : Past) where
   below_none Unlawful h = omega arith
   below_none Memory h = omega arith
 
-  birth_cause : (p : Pid) (parent : Option Pid) (link : Option LinkId) → IsJudged past (Born p parent link) (cause past (Born p parent link))
-  birth_cause p parent link = go (is_unborn (life [] past p)) refl (lacks past parent) refl (unlawful_link past parent link) refl
+  birth_cause : (p : Pid) (parent : Option Pid) (link : Option LinkId) → IsJudged start past (Born p parent link) (cause K (Born p parent link))
+  birth_cause p parent link = go (is_unborn (life start past p)) refl (lacks K parent) refl (unlawful_link past parent link) refl
     where
-      go : (b : Bool) → is_unborn (life [] past p) ≡ b → (c : Bool) → lacks past parent ≡ c → (d : Bool) → unlawful_link past parent link ≡ d
-          → IsJudged past (Born p parent link) (cond b (cond c (Some NotAlive) (cond d (Some Unlawful) None)) (Some BornTwice))
+      go : (b : Bool) → is_unborn (life start past p) ≡ b → (c : Bool) → lacks K parent ≡ c → (d : Bool) → unlawful_link past parent link ≡ d
+          → IsJudged start past (Born p parent link) (cond b (cond c (Some NotAlive) (cond d (Some Unlawful) None)) (Some BornTwice))
       go false e c f d g = (phase_not_unborn _ e, λ lower h. absurd (below_none lower h))
       go true e true f d g = (lacks_true parent f, below_alive)
         where
-          below_alive : (lower : Cause) → number lower < 2 → ¬ Refuses [] past (Born p parent link) lower
+          below_alive : (lower : Cause) → number lower < 2 → ¬ Refuses start past (Born p parent link) lower
           below_alive BornTwice h k = k (phase_unborn _ e)
           below_alive NotAlive h k = absurd (omega arith)
           below_alive NotFront h k = k
@@ -166,7 +169,7 @@ module _ (past : Past) where
           below_alive Memory h k = k
       go true e false f true g = (link_true parent link g, below_lawful)
         where
-          below_lawful : (lower : Cause) → number lower < 5 → ¬ Refuses [] past (Born p parent link) lower
+          below_lawful : (lower : Cause) → number lower < 5 → ¬ Refuses start past (Born p parent link) lower
           below_lawful BornTwice h k = k (phase_unborn _ e)
           below_lawful NotAlive h k = lacks_false parent f k
           below_lawful NotFront h k = k
@@ -175,13 +178,13 @@ module _ (past : Past) where
           below_lawful Memory h k = k
       go true e false f false g = (phase_unborn _ e, bear_true parent link f g)
 
-  saying_cause : (a b : Pid) (x : Signal) → IsJudged past (Said a b x) (cause past (Said a b x))
-  saying_cause a b x = go (alive [] past a) refl (may_say past a b x) refl
+  saying_cause : (a b : Pid) (x : Signal) → IsJudged start past (Said a b x) (cause K (Said a b x))
+  saying_cause a b x = go (alive start past a) refl (may_say K a b x) refl
     where
-      go : (c : Bool) → alive [] past a ≡ c → (d : Bool) → may_say past a b x ≡ d → IsJudged past (Said a b x) (cond c (cond d None (Some Unlawful)) (Some NotAlive))
+      go : (c : Bool) → alive start past a ≡ c → (d : Bool) → may_say K a b x ≡ d → IsJudged start past (Said a b x) (cond c (cond d None (Some Unlawful)) (Some NotAlive))
       go false e d f = (e, below_alive)
         where
-          below_alive : (lower : Cause) → number lower < 2 → ¬ Refuses [] past (Said a b x) lower
+          below_alive : (lower : Cause) → number lower < 2 → ¬ Refuses start past (Said a b x) lower
           below_alive BornTwice h k = k
           below_alive NotAlive h k = absurd (omega arith)
           below_alive NotFront h k = k
@@ -191,7 +194,7 @@ module _ (past : Past) where
       go true e true f = (e, say_true a b x f)
       go true e false f = (say_false a b x f, below_lawful)
         where
-          below_lawful : (lower : Cause) → number lower < 5 → ¬ Refuses [] past (Said a b x) lower
+          below_lawful : (lower : Cause) → number lower < 5 → ¬ Refuses start past (Said a b x) lower
           below_lawful BornTwice h k = k
           below_lawful NotAlive h k = both_ways _ k e
           below_lawful NotFront h k = k
@@ -199,14 +202,14 @@ module _ (past : Past) where
           below_lawful Unlawful h k = absurd (omega arith)
           below_lawful Memory h k = k
 
-  coming_cause : (a b : Pid) (x : Signal) → IsJudged past (Came a b x) (cause past (Came a b x))
-  coming_cause a b x = go (is_signal (option_map (λ (l : Sent). l.signal) (find (is_between a b) (flying [] past))) x) refl
+  coming_cause : (a b : Pid) (x : Signal) → IsJudged start past (Came a b x) (cause K (Came a b x))
+  coming_cause a b x = go (is_signal (option_map (λ (l : Sent). l.signal) (find (is_between a b) (flying start past))) x) refl
     where
-      go : (c : Bool) → is_signal (option_map (λ (l : Sent). l.signal) (find (is_between a b) (flying [] past))) x ≡ c → IsJudged past (Came a b x) (cond c None (Some NotFront))
-      go true e = front_found a b x (flying [] past) e
-      go false e = (front_not_found a b x (flying [] past) e, below_front)
+      go : (c : Bool) → is_signal (option_map (λ (l : Sent). l.signal) (find (is_between a b) (flying start past))) x ≡ c → IsJudged start past (Came a b x) (cond c None (Some NotFront))
+      go true e = front_found a b x (flying start past) e
+      go false e = (front_not_found a b x (flying start past) e, below_front)
         where
-          below_front : (lower : Cause) → number lower < 3 → ¬ Refuses [] past (Came a b x) lower
+          below_front : (lower : Cause) → number lower < 3 → ¬ Refuses start past (Came a b x) lower
           below_front BornTwice h k = k
           below_front NotAlive h k = k
           below_front NotFront h k = absurd (omega arith)
@@ -214,13 +217,13 @@ module _ (past : Past) where
           below_front Unlawful h k = k
           below_front Memory h k = k
 
-  taking_cause : (p : Pid) (k : Pick) (i : Item) → IsJudged past (Took p k i) (cause past (Took p k i))
-  taking_cause p k i = go (alive [] past p) refl (is_item (find (fits k) (state [] past p).waiting) i) refl
+  taking_cause : (p : Pid) (k : Pick) (i : Item) → IsJudged start past (Took p k i) (cause K (Took p k i))
+  taking_cause p k i = go (alive start past p) refl (is_item (find (fits k) (state start past p).waiting) i) refl
     where
-      go : (c : Bool) → alive [] past p ≡ c → (d : Bool) → is_item (find (fits k) (state [] past p).waiting) i ≡ d → IsJudged past (Took p k i) (cond c (cond d None (Some NotFirstMatch)) (Some NotAlive))
+      go : (c : Bool) → alive start past p ≡ c → (d : Bool) → is_item (find (fits k) (state start past p).waiting) i ≡ d → IsJudged start past (Took p k i) (cond c (cond d None (Some NotFirstMatch)) (Some NotAlive))
       go false e d f = (e, below_alive)
         where
-          below_alive : (lower : Cause) → number lower < 2 → ¬ Refuses [] past (Took p k i) lower
+          below_alive : (lower : Cause) → number lower < 2 → ¬ Refuses start past (Took p k i) lower
           below_alive BornTwice h l = l
           below_alive NotAlive h l = absurd (omega arith)
           below_alive NotFront h l = l
@@ -230,7 +233,7 @@ module _ (past : Past) where
       go true e true f = (e, item_found _ i f)
       go true e false f = (item_not_found _ i f, below_match)
         where
-          below_match : (lower : Cause) → number lower < 4 → ¬ Refuses [] past (Took p k i) lower
+          below_match : (lower : Cause) → number lower < 4 → ¬ Refuses start past (Took p k i) lower
           below_match BornTwice h l = l
           below_match NotAlive h l = both_ways _ l e
           below_match NotFront h l = l
@@ -238,14 +241,14 @@ module _ (past : Past) where
           below_match Unlawful h l = l
           below_match Memory h l = l
 
-  flag_cause : (p : Pid) (on : Bool) → IsJudged past (Flag p on) (cause past (Flag p on))
-  flag_cause p on = go (alive [] past p) refl
+  flag_cause : (p : Pid) (on : Bool) → IsJudged start past (Flag p on) (cause K (Flag p on))
+  flag_cause p on = go (alive start past p) refl
     where
-      go : (c : Bool) → alive [] past p ≡ c → IsJudged past (Flag p on) (cond c None (Some NotAlive))
+      go : (c : Bool) → alive start past p ≡ c → IsJudged start past (Flag p on) (cond c None (Some NotAlive))
       go true e = e
       go false e = (e, below_alive)
         where
-          below_alive : (lower : Cause) → number lower < 2 → ¬ Refuses [] past (Flag p on) lower
+          below_alive : (lower : Cause) → number lower < 2 → ¬ Refuses start past (Flag p on) lower
           below_alive BornTwice h k = k
           below_alive NotAlive h k = absurd (omega arith)
           below_alive NotFront h k = k
@@ -253,14 +256,14 @@ module _ (past : Past) where
           below_alive Unlawful h k = k
           below_alive Memory h k = k
 
-  left_cause : (p : Pid) (r : Reason) → IsJudged past (Left p r) (cause past (Left p r))
-  left_cause p r = go (alive [] past p) refl
+  left_cause : (p : Pid) (r : Reason) → IsJudged start past (Left p r) (cause K (Left p r))
+  left_cause p r = go (alive start past p) refl
     where
-      go : (c : Bool) → alive [] past p ≡ c → IsJudged past (Left p r) (cond c None (Some NotAlive))
+      go : (c : Bool) → alive start past p ≡ c → IsJudged start past (Left p r) (cond c None (Some NotAlive))
       go true e = e
       go false e = (e, below_alive)
         where
-          below_alive : (lower : Cause) → number lower < 2 → ¬ Refuses [] past (Left p r) lower
+          below_alive : (lower : Cause) → number lower < 2 → ¬ Refuses start past (Left p r) lower
           below_alive BornTwice h k = k
           below_alive NotAlive h k = absurd (omega arith)
           below_alive NotFront h k = k
@@ -268,7 +271,7 @@ module _ (past : Past) where
           below_alive Unlawful h k = k
           below_alive Memory h k = k
 
-  pub judged : (e : Event) → IsJudged past e (cause past e)
+  pub judged : (e : Event) → IsJudged start past e (cause K e)
   judged (Born p parent link) = birth_cause p parent link
   judged (Said a b x) = saying_cause a b x
   judged (Came a b x) = coming_cause a b x

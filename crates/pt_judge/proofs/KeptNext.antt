@@ -9,7 +9,10 @@ use Rattle.pt_events.specs.declared.event.Event.TheVariants.{Born, Said, Came, T
 use Rattle.pt_signal.specs.Values.{same_pid}
 use Rattle.pt_signal.specs.Process.{ProcessState, handle, Sent, bounce}
 use Rattle.pt_events.specs.History.{Past, Start, Phase, unborn, living, ended, is_living, is_unborn, at_start, after, live_or_end, reason_of, state_of, end_sends, got_sends, left_sends, landed, life, flying, sent_by}
-use Rattle.pt_judge.specs.Judging.{is_born, answered, lived, sends, IsObserved, IsKept}
+use Rattle.pt_judge.specs.declared.cause.Cause.{Cause}
+use Rattle.pt_judge.specs.declared.cause.Cause.TheVariants.{BornTwice}
+use Rattle.pt_judge.specs.Judge.{IsAfter}
+use Rattle.pt_judge.specs.Judging.{JudgeState, now_is, known, cause, ListsBorn, MayBeBorn, is_born, answered, lived, sends, IsObserved, IsStep}
 use Rattle.pt_signal.proofs.Same.{same_pid_refl}
 use Rattle.pt_signal.proofs.Handling.{living_answer, handle_answer}
 use Rattle.pt_events.proofs.Phases.{after_born}
@@ -50,25 +53,42 @@ left_sent p r unborn = refl
 left_sent p r (ended why s) = refl
 left_sent p r (living s) = rw (same_pid_refl p) refl
 
-module _ (past : Past) (lives lives' : Start) (flights : List Sent) (k : IsKept past lives flights) where
-  alike_next : (e : Event) → IsObserved lives lives' e → (p : Pid) → at_start lives' p ≡ after p e (life [] past p)
-  alike_next e o p = o.lives p ∙ ap (after p e) (k.alike p)
+-- the table lists those that were born, after the event too
+pub lists_next : (lives lives' : Start) (e : Event) → ListsBorn lives → IsObserved lives lives' e → ListsBorn lives'
+lists_next lives lives' e k o p =
+    o.known p ∙ ap (λ b. b || is_born p e) (k p) ∙ born_after p e (at_start lives p) ∙ ap (λ f. not (is_unborn f)) (sym (o.lives p))
 
-  sent_next : (e : Event) → IsObserved lives lives' e → sends lives' (lived lives e) e ≡ sent_by [] past e
-  sent_next (Born q parent link) o = refl
-  sent_next (Said a b x) o = refl
-  sent_next (Came a b x) o =
-      subst₂ (λ f g. cond (is_living f) (answered b a x ++ end_sends b (reason_of g) (state_of g)) (bounce b a x) ≡ got_sends (life [] past b) b a x) (sym (k.alike b)) (sym (alike_next (Came a b x) o b))
-      (came_sent a b x (life [] past b))
-  sent_next (Took q j i) o = refl
-  sent_next (Flag q on) o = refl
-  sent_next (Left p r) o =
-      subst₂ (λ f g. cond (is_living f) (end_sends p (reason_of g) (state_of g)) [] ≡ left_sends (life [] past p) p r) (sym (k.alike p)) (sym (alike_next (Left p r) o p))
-      (left_sent p r (life [] past p))
+unborn_first : (b : Bool) (o : Option Cause) → cond b o (Some BornTwice) ≡ None → b ≡ true
+unborn_first true o h = refl
+unborn_first false o h = absurd (cc)
 
-  pub kept_next : (e : Event) → IsObserved lives lives' e → IsKept (e ∷ past) lives' (landed e flights ++ sends lives' (lived lives e) e)
-  kept_next e o = record {
-    alike = alike_next e o;
-    known = λ p. o.known p ∙ ap (λ b. b || is_born p e) (k.known p) ∙ born_after p e (life [] past p);
-    flies = ap (λ z. landed e z ++ sends lives' (lived lives e) e) k.flies ∙ ap (λ z. landed e (flying [] past) ++ z) (sent_next e o);
+-- an event that no cause refuses gives birth to none that is listed
+pub may_be_born : (s : JudgeState) (e : Event) → ListsBorn s.lives → cause (known s) e ≡ None → MayBeBorn s.lives e
+may_be_born s (Born p parent link) k h = k p ∙ ap not (unborn_first (is_unborn (now_is s p)) _ h)
+may_be_born s (Said a b x) k h = tt
+may_be_born s (Came a b x) k h = tt
+may_be_born s (Took q j i) k h = tt
+may_be_born s (Flag q on) k h = tt
+may_be_born s (Left q r) k h = tt
+
+module _ (start : Start) (past : Past) (old new : JudgeState) (k : IsAfter start past old) where
+  sent_next : (e : Event) → IsStep old e new → sends new.lives (lived old.lives e) e ≡ sent_by start past e
+  sent_next (Born q parent link) t = refl
+  sent_next (Said a b x) t = refl
+  sent_next (Came a b x) t =
+      subst₂ (λ f g. cond (is_living f) (answered b a x ++ end_sends b (reason_of g) (state_of g)) (bounce b a x) ≡ got_sends (life start past b) b a x)
+      (sym (k.alike b)) (sym (t.lives b ∙ ap (after b (Came a b x)) (k.alike b)))
+      (came_sent a b x (life start past b))
+  sent_next (Took q j i) t = refl
+  sent_next (Flag q on) t = refl
+  sent_next (Left p r) t =
+      subst₂ (λ f g. cond (is_living f) (end_sends p (reason_of g) (state_of g)) [] ≡ left_sends (life start past p) p r)
+      (sym (k.alike p)) (sym (t.lives p ∙ ap (after p (Left p r)) (k.alike p)))
+      (left_sent p r (life start past p))
+
+  pub after_next : (e : Event) → IsStep old e new → IsAfter start (e ∷ past) new
+  after_next e t = record {
+    past_is = t.past ∙ ap (λ z. e ∷ z) k.past_is;
+    alike = λ p. t.lives p ∙ ap (after p e) (k.alike p);
+    flies = t.flights ∙ ap (λ z. landed e z ++ sends new.lives (lived old.lives e) e) k.flies ∙ ap (λ z. landed e (flying start past) ++ z) (sent_next e t);
   }

@@ -10,6 +10,7 @@ use Rattle.pt_events.specs.declared.event.Event.{Event}
 use Rattle.pt_events.specs.declared.event.Event.TheVariants.{Born, Said, Came, Took, Flag, Left}
 use Rattle.pt_signal.specs.Values.{fits}
 use Rattle.pt_signal.specs.Process.{sent}
+use Rattle.pt_judge.specs.Judging.{JudgeState, now_is}
 use Rattle.pt_events.specs.History.{Past, Start, unborn, life, alive, state, flying, is_between, made_link, MaySay, May, IsLegal}
 
 abbrev pub number : Cause → ℕ
@@ -48,24 +49,33 @@ module _ (start : Start) where
   abbrev pub IsCause : Past → Event → Cause → Type 0
   IsCause past e c = Refuses past e c × ((lower : Cause) → number lower < number c → ¬ Refuses past e lower)
 
--- the event may come next, or the cause is the one that is given
-abbrev pub IsJudged : Past → Event → Option Cause → Type 0
-IsJudged past e None = May [] past e
-IsJudged past e (Some c) = IsCause [] past e c
+  -- the event may come next, or the cause is the one that is given
+  abbrev pub IsJudged : Past → Event → Option Cause → Type 0
+  IsJudged past e None = May start past e
+  IsJudged past e (Some c) = IsCause past e c
 
--- the state after one event more; memory may be wanting for an event that may come
-abbrev pub Judges : Past → Event → Result Past Cause → Type 0
-Judges past e (Ok now) = May [] past e × (now ≡ e ∷ past)
-Judges past e (Err Memory) = May [] past e
-Judges past e (Err c) = IsCause [] past e c
+  -- what the judge knows is what the history leads to
+  pub record IsAfter (past : Past) (s : JudgeState) : Type 0 where
+    pub past_is : s.past ≡ past
+    pub alike : (p : Pid) → now_is s p ≡ life start past p
+    pub flies : s.flights ≡ flying start past
 
--- the event at the place may not come for that cause, or memory was wanting for it
-abbrev pub Fails : List Event → ℕ → Cause → Type 0
-Fails h n Memory = Unit {0}
-Fails h n c = (e : Event) × (slice_get h n ≡ Some e) × ¬ May [] (reverse (take n h)) e × IsCause [] (reverse (take n h)) e c
+  -- the judgement of one event more; memory may be wanting for an event that may come
+  abbrev pub Judges : Past → Event → Result JudgeState Cause → Type 0
+  Judges past e (Ok s) = May start past e × IsAfter (e ∷ past) s
+  Judges past e (Err Memory) = May start past e
+  Judges past e (Err c) = IsCause past e c
 
--- the judgement of a history, oldest event first: the state is that of the whole legal history; or the events
--- before the place are legal, and the one at the place may not come, memory aside
-abbrev pub Replays : List Event → Result Past (ℕ × Cause) → Type 0
-Replays h (Ok past) = (past ≡ reverse h) × IsLegal [] (reverse h)
-Replays h (Err stop) = (stop.0 < length h) × IsLegal [] (reverse (take stop.0 h)) × Fails h stop.0 stop.1
+  -- the event at the place may not come, for that cause; or it may, and memory was wanting
+  abbrev pub FailsAt : Past → Event → Cause → Type 0
+  FailsAt past e Memory = May start past e
+  FailsAt past e c = ¬ May start past e × IsCause past e c
+
+  abbrev pub Fails : List Event → ℕ → Cause → Type 0
+  Fails h n c = (e : Event) × (slice_get h n ≡ Some e) × FailsAt (reverse (take n h)) e c
+
+  -- the judgement of a history, oldest event first: the state is what the whole legal history leads to; or the
+  -- events before the place are legal, and the one at the place fails
+  abbrev pub Replays : List Event → Result JudgeState (ℕ × Cause) → Type 0
+  Replays h (Ok s) = IsAfter (reverse h) s × IsLegal start (reverse h)
+  Replays h (Err stop) = (stop.0 < length h) × IsLegal start (reverse (take stop.0 h)) × Fails h stop.0 stop.1

@@ -1,4 +1,4 @@
--- What the judge's own functions say.
+-- What the judge knows, and what its own functions say.
 use Rattle.std.specs.Prelude.{◌≡◌, Bool, true, false, cond, not, ◌&&◌, ◌||◌, Option, Some, None, is_some, is_none, List, [], ◌∷◌, ◌++◌}
 use Rattle.std.specs.Map.{lookup}
 use Rattle.std.specs.List.{find}
@@ -17,8 +17,34 @@ use Rattle.pt_events.specs.declared.event.Event.{Event}
 use Rattle.pt_events.specs.declared.event.Event.TheVariants.{Born, Said, Came, Took, Flag, Left}
 use Rattle.pt_signal.specs.Values.{same_pid, same_ref, fits}
 use Rattle.pt_signal.specs.Process.{ProcessState, held, handle, obey, verdict, Sent, sent, bounce}
-use Rattle.pt_events.specs.History.{Past, Start, Phase, unborn, is_living, is_unborn, is_the, is_between, at_start, after, reason_of, state_of, end_sends, life, alive, state, flying, made_link, made_ref}
+use Rattle.pt_events.specs.History.{Past, Start, Phase, unborn, is_living, is_unborn, is_the, is_between, at_start, after, landed, reason_of, state_of, end_sends, life, flying, made_link, made_ref}
 use Rattle.pt_judge.specs.Same.{same_item, same_ids, same_signal}
+
+-- what the judge knows: the events that it judged, newest first; what each process is that was born; and what is on its way
+pub record JudgeState : Type 0 where
+  pub past : Past
+  pub lives : Start
+  pub flights : List Sent
+
+-- what the process is
+abbrev pub now_is : JudgeState → Pid → Phase
+now_is s p = at_start s.lives p
+
+-- what decides whether an event may come: the events so far, what each pid is, and what is on its way
+pub record Known : Type 0 where
+  pub past : Past
+  pub is : Pid → Phase
+  pub flights : List Sent
+
+abbrev pub known : JudgeState → Known
+known s = record { past = s.past; is = now_is s; flights = s.flights }
+
+abbrev pub known_after : Start → Past → Known
+known_after start past = record { past = past; is = life start past; flights = flying start past }
+
+-- the table lists those that were born, and no other
+abbrev pub ListsBorn : Start → Type 0
+ListsBorn lives = (p : Pid) → is_some (lookup (same_pid p) lives) ≡ not (is_unborn (at_start lives p))
 
 abbrev pub is_kill : Reason → Bool
 is_kill Kill = true
@@ -78,16 +104,16 @@ sends start lived (Came a b x) = cond lived (answered b a x ++ owed start b) (bo
 sends start lived (Left p r) = cond lived (owed start p) []
 sends start lived _ = []
 
--- the table and the signals on their way are those of the history
-pub record IsKept (past : Past) (lives : Start) (flights : List Sent) : Type 0 where
-  pub alike : (p : Pid) → at_start lives p ≡ life [] past p
-  pub known : (p : Pid) → is_some (lookup (same_pid p) lives) ≡ not (is_unborn (life [] past p))
-  pub flies : flights ≡ flying [] past
+-- what the judge knows after the event
+pub record IsStep (old : JudgeState) (e : Event) (new : JudgeState) : Type 0 where
+  pub past : new.past ≡ e ∷ old.past
+  pub lives : (p : Pid) → now_is new p ≡ after p e (now_is old p)
+  pub flights : new.flights ≡ landed e old.flights ++ sends new.lives (lived old.lives e) e
 
 -- what the process holds, or held just after its end; None for a pid that is unborn
-abbrev pub IsHeldBy : Past → Pid → Option ProcessState → Type 0
-IsHeldBy past p None = life [] past p ≡ unborn
-IsHeldBy past p (Some s) = s ≡ state [] past p
+abbrev pub IsHeldBy : JudgeState → Pid → Option ProcessState → Type 0
+IsHeldBy s p None = now_is s p ≡ unborn
+IsHeldBy s p (Some held) = held ≡ state_of (now_is s p)
 
 abbrev pub is_item : Option Item → Item → Bool
 is_item None i = false
@@ -101,22 +127,22 @@ abbrev pub is_signal : Option Signal → Signal → Bool
 is_signal None x = false
 is_signal (Some y) x = same_signal y x
 
-abbrev pub may_say : Past → Pid → Pid → Signal → Bool
-may_say past a b (Message body) = true
-may_say past a b (Signal.Exit r) = true
-may_say past a b (Link i) = not (made_link past i) && is_none (held (state [] past a).links b) && not (same_pid a b)
-may_say past a b (Unlink ids) = is_ids (held (state [] past a).links b) ids
-may_say past a b (Monitor m) = not (made_ref past m) && not (same_pid a b)
-may_say past a b (Demonitor m) = is_the b (lookup (same_ref m) (state [] past a).watching)
-may_say past a b (LinkExit ids r) = false
-may_say past a b (Signal.Down m r) = false
-may_say past a b (AliveAsk m) = not (made_ref past m)
-may_say past a b (AliveSay m x) = false
+abbrev pub may_say : Known → Pid → Pid → Signal → Bool
+may_say k a b (Message body) = true
+may_say k a b (Signal.Exit r) = true
+may_say k a b (Link i) = not (made_link k.past i) && is_none (held (state_of (k.is a)).links b) && not (same_pid a b)
+may_say k a b (Unlink ids) = is_ids (held (state_of (k.is a)).links b) ids
+may_say k a b (Monitor m) = not (made_ref k.past m) && not (same_pid a b)
+may_say k a b (Demonitor m) = is_the b (lookup (same_ref m) (state_of (k.is a)).watching)
+may_say k a b (LinkExit ids r) = false
+may_say k a b (Signal.Down m r) = false
+may_say k a b (AliveAsk m) = not (made_ref k.past m)
+may_say k a b (AliveSay m x) = false
 
 -- a parent is named that is not alive
-abbrev pub lacks : Past → Option Pid → Bool
-lacks past None = false
-lacks past (Some q) = not (alive [] past q)
+abbrev pub lacks : Known → Option Pid → Bool
+lacks k None = false
+lacks k (Some q) = not (is_living (k.is q))
 
 -- a link without a parent, or an id that was made before
 abbrev pub unlawful_link : Past → Option Pid → Option LinkId → Bool
@@ -125,10 +151,10 @@ unlawful_link past None (Some i) = true
 unlawful_link past (Some q) (Some i) = made_link past i
 
 -- why the event may not come next, by tests
-abbrev pub cause : Past → Event → Option Cause
-cause past (Born p parent link) = cond (is_unborn (life [] past p)) (cond (lacks past parent) (Some NotAlive) (cond (unlawful_link past parent link) (Some Unlawful) None)) (Some BornTwice)
-cause past (Said a b x) = cond (alive [] past a) (cond (may_say past a b x) None (Some Unlawful)) (Some NotAlive)
-cause past (Came a b x) = cond (is_signal (option_map (λ l. l.signal) (find (is_between a b) (flying [] past))) x) None (Some NotFront)
-cause past (Took p k i) = cond (alive [] past p) (cond (is_item (find (fits k) (state [] past p).waiting) i) None (Some NotFirstMatch)) (Some NotAlive)
-cause past (Flag p on) = cond (alive [] past p) None (Some NotAlive)
-cause past (Left p r) = cond (alive [] past p) None (Some NotAlive)
+abbrev pub cause : Known → Event → Option Cause
+cause k (Born p parent link) = cond (is_unborn (k.is p)) (cond (lacks k parent) (Some NotAlive) (cond (unlawful_link k.past parent link) (Some Unlawful) None)) (Some BornTwice)
+cause k (Said a b x) = cond (is_living (k.is a)) (cond (may_say k a b x) None (Some Unlawful)) (Some NotAlive)
+cause k (Came a b x) = cond (is_signal (option_map (λ l. l.signal) (find (is_between a b) k.flights)) x) None (Some NotFront)
+cause k (Took p j i) = cond (is_living (k.is p)) (cond (is_item (find (fits j) (state_of (k.is p)).waiting) i) None (Some NotFirstMatch)) (Some NotAlive)
+cause k (Flag p on) = cond (is_living (k.is p)) None (Some NotAlive)
+cause k (Left p r) = cond (is_living (k.is p)) None (Some NotAlive)

@@ -8,8 +8,8 @@ ghost use Rattle.pt_signal.specs.Values.{same_ref, fits};
 ghost use Rattle.pt_signal.specs.Process.{held};
 ghost use Rattle.pt_judge.specs.declared.cause.Cause.TheVariants.{NotAlive};
 ghost use Rattle.pt_events.specs.declared.event.Event.TheVariants.{Born, Said, Came, Took};
-ghost use Rattle.pt_events.specs.History.{open_monitors, reason_of, is_unborn, is_the, is_between, life, alive, state, flying, makes_link, makes_ref, made_link, made_ref, May};
-ghost use Rattle.pt_judge.specs.Judging.{cause, may_say, lacks, unlawful_link, is_item, is_ids, is_signal, IsHeldBy};
+ghost use Rattle.pt_events.specs.History.{open_monitors, reason_of, state_of, is_living, is_unborn, is_the, is_between, makes_link, makes_ref, made_link, made_ref};
+ghost use Rattle.pt_judge.specs.Judging.{now_is, known, cause, may_say, lacks, unlawful_link, is_item, is_ids, is_signal, IsHeldBy, IsStep};
 
 use crate::Cause;
 use crate::judging::flights::{Flight, dispatch, land, oldest};
@@ -24,7 +24,8 @@ use std::marker::Model;
 
 /// What a legal history leads to, for each pid that there could be.
 ///
-/// Contracts see it as that history, newest event first.
+/// Contracts see what each process is, the signals on their way, and the events that were judged, newest first. What
+/// these are after a history, [`replay`] says.
 #[derive(Drop)]
 pub struct State {
     events: Vec<Event>,
@@ -34,14 +35,13 @@ pub struct State {
 
 impl Model for State {
     ghost use Rattle.std.specs.Prelude.{reverse};
-    ghost use Rattle.pt_events.specs.History.{Past};
-    ghost use Rattle.pt_judge.specs.Judging.{IsKept};
+    ghost use Rattle.pt_judge.specs.Judging.{JudgeState, ListsBorn};
 
-    ghost Value = { Past };
+    ghost Value = { JudgeState };
 
-    ghost view = { λ s. reverse s.events.items };
+    ghost view = { λ s. record { past = reverse s.events.items; lives = s.lives.items; flights = s.flights.items } };
 
-    ghost invariant = { λ s. IsKept (reverse s.events.items) s.lives.items s.flights.items };
+    ghost invariant = { λ s. ListsBorn s.lives.items };
 }
 
 fn makes_link(id: LinkId, event: Event) -> bool
@@ -86,8 +86,8 @@ fn made_ref(events: &[Event], monitor: Ref) -> bool
 
 impl State {
     // The state before any event.
-    pub fn new(alloc: Global) -> State
-        ensures { result ≡ [] }
+    pub(super) fn new(alloc: Global) -> State
+        ensures { result ≡ record { past = []; lives = []; flights = [] } }
     {
         State {
             events: Vec::new(alloc),
@@ -98,21 +98,21 @@ impl State {
 
     /// Whether the process was born and has not ended.
     pub fn alive(&self, pid: Pid) -> bool
-        ensures { result ≡ alive [] self.now pid }
+        ensures { result ≡ is_living (now_is self.now pid) }
     {
         is_living(self.lives.as_slice(), pid)
     }
 
     /// Why the process ended, if it has.
     pub fn ended(&self, pid: Pid) -> Option<Reason>
-        ensures { result ≡ reason_of (life [] self.now pid) }
+        ensures { result ≡ reason_of (now_is self.now pid) }
     {
         reason(self.lives.as_slice(), pid)
     }
 
     /// What waits in the process's mailbox, oldest first, or `None` where it is not alive.
     pub fn waiting(&self, pid: Pid) -> Option<&[Item]>
-        ensures { option_map (λ items. items.now) result ≡ cond (alive [] self.now pid) (Some (state [] self.now pid).waiting) None }
+        ensures { option_map (λ items. items.now) result ≡ cond (is_living (now_is self.now pid)) (Some (state_of (now_is self.now pid)).waiting) None }
     {
         if !self.alive(pid) {
             return None;
@@ -125,7 +125,7 @@ impl State {
 
     /// The ids under which the first process is linked with the second; those that it had last, where it has ended.
     pub fn linked(&self, pid: Pid, peer: Pid) -> Option<Ids>
-        ensures { result ≡ held (state [] self.now pid).links peer }
+        ensures { result ≡ held (state_of (now_is self.now pid)).links peer }
     {
         match self.holdings(pid) {
             Some(held) => ids_with(held.links(), peer),
@@ -135,7 +135,7 @@ impl State {
 
     /// Whether the monitor is open at the process that made it: not where that process has ended.
     pub fn watching(&self, watcher: Pid, monitor: Ref) -> bool
-        ensures { result ≡ is_some (lookup (same_ref monitor) (open_monitors (life [] self.now watcher))) }
+        ensures { result ≡ is_some (lookup (same_ref monitor) (open_monitors (now_is self.now watcher))) }
     {
         if !self.alive(watcher) {
             return false;
@@ -148,7 +148,7 @@ impl State {
 
     /// Whether the process keeps the watch that was made under the reference, or did at its end.
     pub fn kept(&self, target: Pid, monitor: Ref) -> bool
-        ensures { result ≡ is_some (lookup (same_ref monitor) (state [] self.now target).kept) }
+        ensures { result ≡ is_some (lookup (same_ref monitor) (state_of (now_is self.now target)).kept) }
     {
         match self.holdings(target) {
             Some(held) => target_of(held.kept(), monitor).is_some(),
@@ -158,7 +158,7 @@ impl State {
 
     /// The process's `trap_exit` flag, or what it was at its end.
     pub fn traps(&self, pid: Pid) -> bool
-        ensures { result ≡ (state [] self.now pid).traps }
+        ensures { result ≡ (state_of (now_is self.now pid)).traps }
     {
         match self.holdings(pid) {
             Some(held) => held.traps(),
@@ -168,7 +168,7 @@ impl State {
 
     /// How many signals are on their way.
     pub fn in_flight(&self) -> u64
-        ensures { result ≡ length (flying [] self.now) }
+        ensures { result ≡ length self.now.flights }
     {
         self.flights.len() as u64
     }
@@ -180,25 +180,25 @@ impl State {
     }
 
     fn is_unborn(&self, pid: Pid) -> bool
-        ensures { result ≡ is_unborn (life [] self.now pid) }
+        ensures { result ≡ is_unborn (now_is self.now pid) }
     {
         !is_known(self.lives.as_slice(), pid)
     }
 
     fn made_link(&self, id: LinkId) -> bool
-        ensures { result ≡ made_link self.now id }
+        ensures { result ≡ made_link self.now.past id }
     {
         made_link(self.events.as_slice(), id)
     }
 
     fn made_ref(&self, monitor: Ref) -> bool
-        ensures { result ≡ made_ref self.now monitor }
+        ensures { result ≡ made_ref self.now.past monitor }
     {
         made_ref(self.events.as_slice(), monitor)
     }
 
     fn is_waiting_first(&self, pid: Pid, pick: Pick, item: Item) -> bool
-        ensures { result ≡ is_item (find (fits pick) (state [] self.now pid).waiting) item }
+        ensures { result ≡ is_item (find (fits pick) (state_of (now_is self.now pid)).waiting) item }
     {
         match self.holdings(pid) {
             Some(held) => match first_match(held.waiting(), pick) {
@@ -210,7 +210,7 @@ impl State {
     }
 
     fn is_front(&self, from: Pid, to: Pid, signal: Signal) -> bool
-        ensures { result ≡ is_signal (option_map (λ flight. flight.signal) (find (is_between from to) (flying [] self.now))) signal }
+        ensures { result ≡ is_signal (option_map (λ flight. flight.signal) (find (is_between from to) self.now.flights)) signal }
     {
         match oldest(self.flights.as_slice(), from, to) {
             Some(first) => same::signals(first, signal),
@@ -219,7 +219,7 @@ impl State {
     }
 
     fn holds(&self, pid: Pid, peer: Pid, ids: Ids) -> bool
-        ensures { result ≡ is_ids (held (state [] self.now pid).links peer) ids }
+        ensures { result ≡ is_ids (held (state_of (now_is self.now pid)).links peer) ids }
     {
         match self.linked(pid, peer) {
             Some(held) => same::ids(held, ids),
@@ -228,7 +228,7 @@ impl State {
     }
 
     fn watches(&self, watcher: Pid, target: Pid, monitor: Ref) -> bool
-        ensures { result ≡ is_the target (lookup (same_ref monitor) (state [] self.now watcher).watching) }
+        ensures { result ≡ is_the target (lookup (same_ref monitor) (state_of (now_is self.now watcher)).watching) }
     {
         match self.holdings(watcher) {
             Some(held) => match target_of(held.watching(), monitor) {
@@ -240,7 +240,7 @@ impl State {
     }
 
     fn may_say(&self, from: Pid, to: Pid, signal: Signal) -> bool
-        ensures { result ≡ may_say self.now from to signal }
+        ensures { result ≡ may_say (known self.now) from to signal }
     {
         match signal {
             Signal::Message(_) => true,
@@ -259,7 +259,7 @@ impl State {
     }
 
     fn lacks(&self, parent: Option<Pid>) -> bool
-        ensures { result ≡ lacks self.now parent }
+        ensures { result ≡ lacks (known self.now) parent }
     {
         match parent {
             Some(parent) => !self.alive(parent),
@@ -268,7 +268,7 @@ impl State {
     }
 
     fn is_unlawful_link(&self, parent: Option<Pid>, link: Option<LinkId>) -> bool
-        ensures { result ≡ unlawful_link self.now parent link }
+        ensures { result ≡ unlawful_link self.now.past parent link }
     {
         match (parent, link) {
             (_, None) => false,
@@ -278,7 +278,7 @@ impl State {
     }
 
     fn birth_cause(&self, pid: Pid, parent: Option<Pid>, link: Option<LinkId>) -> Option<Cause>
-        ensures { result ≡ cause self.now (Born pid parent link) }
+        ensures { result ≡ cause (known self.now) (Born pid parent link) }
     {
         if !self.is_unborn(pid) {
             return Some(Cause::BornTwice);
@@ -293,7 +293,7 @@ impl State {
     }
 
     fn saying_cause(&self, from: Pid, to: Pid, signal: Signal) -> Option<Cause>
-        ensures { result ≡ cause self.now (Said from to signal) }
+        ensures { result ≡ cause (known self.now) (Said from to signal) }
     {
         if !self.alive(from) {
             return Some(Cause::NotAlive);
@@ -305,7 +305,7 @@ impl State {
     }
 
     fn coming_cause(&self, from: Pid, to: Pid, signal: Signal) -> Option<Cause>
-        ensures { result ≡ cause self.now (Came from to signal) }
+        ensures { result ≡ cause (known self.now) (Came from to signal) }
     {
         if !self.is_front(from, to, signal) {
             return Some(Cause::NotFront);
@@ -314,7 +314,7 @@ impl State {
     }
 
     fn taking_cause(&self, pid: Pid, pick: Pick, item: Item) -> Option<Cause>
-        ensures { result ≡ cause self.now (Took pid pick item) }
+        ensures { result ≡ cause (known self.now) (Took pid pick item) }
     {
         if !self.alive(pid) {
             return Some(Cause::NotAlive);
@@ -326,7 +326,7 @@ impl State {
     }
 
     fn life_cause(&self, pid: Pid) -> Option<Cause>
-        ensures { result ≡ cond (alive [] self.now pid) None (Some NotAlive) }
+        ensures { result ≡ cond (is_living (now_is self.now pid)) None (Some NotAlive) }
     {
         if !self.alive(pid) {
             return Some(Cause::NotAlive);
@@ -334,9 +334,9 @@ impl State {
         None
     }
 
-    // Why the event may not come next; memory aside.
-    pub fn cause(&self, event: Event) -> Option<Cause>
-        ensures { result ≡ cause self.now event }
+    // Why the event may not come next, if it may not; memory aside.
+    pub(super) fn cause(&self, event: Event) -> Option<Cause>
+        ensures { result ≡ cause (known self.now) event }
     {
         match event {
             Event::Born(pid, parent, link) => self.birth_cause(pid, parent, link),
@@ -348,10 +348,10 @@ impl State {
         }
     }
 
-    // The state after an event that may come next.
-    pub fn after(self, alloc: Global, event: Event) -> Result<State, AllocError>
-        requires { May [] self event }
-        ensures { IfOk result (λ state. state ≡ event ∷ self) }
+    // The state after an event that no cause refuses.
+    pub(super) fn after(self, alloc: Global, event: Event) -> Result<State, AllocError>
+        requires { cause (known self) event ≡ None }
+        ensures { IfOk result (λ state. IsStep self event state) }
     {
         let State {
             mut events,

@@ -1,7 +1,8 @@
 // The judge.
 
-ghost use Rattle.std.specs.Prelude.{◌≡◌};
-ghost use Rattle.pt_judge.specs.Judge.{Judges, Replays};
+ghost use Rattle.std.specs.Prelude.{[]};
+ghost use Rattle.pt_events.specs.History.{Start, Past};
+ghost use Rattle.pt_judge.specs.Judge.{IsAfter, Judges, Replays};
 
 use crate::Cause;
 use crate::judging::state::State;
@@ -10,7 +11,7 @@ use std::alloc::Global;
 
 // The state after the event, or the lowest cause for which it may not come.
 fn judge(alloc: Global, state: State, event: Event) -> Result<State, Cause>
-    ensures { Judges state event result }
+    ensures { (start : Start) (past : Past) → IsAfter start past state → Judges start past event result }
 {
     if let Some(cause) = state.cause(event) {
         return Err(cause);
@@ -23,11 +24,15 @@ fn judge(alloc: Global, state: State, event: Event) -> Result<State, Cause>
 
 /// Judges a history, oldest event first: gives what it leads to where every event may come after those before it,
 /// and else the place of the first that may not, with the lowest cause that fits. Where memory is wanting for an
-/// event, its place is given with `Cause::Memory`.
+/// event that may come, its place is given with `Cause::Memory`.
+///
+/// The history begins with no process. What the judge does is written from the definitions, and shares with a desk
+/// what `pt_signal` has for its values alone: the tests for equal pids, references and ids, the methods of `Ids`,
+/// `Pick::fits`, and `Signal::answer_of_dead`.
 ///
 /// It is plain and slow: the time grows with the square of the number of events.
 pub fn replay(alloc: Global, events: &[Event]) -> Result<State, (u64, Cause)>
-    ensures { Replays events.now result }
+    ensures { Replays [] events.now result }
 {
     let mut state = State::new(alloc);
     for place in 0..events.len() {

@@ -1,22 +1,36 @@
-use Rattle.std.proofs.Common.{◌≡◌, ◌++◌, ◌∙◌, reverse, sym, ap, subst₂}
+use Rattle.std.proofs.Common.{◌≡◌, None, ◌++◌, ◌∙◌, reverse, sym, ap, subst}
 use Rattle.pt_events.specs.History.{Start, landed}
-use Rattle.pt_judge.specs.Judging.{IsKept, IsObserved, sends, lived}
+use Rattle.pt_judge.specs.Judging.{JudgeState, IsObserved, IsStep, sends, lived, known, cause}
 use Rattle.pt_events.proofs.Orders.{reverse_push}
-use Rattle.pt_judge.proofs.KeptNext.{kept_next}
+use Rattle.pt_judge.proofs.KeptNext.{lists_next, may_be_born}
 use Rattle.pt_judge.proofs.judging.state.State.after.Goals as goal
 
+pub observe-requires : goal.observe-requires
+observe-requires c =
+    let s = c.self.inside in
+    let old : JudgeState = record { past = reverse s.events.items; lives = s.lives.items; flights = s.flights.items } in
+    may_be_born old c.args.event c.self.invariant (subst (λ z. cause (known z) c.args.event ≡ None) (sym c.self.view_is) c.requires)
+
 pub invariant_of-result : goal.invariant_of-result
-invariant_of-result c =
+invariant_of-result c = lists_next c.self.inside.lives.items c.observe.new.lives.items c.args.event c.self.invariant c.in_ok-observe.ensures
+
+pub returns : goal.returns
+returns c =
     let s = c.self.inside in
     let e = c.args.event in
-    let past = reverse s.events.items in
     let lives = c.observe.new.lives.items in
     let seen : IsObserved s.lives.items lives e = c.in_ok-observe.ensures in
-    let kept = kept_next past s.lives.items lives s.flights.items c.self.invariant e seen in
-    let same : c.dispatch.new.flights.items ≡ landed e s.flights.items ++ sends lives (lived s.lives.items e) e =
-    c.in_ok-dispatch.ensures
-    ∙ ap (λ z. z ++ sends c.as_slice-2.result.now c.lived-lived.result e) c.land.ensures
-    ∙ ap (λ (table : Start). landed e s.flights.items ++ sends table c.lived-lived.result e) c.as_slice-2.ensures.value
-    ∙ ap (λ b. landed e s.flights.items ++ sends lives b e) (c.lived-lived.ensures ∙ ap (λ (table : Start). lived table e) c.as_slice.ensures.value)
+    let old : JudgeState = record { past = reverse s.events.items; lives = s.lives.items; flights = s.flights.items } in
+    let new : JudgeState = record { past = reverse c.push.new.self.items; lives = lives; flights = c.dispatch.new.flights.items } in
+    let step : IsStep old e new =
+    record {
+      past = ap reverse c.in_ok-push.ensures.items ∙ reverse_push s.events.items e;
+      lives = seen.lives;
+      flights =
+          c.in_ok-dispatch.ensures
+          ∙ ap (λ z. z ++ sends c.as_slice-2.result.now c.lived-lived.result e) c.land.ensures
+          ∙ ap (λ (table : Start). landed e s.flights.items ++ sends table c.lived-lived.result e) c.as_slice-2.ensures.value
+          ∙ ap (λ b. landed e s.flights.items ++ sends lives b e) (c.lived-lived.ensures ∙ ap (λ (table : Start). lived table e) c.as_slice.ensures.value);
+    }
     in
-    subst₂ (λ h flights. IsKept h lives flights) (sym (ap reverse c.in_ok-push.ensures.items ∙ reverse_push s.events.items e)) (sym same) kept
+    subst (λ z. IsStep z e new) c.self.view_is step
