@@ -14,12 +14,12 @@ use Rattle.pt_laws.specs.Load.{IsQuiet, IsStart, one_if}
 use Rattle.pt_laws.specs.Watch.{said_to}
 use Rattle.pt_laws.specs.Links.{is_link, holds_id, IsKnownSaid, IsBornHome, IsNewTie, IsBornFree, LinksAgree}
 use Rattle.pt_events.specs.Journal.{Journals, events, of_desk, IsOf, IsHome, IsKnown, IsLocal, IsMerge}
-use Rattle.pt_laws.specs.Resumed.{start_after, AllNewTo}
+use Rattle.pt_laws.specs.Resumed.{AllNewTo, IsLeftBy}
 use Rattle.pt_signal.proofs.Same.{same_pid_is}
 use Rattle.pt_events.proofs.Local.{AllHome}
 use Rattle.pt_events.proofs.Homes.{life_home}
 use Rattle.pt_laws.proofs.Merged.{AllLocal, head_local, tail_local, all_home}
-use Rattle.pt_laws.proofs.Resumed.{same_life, same_flying, resumed}
+use Rattle.pt_laws.proofs.Resumed.{over_life, over_flying, over_legal}
 use Rattle.pt_events.proofs.Phases.{was_unborn}
 use Rattle.pt_laws.proofs.Takings.{has, empty_entry}
 use Rattle.pt_laws.proofs.Sides.{before, here, over}
@@ -157,14 +157,11 @@ home_joined (Took p j y ∷ new) old h k = home_joined new old h k
 home_joined (Flag p on ∷ new) old h k = home_joined new old h k
 home_joined (Left p r ∷ new) old h k = home_joined new old h k
 
-module _ (old : Past) (legal : IsLegal [] old) (quiet : IsQuiet [] old) where
-  no_start : IsStart []
-  no_start p = refl
+module _ (start : Start) (old : Past) (left : IsLeftBy start old) where
+  same : (new : Past) (p : Pid) → life start new p ≡ life [] (new ++ old) p
+  same = over_life [] start old left.legal left.quiet left.alike
 
-  same : (new : Past) (p : Pid) → life (start_after [] old) new p ≡ life [] (new ++ old) p
-  same new p = same_life [] no_start old legal quiet new p
-
-  known_joined : (new : Past) → IsKnownSaid (start_after [] old) new → IsKnownSaid [] old → IsKnownSaid [] (new ++ old)
+  known_joined : (new : Past) → IsKnownSaid start new → IsKnownSaid [] old → IsKnownSaid [] (new ++ old)
   known_joined [] h k = k
   known_joined (Said a b x ∷ new) h k = (λ e. ap is_unborn (sym (same new b)) ∙ h.0 e, known_joined new h.1 k)
   known_joined (Born p q l ∷ new) h k = known_joined new h k
@@ -173,14 +170,14 @@ module _ (old : Past) (legal : IsLegal [] old) (quiet : IsQuiet [] old) where
   known_joined (Flag p on ∷ new) h k = known_joined new h k
   known_joined (Left p r ∷ new) h k = known_joined new h k
 
-  pub links_resumed : (new : Past) → IsKnownSaid [] old → IsBornHome old → AllNewTo old new → IsLegal (start_after [] old) new
-      → IsQuiet (start_after [] old) new
-      → IsKnownSaid (start_after [] old) new → IsBornHome new → (p q : Pid) → same_pid p q ≡ false
-      → alive (start_after [] old) new p ≡ true → LinksAgree (start_after [] old) new p q
-  links_resumed new k b fresh_ids l s k2 b2 p q n lives =
-      let joined = resumed [] no_start old legal quiet new fresh_ids l in
+  pub links_over : (new : Past) → IsKnownSaid [] old → IsBornHome old → AllNewTo old new → IsLegal start new
+      → IsQuiet start new
+      → IsKnownSaid start new → IsBornHome new → (p q : Pid) → same_pid p q ≡ false
+      → alive start new p ≡ true → LinksAgree start new p q
+  links_over new k b fresh_ids l s k2 b2 p q n lives =
+      let joined = over_legal [] start old left.legal left.quiet left.alike new fresh_ids l in
       let free = born_free [] (new ++ old) joined (known_joined new k2 k) (home_joined new old b2 b) in
-      let law = links_agree (new ++ old) joined (sym (same_flying [] no_start old legal quiet new) ∙ s) free p q n
+      let law = links_agree (new ++ old) joined (sym (over_flying [] start old left.legal left.quiet left.alike new) ∙ s) free p q n
       (ap is_living (sym (same new p)) ∙ lives) in (
         λ h i. ap (λ f. holds_id (held (state_of f).links q) i) (same new p) ∙ law.0 (ap is_living (sym (same new q)) ∙ h) i
             ∙ ap (λ f. holds_id (held (state_of f).links p) i) (sym (same new q)),

@@ -1,5 +1,5 @@
 -- Laws on signals between two pids, on merges, and on histories that go on from others.
-use Rattle.std.specs.Prelude.{◌≡◌, ℕ, Bool, ◌==◌, ◌&&◌, List, ◌++◌, map, filter}
+use Rattle.std.specs.Prelude.{◌≡◌, ℕ, Bool, ◌==◌, ◌&&◌, List, [], ◌++◌, map, filter}
 use Rattle.pt_signal.specs.declared.pid.Pid.{Pid}
 use Rattle.pt_signal.specs.declared.letter.Letter.{Letter}
 use Rattle.pt_events.specs.declared.event.Stamped.{Stamped}
@@ -8,7 +8,7 @@ use Rattle.pt_events.specs.History.{Past, Start, IsLegal, emitted, came, flight,
 use Rattle.pt_events.specs.Journal.{Journals, LanesAgree, in_lane, IsLocal, IsMerge, events, content}
 use Rattle.pt_laws.specs.Sender.{IsSenderFront}
 use Rattle.pt_laws.specs.Load.{IsStart, IsQuiet}
-use Rattle.pt_laws.specs.Resumed.{start_after, AllNewTo}
+use Rattle.pt_laws.specs.Resumed.{start_after, AllNewTo, IsLeftBy}
 use Rattle.pt_laws.specs.Words.{HasOneEntryEach, KeepsEachOnce}
 
 -- what one pid sent another is what came, then what is in flight
@@ -57,3 +57,13 @@ ResumedStart =
     → IsStart (start_after start old)
     × (HasOneEntryEach start → HasOneEntryEach (start_after start old))
     × (KeepsEachOnce start → KeepsEachOnce (start_after start old))
+
+-- the empty start is left by the empty history, to which every history is new
+abbrev pub EmptyIsLeft : Type 0
+EmptyIsLeft = IsLeftBy [] [] × ((past : Past) → AllNewTo [] past)
+
+-- a legal and quiet history over a start that was left behind leaves one again, after any number of them
+abbrev pub LeftAgain : Type 0
+LeftAgain =
+    (start : Start) (old new : Past) → IsStart start → IsLeftBy start old → AllNewTo old new → IsLegal start new → IsQuiet start new
+    → IsLeftBy (start_after start new) (new ++ old)

@@ -7,7 +7,7 @@ use Rattle.pt_events.specs.declared.event.Stamped.{Stamped}
 use Rattle.pt_events.specs.History.{Past, Start, IsLegal, alive}
 use Rattle.pt_events.specs.Journal.{Journals, LanesAgree, IsLocal, IsMerge, events}
 use Rattle.pt_laws.specs.Load.{IsQuiet}
-use Rattle.pt_laws.specs.Resumed.{start_after, AllNewTo}
+use Rattle.pt_laws.specs.Resumed.{AllNewTo, IsLeftBy}
 use Rattle.pt_laws.specs.Links.{IsKnownSaid, IsBornHome, IsBornFree, LinksAgree}
 
 -- in a quiet history the links of a live process stand at both ends, or, where the other is not alive, at neither
@@ -34,10 +34,9 @@ MergeLinks =
     → ((d : ℕ) → IsLocal [] low top d (journal d)) → LanesAgree [] journal over → IsMerge journal merged
     → IsQuiet [] (events merged) → same_pid p q ≡ false → alive [] (events merged) p ≡ true → LinksAgree [] (events merged) p q
 
--- and in a quiet history over the state of another one
-abbrev pub ResumedLinks : Type 0
-ResumedLinks =
-    (old new : Past) (p q : Pid) → IsLegal [] old → IsQuiet [] old → IsKnownSaid [] old → IsBornHome old
-    → AllNewTo old new → IsLegal (start_after [] old) new → IsQuiet (start_after [] old) new
-    → IsKnownSaid (start_after [] old) new → IsBornHome new
-    → same_pid p q ≡ false → alive (start_after [] old) new p ≡ true → LinksAgree (start_after [] old) new p q
+-- and in a quiet history over every start that was left behind
+abbrev pub QuietLinksOver : Type 0
+QuietLinksOver =
+    (start : Start) (old past : Past) (p q : Pid) → IsLeftBy start old → IsKnownSaid [] old → IsBornHome old
+    → AllNewTo old past → IsLegal start past → IsQuiet start past → IsKnownSaid start past → IsBornHome past
+    → same_pid p q ≡ false → alive start past p ≡ true → LinksAgree start past p q

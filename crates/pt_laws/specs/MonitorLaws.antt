@@ -8,7 +8,7 @@ use Rattle.pt_events.specs.History.{Past, Start, IsLegal, life, state, alive, ar
 use Rattle.pt_events.specs.Journal.{IsLocal, events}
 use Rattle.pt_laws.specs.Acts.{ActsMayCome}
 use Rattle.pt_laws.specs.Load.{IsQuiet}
-use Rattle.pt_laws.specs.Resumed.{start_after, AllNewTo}
+use Rattle.pt_laws.specs.Resumed.{start_after, AllNewTo, IsLeftBy}
 use Rattle.pt_laws.specs.Watch.{count, is_monitor, is_demonitor, is_down_item, said_times, said_to, open_in, kept_in}
 
 -- how often w said Demonitor m, and the DOWNs of m that arrived at w
@@ -59,15 +59,15 @@ QuietMonitor =
 abbrev pub QuietWatch : Type 0
 QuietWatch = (past : Past) (w t : Pid) (m : Ref) → IsLegal [] past → IsQuiet [] past → alive [] past w ≡ false → kept_in w t m (life [] past t) ≡ 0
 
--- both hold of a history that goes on from a legal and quiet one; what was said and what arrived counts from the very beginning
-abbrev pub QuietMonitorResumed : Type 0
-QuietMonitorResumed =
-    (old new : Past) (w t : Pid) (m : Ref) → IsLegal [] old → IsQuiet [] old → AllNewTo old new
-    → IsLegal (start_after [] old) new → IsQuiet (start_after [] old) new → alive (start_after [] old) new w ≡ true → said_to w t (is_monitor m) (new ++ old) ≡ 1
-    → (demonitors_and_downs [] (new ++ old) w m + kept_in w t m (life (start_after [] old) new t) ≡ 1)
-    × (open_in w t m (life (start_after [] old) new w) ≡ kept_in w t m (life (start_after [] old) new t))
+-- both hold over every start that was left behind; what was said and what arrived counts from the very beginning
+abbrev pub QuietMonitorOver : Type 0
+QuietMonitorOver =
+    (start : Start) (old past : Past) (w t : Pid) (m : Ref) → IsLeftBy start old → AllNewTo old past
+    → IsLegal start past → IsQuiet start past → alive start past w ≡ true → said_to w t (is_monitor m) (past ++ old) ≡ 1
+    → (demonitors_and_downs [] (past ++ old) w m + kept_in w t m (life start past t) ≡ 1)
+    × (open_in w t m (life start past w) ≡ kept_in w t m (life start past t))
 
-abbrev pub QuietWatchResumed : Type 0
-QuietWatchResumed =
-    (old new : Past) (w t : Pid) (m : Ref) → IsLegal [] old → IsQuiet [] old → AllNewTo old new
-    → IsLegal (start_after [] old) new → IsQuiet (start_after [] old) new → alive (start_after [] old) new w ≡ false → kept_in w t m (life (start_after [] old) new t) ≡ 0
+abbrev pub QuietWatchOver : Type 0
+QuietWatchOver =
+    (start : Start) (old past : Past) (w t : Pid) (m : Ref) → IsLeftBy start old → AllNewTo old past
+    → IsLegal start past → IsQuiet start past → alive start past w ≡ false → kept_in w t m (life start past t) ≡ 0

@@ -1,12 +1,13 @@
 -- A history that goes on from another one.
 use Rattle.std.specs.Prelude.{◌≡◌, false, [], ◌∷◌, map, ⊤}
+use Rattle.pt_signal.specs.declared.pid.Pid.{Pid}
 use Rattle.pt_events.specs.declared.event.Event.{Event}
 use Rattle.pt_events.specs.declared.event.Event.TheVariants.{Born, Said}
 use Rattle.pt_signal.specs.declared.signal.Signal.TheVariants.{Link, Monitor, AliveAsk}
 use Rattle.pt_signal.specs.declared.ids.LinkId.{LinkId}
 use Rattle.std.specs.Prelude.{Option, Some, None}
-use Rattle.pt_events.specs.History.{Past, Start, life, made_link, made_ref}
-use Rattle.pt_laws.specs.Load.{pids}
+use Rattle.pt_events.specs.History.{Past, Start, at_start, life, made_link, made_ref, IsLegal}
+use Rattle.pt_laws.specs.Load.{IsQuiet, pids}
 
 -- what each pid is after the history, as the start of the next
 abbrev pub start_after : Start → Past → Start
@@ -27,3 +28,9 @@ IsNewTo old _ = ⊤
 abbrev pub AllNewTo : Past → Past → Type 0
 AllNewTo old [] = ⊤
 AllNewTo old (e ∷ past) = IsNewTo old e × AllNewTo old past
+
+-- the start is what `old` left behind, a legal and quiet history from the very beginning
+pub record IsLeftBy (start : Start) (old : Past) : Type 0 where
+  pub legal : IsLegal [] old
+  pub quiet : IsQuiet [] old
+  pub alike : (p : Pid) → at_start start p ≡ life [] old p

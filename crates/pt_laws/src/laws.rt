@@ -5,8 +5,8 @@ ghost use Rattle.pt_laws.specs.Lives.{LivesOnce, StaysEnded, NothingAfterEnd, Al
 ghost use Rattle.pt_laws.specs.Words.{TrapIsLastFlag, HeldSince, IsHeldSince, PeersSince, OpenSince, IsOpenSince, KeptSince, IsKeptSince};
 ghost use Rattle.pt_laws.specs.JournalLaws.{ReadLocally, SentLocally, JournalsSay, MergeIsThere, MergeIsOne};
 ghost use Rattle.pt_laws.specs.Taken.{TakenByPosition};
-ghost use Rattle.pt_laws.specs.Laws.{CameOrFlies, SenderFront, MergeLegal, ResumedLegal, ResumedSame, ResumedStart};
-ghost use Rattle.pt_laws.specs.MonitorLaws.{OneDown, MadeOnce, MadeOnceLocal, EmptyHasOldRefs, MadeOnceResumed, QuietMonitor, QuietWatch, QuietMonitorResumed, QuietWatchResumed};
+ghost use Rattle.pt_laws.specs.Laws.{CameOrFlies, SenderFront, MergeLegal, ResumedLegal, ResumedSame, ResumedStart, EmptyIsLeft, LeftAgain};
+ghost use Rattle.pt_laws.specs.MonitorLaws.{OneDown, MadeOnce, MadeOnceLocal, EmptyHasOldRefs, MadeOnceResumed, QuietMonitor, QuietWatch, QuietMonitorOver, QuietWatchOver};
 ghost use Rattle.pt_laws.specs.LoadLaws.{LoadFalls, ReceiptsBounded, QuietFlights, EmptyIsQuiet, OldestMayCome, OneReceipt, ReceiptLowers, LoadByDesk};
 ghost use Rattle.pt_laws.specs.Headline.{HeadlineHolds};
 ghost use Rattle.pt_laws.specs.Asking.{AnswersAreTrue};
@@ -146,22 +146,25 @@ pub fn load_by_desk_falls()
 {}
 
 /// In a quiet history each monitor of a live watcher was demonitored, or had its one `DOWN`, or is open and kept
-/// by its live target; no live target keeps a watch of a process that is not alive. The same holds of a history that
-/// goes on from a legal and quiet one.
+/// by its live target; no live target keeps a watch of a process that is not alive. The same holds over every
+/// start state that a legal and quiet history left behind.
 pub fn quiet_monitors()
     ensures monitors { QuietMonitor }
     ensures watches { QuietWatch }
-    ensures resumed_monitors { QuietMonitorResumed }
-    ensures resumed_watches { QuietWatchResumed }
+    ensures over_monitors { QuietMonitorOver }
+    ensures over_watches { QuietWatchOver }
 {}
 
 /// A legal and quiet history, followed by one that is legal over its state and makes new link ids and references,
 /// is legal; each pid and each flight is then what it is after both. So every law of legal histories holds of a
-/// history that goes on from another one. The state after it is again a start as these laws want it.
+/// history that goes on from another one. The state after it is again a start as these laws want it: a start that a
+/// history from the very beginning left behind, as the empty start is, after any number of resumptions.
 pub fn resumed_is_legal()
     ensures legal { ResumedLegal }
     ensures same { ResumedSame }
     ensures start { ResumedStart }
+    ensures empty { EmptyIsLeft }
+    ensures again { LeftAgain }
 {}
 
 /// An answer to the question whether a process is alive says whether it was alive just before the question came to

@@ -1,6 +1,6 @@
 // The laws of links: each is the contract of a function that does nothing.
 
-ghost use Rattle.pt_laws.specs.LinkLaws.{QuietLinks, KnownBornFree, MergeKnown, MergeLinks, ResumedLinks};
+ghost use Rattle.pt_laws.specs.LinkLaws.{QuietLinks, KnownBornFree, MergeKnown, MergeLinks, QuietLinksOver};
 ghost use Rattle.pt_laws.specs.EarlyLinks.{EarlyLinkUnknown, EarlyLinkAbroad};
 
 /// Once no signal is on its way, a link of a live process stands at both ends or at neither: where the other
@@ -35,11 +35,11 @@ pub fn merge_links()
     ensures { MergeLinks }
 {}
 
-/// The same holds of a quiet history that goes on from the state that an earlier quiet one left, with link ids and
+/// The same holds of a quiet history over any start state that an earlier quiet one left behind, with link ids and
 /// references of its own, where both keep the two rules of `known_born_free`: links that were made before the
 /// resumption and links that were made after it stand at both ends or at neither.
 pub fn resumed_links()
-    ensures { ResumedLinks }
+    ensures { QuietLinksOver }
 {}
 
 /// A counterexample on one desk, where a parent says `Link` to its child's pid before the child is born. The

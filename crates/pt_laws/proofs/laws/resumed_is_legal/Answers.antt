@@ -1,4 +1,5 @@
-use Rattle.pt_laws.proofs.Resumed.{resumed, same_life, same_flying}
+use Rattle.std.proofs.Common.{refl}
+use Rattle.pt_laws.proofs.Resumed.{resumed, same_life, same_flying, all_new, left_again}
 use Rattle.pt_laws.proofs.StartAfter.{is_start, one_entry_each, keeps_once}
 use Rattle.pt_laws.proofs.laws.resumed_is_legal.Goals as goal
 
@@ -10,3 +11,9 @@ returns-clause-same c start old new ok legal quiet = (same_life start ok old leg
 
 pub returns-clause-start : goal.returns-clause-start
 returns-clause-start c start old ok legal quiet = (is_start start ok old legal quiet, one_entry_each start ok old legal quiet, keeps_once start ok old legal quiet)
+
+pub returns-clause-empty : goal.returns-clause-empty
+returns-clause-empty c = (record { legal = tt; quiet = refl; alike = λ p. refl }, all_new)
+
+pub returns-clause-again : goal.returns-clause-again
+returns-clause-again c = left_again
