@@ -78,6 +78,10 @@ pub record Collects (old new : InEnds) (k : ℕ) (letter : Letter) : Type 0 wher
   -- it is the oldest that was known to wait in that lane, if any was
   pub oldest : IsPrefix (slice_index_or old.known k []) (letter ∷ slice_index_or new.known k [])
 
+-- desk k's lane shows a letter, behind those that were known to wait there
+abbrev pub Shows : InEnds → InEnds → ℕ → Type 0
+Shows old new k = (k < length old.place.rings) × (0 < length (slice_index_or new.known k [])) × IsPrefix (slice_index_or old.known k []) (slice_index_or new.known k [])
+
 -- no letter shows in the lanes from desk `low` up to below desk `high`: none was known before, and none is now
 abbrev pub ShowNone : InEnds → InEnds → ℕ → ℕ → Type 0
 ShowNone old new low high = (k : ℕ) → low ≤ k → k < high → (slice_index_or old.known k [] ≡ []) × (slice_index_or new.known k [] ≡ [])

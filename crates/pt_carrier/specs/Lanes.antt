@@ -2,7 +2,6 @@
 use Rattle.std.specs.Prelude.{ℕ, List, []}
 use denote.RawPtr.{Ptr}
 use Rattle.pt_signal.specs.declared.letter.Letter.{Letter}
-use Rattle.pt_carrier.specs.declared.parcel.Parcel.{Parcel}
 use Rattle.rtrb.specs.declared.producer.Producer.{Producer}
 use Rattle.rtrb.specs.declared.consumer.Consumer.{Consumer}
 
@@ -38,13 +37,11 @@ module _ {T A P : Type 0} where
   abbrev pub receiving_ring : Consumer T A P → Ring
   receiving_ring c = record { words = c.end.words; slots = c.end.slots; names = c.end.names }
 
--- the letter that a lane between these desks keeps as this parcel
-abbrev pub unpacked : ℕ → ℕ → Parcel → Letter
-unpacked from to p = record {
-  from = record { shard = from; slot = p.from_slot; version = p.from_version };
-  to = record { shard = to; slot = p.to_slot; version = p.to_version };
-  signal = p.signal;
-  stamp = p.stamp;
+-- the letter, with the numbers of the two desks of its lane
+abbrev pub on_lane : ℕ → ℕ → Letter → Letter
+on_lane from to l = record l {
+  from = record l.from { shard = from };
+  to = record l.to { shard = to };
 }
 
 -- the ends of a new lane

@@ -1,7 +1,7 @@
 // The ends of one desk.
-ghost use Rattle.std.specs.Prelude.{◌≡◌, ◌≢◌, ℕ, ◌⊎◌, ◌+◌, ◌*◌, ◌-◌, ◌^◌, ◌<◌, ◌≤◌, min, length, [], IsOk, OnOk, IfErr, IfSome, IfNone, slice_index_or};
+ghost use Rattle.std.specs.Prelude.{◌≡◌, ◌≢◌, ℕ, ◌⊎◌, ◌+◌, ◌*◌, ◌-◌, ◌%◌, ◌^◌, ◌<◌, ◌≤◌, min, length, [], IsOk, OnOk, IfErr, IfSome, IfNone, slice_index_or};
 ghost use Rattle.pt_carrier.specs.declared.ends.TheConstants.{MAX_DESKS};
-ghost use Rattle.pt_carrier.specs.Ends.{OutEnds, InEnds, out_ends, in_ends, GoOutFrom, ComeInTo, one_more, IsFull, LooksAt, Collects, ShowNone, IsFirst};
+ghost use Rattle.pt_carrier.specs.Ends.{OutEnds, InEnds, out_ends, in_ends, GoOutFrom, ComeInTo, one_more, IsFull, LooksAt, Collects, Shows, ShowNone, IsFirst};
 ghost use Rattle.pt_carrier.specs.Node.{lists};
 ghost use Rattle.pt_carrier.specs.Reunion.{out_kept, in_kept, Meets, IsWhole, HasRoom, room_at};
 
@@ -64,6 +64,18 @@ pub struct Refused {
     pub letter: Letter,
 }
 
+// The desk after desk `d`, round the node. It divides nothing, since a collect takes this step for each letter.
+fn next_desk(d: u8, desks: usize) -> u8
+    requires { (d < desks) × (desks ≤ MAX_DESKS) }
+    ensures { result ≡ (d + 1) % desks }
+{
+    if usize::from(d) + 1 == desks {
+        0
+    } else {
+        d + 1
+    }
+}
+
 impl Outs {
     pub(crate) fn new(number: u8, lanes: Vec<OutLane>) -> Outs
         requires { (number < length lanes.items) × (length lanes.items ≤ MAX_DESKS) × GoOutFrom number lanes.items }
@@ -89,12 +101,13 @@ impl Outs {
         ensures capacity { self.new.capacity ≡ self.old.capacity }
         ensures looks { LooksAt self.old self.new to }
     {
-        match self.lanes[usize::from(to)].post(letter) {
-            Ok(()) => Ok(()),
-            Err(letter) => Err(Refused {
+        if self.lanes[usize::from(to)].post(letter) {
+            Ok(())
+        } else {
+            Err(Refused {
                 cause: PostCause::Full,
                 letter,
-            }),
+            })
         }
     }
 
@@ -138,29 +151,53 @@ impl Ins {
         ensures first { IfSome result (λ r. IsFirst self.old self.new r.0) }
         ensures none { IfNone result ((self.new.collected ≡ self.old.collected) × (self.new.cursor ≡ self.old.cursor) × ShowNone self.old self.new 0 (length self.old.place.rings)) }
     {
-        let cursor = usize::from(self.cursor);
-        let desks = self.lanes.len();
-        if let Some(found) = self.first_of(cursor, desks) {
-            return Some(found);
-        }
-        self.first_of(0, cursor)
+        let Some(d) = self.first() else {
+            return None;
+        };
+        let letter = self.take(d);
+        Some((d, letter))
     }
 
-    // The same, of the lanes from desk `low` up to below desk `high`.
-    fn first_of(&mut self, low: usize, high: usize) -> Option<(u8, Letter)>
+    // The first desk from the cursor upwards and round whose lane shows a letter.
+    fn first(&mut self) -> Option<u8>
+        ensures same { (self.new.place ≡ self.old.place) × (self.new.cursor ≡ self.old.cursor) × (self.new.collected ≡ self.old.collected) }
+        ensures some { IfSome result (λ d. Shows self.old self.new d × IsFirst self.old self.new d) }
+        ensures none { IfNone result (ShowNone self.old self.new 0 (length self.old.place.rings)) }
+    {
+        let cursor = usize::from(self.cursor);
+        let desks = self.lanes.len();
+        if let Some(d) = self.first_among(cursor, desks) {
+            return Some(d);
+        }
+        self.first_among(0, cursor)
+    }
+
+    // The same, of the desks from `low` up to below `high`.
+    fn first_among(&mut self, low: usize, high: usize) -> Option<u8>
         requires { (low ≤ high) × (high ≤ length self.old.place.rings) }
-        ensures place { self.new.place ≡ self.old.place }
-        ensures some { IfSome result (λ r. (low ≤ r.0) × (r.0 < high) × Collects self.old self.new r.0 r.1 × ShowNone self.old self.new low r.0) }
-        ensures none { IfNone result ((self.new.collected ≡ self.old.collected) × (self.new.cursor ≡ self.old.cursor) × ShowNone self.old self.new low high) }
+        ensures same { (self.new.place ≡ self.old.place) × (self.new.cursor ≡ self.old.cursor) × (self.new.collected ≡ self.old.collected) }
+        ensures some { IfSome result (λ d. (low ≤ d) × (d < high) × Shows self.old self.new d × ShowNone self.old self.new low d) }
+        ensures none { IfNone result (ShowNone self.old self.new low high) }
         ensures others { (k : ℕ) → (k < low) ⊎ (high ≤ k) → slice_index_or self.new.known k [] ≡ slice_index_or self.old.known k [] }
     {
         for d in low..high {
-            if let Some(letter) = self.lanes[d].collect() {
-                self.cursor = ((d + 1) % self.lanes.len()) as u8;
-                return Some((d as u8, letter));
+            if self.lanes[d].shows() {
+                return Some(d as u8);
             }
         }
         None
+    }
+
+    // Collects the oldest letter that is known to wait in the lane from desk `d`.
+    fn take(&mut self, d: u8) -> Letter
+        requires { (d < length self.old.place.rings) × (0 < length (slice_index_or self.old.known d [])) }
+        ensures collects { Collects self.old self.new d result }
+        ensures place { self.new.place ≡ self.old.place }
+        ensures others { (k : ℕ) → k ≢ d → slice_index_or self.new.known k [] ≡ slice_index_or self.old.known k [] }
+    {
+        let letter = self.lanes[usize::from(d)].take_known();
+        self.cursor = next_desk(d, self.lanes.len());
+        letter
     }
 
     /// How many letters were collected from desk `from`, staying at `u64::MAX` once it is reached.

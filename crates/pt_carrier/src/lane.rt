@@ -1,11 +1,11 @@
 // One lane: a ring with an end that sends and an end that receives.
-ghost use Rattle.std.specs.Prelude.{◌≡◌, ◌+◌, ◌-◌, ◌^◌, ◌<◌, ◌≤◌, min, vec_len, length, map, [], ◌∷◌, ◌++◌, IsOk, OnOk, IfOk, IfErr, IfSome, IfNone};
+ghost use Rattle.std.specs.Prelude.{◌≡◌, ◌↔◌, ◌+◌, ◌-◌, ◌^◌, ◌<◌, ◌≤◌, min, vec_len, length, map, [], ◌∷◌, ◌++◌, IsTrue, IfOk};
+ghost use Rattle.std.specs.Bool.{OnTrue, OnFalse};
 ghost use mathlib.Core.List.{IsPrefix};
 ghost use Rattle.std.specs.Vec.{vec_capacity};
 ghost use Rattle.rtrb.specs.Ring.{sent, known_free, producer_capacity, received, known_items};
-ghost use Rattle.pt_carrier.specs.Lanes.{Sending, Receiving, sending_ring, receiving_ring, unpacked, new_sending, new_receiving};
+ghost use Rattle.pt_carrier.specs.Lanes.{Sending, Receiving, sending_ring, receiving_ring, on_lane, new_sending, new_receiving};
 
-use crate::parcel::Parcel;
 use pt_signal::Letter;
 use rtrb::{Consumer, Producer, RingBuffer};
 use std::alloc::{AllocError, Global};
@@ -14,7 +14,7 @@ use std::marker::Model;
 // The end that sends.
 #[derive(Drop)]
 pub(crate) struct OutLane {
-    ring: Producer<Parcel>,
+    ring: Producer<Letter>,
     from: u8,
     to: u8,
     count: u64,
@@ -23,7 +23,7 @@ pub(crate) struct OutLane {
 impl Model for OutLane {
     ghost Value = { Sending };
 
-    ghost view = { λ a. record { ring = sending_ring a.ring; from = a.from; to = a.to; posted = map (unpacked a.from a.to) (sent a.ring); capacity = producer_capacity a.ring; seen = (length (sent a.ring) + known_free a.ring) - producer_capacity a.ring } };
+    ghost view = { λ a. record { ring = sending_ring a.ring; from = a.from; to = a.to; posted = map (on_lane a.from a.to) (sent a.ring); capacity = producer_capacity a.ring; seen = (length (sent a.ring) + known_free a.ring) - producer_capacity a.ring } };
 
     ghost invariant = { λ a. (a.count ≡ min (length (sent a.ring)) (2 ^ 64 - 1)) × (producer_capacity a.ring ≤ length (sent a.ring) + known_free a.ring) };
 }
@@ -31,7 +31,7 @@ impl Model for OutLane {
 // The end that receives.
 #[derive(Drop)]
 pub(crate) struct InLane {
-    ring: Consumer<Parcel>,
+    ring: Consumer<Letter>,
     from: u8,
     to: u8,
     count: u64,
@@ -40,29 +40,27 @@ pub(crate) struct InLane {
 impl Model for InLane {
     ghost Value = { Receiving };
 
-    ghost view = { λ a. record { ring = receiving_ring a.ring; from = a.from; to = a.to; collected = map (unpacked a.from a.to) (received a.ring); known = map (unpacked a.from a.to) (known_items a.ring) } };
+    ghost view = { λ a. record { ring = receiving_ring a.ring; from = a.from; to = a.to; collected = map (on_lane a.from a.to) (received a.ring); known = map (on_lane a.from a.to) (known_items a.ring) } };
 
     ghost invariant = { λ a. a.count ≡ min (length (received a.ring)) (2 ^ 64 - 1) };
 }
 
 impl OutLane {
-    // Posts the letter, or hands it back where no place is free.
-    pub(crate) fn post(&mut self, letter: Letter) -> Result<(), Letter>
+    // Posts the letter where a place is free, and tells whether it did.
+    pub(crate) fn post(&mut self, letter: Letter) -> bool
         requires { (letter.from.shard ≡ self.old.from) × (letter.to.shard ≡ self.old.to) }
         ensures same { (self.new.ring ≡ self.old.ring) × (self.new.from ≡ self.old.from) × (self.new.to ≡ self.old.to) }
-        ensures ok { OnOk result (self.new.posted ≡ self.old.posted ++ letter ∷ []) }
-        ensures full { IfErr result (λ back. (back ≡ letter) × (self.new.posted ≡ self.old.posted)) }
+        ensures posted { OnTrue result (self.new.posted ≡ self.old.posted ++ letter ∷ []) }
+        ensures full { OnFalse result ((self.new.posted ≡ self.old.posted) × (length self.old.posted ≡ self.new.capacity + self.new.seen)) }
         ensures knows { (self.new.capacity ≡ self.old.capacity) × (self.old.seen ≤ self.new.seen) }
-        ensures full_lane { IfErr result (λ _. length self.old.posted ≡ self.new.capacity + self.new.seen) }
-        ensures room { length self.old.posted < self.old.capacity + self.old.seen → IsOk result }
+        ensures room { length self.old.posted < self.old.capacity + self.old.seen → IsTrue result }
     {
-        match self.ring.push(Parcel::pack(letter)) {
-            Ok(()) => {
-                self.count = self.count.saturating_add(1);
-                Ok(())
-            }
-            Err(_) => Err(letter),
+        if self.ring.is_full() {
+            return false;
         }
+        self.ring.push_reserved(letter);
+        self.count = self.count.saturating_add(1);
+        true
     }
 
     // How many letters were posted.
@@ -74,20 +72,13 @@ impl OutLane {
 }
 
 impl InLane {
-    // Collects the oldest letter, or none where no letter shows.
-    pub(crate) fn collect(&mut self) -> Option<Letter>
-        ensures same { (self.new.ring ≡ self.old.ring) × (self.new.from ≡ self.old.from) × (self.new.to ≡ self.old.to) }
-        ensures some { IfSome result (λ letter. (self.new.collected ≡ self.old.collected ++ letter ∷ []) × IsPrefix self.old.known (letter ∷ self.new.known)) }
-        ensures shards { IfSome result (λ letter. (letter.from.shard ≡ self.old.from) × (letter.to.shard ≡ self.old.to)) }
-        ensures none { IfNone result ((self.new.collected ≡ self.old.collected) × (self.old.known ≡ []) × (self.new.known ≡ [])) }
+    // Whether a letter shows. What is known already is asked first, which leaves the other end's memory alone.
+    pub(crate) fn shows(&mut self) -> bool
+        ensures same { (self.new.ring ≡ self.old.ring) × (self.new.from ≡ self.old.from) × (self.new.to ≡ self.old.to) × (self.new.collected ≡ self.old.collected) }
+        ensures looked { IsPrefix self.old.known self.new.known }
+        ensures value { IsTrue result ↔ (0 < length self.new.known) }
     {
-        match self.ring.pop() {
-            Ok(parcel) => {
-                self.count = self.count.saturating_add(1);
-                Some(parcel.unpack(self.from, self.to))
-            }
-            Err(_) => None,
-        }
+        !self.ring.is_empty()
     }
 
     // How many letters were collected.
@@ -114,15 +105,19 @@ impl InLane {
         self.ring.cached_slots()
     }
 
-    // Takes the oldest letter that is known to wait.
+    // Takes the oldest letter that is known to wait. It stands whole in the ring, and names the desks of this lane.
     pub(crate) fn take_known(&mut self) -> Letter
         requires { 0 < length self.old.known }
         ensures same { (self.new.ring ≡ self.old.ring) × (self.new.from ≡ self.old.from) × (self.new.to ≡ self.old.to) }
         ensures taken { self.old.known ≡ result ∷ self.new.known }
+        ensures collected { self.new.collected ≡ self.old.collected ++ result ∷ [] }
+        ensures shards { (result.from.shard ≡ self.old.from) × (result.to.shard ≡ self.old.to) }
     {
-        let parcel = self.ring.pop_known();
+        let mut letter = self.ring.pop_known();
+        letter.from.shard = self.from;
+        letter.to.shard = self.to;
         self.count = self.count.saturating_add(1);
-        parcel.unpack(self.from, self.to)
+        letter
     }
 
     // Moves the letters that are known to wait to the end of the list, which has room for them.

@@ -36,9 +36,9 @@
 //! # Cost
 //!
 //! A post is one push and a collect one pop; a collect that finds nothing looks at each lane once. `open` takes the
-//! memory of desks * desks rings of `capacity` letters each, and nothing is allocated for a letter. A ring keeps of
-//! a letter what its lane does not tell: slots, versions, signal and stamp. `reunite` looks at each lane once and
-//! moves each left-over letter once.
+//! memory of desks * desks rings of `capacity` letters each, and nothing is allocated for a letter. A letter
+//! is moved whole, once into its ring and once out of it. `reunite` looks at each lane once and moves each left-over
+//! letter once.
 //!
 //! # For proofs above
 //!
@@ -50,7 +50,6 @@
 mod ends;
 mod lane;
 mod opening;
-mod parcel;
 mod reunion;
 #[cfg(test)]
 mod tests;

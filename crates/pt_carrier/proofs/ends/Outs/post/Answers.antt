@@ -1,10 +1,10 @@
-use Rattle.std.proofs.Common.{◌<◌, length, map, [], ◌∙◌, ap, arith, set, sym, ◌+◌}
+use Rattle.std.proofs.Common.{◌<◌, length, map, [], ◌∙◌, ap, arith, set, sym, refl, ◌+◌}
 use Rattle.std.proofs.lemmas.List.{length-map, map-set}
 use Rattle.pt_carrier.specs.Lanes.{Sending}
 use Rattle.pt_carrier.specs.Ends.{OutEnds}
 use Rattle.pt_carrier.proofs.Lists.{map-set_same, map-set_more, get_or-map_read, get_or-map_set_same}
 use Rattle.pt_carrier.proofs.ends.Outs.post.Goals as goal
-use Rattle.pt_carrier.proofs.ends.Outs.post.Goals.{in-Ok, in-Err}
+use Rattle.pt_carrier.proofs.ends.Outs.post.Goals.{then-post, else-post}
 
 pub returns-clause-place : goal.returns-clause-place
 returns-clause-place c =
@@ -21,9 +21,9 @@ returns-clause-ok c =
     let desks = length-map lanes (λ (s : Sending). s.ring) in
     let is_desks = ap (λ (o : OutEnds). length o.place.rings) c.self.view_is in
     let within : c.from.result < length lanes = omega (arith, desks, is_desks, c.requires.to, c.from.ensures) in
-    elim c.match-post.branch [
-      | in-Ok w ↦ rw (w.result-is, ← c.self.view_is, ← c.from.ensures) (map-set_more (λ (s : Sending). s.posted) lanes _ _ _ _ within c.index_mut.ensures.value w.in-Ok.ensures.ok)
-      | in-Err w ↦ rw w.result-is tt
+    elim c.if-post.branch [
+      | then-post w ↦ rw (w.result-is, ← c.self.view_is, ← c.from.ensures) (map-set_more (λ (s : Sending). s.posted) lanes _ _ _ _ within c.index_mut.ensures.value w.if-post.ensures.posted)
+      | else-post w ↦ rw w.result-is tt
     ]
 
 pub returns-clause-full : goal.returns-clause-full
@@ -32,13 +32,13 @@ returns-clause-full c =
     let desks = length-map lanes (λ (s : Sending). s.ring) in
     let is_desks = ap (λ (o : OutEnds). length o.place.rings) c.self.view_is in
     let within : c.from.result < length lanes = omega (arith, desks, is_desks, c.requires.to, c.from.ensures) in
-    elim c.match-post.branch [
-      | in-Ok w ↦ rw w.result-is tt
-      | in-Err w ↦ rw (w.result-is, ← c.self.view_is, ← c.from.ensures) (
-        w.in-Err.ensures.full.0,
-        map-set_same (λ (s : Sending). s.posted) lanes _ _ _ within c.index_mut.ensures.value w.in-Err.ensures.full.1,
-        ap length (get_or-map_set_same (λ (s : Sending). s.posted) lanes c.from.result c.post.new.self [] within ∙ w.in-Err.ensures.full.1)
-            ∙ w.in-Err.ensures.full_lane
+    elim c.if-post.branch [
+      | then-post w ↦ rw w.result-is tt
+      | else-post w ↦ rw (w.result-is, ← c.self.view_is, ← c.from.ensures) (
+        refl,
+        map-set_same (λ (s : Sending). s.posted) lanes _ _ _ within c.index_mut.ensures.value w.if-post.ensures.full.0,
+        ap length (get_or-map_set_same (λ (s : Sending). s.posted) lanes c.from.result c.post.new.self [] within ∙ w.if-post.ensures.full.0)
+            ∙ w.if-post.ensures.full.1
             ∙ sym (λ i. get_or-map_set_same (λ (s : Sending). s.capacity) lanes c.from.result c.post.new.self 0 within i + get_or-map_set_same (λ (s : Sending). s.seen) lanes c.from.result c.post.new.self 0 within i),
       )
     ]

@@ -1,6 +1,6 @@
 use Rattle.std.proofs.Common.{◌≡◌, ℕ, ◌<◌, ◌≤◌, ◌⊎◌, [], slice_index_or}
 use Rattle.pt_carrier.specs.Ends.{in_ends, ComeInTo, ShowNone}
-use Rattle.pt_carrier.proofs.ends.Ins.first_of.Given as goal
+use Rattle.pt_carrier.proofs.ends.Ins.first_among.Given as goal
 
 abbrev pub invariant-loop-d : goal.invariant-loop-d
 invariant-loop-d l =
