@@ -1,4 +1,14 @@
 -- A history, the newest event first: what each process is after it, and the letters on their way.
+--
+-- Letters, here and in all that stands on this:
+--   a b     pids, the sender and the receiver       p q     pids of any other part
+--   w t     pids, the watcher and the target        x       a signal
+--   e       an event; beside d, the number of a desk
+--   past    the events before                       s       a live process's state; in journals, a stamped event
+--   f       a phase: unborn, living or ended        r       an exit reason
+--   i j     link ids                                m n     references; of numbers, n is a stamp
+--   k       a pick                                  l       a letter, stamped or not
+--   d e     desks, by their numbers                 low top the number above which stamps begin, the highest version
 use Rattle.std.specs.Prelude.{◌≡◌, Bool, true, false, cond, ◌&&◌, ◌||◌, Option, Some, None, List, [], ◌∷◌, ◌++◌, map, filter, ⊤}
 use Rattle.std.specs.Map.{lookup}
 use Rattle.std.specs.List.{find}

@@ -1,5 +1,5 @@
-pub mod Text
 pub mod History
-pub mod JournalState
 pub mod Journal
 pub mod Locality
+pub mod JournalState
+pub mod Text

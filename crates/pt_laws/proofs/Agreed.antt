@@ -19,7 +19,7 @@ use Rattle.pt_signal.proofs.Same.{same_pid_is}
 use Rattle.pt_events.proofs.Local.{AllHome}
 use Rattle.pt_events.proofs.Homes.{life_home}
 use Rattle.pt_laws.proofs.Merged.{AllLocal, head_local, tail_local, all_home}
-use Rattle.pt_laws.proofs.Resumed.{over_life, over_flying, over_legal}
+use Rattle.pt_laws.proofs.Resumed.{over_alive, over_unborn, over_living, over_flying, over_legal}
 use Rattle.pt_events.proofs.Phases.{was_unborn}
 use Rattle.pt_laws.proofs.Takings.{has, empty_entry}
 use Rattle.pt_laws.proofs.Sides.{before, here, over}
@@ -158,12 +158,9 @@ home_joined (Flag p on ∷ new) old h k = home_joined new old h k
 home_joined (Left p r ∷ new) old h k = home_joined new old h k
 
 module _ (start : Start) (old : Past) (left : IsLeftBy start old) where
-  same : (new : Past) (p : Pid) → life start new p ≡ life [] (new ++ old) p
-  same = over_life [] start old left.legal left.quiet left.alike
-
   known_joined : (new : Past) → IsKnownSaid start new → IsKnownSaid [] old → IsKnownSaid [] (new ++ old)
   known_joined [] h k = k
-  known_joined (Said a b x ∷ new) h k = (λ e. ap is_unborn (sym (same new b)) ∙ h.0 e, known_joined new h.1 k)
+  known_joined (Said a b x ∷ new) h k = (λ e. sym (over_unborn [] start old left.alike new b) ∙ h.0 e, known_joined new h.1 k)
   known_joined (Born p q l ∷ new) h k = known_joined new h k
   known_joined (Came a b x ∷ new) h k = known_joined new h k
   known_joined (Took p j y ∷ new) h k = known_joined new h k
@@ -178,8 +175,9 @@ module _ (start : Start) (old : Past) (left : IsLeftBy start old) where
       let joined = over_legal [] start old left.legal left.quiet left.alike new fresh_ids l in
       let free = born_free [] (new ++ old) joined (known_joined new k2 k) (home_joined new old b2 b) in
       let law = links_agree (new ++ old) joined (sym (over_flying [] start old left.legal left.quiet left.alike new) ∙ s) free p q n
-      (ap is_living (sym (same new p)) ∙ lives) in (
-        λ h i. ap (λ f. holds_id (held (state_of f).links q) i) (same new p) ∙ law.0 (ap is_living (sym (same new q)) ∙ h) i
-            ∙ ap (λ f. holds_id (held (state_of f).links p) i) (sym (same new q)),
-        λ h. ap (λ f. held (state_of f).links q) (same new p) ∙ law.1 (ap is_living (sym (same new q)) ∙ h),
+      (sym (over_alive [] start old left.alike new p) ∙ lives) in
+      let same = over_living [] start old left.alike new p lives in (
+        λ h i. ap (λ f. holds_id (held (state_of f).links q) i) same ∙ law.0 (sym (over_alive [] start old left.alike new q) ∙ h) i
+            ∙ ap (λ f. holds_id (held (state_of f).links p) i) (sym (over_living [] start old left.alike new q h)),
+        λ h. ap (λ f. held (state_of f).links q) same ∙ law.1 (sym (over_alive [] start old left.alike new q) ∙ h),
       )

@@ -33,6 +33,8 @@ pub mod Monitors
 pub mod Quiet
 pub mod Resumed
 pub mod StartAfter
+pub mod Twice
+pub mod NewIds
 pub mod Entries
 pub mod Settled
 pub mod Holding

@@ -25,21 +25,21 @@ clock_above start low top d (s ∷ journal) h = let ih = clock_above start low t
 
 module _ (w : Pid) (m : Ref) where
   -- an event that makes m has the number of m as its stamp
-  says_new : (d n : ℕ) (e : Event) → IsNewAt d n e → m.number < n → says w (is_monitor m) e ≡ 0
-  says_new d n (Said a b x) h l = go (same_pid w a && is_monitor m x) refl
+  says_other : (d n : ℕ) (e : Event) → IsNewAt d n e → (m.number ≡ n → ⊥) → says w (is_monitor m) e ≡ 0
+  says_other d n (Said a b x) h l = go (same_pid w a && is_monitor m x) refl
     where
       number : (x : Signal) → IsNewAt d n (Said a b x) → is_monitor m x ≡ true → m.number ≡ n
       number (Monitor k) h e = ap (λ z. z.number) (same_ref_is m k e) ∙ h.1
       number _ h e = absurd (false≢true e)
 
       go : (c : Bool) → (same_pid w a && is_monitor m x) ≡ c → one_if (same_pid w a && is_monitor m x) ≡ 0
-      go true e = let k = number x h (and_parts (same_pid w a) (is_monitor m x) e).1 in absurd (omega arith)
+      go true e = absurd (l (number x h (and_parts (same_pid w a) (is_monitor m x) e).1))
       go false e = rw e refl
-  says_new d n (Born q p l) h k = refl
-  says_new d n (Came a b x) h k = refl
-  says_new d n (Took q k i) h l = refl
-  says_new d n (Flag q on) h k = refl
-  says_new d n (Left q r) h k = refl
+  says_other d n (Born q p l) h k = refl
+  says_other d n (Came a b x) h k = refl
+  says_other d n (Took q k i) h l = refl
+  says_other d n (Flag q on) h k = refl
+  says_other d n (Left q r) h k = refl
 
   said_new : (start : Start) (low top d : ℕ) (journal : List Stamped) → IsLocal start low top d journal → m.number ≤ low → said_times w (is_monitor m) (events journal) ≡ 0
   said_new start low top d [] h k = refl
@@ -47,7 +47,17 @@ module _ (w : Pid) (m : Ref) where
       let ih = said_new start low top d journal h.1 k in
       let c = clock_above start low top d journal h.1 in
       let l = h.0.later in
-      let n = says_new d s.stamp s.event h.0.new_at (omega arith) in
+      let n = says_other d s.stamp s.event h.0.new_at (λ e. absurd (omega arith)) in
+      omega arith
+
+-- nor one above the clock
+module _ (w : Pid) (m : Ref) where
+  pub said_under : (start : Start) (low top d : ℕ) (journal : List Stamped) → IsLocal start low top d journal → clock low journal < m.number → said_times w (is_monitor m) (events journal) ≡ 0
+  said_under start low top d [] h k = refl
+  said_under start low top d (s ∷ journal) h k =
+      let l = h.0.later in
+      let ih = said_under start low top d journal h.1 (omega arith) in
+      let n = says_other w m d s.stamp s.event h.0.new_at (λ e. absurd (omega arith)) in
       omega arith
 
 pub made_once_local : (start : Start) (low top d : ℕ) (journal : List Stamped) (w : Pid) (m : Ref) → HasOldRefs low start → IsLocal start low top d journal → IsMadeOnce start (events journal) w m

@@ -1,17 +1,23 @@
 -- A history that goes on from another one.
-use Rattle.std.specs.Prelude.{◌≡◌, false, [], ◌∷◌, map, ⊤}
+use Rattle.std.specs.Prelude.{◌≡◌, ℕ, ◌<◌, false, Option, Some, None, [], ◌∷◌, map, ⊤}
 use Rattle.pt_signal.specs.declared.pid.Pid.{Pid}
 use Rattle.pt_events.specs.declared.event.Event.{Event}
 use Rattle.pt_events.specs.declared.event.Event.TheVariants.{Born, Said}
 use Rattle.pt_signal.specs.declared.signal.Signal.TheVariants.{Link, Monitor, AliveAsk}
 use Rattle.pt_signal.specs.declared.ids.LinkId.{LinkId}
-use Rattle.std.specs.Prelude.{Option, Some, None}
-use Rattle.pt_events.specs.History.{Past, Start, at_start, life, made_link, made_ref, IsLegal}
+use Rattle.pt_signal.specs.declared.ids.Ref.{Ref}
+use Rattle.pt_signal.specs.Process.{fresh}
+use Rattle.pt_events.specs.History.{Past, Start, Phase, ended, at_start, life, made_link, made_ref, IsLegal}
 use Rattle.pt_laws.specs.Load.{IsQuiet, pids}
 
--- what each pid is after the history, as the start of the next
+-- of an ended process its reason, and nothing that it held
+abbrev pub outcome : Phase → Phase
+outcome (ended r s) = ended r fresh
+outcome f = f
+
+-- what each pid is after the history, as the start of the next; of an ended one its reason and nothing else
 abbrev pub start_after : Start → Past → Start
-start_after start past = map (λ p. (p, life start past p)) (pids start past)
+start_after start past = map (λ p. (p, outcome (life start past p))) (pids start past)
 
 -- the ids and references that the event makes were not made in the history
 abbrev pub IsNewLink : Past → Option LinkId → Type 0
@@ -29,8 +35,12 @@ abbrev pub AllNewTo : Past → Past → Type 0
 AllNewTo old [] = ⊤
 AllNewTo old (e ∷ past) = IsNewTo old e × AllNewTo old past
 
+-- the history makes no id and no reference that is numbered above n
+abbrev pub MadeUpTo : ℕ → Past → Type 0
+MadeUpTo n past = ((i : LinkId) → n < i.number → made_link past i ≡ false) × ((m : Ref) → n < m.number → made_ref past m ≡ false)
+
 -- the start is what `old` left behind, a legal and quiet history from the very beginning
 pub record IsLeftBy (start : Start) (old : Past) : Type 0 where
   pub legal : IsLegal [] old
   pub quiet : IsQuiet [] old
-  pub alike : (p : Pid) → at_start start p ≡ life [] old p
+  pub alike : (p : Pid) → at_start start p ≡ outcome (life [] old p)

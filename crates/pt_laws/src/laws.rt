@@ -5,7 +5,8 @@ ghost use Rattle.pt_laws.specs.Lives.{LivesOnce, StaysEnded, NothingAfterEnd, Al
 ghost use Rattle.pt_laws.specs.Words.{TrapIsLastFlag, HeldSince, IsHeldSince, PeersSince, OpenSince, IsOpenSince, KeptSince, IsKeptSince};
 ghost use Rattle.pt_laws.specs.JournalLaws.{ReadLocally, SentLocally, JournalsSay, MergeIsThere, MergeIsOne};
 ghost use Rattle.pt_laws.specs.Taken.{TakenByPosition};
-ghost use Rattle.pt_laws.specs.Laws.{CameOrFlies, SenderFront, MergeLegal, ResumedLegal, ResumedSame, ResumedStart, EmptyIsLeft, LeftAgain};
+ghost use Rattle.pt_laws.specs.Laws.{CameOrFlies, SenderFront, MergeLegal};
+ghost use Rattle.pt_laws.specs.ResumedLaws.{ResumedLegal, ResumedSame, ResumedStart, ResumedTwice, EmptyIsLeft, LeftAgain, StampsNumber, BothNumber, StampsAreNew, OldRefsResumed};
 ghost use Rattle.pt_laws.specs.MonitorLaws.{OneDown, MadeOnce, MadeOnceLocal, EmptyHasOldRefs, MadeOnceResumed, QuietMonitor, QuietWatch, QuietMonitorOver, QuietWatchOver};
 ghost use Rattle.pt_laws.specs.LoadLaws.{LoadFalls, ReceiptsBounded, QuietFlights, EmptyIsQuiet, OldestMayCome, OneReceipt, ReceiptLowers, LoadByDesk};
 ghost use Rattle.pt_laws.specs.Headline.{HeadlineHolds};
@@ -156,15 +157,27 @@ pub fn quiet_monitors()
 {}
 
 /// A legal and quiet history, followed by one that is legal over its state and makes new link ids and references,
-/// is legal; each pid and each flight is then what it is after both. So every law of legal histories holds of a
-/// history that goes on from another one. The state after it is again a start as these laws want it: a start that a
-/// history from the very beginning left behind, as the empty start is, after any number of resumptions.
+/// is legal. Each flight is then what it is after both, and so is each pid, but that nothing is left of one that had
+/// ended before but its reason. So every law of legal histories holds of a history that goes on from another one. The
+/// state after it is again a start as these laws want it, and to go on twice is to go on once with both histories: so
+/// a start that a history from the very beginning left behind, as the empty start is, leaves one again, any number of
+/// times.
 pub fn resumed_is_legal()
     ensures legal { ResumedLegal }
     ensures same { ResumedSame }
     ensures start { ResumedStart }
+    ensures twice { ResumedTwice }
     ensures empty { EmptyIsLeft }
     ensures again { LeftAgain }
+{}
+
+/// Journals make ids and references that are numbered by their stamps. So those that go on above the stamps of all
+/// earlier ones, after any number of resumptions, make new ones, and each monitor is made once.
+pub fn stamps_make_new_ids()
+    ensures numbers { StampsNumber }
+    ensures both { BothNumber }
+    ensures new { StampsAreNew }
+    ensures open { OldRefsResumed }
 {}
 
 /// An answer to the question whether a process is alive says whether it was alive just before the question came to

@@ -1,9 +1,12 @@
-use Rattle.std.proofs.Common.{◌≡◌, ◌+◌, ◌++◌, [], refl, sym, ap, ◌∙◌, subst, subst₂}
-use Rattle.pt_events.specs.History.{Phase, is_living}
+use Rattle.std.proofs.Common.{◌≡◌, ℕ, ◌+◌, ◌++◌, [], refl, sym, ap, ◌∙◌, subst, subst₂}
+use Rattle.pt_signal.specs.declared.pid.Pid.{Pid}
+use Rattle.pt_signal.specs.declared.ids.Ref.{Ref}
+use Rattle.pt_laws.specs.Resumed.{outcome, IsLeftBy}
+use Rattle.pt_events.specs.History.{Past, Start, Phase, unborn, living, ended, life}
 use Rattle.pt_laws.specs.MonitorLaws.{QuietMonitor, QuietWatch, demonitors_and_downs}
 use Rattle.pt_laws.specs.Watch.{open_in, kept_in}
 use Rattle.pt_laws.proofs.Quiet.{open_is_kept, kept_by_none, one_of_three}
-use Rattle.pt_laws.proofs.Resumed.{over_legal, over_life, over_flying}
+use Rattle.pt_laws.proofs.Resumed.{over_legal, over_alive, over_outcome, over_living, over_flying}
 use Rattle.pt_laws.proofs.laws.quiet_monitors.Goals as goal
 
 monitors : QuietMonitor
@@ -11,6 +14,16 @@ monitors past w t m legal quiet lives said = (one_of_three m w t past legal quie
 
 watches : QuietWatch
 watches past w t m legal quiet = kept_by_none m w t past legal quiet
+
+-- what an outcome keeps for a live process
+kept_outcome : (w t : Pid) (m : Ref) (f : Phase) → kept_in w t m f ≡ kept_in w t m (outcome f)
+kept_outcome w t m unborn = refl
+kept_outcome w t m (living s) = refl
+kept_outcome w t m (ended r s) = refl
+
+same_kept : (start : Start) (old past : Past) (w t : Pid) (m : Ref) → IsLeftBy start old → kept_in w t m (life start past t) ≡ kept_in w t m (life [] (past ++ old) t)
+same_kept start old past w t m left =
+    kept_outcome w t m (life start past t) ∙ ap (kept_in w t m) (over_outcome [] start old left.alike past t) ∙ sym (kept_outcome w t m (life [] (past ++ old) t))
 
 pub returns-clause-monitors : goal.returns-clause-monitors
 returns-clause-monitors c = monitors
@@ -20,14 +33,12 @@ returns-clause-watches c = watches
 
 pub returns-clause-over_monitors : goal.returns-clause-over_monitors
 returns-clause-over_monitors c start old past w t m left fresh legal quiet lives said =
-    let same = over_life [] start old left.legal left.quiet left.alike past in
     let r = monitors (past ++ old) w t m (over_legal [] start old left.legal left.quiet left.alike past fresh legal)
-    (sym (over_flying [] start old left.legal left.quiet left.alike past) ∙ quiet) (ap is_living (sym (same w)) ∙ lives) said in
-    subst₂ (λ (f g : Phase). (demonitors_and_downs [] (past ++ old) w m + kept_in w t m f ≡ 1) × (open_in w t m g ≡ kept_in w t m f)) (sym (same t)) (sym (same w)) r
+    (sym (over_flying [] start old left.legal left.quiet left.alike past) ∙ quiet) (sym (over_alive [] start old left.alike past w) ∙ lives) said in
+    subst₂ (λ (k : ℕ) (g : Phase). (demonitors_and_downs [] (past ++ old) w m + k ≡ 1) × (open_in w t m g ≡ k)) (sym (same_kept start old past w t m left)) (sym (over_living [] start old left.alike past w lives)) r
 
 pub returns-clause-over_watches : goal.returns-clause-over_watches
 returns-clause-over_watches c start old past w t m left fresh legal quiet gone =
-    let same = over_life [] start old left.legal left.quiet left.alike past in
     let r = watches (past ++ old) w t m (over_legal [] start old left.legal left.quiet left.alike past fresh legal)
-    (sym (over_flying [] start old left.legal left.quiet left.alike past) ∙ quiet) (ap is_living (sym (same w)) ∙ gone) in
-    subst (λ (f : Phase). kept_in w t m f ≡ 0) (sym (same t)) r
+    (sym (over_flying [] start old left.legal left.quiet left.alike past) ∙ quiet) (sym (over_alive [] start old left.alike past w) ∙ gone) in
+    same_kept start old past w t m left ∙ r

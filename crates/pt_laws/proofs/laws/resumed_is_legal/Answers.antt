@@ -1,16 +1,21 @@
 use Rattle.std.proofs.Common.{refl}
-use Rattle.pt_laws.proofs.Resumed.{resumed, same_life, same_flying, all_new, left_again}
+use Rattle.pt_laws.proofs.Resumed.{resumed, same_life, same_end, same_flying, all_new, left_again}
 use Rattle.pt_laws.proofs.StartAfter.{is_start, one_entry_each, keeps_once}
+use Rattle.pt_laws.proofs.Twice.{twice}
 use Rattle.pt_laws.proofs.laws.resumed_is_legal.Goals as goal
 
 pub returns-clause-legal : goal.returns-clause-legal
 returns-clause-legal c start old new ok legal quiet n h = resumed start ok old legal quiet new n h
 
 pub returns-clause-same : goal.returns-clause-same
-returns-clause-same c start old new ok legal quiet = (same_life start ok old legal quiet new, same_flying start ok old legal quiet new)
+returns-clause-same c start old new ok legal quiet =
+    (λ p h. same_life start ok old p h new, λ p r s h. same_end start ok old p r s h new, same_flying start ok old legal quiet new)
 
 pub returns-clause-start : goal.returns-clause-start
 returns-clause-start c start old ok legal quiet = (is_start start ok old legal quiet, one_entry_each start ok old legal quiet, keeps_once start ok old legal quiet)
+
+pub returns-clause-twice : goal.returns-clause-twice
+returns-clause-twice c start one two ok = twice start ok one two
 
 pub returns-clause-empty : goal.returns-clause-empty
 returns-clause-empty c = (record { legal = tt; quiet = refl; alike = λ p. refl }, all_new)
