@@ -1,5 +1,5 @@
 -- Lanes that agree go on agreeing where more is posted, and where the oldest letter left over comes.
-use Rattle.std.proofs.Common.{◌≡◌, List, [], ◌∷◌, ◌++◌, refl, sym, ap, subst}
+use Rattle.std.proofs.Common.{List, [], ◌∷◌, ◌++◌, refl, sym, ap, subst}
 use Rattle.pt_signal.specs.declared.letter.Letter.{Letter}
 use Rattle.pt_events.specs.Journal.{Agrees, IsReceiptOf}
 

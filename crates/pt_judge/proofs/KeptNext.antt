@@ -1,5 +1,5 @@
 -- The table and the signals on their way, after one event more.
-use Rattle.std.proofs.Common.{◌≡◌, Bool, true, false, cond, not, ◌||◌, Option, Some, None, List, [], ◌∷◌, ◌++◌, refl, ap, ap₂, sym, ◌∙◌, subst₂}
+use Rattle.std.proofs.Common.{◌≡◌, Bool, true, false, cond, not, ◌||◌, Option, Some, None, [], ◌∷◌, ◌++◌, refl, ap, ap₂, sym, ◌∙◌, subst₂}
 use Rattle.pt_signal.specs.declared.pid.Pid.{Pid}
 use Rattle.pt_signal.specs.declared.reason.Reason.{Reason}
 use Rattle.pt_signal.specs.declared.signal.Signal.{Signal}
@@ -7,7 +7,7 @@ use Rattle.pt_signal.specs.declared.signal.Signal.TheVariants.{AliveAsk}
 use Rattle.pt_events.specs.declared.event.Event.{Event}
 use Rattle.pt_events.specs.declared.event.Event.TheVariants.{Born, Said, Came, Took, Flag, Left}
 use Rattle.pt_signal.specs.Values.{same_pid}
-use Rattle.pt_signal.specs.Process.{ProcessState, handle, Sent, bounce}
+use Rattle.pt_signal.specs.Process.{ProcessState, handle, bounce}
 use Rattle.pt_events.specs.History.{Past, Start, Phase, unborn, living, ended, is_living, is_unborn, at_start, after, live_or_end, reason_of, state_of, end_sends, got_sends, left_sends, landed, life, flying, sent_by}
 use Rattle.pt_judge.specs.declared.cause.Cause.{Cause}
 use Rattle.pt_judge.specs.declared.cause.Cause.TheVariants.{BornTwice}

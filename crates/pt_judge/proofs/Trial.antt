@@ -1,5 +1,5 @@
 -- The judgement of one event more.
-use Rattle.std.proofs.Common.{◌≡◌, ℕ, ◌+◌, ◌<◌, Option, Some, None, Ok, Err, List, [], ◌∷◌, take, reverse, length, get_or, slice_get, sym, ap, ◌∙◌, subst}
+use Rattle.std.proofs.Common.{◌≡◌, ℕ, ◌+◌, ◌<◌, Option, Some, None, Ok, Err, List, [], take, reverse, length, get_or, sym, ap, ◌∙◌, subst}
 use Rattle.std.proofs.lemmas.Option.{slice_get-get_or}
 use Rattle.pt_judge.specs.declared.cause.Cause.{Cause}
 use Rattle.pt_judge.specs.declared.cause.Cause.TheVariants.{BornTwice, NotAlive, NotFront, NotFirstMatch, Unlawful, Memory}
@@ -7,7 +7,7 @@ use Rattle.pt_events.specs.declared.event.Event.{Event}
 use Rattle.pt_events.specs.declared.event.Event.TheVariants.{Born, Said, Came, Took, Flag, Left}
 use Rattle.pt_events.specs.History.{Past, Start, May, IsLegal}
 use Rattle.pt_judge.specs.Judge.{Refuses, IsCause, IsJudged, IsAfter, Judges, FailsAt, Fails}
-use Rattle.pt_judge.specs.Judging.{JudgeState, Known, now_is, known, known_after, cause}
+use Rattle.pt_judge.specs.Judging.{JudgeState, now_is, known, known_after, cause}
 use Rattle.pt_judge.proofs.Judge.{no_cause}
 use Rattle.pt_judge.proofs.Judged.{judged}
 use Rattle.pt_events.proofs.InOrder.{reverse_take}

@@ -1,5 +1,5 @@
 -- Why an event may not come.
-use Rattle.std.specs.Prelude.{◌≡◌, ℕ, ◌<◌, true, false, Option, Some, None, Ok, Err, List, [], ◌∷◌, length, reverse, take, slice_get}
+use Rattle.std.specs.Prelude.{◌≡◌, ℕ, ◌<◌, true, false, Option, Some, None, Ok, Err, List, ◌∷◌, length, reverse, take, slice_get}
 use Rattle.std.specs.declared.result.Result.{Result}
 use Rattle.std.specs.List.{find}
 use Rattle.pt_signal.specs.declared.pid.Pid.{Pid}

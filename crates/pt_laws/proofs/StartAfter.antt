@@ -9,14 +9,14 @@ use Rattle.pt_signal.specs.Process.{ProcessState, fresh, same_watch}
 use Rattle.pt_events.specs.History.{Past, Start, Phase, unborn, living, ended, life, state, state_of, at_start, is_unborn, IsLegal}
 use Rattle.pt_laws.specs.Load.{IsStart, IsQuiet, times, pids}
 use Rattle.pt_laws.specs.Watch.{count, is_monitor, said_times}
-use Rattle.pt_laws.specs.Resumed.{outcome, start_after, AllNewTo}
+use Rattle.pt_laws.specs.Resumed.{outcome, start_after, AllNewTo, IsLeftBy}
 use Rattle.pt_laws.specs.MonitorLaws.{IsMadeOnce}
 use Rattle.pt_laws.specs.Words.{HasOneEntryEach, KeepsEachOnce}
 use Rattle.pt_laws.proofs.Load.{born_once}
 use Rattle.pt_laws.proofs.Downs.{opens, count_law}
 use Rattle.pt_laws.proofs.Acts.{legal_acts}
 use Rattle.pt_laws.proofs.Monitors.{said_once}
-use Rattle.pt_laws.proofs.Resumed.{started, outcome_unborn, resumed}
+use Rattle.pt_laws.proofs.Resumed.{started, outcome_unborn, over_legal}
 use Rattle.pt_laws.proofs.LinksSince.{keyed}
 use Rattle.pt_laws.proofs.WatchesSince.{kept_once}
 
@@ -52,13 +52,12 @@ said_times-append : (w : Pid) (test : Signal → Bool) (new old : Past) → said
 said_times-append w test [] old = omega arith
 said_times-append w test (e ∷ new) old = let ih = said_times-append w test new old in omega arith
 
-empty_start : IsStart []
-empty_start p = refl
-
-pub made_once : (old new : Past) (w : Pid) (m : Ref) → IsLegal [] old → IsQuiet [] old → AllNewTo old new → IsLegal (start_after [] old) new → IsMadeOnce (start_after [] old) new w m
-made_once old new w m legal quiet fresh h =
-    let law = count_law [] m w old (legal_acts [] old legal) in
-    let once = said_once m w [] (new ++ old) (legal_acts [] (new ++ old) (resumed [] empty_start old legal quiet new fresh h)) in
-    let split = said_times-append w (is_monitor m) new old in
-    let begun = opened [] empty_start old w m in
+pub made_once : (start : Start) (old past : Past) (w : Pid) (m : Ref) → IsLeftBy start old → AllNewTo old past → IsLegal start past → IsMadeOnce start past w m
+made_once start old past w m left fresh h =
+    let law = count_law [] m w old (legal_acts [] old left.legal) in
+    let once = said_once m w [] (past ++ old) (legal_acts [] (past ++ old) (over_legal [] start old left.legal left.quiet left.alike past fresh h)) in
+    let split = said_times-append w (is_monitor m) past old in
+    let begun : opens m (state start [] w).watching ≤ opens m (state [] old w).watching =
+    subst (λ f. opens m (state_of f).watching ≤ opens m (state [] old w).watching) (sym (left.alike w)) (less (λ s. opens m s.watching) refl (life [] old w))
+    in
     omega arith

@@ -8,7 +8,7 @@ use Rattle.pt_events.specs.History.{Past, Start, IsLegal, life, state, alive, ar
 use Rattle.pt_events.specs.Journal.{IsLocal, events}
 use Rattle.pt_laws.specs.Acts.{ActsMayCome}
 use Rattle.pt_laws.specs.Load.{IsQuiet}
-use Rattle.pt_laws.specs.Resumed.{start_after, AllNewTo, IsLeftBy}
+use Rattle.pt_laws.specs.Resumed.{AllNewTo, IsLeftBy}
 use Rattle.pt_laws.specs.Watch.{count, is_monitor, is_demonitor, is_down_item, said_times, said_to, open_in, kept_in}
 
 -- how often w said Demonitor m, and the DOWNs of m that arrived at w
@@ -43,11 +43,11 @@ MadeOnceLocal =
     (start : Start) (low top d : ℕ) (journal : List Stamped) (w : Pid) (m : Ref) → HasOldRefs low start → IsLocal start low top d journal
     → IsMadeOnce start (events journal) w m
 
--- so it is where a history goes on from a legal and quiet one and makes new references
-abbrev pub MadeOnceResumed : Type 0
-MadeOnceResumed =
-    (old new : Past) (w : Pid) (m : Ref) → IsLegal [] old → IsQuiet [] old → AllNewTo old new → IsLegal (start_after [] old) new
-    → IsMadeOnce (start_after [] old) new w m
+-- so it is over every start that was left behind, where new references are made
+abbrev pub MadeOnceOver : Type 0
+MadeOnceOver =
+    (start : Start) (old past : Past) (w : Pid) (m : Ref) → IsLeftBy start old → AllNewTo old past → IsLegal start past
+    → IsMadeOnce start past w m
 
 -- in a quiet history the monitor m that a live w made of t was demonitored, or had its one DOWN, or is open at w and kept by a live t
 abbrev pub QuietMonitor : Type 0

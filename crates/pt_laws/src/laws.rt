@@ -7,7 +7,7 @@ ghost use Rattle.pt_laws.specs.JournalLaws.{ReadLocally, SentLocally, JournalsSa
 ghost use Rattle.pt_laws.specs.Taken.{TakenByPosition};
 ghost use Rattle.pt_laws.specs.Laws.{CameOrFlies, SenderFront, MergeLegal};
 ghost use Rattle.pt_laws.specs.ResumedLaws.{ResumedLegal, ResumedSame, ResumedStart, ResumedTwice, EmptyIsLeft, LeftAgain, StampsNumber, BothNumber, StampsAreNew, OldRefsResumed};
-ghost use Rattle.pt_laws.specs.MonitorLaws.{OneDown, MadeOnce, MadeOnceLocal, EmptyHasOldRefs, MadeOnceResumed, QuietMonitor, QuietWatch, QuietMonitorOver, QuietWatchOver};
+ghost use Rattle.pt_laws.specs.MonitorLaws.{OneDown, MadeOnce, MadeOnceLocal, EmptyHasOldRefs, MadeOnceOver, QuietMonitor, QuietWatch, QuietMonitorOver, QuietWatchOver};
 ghost use Rattle.pt_laws.specs.LoadLaws.{LoadFalls, ReceiptsBounded, QuietFlights, EmptyIsQuiet, OldestMayCome, OneReceipt, ReceiptLowers, LoadByDesk};
 ghost use Rattle.pt_laws.specs.Headline.{HeadlineHolds};
 ghost use Rattle.pt_laws.specs.Asking.{AnswersAreTrue};
@@ -99,15 +99,15 @@ pub fn merge_is_legal()
     ensures { MergeLegal }
 {}
 
-/// A monitor has one `DOWN` at most, and none where it was demonitored. From the empty start each reference is
-/// made once, and so it is in a journal that goes on from a start whose references are numbered below its stamps, and
-/// in a history that goes on from a legal and quiet one.
+/// A monitor has one `DOWN` at most, and none where it was demonitored. From the empty start each monitor is made
+/// once, and so it is in a journal that goes on from a start whose references are numbered below its stamps, and over
+/// every start state that a legal and quiet history left behind.
 pub fn one_down()
     ensures down { OneDown }
     ensures made { MadeOnce }
     ensures local { MadeOnceLocal }
     ensures empty { EmptyHasOldRefs }
-    ensures resumed { MadeOnceResumed }
+    ensures over { MadeOnceOver }
 {}
 
 /// The headline, where each desk's journal is local and the lanes agree. Of each sender the messages to each mailbox,

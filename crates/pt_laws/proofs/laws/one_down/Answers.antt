@@ -17,5 +17,5 @@ returns-clause-local c = made_once_local
 pub returns-clause-empty : goal.returns-clause-empty
 returns-clause-empty c low w m = (omega arith, λ l. refl)
 
-pub returns-clause-resumed : goal.returns-clause-resumed
-returns-clause-resumed c = made_once
+pub returns-clause-over : goal.returns-clause-over
+returns-clause-over c = made_once

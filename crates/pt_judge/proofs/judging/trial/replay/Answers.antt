@@ -1,4 +1,4 @@
-use Rattle.std.proofs.Common.{◌≡◌, ap, reverse, subst, take, []}
+use Rattle.std.proofs.Common.{◌≡◌, reverse, subst, take, []}
 use Rattle.std.proofs.lemmas.List.{take_all}
 use Rattle.pt_events.specs.History.{IsLegal}
 use Rattle.pt_judge.specs.Judge.{IsAfter}
