@@ -10,7 +10,7 @@ use Rattle.pt_events.specs.declared.event.Stamped.{Stamped}
 use Rattle.pt_signal.specs.Values.{same_pid}
 use Rattle.pt_signal.specs.Process.{held}
 use Rattle.pt_events.specs.History.{Past, Start, Phase, unborn, living, ended, life, state_of, alive, is_living, is_unborn, made_link, IsLegal}
-use Rattle.pt_laws.specs.Load.{IsQuiet, IsStart, one_if}
+use Rattle.pt_laws.specs.Load.{IsQuiet, one_if}
 use Rattle.pt_laws.specs.Watch.{said_to}
 use Rattle.pt_laws.specs.Links.{is_link, holds_id, IsKnownSaid, IsBornHome, IsNewTie, IsBornFree, LinksAgree}
 use Rattle.pt_events.specs.Journal.{Journals, events, of_desk, IsOf, IsHome, IsKnown, IsLocal, IsMerge}

@@ -8,8 +8,8 @@ use Rattle.pt_signal.specs.Process.{Sent}
 use Rattle.pt_events.specs.declared.event.Event.{Event}
 use Rattle.pt_events.specs.declared.event.Event.TheVariants.{Born, Said, Came, Took, Flag, Left}
 use Rattle.pt_events.specs.declared.event.Stamped.{Stamped}
-use Rattle.pt_events.specs.History.{Past, Start, unborn, at_start, life, is_unborn, flying, sent_by}
-use Rattle.pt_events.specs.Journal.{Journals, LanesAgree, IsLocal, IsMerge, IsHome, Agrees, events, of_desk, letter, content, posts, gots, in_lane}
+use Rattle.pt_events.specs.History.{Past, Start, life, is_unborn, flying, sent_by}
+use Rattle.pt_events.specs.Journal.{Journals, LanesAgree, IsMerge, IsHome, Agrees, events, of_desk, letter, content, posts, gots, in_lane}
 use Rattle.pt_events.specs.Locality.{AllHome}
 use Rattle.pt_laws.specs.Load.{weight, weights, size, total, pids, IsStart, load, desk_sizes, below, left_weight, load_by_desk}
 use Rattle.pt_laws.specs.Laws.{LanesFly}

@@ -1,7 +1,7 @@
 -- Local journals of finitely many desks have a merge: each event is put in its place, the oldest first.
-use Rattle.std.proofs.Common.{◌≡◌, ℕ, zero, suc, ◌<◌, ◌≤◌, ◌==◌, ◌&&◌, ◌||◌, Bool, true, false, cond, ltb, ◌⊎◌, inl, inr, ⊎_elim, List, [], ◌∷◌, filter, refl, sym, ap, ◌∙◌, subst, arith}
+use Rattle.std.proofs.Common.{◌≡◌, ℕ, zero, suc, ◌<◌, ◌≤◌, ◌==◌, ◌&&◌, ◌||◌, Bool, true, false, cond, ltb, ◌⊎◌, inl, inr, ⊎_elim, List, [], ◌∷◌, refl, sym, ap, ◌∙◌, subst, arith}
 use Rattle.std.specs.Prelude.{⊤}
-use Rattle.std.proofs.lemmas.Bool.{eqb-true, eq-eqb, lt-ltb, both_ways, ne_eqb, ltb-true, cases_lt}
+use Rattle.std.proofs.lemmas.Bool.{eq-eqb, lt-ltb, both_ways, ne_eqb, ltb-true, cases_lt}
 use Rattle.pt_events.specs.declared.event.Stamped.{Stamped}
 use Rattle.pt_events.specs.History.{Start}
 use Rattle.pt_events.specs.Journal.{Journals, IsLocal, IsMerge, IsRising, AllBefore, IsAfter, clock, of_desk}

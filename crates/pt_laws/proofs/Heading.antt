@@ -1,5 +1,5 @@
 -- The headline, clause by clause.
-use Rattle.std.proofs.Common.{◌≡◌, ℕ, ◌+◌, ◌≤◌, Bool, true, false, not, List, [], ◌++◌, ap, ◌∙◌, refl, arith}
+use Rattle.std.proofs.Common.{◌≡◌, ℕ, ◌+◌, ◌≤◌, Bool, true, false, not, List, ap, ◌∙◌, arith}
 use Rattle.pt_signal.specs.declared.pid.Pid.{Pid}
 use Rattle.pt_signal.specs.declared.ids.Ref.{Ref}
 use Rattle.pt_signal.specs.declared.letter.Letter.{Letter}
@@ -9,7 +9,7 @@ use Rattle.pt_laws.specs.Load.{one_if}
 use Rattle.pt_laws.specs.Lives.{births}
 use Rattle.pt_laws.specs.Acts.{ActsMayCome}
 use Rattle.pt_laws.specs.MonitorLaws.{demonitors_and_downs, IsMadeOnce, HasOldRefs}
-use Rattle.pt_laws.specs.Headline.{at_home, IsHeadline}
+use Rattle.pt_laws.specs.Headline.{IsHeadline}
 use Rattle.pt_laws.proofs.Acts.{local_acts}
 use Rattle.pt_laws.proofs.AfterEnd.{nothing_after_end}
 use Rattle.pt_laws.proofs.BirthsAndEnds.{born_once}

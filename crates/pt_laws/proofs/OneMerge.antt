@@ -1,8 +1,8 @@
 -- Two merges of the same journals are the same.
-use Rattle.std.proofs.Common.{◌≡◌, ℕ, ◌<◌, Bool, true, false, cond, ◌==◌, ◌⊎◌, inl, inr, List, [], ◌∷◌, refl, sym, ap, ◌∙◌, subst, ⊎_elim, arith}
+use Rattle.std.proofs.Common.{◌≡◌, ℕ, Bool, true, false, ◌==◌, inl, inr, List, [], ◌∷◌, refl, sym, ◌∙◌, subst, arith}
 use Rattle.std.proofs.lemmas.Bool.{eq-eqb, eqb-true}
 use Rattle.pt_events.specs.declared.event.Stamped.{Stamped}
-use Rattle.pt_events.specs.Journal.{Journals, IsMerge, IsRising, AllBefore, IsAfter, of_desk}
+use Rattle.pt_events.specs.Journal.{IsRising, AllBefore, IsAfter, of_desk}
 
 head_is : (s t : Stamped) (xs ys : List Stamped) → s ∷ xs ≡ t ∷ ys → s ≡ t
 head_is s t xs ys h = cc

@@ -13,7 +13,7 @@ use Rattle.pt_events.specs.declared.event.Event.{Event}
 use Rattle.pt_events.specs.declared.event.Event.TheVariants.{Born, Said, Came, Flag}
 use Rattle.pt_signal.specs.Values.{same_pid, same_ref}
 use Rattle.pt_signal.specs.Process.{or_else, id_list, has_id, held, same_watch}
-use Rattle.pt_events.specs.History.{Past, Start, Phase, living, open_monitors, at_start, life, after, state, state_of, is_living}
+use Rattle.pt_events.specs.History.{Past, Start, Phase, open_monitors, at_start, life, after, state, state_of, is_living}
 use Rattle.pt_laws.specs.Acts.{ActsMayCome}
 use Rattle.pt_laws.specs.Watch.{count}
 use Rattle.pt_laws.specs.Lives.{ends_with}
