@@ -1,0 +1,18 @@
+-- Reading step by step: the first fault that is met ends it.
+use Rattle.std.specs.Prelude.{◌≡◌, List, [], ◌∷◌, Option, Some, None, Result, Ok, Err}
+use Rattle.pt_script.specs.declared.fault.Fault.{Fault}
+
+infixl 10 ◌>>=◌
+abbrev pub ◌>>=◌ : {A B E : Type 0} → Result A E → (A → Result B E) → Result B E
+(Ok x) >>= f = f x
+(Err e) >>= f = Err e
+
+-- Each item of a list takes what stands before it to what stands behind it.
+abbrev pub each : {A B E : Type 0} → (B → A → Result B E) → B → List A → Result B E
+each f before [] = Ok before
+each f before (x ∷ xs) = f before x >>= λ after. each f after xs
+
+-- What a function returned, seen by view, is what reading gives.
+abbrev pub Gives : {X Y E : Type 0} → (X → Y) → Result X E → Result Y E → Type 0
+Gives view (Ok x) read = read ≡ Ok (view x)
+Gives view (Err e) read = read ≡ Err e

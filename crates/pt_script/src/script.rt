@@ -1,0 +1,93 @@
+// What a script says.
+
+ghost use Rattle.std.specs.Prelude.{◌≡◌};
+
+use crate::values::{Operation, Settings, Top};
+use std::marker::Model;
+
+/// What a process does.
+#[derive(Debug, Drop)]
+pub struct Process {
+    trap: bool,
+    operations: Vec<Operation>,
+}
+
+impl Model for Process {
+    ghost use Rattle.pt_script.specs.Plans.{Plan};
+
+    ghost Value = { Plan };
+
+    ghost view = { λ p. record { trap = p.trap; operations = p.operations.items } };
+}
+
+impl Process {
+    /// A process that does these operations.
+    pub(crate) fn new(trap: bool, operations: Vec<Operation>) -> Process
+        ensures { result ≡ record { trap = trap; operations = operations.items } }
+    {
+        Process { trap, operations }
+    }
+
+    /// Whether it begins with trapping exits, before its first operation.
+    pub fn traps(&self) -> bool
+        ensures { result ≡ self.now.trap }
+    {
+        self.trap
+    }
+
+    /// What it does, in order.
+    pub fn operations(&self) -> &[Operation]
+        ensures { result.now ≡ self.now.operations }
+    {
+        self.operations.as_slice()
+    }
+}
+
+/// What the processes of a node do.
+#[derive(Debug, Drop)]
+pub struct Script {
+    settings: Settings,
+    tops: Vec<Top>,
+    processes: Vec<Process>,
+}
+
+impl Model for Script {
+    ghost use Rattle.pt_script.specs.Plans.{Whole};
+
+    ghost Value = { Whole };
+
+    ghost view = { λ s. record { settings = s.settings; tops = s.tops.items; processes = s.processes.items } };
+}
+
+impl Script {
+    pub(crate) fn new(settings: Settings, tops: Vec<Top>, processes: Vec<Process>) -> Script
+        ensures { result ≡ record { settings = settings; tops = tops.items; processes = processes.items } }
+    {
+        Script {
+            settings,
+            tops,
+            processes,
+        }
+    }
+
+    /// The settings of the node, and the budget of its turns.
+    pub fn settings(&self) -> Settings
+        ensures { result ≡ self.now.settings }
+    {
+        self.settings
+    }
+
+    /// The processes that the script begins with, in its order.
+    pub fn tops(&self) -> &[Top]
+        ensures { result.now ≡ self.now.tops }
+    {
+        self.tops.as_slice()
+    }
+
+    /// Every process of the script, by number.
+    pub fn processes(&self) -> &[Process]
+        ensures { result.now ≡ self.now.processes }
+    {
+        self.processes.as_slice()
+    }
+}

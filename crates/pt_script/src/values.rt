@@ -1,0 +1,99 @@
+// The plain values of which a script is made.
+
+use pt_signal::Reason;
+
+/// The settings of a script's node.
+#[derive(Clone, Copy, Debug, PartialEq, Eq)]
+pub struct Settings {
+    /// The script's format, 1 or 2. From 2 on a process can ask whether another is alive.
+    pub format: u8,
+    /// How many desks the node has, 1 to 64.
+    pub desks: u8,
+    /// How many slots each desk has, 1 to 65,536.
+    pub slots: u32,
+    /// The last version of a slot, 1 or more.
+    pub top_version: u32,
+    /// How many letters a lane holds, 1 to 65,536.
+    pub lane: u32,
+    /// How many letters a turn handles at most, 1 to 65,536.
+    pub budget: u32,
+}
+
+/// Which items a `receive` takes. A process is named by its number in the script, a tag by its number among the tags
+/// of its list.
+#[derive(Clone, Copy, Debug, PartialEq, Eq)]
+pub enum Pattern {
+    /// Every item.
+    Any,
+    /// Messages of this kind.
+    Kind(u32),
+    /// Messages from this process.
+    From(u32),
+    /// Exits of this process.
+    ExitOf(u32),
+    /// The DOWN of the monitor with this tag.
+    DownOf(u32),
+    /// The answer to the ask with this tag.
+    AliveOf(u32),
+}
+
+/// One operation of a process. A process is named by its number in the script. The tags of a list are numbered from
+/// 0 in the order in which its monitors and asks make them.
+#[derive(Clone, Copy, Debug, PartialEq, Eq)]
+pub enum Operation {
+    /// Send a message.
+    Send {
+        to: u32,
+        kind: u32,
+        num: i64,
+        who: Option<u32>,
+    },
+    /// Take an item, waiting for one.
+    Receive(Pattern),
+    /// Take an item if there is one.
+    Check(Pattern),
+    /// Link with a process.
+    Link(u32),
+    /// Unlink from a process.
+    Unlink(u32),
+    /// Monitor a process.
+    Monitor {
+        to: u32,
+        tag: u32,
+    },
+    /// End the monitor with this tag.
+    Demonitor {
+        tag: u32,
+        flush: bool,
+    },
+    /// Ask whether a process is alive.
+    Alive {
+        to: u32,
+        tag: u32,
+    },
+    /// Trap exits, or no longer.
+    Trap(bool),
+    /// Exit.
+    Exit(Reason),
+    /// Send an exit signal.
+    Signal {
+        to: u32,
+        reason: Reason,
+    },
+    /// Spawn the process of this number.
+    Spawn {
+        process: u32,
+        linked: bool,
+    },
+    /// Do nothing.
+    Pass,
+}
+
+/// A process that no other spawns.
+#[derive(Clone, Copy, Debug, PartialEq, Eq)]
+pub struct Top {
+    /// Its number in the script.
+    pub process: u32,
+    /// The desk on which it runs.
+    pub desk: u8,
+}
