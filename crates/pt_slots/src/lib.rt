@@ -53,16 +53,18 @@ ghost use Rattle.pt_slots.specs.Grows.{Grows};
 
 use slab::Slab;
 use std::alloc::{AllocError, Global};
+use std::cmp::Ordering;
 use std::marker::Model;
 use std::mem;
+use thiserror::Error;
 
 /// The greatest number of slots.
 pub const MAX_CAPACITY: u32 = 16_777_216;
 
 /// The name of one value: a slot, and the version under which the slot was issued.
 ///
-/// Keys are equal and ordered by their fields, the slot first. A key of any numbers may be asked for.
-#[derive(Clone, Copy, Debug, PartialEq, Eq, PartialOrd, Ord, Hash)]
+/// Keys are equal by their fields, and ordered by slot, then version. A key of any numbers may be asked for.
+#[derive(Clone, Copy, Debug, PartialEq, Eq, Hash)]
 pub struct Key {
     /// The slot, from 0 on.
     pub slot: u32,
@@ -70,12 +72,49 @@ pub struct Key {
     pub version: u32,
 }
 
+impl Ord for Key {
+    ghost use Rattle.std.proofs.Common.{rules};
+    ghost use Rattle.std.specs.Cmp.Rules.{comparing};
+    ghost use Rattle.pt_slots.specs.Keys.{key_order};
+
+    ghost cmp = { key_order };
+
+    ghost total = { Prim.search (comparing, rules) };
+
+    ghost matches_partial_cmp = { Prim.search (comparing, rules) };
+
+    ghost matches_eq = { Prim.search (comparing, rules) };
+
+    fn cmp(&self, other: &Key) -> Ordering {
+        let by_slot = self.slot.cmp(&other.slot);
+        by_slot.then(self.version.cmp(&other.version))
+    }
+}
+
+impl PartialOrd for Key {
+    ghost use Rattle.std.proofs.Common.{rules};
+    ghost use Rattle.std.specs.Cmp.{partial_order_from_own_ties};
+    ghost use Rattle.std.specs.Cmp.Rules.{comparing};
+    ghost use Rattle.std.specs.Ordering.{as_partial_cmp};
+    ghost use Rattle.pt_slots.specs.Keys.{key_order};
+
+    ghost partial_cmp = { as_partial_cmp key_order };
+
+    ghost laws = { partial_order_from_own_ties (Prim.search (comparing, rules)) (Prim.search (comparing, rules)) };
+
+    fn partial_cmp(&self, other: &Key) -> Option<Ordering> {
+        Some(self.cmp(other))
+    }
+}
+
 /// Why `insert` refused a value, which it hands back.
-#[derive(Debug, PartialEq, Eq, Drop)]
+#[derive(Debug, PartialEq, Eq, Drop, Error)]
 pub enum InsertError<T> {
     /// Every slot is taken or retired.
+    #[error("every slot is taken or retired")]
     Full(T),
     /// There was no memory to store one more value.
+    #[error("no memory to store one more value")]
     Memory(T),
 }
 

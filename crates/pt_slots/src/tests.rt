@@ -26,6 +26,22 @@ fn one_slot_of_two_versions(rt: HostRuntime) -> Result<(), Fail> {
 }
 
 #[test]
+fn refusals_say_why(rt: HostRuntime) -> Result<(), Fail> {
+    let full: InsertError<u32> = InsertError::Full(7);
+    let memory: InsertError<u32> = InsertError::Memory(7);
+    assert_eq!(rt;
+        full.to_string(rt.alloc())?.as_str(),
+        "every slot is taken or retired"
+    );
+    assert_eq!(rt;
+        memory.to_string(rt.alloc())?.as_str(),
+        "no memory to store one more value"
+    );
+    assert!(rt; key(0, 9) < key(1, 2) && key(1, 2) < key(1, 3));
+    Ok(())
+}
+
+#[test]
 fn slots_are_used_again(rt: HostRuntime) -> Result<(), Fail> {
     let alloc = rt.alloc();
     let mut slots = Slots::new(alloc, 3, 2)?;
