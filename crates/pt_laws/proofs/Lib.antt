@@ -47,3 +47,4 @@ pub mod Linked
 pub mod Agreed
 pub mod EarlyLinks
 pub mod Asking
+pub mod Answered

@@ -21,10 +21,10 @@ use Rattle.pt_laws.proofs.Keeping.{kept_step, open_step}
 -- letters of an end ------------------------------------------------------------------------------
 
 module _ (a b : Pid) (test : Signal → Bool) where
-  map_none : {X : Type 0} (f : X → Sent) → ((x : X) → test (f x).signal ≡ false) → (xs : List X) → count (carries a b test) (map f xs) ≡ 0
+  pub map_none : {X : Type 0} (f : X → Sent) → ((x : X) → test (f x).signal ≡ false) → (xs : List X) → count (carries a b test) (map f xs) ≡ 0
   map_none f h xs = count-map (carries a b test) f xs ∙ count-none (λ x. carries a b test (f x)) (λ x. and_right (same_pid a (f x).from && same_pid b (f x).to) (test (f x).signal) (h x)) xs
 
-  estate_parts : (p : Pid) (s : ProcessState) (r : Reason) →
+  pub estate_parts : (p : Pid) (s : ProcessState) (r : Reason) →
       count (carries a b test) (estate p s r)
       ≡ count (carries a b test) (map (λ (e : Pid × Ids). sent p e.0 (LinkExit e.1 r)) s.links)
       + count (carries a b test) (map (λ (k : Ref × Pid). sent p k.1 (Signal.Down k.0 r)) s.kept)
@@ -40,7 +40,7 @@ module _ (a b : Pid) (test : Signal → Bool) (not_said : (n : Ref) → test (Al
   answer_none me c (AliveAsk n) = let z = and_right (same_pid a me && same_pid b c) (test (AliveSay n true)) (not_said n) in rw z refl
   answer_none me c _ = refl
 
-  got_living : (s : ProcessState) (me c : Pid) (x : Signal)
+  pub got_living : (s : ProcessState) (me c : Pid) (x : Signal)
       → count (carries a b test) (got_sends (living s) me c x) ≡ count (carries a b test) (end_sends me (handle me s c x).ending (handle me s c x).state)
   got_living s me c x =
       let h = count-append (carries a b test) (handle me s c x).answer (end_sends me (handle me s c x).ending (handle me s c x).state) in
@@ -56,7 +56,7 @@ and_assoc : (x y z : Bool) → ((x && y) && z) ≡ (x && (y && z))
 and_assoc true y z = refl
 and_assoc false y z = refl
 
-and_comm : (x y : Bool) → (x && y) ≡ (y && x)
+pub and_comm : (x y : Bool) → (x && y) ≡ (y && x)
 and_comm true true = refl
 and_comm true false = refl
 and_comm false true = refl

@@ -10,7 +10,7 @@ ghost use Rattle.pt_laws.specs.ResumedLaws.{ResumedLegal, ResumedSame, ResumedSt
 ghost use Rattle.pt_laws.specs.MonitorLaws.{OneDown, MadeOnce, MadeOnceLocal, EmptyHasOldRefs, MadeOnceOver, QuietMonitor, QuietWatch, QuietMonitorOver, QuietWatchOver};
 ghost use Rattle.pt_laws.specs.LoadLaws.{LoadFalls, ReceiptsBounded, QuietFlights, EmptyIsQuiet, OldestMayCome, OneReceipt, ReceiptLowers, LoadByDesk};
 ghost use Rattle.pt_laws.specs.Headline.{HeadlineHolds};
-ghost use Rattle.pt_laws.specs.Asking.{AnswersAreTrue};
+ghost use Rattle.pt_laws.specs.Asking.{AnswersAreTrue, QuietAnswers};
 ghost use Rattle.pt_laws.specs.Examples.{TenLines, Cascade, EarlyLink};
 
 /// In one desk's local journal, and in a legal history, each event but a receipt may come. The laws that ask no more
@@ -181,9 +181,11 @@ pub fn stamps_make_new_ids()
 {}
 
 /// An answer to the question whether a process is alive says whether it was alive just before the question came to
-/// it; and by then all had come to it that the asker had sent it before it asked.
+/// it; and by then all had come to it that the asker had sent it before it asked. Once no signal is on its way, each
+/// question of a live process has its one answer.
 pub fn answers_are_true()
-    ensures { AnswersAreTrue }
+    ensures told { AnswersAreTrue }
+    ensures once { QuietAnswers }
 {}
 
 /// Histories worked by hand are legal and quiet and end as they should: ten lines of two processes that send each
