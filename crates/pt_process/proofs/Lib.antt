@@ -1,3 +1,5 @@
+pub mod MapLemmas
+pub mod FewLemmas
 pub mod GapLemmas
 pub mod PlaceLemmas
 pub mod LinkLemmas

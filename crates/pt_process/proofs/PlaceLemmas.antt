@@ -1,7 +1,7 @@
 -- The first of a list that passes a test, and the list without it.
 use Rattle.std.proofs.Common.{◌≡◌, ℕ, suc, ◌+◌, ◌-◌, ◌<◌, ◌≤◌, Bool, true, false, not, cond, ltb, List, [], ◌∷◌, ◌++◌, length, get_or, take, drop, refl, ap, sym, subst, ◌∙◌, arith, length-append, length-take, length-drop, Option, Some, None}
 use Rattle.std.specs.List.{find, position, position_or_len, remove, slice_get}
-use Rattle.std.proofs.lemmas.List.{take_at, drop_at, take_more, drop-drop}
+use Rattle.std.proofs.lemmas.List.{take_at, drop_at, take_more, drop-drop, drop-take, drop-append-le}
 use Rattle.std.proofs.lemmas.Grind.{common_steps}
 use Rattle.std.proofs.lemmas.Bool.Decides.{nat_tests}
 use Rattle.std.proofs.lemmas.Bool.{ltb-true}
@@ -39,6 +39,16 @@ module _ {X : Type 0} where
       ∙ ap (λ l. drop 1 (l ++ drop k zs)) turned
       ∙ spun (take place zs) (get_or zs place d) (drop k zs) (take k zs) whole
       ∙ ap (λ n. take place zs ++ drop n zs) past
+
+  -- to take an item out past the head is to take it out of what stands from the head on
+  pub drop-remove : (xs : List X) (head place : ℕ) → head + place < length xs → drop head (remove xs (head + place)) ≡ remove (drop head xs) place
+  drop-remove xs head place within =
+      let front : head ≤ length (take (head + place) xs) = omega (arith, length-take (head + place) xs) in
+      let count : suc (head + place) ≡ head + suc place = omega arith in
+      let past : drop (suc (head + place)) xs ≡ drop (suc place) (drop head xs) = ap (λ n. drop n xs) count ∙ sym (drop-drop (suc place) head xs) in
+      drop-append-le head (take (head + place) xs) (drop (suc (head + place)) xs) front
+      ∙ ap (λ l. l ++ drop (suc (head + place)) xs) (drop-take head place xs)
+      ∙ ap (λ l. take place (drop head xs) ++ l) past
 
 module _ {X : Type 0} (test : X → Bool) where
   step : (b : Bool) (i : X) (items rest : List X) (n : ℕ) → remove items n ≡ rest

@@ -1,10 +1,9 @@
 -- Kept watches, as the keys of entries.
-use Rattle.std.proofs.Common.{◌≡◌, ◌≢◌, ◌+◌, Bool, true, false, cond, ◌||◌, List, [], ◌∷◌, ◌++◌, length, refl, ap, ◌∙◌, arith}
+use Rattle.std.proofs.Common.{◌≡◌, ◌≢◌, ◌+◌, Bool, true, false, cond, ◌||◌, List, [], ◌∷◌, ◌++◌, length, refl, ap, ◌∙◌, arith, None}
 use Rattle.std.specs.List.{list_any}
 use Rattle.std.specs.Map.{lookup, remove_entry, keys_of}
 use Rattle.pt_signal.specs.Values.{without_first}
-use Rattle.pt_process.specs.Gaps.{put, put_at}
-use Rattle.pt_process.proofs.GapLemmas.{none_from_test, any-keys_of}
+use Rattle.pt_process.proofs.MapLemmas.{none_from_test, any-keys_of}
 
 module _ {K V : Type 0} (test : K → Bool) where
   remove_step : (b : Bool) (e : K × V) (es rest : List (K × V)) (keys : List K) → keys_of rest ≡ keys → keys_of (cond b es (e ∷ rest)) ≡ cond b (keys_of es) (e.0 ∷ keys)
@@ -38,12 +37,10 @@ module _ {X : Type 0} (test : X → Bool) where
   without_first_other xs h same = omega (arith, shorter xs h, ap length same)
 
 module _ {K V : Type 0} where
-  keys_of-append : (es : List (K × V)) (k : K) (v : V) → keys_of (es ++ (k, v) ∷ []) ≡ keys_of es ++ k ∷ []
+  pub keys_of-append : (es : List (K × V)) (k : K) (v : V) → keys_of (es ++ (k, v) ∷ []) ≡ keys_of es ++ k ∷ []
   keys_of-append [] k v = refl
   keys_of-append (e ∷ es) k v = ap (λ ks. e.0 ∷ ks) (keys_of-append es k v)
 
-  -- a new key goes last
-  pub keys_of-put : (eq : K → K → Bool) (es : List (K × V)) (k : K) (v : V) → list_any (eq k) (keys_of es) ≡ false → keys_of (put eq es k v) ≡ keys_of es ++ k ∷ []
-  keys_of-put eq es k v absent =
-      let none = none_from_test (lookup (eq k) es) (any-keys_of (eq k) es ∙ absent) in
-      ap (λ o. keys_of (put_at o (eq k) k v es)) none ∙ keys_of-append es k v
+  -- a key that is not among the keys has no entry
+  pub lookup-fresh : (test : K → Bool) (es : List (K × V)) → list_any test (keys_of es) ≡ false → lookup test es ≡ None
+  lookup-fresh test es absent = none_from_test (lookup test es) (any-keys_of test es ∙ absent)

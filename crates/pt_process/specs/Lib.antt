@@ -1,4 +1,5 @@
 pub mod Resident
 pub mod Outcome
 pub mod Gaps
+pub mod Held
 pub mod Places

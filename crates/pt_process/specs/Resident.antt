@@ -6,7 +6,7 @@ use Rattle.pt_signal.specs.Process.{ProcessState, Sent}
 pub record Resident : Type 0 where
   pub me : Pid
   pub state : ProcessState
-  -- how many more links and monitors it surely takes without memory
+  -- how many more links it surely takes without memory
   pub room : ℕ
 
 -- what an ended process owes, each signal from itself

@@ -1,46 +1,48 @@
 // Entries in order of entry.
 
-ghost use Rattle.std.specs.Prelude.{◌≡◌, ◌<◌, ◌≤◌, ◌^◌, ◌∷◌, ◌++◌, [], length, is_some, None, IsOk, OnOk, OnErr};
-ghost use Rattle.std.specs.HashMap.{spare};
+ghost use Rattle.std.specs.Prelude.{◌≡◌, ◌<◌, ◌≤◌, ◌^◌, ◌∷◌, ◌++◌, [], length, position, None, IsOk, IsSome, IfOk, OnOk, OnErr};
 ghost use Rattle.std.specs.List.{list_any, IsDistinct};
 ghost use Rattle.std.specs.Map.{lookup, remove_entry, set_value, keys_of};
 ghost use Rattle.std.specs.Vec.{vec_capacity};
-ghost use Rattle.pt_process.specs.Gaps.{placed, present, put, AreIndexed, AreSettled, HasNoGap};
+ghost use Rattle.pt_process.specs.Gaps.{put};
 
 use crate::Rows;
+use crate::many::Many;
 use std::alloc::{AllocError, Global};
-use std::collections::HashMap;
+use std::boxed::Box;
 use std::hash::Hash;
 use std::marker::Model;
 
-/// The most entries that are ever kept, so that a process can count all that it owes.
-const MOST: usize = 1 << 62;
+/// The most entries that are looked through one by one.
+const FEW: usize = 8;
 
 /// A map whose entries stand in order of entry.
 ///
-/// A removal leaves a gap in place, so that no other entry moves; gaps are closed at once where they
-/// outnumber the entries by more than one. So n entries stand in at most 2n + 1 places, which the invariant
-/// says, and a walk over them costs O(n), a look-up O(1), and an insertion and a removal O(1) amortised. The
-/// memory of the most places that there were is kept.
+/// Up to eight entries stand in a vector, which is looked through; from the ninth on, and then for good, they are found
+/// by hash. A removal keeps the order of the others: among a few it moves those after it down, and among many it leaves
+/// a gap (see `Many`). An empty map that never held an entry holds no memory.
 #[derive(Drop)]
 pub struct Entries<K: Eq + Hash + Copy, V: Copy> {
-    /// Where each key stands among the places.
-    index: HashMap<K, usize>,
-    /// The entries in order of entry, where `None` is a gap.
-    places: Vec<Option<(K, V)>>,
+    places: Places<K, V>,
+}
+
+/// Where the entries stand.
+#[derive(Drop)]
+pub(crate) enum Places<K: Eq + Hash + Copy, V: Copy> {
+    Few(Vec<(K, V)>),
+    Many(Box<Many<K, V>>),
 }
 
 impl<K: Eq + Hash + Copy, V: Copy> Model for Entries<K, V> {
-    ghost use Rattle.std.specs.Prelude.{◌^◌, ◌-◌, length, min};
-    ghost use Rattle.std.specs.HashMap.{spare};
-    ghost use Rattle.std.specs.Vec.{vec_capacity};
-    ghost use Rattle.pt_process.specs.Gaps.{Listed, present, AreSettled};
+    ghost use Rattle.pt_process.specs.Gaps.{Listed};
 
     ghost Value = { Listed K V };
 
-    ghost view = { λ e. record { entries = present e.places.items; room = min (min (spare e.index) (vec_capacity e.places - length e.places.items)) (2 ^ 62 - length e.index.entries) } };
+    ghost use Rattle.pt_process.specs.Held.{held_entries, held_room, IsHeld};
 
-    ghost invariant = { λ e. AreSettled K.eq e.index.entries e.places.items };
+    ghost view = { λ e. record { entries = held_entries e.places; room = held_room e.places } };
+
+    ghost invariant = { λ e. IsHeld K.eq e.places };
 }
 
 impl<K: Eq + Hash + Copy, V: Copy> Entries<K, V> {
@@ -49,8 +51,7 @@ impl<K: Eq + Hash + Copy, V: Copy> Entries<K, V> {
         ensures { result.entries ≡ [] }
     {
         Entries {
-            index: HashMap::new(alloc),
-            places: Vec::new(alloc),
+            places: Places::Few(Vec::new(alloc)),
         }
     }
 
@@ -59,16 +60,19 @@ impl<K: Eq + Hash + Copy, V: Copy> Entries<K, V> {
         ensures len { result ≡ length self.now.entries }
         ensures small { result ≤ 2 ^ 62 }
     {
-        self.index.len()
+        match &self.places {
+            Places::Few(few) => few.len(),
+            Places::Many(many) => many.len(),
+        }
     }
 
     /// The value at a key.
     pub fn get(&self, key: &K) -> Option<V>
         ensures { result ≡ lookup (K.eq key.now) self.now.entries }
     {
-        match self.index.get(key) {
-            Some(place) => Some(self.places[*place].unwrap().1),
-            None => None,
+        match &self.places {
+            Places::Few(few) => find(few, key),
+            Places::Many(many) => many.get(key),
         }
     }
 
@@ -79,11 +83,15 @@ impl<K: Eq + Hash + Copy, V: Copy> Entries<K, V> {
         ensures room { self.old.room ≤ self.new.room }
         ensures succeeds { 0 < self.old.room → IsOk result }
     {
-        if self.index.len() == MOST {
-            return Err(AllocError);
+        match &mut self.places {
+            Places::Few(few) if few.len() < FEW => few.reserve(1),
+            Places::Few(few) => {
+                let many = widen(few)?;
+                self.places = Places::Many(many);
+                Ok(())
+            }
+            Places::Many(many) => many.reserve(),
         }
-        self.index.reserve(1)?;
-        self.places.reserve(1)
     }
 
     /// Gives the key this value: a key that is there keeps its place, and a new one goes last.
@@ -93,11 +101,33 @@ impl<K: Eq + Hash + Copy, V: Copy> Entries<K, V> {
         ensures absent { OnErr result (lookup (K.eq key) self.old.entries ≡ None) }
         ensures succeeds { 0 < self.old.room → IsOk result }
     {
-        if self.replace(&key, value) {
+        if self.get(&key).is_some() {
+            self.set(key, value);
             return Ok(());
         }
+        self.push(key, value)
+    }
+
+    /// Gives a key that is there this value, in its place.
+    pub fn set(&mut self, key: K, value: V)
+        requires { IsSome (lookup (K.eq key) self.old.entries) }
+        ensures { self.new.entries ≡ set_value (K.eq key) self.old.entries value }
+    {
+        match &mut self.places {
+            Places::Few(few) => write(few, &key, value),
+            Places::Many(many) => many.set(key, value),
+        }
+    }
+
+    /// Adds an entry at the end.
+    pub fn push(&mut self, key: K, value: V) -> Result<(), AllocError>
+        requires { lookup (K.eq key) self.old.entries ≡ None }
+        ensures ok { OnOk result (self.new.entries ≡ self.old.entries ++ (key, value) ∷ []) }
+        ensures err { OnErr result (self.new.entries ≡ self.old.entries) }
+        ensures succeeds { 0 < self.old.room → IsOk result }
+    {
         self.reserve()?;
-        self.push(key, value);
+        self.add(key, value);
         Ok(())
     }
 
@@ -107,14 +137,9 @@ impl<K: Eq + Hash + Copy, V: Copy> Entries<K, V> {
         ensures rest { self.new.entries ≡ remove_entry (K.eq key.now) self.old.entries }
         ensures room { self.old.room ≤ self.new.room }
     {
-        match self.index.remove(key) {
-            Some(place) => {
-                let (_, value) = self.places[place].unwrap();
-                self.places[place] = None;
-                settle(&mut self.index, &mut self.places);
-                Some(value)
-            }
-            None => None,
+        match &mut self.places {
+            Places::Few(few) => take(few, key),
+            Places::Many(many) => many.remove(key),
         }
     }
 
@@ -122,40 +147,22 @@ impl<K: Eq + Hash + Copy, V: Copy> Entries<K, V> {
     pub fn into_rows(self) -> Rows<K, V>
         ensures { result ≡ self.entries }
     {
-        let Entries {
-            index: _,
-            mut places,
-        } = self;
-        drop_gaps(&mut places);
+        let Entries { mut places } = self;
+        if let Places::Many(many) = &mut places {
+            many.close();
+        }
         Rows { places }
     }
 
-    // Whether the key is there, in which case it keeps its place and takes the value.
-    fn replace(&mut self, key: &K, value: V) -> bool
-        ensures there { result ≡ is_some (lookup (K.eq key.now) self.old.entries) }
-        ensures entries { self.new.entries ≡ set_value (K.eq key.now) self.old.entries value }
-        ensures room { self.new.room ≡ self.old.room }
-    {
-        match self.index.get(key) {
-            Some(place) => {
-                let place = *place;
-                let (stored, _) = self.places[place].unwrap();
-                self.places[place] = Some((stored, value));
-                true
-            }
-            None => false,
-        }
-    }
-
-    fn push(&mut self, key: K, value: V)
+    fn add(&mut self, key: K, value: V)
         requires absent { lookup (K.eq key) self.old.entries ≡ None }
         requires room { 0 < self.old.room }
         ensures { self.new.entries ≡ self.old.entries ++ (key, value) ∷ [] }
     {
-        let numbered: Result<_, _> = self.index.insert(key, self.places.len());
-        numbered.unwrap();
-        let placed: Result<_, _> = self.places.push(Some((key, value)));
-        placed.unwrap();
+        match &mut self.places {
+            Places::Few(few) => few.push_reserved((key, value)),
+            Places::Many(many) => many.push(key, value),
+        }
     }
 }
 
@@ -164,64 +171,70 @@ impl<J: PartialEq + Eq + Hash + Copy, K: Eq + Hash + Copy, V: Copy> Entries<(J, 
     pub fn has_first(&self, first: J) -> bool
         ensures { result ≡ list_any (λ k. J.eq first k.0) (keys_of self.now.entries) }
     {
-        self.places.iter().any(|place| match place {
-            Some((key, _)) => first == key.0,
-            None => false,
-        })
-    }
-}
-
-// After a removal: gaps go where they outnumber the entries by more than one, so that the cost was paid by as
-// many removals.
-fn settle<K: Eq + Hash + Copy, V: Copy>(
-    index: &mut HashMap<K, usize>,
-    places: &mut Vec<Option<(K, V)>>,
-)
-    requires { AreIndexed K.eq index.old.entries places.old.items }
-    ensures settled { AreSettled K.eq index.new.entries places.new.items }
-    ensures entries { present places.new.items ≡ present places.old.items }
-    ensures count { length index.new.entries ≡ length index.old.entries }
-    ensures length { length places.new.items ≤ length places.old.items }
-    ensures room { spare index.new ≡ spare index.old }
-    ensures capacity { vec_capacity places.new ≡ vec_capacity places.old }
-{
-    if places.len() / 2 > index.len() {
-        drop_gaps(places);
-        renumber(index, places);
-    }
-}
-
-fn drop_gaps<K: Copy, V: Copy>(places: &mut Vec<Option<(K, V)>>)
-    ensures entries { present places.new.items ≡ present places.old.items }
-    ensures closed { HasNoGap places.new.items }
-    ensures length { length places.new.items ≤ length places.old.items }
-    ensures capacity { vec_capacity places.new ≡ vec_capacity places.old }
-{
-    places.retain(|place| place.is_some());
-}
-
-// The number of each key's place is written again.
-fn renumber<K: Eq + Hash + Copy, V: Copy>(index: &mut HashMap<K, usize>, places: &[Option<(K, V)>])
-    requires distinct { IsDistinct K.eq (keys_of (present places.now)) }
-    requires there { (key : K) → is_some (lookup (K.eq key) index.old.entries) ≡ is_some (lookup (K.eq key) (present places.now)) }
-    ensures found { (key : K) → lookup (K.eq key) index.new.entries ≡ lookup (K.eq key) (placed 0 places.now) }
-    ensures length { length index.new.entries ≡ length index.old.entries }
-    ensures room { spare index.new ≡ spare index.old }
-{
-    for (number, place) in places.iter().enumerate() {
-        if let Some((key, _)) = place {
-            write(index, key, number);
+        match &self.places {
+            Places::Few(few) => any_first(few, first),
+            Places::Many(many) => many.has_first(first),
         }
     }
 }
 
-// A key that is there takes the number.
-fn write<K: Eq + Hash + Copy>(index: &mut HashMap<K, usize>, key: &K, number: usize)
-    ensures entries { index.new.entries ≡ set_value (K.eq key.now) index.old.entries number }
-    ensures room { spare index.new ≡ spare index.old }
+fn place_of<K: Eq + Copy, V: Copy>(few: &[(K, V)], key: &K) -> Option<usize>
+    ensures { result ≡ position (λ e. K.eq key.now e.0) few.now }
 {
-    match index.get_mut(key) {
-        Some(slot) => *slot = number,
+    few.iter().position(|(stored, _)| *key == *stored)
+}
+
+fn find<K: Eq + Copy, V: Copy>(few: &[(K, V)], key: &K) -> Option<V>
+    ensures { result ≡ lookup (K.eq key.now) few.now }
+{
+    match place_of(few, key) {
+        Some(place) => Some(few[place].1),
+        None => None,
+    }
+}
+
+fn any_first<J: PartialEq + Copy, K: Copy, V: Copy>(few: &[((J, K), V)], first: J) -> bool
+    ensures { result ≡ list_any (λ e. J.eq first e.0.0) few.now }
+{
+    few.iter().any(|(key, _)| first == key.0)
+}
+
+// A key that is there takes the value, in its place.
+fn write<K: Eq + Copy, V: Copy>(few: &mut Vec<(K, V)>, key: &K, value: V)
+    ensures entries { few.new.items ≡ set_value (K.eq key.now) few.old.items value }
+    ensures capacity { vec_capacity few.new ≡ vec_capacity few.old }
+{
+    match place_of(few, key) {
+        Some(place) => few[place].1 = value,
         None => {}
     }
+}
+
+fn take<K: Eq + Copy, V: Copy>(few: &mut Vec<(K, V)>, key: &K) -> Option<V>
+    ensures value { result ≡ lookup (K.eq key.now) few.old.items }
+    ensures rest { few.new.items ≡ remove_entry (K.eq key.now) few.old.items }
+    ensures capacity { vec_capacity few.new ≡ vec_capacity few.old }
+{
+    match place_of(few, key) {
+        Some(place) => Some(few.remove(place).1),
+        None => None,
+    }
+}
+
+// The same entries found by hash, with room for one more.
+fn widen<K: Eq + Hash + Copy, V: Copy>(few: &Vec<(K, V)>) -> Result<Box<Many<K, V>>, AllocError>
+    requires distinct { IsDistinct K.eq (keys_of few.now.items) }
+    requires few { length few.now.items ≤ 8 }
+    ensures entries { IfOk result (λ many. many.value.entries ≡ few.now.items) }
+    ensures room { IfOk result (λ many. 0 < many.value.room) }
+{
+    let alloc = *few.allocator();
+    let mut many = Many::with_room(alloc, FEW + 1)?;
+    for (key, value) in few {
+        many.push(*key, *value);
+    }
+    let Ok(many) = Box::new(alloc, many) else {
+        return Err(AllocError);
+    };
+    Ok(many)
 }

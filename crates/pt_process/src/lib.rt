@@ -28,18 +28,24 @@
 //! # Want of memory
 //!
 //! `accept`, `add_link`, `add_monitor` and `room` may be refused memory, and nothing has changed then. After `room`
-//! the next link and the next monitor need none. All else takes no memory: an end reads its lists where they stand.
+//! the next link needs none. All else takes no memory: an end reads its lists where they stand.
 //!
 //! # Cost
 //!
+//! Up to eight links, monitors or watches stand in a vector that is looked through; from the ninth on they are found
+//! by hash. A list that never held an entry holds no memory, and up to eight entries take two allocations at most.
+//!
 //! Every call takes constant time, on average where a list grows, closes its gaps or is looked up by hash, but for
-//! these: `first` and `take` cost what they look at, `kept` looks through the watches, and `estate` and reading it
-//! cost what is owed. Links, monitors and watches keep the order of entry through all removals.
+//! these: `first` and `take` cost what they look at, and a take moves what stands before its item or behind it,
+//! whichever is the shorter; `kept` looks through the watches; `estate` and reading it cost what is owed; and where
+//! more than eight are linked, a link with a peer that was unlinked before, and whose gap still stands, costs what
+//! entered after it. Links, monitors and watches keep the order of entry through all removals.
 #![tactic(auto)]
 
 mod entries;
 mod estate;
 mod mailbox;
+mod many;
 mod outcome;
 mod process;
 mod rows;

@@ -1,6 +1,6 @@
 // The items that wait for a receive.
 
-ghost use Rattle.std.specs.Prelude.{◌≡◌, ◌*◌, ◌<◌, ◌≤◌, ◌++◌, ◌∷◌, [], drop, length, slice_get, Some, OnOk, OnErr};
+ghost use Rattle.std.specs.Prelude.{◌≡◌, ◌+◌, ◌-◌, ◌*◌, ◌<◌, ◌≤◌, ◌++◌, ◌∷◌, [], take, drop, length, slice_get, Some, OnOk, OnErr};
 ghost use Rattle.std.specs.List.{position, remove};
 ghost use Rattle.pt_signal.specs.Values.{fits};
 ghost use Rattle.pt_process.specs.Places.{IsFirst};
@@ -11,8 +11,9 @@ use std::marker::Model;
 
 /// A queue of items, oldest first, from which a selective receive takes the first that fits.
 ///
-/// To take an item costs what was looked at before it, and to take all of n items in order costs O(n). At least
-/// half of the places that are in use hold items that wait, which the invariant says.
+/// To take an item costs what was looked at before it; of the others it moves those before it or those behind it,
+/// whichever are fewer. To take all of n items in order costs O(n). At least half of the places that are in use hold
+/// items that wait, which the invariant says.
 #[derive(Drop)]
 pub struct Mailbox {
     items: Vec<Item>,
@@ -89,13 +90,27 @@ impl Mailbox {
         ensures item { slice_get self.old place ≡ Some result }
         ensures rest { self.new ≡ remove self.old place }
     {
-        let taken = self.head + place;
-        let item = self.items[taken];
-        self.items[self.head..taken + 1].rotate_right(1);
-        self.head += 1;
+        let item = take_out(&mut self.items, &mut self.head, place);
         close_gap(&mut self.items, &mut self.head);
         item
     }
+}
+
+// Takes an item out: what stands before it moves up, or what stands behind it down, whichever is the shorter.
+fn take_out(items: &mut Vec<Item>, head: &mut usize, place: usize) -> Item
+    requires { head.old + place < length items.old.items }
+    ensures item { slice_get (drop head.old items.old.items) place ≡ Some result }
+    ensures waiting { drop head.new items.new.items ≡ remove (drop head.old items.old.items) place }
+    ensures within { head.new ≤ length items.new.items }
+{
+    let taken = *head + place;
+    if place >= items.len() - taken {
+        return items.remove(taken);
+    }
+    let item = items[taken];
+    items[*head..taken + 1].rotate_right(1);
+    *head += 1;
+    item
 }
 
 // Closes the gap before the head where it is more than half, so that its cost was paid by as many takes.
@@ -106,10 +121,21 @@ fn close_gap(items: &mut Vec<Item>, head: &mut usize)
 {
     let waiting = items.len() - *head;
     if *head > waiting {
-        items.copy_within(*head.., 0);
+        bring_forward(items, *head);
         items.truncate(waiting);
         *head = 0;
     }
+}
+
+// Copies what stands from the head on to the front, in one block: `copy_within` goes item by item.
+fn bring_forward(items: &mut [Item], head: usize)
+    requires within { head ≤ length items.old }
+    requires apart { length items.old - head ≤ head }
+    ensures front { take (length items.old - head) items.new ≡ drop head items.old }
+    ensures len { length items.new ≡ length items.old }
+{
+    let (gap, waiting) = items.split_at_mut(head);
+    gap[..waiting.len()].copy_from_slice(waiting);
 }
 
 fn is_of_kind(item: &Item, kind: u32) -> bool

@@ -12,6 +12,9 @@ use crate::{Entries, Estate, ExitSignal, Mailbox, Outcome, Verdict};
 use pt_signal::{Ids, Item, LinkId, Pick, Pid, Reason, Ref, Signal};
 use std::alloc::{AllocError, Global};
 use std::marker::Model;
+use std::mem::size_of;
+
+const _: () = prove!(size_of::<Process>() <= 256);
 
 /// A live process: its mailbox, its links, its monitors, and the watches that others hold on it.
 #[derive(Drop)]
@@ -25,13 +28,12 @@ pub struct Process {
 }
 
 impl Model for Process {
-    ghost use Rattle.std.specs.Prelude.{min};
     ghost use Rattle.std.specs.Map.{keys_of};
     ghost use Rattle.pt_process.specs.Resident.{Resident};
 
     ghost Value = { Resident };
 
-    ghost view = { λ p. record { me = p.me; state = record { waiting = p.waiting; links = p.links.entries; watching = p.watching.entries; kept = keys_of p.kept.entries; traps = p.traps }; room = min p.links.room p.watching.room } };
+    ghost view = { λ p. record { me = p.me; state = record { waiting = p.waiting; links = p.links.entries; watching = p.watching.entries; kept = keys_of p.kept.entries; traps = p.traps }; room = p.links.room } };
 }
 
 impl Process {
@@ -171,15 +173,14 @@ impl Process {
         }
     }
 
-    /// Makes room, so that the next link and the next monitor need no memory.
+    /// Makes room, so that the next link needs no memory.
     pub fn room(&mut self) -> Result<(), AllocError>
         ensures me { self.new.me ≡ self.old.me }
         ensures state { self.new.state ≡ self.old.state }
         ensures ok { OnOk result (0 < self.new.room) }
         ensures kept { self.old.room ≤ self.new.room }
     {
-        self.links.reserve()?;
-        self.watching.reserve()
+        self.links.reserve()
     }
 
     /// Its own half of a link: the id joins the entry of the peer, which has two at most, or makes one.
@@ -192,11 +193,13 @@ impl Process {
         ensures adds { OnErr result (held self.old.state.links peer ≡ None) }
         ensures succeeds { 0 < self.old.room → IsOk result }
     {
-        let ids = match self.links.get(&peer) {
-            Some(ids) => ids.and(id),
-            None => Ids::of(id),
-        };
-        self.links.insert(peer, ids)
+        match self.links.get(&peer) {
+            Some(ids) => {
+                self.links.set(peer, ids.and(id));
+                Ok(())
+            }
+            None => self.links.push(peer, Ids::of(id)),
+        }
     }
 
     /// Takes the whole entry of the peer out, and answers its ids.
@@ -213,18 +216,17 @@ impl Process {
 
     /// Its own half of a monitor: the reference is open from now on. One that is open already stays as it is.
     ///
-    /// Memory is refused only where the reference is not open and there is no room.
+    /// Memory is refused only where the reference is not open.
     pub fn add_monitor(&mut self, monitor: Ref, target: Pid) -> Result<(), AllocError>
         ensures me { self.new.me ≡ self.old.me }
         ensures state { lookup (same_ref monitor) self.old.state.watching ≡ None → OnOk result (self.new.state ≡ say self.old.state target (Signal.Monitor monitor)) }
         ensures open { IsSome (lookup (same_ref monitor) self.old.state.watching) → IsOk result × (self.new.state ≡ self.old.state) }
         ensures err { OnErr result (self.new.state ≡ self.old.state) }
-        ensures succeeds { 0 < self.old.room → IsOk result }
     {
         if self.watching(monitor) {
             return Ok(());
         }
-        self.watching.insert(monitor, target)
+        self.watching.push(monitor, target)
     }
 
     /// Closes its open monitor of this reference, and answers whom it watched.
@@ -314,8 +316,7 @@ impl Process {
             return;
         };
         match ids.without(named) {
-            // The sender has an entry, which is written in place.
-            Some(left) => self.links.insert(from, left).unwrap(),
+            Some(left) => self.links.set(from, left),
             None => {
                 self.links.remove(&from);
             }
@@ -427,7 +428,7 @@ impl Process {
         ensures state { OnOk result (self.new.state ≡ record self.old.state { kept = self.old.state.kept ++ (monitor, watcher) ∷ [] }) }
         ensures err { OnErr result (self.new.state ≡ self.old.state) }
     {
-        self.kept.insert((monitor, watcher), ())?;
+        self.kept.push((monitor, watcher), ())?;
         Ok(())
     }
 

@@ -2,32 +2,38 @@
 
 ghost use Rattle.std.specs.Prelude.{◌≡◌, ◌<◌, ◌≤◌, ◌^◌, length, slice_get, Some};
 
+use crate::entries::Places;
+use std::hash::Hash;
 use std::marker::Model;
 
 /// Entries with no gap between them, so that each is reached by its number.
 #[derive(Drop)]
-pub struct Rows<K: Copy, V: Copy> {
-    pub(crate) places: Vec<Option<(K, V)>>,
+pub struct Rows<K: Eq + Hash + Copy, V: Copy> {
+    pub(crate) places: Places<K, V>,
 }
 
-impl<K: Copy, V: Copy> Model for Rows<K, V> {
-    ghost use Rattle.std.specs.Prelude.{◌≤◌, ◌^◌, List, length};
-    ghost use Rattle.pt_process.specs.Gaps.{present, HasNoGap};
+impl<K: Eq + Hash + Copy, V: Copy> Model for Rows<K, V> {
+    ghost use Rattle.std.specs.Prelude.{List};
 
     ghost Value = { List (K × V) };
 
-    ghost view = { λ r. present r.places.items };
+    ghost use Rattle.pt_process.specs.Held.{held_entries, IsClosed};
 
-    ghost invariant = { λ r. HasNoGap r.places.items × (length (present r.places.items) ≤ 2 ^ 62) };
+    ghost view = { λ r. held_entries r.places };
+
+    ghost invariant = { λ r. IsClosed r.places };
 }
 
-impl<K: Copy, V: Copy> Rows<K, V> {
+impl<K: Eq + Hash + Copy, V: Copy> Rows<K, V> {
     /// How many entries there are.
     pub fn len(&self) -> usize
         ensures len { result ≡ length self.now }
         ensures small { result ≤ 2 ^ 62 }
     {
-        self.places.len()
+        match &self.places {
+            Places::Few(few) => few.len(),
+            Places::Many(many) => many.len(),
+        }
     }
 
     /// The entry with this number, in order of entry.
@@ -35,6 +41,9 @@ impl<K: Copy, V: Copy> Rows<K, V> {
         requires { i < length self.now }
         ensures { slice_get self.now i ≡ Some result }
     {
-        self.places[i].unwrap()
+        match &self.places {
+            Places::Few(few) => few[i],
+            Places::Many(many) => many.at(i),
+        }
     }
 }

@@ -74,24 +74,71 @@ fn entries_stand_in_order_of_entry(rt: HostRuntime) -> Result<(), Fail> {
 }
 
 #[test]
+fn more_than_eight_entries_stand_in_order_of_entry(rt: HostRuntime) -> Result<(), Fail> {
+    let mut entries: Entries<u32, u32> = Entries::new(rt.alloc());
+    for key in 1..=10 {
+        entries.insert(key, key + 100)?;
+    }
+    assert_eq!(rt; entries.remove(&3), Some(103));
+    assert_eq!(rt; entries.remove(&10), Some(110));
+    assert_eq!(rt; entries.get(&3), None);
+    entries.insert(7, 207)?;
+    // A key that left a gap goes last.
+    entries.insert(3, 203)?;
+    assert_eq!(rt; entries.get(&3), Some(203));
+    assert_eq!(rt; entries.len(), 9);
+    let rows = entries.into_rows();
+    assert_eq!(rt; rows.len(), 9);
+    assert_eq!(rt; rows.at(0), (1, 101));
+    assert_eq!(rt; rows.at(2), (4, 104));
+    assert_eq!(rt; rows.at(5), (7, 207));
+    assert_eq!(rt; rows.at(8), (3, 203));
+    Ok(())
+}
+
+#[test]
 fn entries_are_found_once_gaps_are_closed(rt: HostRuntime) -> Result<(), Fail> {
     let mut entries: Entries<u32, u32> = Entries::new(rt.alloc());
-    for key in [1, 2, 3, 4, 5] {
+    for key in 1..=12 {
         entries.insert(key, key + 10)?;
     }
-    for key in [2, 1, 4] {
+    for key in [2, 1, 4, 6, 8, 7, 10] {
         entries.remove(&key);
     }
     entries.insert(2, 22)?;
     assert_eq!(rt; entries.remove(&3), Some(13));
-    entries.insert(1, 21)?;
     assert_eq!(rt; entries.get(&5), Some(15));
     let rows = entries.into_rows();
-    assert_eq!(rt; rows.len(), 3);
+    assert_eq!(rt; rows.len(), 5);
     assert_eq!(rt; rows.at(0), (5, 15));
-    assert_eq!(rt; rows.at(1), (2, 22));
-    assert_eq!(rt; rows.at(2), (1, 21));
+    assert_eq!(rt; rows.at(3), (12, 22));
+    assert_eq!(rt; rows.at(4), (2, 22));
     Ok(())
+}
+
+#[test]
+fn a_live_process_is_asked_and_hears(rt: HostRuntime) {
+    let mut process = process(rt.alloc());
+    assert!(rt;
+        does(
+            &mut process,
+            1,
+            Signal::AliveAsk(monitor(3)),
+            Outcome::Asked(monitor(3))
+        )
+    );
+    assert!(rt;
+        does(
+            &mut process,
+            2,
+            Signal::AliveSay(monitor(5), false),
+            Outcome::Queued
+        )
+    );
+    assert!(rt; process.take(Pick::AliveOf(monitor(3))).is_none());
+    assert!(rt;
+        process.take(Pick::AliveOf(monitor(5))) == Some(Item::Alive(monitor(5), pid(2), false))
+    );
 }
 
 #[test]

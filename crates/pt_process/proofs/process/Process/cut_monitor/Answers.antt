@@ -1,5 +1,5 @@
 use Rattle.std.proofs.Common.{◌∙◌, sym}
-use Rattle.pt_process.proofs.GapLemmas.{remove_entry-absent}
+use Rattle.pt_process.proofs.MapLemmas.{remove_entry-absent}
 use Rattle.pt_process.proofs.StateLemmas.{watching_same, IfNone-from}
 use Rattle.pt_process.proofs.process.Process.cut_monitor.Goals as goal
 

@@ -1,0 +1,7 @@
+use Rattle.std.proofs.Common.{arith}
+use Rattle.std.specs.List.{IsDistinct}
+use Rattle.pt_process.proofs.entries.Entries.new.Goals as goal
+
+pub invariant_of-result : goal.invariant_of-result
+unfolding IsDistinct
+invariant_of-result g c = rw c.new.ensures.items (omega arith, tt)
