@@ -16,7 +16,7 @@ use Rattle.pt_laws.specs.Laws.{LanesFly}
 use Rattle.pt_laws.specs.LoadLaws.{Receives, HasDesks}
 use Rattle.pt_events.proofs.Local.{life_local}
 use Rattle.pt_events.proofs.Homes.{life_home}
-use Rattle.pt_laws.proofs.Load.{one_receipt}
+use Rattle.pt_laws.proofs.lanes.Load.{one_receipt}
 use Rattle.pt_laws.proofs.Sums.{below_shift, below_shift_le, below_same, below_zero, below_one, below_at, weigh-append, weigh_sent, weigh_apart}
 
 -- one receipt --------------------------------------------------------------------------

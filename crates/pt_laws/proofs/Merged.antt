@@ -21,7 +21,7 @@ use Rattle.pt_events.specs.Journal.{events, of_desk, letter, content, IsHome, Is
 use Rattle.pt_signal.proofs.Same.{same_pid_is, same_pid_refl, same_ref_is, same_link_is}
 use Rattle.pt_events.proofs.Local.{AllHome}
 use Rattle.pt_signal.proofs.Firsts.{filter_wider, filter_other, first_wider}
-use Rattle.pt_laws.proofs.Lanes.{AllUpTo, AllUpTo-append, AllAt-letters, Back, back, contents}
+use Rattle.pt_laws.proofs.lanes.Lanes.{AllUpTo, AllUpTo-append, AllAt-letters, Back, back, contents}
 use Rattle.pt_events.proofs.Homes.{AllFrom, from_home, in_lane, life_home, sent_home}
 
 module _ (start : Start) (low top : ℕ) where

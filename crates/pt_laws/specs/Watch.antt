@@ -8,8 +8,8 @@ use Rattle.pt_signal.specs.declared.signal.Signal.TheVariants.{Monitor, Demonito
 use Rattle.pt_events.specs.declared.event.Event.{Event}
 use Rattle.pt_events.specs.declared.event.Event.TheVariants.{Said}
 use Rattle.pt_signal.specs.Values.{same_pid, same_ref}
-use Rattle.pt_signal.specs.Process.{ProcessState, Sent, same_watch}
-use Rattle.pt_events.specs.History.{Past, Phase, living, is_between}
+use Rattle.pt_signal.specs.Process.{ProcessState, same_watch}
+use Rattle.pt_events.specs.History.{Past, Phase, living}
 use Rattle.pt_laws.specs.Load.{one_if}
 
 -- how many pass the test
@@ -25,17 +25,9 @@ abbrev pub is_demonitor : Ref → Signal → Bool
 is_demonitor m (Demonitor n) = same_ref m n
 is_demonitor m _ = false
 
-abbrev pub is_down : Ref → Signal → Bool
-is_down m (Signal.Down n r) = same_ref m n
-is_down m _ = false
-
 abbrev pub is_down_item : Ref → Item → Bool
 is_down_item m (Item.Down n from r) = same_ref m n
 is_down_item m _ = false
-
--- letters from a to b whose signal passes
-abbrev pub carries : Pid → Pid → (Signal → Bool) → Sent → Bool
-carries a b test l = is_between a b l && test l.signal
 
 abbrev pub says : Pid → (Signal → Bool) → Event → ℕ
 says w test (Said a b x) = one_if (same_pid w a && test x)

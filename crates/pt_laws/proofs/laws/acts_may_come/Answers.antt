@@ -1,4 +1,4 @@
-use Rattle.pt_laws.proofs.Acts.{local_acts, legal_acts}
+use Rattle.pt_laws.proofs.living.Acts.{local_acts, legal_acts}
 use Rattle.pt_laws.proofs.laws.acts_may_come.Goals as goal
 
 pub returns-clause-local : goal.returns-clause-local

@@ -1,5 +1,5 @@
-use Rattle.pt_laws.proofs.Asking.{answers_true}
-use Rattle.pt_laws.proofs.Answered.{quiet_answers}
+use Rattle.pt_laws.proofs.order.Asking.{answers_true}
+use Rattle.pt_laws.proofs.order.Answered.{quiet_answers}
 use Rattle.pt_laws.proofs.laws.answers_are_true.Goals as goal
 
 pub returns-clause-told : goal.returns-clause-told

@@ -1,4 +1,4 @@
-use Rattle.pt_laws.proofs.Heading.{headline}
+use Rattle.pt_laws.proofs.lanes.Heading.{headline}
 use Rattle.pt_laws.proofs.laws.headline_holds.Goals as goal
 
 pub returns : goal.returns

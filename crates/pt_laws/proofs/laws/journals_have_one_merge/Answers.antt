@@ -1,6 +1,6 @@
 use Rattle.std.proofs.Common.{◌∙◌, sym}
-use Rattle.pt_laws.proofs.Gathering.{merge_is_there}
-use Rattle.pt_laws.proofs.OneMerge.{one_merge}
+use Rattle.pt_laws.proofs.lanes.Gathering.{merge_is_there}
+use Rattle.pt_laws.proofs.lanes.OneMerge.{one_merge}
 use Rattle.pt_laws.proofs.laws.journals_have_one_merge.Goals as goal
 
 pub returns-clause-there : goal.returns-clause-there

@@ -4,8 +4,8 @@ use Rattle.pt_signal.specs.declared.ids.LinkId.{LinkId}
 use Rattle.pt_events.specs.History.{life, at_start}
 use Rattle.pt_laws.specs.Since.{StandsSince}
 use Rattle.pt_laws.specs.Words.{ids_with, link_enters, link_leaves}
-use Rattle.pt_laws.proofs.LinksSince.{held_since}
-use Rattle.pt_laws.proofs.Since.{stands_since}
+use Rattle.pt_laws.proofs.linking.LinksSince.{held_since}
+use Rattle.pt_laws.proofs.living.Since.{stands_since}
 use Rattle.pt_laws.proofs.laws.links_are_held_since.Goals as goal
 
 pub returns-clause-list : goal.returns-clause-list

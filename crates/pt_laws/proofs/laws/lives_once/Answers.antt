@@ -1,5 +1,5 @@
-use Rattle.pt_laws.proofs.AfterEnd.{nothing_after_end}
-use Rattle.pt_laws.proofs.BirthsAndEnds.{born_once, ended_once, stays_ended}
+use Rattle.pt_laws.proofs.living.AfterEnd.{nothing_after_end}
+use Rattle.pt_laws.proofs.living.BirthsAndEnds.{born_once, ended_once, stays_ended}
 use Rattle.pt_laws.proofs.laws.lives_once.Goals as goal
 
 pub returns-clause-once : goal.returns-clause-once

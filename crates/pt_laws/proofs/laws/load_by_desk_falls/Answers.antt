@@ -1,6 +1,6 @@
 use Rattle.std.proofs.Common.{ℕ, sym, subst, subst₂}
 use Rattle.pt_events.specs.Journal.{IsLocal, Agrees, of_desk, posts, gots}
-use Rattle.pt_laws.proofs.Load.{one_receipt}
+use Rattle.pt_laws.proofs.lanes.Load.{one_receipt}
 use Rattle.pt_laws.proofs.DeskLoads.{receipt_lowers, merged_load}
 use Rattle.pt_laws.proofs.Merged.{all_home, merged_legal}
 use Rattle.pt_laws.proofs.laws.load_by_desk_falls.Goals as goal

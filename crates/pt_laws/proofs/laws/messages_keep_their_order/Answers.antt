@@ -1,4 +1,4 @@
-use Rattle.pt_laws.proofs.Sender.{sender_front}
+use Rattle.pt_laws.proofs.order.Sender.{sender_front}
 use Rattle.pt_laws.proofs.laws.messages_keep_their_order.Goals as goal
 
 pub returns : goal.returns

@@ -1,8 +1,8 @@
 use Rattle.std.proofs.Common.{[], refl, arith}
-use Rattle.pt_laws.proofs.Heading.{one_down}
-use Rattle.pt_laws.proofs.MadeOnce.{made_once_local}
-use Rattle.pt_laws.proofs.Monitors.{said_once}
-use Rattle.pt_laws.proofs.StartAfter.{made_once}
+use Rattle.pt_laws.proofs.lanes.Heading.{one_down}
+use Rattle.pt_laws.proofs.monitoring.MadeOnce.{made_once_local}
+use Rattle.pt_laws.proofs.monitoring.Monitors.{said_once}
+use Rattle.pt_laws.proofs.living.StartAfter.{made_once}
 use Rattle.pt_laws.proofs.laws.one_down.Goals as goal
 
 pub returns-clause-down : goal.returns-clause-down

@@ -1,4 +1,4 @@
-use Rattle.pt_laws.proofs.Peers.{peers_since}
+use Rattle.pt_laws.proofs.linking.Peers.{peers_since}
 use Rattle.pt_laws.proofs.laws.peers_are_linked_since.Goals as goal
 
 pub returns : goal.returns

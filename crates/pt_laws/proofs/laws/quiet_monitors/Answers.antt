@@ -5,8 +5,8 @@ use Rattle.pt_laws.specs.Resumed.{outcome, IsLeftBy}
 use Rattle.pt_events.specs.History.{Past, Start, Phase, unborn, living, ended, life}
 use Rattle.pt_laws.specs.MonitorLaws.{QuietMonitor, QuietWatch, demonitors_and_downs}
 use Rattle.pt_laws.specs.Watch.{open_in, kept_in}
-use Rattle.pt_laws.proofs.Quiet.{open_is_kept, kept_by_none, one_of_three}
-use Rattle.pt_laws.proofs.Resumed.{over_legal, over_alive, over_outcome, over_living, over_flying}
+use Rattle.pt_laws.proofs.monitoring.Quiet.{open_is_kept, kept_by_none, one_of_three}
+use Rattle.pt_laws.proofs.living.Resumed.{over_legal, over_alive, over_outcome, over_living, over_flying}
 use Rattle.pt_laws.proofs.laws.quiet_monitors.Goals as goal
 
 monitors : QuietMonitor

@@ -1,6 +1,6 @@
-use Rattle.pt_laws.proofs.Load.{load_falls}
-use Rattle.pt_laws.proofs.Settled.{settled_bound, quiet_flights, flights_quiet}
-use Rattle.pt_laws.proofs.Emptied.{empty_is_quiet, oldest_may_come}
+use Rattle.pt_laws.proofs.lanes.Load.{load_falls}
+use Rattle.pt_laws.proofs.lanes.Settled.{settled_bound, quiet_flights, flights_quiet}
+use Rattle.pt_laws.proofs.lanes.Emptied.{empty_is_quiet, oldest_may_come}
 use Rattle.pt_laws.proofs.laws.receipts_lower_the_load.Goals as goal
 
 pub returns-clause-falls : goal.returns-clause-falls

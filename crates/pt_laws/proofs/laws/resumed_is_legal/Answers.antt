@@ -1,7 +1,7 @@
 use Rattle.std.proofs.Common.{refl}
-use Rattle.pt_laws.proofs.Resumed.{resumed, same_life, same_end, same_flying, all_new, left_again}
-use Rattle.pt_laws.proofs.StartAfter.{is_start, one_entry_each, keeps_once}
-use Rattle.pt_laws.proofs.Twice.{twice}
+use Rattle.pt_laws.proofs.living.Resumed.{resumed, same_life, same_end, same_flying, all_new, left_again}
+use Rattle.pt_laws.proofs.living.StartAfter.{is_start, one_entry_each, keeps_once}
+use Rattle.pt_laws.proofs.living.Twice.{twice}
 use Rattle.pt_laws.proofs.laws.resumed_is_legal.Goals as goal
 
 pub returns-clause-legal : goal.returns-clause-legal

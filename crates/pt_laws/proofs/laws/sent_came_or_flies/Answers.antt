@@ -1,4 +1,4 @@
-use Rattle.pt_laws.proofs.Flight.{came_or_flies}
+use Rattle.pt_laws.proofs.order.Flight.{came_or_flies}
 use Rattle.pt_laws.proofs.laws.sent_came_or_flies.Goals as goal
 
 pub returns : goal.returns

@@ -1,4 +1,4 @@
-use Rattle.pt_laws.proofs.NewIds.{stamps_number, both_number, stamps_are_new, old_refs}
+use Rattle.pt_laws.proofs.living.NewIds.{stamps_number, both_number, stamps_are_new, old_refs}
 use Rattle.pt_laws.proofs.laws.stamps_make_new_ids.Goals as goal
 
 pub returns-clause-numbers : goal.returns-clause-numbers

@@ -1,4 +1,4 @@
-use Rattle.pt_laws.proofs.Positions.{placed}
+use Rattle.pt_laws.proofs.order.Positions.{placed}
 use Rattle.pt_laws.proofs.laws.taken_or_waiting.Goals as goal
 
 pub returns : goal.returns

@@ -1,4 +1,4 @@
-use Rattle.pt_laws.proofs.Flags.{trap_is_last_flag}
+use Rattle.pt_laws.proofs.living.Flags.{trap_is_last_flag}
 use Rattle.pt_laws.proofs.laws.trap_is_the_last_flag.Goals as goal
 
 pub returns : goal.returns

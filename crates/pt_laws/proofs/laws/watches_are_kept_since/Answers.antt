@@ -5,8 +5,8 @@ use Rattle.pt_signal.specs.declared.ids.Ref.{Ref}
 use Rattle.pt_events.specs.History.{life, state}
 use Rattle.pt_laws.specs.Since.{StandsSince}
 use Rattle.pt_laws.specs.Words.{watch_enters, watch_leaves}
-use Rattle.pt_laws.proofs.WatchesSince.{kept_since}
-use Rattle.pt_laws.proofs.Since.{stands_since}
+use Rattle.pt_laws.proofs.monitoring.WatchesSince.{kept_since}
+use Rattle.pt_laws.proofs.living.Since.{stands_since}
 use Rattle.pt_laws.proofs.laws.watches_are_kept_since.Goals as goal
 
 pub returns-clause-list : goal.returns-clause-list

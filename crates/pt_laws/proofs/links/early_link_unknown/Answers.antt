@@ -1,4 +1,4 @@
-use Rattle.pt_laws.proofs.EarlyLinks.{early_link_unknown}
+use Rattle.pt_laws.proofs.linking.EarlyLinks.{early_link_unknown}
 use Rattle.pt_laws.proofs.links.early_link_unknown.Goals as goal
 
 pub returns : goal.returns

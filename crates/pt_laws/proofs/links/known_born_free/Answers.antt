@@ -1,4 +1,4 @@
-use Rattle.pt_laws.proofs.Agreed.{born_free}
+use Rattle.pt_laws.proofs.linking.Agreed.{born_free}
 use Rattle.pt_laws.proofs.links.known_born_free.Goals as goal
 
 pub returns : goal.returns

@@ -1,4 +1,4 @@
-use Rattle.pt_laws.proofs.Agreed.{all_local, merge_known, merge_home}
+use Rattle.pt_laws.proofs.linking.Agreed.{all_local, merge_known, merge_home}
 use Rattle.pt_laws.proofs.links.merge_known.Goals as goal
 
 pub returns : goal.returns

@@ -1,7 +1,7 @@
 use Rattle.std.proofs.Common.{ℕ, [], sym, subst₂}
 use Rattle.pt_events.specs.Journal.{Agrees, posts, gots, of_desk, events}
 use Rattle.pt_laws.proofs.Merged.{merged_legal}
-use Rattle.pt_laws.proofs.Agreed.{all_local, born_free, merge_known, merge_home, links_agree}
+use Rattle.pt_laws.proofs.linking.Agreed.{all_local, born_free, merge_known, merge_home, links_agree}
 use Rattle.pt_laws.proofs.links.merge_links.Goals as goal
 
 pub returns : goal.returns

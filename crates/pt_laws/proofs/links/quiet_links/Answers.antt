@@ -1,4 +1,4 @@
-use Rattle.pt_laws.proofs.Agreed.{links_agree}
+use Rattle.pt_laws.proofs.linking.Agreed.{links_agree}
 use Rattle.pt_laws.proofs.links.quiet_links.Goals as goal
 
 pub returns : goal.returns

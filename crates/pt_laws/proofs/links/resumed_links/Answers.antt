@@ -1,4 +1,4 @@
-use Rattle.pt_laws.proofs.Agreed.{links_over}
+use Rattle.pt_laws.proofs.linking.Agreed.{links_over}
 use Rattle.pt_laws.proofs.links.resumed_links.Goals as goal
 
 pub returns : goal.returns

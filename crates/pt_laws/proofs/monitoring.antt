@@ -1,0 +1,10 @@
+-- Monitors: how often each is made, kept and answered.
+pub mod MonitorsSince
+pub mod WatchesSince
+pub mod MadeOnce
+pub mod Counts
+pub mod Downs
+pub mod Keeping
+pub mod Watching
+pub mod Monitors
+pub mod Quiet
