@@ -1,5 +1,5 @@
 -- The laws of links, as statements.
-use Rattle.std.specs.Prelude.{◌≡◌, ℕ, true, false, List, []}
+use Rattle.std.specs.Prelude.{◌≡◌, ℕ, true, false, List, [], ◌++◌}
 use Rattle.pt_signal.specs.declared.pid.Pid.{Pid}
 use Rattle.pt_signal.specs.declared.letter.Letter.{Letter}
 use Rattle.pt_signal.specs.Values.{same_pid}
@@ -7,7 +7,7 @@ use Rattle.pt_events.specs.declared.event.Stamped.{Stamped}
 use Rattle.pt_events.specs.History.{Past, Start, IsLegal, alive}
 use Rattle.pt_events.specs.Journal.{Journals, LanesAgree, IsLocal, IsMerge, events}
 use Rattle.pt_laws.specs.Load.{IsQuiet}
-use Rattle.pt_laws.specs.Resumed.{AllNewTo, IsLeftBy}
+use Rattle.pt_laws.specs.Resumed.{AllNewTo, MadeUpTo, IsLeftBy}
 use Rattle.pt_laws.specs.Links.{IsKnownSaid, IsBornHome, IsBornFree, LinksAgree}
 
 -- in a quiet history the links of a live process stand at both ends, or, where the other is not alive, at neither
@@ -40,3 +40,17 @@ QuietLinksOver =
     (start : Start) (old past : Past) (p q : Pid) → IsLeftBy start old → IsKnownSaid [] old → IsBornHome old
     → AllNewTo old past → IsLegal start past → IsQuiet start past → IsKnownSaid start past → IsBornHome past
     → same_pid p q ≡ false → alive start past p ≡ true → LinksAgree start past p q
+
+-- so in a quiet merge of journals that go on from such a start, with stamps above the numbers that were made before
+abbrev pub MergeLinksOver : Type 0
+MergeLinksOver =
+    (start : Start) (old : Past) (low top : ℕ) (journal : Journals) (over : ℕ → ℕ → List Letter) (merged : List Stamped) (p q : Pid)
+    → IsLeftBy start old → IsKnownSaid [] old → IsBornHome old → MadeUpTo low old
+    → ((d : ℕ) → IsLocal start low top d (journal d)) → LanesAgree start journal over → IsMerge journal merged
+    → IsQuiet start (events merged) → same_pid p q ≡ false → alive start (events merged) p ≡ true → LinksAgree start (events merged) p q
+
+-- both histories together keep the two rules, so it holds after any number of them
+abbrev pub KnownAgain : Type 0
+KnownAgain =
+    (start : Start) (old past : Past) → IsLeftBy start old → IsKnownSaid [] old → IsBornHome old → IsKnownSaid start past → IsBornHome past
+    → IsKnownSaid [] (past ++ old) × IsBornHome (past ++ old)

@@ -1,6 +1,6 @@
 // The laws of links: each is the contract of a function that does nothing.
 
-ghost use Rattle.pt_laws.specs.LinkLaws.{QuietLinks, KnownBornFree, MergeKnown, MergeLinks, QuietLinksOver};
+ghost use Rattle.pt_laws.specs.LinkLaws.{QuietLinks, KnownBornFree, MergeKnown, MergeLinks, QuietLinksOver, MergeLinksOver, KnownAgain};
 ghost use Rattle.pt_laws.specs.EarlyLinks.{EarlyLinkUnknown, EarlyLinkAbroad};
 
 /// Once no signal is on its way, a link of a live process stands at both ends or at neither: where the other
@@ -37,9 +37,13 @@ pub fn merge_links()
 
 /// The same holds of a quiet history over any start state that an earlier quiet one left behind, with link ids and
 /// references of its own, where both keep the two rules of `known_born_free`: links that were made before the
-/// resumption and links that were made after it stand at both ends or at neither.
+/// resumption and links that were made after it stand at both ends or at neither. Journals that go on with stamps above
+/// the numbers made before have such ids and keep both rules. Both histories together keep them again, so it holds
+/// after any number of resumptions.
 pub fn resumed_links()
-    ensures { QuietLinksOver }
+    ensures over { QuietLinksOver }
+    ensures merge { MergeLinksOver }
+    ensures again { KnownAgain }
 {}
 
 /// A counterexample on one desk, where a parent says `Link` to its child's pid before the child is born. The

@@ -148,7 +148,7 @@ module _ (start : Start) where
 
 -- a history over the state of another --------------------------------------------------------------
 
-home_joined : (new old : Past) → IsBornHome new → IsBornHome old → IsBornHome (new ++ old)
+pub home_joined : (new old : Past) → IsBornHome new → IsBornHome old → IsBornHome (new ++ old)
 home_joined [] old h k = k
 home_joined (Born p q l ∷ new) old h k = (h.0, home_joined new old h.1 k)
 home_joined (Said a b x ∷ new) old h k = home_joined new old h k
@@ -158,7 +158,7 @@ home_joined (Flag p on ∷ new) old h k = home_joined new old h k
 home_joined (Left p r ∷ new) old h k = home_joined new old h k
 
 module _ (start : Start) (old : Past) (left : IsLeftBy start old) where
-  known_joined : (new : Past) → IsKnownSaid start new → IsKnownSaid [] old → IsKnownSaid [] (new ++ old)
+  pub known_joined : (new : Past) → IsKnownSaid start new → IsKnownSaid [] old → IsKnownSaid [] (new ++ old)
   known_joined [] h k = k
   known_joined (Said a b x ∷ new) h k = (λ e. sym (over_unborn [] start old left.alike new b) ∙ h.0 e, known_joined new h.1 k)
   known_joined (Born p q l ∷ new) h k = known_joined new h k
