@@ -54,11 +54,6 @@ ComeInTo number lanes = (k : ℕ) (d : Receiving) → k < length lanes → ((sli
 abbrev pub one_more : List (List Letter) → ℕ → Letter → List (List Letter)
 one_more lists k letter = slice_set lists k (slice_index_or lists k [] ++ letter ∷ [])
 
--- the letters in turn, each to the end of the list for its receiver's desk
-abbrev pub put_out : List (List Letter) → List Letter → List (List Letter)
-put_out lists [] = lists
-put_out lists (letter ∷ letters) = put_out (one_more lists letter.to.shard letter) letters
-
 -- the letters posted to desk k less those known to be collected number the capacity of the lane
 abbrev pub IsFull : OutEnds → ℕ → Type 0
 IsFull o k = length (slice_index_or o.posted k []) ≡ slice_index_or o.capacity k 0 + slice_index_or o.seen k 0

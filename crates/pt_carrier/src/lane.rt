@@ -105,7 +105,7 @@ impl InLane {
         self.ring.cached_slots()
     }
 
-    // Takes the oldest letter that is known to wait. It stands whole in the ring, and names the desks of this lane.
+    // Takes the oldest letter that is known to wait. It names the desks of this lane.
     pub(crate) fn take_known(&mut self) -> Letter
         requires { 0 < length self.old.known }
         ensures same { (self.new.ring ≡ self.old.ring) × (self.new.from ≡ self.old.from) × (self.new.to ≡ self.old.to) }
@@ -113,11 +113,13 @@ impl InLane {
         ensures collected { self.new.collected ≡ self.old.collected ++ result ∷ [] }
         ensures shards { (result.from.shard ≡ self.old.from) × (result.to.shard ≡ self.old.to) }
     {
-        let mut letter = self.ring.pop_known();
-        letter.from.shard = self.from;
-        letter.to.shard = self.to;
+        let letter = self.ring.pop_known();
         self.count = self.count.saturating_add(1);
-        letter
+        if letter.from.shard == self.from && letter.to.shard == self.to {
+            letter
+        } else {
+            addressed(letter, self.from, self.to)
+        }
     }
 
     // Moves the letters that are known to wait to the end of the list, which has room for them.
@@ -129,6 +131,19 @@ impl InLane {
             list.push_reserved(self.take_known());
         }
     }
+}
+
+// The letter, between these desks. One that was posted names the desks of its lane, so this is never called; but the
+// end that receives cannot see that. To write the two numbers each time would move each letter in pieces.
+#[cold]
+#[inline(never)]
+fn addressed(letter: Letter, from: u8, to: u8) -> Letter
+    ensures { result ≡ on_lane from to letter }
+{
+    let mut letter = letter;
+    letter.from.shard = from;
+    letter.to.shard = to;
+    letter
 }
 
 // The two ends of a new lane.
