@@ -1,0 +1,143 @@
+-- The letters of a desk, box by box.
+use Rattle.std.proofs.Common.{◌≡◌, ℕ, zero, suc, ◌+◌, ◌-◌, ◌^◌, ◌<◌, ◌≤◌, ◌⊎◌, inl, inr, ◌==◌, Bool, true, false, max, min, List, [], ◌∷◌, ◌++◌, length, map, take, drop, set, get_or, Some, refl, sym, ap, ◌∙◌, subst, arith}
+use Rattle.std.specs.Prelude.{Result, Ok, Err, slice_get, sum_by}
+use Rattle.std.proofs.lemmas.List.Sums.{sum_by_more}
+use Rattle.std.specs.Result.{IsErr, IsErrAnd}
+use Rattle.std.proofs.lemmas.Bool.{eqb-true, eq-eqb, both_ways, cases_lt}
+use Rattle.std.proofs.lemmas.List.{map-set, map_more, length-map, get_or_past, get_or-set_same, get_or-set_other}
+use Rattle.std.proofs.lemmas.Option.{get_or_from_slice_get}
+use Rattle.pt_signal.specs.declared.pid.Pid.{Pid}
+use Rattle.pt_signal.specs.declared.letter.Letter.{Letter}
+use Rattle.pt_signal.specs.declared.signal.Signal.{Signal}
+use Rattle.pt_signal.specs.Process.{Sent, sent}
+use Rattle.pt_events.specs.declared.event.Event.{Event}
+use Rattle.pt_events.specs.declared.event.Stamped.{Stamped}
+use Rattle.pt_events.specs.Journal.{letter}
+use Rattle.pt_events.specs.JournalState.{IsNewer}
+use Rattle.pt_process.specs.Resident.{Owing}
+use Rattle.pt_carrier.specs.Ends.{one_more}
+use Rattle.pt_shard.specs.Boxes.{put_out}
+use Rattle.pt_carrier.proofs.Boxes.{one_more_count}
+use Rattle.pt_shard.proofs.Boxes.{put_count}
+use Rattle.pt_carrier.proofs.Lists.{map-set_more, map-set_same, get_or-map_read, get_or-map_set_same, get_or-map_set_other}
+use Rattle.pt_shard.specs.declared.stop.Stop.{Stop}
+use Rattle.pt_shard.specs.declared.stop.Stop.TheVariants.{Memory}
+use Rattle.pt_shard.specs.LettersState.{LettersState}
+use Rattle.pt_shard.specs.LedgerState.{Book, LedgerState, wrote, IsUpTo, Prepares}
+use Rattle.pt_shard.specs.Sound.{Every}
+
+-- an event stamped above the clock is newer than the journal
+pub newer_above : (n : ℕ) (s : Stamped) (journal : List Stamped) → IsUpTo n journal → n < s.stamp → IsNewer s journal
+newer_above n s [] h k = tt
+newer_above n s (t ∷ journal) h k = omega arith
+
+abbrev pub letters_in : List LettersState → List (List Letter)
+letters_in items = map (λ (b : LettersState). b.letters) items
+
+abbrev pub rooms_in : List LettersState → List ℕ
+rooms_in items = map (λ (b : LettersState). b.room) items
+
+module _ (items : List LettersState) (i j : ℕ) (is : i ≡ j) (within : j < length (letters_in items)) (old new : LettersState) (read : old ≡ get_or items i old) where
+  inside : i < length items
+  inside = let n : length (letters_in items) ≡ length items = length-map items (λ (b : LettersState). b.letters) in omega (arith, within, n, is)
+
+  pub put_letters : (l : Letter) → new.letters ≡ old.letters ++ l ∷ [] → letters_in (set items i new) ≡ one_more (letters_in items) j l
+  put_letters l pushed = map-set_more (λ (b : LettersState). b.letters) items i old new l inside read pushed ∙ ap (λ k. one_more (letters_in items) k l) is
+
+  pub put_rooms : new.room + 1 ≡ old.room → rooms_in (set items i new) ≡ set (rooms_in items) j (get_or (rooms_in items) j 0 - 1)
+  put_rooms less =
+      let at : get_or (rooms_in items) i 0 ≡ old.room = get_or-map_read (λ (b : LettersState). b.room) items i old 0 inside read in
+      let fewer : new.room ≡ get_or (rooms_in items) i 0 - 1 = omega (arith, less, at) in
+      map-set (λ (b : LettersState). b.room) items i new ∙ ap (set (rooms_in items) i) fewer ∙ ap (λ k. set (rooms_in items) k (get_or (rooms_in items) k 0 - 1)) is
+
+  pub popped_letters : new.letters ≡ drop 1 old.letters → letters_in (set items i new) ≡ set (letters_in items) j (drop 1 (get_or (letters_in items) j []))
+  popped_letters popped =
+      let at : get_or (letters_in items) i [] ≡ old.letters = get_or-map_read (λ (b : LettersState). b.letters) items i old [] inside read in
+      map-set (λ (b : LettersState). b.letters) items i new ∙ ap (set (letters_in items) i) (popped ∙ ap (drop 1) (sym at)) ∙ ap (λ k. set (letters_in items) k (drop 1 (get_or (letters_in items) k []))) is
+
+  pub same_letters : new.letters ≡ old.letters → letters_in (set items i new) ≡ letters_in items
+  same_letters same = map-set_same (λ (b : LettersState). b.letters) items i old new inside read same
+
+  pub room_there : get_or (rooms_in (set items i new)) j 0 ≡ new.room
+  room_there = ap (λ k. get_or (rooms_in (set items i new)) k 0) (sym is) ∙ get_or-map_set_same (λ (b : LettersState). b.room) items i new 0 inside
+
+-- an attempt to prepare that found no memory
+pub out_of_memory : (floor : ℕ) (HasRoom : LedgerState → Type 0) (old new : LedgerState) (result : Result (Unit {0}) Stop)
+    → IsErr result × IsErrAnd result (λ f. f ≡ Memory) → new.book ≡ old.book → max old.book.clock floor < 2 ^ 62 → Prepares floor HasRoom old result new
+out_of_memory floor HasRoom old new (Ok u) h same can = absurd (cc)
+out_of_memory floor HasRoom old new (Err f) h same can = subst (λ x. Prepares floor HasRoom old (Err x) new) (sym h.1) (same, can)
+
+-- letters put one by one -----------------------------------------------------------------
+
+put_out_more : (boxes : List (List Letter)) (ls : List Letter) (l : Letter) → put_out boxes (ls ++ l ∷ []) ≡ one_more (put_out boxes ls) l.to.shard l
+put_out_more boxes [] l = refl
+put_out_more boxes (x ∷ ls) l = put_out_more (one_more boxes x.to.shard x) ls l
+
+every_at : {X : Type 0} (P : X → Type 0) (xs : List X) (i : ℕ) (x : X) → Every P xs → slice_get xs i ≡ Some x → P x
+every_at P [] i x h got = absurd (cc)
+every_at P (y ∷ xs) zero x h got = let e : y ≡ x = cc in subst P e h.0
+every_at P (y ∷ xs) (suc i) x h got = every_at P xs i x h.1 got
+
+pub room_less : (rooms : List ℕ) (t n e : ℕ) → n ≤ get_or rooms e 0 → n - 1 ≤ get_or (set rooms t (get_or rooms t 0 - 1)) e 0
+room_less rooms t n e enough = go (t == e) refl (cases_lt e (length rooms))
+  where
+    go : (b : Bool) → (t == e) ≡ b → (e < length rooms) ⊎ (length rooms ≤ e) → n - 1 ≤ get_or (set rooms t (get_or rooms t 0 - 1)) e 0
+    go b k (inr beyond) = let none = get_or_past rooms e 0 beyond in omega (arith, enough, none)
+    go true k (inl within) =
+        let at : t ≡ e = eqb-true t e k in
+        let here : get_or (set rooms e (get_or rooms e 0 - 1)) e 0 ≡ get_or rooms e 0 - 1 = get_or-set_same rooms e (get_or rooms e 0 - 1) 0 within in
+        subst (λ x. n - 1 ≤ get_or (set rooms x (get_or rooms x 0 - 1)) e 0) (sym at) (omega (arith, enough, here))
+    go false k (inl within) =
+        let other : get_or (set rooms t (get_or rooms t 0 - 1)) e 0 ≡ get_or rooms e 0 = get_or-set_other rooms t e (get_or rooms t 0 - 1) 0 (λ h. both_ways (t == e) k (eq-eqb t e (sym h))) in
+        omega (arith, enough, other)
+
+pub one_more_length : (boxes boxes' : List (List Letter)) (k : ℕ) (l : Letter) → boxes' ≡ one_more boxes k l → length boxes' ≡ length boxes
+one_more_length boxes boxes' k l is = ap length is ∙ one_more_count boxes k l
+
+-- the letters that an ended process owes, put one by one
+module _ (owed : List Sent) (from : Pid) (n i : ℕ) (e : Event) (start now next : LedgerState) (to : Pid) (x : Signal)
+    (within : i < length owed) (mine : Owing) (is_owed : mine.owed ≡ owed) (is_from : mine.from ≡ from) (got : slice_get owed i ≡ Some (sent mine.from to x))
+    (so_far : now.book ≡ wrote n e (map (letter n) (take i owed)) start.book) where
+  pub owed_to : Every (λ l. l.to.shard < length start.book.outbox) owed → to.shard < length now.book.outbox
+  owed_to every =
+      let inside : to.shard < length start.book.outbox = every_at (λ l. l.to.shard < length start.book.outbox) owed i (sent mine.from to x) every got in
+      let as_many : length (put_out start.book.outbox (map (letter n) (take i owed))) ≡ length start.book.outbox = put_count start.book.outbox (map (letter n) (take i owed)) in
+      subst (λ b. to.shard < length b.outbox) (sym so_far) (omega (arith, inside, as_many))
+
+  pub owed_more : next.book ≡ record now.book { outbox = one_more now.book.outbox to.shard (record { from = from; to = to; signal = x; stamp = n }) }
+      → next.book ≡ wrote n e (map (letter n) (take (i + 1) owed)) start.book
+  owed_more put =
+      let l : Letter = record { from = from; to = to; signal = x; stamp = n } in
+      let same : letter n (sent mine.from to x) ≡ l = ap (λ p. letter n (sent p to x)) is_from in
+      let more : map (letter n) (take (i + 1) owed) ≡ map (letter n) (take i owed) ++ l ∷ []
+      = map_more (letter n) owed i (sent mine.from to x) within
+      ∙ ap (λ y. map (letter n) (take i owed) ++ letter n y ∷ []) (get_or_from_slice_get owed i (sent mine.from to x) (sent mine.from to x) got)
+      ∙ ap (λ y. map (letter n) (take i owed) ++ y ∷ []) same in
+      put ∙ ap (λ (b : Book). record b { outbox = one_more b.outbox to.shard l }) so_far
+      ∙ ap {A = List (List Letter)} (λ o. record (wrote n e [] start.book) { outbox = o }) (sym (put_out_more start.book.outbox (map (letter n) (take i owed)) l) ∙ ap (put_out start.book.outbox) (sym more))
+
+-- the letters of one box more
+pub counted_more : (items : List LettersState) (outbox : List (List Letter)) → letters_in items ≡ outbox → (e : ℕ) → e < length items → (old : LettersState) → old ≡ get_or items e old
+    → (held count len new : ℕ) → count ≡ min (sum_by length (take e outbox) + held) (2 ^ 64 - 1) → len ≡ length old.letters → new ≡ min (count + len) (2 ^ 64 - 1)
+    → new ≡ min (sum_by length (take (e + 1) outbox) + held) (2 ^ 64 - 1)
+counted_more items outbox is e within old read held count len new so_far one more =
+    let inside : e < length outbox = let n : length (letters_in items) ≡ length items = length-map items (λ (b : LettersState). b.letters) in omega (arith, within, n, ap length is) in
+    let at : get_or outbox e [] ≡ old.letters = ap (λ o. get_or o e []) (sym is) ∙ get_or-map_read (λ (b : LettersState). b.letters) items e old [] within read in
+    let step : sum_by length (take (e + 1) outbox) ≡ sum_by length (take e outbox) + length (get_or outbox e []) = sum_by_more length outbox e [] inside in
+    omega (arith, so_far, one, more, step, ap length at)
+
+-- the boxes up to e have room, and now that of e
+pub reserved_more : (items : List LettersState) (e count : ℕ) → e < length items → (new : LettersState) → count ≤ new.room
+    → ((k : ℕ) → k < e → count ≤ get_or (rooms_in items) k 0) → (k : ℕ) → k < e + 1 → count ≤ get_or (rooms_in (set items e new)) k 0
+reserved_more items e count within new roomy before k low = go (k == e) refl
+  where
+    go : (b : Bool) → (k == e) ≡ b → count ≤ get_or (rooms_in (set items e new)) k 0
+    go true h =
+        let at : k ≡ e = eqb-true k e h in
+        let here : get_or (rooms_in (set items e new)) e 0 ≡ new.room = get_or-map_set_same (λ (b : LettersState). b.room) items e new 0 within in
+        subst (λ x. count ≤ get_or (rooms_in (set items e new)) x 0) (sym at) (omega (arith, roomy, here))
+    go false h =
+        let apart : (k ≡ e → ⊥) = λ p. both_ways (k == e) h (eq-eqb k e p) in
+        let other : get_or (rooms_in (set items e new)) k 0 ≡ get_or (rooms_in items) k 0 = get_or-map_set_other (λ (b : LettersState). b.room) items e k new 0 apart in
+        let old : count ≤ get_or (rooms_in items) k 0 = before k (omega (arith, low, apart)) in
+        omega (arith, old, other)

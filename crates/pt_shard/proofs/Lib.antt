@@ -1,0 +1,14 @@
+pub mod Boxes
+mod Ledgers
+mod Frames
+mod Births
+mod Fresh
+mod Near
+mod Endings
+mod Removals
+mod Keeps
+mod Acting
+mod Receiving
+mod Outcomes
+mod Bearing
+mod Standing

@@ -1,0 +1,255 @@
+-- A desk that handles a letter is whole afterwards, and is as the receipt makes it.
+use Rattle.std.proofs.Common.{◌≡◌, ℕ, ◌+◌, ◌^◌, ◌<◌, ◌≤◌, max, Bool, true, false, cond, ◌==◌, List, [], ◌∷◌, ◌++◌, length, map, Option, Some, None, is_some, refl, sym, ap, ◌∙◌, subst, append-nil, arith}
+use Rattle.std.specs.Prelude.{IsSome}
+use Rattle.std.specs.Option.{option_to_list}
+use Rattle.pt_signal.specs.declared.pid.Pid.{Pid}
+use Rattle.pt_signal.specs.declared.letter.Letter.{Letter}
+use Rattle.pt_signal.specs.declared.reason.Reason.{Reason}
+use Rattle.pt_signal.specs.declared.signal.Signal.{Signal}
+use Rattle.pt_signal.specs.Values.{same_pid}
+use Rattle.pt_signal.specs.Process.{ProcessState, handle, Sent, sent, bounce, estate, answer_of_dead}
+use Rattle.pt_signal.proofs.Same.{same_pid_refl, same_pid_is}
+use Rattle.pt_signal.proofs.Handling.{living_answer, handle_answer}
+use Rattle.pt_events.specs.declared.event.Event.{Event}
+use Rattle.pt_events.specs.declared.event.Event.TheVariants.{Came}
+use Rattle.pt_events.specs.History.{Phase, unborn, living, ended, life, is_living, gets, live_or_end, got_sends, sent_by, end_sends}
+use Rattle.pt_events.specs.Journal.{letter}
+use Rattle.pt_process.specs.Resident.{Owing}
+use Rattle.pt_shard.specs.ShardState as shards
+use Rattle.pt_shard.specs.ShardState.{ShardState, past, came, handled, vacated, ended_by, sends}
+use Rattle.pt_shard.specs.LedgerState.{Book, wrote}
+use Rattle.pt_shard.specs.Sound.{of_phase, resident}
+use Rattle.pt_shard.specs.Residents.{Table, ResidentsState, resident_at, in_place, changed, vacant_at, Changes, Ends, SameSettings}
+use Rattle.pt_shard.specs.Deliveries.{Standing, unless_ended, remains, is_ended_by, replies}
+use Rattle.pt_shard.specs.Whole.{Parts, parts_of, shard_of, IsWhole}
+use Rattle.pt_shard.specs.Backs.{living_back}
+use Rattle.pt_shard.proofs.Births.{issued_kept, issued_same}
+use Rattle.pt_shard.proofs.Frames.{IsPut, put_one}
+use Rattle.pt_signal.specs.declared.signal.Signal.TheVariants.{Message, Link, Unlink, LinkExit, Monitor, Demonitor, AliveAsk, AliveSay}
+use Rattle.pt_shard.specs.Sound.{Every}
+use Rattle.pt_shard.proofs.Endings.{fewer_owed}
+use Rattle.pt_shard.proofs.Keeps.{IsLawful, sent_near}
+use Rattle.pt_shard.proofs.Acting.{Outcome, outcome, Found, lives_here, stands, both, put_by_pid, same_settings, vacant_next, option_pid, owes_is, put_there}
+
+-- what the journal says a letter does, by what stands in the slot of its receiver ---------------
+
+ended_or_not : (p : Pid) (o : Option Reason) (s : ProcessState) → of_phase p (live_or_end o s) ≡ unless_ended o p s
+ended_or_not p None s = refl
+ended_or_not p (Some r) s = refl
+
+gets_is : (l : Letter) (f : Phase) → of_phase l.to (gets l.to l.from l.signal f) ≡ remains l (of_phase l.to f)
+gets_is l unborn = refl
+gets_is l (living s) = ended_or_not l.to (handle l.to s l.from l.signal).ending (handle l.to s l.from l.signal).state
+gets_is l (ended r s) = refl
+
+got_is : (l : Letter) (f : Phase) → got_sends f l.to l.from l.signal ≡ replies l (of_phase l.to f)
+got_is l unborn = refl
+got_is l (living s) = refl
+got_is l (ended r s) = refl
+
+ends_is : (l : Letter) (f : Phase) → shards.is_ended_by f l.to l.from l.signal ≡ is_ended_by l (of_phase l.to f)
+ends_is l unborn = refl
+ends_is l (living s) = refl
+ends_is l (ended r s) = refl
+
+-- the receipt --------------------------------------------------------------------------------
+
+abbrev pub receipt_stamp : Parts → Letter → ℕ
+receipt_stamp a l = max a.book.clock l.stamp + 1
+
+abbrev pub standing : Parts → Letter → Standing
+standing a l = resident_at a.house.desk a.house.table l.to
+
+-- what the receipt does to the slots
+pub record Delivers (a : Parts) (l : Letter) (table : Table) : Type 0 where
+  pub live : (q : Pid) → resident_at a.house.desk table q ≡ cond (same_pid q l.to) (remains l (standing a l)) (resident_at a.house.desk a.house.table q)
+  pub settings : SameSettings a.house.table table
+  pub vacant : vacant_at a.house.desk table ≡ vacated a.config.top_version (cond (is_ended_by l (standing a l)) (Some l.to) None) (vacant_at a.house.desk a.house.table)
+
+module _ (a : Parts) (whole : IsWhole a) (l : Letter) (here : l.to.shard ≡ a.house.desk) (near : l.from.shard < a.config.desks) (can : max a.book.clock l.stamp < 2 ^ 62) where
+  there : standing a l ≡ of_phase l.to (life [] (past (shard_of a)) l.to)
+  there = whole.sound.residents l.to
+
+  module _ (book : Book) (house : ResidentsState) (desk : house.desk ≡ a.house.desk) where
+    lawful : Delivers a l house.table → IsLawful a whole (receipt_stamp a l) (came l) house.table
+    lawful delivers = record {
+      later = omega arith;
+      fits = omega (arith, can);
+      home = here;
+      may = tt;
+      new_at = tt;
+      known = tt;
+      near = near;
+      residents =
+          let comes : resident (came l ∷ past (shard_of a)) l.to ≡ remains l (standing a l) = rw (same_pid_refl l.to, there) (gets_is l (life [] (past (shard_of a)) l.to)) in
+          put_one (past (shard_of a)) (came l) l.to (λ q. refl) (resident_at a.house.desk a.house.table) (resident_at a.house.desk house.table) whole.sound.residents
+          (subst (λ v. IsPut l.to v (resident_at a.house.desk a.house.table) (resident_at a.house.desk house.table)) (sym comes) delivers.live);
+      issues = λ slot. delivers.settings.issues slot ∙ whole.sound.issues slot ∙ sym (issued_same (past (shard_of a)) (came l) slot refl);
+      born = issued_kept a.house.desk (past (shard_of a)) (came l) refl whole.sound.born;
+      capacity = delivers.settings.capacity;
+      top_version = delivers.settings.top_version;
+    }
+
+    ended_here : ended_by (shard_of a) (came l) ≡ cond (is_ended_by l (standing a l)) (Some l.to) None
+    ended_here = ap (λ b. cond b (Some l.to) None) (ends_is l (life [] (past (shard_of a)) l.to) ∙ sym (ap (is_ended_by l) there))
+
+    delivered : Delivers a l house.table → book ≡ wrote (receipt_stamp a l) (came l) (map (letter (receipt_stamp a l)) (replies l (standing a l))) a.book
+        → Outcome a (parts_of a.config book house) (receipt_stamp a l) (came l)
+    delivered delivers is =
+        let replied : replies l (standing a l) ≡ sent_by [] (past (shard_of a)) (came l) = ap (replies l) there ∙ sym (got_is l (life [] (past (shard_of a)) l.to)) in
+        outcome a whole (receipt_stamp a l) (came l) book house desk (lawful delivers)
+        (is ∙ ap (λ o. wrote (receipt_stamp a l) (came l) (map (letter (receipt_stamp a l)) o) a.book) replied)
+        (delivers.vacant ∙ ap (λ o. vacated a.config.top_version o (vacant_at a.house.desk a.house.table)) (sym ended_here))
+
+    -- a receiver that is not alive
+    pub bounced : house.table ≡ a.house.table → standing a l ≡ None → book ≡ wrote (receipt_stamp a l) (came l) (map (letter (receipt_stamp a l)) (bounce l.to l.from l.signal)) a.book
+        → Outcome a (parts_of a.config book house) (receipt_stamp a l) (came l)
+    bounced same none is =
+        delivered
+        (subst (Delivers a l) (sym same) (record {
+          live = λ q. still q (same_pid q l.to) refl;
+          settings = same_settings a.house.table;
+          vacant = rw none refl;
+        }))
+        (is ∙ ap (λ o. wrote (receipt_stamp a l) (came l) (map (letter (receipt_stamp a l)) (replies l o)) a.book) (sym none))
+      where
+        still : (q : Pid) (b : Bool) → same_pid q l.to ≡ b → resident_at a.house.desk a.house.table q ≡ cond (same_pid q l.to) (remains l (standing a l)) (resident_at a.house.desk a.house.table q)
+        still q true h = rw (h, none) (ap (resident_at a.house.desk a.house.table) (same_pid_is q l.to h) ∙ none)
+        still q false h = rw h refl
+
+    module _ (f : Found a l.to) where
+      stands_there : standing a l ≡ Some (l.to, f.s)
+      stands_there = sym f.there ∙ ap (λ x. Some (x, f.s)) (both a whole l.to f).1
+
+      place : in_place a.house.table l.to ≡ Some (l.to, f.s)
+      place = (stands a whole l.to f).1
+
+      -- a live receiver that goes on
+      pub taken_in : (handle f.me f.s l.from l.signal).ending ≡ None → Changes l.to (λ me s. (handle me s l.from l.signal).state) a.house.table house.table
+          → book ≡ wrote (receipt_stamp a l) (came l) (map (letter (receipt_stamp a l)) (living_answer l.to l.from l.signal)) a.book
+          → Outcome a (parts_of a.config book house) (receipt_stamp a l) (came l)
+      taken_in goes_on changes is =
+          let none : (handle l.to f.s l.from l.signal).ending ≡ None = ap (λ m. (handle m f.s l.from l.signal).ending) (sym (both a whole l.to f).1) ∙ goes_on in
+          let stays : remains l (standing a l) ≡ changed (λ me s. (handle me s l.from l.signal).state) (in_place a.house.table l.to) = rw (stands_there, place, none) refl in
+          let back : replies l (standing a l) ≡ living_answer l.to l.from l.signal = rw (stands_there, none, handle_answer l.to f.s l.from l.signal) (append-nil (living_answer l.to l.from l.signal)) in
+          delivered
+          (record {
+            live = subst (λ v. IsPut l.to v (resident_at a.house.desk a.house.table) (resident_at a.house.desk house.table)) (sym stays) (put_by_pid a.house.desk l.to _ a.house.table house.table here changes.puts);
+            settings = changes.puts.settings;
+            vacant = rw (stands_there, none) (ap (option_pid a.house.desk) changes.next);
+          })
+          (is ∙ ap (λ o. wrote (receipt_stamp a l) (came l) (map (letter (receipt_stamp a l)) o) a.book) (sym back))
+
+-- a signal that ends a process is not answered
+ending_unanswered : (me : Pid) (s : ProcessState) (from : Pid) (x : Signal) (r : Reason) → (handle me s from x).ending ≡ Some r → living_answer me from x ≡ []
+ending_unanswered me s from (Message b) r h = refl
+ending_unanswered me s from (Link i) r h = refl
+ending_unanswered me s from (Unlink ids) r h = refl
+ending_unanswered me s from (Signal.Exit why) r h = refl
+ending_unanswered me s from (LinkExit ids why) r h = refl
+ending_unanswered me s from (Monitor m) r h = refl
+ending_unanswered me s from (Demonitor m) r h = refl
+ending_unanswered me s from (Signal.Down m why) r h = refl
+ending_unanswered me s from (AliveAsk m) r h = absurd (cc)
+ending_unanswered me s from (AliveSay m y) r h = refl
+
+-- a live receiver that ends
+module _ (a : Parts) (whole : IsWhole a) (l : Letter) (here : l.to.shard ≡ a.house.desk) (near : l.from.shard < a.config.desks) (can : max a.book.clock l.stamp < 2 ^ 62)
+    (f : Found a l.to) (r : Reason) (ends_it : (handle f.me f.s l.from l.signal).ending ≡ Some r)
+    (mid last : ResidentsState) (desk : mid.desk ≡ a.house.desk) (desk' : last.desk ≡ mid.desk)
+    (changes : Changes l.to (λ me s. (handle me s l.from l.signal).state) a.house.table mid.table) (owing : Owing) (ends : Ends l.to r owing mid.table last.table) where
+  stands_here : standing a l ≡ Some (l.to, f.s)
+  stands_here = sym f.there ∙ ap (λ x. Some (x, f.s)) (both a whole l.to f).1
+
+  abbrev after : ProcessState
+  after = (handle l.to f.s l.from l.signal).state
+
+  ending_is : (handle l.to f.s l.from l.signal).ending ≡ Some r
+  ending_is = ap (λ m. (handle m f.s l.from l.signal).ending) (sym (both a whole l.to f).1) ∙ ends_it
+
+  in_mid : in_place mid.table l.to ≡ Some (l.to, after)
+  in_mid = put_there l.to _ a.house.table mid.table changes.puts ∙ ap (changed (λ me s. (handle me s l.from l.signal).state)) (stands a whole l.to f).1
+
+  owed_is : owing.owed ≡ replies l (standing a l)
+  owed_is =
+      let silent : (handle l.to f.s l.from l.signal).answer ≡ [] = handle_answer l.to f.s l.from l.signal ∙ ending_unanswered l.to f.s l.from l.signal r ending_is in
+      ap (λ o. o.owed) (owes_is l.to r owing mid.table last.table after in_mid ends) ∙ rw (stands_here, silent, ending_is) refl
+
+  pub owed_near : Every (λ x. x.to.shard < length a.book.outbox) owing.owed
+  owed_near =
+      let sent_is : replies l (standing a l) ≡ sent_by [] (past (shard_of a)) (came l)
+      = ap (replies l) (whole.sound.residents l.to) ∙ sym (got_is l (life [] (past (shard_of a)) l.to)) in
+      subst (λ n. Every (λ x. x.to.shard < n) owing.owed) (sym whole.sound.fit.boxes)
+      (subst (Every (λ x. x.to.shard < a.config.desks)) (sym (owed_is ∙ sent_is)) (sent_near a whole (came l) near))
+
+  pub owed_fewer : (owed : ℕ) → owed ≡ length (estate f.me f.s r) → length owing.owed ≤ owed
+  owed_fewer owed is =
+      let fewer = fewer_owed l.to f.s l.from r r l.signal ending_is in
+      let same : length (estate f.me f.s r) ≡ length (estate l.to f.s r) = ap (λ m. length (estate m f.s r)) (both a whole l.to f).1 in
+      let now : length owing.owed ≡ length (estate l.to after r) = ap (λ o. length o.owed) (owes_is l.to r owing mid.table last.table after in_mid ends) in
+      omega (arith, fewer, same, now, is)
+
+  pub owing_from : owing.from ≡ l.to
+  owing_from = ap (λ o. o.from) (owes_is l.to r owing mid.table last.table after in_mid ends)
+
+  pub ended_outcome : (book : Book) → book ≡ wrote (receipt_stamp a l) (came l) (map (letter (receipt_stamp a l)) owing.owed) a.book
+      → Outcome a (parts_of a.config book last) (receipt_stamp a l) (came l)
+  ended_outcome book is =
+      let gone : remains l (standing a l) ≡ None = rw (stands_here, ending_is) refl in
+      delivered a whole l here near can book last (desk' ∙ desk)
+      (record {
+        live = λ q. go q (same_pid q l.to) refl gone;
+        settings = record {
+          issues = λ slot. ends.puts.settings.issues slot ∙ changes.puts.settings.issues slot;
+          capacity = ends.puts.settings.capacity ∙ changes.puts.settings.capacity;
+          top_version = ends.puts.settings.top_version ∙ changes.puts.settings.top_version;
+        };
+        vacant =
+            vacant_next a.house.desk a.config.top_version l.to mid.table last.table here (changes.puts.settings.top_version ∙ whole.top_version) ends.next
+            ∙ ap (vacated a.config.top_version (Some l.to)) (ap (option_pid a.house.desk) changes.next)
+            ∙ ap (λ b. vacated a.config.top_version (cond b (Some l.to) None) (vacant_at a.house.desk a.house.table)) (sym ends_now);
+      })
+      (is ∙ ap (λ o. wrote (receipt_stamp a l) (came l) (map (letter (receipt_stamp a l)) o) a.book) owed_is)
+    where
+      ends_now : is_ended_by l (standing a l) ≡ true
+      ends_now = rw (stands_here, ending_is) refl
+
+      go : (q : Pid) (b : Bool) → same_pid q l.to ≡ b → remains l (standing a l) ≡ None → resident_at a.house.desk last.table q ≡ cond (same_pid q l.to) (remains l (standing a l)) (resident_at a.house.desk a.house.table q)
+      go q true h gone = put_by_pid a.house.desk l.to None mid.table last.table here ends.puts q ∙ rw (h, gone) refl
+      go q false h gone = put_by_pid a.house.desk l.to None mid.table last.table here ends.puts q ∙ rw h (put_by_pid a.house.desk l.to _ a.house.table mid.table here changes.puts q ∙ rw h refl)
+
+-- who ended by it ------------------------------------------------------------------------------
+
+module _ (a : Parts) (whole : IsWhole a) (l : Letter) where
+  pub nobody_ends : resident_at a.house.desk a.house.table l.to ≡ None → None ≡ ended_by (shard_of a) (came l)
+  nobody_ends none =
+      sym (ap (λ b. cond b (Some l.to) None) (ends_is l (life [] (past (shard_of a)) l.to) ∙ sym (ap (is_ended_by l) (whole.sound.residents l.to)) ∙ ap (is_ended_by l) none))
+
+  pub who_ends : (f : Found a l.to) (o : Option Reason) → (handle f.me f.s l.from l.signal).ending ≡ o → cond (is_some o) (Some l.to) None ≡ ended_by (shard_of a) (came l)
+  who_ends f o is =
+      sym (ap (λ b. cond b (Some l.to) None) (ends_is l (life [] (past (shard_of a)) l.to) ∙ sym (ap (is_ended_by l) (whole.sound.residents l.to))
+      ∙ ap (is_ended_by l) (sym f.there) ∙ ap is_some is))
+
+-- what the ledger wrote -----------------------------------------------------------------------
+
+pub receipt_book : (a : Parts) (l : Letter) (prepared book : Book) (back : Option Signal) → prepared ≡ a.book
+    → book ≡ wrote (max prepared.clock l.stamp + 1) (came l) (map (letter (max prepared.clock l.stamp + 1)) (map (sent l.to l.from) (option_to_list back))) prepared
+    → book ≡ wrote (receipt_stamp a l) (came l) (map (letter (receipt_stamp a l)) (map (sent l.to l.from) (option_to_list back))) a.book
+receipt_book a l prepared book back same is =
+    subst (λ (b : Book). book ≡ wrote (max b.clock l.stamp + 1) (came l) (map (letter (max b.clock l.stamp + 1)) (map (sent l.to l.from) (option_to_list back))) b) same is
+
+pub living_back_is : (me from : Pid) (x : Signal) → map (sent me from) (option_to_list (living_back x)) ≡ living_answer me from x
+living_back_is me from (AliveAsk m) = refl
+living_back_is me from (Message b) = refl
+living_back_is me from (Link i) = refl
+living_back_is me from (Unlink ids) = refl
+living_back_is me from (Signal.Exit why) = refl
+living_back_is me from (LinkExit ids why) = refl
+living_back_is me from (Monitor m) = refl
+living_back_is me from (Demonitor m) = refl
+living_back_is me from (Signal.Down m why) = refl
+living_back_is me from (AliveSay m y) = refl
+
+pub still_in_mid : (a : Parts) (whole : IsWhole a) (l : Letter) (f : Found a l.to) (mid : ResidentsState) → Changes l.to (λ me s. (handle me s l.from l.signal).state) a.house.table mid.table → IsSome (in_place mid.table l.to)
+still_in_mid a whole l f mid changes =
+    subst IsSome (sym (put_there l.to _ a.house.table mid.table changes.puts ∙ ap (changed (λ me s. (handle me s l.from l.signal).state)) (stands a whole l.to f).1)) refl

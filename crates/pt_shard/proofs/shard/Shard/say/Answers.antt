@@ -1,0 +1,40 @@
+use Rattle.std.proofs.Common.{◌≡◌, ◌+◌, ◌<◌, ◌^◌, map, true, false, Ok, Err, Some, None, is_some, [], ◌∷◌, sym, ap, ◌∙◌, refl, subst, arith}
+use Rattle.pt_signal.specs.Process.{sent}
+use Rattle.pt_events.specs.declared.event.Event.TheVariants.{Said, Flag, Took, Left}
+use Rattle.pt_events.specs.Journal.{letter}
+use Rattle.pt_events.specs.History.{state_of}
+use Rattle.pt_signal.specs.declared.signal.Signal.TheVariants.{Link, Unlink, Monitor, Demonitor, AliveAsk}
+use Rattle.pt_signal.specs.declared.ids.Ref.{Ref}
+use Rattle.pt_signal.specs.declared.ids.LinkId.{LinkId}
+use Rattle.pt_shard.specs.ShardState.{past, state_in}
+use Rattle.pt_shard.specs.Known.{knows}
+use Rattle.pt_shard.specs.Calls.{Calls, Monitors, link_event, unlink_event, demonitor_event, take_event, first_match, new_link, new_ref}
+use Rattle.pt_shard.specs.Extends.{Extends}
+use Rattle.pt_shard.specs.Whole.{Parts, parts_of, shard_of}
+use Rattle.pt_shard.proofs.Keeps.{extends_itself}
+use Rattle.pt_shard.proofs.Acting.{Outcome, Found, own_book, alive, lives_here, is_there, set_flag, said_to, said_known, took_item, left_by, plain_may, plain_new, plain_changes, link_now, link_new, ref_now, ref_new, not_open_yet, open_target, place_within, takes_back, left_alone}
+use Rattle.pt_shard.proofs.Outcomes.{did, none_of, idle, no_memory, not_prepared, no_second_link, no_link_to_self, a_link, same_book, still, memory_refused, unlink_is, demonitor_is, take_event_is, first_match_is}
+use Rattle.pt_shard.proofs.shard.Shard.say.Goals as goal
+
+-- the process that acts
+abbrev found : (c : goal.After-say) → Found (parts_of c.self.inside.config c.self.inside.ledger.book c.self.inside.house) c.args.from
+found c = record { me = c.in-Some._process.now.me; s = c.in-Some._process.now.state; there = c.in-Some.ensures }
+
+left : (c : goal.After-say) → Outcome (parts_of c.self.inside.config c.self.inside.ledger.book c.self.inside.house) (parts_of c.self.inside.config c.say.new.self.book c.self.inside.house) (c.self.inside.ledger.book.clock + 1) (Said c.args.from c.args.to c.args.signal)
+left c =
+    let can : c.self.inside.ledger.book.clock < 2 ^ 62 = (let k = c.in_ok-prepare_letter.ensures.1 in omega arith) in
+    said_known (parts_of c.self.inside.config c.self.inside.ledger.book c.self.inside.house) c.self.invariant c.args.from (found c) can c.say.new.self.book c.self.inside.house refl c.args.to c.args.signal (subst (λ d. knows d c.args.to ≡ true) (sym c.self.view_is) c.requires.known) (plain_may (past (shard_of (parts_of c.self.inside.config c.self.inside.ledger.book c.self.inside.house))) c.in-Some._process.now.state c.args.from c.args.to c.args.signal c.requires.plain) (plain_new c.self.inside.house.desk (c.self.inside.ledger.book.clock + 1) c.args.from c.args.to c.args.signal c.requires.plain) (own_book (Said c.args.from c.args.to c.args.signal) (λ n. letter n (sent c.args.from c.args.to c.args.signal) ∷ []) c.prepare_letter.new.self.book c.self.inside.ledger.book c.say.new.self.book c.in_ok-prepare_letter.ensures.0 c.say.ensures) (plain_changes c.args.from c.args.to c.args.signal c.self.inside.house.table c.requires.plain)
+
+pub invariant_of-self-2 : goal.invariant_of-self-2
+invariant_of-self-2 c = (left c).whole
+
+pub returns-clause-does : goal.returns-clause-does
+returns-clause-does c =
+    let can : c.self.inside.ledger.book.clock < 2 ^ 62 = (let k = c.in_ok-prepare_letter.ensures.1 in omega arith) in
+    subst (λ d. Calls c.args.from (Some (Said c.args.from c.args.to c.args.signal)) (tt {0}) d (Ok (tt {0})) (shard_of (parts_of c.self.inside.config c.say.new.self.book c.self.inside.house))) c.self.view_is (did c.args.from (Some (Said c.args.from c.args.to c.args.signal)) (tt {0}) (shard_of (parts_of c.self.inside.config c.self.inside.ledger.book c.self.inside.house)) (shard_of (parts_of c.self.inside.config c.say.new.self.book c.self.inside.house)) (Said c.args.from c.args.to c.args.signal) (tt {0}) (alive (parts_of c.self.inside.config c.self.inside.ledger.book c.self.inside.house) c.self.invariant c.args.from (found c)) refl refl can (left c).is)
+
+pub returns-clause-extends : goal.returns-clause-extends
+returns-clause-extends c = subst (λ d. Extends d (shard_of (parts_of c.self.inside.config c.say.new.self.book c.self.inside.house))) c.self.view_is (left c).extends
+
+pub returns-clause-fit : goal.returns-clause-fit
+returns-clause-fit c = (left c).fit

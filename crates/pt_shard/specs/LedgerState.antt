@@ -1,0 +1,58 @@
+-- The clock, the journal and the letters of a desk.
+use Rattle.std.specs.Prelude.{◌≡◌, ℕ, ◌+◌, ◌^◌, ◌<◌, ◌≤◌, List, [], ◌∷◌, length, slice_index_or, Option, Some, None, Result, Ok, Err, max, ⊤}
+use Rattle.pt_signal.specs.declared.letter.Letter.{Letter}
+use Rattle.pt_signal.specs.declared.signal.Signal.{Signal}
+use Rattle.pt_events.specs.declared.event.Event.{Event}
+use Rattle.pt_events.specs.declared.event.Stamped.{Stamped}
+use Rattle.pt_shard.specs.declared.stop.Stop.{Stop}
+use Rattle.pt_shard.specs.declared.stop.Stop.TheVariants.{Memory, Worn}
+use Rattle.pt_shard.specs.Boxes.{put_out}
+
+-- what is written down
+pub record Book : Type 0 where
+  pub desk : ℕ
+  pub clock : ℕ
+  pub journal : List Stamped
+  pub outbox : List (List Letter)
+  pub hold : Option Letter
+
+pub record LedgerState : Type 0 where
+  pub book : Book
+  -- how many more events are sure to find room, and how many more letters for each desk
+  pub room : ℕ
+  pub rooms : List ℕ
+
+-- no event is stamped above n
+abbrev pub IsUpTo : ℕ → List Stamped → Type 0
+IsUpTo n [] = ⊤
+IsUpTo n (s ∷ journal) = s.stamp ≤ n
+
+-- one more event, and letters
+abbrev pub wrote : ℕ → Event → List Letter → Book → Book
+wrote n e ls b = record {
+  desk = b.desk;
+  clock = n;
+  journal = record { stamp = n; desk = b.desk; event = e } ∷ b.journal;
+  outbox = put_out b.outbox ls;
+  hold = b.hold;
+}
+
+abbrev pub HasRoomAt : ℕ → LedgerState → Type 0
+HasRoomAt e s = 0 < slice_index_or s.rooms e 0
+
+abbrev pub HasRoomFor : Option Signal → ℕ → LedgerState → Type 0
+HasRoomFor None e s = ⊤
+HasRoomFor (Some x) e s = HasRoomAt e s
+
+-- for so many letters, whichever desks they go to
+abbrev pub HasRoomEach : ℕ → LedgerState → Type 0
+HasRoomEach n s = (e : ℕ) → e < length s.book.outbox → n ≤ slice_index_or s.rooms e 0
+
+-- an attempt to make room for an event that is stamped above floor, and for letters
+abbrev pub Prepares : ℕ → (LedgerState → Type 0) → LedgerState → Result (Unit {0}) Stop → LedgerState → Type 0
+Prepares floor HasRoom old (Ok _) new = (new.book ≡ old.book) × (max old.book.clock floor < 2 ^ 62) × (0 < new.room) × HasRoom new
+Prepares floor HasRoom old (Err Worn) new = (new.book ≡ old.book) × (2 ^ 62 ≤ max old.book.clock floor)
+Prepares floor HasRoom old (Err Memory) new = (new.book ≡ old.book) × (max old.book.clock floor < 2 ^ 62)
+
+abbrev pub HasNoNeed : LedgerState → Type 0
+HasNoNeed s = ⊤

@@ -1,0 +1,9 @@
+-- The letters for one desk.
+use Rattle.std.specs.Prelude.{ℕ, List}
+use Rattle.pt_signal.specs.declared.letter.Letter.{Letter}
+
+pub record LettersState : Type 0 where
+  -- oldest first
+  pub letters : List Letter
+  -- how many more are sure to find room
+  pub room : ℕ

@@ -1,0 +1,17 @@
+pub mod Boxes
+pub mod ShardState
+pub mod Opening
+pub mod Known
+pub mod Extends
+pub mod Fit
+pub mod Calls
+pub mod Outbox
+pub mod Faults
+pub mod Plain
+pub mod LedgerState
+pub mod LettersState
+pub mod Residents
+pub mod Sound
+pub mod Whole
+pub mod Deliveries
+pub mod Backs

@@ -1,0 +1,27 @@
+-- The settings of a node, and a desk on which nothing has happened.
+use Rattle.std.specs.Prelude.{ℕ, ◌^◌, ◌≤◌, [], replicate, Some, None}
+use Rattle.pt_shard.specs.declared.config.Config.{Config}
+use Rattle.pt_shard.specs.ShardState.{ShardState}
+
+pub record IsInRange (c : Config) : Type 0 where
+  pub some_desks : 1 ≤ c.desks
+  pub desks : c.desks ≤ 64
+  pub some_slots : 1 ≤ c.slots
+  pub slots : c.slots ≤ 65536
+  pub top_version : 1 ≤ c.top_version
+  pub some_lane : 1 ≤ c.lane
+  pub lane : c.lane ≤ 65536
+  pub start : c.start ≤ 2 ^ 62
+
+-- the first birth has the first version of slot 0
+abbrev pub fresh : Config → ℕ → ShardState
+fresh c number = record {
+  start = [];
+  number = number;
+  config = c;
+  clock = c.start;
+  journal = [];
+  outbox = replicate c.desks [];
+  hold = None;
+  vacant = Some (record { shard = number; slot = 0; version = 1 });
+}

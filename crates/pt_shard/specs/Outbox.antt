@@ -1,0 +1,19 @@
+-- Letters go out of the outbox, and through the hold.
+use Rattle.std.specs.Prelude.{ℕ, ◌+◌, length, drop, sum_by, Option, Some, None, slice_set}
+use Rattle.pt_signal.specs.declared.letter.Letter.{Letter}
+use Rattle.pt_shard.specs.ShardState.{ShardState, box}
+
+-- the desk without the oldest letter that waits for desk e
+abbrev pub sent_on : ℕ → ShardState → ShardState
+sent_on e d = record d { outbox = slice_set d.outbox e (drop 1 (box d e)) }
+
+abbrev pub holding : Option Letter → ShardState → ShardState
+holding letter d = record d { hold = letter }
+
+abbrev pub count_held : Option Letter → ℕ
+count_held None = 0
+count_held (Some l) = 1
+
+-- how many letters wait in the outbox and the hold
+abbrev pub count_pending : ShardState → ℕ
+count_pending d = sum_by length d.outbox + count_held d.hold

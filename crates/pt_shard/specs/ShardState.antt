@@ -1,0 +1,102 @@
+-- A desk without its lanes as its callers see it, and what an event makes of it.
+use Rattle.std.specs.Prelude.{◌≡◌, ℕ, ◌+◌, ◌^◌, ◌<◌, ◌≤◌, ◌==◌, Bool, false, cond, List, [], ◌∷◌, map, max, Option, Some, None, is_some, Result, Ok, Err, slice_index_or}
+use Rattle.pt_signal.specs.declared.pid.Pid.{Pid}
+use Rattle.pt_signal.specs.declared.letter.Letter.{Letter}
+use Rattle.pt_signal.specs.declared.signal.Signal.{Signal}
+use Rattle.pt_signal.specs.Process.{ProcessState, handle}
+use Rattle.pt_events.specs.declared.event.Event.{Event}
+use Rattle.pt_events.specs.declared.event.Event.TheVariants.{Came, Left}
+use Rattle.pt_events.specs.declared.event.Stamped.{Stamped}
+use Rattle.pt_events.specs.History.{Past, Phase, Start, living, life, is_living, state_of, sent_by}
+use Rattle.pt_events.specs.Journal.{events, letter}
+pub use Rattle.pt_carrier.specs.Ends.{one_more}
+pub use Rattle.pt_shard.specs.Boxes.{put_out}
+use Rattle.pt_shard.specs.declared.config.Config.{Config}
+use Rattle.pt_shard.specs.declared.stop.Stop.{Stop}
+use Rattle.pt_shard.specs.declared.stop.Stop.TheVariants.{Memory, Worn}
+
+pub record ShardState : Type 0 where
+  -- what was before the journal
+  pub start : Start
+  pub number : ℕ
+  pub config : Config
+  pub clock : ℕ
+  -- the newest event first
+  pub journal : List Stamped
+  -- for each desk of the node, the letters that wait to be posted to it, oldest first
+  pub outbox : List (List Letter)
+  -- the letter that was collected and is not yet handled
+  pub hold : Option Letter
+  -- the pid that the next birth has, or nothing where no slot is free
+  pub vacant : Option Pid
+
+abbrev pub past : ShardState → Past
+past d = events d.journal
+
+-- what the journal says of p
+abbrev pub phase_of : ShardState → Pid → Phase
+phase_of d p = life d.start (past d) p
+
+abbrev pub lives : ShardState → Pid → Bool
+lives d p = is_living (phase_of d p)
+
+abbrev pub state_in : ShardState → Pid → ProcessState
+state_in d p = state_of (phase_of d p)
+
+-- the letters that wait for desk e
+abbrev pub box : ShardState → ℕ → List Letter
+box d e = slice_index_or d.outbox e []
+
+-- what the event sends now, each letter stamped n
+abbrev pub sends : ℕ → Event → ShardState → List Letter
+sends n e d = map (letter n) (sent_by d.start (past d) e)
+
+-- whether the signal from a ends b
+abbrev pub is_ended_by : Phase → Pid → Pid → Signal → Bool
+is_ended_by (living s) b a x = is_some (handle b s a x).ending
+is_ended_by _ b a x = false
+
+-- the process that the event ends
+abbrev pub ended_by : ShardState → Event → Option Pid
+ended_by d (Came a b x) = cond (is_ended_by (phase_of d b) b a x) (Some b) None
+ended_by d (Left p r) = Some p
+ended_by d _ = None
+
+-- the slot of a process that ended is the next to be given out, under its next version, unless it had the top one
+abbrev pub vacated : ℕ → Option Pid → Option Pid → Option Pid
+vacated top None vacant = vacant
+vacated top (Some p) vacant = cond (p.version == top) vacant (Some (record p { version = p.version + 1 }))
+
+-- the event of the desk, stamped n
+abbrev pub stamped : ℕ → Event → ShardState → Stamped
+stamped n e d = record { stamp = n; desk = d.number; event = e }
+
+-- the desk after the event e, stamped n: what the event sends waits in the outbox
+abbrev pub written : ℕ → Event → ShardState → ShardState
+written n e d = record {
+  start = d.start;
+  number = d.number;
+  config = d.config;
+  clock = n;
+  journal = stamped n e d ∷ d.journal;
+  outbox = put_out d.outbox (sends n e d);
+  hold = d.hold;
+  vacant = vacated d.config.top_version (ended_by d e) d.vacant;
+}
+
+-- the desk after an event of its own
+abbrev pub after : Event → ShardState → ShardState
+after e d = written (d.clock + 1) e d
+
+abbrev pub came : Letter → Event
+came l = Came l.from l.to l.signal
+
+-- the desk after the receipt of a letter
+abbrev pub handled : Letter → ShardState → ShardState
+handled l d = written (max d.clock l.stamp + 1) (came l) d
+
+-- the letter is handled, and the answer is who ended by it; a refusal changes nothing
+abbrev pub Handles : Letter → ShardState → Result (Option Pid) Stop → ShardState → Type 0
+Handles l old (Ok ended) new = (max old.clock l.stamp < 2 ^ 62) × (new ≡ handled l old) × (ended ≡ ended_by old (came l))
+Handles l old (Err Worn) new = (2 ^ 62 ≤ max old.clock l.stamp) × (new ≡ old)
+Handles l old (Err Memory) new = (max old.clock l.stamp < 2 ^ 62) × (new ≡ old)

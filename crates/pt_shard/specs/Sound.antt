@@ -1,0 +1,51 @@
+-- What holds of every desk: its processes are those that its journal gives.
+use Rattle.std.specs.Prelude.{◌≡◌, ℕ, ◌<◌, Bool, ◌&&◌, not, ◌==◌, nat_lt, nat_le, List, [], ◌∷◌, Option, Some, None, ⊤}
+use Rattle.pt_signal.specs.declared.pid.Pid.{Pid}
+use Rattle.pt_signal.specs.Process.{ProcessState}
+use Rattle.pt_events.specs.declared.event.Event.{Event}
+use Rattle.pt_events.specs.declared.event.Event.TheVariants.{Said, Came}
+use Rattle.pt_events.specs.History.{Past, Phase, living, life, is_unborn}
+use Rattle.pt_shard.specs.ShardState.{ShardState, past}
+use Rattle.pt_shard.specs.Known.{issued_in}
+use Rattle.pt_shard.specs.Fit.{IsFit}
+
+-- P holds of each
+abbrev pub Every : {X : Type 0} → (X → Type 0) → List X → Type 0
+Every P [] = ⊤
+Every P (x ∷ xs) = P x × Every P xs
+
+-- p is of the desk, and its version is one that its slot had
+abbrev pub is_issued : ℕ → Past → Pid → Bool
+is_issued desk past p = (p.shard == desk) && (nat_lt 0 p.version && nat_le p.version (issued_in past p.slot))
+
+-- those pids were born, and no others
+abbrev pub BornAreIssued : ℕ → Past → Type 0
+BornAreIssued desk past = (p : Pid) → is_unborn (life [] past p) ≡ not (is_issued desk past p)
+
+-- a live process, by its pid and its state
+abbrev pub of_phase : Pid → Phase → Option (Pid × ProcessState)
+of_phase p (living s) = Some (p, s)
+of_phase p _ = None
+
+-- what the journal has of p
+abbrev pub resident : Past → Pid → Option (Pid × ProcessState)
+resident past p = of_phase p (life [] past p)
+
+-- the other process of the event is of a desk of the node
+abbrev pub IsNear : ℕ → Event → Type 0
+IsNear desks (Said a b x) = b.shard < desks
+IsNear desks (Came a b x) = a.shard < desks
+IsNear desks _ = ⊤
+
+abbrev pub AllNear : ℕ → Past → Type 0
+AllNear desks [] = ⊤
+AllNear desks (e ∷ past) = IsNear desks e × AllNear desks past
+
+-- `read` tells what the slots have for a pid, `issued` the latest version of a slot
+pub record IsSound (d : ShardState) (read : Pid → Option (Pid × ProcessState)) (issued : ℕ → ℕ) : Type 0 where
+  pub fit : IsFit d
+  -- each live process stands in its slot as the journal has it, and nothing else stands anywhere
+  pub residents : (p : Pid) → read p ≡ resident (past d) p
+  pub issues : (slot : ℕ) → issued slot ≡ issued_in (past d) slot
+  pub born : BornAreIssued d.number (past d)
+  pub near : AllNear d.config.desks (past d)

@@ -1,0 +1,318 @@
+// The clock, the journal and the letters of a desk.
+
+ghost use Rattle.std.specs.Prelude.{◌≡◌, ℕ, ◌+◌, ◌-◌, ◌<◌, ◌≤◌, ◌^◌, [], ◌∷◌, max, min, nat_le, length, map, drop, replicate, slice_get, slice_index_or, slice_set, sum_by, None, IfOk, OnOk};
+ghost use Rattle.pt_signal.specs.declared.signal.Signal.{Signal};
+ghost use Rattle.pt_signal.specs.Process.{sent};
+ghost use Rattle.pt_events.specs.declared.event.Event.{Event};
+ghost use Rattle.pt_events.specs.Journal.{letter};
+ghost use Rattle.pt_events.specs.Journal.{letter as stamp_letter};
+ghost use Rattle.std.specs.Option.{option_to_list};
+ghost use Rattle.pt_shard.specs.ShardState.{came};
+ghost use Rattle.pt_carrier.specs.Ends.{one_more};
+ghost use Rattle.pt_shard.specs.LedgerState.{Book, wrote, Prepares, HasNoNeed, HasRoomAt, HasRoomFor, HasRoomEach};
+ghost use Rattle.pt_shard.specs.LettersState.{LettersState};
+ghost use Rattle.pt_shard.specs.Outbox.{count_held};
+ghost use Rattle.pt_shard.specs.Sound.{Every};
+
+use crate::config::MAX_STAMP;
+use crate::letters::Letters;
+use crate::stop::Stop;
+use pt_events::{Event, Journal, Stamped};
+use pt_process::Estate;
+use pt_signal::{Letter, LinkId, Pid, Ref, Signal};
+use std::alloc::{AllocError, Global};
+use std::marker::Model;
+
+/// The clock of a desk, its journal, and the letters that wait in it.
+///
+/// An event is prepared first, which may be refused; what is written then finds room.
+#[derive(Drop)]
+pub struct Ledger {
+    clock: u64,
+    journal: Journal,
+    outbox: Vec<Letters>,
+    hold: Option<Letter>,
+}
+
+impl Model for Ledger {
+    ghost use Rattle.std.specs.Prelude.{map};
+    ghost use Rattle.pt_shard.specs.LettersState.{LettersState};
+    ghost use Rattle.pt_shard.specs.LedgerState.{LedgerState, IsUpTo};
+
+    ghost Value = { LedgerState };
+
+    ghost view = { λ l. record {
+      book = record {
+        desk = l.journal.desk;
+        clock = l.clock;
+        journal = l.journal.past;
+        outbox = map (λ (b : LettersState). b.letters) l.outbox.items;
+        hold = l.hold;
+      };
+      room = l.journal.room;
+      rooms = map (λ (b : LettersState). b.room) l.outbox.items;
+    } };
+
+    ghost invariant = { λ l. IsUpTo l.clock l.journal.past };
+}
+
+fn no_letters(alloc: Global, desks: u8) -> Result<Vec<Letters>, AllocError>
+    ensures { IfOk result (λ v. map (λ (b : LettersState). b.letters) v.items ≡ replicate desks []) }
+{
+    let mut outbox = Vec::with_capacity(alloc, usize::from(desks))?;
+    for _e in 0..desks {
+        outbox.push(Letters::new(alloc))?;
+    }
+    Ok(outbox)
+}
+
+// Makes room for so many letters in each box.
+fn reserve_each(outbox: &mut Vec<Letters>, count: usize) -> Result<(), AllocError>
+    ensures letters { map (λ (b : LettersState). b.letters) outbox.new.items ≡ map (λ (b : LettersState). b.letters) outbox.old.items }
+    ensures room { OnOk result ((e : ℕ) → e < length outbox.new.items → count ≤ slice_index_or (map (λ (b : LettersState). b.room) outbox.new.items) e 0) }
+{
+    for e in 0..outbox.len() {
+        outbox[e].reserve(count)?;
+    }
+    Ok(())
+}
+
+impl Ledger {
+    pub fn new(alloc: Global, desk: u8, desks: u8, start: u64) -> Result<Ledger, AllocError>
+        ensures { IfOk result (λ l. l.book ≡ record { desk = desk; clock = start; journal = []; outbox = replicate desks []; hold = None }) }
+    {
+        Ok(Ledger {
+            clock: start,
+            journal: Journal::new(alloc, desk),
+            outbox: no_letters(alloc, desks)?,
+            hold: None,
+        })
+    }
+
+    pub fn clock(&self) -> u64
+        ensures { result ≡ self.now.book.clock }
+    {
+        self.clock
+    }
+
+    pub fn journal(&self) -> &Journal
+        ensures desk { result.now.desk ≡ self.now.book.desk }
+        ensures past { result.now.past ≡ self.now.book.journal }
+    {
+        &self.journal
+    }
+
+    /// Whether no event can be stamped above `floor`.
+    pub fn is_worn(&self, floor: u64) -> bool
+        ensures { result ≡ nat_le (2 ^ 62) (max self.now.book.clock floor) }
+    {
+        self.clock.max(floor) >= MAX_STAMP
+    }
+
+    /// The reference that the next event makes.
+    pub fn next_ref(&self) -> Ref
+        requires { self.now.book.clock < 2 ^ 62 }
+        ensures { result ≡ record { desk = self.now.book.desk; number = self.now.book.clock + 1 } }
+    {
+        Ref {
+            desk: self.journal.desk(),
+            number: self.clock + 1,
+        }
+    }
+
+    /// The id of a link that the next event makes.
+    pub fn next_link(&self) -> LinkId
+        requires { self.now.book.clock < 2 ^ 62 }
+        ensures { result ≡ record { desk = self.now.book.desk; number = self.now.book.clock + 1 } }
+    {
+        let Ref { desk, number } = self.next_ref();
+        LinkId { desk, number }
+    }
+
+    /// Makes room for an event that is stamped above `floor`.
+    pub fn prepare(&mut self, floor: u64) -> Result<(), Stop>
+        ensures does { Prepares floor HasNoNeed self.old result self.new }
+        ensures same { self.new.rooms ≡ self.old.rooms }
+    {
+        if self.is_worn(floor) {
+            return Err(Stop::Worn);
+        }
+        self.journal.reserve()?;
+        Ok(())
+    }
+
+    /// Makes room for an event that is stamped above `floor`, and for a letter to this process.
+    pub fn prepare_letter(&mut self, floor: u64, to: Pid) -> Result<(), Stop>
+        requires { to.shard < length self.old.book.outbox }
+        ensures { Prepares floor (HasRoomAt to.shard) self.old result self.new }
+    {
+        self.prepare(floor)?;
+        self.outbox[usize::from(to.shard)].reserve(1)?;
+        Ok(())
+    }
+
+    /// Makes room for an event that is stamped above `floor`, and for a letter to this process, if there is one.
+    pub fn prepare_back(&mut self, floor: u64, back: Option<Signal>, to: Pid) -> Result<(), Stop>
+        requires { to.shard < length self.old.book.outbox }
+        ensures { Prepares floor (HasRoomFor back to.shard) self.old result self.new }
+    {
+        match back {
+            Some(_) => self.prepare_letter(floor, to),
+            None => self.prepare(floor),
+        }
+    }
+
+    /// Makes room for an event that is stamped above `floor`, and for so many letters, whichever desks they go to.
+    pub fn prepare_end(&mut self, floor: u64, owed: usize) -> Result<(), Stop>
+        ensures { Prepares floor (HasRoomEach owed) self.old result self.new }
+    {
+        self.prepare(floor)?;
+        if owed == 0 {
+            return Ok(());
+        }
+        reserve_each(&mut self.outbox, owed)?;
+        Ok(())
+    }
+
+    /// Writes an event, stamped above `floor` too, for which there is room, and answers the stamp.
+    #[tactic(auto, using(crate::proofs::Ledgers::newer_above))]
+    pub fn write(&mut self, floor: u64, event: Event) -> u64
+        requires can { max self.old.book.clock floor < 2 ^ 62 }
+        requires room { 0 < self.old.room }
+        ensures stamp { result ≡ max self.old.book.clock floor + 1 }
+        ensures book { self.new.book ≡ wrote (max self.old.book.clock floor + 1) event [] self.old.book }
+        ensures rooms { self.new.rooms ≡ self.old.rooms }
+    {
+        let stamp = self.clock.max(floor) + 1;
+        let desk = self.journal.desk();
+        self.journal.push_reserved(Stamped { stamp, desk, event });
+        self.clock = stamp;
+        stamp
+    }
+
+    /// Puts a letter, for which there is room, behind those for the same desk.
+    fn put(&mut self, letter: Letter)
+        requires to { letter.to.shard < length self.old.book.outbox }
+        requires room { HasRoomAt letter.to.shard self.old }
+        ensures book { self.new.book ≡ record self.old.book { outbox = one_more self.old.book.outbox letter.to.shard letter } }
+        ensures rooms { self.new.rooms ≡ slice_set self.old.rooms letter.to.shard (slice_index_or self.old.rooms letter.to.shard 0 - 1) }
+    {
+        self.outbox[usize::from(letter.to.shard)].push(letter);
+    }
+
+    /// Writes that a process says a signal, and sends it, for both of which there is room.
+    pub fn say(&mut self, from: Pid, to: Pid, signal: Signal)
+        requires can { max self.old.book.clock 0 < 2 ^ 62 }
+        requires room { 0 < self.old.room }
+        requires to { to.shard < length self.old.book.outbox }
+        requires letter { HasRoomAt to.shard self.old }
+        ensures { self.new.book ≡ wrote (max self.old.book.clock 0 + 1) (Event.Said from to signal) (letter (max self.old.book.clock 0 + 1) (sent from to signal) ∷ []) self.old.book }
+    {
+        let stamp = self.write(0, Event::Said(from, to, signal));
+        self.put(Letter {
+            from,
+            to,
+            signal,
+            stamp,
+        });
+    }
+
+    /// Writes that a letter came, and sends what goes back, if anything, for both of which there is room.
+    pub fn receive(&mut self, letter: Letter, back: Option<Signal>)
+        requires can { max self.old.book.clock letter.stamp < 2 ^ 62 }
+        requires room { 0 < self.old.room }
+        requires from { letter.from.shard < length self.old.book.outbox }
+        requires letter { HasRoomFor back letter.from.shard self.old }
+        ensures { self.new.book ≡ wrote (max self.old.book.clock letter.stamp + 1) (came letter) (map (stamp_letter (max self.old.book.clock letter.stamp + 1)) (map (sent letter.to letter.from) (option_to_list back))) self.old.book }
+    {
+        let Letter {
+            from,
+            to,
+            signal,
+            ..
+        } = letter;
+        let stamp = self.write(letter.stamp, Event::Came(from, to, signal));
+        if let Some(signal) = back {
+            self.put(Letter {
+                from: to,
+                to: from,
+                signal,
+                stamp,
+            });
+        }
+    }
+
+    /// Writes the event that ends a process, stamped above `floor` too, and sends what the process owes, for all of
+    /// which there is room.
+    pub fn close(&mut self, floor: u64, event: Event, from: Pid, estate: &Estate)
+        requires can { max self.old.book.clock floor < 2 ^ 62 }
+        requires room { 0 < self.old.room }
+        requires from { estate.now.from ≡ from }
+        requires to { Every (λ l. l.to.shard < length self.old.book.outbox) estate.now.owed }
+        requires letters { HasRoomEach (length estate.now.owed) self.old }
+        ensures { self.new.book ≡ wrote (max self.old.book.clock floor + 1) event (map (letter (max self.old.book.clock floor + 1)) estate.now.owed) self.old.book }
+    {
+        let stamp = self.write(floor, event);
+        for i in 0..estate.len() {
+            let (to, signal) = estate.owed(i);
+            self.put(Letter {
+                from,
+                to,
+                signal,
+                stamp,
+            });
+        }
+    }
+
+    pub fn count_out(&self, to: u8) -> usize
+        requires { to < length self.now.book.outbox }
+        ensures { result ≡ length (slice_index_or self.now.book.outbox to []) }
+    {
+        self.outbox[usize::from(to)].len()
+    }
+
+    pub fn first_out(&self, to: u8) -> Option<Letter>
+        requires { to < length self.now.book.outbox }
+        ensures { result ≡ slice_get (slice_index_or self.now.book.outbox to []) 0 }
+    {
+        self.outbox[usize::from(to)].first()
+    }
+
+    pub fn next_out(&mut self, to: u8) -> Option<Letter>
+        requires { to < length self.old.book.outbox }
+        ensures first { result ≡ slice_get (slice_index_or self.old.book.outbox to []) 0 }
+        ensures rest { self.new.book ≡ record self.old.book { outbox = slice_set self.old.book.outbox to (drop 1 (slice_index_or self.old.book.outbox to [])) } }
+    {
+        self.outbox[usize::from(to)].pop()
+    }
+
+    pub fn held(&self) -> Option<Letter>
+        ensures { result ≡ self.now.book.hold }
+    {
+        self.hold
+    }
+
+    pub fn take_hold(&mut self) -> Option<Letter>
+        ensures held { result ≡ self.old.book.hold }
+        ensures rest { self.new.book ≡ record self.old.book { hold = None } }
+    {
+        self.hold.take()
+    }
+
+    pub fn put_hold(&mut self, letter: Letter)
+        ensures { self.new.book ≡ record self.old.book { hold = Some letter } }
+    {
+        self.hold = Some(letter);
+    }
+
+    /// How many letters wait here, staying at `u64::MAX` once it is reached.
+    pub fn pending(&self) -> u64
+        ensures { result ≡ min (sum_by length self.now.book.outbox + count_held self.now.book.hold) (2 ^ 64 - 1) }
+    {
+        let mut count: u64 = if self.hold.is_some() { 1 } else { 0 };
+        for e in 0..self.outbox.len() {
+            count = count.saturating_add(self.outbox[e].len() as u64);
+        }
+        count
+    }
+}

@@ -1,0 +1,68 @@
+//! A desk without its lanes: one shard of an Erlang-style process table, with its processes, its clock and journal,
+//! and the letters that wait in it.
+//!
+//! A process has a mailbox, links, monitors and a `trap_exit` flag, as the Erlang Reference Manual (OTP 27,
+//! chapter Processes) describes them. It runs no code of its own: whoever holds the shard makes its calls for it,
+//! one after the other.
+//!
+//! ```
+//! let mut shard = Shard::new(alloc, config, 0)?;
+//! let watcher = shard.spawn()?;
+//! let worker = shard.spawn()?;
+//! if shard.knows(worker) {
+//!     let watch = shard.monitor(watcher, worker)?;
+//!     while let Some(letter) = shard.next_out(0) {  // what it sends to pids of its own
+//!         shard.handle(letter)?;
+//!     }
+//! }
+//! ```
+//!
+//! # Calls and letters
+//!
+//! A call writes at most one event into the journal, stamped one above the clock. What the event sends waits as
+//! letters, each with the event's stamp, in the outbox: one queue for each receiving desk, taken out by `next_out`.
+//! `handle` takes one letter to its receiver; what that calls for, as the DOWNs of a process that it ends, waits in
+//! the outbox in its turn. A letter that was taken from a lane and cannot be handled yet stands in the hold.
+//!
+//! # Pids
+//!
+//! A pid is (shard, slot, version). The slot of a process that ended is used again under the next version, so an
+//! old pid never reaches the process that stands in its slot today. A slot whose process had the top version is
+//! retired. The calls with a target take one that the shard `knows`: a pid that was issued here, dead or alive, or
+//! any pid in range of another desk of the node. A pid that is known stays known, and one that a desk bears is known
+//! there at once. No memory of dead pids is kept for that.
+//!
+//! # Refusals
+//!
+//! A call is refused by a `Fault`, and the shard is then exactly as it was. Where several could be given it is the
+//! first of `Gone` (the acting process is not alive here), `Myself` (a monitor of oneself), `Worn` (the call has an
+//! event to write, and the clock stands at 2^62), `Full` (no slot for a birth) and `Memory` (the call has an event
+//! to write, and a growth was refused). A call that has no event to write takes no memory and needs no clock.
+//!
+//! # Cost
+//!
+//! `send`, `trap`, `link`, `unlink`, `monitor`, `demonitor`, `ask_alive`, `spawn` and the readers but `pending` take
+//! constant time, on average where a vector or a table has to grow. `receive` costs what it looks at, so the first
+//! item is O(1); a `demonitor` that looks for a DOWN to flush is such a receive. `exit` costs the links, watchers and
+//! open monitors that the process has, and makes room for them once a desk; so does a receipt that ends its
+//! receiver. `pending` looks at each desk's queue once. Nothing grows with the journal or with the number of
+//! processes.
+//!
+//! # What is proved
+//!
+//! Each call's contract says the whole of its answer over the journal alone (`specs/Calls`, `specs/ShardState`), the
+//! journal is always a lawful one (`specs/Fit`), and each live process is what the journal gives.
+#![tactic(auto)]
+
+mod config;
+mod fault;
+mod ledger;
+mod letters;
+mod residents;
+mod shard;
+mod stop;
+
+pub use config::{Config, MAX_DESKS, MAX_LANE, MAX_SLOTS, MAX_STAMP, OpenError};
+pub use fault::Fault;
+pub use shard::Shard;
+pub use stop::Stop;

@@ -1,0 +1,264 @@
+// The processes of a desk, by their slots.
+
+ghost use Rattle.std.specs.Prelude.{◌≡◌, ◌<◌, ◌≤◌, length, Some, None, IsSome, IsSomeAnd, IfOk, IfSome, OnOk, OnErr};
+ghost use Rattle.std.specs.Option.{option_copied};
+ghost use Rattle.std.specs.List.{remove};
+ghost use Rattle.std.specs.Map.{lookup};
+ghost use Rattle.pt_signal.specs.Values.{same_ref};
+ghost use Rattle.pt_signal.specs.Process.{say, handle, fresh};
+ghost use Rattle.pt_signal.specs.declared.signal.Signal.{Signal};
+ghost use Rattle.pt_slots.specs.State.{issued, next_key};
+ghost use Rattle.pt_slots.specs.Calls.{IsEmpty, Inserted};
+ghost use Rattle.pt_events.specs.History.{linked};
+ghost use Rattle.pt_shard.specs.Residents.{seen, in_place, resident_at, vacant_at, Changes, IsSameTable, Ends, HasRoomFor, unlinked};
+
+use pt_process::{Estate, Process};
+use pt_signal::{LinkId, Pid, Reason, Ref, Signal};
+use pt_slots::{InsertError, Key, Slots};
+use std::alloc::{AllocError, Global};
+use std::marker::Model;
+
+/// The processes that live on a desk.
+#[derive(Drop)]
+pub struct Residents {
+    desk: u8,
+    table: Slots<Process>,
+}
+
+impl Model for Residents {
+    ghost use Rattle.pt_shard.specs.Residents.{ResidentsState};
+
+    ghost Value = { ResidentsState };
+
+    ghost view = { λ r. record { desk = r.desk; table = r.table } };
+}
+
+/// The key of a process in the slots of its desk.
+fn key_of(p: Pid) -> Key
+    ensures slot { result.slot ≡ p.slot }
+    ensures version { result.version ≡ p.version }
+{
+    Key {
+        slot: p.slot,
+        version: p.version,
+    }
+}
+
+impl Residents {
+    pub fn new(
+        alloc: Global,
+        desk: u8,
+        slots: u32,
+        top_version: u32,
+    ) -> Result<Residents, AllocError>
+        requires { (0 < slots) × (slots ≤ 65536) × (0 < top_version) }
+        ensures desk { IfOk result (λ r. r.desk ≡ desk) }
+        ensures empty { IfOk result (λ r. IsEmpty slots top_version r.table) }
+    {
+        Ok(Residents {
+            desk,
+            table: Slots::new(alloc, slots, top_version)?,
+        })
+    }
+
+    /// The number of the desk.
+    pub fn desk(&self) -> u8
+        ensures { result ≡ self.now.desk }
+    {
+        self.desk
+    }
+
+    /// The latest version of a slot.
+    pub fn issued(&self, slot: u32) -> u32
+        ensures { result ≡ issued self.now.table slot }
+    {
+        self.table.issued(slot)
+    }
+
+    /// The process, if it lives here.
+    pub fn find(&self, p: Pid) -> Option<&Process>
+        ensures { seen (option_copied result) ≡ resident_at self.now.desk self.now.table p }
+    {
+        if p.shard != self.desk {
+            return None;
+        }
+        self.table.get(key_of(p))
+    }
+
+    /// Sets the flag of a process that lives here.
+    pub fn set_trap(&mut self, p: Pid, on: bool)
+        requires { IsSome (in_place self.old.table p) }
+        ensures desk { self.new.desk ≡ self.old.desk }
+        ensures changes { Changes p (λ me s. record s { traps = on }) self.old.table self.new.table }
+    {
+        let Some(process) = self.table.get_mut(key_of(p)) else {
+            unreachable!()
+        };
+        process.set_trap(on);
+    }
+
+    /// Takes the item at a place out of the mailbox of a process that lives here.
+    pub fn take_at(&mut self, p: Pid, place: usize)
+        requires { IsSomeAnd (in_place self.old.table p) (λ r. place < length r.1.waiting) }
+        ensures desk { self.new.desk ≡ self.old.desk }
+        ensures changes { Changes p (λ me s. record s { waiting = remove s.waiting place }) self.old.table self.new.table }
+    {
+        let Some(process) = self.table.get_mut(key_of(p)) else {
+            unreachable!()
+        };
+        process.take_at(place);
+    }
+
+    /// The half of a link that a process keeps, which lives here.
+    pub fn add_link(&mut self, p: Pid, peer: Pid, id: LinkId) -> Result<(), AllocError>
+        requires { IsSome (in_place self.old.table p) }
+        ensures desk { self.new.desk ≡ self.old.desk }
+        ensures ok { OnOk result (Changes p (λ me s. say s peer (Signal.Link id)) self.old.table self.new.table) }
+        ensures err { OnErr result (IsSameTable self.old.table self.new.table) }
+    {
+        let Some(process) = self.table.get_mut(key_of(p)) else {
+            unreachable!()
+        };
+        process.add_link(peer, id)
+    }
+
+    /// Takes back the half of a link that a process keeps, which lives here.
+    pub fn cut_link(&mut self, p: Pid, peer: Pid)
+        requires { IsSome (in_place self.old.table p) }
+        ensures desk { self.new.desk ≡ self.old.desk }
+        ensures changes { Changes p (λ me s. unlinked peer s) self.old.table self.new.table }
+    {
+        let Some(process) = self.table.get_mut(key_of(p)) else {
+            unreachable!()
+        };
+        process.cut_link(peer);
+    }
+
+    /// Opens a monitor of a process that lives here.
+    pub fn add_monitor(&mut self, p: Pid, monitor: Ref, target: Pid) -> Result<(), AllocError>
+        requires { IsSomeAnd (in_place self.old.table p) (λ r. lookup (same_ref monitor) r.1.watching ≡ None) }
+        ensures desk { self.new.desk ≡ self.old.desk }
+        ensures ok { OnOk result (Changes p (λ me s. say s target (Signal.Monitor monitor)) self.old.table self.new.table) }
+        ensures err { OnErr result (IsSameTable self.old.table self.new.table) }
+    {
+        let Some(process) = self.table.get_mut(key_of(p)) else {
+            unreachable!()
+        };
+        process.add_monitor(monitor, target)
+    }
+
+    /// Closes a monitor of a process that lives here.
+    pub fn cut_monitor(&mut self, p: Pid, monitor: Ref)
+        requires { IsSome (in_place self.old.table p) }
+        ensures desk { self.new.desk ≡ self.old.desk }
+        ensures changes { Changes p (λ me s. say s me (Signal.Demonitor monitor)) self.old.table self.new.table }
+    {
+        let Some(process) = self.table.get_mut(key_of(p)) else {
+            unreachable!()
+        };
+        process.cut_monitor(monitor);
+    }
+
+    /// Lets a process take a signal in, which lives here.
+    pub fn accept(&mut self, p: Pid, from: Pid, signal: Signal) -> Result<(), AllocError>
+        requires { IsSome (in_place self.old.table p) }
+        ensures desk { self.new.desk ≡ self.old.desk }
+        ensures ok { OnOk result (Changes p (λ me s. (handle me s from signal).state) self.old.table self.new.table) }
+        ensures err { OnErr result (IsSameTable self.old.table self.new.table) }
+    {
+        let Some(process) = self.table.get_mut(key_of(p)) else {
+            unreachable!()
+        };
+        process.accept(from, signal)?;
+        Ok(())
+    }
+
+    /// Makes room for the half of a link, if there is one, that a process is to keep, which lives here.
+    pub fn make_room(&mut self, p: Pid, link: Option<LinkId>) -> Result<(), AllocError>
+        requires { IsSome (in_place self.old.table p) }
+        ensures desk { self.new.desk ≡ self.old.desk }
+        ensures same { IsSameTable self.old.table self.new.table }
+        ensures ok { OnOk result (HasRoomFor link p self.new.table) }
+    {
+        if link.is_none() {
+            return Ok(());
+        }
+        let Some(process) = self.table.get_mut(key_of(p)) else {
+            unreachable!()
+        };
+        process.room()
+    }
+
+    /// The pid that the next birth has, or `None` where no slot is free.
+    pub fn vacant(&self) -> Option<Pid>
+        ensures { result ≡ vacant_at self.now.desk self.now.table }
+    {
+        let key = self.table.next()?;
+        Some(Pid {
+            shard: self.desk,
+            slot: key.slot,
+            version: key.version,
+        })
+    }
+
+    /// Takes a new process in, under the pid that is vacant.
+    pub fn admit(&mut self, process: Process) -> Result<(), AllocError>
+        requires { IsSome (next_key self.old.table) }
+        ensures desk { self.new.desk ≡ self.old.desk }
+        ensures ok { OnOk result (IfSome (next_key self.old.table) (λ key. Inserted process key self.old.table self.new.table)) }
+        ensures err { OnErr result (self.new ≡ self.old) }
+    {
+        match self.table.insert(process) {
+            Ok(_) => Ok(()),
+            Err(InsertError::Full(_)) => unreachable!(),
+            Err(InsertError::Memory(_)) => Err(AllocError),
+        }
+    }
+
+    /// The half of the link with its child, if there is one, that a parent keeps, which lives here.
+    pub fn adopt(&mut self, parent: Pid, child: Pid, link: Option<LinkId>)
+        requires lives { IsSome (in_place self.old.table parent) }
+        requires room { HasRoomFor link parent self.old.table }
+        ensures desk { self.new.desk ≡ self.old.desk }
+        ensures changes { Changes parent (λ me s. linked (Some child) link s) self.old.table self.new.table }
+    {
+        let Some(id) = link else {
+            return;
+        };
+        let Some(process) = self.table.get_mut(key_of(parent)) else {
+            unreachable!()
+        };
+        let Ok(()) = process.add_link(child, id) else {
+            unreachable!()
+        };
+    }
+
+    /// Takes a process out that lives here and ends with this reason, and gives what it owes.
+    pub fn end(&mut self, p: Pid, reason: Reason) -> Estate
+        requires { IsSome (in_place self.old.table p) }
+        ensures desk { self.new.desk ≡ self.old.desk }
+        ensures ends { Ends p reason result self.old.table self.new.table }
+    {
+        let Some(process) = self.table.remove(key_of(p)) else {
+            unreachable!()
+        };
+        process.estate(reason)
+    }
+}
+
+/// A new process, which is linked with its parent where there is a link.
+pub fn newborn(
+    alloc: Global,
+    me: Pid,
+    parent: Pid,
+    link: Option<LinkId>,
+) -> Result<Process, AllocError>
+    ensures me { IfOk result (λ r. r.me ≡ me) }
+    ensures state { IfOk result (λ r. r.state ≡ linked (Some parent) link fresh) }
+{
+    let mut process = Process::new(alloc, me);
+    if let Some(id) = link {
+        process.add_link(parent, id)?;
+    }
+    Ok(process)
+}

@@ -1,0 +1,531 @@
+// A desk without its lanes.
+
+ghost use Rattle.std.specs.Prelude.{◌≡◌, true, ◌<◌, ◌^◌, ◌-◌, min, drop, length, slice_get, Some, None, IfOk, OnOk, cond, is_some};
+ghost use Rattle.std.specs.Option.{option_copied};
+ghost use Rattle.pt_signal.specs.declared.signal.Signal.{Signal};
+ghost use Rattle.pt_events.specs.declared.event.Event.{Event};
+ghost use Rattle.pt_shard.specs.ShardState.{lives, state_in, box, Handles};
+ghost use Rattle.pt_shard.specs.Opening.{IsInRange, fresh};
+ghost use Rattle.pt_shard.specs.Known.{knows};
+ghost use Rattle.pt_shard.specs.Extends.{Extends};
+ghost use Rattle.pt_shard.specs.Fit.{IsFit};
+ghost use Rattle.pt_shard.specs.Outbox.{sent_on, holding, count_pending};
+ghost use Rattle.pt_shard.specs.Calls.{Calls, Monitors, Bears, BearsChild, link_event, unlink_event, first_match, take_event, demonitor_event, held_by, new_ref};
+ghost use Rattle.pt_shard.specs.Plain.{IsPlain};
+ghost use Rattle.pt_shard.specs.Backs.{living_back};
+
+use crate::config::Config;
+use crate::fault::Fault;
+use crate::ledger::Ledger;
+use crate::residents::{Residents, newborn};
+use crate::stop::Stop;
+use pt_events::{Event, Journal};
+use pt_process::Process;
+use pt_signal::{Body, Ids, Item, Letter, Pick, Pid, Reason, Ref, Signal};
+use std::alloc::{AllocError, Global};
+use std::marker::Model;
+
+/// A desk without its lanes: its processes, its clock and journal, and the letters that wait in it.
+#[derive(Drop)]
+pub struct Shard {
+    alloc: Global,
+    config: Config,
+    ledger: Ledger,
+    house: Residents,
+}
+
+impl Model for Shard {
+    ghost use Rattle.pt_shard.specs.ShardState.{ShardState};
+    ghost use Rattle.pt_shard.specs.Whole.{parts_of, shard_of, IsWhole};
+
+    ghost Value = { ShardState };
+
+    ghost view = { λ a. shard_of (parts_of a.config a.ledger.book a.house) };
+
+    ghost invariant = { λ a. IsWhole (parts_of a.config a.ledger.book a.house) };
+}
+
+impl Shard {
+    /// A desk on which nothing has happened. The first birth has version 1 of slot 0.
+    ///
+    /// Refused exactly where there is no memory for its tables.
+    pub fn new(alloc: Global, config: Config, number: u8) -> Result<Shard, AllocError>
+        requires settings { IsInRange config }
+        requires number { number < config.desks }
+        ensures fresh { IfOk result (λ d. d ≡ fresh config number) }
+        ensures fit { OnOk result (IsFit (fresh config number)) }
+    {
+        Ok(Shard {
+            alloc,
+            config,
+            ledger: Ledger::new(alloc, number, config.desks, config.start)?,
+            house: Residents::new(alloc, number, config.slots, config.top_version)?,
+        })
+    }
+
+    /// The number of the desk.
+    pub fn number(&self) -> u8
+        ensures { result ≡ self.now.number }
+    {
+        self.house.desk()
+    }
+
+    /// The settings of the node.
+    pub fn config(&self) -> Config
+        ensures { result ≡ self.now.config }
+    {
+        self.config
+    }
+
+    /// The stamp of the newest event, or the start of the clock.
+    pub fn clock(&self) -> u64
+        ensures { result ≡ self.now.clock }
+    {
+        self.ledger.clock()
+    }
+
+    /// What happened here, oldest event first.
+    ///
+    /// It is a lawful journal of this desk: each event was allowed after those before it, and the versions of a slot
+    /// are 1, 2, 3 and so on, each after the end of the one before.
+    pub fn journal(&self) -> &Journal
+        ensures desk { result.now.desk ≡ self.now.number }
+        ensures past { result.now.past ≡ self.now.journal }
+        ensures fit { IsFit self.now }
+    {
+        let _ = &self.house;
+        self.ledger.journal()
+    }
+
+    /// Whether p lives here. False of a pid whose slot another process has by now.
+    pub fn alive_here(&self, p: Pid) -> bool
+        ensures { result ≡ lives self.now p }
+    {
+        self.house.find(p).is_some()
+    }
+
+    /// The items that wait in the mailbox of p, oldest first, or `None` where it does not live here.
+    pub fn waiting(&self, p: Pid) -> Option<&[Item]>
+        ensures { option_copied result ≡ cond (lives self.now p) (Some (state_in self.now p).waiting) None }
+    {
+        match self.house.find(p) {
+            Some(process) => Some(process.waiting()),
+            None => None,
+        }
+    }
+
+    /// The ids under which p is linked with q, or `None` where there is no link, or p does not live here.
+    ///
+    /// It is p's own half of the link: that of q may differ while letters of the two are on their way.
+    pub fn linked(&self, p: Pid, q: Pid) -> Option<Ids>
+        ensures { result ≡ cond (lives self.now p) (held_by self.now p q) None }
+    {
+        self.house.find(p)?.linked(q)
+    }
+
+    /// How many letters wait in the outbox and the hold, staying at `u64::MAX` once it is reached.
+    pub fn pending(&self) -> u64
+        ensures { result ≡ min (count_pending self.now) (2 ^ 64 - 1) }
+    {
+        self.ledger.pending()
+    }
+
+    /// Whether p may be the target of a call: its numbers are in the node's ranges, and if it is of this desk,
+    /// its version was issued.
+    pub fn knows(&self, p: Pid) -> bool
+        ensures { result ≡ knows self.now p }
+    {
+        p.shard < self.config.desks
+            && p.slot < self.config.slots
+            && p.version >= 1
+            && p.version <= self.config.top_version
+            && (p.shard != self.house.desk() || p.version <= self.house.issued(p.slot))
+    }
+
+    /// The pid that the next birth on this desk has, or `None` exactly where no slot is free: a birth is then
+    /// refused as `Full`, or as `Worn` where the clock is at its limit.
+    pub fn vacant(&self) -> Option<Pid>
+        ensures { result ≡ self.now.vacant }
+    {
+        self.house.vacant()
+    }
+
+    /// Sends a message: Erlang's `!`, chapter Processes, section Signals.
+    ///
+    /// It comes to the receiver after all that the sender sent it before. A receiver that is not alive then loses
+    /// it, and nobody is told. Refused as `Gone`, `Worn` or `Memory`.
+    pub fn send(&mut self, from: Pid, to: Pid, body: Body) -> Result<(), Fault>
+        requires { knows self.old to ≡ true }
+        ensures does { Calls from (Some (Event.Said from to (Signal.Message body))) tt self.old result self.new }
+        ensures extends { Extends self.old self.new }
+        ensures fit { IsFit self.new }
+    {
+        self.say(from, to, Signal::Message(body))
+    }
+
+    /// Sends an exit signal that no link carries: Erlang's `exit/2`, section Receiving Exit Signals.
+    ///
+    /// `kill` ends its receiver whether it traps or not, with the reason `killed`. A receiver that traps gets any
+    /// other as an item. One that does not is ended by it, with that reason, except that `normal` ends it only where
+    /// it is the sender itself. Refused as `Gone`, `Worn` or `Memory`.
+    pub fn exit_signal(&mut self, from: Pid, to: Pid, reason: Reason) -> Result<(), Fault>
+        requires { knows self.old to ≡ true }
+        ensures does { Calls from (Some (Event.Said from to (Signal.Exit reason))) tt self.old result self.new }
+        ensures extends { Extends self.old self.new }
+        ensures fit { IsFit self.new }
+    {
+        self.say(from, to, Signal::Exit(reason))
+    }
+
+    /// Links p with another process: Erlang's `link/1`, section Links.
+    ///
+    /// Nothing happens where p is the target, or holds a link with it. A target that is not alive when the link
+    /// comes answers it by an exit signal with `noproc`. Refused as `Gone`, `Worn` or `Memory`.
+    pub fn link(&mut self, p: Pid, to: Pid) -> Result<(), Fault>
+        requires { knows self.old to ≡ true }
+        ensures does { Calls p (link_event self.old p to) tt self.old result self.new }
+        ensures extends { Extends self.old self.new }
+        ensures fit { IsFit self.new }
+    {
+        let Some(process) = self.house.find(p) else {
+            return Err(Fault::Gone);
+        };
+        if p == to {
+            return Ok(());
+        }
+        if process.linked(to).is_some() {
+            return Ok(());
+        }
+        self.ledger.prepare_letter(0, to)?;
+        let id = self.ledger.next_link();
+        self.house.add_link(p, to, id)?;
+        self.ledger.say(p, to, Signal::Link(id));
+        Ok(())
+    }
+
+    /// Takes the link of p with another process back: Erlang's `unlink/1`, section Links.
+    ///
+    /// Nothing happens where there is none. An exit signal that the link carries has no effect on p from here on: it
+    /// may still come, and is dropped. Refused as `Gone`, `Worn` or `Memory`.
+    pub fn unlink(&mut self, p: Pid, to: Pid) -> Result<(), Fault>
+        requires { knows self.old to ≡ true }
+        ensures does { Calls p (unlink_event self.old p to) tt self.old result self.new }
+        ensures extends { Extends self.old self.new }
+        ensures fit { IsFit self.new }
+    {
+        let Some(process) = self.house.find(p) else {
+            return Err(Fault::Gone);
+        };
+        let Some(ids) = process.linked(to) else {
+            return Ok(());
+        };
+        self.ledger.prepare_letter(0, to)?;
+        self.house.cut_link(p, to);
+        self.ledger.say(p, to, Signal::Unlink(ids));
+        Ok(())
+    }
+
+    /// Sets whether p traps exits, and answers whether it did: Erlang's `process_flag(trap_exit, _)`, section
+    /// Receiving Exit Signals.
+    ///
+    /// The flag counts when an exit signal comes, not when it is sent. Refused as `Gone`, `Worn` or `Memory`.
+    pub fn trap(&mut self, p: Pid, on: bool) -> Result<bool, Fault>
+        ensures does { Calls p (Some (Event.Flag p on)) (state_in self.old p).traps self.old result self.new }
+        ensures extends { Extends self.old self.new }
+        ensures fit { IsFit self.new }
+    {
+        let Some(process) = self.house.find(p) else {
+            return Err(Fault::Gone);
+        };
+        let before = process.traps();
+        self.ledger.prepare(0)?;
+        self.house.set_trap(p, on);
+        self.ledger.write(0, Event::Flag(p, on));
+        Ok(before)
+    }
+
+    /// Takes the first item that fits out of the mailbox of p; the others stay, in order: Erlang's `receive`
+    /// with `after 0`, chapter Expressions, section Receive.
+    ///
+    /// `Ok(None)` says that nothing fits; it has no event. Refused as `Gone`, or where an item fits, as `Worn` or
+    /// `Memory`.
+    pub fn receive(&mut self, p: Pid, pick: Pick) -> Result<Option<Item>, Fault>
+        ensures does { Calls p (take_event self.old p pick) (first_match self.old p pick) self.old result self.new }
+        ensures extends { Extends self.old self.new }
+        ensures fit { IsFit self.new }
+    {
+        let Some(process) = self.house.find(p) else {
+            return Err(Fault::Gone);
+        };
+        let Some((place, item)) = process.first(pick) else {
+            return Ok(None);
+        };
+        self.ledger.prepare(0)?;
+        self.house.take_at(p, place);
+        self.ledger.write(0, Event::Took(p, pick, item));
+        Ok(Some(item))
+    }
+
+    /// Watches another process: Erlang's `monitor/2`, section Monitors. It answers the reference, which the one
+    /// DOWN will have.
+    ///
+    /// A target that is not alive when the monitor comes is answered by a DOWN with `noproc`. Refused as `Gone`,
+    /// as `Myself` where w is the target, as `Worn` or `Memory`.
+    pub fn monitor(&mut self, w: Pid, t: Pid) -> Result<Ref, Fault>
+        requires { knows self.old t ≡ true }
+        ensures does { Monitors w t self.old result self.new }
+        ensures extends { Extends self.old self.new }
+        ensures fit { IsFit self.new }
+    {
+        let Some(_process) = self.house.find(w) else {
+            return Err(Fault::Gone);
+        };
+        if w == t {
+            return Err(Fault::Myself);
+        }
+        self.ledger.prepare_letter(0, t)?;
+        let monitor = self.ledger.next_ref();
+        self.house.add_monitor(w, monitor, t)?;
+        self.ledger.say(w, t, Signal::Monitor(monitor));
+        Ok(monitor)
+    }
+
+    /// Gives a monitor of w up: Erlang's `demonitor/2`, section Monitors. It answers whether it wrote an event.
+    ///
+    /// A monitor is open until its DOWN comes to w, or w gives it up or ends. Of an open one no DOWN joins the mailbox
+    /// any more. Of any other the DOWN is taken out of the mailbox, where `flush` asks for it and it waits. Refused as
+    /// `Gone`, or where there is an event to write, as `Worn` or `Memory`.
+    pub fn demonitor(&mut self, w: Pid, monitor: Ref, flush: bool) -> Result<bool, Fault>
+        ensures does { Calls w (demonitor_event self.old w monitor flush) (is_some (demonitor_event self.old w monitor flush)) self.old result self.new }
+        ensures extends { Extends self.old self.new }
+        ensures fit { IsFit self.new }
+    {
+        let Some(process) = self.house.find(w) else {
+            return Err(Fault::Gone);
+        };
+        let Some(t) = process.target_of(monitor) else {
+            if !flush {
+                return Ok(false);
+            }
+            let taken = self.receive(w, Pick::DownOf(monitor))?;
+            return Ok(taken.is_some());
+        };
+        self.ledger.prepare_letter(0, t)?;
+        self.house.cut_monitor(w, monitor);
+        self.ledger.say(w, t, Signal::Demonitor(monitor));
+        Ok(true)
+    }
+
+    /// Asks whether another process is alive: Erlang's `is_process_alive/1`, section Processes and Erlang's signals. It
+    /// answers the reference, which the answer will have.
+    ///
+    /// The answer comes as an item, after all that t sent p before; t may be p. Refused as `Gone`, `Worn` or
+    /// `Memory`.
+    pub fn ask_alive(&mut self, p: Pid, t: Pid) -> Result<Ref, Fault>
+        requires { knows self.old t ≡ true }
+        ensures does { Calls p (Some (Event.Said p t (Signal.AliveAsk (new_ref self.old)))) (new_ref self.old) self.old result self.new }
+        ensures extends { Extends self.old self.new }
+        ensures fit { IsFit self.new }
+    {
+        let Some(_process) = self.house.find(p) else {
+            return Err(Fault::Gone);
+        };
+        self.ledger.prepare_letter(0, t)?;
+        let question = self.ledger.next_ref();
+        self.ledger.say(p, t, Signal::AliveAsk(question));
+        Ok(question)
+    }
+
+    /// Ends p with this reason: Erlang's `exit/1`, section Process Termination.
+    ///
+    /// Each process that it holds a link with is sent an exit signal, then each watcher its DOWN, then each target of
+    /// an open monitor is told that it is watched no more. The items that wait are dropped. The slot is free for its
+    /// next version, or retired where p had the top one. Refused as `Gone`, `Worn` or `Memory`.
+    pub fn exit(&mut self, p: Pid, reason: Reason) -> Result<(), Fault>
+        ensures does { Calls p (Some (Event.Left p reason)) tt self.old result self.new }
+        ensures extends { Extends self.old self.new }
+        ensures fit { IsFit self.new }
+    {
+        let Some(process) = self.house.find(p) else {
+            return Err(Fault::Gone);
+        };
+        self.ledger.prepare_end(0, process.owed_len())?;
+        let estate = self.house.end(p, reason);
+        self.ledger.close(0, Event::Left(p, reason), p, &estate);
+        Ok(())
+    }
+
+    /// Makes a process that no other one bears: Erlang's `spawn/1`, called from outside of the desk (section Process
+    /// Creation).
+    ///
+    /// Its pid is the one that `vacant` tells, which no process had before. Refused as `Worn` where the clock is at
+    /// its limit, then as `Full` where no slot is free, then as `Memory`.
+    pub fn spawn(&mut self) -> Result<Pid, Fault>
+        ensures does { Bears None None self.old result self.new }
+        ensures known { IfOk result (λ p. (p.shard ≡ self.new.number) × (knows self.new p ≡ true)) }
+        ensures extends { Extends self.old self.new }
+        ensures fit { IsFit self.new }
+    {
+        if self.ledger.is_worn(0) {
+            return Err(Fault::Worn);
+        }
+        let Some(pid) = self.house.vacant() else {
+            return Err(Fault::Full);
+        };
+        self.ledger.prepare(0)?;
+        self.house.admit(Process::new(self.alloc, pid))?;
+        self.ledger.write(0, Event::Born(pid, None, None));
+        Ok(pid)
+    }
+
+    /// Makes a process that its parent bears, linked with it where that is asked: Erlang's `spawn/1` and
+    /// `spawn_link/1`, sections Process Creation and Links.
+    ///
+    /// Both halves of the link stand at once, without a letter. Refused as `Gone` where the parent is not alive here,
+    /// then as `Worn` where the clock is at its limit, then as `Full` where no slot is free, then as `Memory`.
+    pub fn spawn_child(&mut self, parent: Pid, linked: bool) -> Result<Pid, Fault>
+        ensures does { BearsChild parent linked self.old result self.new }
+        ensures known { IfOk result (λ p. (p.shard ≡ self.new.number) × (knows self.new p ≡ true)) }
+        ensures extends { Extends self.old self.new }
+        ensures fit { IsFit self.new }
+    {
+        let Some(_process) = self.house.find(parent) else {
+            return Err(Fault::Gone);
+        };
+        if self.ledger.is_worn(0) {
+            return Err(Fault::Worn);
+        }
+        let Some(pid) = self.house.vacant() else {
+            return Err(Fault::Full);
+        };
+        self.ledger.prepare(0)?;
+        let link = linked.then_some(self.ledger.next_link());
+        self.house.make_room(parent, link)?;
+        let child = newborn(self.alloc, pid, parent, link)?;
+        self.house.admit(child)?;
+        self.house.adopt(parent, pid, link);
+        self.ledger.write(0, Event::Born(pid, Some(parent), link));
+        Ok(pid)
+    }
+
+    /// Takes a letter to its receiver, as a turn does, and answers who ended by it.
+    ///
+    /// Stopped as `Worn` where the stamp of the receipt would pass the limit of clocks, else as `Memory`; the desk
+    /// is then as it was.
+    pub fn handle(&mut self, letter: Letter) -> Result<Option<Pid>, Stop>
+        requires here { letter.to.shard ≡ self.old.number }
+        requires near { letter.from.shard < self.old.config.desks }
+        ensures does { Handles letter self.old result self.new }
+        ensures extends { Extends self.old self.new }
+        ensures fit { IsFit self.new }
+    {
+        let Letter {
+            from,
+            to,
+            signal,
+            stamp,
+        } = letter;
+        let Some(process) = self.house.find(to) else {
+            let back = signal.answer_of_dead();
+            self.ledger.prepare_back(stamp, back, from)?;
+            self.ledger.receive(letter, back);
+            return Ok(None);
+        };
+        let Some(reason) = process.would_end(from, &signal) else {
+            let back = answer_of_living(signal);
+            self.ledger.prepare_back(stamp, back, from)?;
+            self.house.accept(to, from, signal)?;
+            self.ledger.receive(letter, back);
+            return Ok(None);
+        };
+        self.ledger.prepare_end(stamp, process.owed_len())?;
+        self.house.accept(to, from, signal)?;
+        let estate = self.house.end(to, reason);
+        self.ledger
+            .close(stamp, Event::Came(from, to, signal), to, &estate);
+        Ok(Some(to))
+    }
+
+    /// How many letters wait to be posted to desk `to`.
+    pub fn count_out(&self, to: u8) -> usize
+        requires { to < self.now.config.desks }
+        ensures { result ≡ length (box self.now to) }
+    {
+        let _ = &self.house;
+        self.ledger.count_out(to)
+    }
+
+    /// The oldest letter that waits to be posted to desk `to`.
+    pub fn first_out(&self, to: u8) -> Option<Letter>
+        requires { to < self.now.config.desks }
+        ensures { result ≡ slice_get (box self.now to) 0 }
+    {
+        self.ledger.first_out(to)
+    }
+
+    /// Takes the oldest letter out that waits to be posted to desk `to`.
+    pub fn next_out(&mut self, to: u8) -> Option<Letter>
+        requires { to < self.old.config.desks }
+        ensures first { result ≡ slice_get (box self.old to) 0 }
+        ensures rest { self.new ≡ sent_on to self.old }
+        ensures extends { Extends self.old self.new }
+        ensures fit { IsFit self.new }
+    {
+        self.ledger.next_out(to)
+    }
+
+    /// The letter that was collected and is not yet handled.
+    pub fn held(&self) -> Option<Letter>
+        ensures { result ≡ self.now.hold }
+    {
+        self.ledger.held()
+    }
+
+    /// Takes out the letter that was collected and is not yet handled.
+    pub fn take_hold(&mut self) -> Option<Letter>
+        ensures held { result ≡ self.old.hold }
+        ensures rest { self.new ≡ holding None self.old }
+        ensures extends { Extends self.old self.new }
+        ensures fit { IsFit self.new }
+    {
+        self.ledger.take_hold()
+    }
+
+    /// Keeps a letter that was collected and is not yet handled.
+    pub fn put_hold(&mut self, letter: Letter)
+        requires empty { self.old.hold ≡ None }
+        requires here { letter.to.shard ≡ self.old.number }
+        requires near { letter.from.shard < self.old.config.desks }
+        ensures held { self.new ≡ holding (Some letter) self.old }
+        ensures extends { Extends self.old self.new }
+        ensures fit { IsFit self.new }
+    {
+        self.ledger.put_hold(letter);
+    }
+
+    /// Sends a signal that changes nothing in its sender.
+    fn say(&mut self, from: Pid, to: Pid, signal: Signal) -> Result<(), Fault>
+        requires known { knows self.old to ≡ true }
+        requires plain { IsPlain signal }
+        ensures does { Calls from (Some (Event.Said from to signal)) tt self.old result self.new }
+        ensures extends { Extends self.old self.new }
+        ensures fit { IsFit self.new }
+    {
+        let Some(_process) = self.house.find(from) else {
+            return Err(Fault::Gone);
+        };
+        self.ledger.prepare_letter(0, to)?;
+        self.ledger.say(from, to, signal);
+        Ok(())
+    }
+}
+
+/// How a live process answers a signal, if it does.
+fn answer_of_living(signal: Signal) -> Option<Signal>
+    ensures { result ≡ living_back signal }
+{
+    match signal {
+        Signal::AliveAsk(question) => Some(Signal::AliveSay(question, true)),
+        _ => None,
+    }
+}
