@@ -1,5 +1,5 @@
 -- A desk on which one process acts is whole afterwards, and is as its event makes it.
-use Rattle.std.proofs.Common.{◌≡◌, ℕ, ◌+◌, ◌^◌, ◌<◌, max, Bool, true, false, cond, ◌==◌, List, [], ◌∷◌, ◌++◌, length, map, Option, Some, None, refl, sym, ap, ◌∙◌, subst, arith}
+use Rattle.std.proofs.Common.{◌≡◌, ℕ, ◌+◌, ◌^◌, ◌<◌, max, Bool, true, false, cond, ◌==◌, List, [], ◌∷◌, length, map, Option, Some, None, refl, sym, ap, ◌∙◌, subst, arith}
 use Rattle.std.specs.Prelude.{IsSome, IsSomeAnd, IfSome}
 use Rattle.std.specs.Option.{option_map}
 use Rattle.std.specs.List.{find, remove}
@@ -13,23 +13,23 @@ use Rattle.pt_signal.specs.declared.reason.Reason.{Reason}
 use Rattle.pt_signal.specs.declared.signal.Signal.{Signal}
 use Rattle.pt_signal.specs.declared.signal.Signal.TheVariants.{Message, Link, Unlink, LinkExit, Monitor, Demonitor, AliveAsk, AliveSay}
 use Rattle.pt_signal.specs.Values.{same_pid, fits, without_first}
-use Rattle.pt_signal.specs.Process.{ProcessState, held, say, sent, Sent, estate}
+use Rattle.pt_signal.specs.Process.{ProcessState, held, say, sent, estate}
 use Rattle.pt_events.specs.declared.event.Event.{Event}
 use Rattle.pt_events.specs.declared.event.Event.TheVariants.{Said, Took, Flag, Left}
 use Rattle.pt_events.specs.History.{living, is_living, life, touches, is_unborn, left_sends, sent_by, MaySay}
 use Rattle.pt_events.specs.Journal.{letter, IsHome, MayHere, IsNewAt, IsKnown}
 use Rattle.pt_events.proofs.Steps.{said, took, flagged, left}
 use Rattle.pt_slots.specs.declared.Key.{Key}
-use Rattle.pt_slots.specs.State.{at, issued, next_key}
+use Rattle.pt_slots.specs.State.{at, next_key}
 use Rattle.pt_process.specs.Resident.{Owing}
-use Rattle.pt_shard.specs.ShardState.{ShardState, past, lives, written, vacated, ended_by, sends}
+use Rattle.pt_shard.specs.ShardState.{past, lives, written, vacated, ended_by, sends}
 use Rattle.pt_shard.specs.Extends.{Extends}
 use Rattle.pt_shard.specs.Fit.{IsFit}
 use Rattle.pt_shard.specs.Plain.{IsPlain}
 use Rattle.pt_shard.specs.Known.{knows}
 use Rattle.pt_shard.specs.LedgerState.{Book, wrote}
 use Rattle.pt_shard.specs.Sound.{IsNear, of_phase, resident}
-use Rattle.pt_shard.specs.Residents.{Table, ResidentsState, seen, resident_at, in_place, changed, is_place_of, pid_at, vacant_at, Puts, Changes, Ends, IsSameTable, SameSettings}
+use Rattle.pt_shard.specs.Residents.{Table, ResidentsState, seen, resident_at, in_place, changed, is_place_of, pid_at, vacant_at, Puts, Changes, Ends, SameSettings}
 use Rattle.pt_shard.specs.Whole.{Parts, parts_of, shard_of, IsWhole}
 use Rattle.pt_signal.specs.declared.ids.Ids.{Ids}
 use Rattle.pt_signal.specs.declared.ids.Ref.{Ref}
@@ -45,7 +45,7 @@ use Rattle.pt_shard.proofs.Fresh.{fresh_link, fresh_ref}
 use Rattle.pt_shard.proofs.Near.{near_life, not_open, open_at, IsNearPhase, IsOpen}
 use Rattle.pt_shard.proofs.Births.{is_birth, issued_kept, issued_same, known_near, known_born}
 use Rattle.pt_shard.proofs.Frames.{IsPut, put_one, lives_there}
-use Rattle.pt_shard.proofs.Keeps.{IsLawful, with_table, same_desk, sent_near, next_parts, whole_next, fit_next, extends_next, next_is}
+use Rattle.pt_shard.proofs.Keeps.{IsLawful, same_desk, sent_near, whole_next, fit_next, extends_next, next_is}
 
 -- the table by places, and by pids ------------------------------------------------------
 

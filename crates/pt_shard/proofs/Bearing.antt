@@ -1,5 +1,5 @@
 -- A desk that bears a process is whole afterwards, and is as the birth makes it.
-use Rattle.std.proofs.Common.{◌≡◌, ℕ, ◌+◌, ◌^◌, ◌<◌, ◌≤◌, max, Bool, true, false, cond, ◌==◌, Result, Ok, Err, List, [], ◌∷◌, Option, Some, None, refl, sym, ap, ◌∙◌, subst, arith, rules}
+use Rattle.std.proofs.Common.{◌≡◌, ℕ, ◌+◌, ◌^◌, ◌<◌, ◌≤◌, Bool, true, false, cond, ◌==◌, Result, Ok, Err, [], ◌∷◌, Option, Some, None, refl, sym, ap, ◌∙◌, subst, arith}
 use Rattle.std.specs.Prelude.{pred, IfSome, IsSome}
 use Rattle.std.specs.Result.{IsErr, IsErrAnd}
 use Rattle.std.specs.Bool.{then_some}
@@ -10,7 +10,7 @@ use Rattle.pt_signal.specs.declared.pid.Pid.{Pid}
 use Rattle.pt_signal.specs.declared.ids.LinkId.{LinkId}
 use Rattle.pt_signal.specs.Values.{same_pid}
 use Rattle.pt_signal.specs.Process.{ProcessState, fresh}
-use Rattle.pt_signal.proofs.Same.{same_pid_is, same_pid_refl}
+use Rattle.pt_signal.proofs.Same.{same_pid_is}
 use Rattle.pt_events.specs.declared.event.Event.TheVariants.{Born}
 use Rattle.pt_events.specs.History.{Past, Phase, unborn, living, ended, life, linked, while_living, is_the, is_ended, is_living, made_link, MayBear}
 use Rattle.pt_events.specs.Journal.{IsLinkAt, IsOf}
@@ -36,7 +36,7 @@ use Rattle.pt_shard.proofs.Births.{issued_more, next_unborn, previous, previous_
 use Rattle.pt_shard.proofs.Frames.{lives_not}
 use Rattle.pt_shard.proofs.Keeps.{IsLawful, with_table, same_desk, whole_next, extends_next, fit_next, extends_itself}
 use Rattle.pt_shard.proofs.Outcomes.{still}
-use Rattle.pt_shard.proofs.Acting.{Found, lives_here, stands, put_by_pid, at_home, link_new, own_book, same_settings}
+use Rattle.pt_shard.proofs.Acting.{Found, lives_here, stands, put_by_pid, link_new, same_settings}
 
 -- what a birth changes in the journal's reading --------------------------------------------
 

@@ -1,19 +1,15 @@
 -- What a signal that ends a process leaves it to owe.
-use Rattle.std.proofs.Common.{◌≡◌, ℕ, ◌+◌, ◌<◌, ◌≤◌, Bool, true, false, List, [], ◌∷◌, ◌++◌, length, map, take, Option, Some, None, refl, append_assoc, length-append, arith}
-use Rattle.std.specs.Prelude.{slice_get}
+use Rattle.std.proofs.Common.{◌≡◌, ◌+◌, ◌≤◌, Bool, true, false, List, [], ◌∷◌, length, map, Option, Some, None, refl, length-append, arith}
 use Rattle.std.specs.Map.{lookup, remove_entry}
-use Rattle.std.proofs.lemmas.List.{map_more, length-map}
-use Rattle.std.proofs.lemmas.Option.{get_or_from_slice_get}
+use Rattle.std.proofs.lemmas.List.{length-map}
 use Rattle.pt_signal.specs.declared.pid.Pid.{Pid}
 use Rattle.pt_signal.specs.declared.ids.Ids.{Ids}
 use Rattle.pt_signal.specs.declared.ids.Ref.{Ref}
 use Rattle.pt_signal.specs.declared.reason.Reason.{Reason}
-use Rattle.pt_signal.specs.declared.letter.Letter.{Letter}
 use Rattle.pt_signal.specs.declared.signal.Signal.{Signal}
 use Rattle.pt_signal.specs.declared.signal.Signal.TheVariants.{Message, Link, Unlink, LinkExit, Monitor, Demonitor, AliveAsk, AliveSay}
 use Rattle.pt_signal.specs.Values.{same_pid, same_ref}
-use Rattle.pt_signal.specs.Process.{ProcessState, Handled, held, holds_any, handle, obey, Verdict, drops, queues, ends, verdict, link_exit, down, Sent, sent, estate}
-use Rattle.pt_events.specs.Journal.{letter}
+use Rattle.pt_signal.specs.Process.{ProcessState, Handled, held, holds_any, handle, obey, Verdict, drops, queues, ends, verdict, link_exit, down, sent, estate}
 use Rattle.pt_events.proofs.Phases.{each_branch}
 
 -- what a signal that ends a process leaves it to owe -------------------------------------------

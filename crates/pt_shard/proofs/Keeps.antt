@@ -1,13 +1,12 @@
 -- One more event keeps a desk whole.
-use Rattle.std.proofs.Common.{◌≡◌, ℕ, ◌+◌, ◌^◌, ◌<◌, ◌≤◌, Bool, true, false, cond, ◌==◌, List, [], ◌∷◌, ◌++◌, length, map, filter, get_or, Option, refl, sym, ap, ◌∙◌, subst, ◌⊎◌, inl, inr, arith}
-use Rattle.std.specs.Prelude.{⊤}
-use Rattle.std.proofs.lemmas.Bool.{eqb-true, eq-eqb, cases_lt}
+use Rattle.std.proofs.Common.{◌≡◌, ℕ, ◌^◌, ◌<◌, ◌≤◌, Bool, true, false, cond, ◌==◌, List, [], ◌∷◌, ◌++◌, length, map, filter, get_or, refl, sym, ap, ◌∙◌, subst, ◌⊎◌, inl, inr, arith}
+use Rattle.std.proofs.lemmas.Bool.{eqb-true, cases_lt}
 use Rattle.std.proofs.lemmas.Bool.Decides.{nat_tests}
 use Rattle.std.proofs.lemmas.List.{get_or_past}
 use Rattle.std.proofs.lemmas.List.Elements.{filter-append}
 use Rattle.pt_signal.specs.declared.pid.Pid.{Pid}
 use Rattle.pt_signal.specs.declared.letter.Letter.{Letter}
-use Rattle.pt_signal.specs.Process.{ProcessState, Sent}
+use Rattle.pt_signal.specs.Process.{Sent}
 use Rattle.pt_events.specs.declared.event.Event.{Event}
 use Rattle.pt_events.specs.declared.event.Event.TheVariants.{Born, Said, Came, Took, Flag, Left}
 use Rattle.pt_events.specs.declared.event.Stamped.{Stamped}
@@ -16,12 +15,12 @@ use Rattle.pt_events.specs.Journal.{letter, letters, gots, got_of, posts, IsHome
 use Rattle.pt_events.proofs.Homes.{AllFrom, from_home}
 use Rattle.pt_slots.specs.State.{issued}
 use Rattle.pt_shard.proofs.Boxes.{put_at, put_count}
-use Rattle.pt_shard.specs.ShardState.{ShardState, past, phase_of, sends, written, vacated, ended_by, put_out, box}
+use Rattle.pt_shard.specs.ShardState.{ShardState, past, sends, written, vacated, ended_by, put_out}
 use Rattle.pt_shard.specs.Known.{issued_in}
 use Rattle.pt_shard.specs.Extends.{Extends}
 use Rattle.pt_shard.specs.Fit.{IsFit, AreBetween}
 use Rattle.pt_shard.specs.Sound.{Every, IsSound, BornAreIssued, IsNear, resident}
-use Rattle.pt_shard.specs.LedgerState.{Book, wrote}
+use Rattle.pt_shard.specs.LedgerState.{wrote}
 use Rattle.pt_shard.specs.Residents.{Table, ResidentsState, resident_at, vacant_at}
 use Rattle.pt_shard.specs.Whole.{Parts, parts_of, shard_of, IsWhole}
 use Rattle.pt_shard.proofs.Births.{stays_known}

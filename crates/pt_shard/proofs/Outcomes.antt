@@ -1,5 +1,5 @@
 -- What the calls answer, told by the parts of the desk before and after.
-use Rattle.std.proofs.Common.{◌≡◌, ℕ, length, append-nil, ◌+◌, ◌^◌, ◌<◌, max, Bool, true, false, cond, ◌||◌, List, [], ◌++◌, map, Option, Some, None, is_some, IsSome, refl, sym, ap, ◌∙◌, subst, arith}
+use Rattle.std.proofs.Common.{◌≡◌, ℕ, Bool, true, false, cond, ◌||◌, Option, Some, None, is_some, IsSome, refl, sym, ap, ◌∙◌, subst, arith}
 use Rattle.std.specs.Prelude.{Result, Ok, Err}
 use Rattle.std.specs.Result.{IsErr, IsErrAnd}
 use Rattle.std.specs.List.{find}
@@ -11,21 +11,17 @@ use Rattle.pt_signal.specs.declared.ids.Ref.{Ref}
 use Rattle.pt_signal.specs.declared.ids.LinkId.{LinkId}
 use Rattle.pt_signal.specs.declared.item.Item.{Item}
 use Rattle.pt_signal.specs.declared.item.Pick.{Pick}
-use Rattle.pt_signal.specs.declared.letter.Letter.{Letter}
 use Rattle.pt_signal.specs.declared.signal.Signal.TheVariants.{Link, Unlink}
 use Rattle.pt_signal.specs.Values.{fits, same_pid, same_ref}
 use Rattle.pt_signal.specs.Process.{ProcessState, held}
 use Rattle.pt_events.specs.declared.event.Event.{Event}
 use Rattle.pt_events.specs.declared.event.Event.TheVariants.{Said, Took}
-use Rattle.pt_events.specs.History.{living, life, is_living, state_of, sent_by}
-use Rattle.pt_events.specs.Journal.{letter}
-use Rattle.pt_slots.specs.State.{next_key}
-use Rattle.pt_process.specs.Places.{IsFirst}
+use Rattle.pt_events.specs.History.{living, life, is_living, state_of}
 use Rattle.pt_shard.specs.declared.fault.Fault.TheVariants.{Memory}
 use Rattle.pt_shard.specs.declared.stop.Stop.{Stop}
 use Rattle.pt_shard.specs.declared.stop.Stop.TheVariants as stop
 use Rattle.pt_shard.specs.Faults.{fault_of}
-use Rattle.pt_shard.specs.ShardState.{ShardState, past, lives, after, ended_by}
+use Rattle.pt_shard.specs.ShardState.{ShardState, past, lives, after}
 use Rattle.pt_shard.specs.declared.fault.Fault.{Fault}
 use Rattle.pt_shard.specs.LedgerState.{Book, LedgerState, Prepares}
 use Rattle.pt_shard.specs.Residents.{ResidentsState, IsSameTable}

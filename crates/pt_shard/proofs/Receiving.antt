@@ -1,5 +1,5 @@
 -- A desk that handles a letter is whole afterwards, and is as the receipt makes it.
-use Rattle.std.proofs.Common.{◌≡◌, ℕ, ◌+◌, ◌^◌, ◌<◌, ◌≤◌, max, Bool, true, false, cond, ◌==◌, List, [], ◌∷◌, ◌++◌, length, map, Option, Some, None, is_some, refl, sym, ap, ◌∙◌, subst, append-nil, arith}
+use Rattle.std.proofs.Common.{◌≡◌, ℕ, ◌+◌, ◌^◌, ◌<◌, ◌≤◌, max, Bool, true, false, cond, [], ◌∷◌, length, map, Option, Some, None, is_some, refl, sym, ap, ◌∙◌, subst, append-nil, arith}
 use Rattle.std.specs.Prelude.{IsSome}
 use Rattle.std.specs.Option.{option_to_list}
 use Rattle.pt_signal.specs.declared.pid.Pid.{Pid}
@@ -7,12 +7,10 @@ use Rattle.pt_signal.specs.declared.letter.Letter.{Letter}
 use Rattle.pt_signal.specs.declared.reason.Reason.{Reason}
 use Rattle.pt_signal.specs.declared.signal.Signal.{Signal}
 use Rattle.pt_signal.specs.Values.{same_pid}
-use Rattle.pt_signal.specs.Process.{ProcessState, handle, Sent, sent, bounce, estate, answer_of_dead}
+use Rattle.pt_signal.specs.Process.{ProcessState, handle, sent, bounce, estate}
 use Rattle.pt_signal.proofs.Same.{same_pid_refl, same_pid_is}
 use Rattle.pt_signal.proofs.Handling.{living_answer, handle_answer}
-use Rattle.pt_events.specs.declared.event.Event.{Event}
-use Rattle.pt_events.specs.declared.event.Event.TheVariants.{Came}
-use Rattle.pt_events.specs.History.{Phase, unborn, living, ended, life, is_living, gets, live_or_end, got_sends, sent_by, end_sends}
+use Rattle.pt_events.specs.History.{Phase, unborn, living, ended, life, gets, live_or_end, got_sends, sent_by}
 use Rattle.pt_events.specs.Journal.{letter}
 use Rattle.pt_process.specs.Resident.{Owing}
 use Rattle.pt_shard.specs.ShardState as shards
@@ -29,7 +27,7 @@ use Rattle.pt_signal.specs.declared.signal.Signal.TheVariants.{Message, Link, Un
 use Rattle.pt_shard.specs.Sound.{Every}
 use Rattle.pt_shard.proofs.Endings.{fewer_owed}
 use Rattle.pt_shard.proofs.Keeps.{IsLawful, sent_near}
-use Rattle.pt_shard.proofs.Acting.{Outcome, outcome, Found, lives_here, stands, both, put_by_pid, same_settings, vacant_next, option_pid, owes_is, put_there}
+use Rattle.pt_shard.proofs.Acting.{Outcome, outcome, Found, stands, both, put_by_pid, same_settings, vacant_next, option_pid, owes_is, put_there}
 
 -- what the journal says a letter does, by what stands in the slot of its receiver ---------------
 

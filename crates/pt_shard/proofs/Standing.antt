@@ -1,5 +1,5 @@
 -- A desk on which nothing has happened, and one whose letters are moved.
-use Rattle.std.proofs.Common.{◌≡◌, ℕ, ◌<◌, ◌≤◌, ◌⊎◌, inl, inr, ◌==◌, Bool, true, false, cond, not, List, [], ◌∷◌, length, drop, set, get_or, replicate, Option, Some, None, refl, sym, ap, ◌∙◌, subst, arith}
+use Rattle.std.proofs.Common.{◌≡◌, ℕ, ◌<◌, ◌≤◌, ◌⊎◌, inl, inr, ◌==◌, Bool, true, false, not, List, [], ◌∷◌, length, drop, set, get_or, replicate, Option, None, refl, sym, ◌∙◌, subst, arith}
 use Rattle.std.specs.Prelude.{IfSome}
 use Rattle.std.proofs.lemmas.Bool.{eqb-true, eq-eqb, both_ways, cases_lt}
 use Rattle.std.proofs.lemmas.Bool.Decides.{nat_tests}
@@ -8,13 +8,12 @@ use Rattle.pt_signal.specs.declared.pid.Pid.{Pid}
 use Rattle.pt_signal.specs.declared.letter.Letter.{Letter}
 use Rattle.pt_slots.specs.Calls.{IsEmpty}
 use Rattle.pt_shard.specs.declared.config.Config.{Config}
-use Rattle.pt_shard.specs.ShardState.{ShardState}
 use Rattle.pt_shard.specs.Opening.{IsInRange, fresh}
 use Rattle.pt_shard.specs.Extends.{Extends}
-use Rattle.pt_shard.specs.Fit.{IsFit, AreBetween}
+use Rattle.pt_shard.specs.Fit.{AreBetween}
 use Rattle.pt_shard.specs.LedgerState.{Book}
 use Rattle.pt_shard.specs.Sound.{is_issued}
-use Rattle.pt_shard.specs.Residents.{ResidentsState, resident_at, seen}
+use Rattle.pt_shard.specs.Residents.{ResidentsState, resident_at}
 use Rattle.pt_shard.specs.Whole.{Parts, parts_of, shard_of, IsWhole}
 
 -- the letters of a desk change places -------------------------------------------------------

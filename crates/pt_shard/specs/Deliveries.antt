@@ -1,5 +1,5 @@
 -- What a letter makes of the process that stands in the place of its receiver.
-use Rattle.std.specs.Prelude.{◌≡◌, Bool, false, List, ◌++◌, Option, Some, None, is_some, IfSome}
+use Rattle.std.specs.Prelude.{Bool, false, List, ◌++◌, Option, Some, None, is_some}
 use Rattle.pt_signal.specs.declared.pid.Pid.{Pid}
 use Rattle.pt_signal.specs.declared.reason.Reason.{Reason}
 use Rattle.pt_signal.specs.declared.letter.Letter.{Letter}

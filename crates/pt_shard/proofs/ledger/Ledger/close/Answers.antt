@@ -1,4 +1,4 @@
-use Rattle.std.proofs.Common.{◌<◌, ◌≤◌, ◌-◌, ◌+◌, ℕ, length, subst, sym, refl, ap, ◌∙◌, get_or, arith}
+use Rattle.std.proofs.Common.{◌≤◌, ◌-◌, ◌+◌, length, subst, sym, refl, ap, get_or, arith}
 use Rattle.pt_shard.specs.LedgerState.{Book}
 use Rattle.pt_shard.proofs.Ledgers.{owed_to, owed_more, room_less, one_more_length}
 use Rattle.pt_shard.proofs.ledger.Ledger.close.Goals as goal

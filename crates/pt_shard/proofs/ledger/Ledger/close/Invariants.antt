@@ -1,4 +1,4 @@
-use Rattle.std.proofs.Common.{◌≡◌, ◌+◌, ◌-◌, ◌≤◌, ◌<◌, max, length, map, take}
+use Rattle.std.proofs.Common.{◌≡◌, ◌-◌, length, map, take}
 use Rattle.pt_events.specs.Journal.{letter}
 use Rattle.pt_shard.specs.LedgerState.{wrote, HasRoomEach}
 use Rattle.pt_shard.proofs.ledger.Ledger.close.Given as goal

@@ -1,5 +1,4 @@
 use Rattle.std.proofs.Common.{ap}
-use Rattle.pt_shard.specs.LedgerState.{Book}
 use Rattle.pt_shard.proofs.Ledgers.{put_letters, put_rooms}
 use Rattle.pt_shard.proofs.ledger.Ledger.put.Goals as goal
 

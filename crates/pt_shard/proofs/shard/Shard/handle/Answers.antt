@@ -1,16 +1,15 @@
-use Rattle.std.proofs.Common.{◌≡◌, ◌+◌, ◌<◌, ◌^◌, max, length, map, Ok, Err, Some, None, [], sym, ap, ◌∙◌, refl, subst, arith}
-use Rattle.std.specs.Prelude.{IsSome}
+use Rattle.std.proofs.Common.{◌≡◌, ◌+◌, ◌<◌, ◌^◌, max, length, map, Ok, Some, None, sym, ap, ◌∙◌, refl, subst, arith}
 use Rattle.std.specs.Option.{option_to_list}
 use Rattle.std.specs.Prelude.{Option}
 use Rattle.pt_signal.specs.declared.signal.Signal.{Signal}
 use Rattle.pt_signal.specs.Process.{sent}
 use Rattle.pt_events.specs.Journal.{letter}
 use Rattle.pt_shard.specs.ShardState.{ShardState, Handles, came}
-use Rattle.pt_shard.specs.LedgerState.{Book, HasNoNeed, HasRoomFor, HasRoomEach, wrote}
+use Rattle.pt_shard.specs.LedgerState.{Book, HasRoomFor, HasRoomEach, wrote}
 use Rattle.pt_shard.specs.Extends.{Extends}
 use Rattle.pt_shard.specs.Sound.{Every}
 use Rattle.pt_shard.specs.Whole.{parts_of, shard_of}
-use Rattle.pt_shard.proofs.Acting.{Outcome, Found, is_there}
+use Rattle.pt_shard.proofs.Acting.{Outcome, is_there}
 use Rattle.pt_shard.proofs.Outcomes.{same_book}
 use Rattle.pt_shard.proofs.Bearing.{Unchanged, unchanged, same_table}
 use Rattle.pt_shard.proofs.Receiving.{receipt_stamp, bounced, taken_in, ended_outcome, owed_near, owed_fewer, owing_from, still_in_mid, nobody_ends, who_ends, receipt_book, living_back_is}

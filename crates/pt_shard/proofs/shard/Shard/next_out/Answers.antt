@@ -1,5 +1,5 @@
-use Rattle.std.proofs.Common.{drop, get_or, set, sym, subst}
-use Rattle.pt_shard.specs.Whole.{parts_of, shard_of, IsWhole}
+use Rattle.std.proofs.Common.{sym, subst}
+use Rattle.pt_shard.specs.Whole.{parts_of, IsWhole}
 use Rattle.pt_shard.proofs.Standing.{moved_whole, less, less_boxes, less_boxed}
 use Rattle.pt_shard.proofs.shard.Shard.next_out.Goals as goal
 

@@ -1,20 +1,12 @@
-use Rattle.std.proofs.Common.{◌≡◌, ◌+◌, ◌<◌, ◌^◌, map, true, false, Ok, Err, Some, None, is_some, [], ◌∷◌, sym, ap, ◌∙◌, refl, subst, arith}
-use Rattle.pt_signal.specs.Process.{sent}
-use Rattle.pt_events.specs.declared.event.Event.TheVariants.{Said, Flag, Took, Left}
-use Rattle.pt_events.specs.Journal.{letter}
-use Rattle.pt_events.specs.History.{state_of}
-use Rattle.pt_signal.specs.declared.signal.Signal.TheVariants.{Link, Unlink, Monitor, Demonitor, AliveAsk}
-use Rattle.pt_signal.specs.declared.ids.Ref.{Ref}
-use Rattle.pt_signal.specs.declared.ids.LinkId.{LinkId}
-use Rattle.pt_shard.specs.ShardState.{past, state_in}
-use Rattle.pt_shard.specs.Known.{knows}
+use Rattle.std.proofs.Common.{◌+◌, ◌<◌, ◌^◌, Ok, Some, None, [], sym, ◌∙◌, refl, subst, arith}
+use Rattle.pt_events.specs.declared.event.Event.TheVariants.{Took}
 use Rattle.pt_shard.specs.LedgerState.{HasNoNeed}
-use Rattle.pt_shard.specs.Calls.{Calls, Monitors, link_event, unlink_event, demonitor_event, take_event, first_match, new_link, new_ref}
+use Rattle.pt_shard.specs.Calls.{Calls, take_event, first_match}
 use Rattle.pt_shard.specs.Extends.{Extends}
-use Rattle.pt_shard.specs.Whole.{Parts, parts_of, shard_of}
+use Rattle.pt_shard.specs.Whole.{parts_of, shard_of}
 use Rattle.pt_shard.proofs.Keeps.{extends_itself}
-use Rattle.pt_shard.proofs.Acting.{Outcome, Found, own_book, alive, lives_here, is_there, set_flag, said_to, said_known, took_item, left_by, plain_may, plain_new, plain_changes, link_now, link_new, ref_now, ref_new, not_open_yet, open_target, place_within, takes_back, left_alone}
-use Rattle.pt_shard.proofs.Outcomes.{did, none_of, idle, no_memory, not_prepared, no_second_link, no_link_to_self, a_link, same_book, still, memory_refused, unlink_is, demonitor_is, take_event_is, first_match_is}
+use Rattle.pt_shard.proofs.Acting.{Outcome, Found, own_book, alive, lives_here, took_item, place_within}
+use Rattle.pt_shard.proofs.Outcomes.{did, idle, same_book, take_event_is, first_match_is}
 use Rattle.pt_shard.proofs.shard.Shard.receive.Goals as goal
 
 -- the process that acts

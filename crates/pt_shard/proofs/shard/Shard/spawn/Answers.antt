@@ -1,11 +1,10 @@
-use Rattle.std.proofs.Common.{◌≡◌, ◌+◌, ◌<◌, ◌^◌, Ok, Err, Some, None, [], sym, ap, ◌∙◌, refl, subst, arith}
-use Rattle.std.specs.Bool.{then_some}
+use Rattle.std.proofs.Common.{◌<◌, ◌^◌, Ok, None, [], sym, subst, arith}
 use Rattle.pt_events.specs.declared.event.Event.TheVariants.{Born}
-use Rattle.pt_shard.specs.Calls.{Bears, BearsChild, birth_link}
+use Rattle.pt_shard.specs.Calls.{Bears}
 use Rattle.pt_shard.specs.Extends.{Extends}
 use Rattle.pt_shard.specs.Whole.{parts_of, shard_of}
-use Rattle.pt_shard.proofs.Acting.{Found, own_book, alive, is_there, link_now}
-use Rattle.pt_shard.proofs.Bearing.{BirthOutcome, spawned, child_outcome, room_stays, parent_is_there}
+use Rattle.pt_shard.proofs.Acting.{own_book}
+use Rattle.pt_shard.proofs.Bearing.{BirthOutcome, spawned}
 use Rattle.pt_shard.proofs.shard.Shard.spawn.Goals as goal
 
 born : (c : goal.After-write) → BirthOutcome (shard_of (parts_of c.self.inside.config c.self.inside.ledger.book c.self.inside.house)) (parts_of c.self.inside.config c.write.new.self.book c.admit.new.self) c.in-Some.pid None None

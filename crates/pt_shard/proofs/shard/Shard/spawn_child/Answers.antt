@@ -1,16 +1,16 @@
-use Rattle.std.proofs.Common.{◌≡◌, ◌+◌, ◌<◌, ◌^◌, Ok, Err, Some, None, [], sym, ap, ◌∙◌, refl, subst, arith}
+use Rattle.std.proofs.Common.{◌≡◌, ◌<◌, ◌^◌, Ok, Some, [], sym, ap, ◌∙◌, refl, subst, arith}
 use Rattle.std.specs.Bool.{then_some}
 use Rattle.pt_events.specs.declared.event.Event.TheVariants.{Born}
-use Rattle.pt_shard.specs.Calls.{Bears, BearsChild, birth_link}
+use Rattle.pt_shard.specs.Calls.{BearsChild}
 use Rattle.pt_shard.specs.ShardState.{after}
 use Rattle.pt_shard.specs.Extends.{Extends}
 use Rattle.pt_shard.specs.Whole.{parts_of, shard_of}
-use Rattle.pt_shard.proofs.Acting.{Found, own_book, alive, is_there, link_now}
+use Rattle.pt_shard.proofs.Acting.{own_book, alive, link_now}
 use Rattle.std.specs.Prelude.{IsSome}
 use Rattle.pt_shard.specs.LedgerState.{HasNoNeed}
 use Rattle.pt_shard.specs.Residents.{ResidentsState, IsSameTable}
 use Rattle.pt_shard.proofs.Outcomes.{same_book}
-use Rattle.pt_shard.proofs.Bearing.{Unchanged, unchanged, same_table, child_no_memory, child_not_prepared, BirthOutcome, spawned, child_outcome, room_stays, parent_is_there}
+use Rattle.pt_shard.proofs.Bearing.{Unchanged, unchanged, same_table, child_no_memory, child_not_prepared, BirthOutcome, child_outcome, room_stays, parent_is_there}
 use Rattle.pt_shard.proofs.shard.Shard.spawn_child.Goals as goal
 
 born : (c : goal.After-write) → BirthOutcome (shard_of (parts_of c.self.inside.config c.self.inside.ledger.book c.self.inside.house)) (parts_of c.self.inside.config c.write.new.self.book c.adopt.new.self) c.in-Some-vacant.pid (Some c.args.parent) c.then_some-link.result

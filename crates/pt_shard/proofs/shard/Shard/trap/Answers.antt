@@ -1,10 +1,10 @@
-use Rattle.std.proofs.Common.{◌≡◌, ◌+◌, Ok, Some, [], sym, ap, ◌∙◌, refl, subst, arith}
+use Rattle.std.proofs.Common.{◌+◌, Ok, Some, [], sym, ap, ◌∙◌, refl, subst, arith}
 use Rattle.pt_events.specs.declared.event.Event.TheVariants.{Flag}
 use Rattle.pt_events.specs.History.{state_of}
 use Rattle.pt_shard.specs.ShardState.{state_in}
 use Rattle.pt_shard.specs.Calls.{Calls}
 use Rattle.pt_shard.specs.Extends.{Extends}
-use Rattle.pt_shard.specs.Whole.{Parts, parts_of, shard_of}
+use Rattle.pt_shard.specs.Whole.{parts_of, shard_of}
 use Rattle.pt_shard.proofs.Acting.{Outcome, Found, own_book, alive, lives_here, set_flag}
 use Rattle.pt_shard.proofs.Outcomes.{did}
 use Rattle.pt_shard.proofs.shard.Shard.trap.Goals as goal
