@@ -5,3 +5,6 @@ pub mod StepFacts
 pub mod ReadFacts
 pub mod EachFacts
 pub mod HeadFacts
+pub mod SoundSteps
+pub mod SoundLists
+pub mod SoundScripts

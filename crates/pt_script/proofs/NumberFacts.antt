@@ -22,15 +22,15 @@ false_unless false h = refl
 pub lacks : (n t : List ℕ) → LacksTextAt n t 0 → bytes_eq (take (length n) t) n ≡ false
 lacks n t h = false_unless _ (λ e. h (drop (length n) t) (sym (take-append-drop (length n) t) ∙ ap (λ f. f ++ drop (length n) t) ((bytes_eq-Decides (take (length n) t) n).0 e)))
 
-own : IsNumeralModel (λ ds. list_all is_digit ds ≡ true) (digits_value 10)
+pub own : IsNumeralModel (λ ds. list_all is_digit ds ≡ true) (digits_value 10)
 unfolding is_digit
 own = numerals_by_value _ (search rules)
 
-all_digits : (bs : List ℕ) → is_decimal bs ≡ true → list_all is_digit bs ≡ true
+pub all_digits : (bs : List ℕ) → is_decimal bs ≡ true → list_all is_digit bs ≡ true
 unfolding is_decimal
 all_digits bs h = grind arith
 
-not_empty : (bs : List ℕ) → is_decimal bs ≡ true → 0 < length bs
+pub not_empty : (bs : List ℕ) → is_decimal bs ≡ true → 0 < length bs
 unfolding is_decimal
 not_empty bs h = grind arith
 

@@ -5,3 +5,4 @@ pub mod Scopes
 pub mod Operations
 pub mod Lists
 pub mod Scripts
+pub mod Sound

@@ -1,6 +1,7 @@
 // What a script says.
 
 ghost use Rattle.std.specs.Prelude.{◌≡◌};
+ghost use Rattle.pt_script.specs.Sound.{IsSound};
 
 use crate::values::{Operation, Settings, Top};
 use std::marker::Model;
@@ -53,14 +54,18 @@ pub struct Script {
 
 impl Model for Script {
     ghost use Rattle.pt_script.specs.Plans.{Whole};
+    ghost use Rattle.pt_script.specs.Sound.{IsSound};
 
     ghost Value = { Whole };
 
     ghost view = { λ s. record { settings = s.settings; tops = s.tops.items; processes = s.processes.items } };
+
+    ghost invariant = { λ s. IsSound (record { settings = s.settings; tops = s.tops.items; processes = s.processes.items }) };
 }
 
 impl Script {
     pub(crate) fn new(settings: Settings, tops: Vec<Top>, processes: Vec<Process>) -> Script
+        requires { IsSound (record { settings = settings; tops = tops.items; processes = processes.items }) }
         ensures { result ≡ record { settings = settings; tops = tops.items; processes = processes.items } }
     {
         Script {
@@ -72,21 +77,24 @@ impl Script {
 
     /// The settings of the node, and the budget of its turns.
     pub fn settings(&self) -> Settings
-        ensures { result ≡ self.now.settings }
+        ensures settings { result ≡ self.now.settings }
+        ensures sound { IsSound self.now }
     {
         self.settings
     }
 
     /// The processes that the script begins with, in its order.
     pub fn tops(&self) -> &[Top]
-        ensures { result.now ≡ self.now.tops }
+        ensures tops { result.now ≡ self.now.tops }
+        ensures sound { IsSound self.now }
     {
         self.tops.as_slice()
     }
 
     /// Every process of the script, by number.
     pub fn processes(&self) -> &[Process]
-        ensures { result.now ≡ self.now.processes }
+        ensures processes { result.now ≡ self.now.processes }
+        ensures sound { IsSound self.now }
     {
         self.processes.as_slice()
     }
