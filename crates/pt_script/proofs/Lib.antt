@@ -8,3 +8,4 @@ pub mod HeadFacts
 pub mod SoundSteps
 pub mod SoundLists
 pub mod SoundScripts
+pub mod ReasonFacts

@@ -1,17 +1,19 @@
 -- Every script that is accepted is sound.
 use Rattle.std.proofs.Common.{◌≡◌, ℕ, zero, suc, ◌+◌, ◌-◌, ◌<◌, ◌≤◌, List, [], ◌∷◌, ◌++◌, Bool, true, false, length, length-append, Option, Some, None, Result, Ok, Err, refl, ap, sym, ◌∙◌, arith}
-use Rattle.std.specs.Prelude.{IfOk, codes, if◌then◌else◌, nat_le, ◌&&◌, ◌==◌}
+use Rattle.std.specs.Prelude.{IfOk, codes, if◌then◌else◌, nat_le, nat_lt, ◌&&◌, ◌==◌}
 use Rattle.std.specs.List.{All}
 use Rattle.std.specs.Map.{update}
-use Rattle.std.specs.Str.{bytes_eq}
+use Rattle.std.specs.Str.{bytes_eq, is_utf8}
 use Rattle.std.proofs.lemmas.List.Elements.{All-nil, All-cons, All-append, All-head, All-tail}
 use Rattle.std.proofs.lemmas.List.Sums.{sum_by-append}
 use Rattle.serde_json.specs.Data.{Data, Num, unsigned, negative, float, null, boolean, number, string, array, object}
 use Rattle.serde_json.specs.Find.{get}
 use Rattle.pt_script.specs.declared.fault.Fault.{Fault}
-use Rattle.pt_script.specs.declared.fault.Fault.TheVariants.{Bounds}
+use Rattle.pt_script.specs.declared.fault.Fault.TheVariants.{Syntax, Bounds}
 use Rattle.pt_script.specs.declared.fault.Place.{Place}
 use Rattle.pt_script.specs.declared.fault.ScriptError.{ScriptError}
+use Rattle.pt_script.specs.declared.fault.ScriptError.TheVariants.{Refused}
+use Rattle.serde_json.specs.Read.{read}
 use Rattle.pt_script.specs.declared.values.Operation.{Operation}
 use Rattle.pt_script.specs.declared.values.Settings.{Settings}
 use Rattle.pt_script.specs.declared.values.Top.{Top}
@@ -21,7 +23,7 @@ use Rattle.pt_script.specs.Members.{known, whole, required, optional, list, flag
 use Rattle.pt_script.specs.Operations.{new_name}
 use Rattle.pt_script.specs.Scopes.{Naming, Scope}
 use Rattle.pt_script.specs.Lists.{Part, placed, at_script, at_process, fresh, list_from}
-use Rattle.pt_script.specs.Scripts.{Heads, Head, Pending, Lists, settings, head, with_head, next_head, no_heads, next_list, no_lists, few, room, number_behind, begun_in, spawned_by, loose, script}
+use Rattle.pt_script.specs.Scripts.{Heads, Head, Pending, Lists, settings, head, with_head, next_head, no_heads, next_list, no_lists, few, room, number_behind, begun_in, spawned_by, loose, script, script_of, reading}
 use Rattle.pt_script.specs.Sound.{IsBelow, TopFits, ListFits, PlansFit, InRange, IsSound, operations_of}
 use Rattle.pt_script.proofs.SoundSteps.{bind, skip, where_ok, under, either, placed_ok, required_ok, optional_ok, ScopeFits}
 use Rattle.pt_script.proofs.SoundLists.{PartFits, list_from_fits, sum_cons}
@@ -269,3 +271,20 @@ script_ok d s ds all rest said given heads lists = rw (said, given, heads, lists
 -- what was read in its parts is sound
 pub parts_sound : (d : Data) (s : Settings) (ds : List Data) (all : Heads) (rest : Lists) → settings d ≡ Ok s → required list (get (codes "processes") d) ≡ Ok ds → each (next_head s) no_heads ds ≡ Ok all → each (next_list s.format all.names) no_lists all.unread ≡ Ok rest → IsSound (record { settings = s; tops = all.tops; processes = rest.processes })
 parts_sound d s ds all rest said given heads lists = rw (script_ok d s ds all rest said given heads lists) at (script_sound d)
+
+script_of_sound : (read : Option Data) → IfOk (script_of read) IsSound
+script_of_sound None = tt
+script_of_sound (Some d) = script_sound d
+
+reading_sound : (bytes : List ℕ) → IfOk (reading bytes) IsSound
+unfolding reading
+reading_sound bytes =
+    let P : Result Whole ScriptError → Type 0 = λ r. IfOk r IsSound in
+    let of_text : Result Whole ScriptError = if is_utf8 bytes then script_of (read bytes) else Err (Refused Syntax at_script) in
+    either P (nat_lt 1048576 (length bytes)) (Err (Refused Bounds at_script)) of_text tt (either P (is_utf8 bytes) (script_of (read bytes)) (Err (Refused Syntax at_script)) (script_of_sound (read bytes)) tt)
+
+if_ok : {A E : Type 0} (P : A → Type 0) (r : Result A E) (x : A) → IfOk r P → r ≡ Ok x → P x
+if_ok P r x h e = rw e at h
+
+pub accepted_sound : (bytes : List ℕ) (w : Whole) → reading bytes ≡ Ok w → IsSound w
+accepted_sound bytes w e = if_ok IsSound (reading bytes) w (reading_sound bytes) e

@@ -6,3 +6,4 @@ pub mod Operations
 pub mod Lists
 pub mod Scripts
 pub mod Sound
+pub mod Laws

@@ -1,0 +1,5 @@
+use Rattle.pt_script.proofs.SoundScripts.{accepted_sound}
+use Rattle.pt_script.proofs.laws.accepted_scripts_are_sound.Goals as goal
+
+pub returns : goal.returns
+returns c = accepted_sound
