@@ -1,4 +1,5 @@
 pub mod Steps
+pub mod Texts
 pub mod Members
 pub mod Plans
 pub mod Scopes

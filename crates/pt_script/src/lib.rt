@@ -3,6 +3,7 @@
 //! `Script::read` takes a text and gives the script that it describes, or the first fault in it with its place.
 //! A script is plain data without names: each process has a number, by the order in which the processes begin in
 //! the text, and operations speak of processes by these numbers. What holds of every script stands in [`laws`].
+//! The format is that of `docs/SCRIPTS.md`.
 #![tactic(auto)]
 
 mod crowd;
