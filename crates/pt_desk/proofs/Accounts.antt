@@ -1,22 +1,127 @@
--- The account of a lane: one letter more at its end, one receipt more at its front.
-use Rattle.std.proofs.Common.{◌≡◌, ℕ, List, [], ◌∷◌, ◌++◌, ◌==◌, map, filter, refl, sym, ap, subst}
-use Rattle.std.proofs.lemmas.Bool.{eq-eqb}
+-- The accounts of a desk, over what it does.
+use Rattle.std.proofs.Common.{◌≡◌, ◌≢◌, ℕ, ◌+◌, ◌<◌, ◌≤◌, ◌==◌, Bool, true, false, cond, List, [], ◌∷◌, ◌++◌, length, max, map, filter, drop, get_or, set, Option, Some, None, refl, sym, ap, ◌∙◌, subst, append_assoc, append-nil, ⊎_elim, arith}
+use Rattle.std.specs.Prelude.{IfSome}
+use Rattle.std.proofs.lemmas.Bool.{eqb-true, eq-eqb, ne_eqb, both_ways, cases_lt}
+use Rattle.std.proofs.lemmas.List.{get_or_past, get_or-set_same, get_or-set_other, length-set}
+use Rattle.std.proofs.lemmas.List.Elements.{filter-append}
 use Rattle.pt_signal.specs.declared.letter.Letter.{Letter}
-use Rattle.pt_signal.specs.Process.{Sent}
-use Rattle.pt_events.specs.Journal.{Agrees, IsReceiptOf, letter}
-use Rattle.pt_desk.proofs.Near.{Every}
+use Rattle.pt_signal.specs.Process.{sent}
+use Rattle.pt_events.specs.declared.event.Event.{Event}
+use Rattle.pt_events.specs.History.{sent_by}
+use Rattle.pt_events.specs.Journal.{events, letter, letters, posts, gots, Agrees}
+use Rattle.pt_carrier.specs.Ends.{OutEnds, InEnds, one_more, Collects}
+use Rattle.pt_shard.specs.ShardState.{ShardState, past, written, handled, came}
+use Rattle.pt_shard.specs.Outbox.{sent_on, holding}
+use Rattle.pt_shard.specs.Fit.{IsFit}
+use Rattle.pt_desk.specs.DeskState.{IsAccounted, held_from}
+use Rattle.pt_events.proofs.Agreeing.{Agrees-got, Agrees-posted}
+use Rattle.pt_desk.proofs.Letters.{put_at}
 
-pub Agrees-posted : (posted gots over more : List Letter) → Agrees posted gots over → Agrees (posted ++ more) gots (over ++ more)
-Agrees-posted posted [] over more a = ap (λ z. z ++ more) a
-Agrees-posted [] (g ∷ gots) over more a = absurd a
-Agrees-posted (l ∷ posted) (g ∷ gots) over more a = (a.0, Agrees-posted posted gots over more a.1)
+-- what an event sends waits in the outbox
+module _ (s : ShardState) (o : OutEnds) (i : InEnds) (boxes : length s.outbox ≡ s.config.desks) (acc : IsAccounted s o i) where
+  pub posts_written : (n : ℕ) (event : Event) (e : ℕ) → e < s.config.desks → posts s.start (written n event s).journal e ≡ get_or o.posted e [] ++ get_or (written n event s).outbox e []
+  posts_written n event e h =
+      let more = map (letter n) (sent_by s.start (past s) event) in
+      filter-append (λ l. l.to.shard == e) (letters s.start s.journal) more
+      ∙ ap (λ z. z ++ filter (λ l. l.to.shard == e) more) (acc.posted e h)
+      ∙ append_assoc (get_or o.posted e []) (get_or s.outbox e []) (filter (λ l. l.to.shard == e) more)
+      ∙ ap (λ z. get_or o.posted e [] ++ z) (sym (put_at s.outbox more e (omega (arith, h, boxes))))
 
-pub Agrees-got : (posted gots : List Letter) (l g : Letter) (over : List Letter) → IsReceiptOf g l → Agrees posted gots (l ∷ over) → Agrees posted (gots ++ g ∷ []) over
-Agrees-got posted [] l g over r a = subst (λ z. Agrees z (g ∷ []) over) (sym a) (r, refl)
-Agrees-got [] (h ∷ gots) l g over r a = absurd a
-Agrees-got (p ∷ posted) (h ∷ gots) l g over r a = (a.0, Agrees-got posted gots l g over r a.1)
+  -- the letter in the hold is handled
+  module _ (l : Letter) (holds : s.hold ≡ Some l) where
+    collected_handled : (d : ℕ) → d < s.config.desks → Agrees (get_or i.collected d []) (gots (handled l s).journal d) []
+    collected_handled d h = go (l.from.shard == d) refl (subst (λ o. Agrees (get_or i.collected d []) (gots s.journal d) (held_from d o)) holds (acc.collected d h))
+      where
+        go : (b : Bool) → (l.from.shard == d) ≡ b → Agrees (get_or i.collected d []) (gots s.journal d) (cond (l.from.shard == d) (l ∷ []) [])
+            → Agrees (get_or i.collected d []) (gots s.journal d ++ cond (l.from.shard == d) (letter (max s.clock l.stamp + 1) (sent l.from l.to l.signal) ∷ []) []) []
+        go true q a =
+            rw q (Agrees-got (get_or i.collected d []) (gots s.journal d) l (letter (max s.clock l.stamp + 1) (sent l.from l.to l.signal)) [] (refl, omega arith) (rw q at a))
+        go false q a = rw (q, append-nil (gots s.journal d)) (rw q at a)
 
--- all letters go to the one desk
-pub posts_all : (n e : ℕ) (ls : List Sent) → Every (λ l. l.to.shard ≡ e) ls → filter (λ l. l.to.shard == e) (map (letter n) ls) ≡ map (letter n) ls
-posts_all n e [] h = refl
-posts_all n e (l ∷ ls) h = rw (eq-eqb l.to.shard e h.0) (ap (λ z. letter n l ∷ z) (posts_all n e ls h.1))
+    pub accounted_handled : IsAccounted (holding None (handled l s)) o i
+    accounted_handled = record {
+      out_number = acc.out_number;
+      in_number = acc.in_number;
+      out_desks = acc.out_desks;
+      in_desks = acc.in_desks;
+      posted_desks = acc.posted_desks;
+      collected_desks = acc.collected_desks;
+      posted = posts_written (max s.clock l.stamp + 1) (came l);
+      collected = collected_handled;
+    }
+
+-- a letter is collected into the hold
+module _ (s : ShardState) (o : OutEnds) (i : InEnds) (acc : IsAccounted s o i) where
+  pub accounted_taken : (i' : InEnds) (l : Letter) → s.hold ≡ None → Collects i i' l.from.shard l → i'.place ≡ i.place → IsAccounted (holding (Some l) s) o i'
+  accounted_taken i' l free takes place = record {
+    out_number = acc.out_number;
+    in_number = ap (λ p. p.number) place ∙ acc.in_number;
+    out_desks = acc.out_desks;
+    in_desks = ap (λ p. length p.rings) place ∙ acc.in_desks;
+    posted_desks = acc.posted_desks;
+    collected_desks = ap length takes.collected ∙ length-set i.collected l.from.shard (get_or i.collected l.from.shard [] ++ l ∷ []) ∙ acc.collected_desks;
+    posted = acc.posted;
+    collected = λ d h. go d h (l.from.shard == d) refl;
+  }
+    where
+      before : (d : ℕ) → d < s.config.desks → Agrees (get_or i.collected d []) (gots s.journal d) []
+      before d h = subst (λ o. Agrees (get_or i.collected d []) (gots s.journal d) (held_from d o)) free (acc.collected d h)
+
+      go : (d : ℕ) → d < s.config.desks → (b : Bool) → (l.from.shard == d) ≡ b → Agrees (get_or i'.collected d []) (gots s.journal d) (cond (l.from.shard == d) (l ∷ []) [])
+      go d h true q =
+          let is : l.from.shard ≡ d = eqb-true l.from.shard d q in
+          let now : get_or i'.collected d [] ≡ get_or i.collected d [] ++ l ∷ [] =
+          ap (λ z. get_or z d []) takes.collected ∙ ap (λ z. get_or (set i.collected z (get_or i.collected z [] ++ l ∷ [])) d []) is
+          ∙ get_or-set_same i.collected d (get_or i.collected d [] ++ l ∷ []) [] (omega (arith, h, acc.collected_desks)) in
+          rw q (subst (λ z. Agrees z (gots s.journal d) (l ∷ [])) (sym now) (Agrees-posted (get_or i.collected d []) (gots s.journal d) [] (l ∷ []) (before d h)))
+      go d h false q =
+          let same : get_or i'.collected d [] ≡ get_or i.collected d [] =
+          ap (λ z. get_or z d []) takes.collected ∙ get_or-set_other i.collected l.from.shard d (get_or i.collected l.from.shard [] ++ l ∷ []) [] (λ r. both_ways (l.from.shard == d) q (eq-eqb l.from.shard d (sym r))) in
+          rw q (subst (λ z. Agrees z (gots s.journal d) []) (sym same) (before d h))
+
+-- the oldest letter that waits for desk e is posted
+pub accounted_posted : (s s' : ShardState) (o o' : OutEnds) (i : InEnds) (e : ℕ) (l : Letter) → e < s.config.desks → IsFit s → IsAccounted s o i
+    → get_or s.outbox e [] ≡ l ∷ drop 1 (get_or s.outbox e []) → s' ≡ sent_on e s
+    → o'.posted ≡ one_more o.posted e l → o'.place ≡ o.place → IsAccounted s' o' i
+accounted_posted s s' o o' i e l e_in fit acc first after more place =
+    subst (λ z. IsAccounted z o' i) (sym after) (record {
+      out_number = ap (λ p. p.number) place ∙ acc.out_number;
+      in_number = acc.in_number;
+      out_desks = ap (λ p. length p.rings) place ∙ acc.out_desks;
+      in_desks = acc.in_desks;
+      posted_desks = ap length more ∙ length-set o.posted e (get_or o.posted e [] ++ l ∷ []) ∙ acc.posted_desks;
+      collected_desks = acc.collected_desks;
+      posted = λ k h. go k h (k == e) refl;
+      collected = acc.collected;
+    })
+  where
+    here : posts s.start s.journal e ≡ get_or o'.posted e [] ++ get_or (set s.outbox e (drop 1 (get_or s.outbox e []))) e []
+    here =
+        acc.posted e e_in ∙ ap (λ z. get_or o.posted e [] ++ z) first ∙ sym (append_assoc (get_or o.posted e []) (l ∷ []) (drop 1 (get_or s.outbox e [])))
+        ∙ ap (λ z. z ++ drop 1 (get_or s.outbox e [])) (sym (ap (λ z. get_or z e []) more ∙ get_or-set_same o.posted e (get_or o.posted e [] ++ l ∷ []) [] (omega (arith, e_in, acc.posted_desks))))
+        ∙ ap (λ z. get_or o'.posted e [] ++ z) (sym (get_or-set_same s.outbox e (drop 1 (get_or s.outbox e [])) [] (omega (arith, e_in, fit.boxes))))
+
+    go : (k : ℕ) → k < s.config.desks → (b : Bool) → (k == e) ≡ b → posts s.start s.journal k ≡ get_or o'.posted k [] ++ get_or (set s.outbox e (drop 1 (get_or s.outbox e []))) k []
+    go k h true q = subst (λ k. posts s.start s.journal k ≡ get_or o'.posted k [] ++ get_or (set s.outbox e (drop 1 (get_or s.outbox e []))) k []) (sym (eqb-true k e q)) here
+    go k h false q =
+        let ne : k ≢ e = λ r. both_ways (k == e) q (eq-eqb k e r) in
+        acc.posted k h
+        ∙ ap (λ z. z ++ get_or s.outbox k []) (sym (ap (λ z. get_or z k []) more ∙ get_or-set_other o.posted e k (get_or o.posted e [] ++ l ∷ []) [] ne))
+        ∙ ap (λ z. get_or o'.posted k [] ++ z) (sym (get_or-set_other s.outbox e k (drop 1 (get_or s.outbox e [])) [] ne))
+
+-- the accounts for every number, those of no desk among them -----------------------------------
+
+module _ (s : ShardState) (o : OutEnds) (i : InEnds) (fit : IsFit s) (acc : IsAccounted s o i) where
+  pub posted_to_every : (e : ℕ) → posts s.start s.journal e ≡ get_or o.posted e [] ++ get_or s.outbox e []
+  posted_to_every e = ⊎_elim (acc.posted e)
+      (λ far. fit.posts_near e far ∙ sym (rw (get_or_past o.posted e [] (omega (arith, far, acc.posted_desks)), get_or_past s.outbox e [] (omega (arith, far, fit.boxes))) refl))
+      (cases_lt e s.config.desks)
+
+  held_far : (d : ℕ) (h : Option Letter) → s.config.desks ≤ d → IfSome h (λ l. (l.to.shard ≡ s.number) × (l.from.shard < s.config.desks)) → held_from d h ≡ []
+  held_far d None far h = refl
+  held_far d (Some l) far h = rw (ne_eqb l.from.shard d (λ r. omega (arith, r, far, h.1))) refl
+
+  pub collected_from_every : (d : ℕ) → Agrees (get_or i.collected d []) (gots s.journal d) (held_from d s.hold)
+  collected_from_every d = ⊎_elim (acc.collected d)
+      (λ far. rw (get_or_past i.collected d [] (omega (arith, far, acc.collected_desks)), fit.gots_near d far, held_far d s.hold far fit.held) refl)
+      (cases_lt d s.config.desks)

@@ -1,77 +1,61 @@
--- A desk as its callers see it, and what an event makes of it.
-use Rattle.std.specs.Prelude.{ℕ, ◌+◌, ◌==◌, Bool, false, cond, List, [], ◌∷◌, ◌++◌, map, max, drop, ◌-◌, Option, Some, None, is_some}
-use Rattle.pt_signal.specs.declared.pid.Pid.{Pid}
+-- A desk of a node: what it is without its lanes, and its ends of them.
+use Rattle.std.specs.Prelude.{◌≡◌, ℕ, ◌<◌, ◌==◌, cond, List, [], ◌∷◌, ◌++◌, length, slice_index_or, Option, Some, None}
 use Rattle.pt_signal.specs.declared.letter.Letter.{Letter}
-use Rattle.pt_signal.specs.declared.signal.Signal.{Signal}
-use Rattle.pt_signal.specs.Process.{ProcessState, handle}
-use Rattle.pt_events.specs.declared.event.Event.{Event}
-use Rattle.pt_events.specs.declared.event.Event.TheVariants.{Came, Left}
-use Rattle.pt_events.specs.declared.event.Stamped.{Stamped}
-use Rattle.pt_events.specs.History.{Past, Phase, living, life, is_living, state_of, sent_by}
-use Rattle.pt_events.specs.Journal.{events, letter}
-use Rattle.pt_desk.specs.declared.config.Config.{Config}
+use Rattle.pt_events.specs.Journal.{posts, gots, Agrees}
+use Rattle.pt_carrier.specs.Ends.{Place, OutEnds, InEnds}
+use Rattle.pt_carrier.specs.Node.{places}
+use Rattle.pt_shard.specs.ShardState.{ShardState, box}
+use Rattle.pt_shard.specs.Extends.{Extends}
+use Rattle.pt_shard.specs.Fit.{IsFit}
 
 pub record DeskState : Type 0 where
-  pub number : ℕ
-  pub config : Config
-  pub clock : ℕ
-  -- the newest event first
-  pub journal : List Stamped
-  -- the letters not yet handled, oldest first; the first `mark` of them are in the lane
-  pub queue : List Letter
-  pub mark : ℕ
-  -- the pid that the next birth has, or nothing where no slot is free
-  pub vacant : Option Pid
+  pub shard : ShardState
+  pub outs : OutEnds
+  pub ins : InEnds
 
-abbrev pub past : DeskState → Past
-past d = events d.journal
+-- where its ends stand: a desk stays one of its node where this stays
+abbrev pub place : DeskState → Place × Place
+place d = places (d.outs, d.ins)
 
--- what the journal says of p
-abbrev pub phase_of : DeskState → Pid → Phase
-phase_of d p = life [] (past d) p
+-- what was posted to desk e, oldest first
+abbrev pub posted_to : DeskState → ℕ → List Letter
+posted_to d e = slice_index_or d.outs.posted e []
 
-abbrev pub lives : DeskState → Pid → Bool
-lives d p = is_living (phase_of d p)
+-- what waits to be posted to desk e, oldest first
+abbrev pub waits_for : DeskState → ℕ → List Letter
+waits_for d e = box d.shard e
 
-abbrev pub state_in : DeskState → Pid → ProcessState
-state_in d p = state_of (phase_of d p)
+-- what was collected from desk e, oldest first
+abbrev pub collected_from : DeskState → ℕ → List Letter
+collected_from d e = slice_index_or d.ins.collected e []
 
--- whether the signal from a ends b
-abbrev pub is_ended_by : Phase → Pid → Pid → Signal → Bool
-is_ended_by (living s) b a x = is_some (handle b s a x).ending
-is_ended_by _ b a x = false
+-- the letter in the hold, if it is from desk d
+abbrev pub held_from : ℕ → Option Letter → List Letter
+held_from d None = []
+held_from d (Some l) = cond (l.from.shard == d) (l ∷ []) []
 
--- the process that the event ends
-abbrev pub ended_by : Past → Event → Option Pid
-ended_by past (Came a b x) = cond (is_ended_by (life [] past b) b a x) (Some b) None
-ended_by past (Left p r) = Some p
-ended_by past _ = None
+-- what the journal sent to each desk is what was posted there, then what waits to be posted;
+-- what was collected from each desk is what came from it, then the letter in the hold
+pub record IsAccounted (s : ShardState) (o : OutEnds) (i : InEnds) : Type 0 where
+  pub out_number : o.place.number ≡ s.number
+  pub in_number : i.place.number ≡ s.number
+  pub out_desks : length o.place.rings ≡ s.config.desks
+  pub in_desks : length i.place.rings ≡ s.config.desks
+  pub posted_desks : length o.posted ≡ s.config.desks
+  pub collected_desks : length i.collected ≡ s.config.desks
+  pub posted : (e : ℕ) → e < s.config.desks → posts s.start s.journal e ≡ slice_index_or o.posted e [] ++ box s e
+  pub collected : (d : ℕ) → d < s.config.desks → Agrees (slice_index_or i.collected d []) (gots s.journal d) (held_from d s.hold)
 
--- the slot of a process that ended is the next to be given out, under its next version, unless it had the top one
-abbrev pub vacated : ℕ → Option Pid → Option Pid → Option Pid
-vacated top None vacant = vacant
-vacated top (Some p) vacant = cond (p.version == top) vacant (Some (record p { version = p.version + 1 }))
+-- what holds of every desk
+pub record IsDesk (d : DeskState) : Type 0 where
+  pub fit : IsFit d.shard
+  pub accounts : IsAccounted d.shard d.outs d.ins
 
--- the desk after the event e, stamped n: what the event sends waits behind the other letters
-abbrev pub written : ℕ → Event → DeskState → DeskState
-written n e d = record {
-  number = d.number;
-  config = d.config;
-  clock = n;
-  journal = record { stamp = n; desk = d.number; event = e } ∷ d.journal;
-  queue = d.queue ++ map (letter n) (sent_by [] (past d) e);
-  mark = d.mark;
-  vacant = vacated d.config.top_version (ended_by (past d) e) d.vacant;
-}
+-- nothing is posted and nothing collected
+abbrev pub HasSameEnds : DeskState → DeskState → Type 0
+HasSameEnds old new = (new.outs ≡ old.outs) × (new.ins ≡ old.ins)
 
--- the desk after an event of its own
-abbrev pub after : Event → DeskState → DeskState
-after e d = written (d.clock + 1) e d
-
--- the desk without its oldest letter
-abbrev pub popped : DeskState → DeskState
-popped d = record d { queue = drop 1 d.queue; mark = d.mark - 1 }
-
--- the desk after the receipt of a letter
-abbrev pub handled : Letter → DeskState → DeskState
-handled l d = written (max d.clock l.stamp + 1) (Came l.from l.to l.signal) (popped d)
+-- what every call keeps: it is the same desk of the same node, and its journal begins with the one before
+pub record GoesOn (old new : DeskState) : Type 0 where
+  pub shard : Extends old.shard new.shard
+  pub place : place new ≡ place old

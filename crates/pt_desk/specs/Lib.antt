@@ -1,11 +1,3 @@
 pub mod DeskState
-pub mod Calls
+pub mod Posting
 pub mod Turns
-pub mod LogState
-pub mod Opening
-pub mod Faults
-pub mod Sound
-pub mod Residents
-pub mod Plain
-pub mod Whole
-pub mod Deliveries

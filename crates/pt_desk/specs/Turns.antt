@@ -1,45 +1,79 @@
--- What a turn does.
-use Rattle.std.specs.Prelude.{◌≡◌, ℕ, zero, suc, ◌+◌, ◌^◌, ◌<◌, ◌≤◌, ◌⊎◌, Bool, true, false, length, max, min, slice_get, Option, Some, None, Result, Ok, Err}
+-- What a turn does: first it posts, then it handles.
+use Rattle.std.specs.Prelude.{◌≡◌, ℕ, ◌+◌, ◌-◌, ◌^◌, ◌<◌, ◌≤◌, ◌⊎◌, Bool, true, false, List, [], ◌∷◌, length, max, min, Option, Some, None, Result, Ok, Err}
 use Rattle.pt_signal.specs.declared.letter.Letter.{Letter}
+use Rattle.pt_carrier.specs.Ends.{Collects, IsFirst, ShowNone}
+use Rattle.pt_shard.specs.ShardState.{handled}
+use Rattle.pt_shard.specs.Outbox.{holding}
+use Rattle.pt_shard.specs.declared.stop.Stop.{Stop}
+use Rattle.pt_shard.specs.declared.stop.Stop.TheVariants.{Memory, Worn}
 use Rattle.pt_desk.specs.declared.turned.Turned.{Turned}
-use Rattle.pt_desk.specs.declared.turned.Stop.{Stop}
-use Rattle.pt_desk.specs.declared.turned.Stop.TheVariants.{Memory, Worn}
-use Rattle.pt_desk.specs.DeskState.{DeskState, handled}
+use Rattle.pt_desk.specs.DeskState.{DeskState}
+use Rattle.pt_desk.specs.Posting.{Posts, total}
 
--- l is the oldest letter of the lane
-abbrev pub IsFirst : Letter → DeskState → Type 0
-IsFirst l d = (slice_get d.queue 0 ≡ Some l) × (0 < d.mark)
+-- the letter is taken out of its lane and stands in the hold
+pub record TakesIn (l : Letter) (old new : DeskState) : Type 0 where
+  pub free : old.shard.hold ≡ None
+  pub shard : new.shard ≡ holding (Some l) old.shard
+  pub outs : new.outs ≡ old.outs
+  pub place : new.ins.place ≡ old.ins.place
+  pub collects : Collects old.ins new.ins l.from.shard l
+  pub first : IsFirst old.ins new.ins l.from.shard
 
--- the oldest letter of the lane, if there is one, is handled
+-- the next letter stands in the hold: it stood there, or none did and it was collected
+abbrev pub Fetches : Letter → DeskState → DeskState → Type 0
+Fetches l old new = ((old.shard.hold ≡ Some l) × (new ≡ old)) ⊎ TakesIn l old new
+
+-- none is in the hold, and no lane shows a letter
+pub record FindsNone (old new : DeskState) : Type 0 where
+  pub free : old.shard.hold ≡ None
+  pub shard : new.shard ≡ old.shard
+  pub outs : new.outs ≡ old.outs
+  pub place : new.ins.place ≡ old.ins.place
+  pub cursor : new.ins.cursor ≡ old.ins.cursor
+  pub collected : new.ins.collected ≡ old.ins.collected
+  pub none : ShowNone old.ins new.ins 0 (length old.ins.place.rings)
+
+-- the letter in the hold is handled, and the hold is free
+abbrev pub handled_held : Letter → DeskState → DeskState
+handled_held l d = record d { shard = handled l (holding None d.shard) }
+
+-- the next letter is handled
+pub record HandlesNext (l : Letter) (old new : DeskState) : Type 0 where
+  pub fetched : DeskState
+  pub fetches : Fetches l old fetched
+  pub within : max fetched.shard.clock l.stamp < 2 ^ 62
+  pub after : new ≡ handled_held l fetched
+
+-- the next letter is in the hold and stays there: its stamp would pass the limit of clocks, or there was no memory
+abbrev pub Stays : Stop → DeskState → DeskState → Type 0
+Stays Worn old new = (l : Letter) × Fetches l old new × (2 ^ 62 ≤ max new.shard.clock l.stamp)
+Stays Memory old new = (l : Letter) × Fetches l old new × (max new.shard.clock l.stamp < 2 ^ 62)
+
+-- one more letter is handled, or there is none, or it is refused
 abbrev pub Handles : DeskState → Result Bool Stop → DeskState → Type 0
-Handles old (Ok true) new = (l : Letter) × IsFirst l old × (max old.clock l.stamp < 2 ^ 62) × (new ≡ handled l old)
-Handles old (Ok false) new = (old.mark ≡ 0) × (new ≡ old)
-Handles old (Err Worn) new = (l : Letter) × IsFirst l old × (2 ^ 62 ≤ max old.clock l.stamp) × (new ≡ old)
-Handles old (Err Memory) new = (l : Letter) × IsFirst l old × (max old.clock l.stamp < 2 ^ 62) × (new ≡ old)
+Handles old (Ok true) new = (l : Letter) × HandlesNext l old new
+Handles old (Ok false) new = FindsNone old new
+Handles old (Err stop) new = Stays stop old new
 
--- the desk after its lane was filled from the outbox
-abbrev pub filled : DeskState → DeskState
-filled d = record d { mark = min d.config.lane (length d.queue) }
+-- these letters were handled one after the other; the newest stands first
+abbrev pub HandlesAll : List Letter → DeskState → DeskState → Type 0
+HandlesAll [] old new = new ≡ old
+HandlesAll (l ∷ letters) old new = (before : DeskState) × HandlesAll letters old before × HandlesNext l before new
 
-abbrev pub handled_if : Option Letter → DeskState → DeskState
-handled_if None d = d
-handled_if (Some l) d = handled l d
-
--- the desk after so many receipts
-abbrev pub received : ℕ → DeskState → DeskState
-received zero d = d
-received (suc n) d = handled_if (slice_get (received n d).queue 0) (received n d)
-
--- a turn ends where its budget is used up or the lane is empty, unless a refusal stops it at the oldest letter, which stays
-abbrev pub EndsWith : Option Stop → DeskState → ℕ → ℕ → Type 0
-EndsWith None new count budget = (count ≡ budget) ⊎ (new.mark ≡ 0)
-EndsWith (Some Worn) new count budget = (count < budget) × (l : Letter) × IsFirst l new × (2 ^ 62 ≤ max new.clock l.stamp)
-EndsWith (Some Memory) new count budget = (count < budget) × (l : Letter) × IsFirst l new × (max new.clock l.stamp < 2 ^ 62)
+-- a turn ends where its budget is used up, or no letter shows, or one is refused
+abbrev pub EndsWith : Option Stop → ℕ → ℕ → DeskState → DeskState → Type 0
+EndsWith None count budget last new = ((count ≡ budget) × (new ≡ last)) ⊎ ((count < budget) × FindsNone last new)
+EndsWith (Some stop) count budget last new = (count < budget) × Stays stop last new
 
 pub record Turns (budget : ℕ) (old : DeskState) (turn : Turned) (new : DeskState) : Type 0 where
-  pub posted : turn.posted + old.mark ≡ min old.config.lane (length old.queue)
-  pub receipts : new ≡ received turn.handled (filled old)
+  -- the desk when it has posted
+  pub posted_desk : DeskState
+  pub posts : Posts old posted_desk
+  pub posted : turn.posted ≡ min (total posted_desk.outs.posted - total old.outs.posted) (2 ^ 64 - 1)
+  -- the letters that were handled, the newest first, and the desk after them
+  pub letters : List Letter
+  pub last : DeskState
+  pub handles : HandlesAll letters posted_desk last
+  pub handled : turn.handled ≡ length letters
   pub within : turn.handled ≤ budget
-  -- so each of them was in the lane when the turn began to handle, and what is sent meanwhile waits for the next turn
-  pub from_lane : turn.handled + new.mark ≡ (filled old).mark
-  pub ends : EndsWith turn.stopped new turn.handled budget
+  pub ends : EndsWith turn.stopped turn.handled budget last new

@@ -1,176 +1,194 @@
-// One desk.
+// A desk of a node.
 
-ghost use Rattle.std.specs.Prelude.{◌≡◌, true, [], ◌≤◌, ◌<◌, ◌+◌, min, length, Some, None, cond, is_some};
+ghost use Rattle.std.specs.Prelude.{◌≡◌, ◌<◌, ◌+◌, ◌-◌, ◌^◌, ◌++◌, ℕ, min, true, Some, None, IfOk, cond, is_some};
 ghost use Rattle.std.specs.Option.{option_copied};
 ghost use Rattle.pt_signal.specs.declared.signal.Signal.{Signal};
 ghost use Rattle.pt_events.specs.declared.event.Event.{Event};
-ghost use Rattle.pt_events.specs.Journal.{IsLocal, Agrees, posts, gots};
-ghost use Rattle.pt_desk.specs.DeskState.{lives, state_in};
-ghost use Rattle.pt_desk.specs.Calls.{Calls, Monitors, Bears, BearsChild, link_event, unlink_event, first_match, take_event, demonitor_event, held_by};
-ghost use Rattle.pt_desk.specs.Plain.{IsPlain};
-ghost use Rattle.pt_desk.specs.Opening.{Opens, IsInRange, fresh};
-ghost use Rattle.pt_desk.specs.Sound.{knows};
-ghost use Rattle.pt_desk.specs.Turns.{Handles, Turns, filled};
+ghost use Rattle.pt_events.specs.Journal.{IsLocal, Agrees, posts, gots, clock};
+ghost use Rattle.pt_shard.specs.ShardState.{lives, state_in};
+ghost use Rattle.pt_shard.specs.Known.{knows};
+ghost use Rattle.pt_shard.specs.Outbox.{count_pending};
+ghost use Rattle.pt_shard.specs.Fit.{IsFit};
+ghost use Rattle.pt_shard.specs.Calls.{Calls, Monitors, Bears, BearsChild, link_event, unlink_event, first_match, take_event, demonitor_event, held_by};
+ghost use Rattle.pt_desk.specs.DeskState.{IsDesk, IsAccounted, HasSameEnds, GoesOn, posted_to, waits_for, collected_from, held_from};
+ghost use Rattle.pt_desk.specs.Posting.{PostsOne, PostsTo, PostsSome, Posts, total};
+ghost use Rattle.pt_desk.specs.Turns.{Handles, Turns};
 
-use crate::config::{Config, OpenError};
-use crate::fault::Fault;
-use crate::log::{LIMIT, Log};
-use crate::outbox::{deliver, retire};
-use crate::residents::{add_link, add_monitor, cut_link, cut_monitor, find, set_trap, take_at};
-use crate::spawning;
-use crate::turned::{Stop, Turned};
-use pt_events::{Event, Journal};
-use pt_process::Process;
-use pt_signal::{Body, Ids, Item, Letter, LinkId, Pick, Pid, Reason, Ref, Signal};
-use pt_slots::Slots;
-use std::alloc::Global;
-use std::collections::VecDeque;
+use crate::turned::Turned;
+use pt_carrier::{Ins, Outs};
+use pt_events::Journal;
+use pt_shard::{Config, Fault, Shard, Stop};
+use pt_signal::{Body, Ids, Item, Pick, Pid, Reason, Ref};
 use std::marker::Model;
 
-/// One shard of the process table: its processes, its journal, and the letters on their way.
-#[derive(Drop)]
+/// A desk of a node: its processes, its journal, the letters that wait in it, and its ends of the lanes.
+///
+/// It cannot be dropped: [`Desk::apart`] takes it, and so does the gathering of a node.
 pub struct Desk {
-    alloc: Global,
-    config: Config,
-    log: Log,
-    table: Slots<Process>,
-    queue: VecDeque<Letter>,
-    mark: usize,
+    shard: Shard,
+    outs: Outs,
+    ins: Ins,
 }
 
 impl Model for Desk {
-    ghost use Rattle.pt_desk.specs.DeskState.{DeskState};
-    ghost use Rattle.pt_desk.specs.Whole.{desk_of, IsWhole};
+    ghost use Rattle.pt_desk.specs.DeskState.{DeskState, IsDesk};
 
     ghost Value = { DeskState };
 
-    ghost view = { λ a. desk_of a.config a.log a.table a.queue.items a.mark };
+    ghost view = { λ d. record { shard = d.shard; outs = d.outs; ins = d.ins } };
 
-    ghost invariant = { λ a. IsWhole a.config a.log a.table a.queue.items a.mark };
+    ghost invariant = { λ d. IsDesk (record { shard = d.shard; outs = d.outs; ins = d.ins }) };
 }
 
 impl Desk {
-    /// The one desk of a node, on which nothing has happened. The first birth has the pid `<0.0.1>`.
+    /// The desk of this shard, with its ends of the lanes.
     ///
-    /// Refused as `Bounds` exactly where a setting is out of its range, or `desks` is not 1; else as `Memory` where
-    /// there is none.
-    pub fn alone(alloc: Global, config: Config) -> Result<Desk, OpenError>
-        ensures { Opens config result }
+    /// The ends are those of the shard's number, and the accounts agree: what the shard's journal sent to each desk is
+    /// what was posted there and then what waits in its outbox, and what was collected from each desk is what its
+    /// journal received from there and then the letter in its hold.
+    pub fn whole(shard: Shard, outs: Outs, ins: Ins) -> Desk
+        requires { IsAccounted shard outs ins }
+        ensures { result ≡ record { shard = shard; outs = outs; ins = ins } }
     {
-        let fits = config.desks == 1
-            && (1..=65_536).contains(&config.slots)
-            && config.top_version >= 1
-            && (1..=65_536).contains(&config.lane)
-            && config.start <= LIMIT;
-        if !fits {
-            return Err(OpenError::Bounds);
-        }
-        let Ok(table) = Slots::new(alloc, config.slots, config.top_version) else {
-            return Err(OpenError::Memory);
-        };
-        Ok(Desk {
-            alloc,
-            config,
-            log: Log::new(alloc, 0, config.start),
-            table,
-            queue: VecDeque::new(alloc),
-            mark: 0,
-        })
+        let _ = shard.journal();
+        Desk { shard, outs, ins }
     }
 
-    /// Gives the journal back; processes, items and letters are dropped.
-    pub fn close(self) -> Journal
-        ensures desk { result.desk ≡ self.number }
-        ensures past { result.past ≡ self.journal }
+    /// Takes the desk apart: the reverse of `whole`, and the same holds of what it gives.
+    pub fn apart(self) -> (Shard, Outs, Ins)
+        ensures parts { self ≡ record { shard = result.0; outs = result.1; ins = result.2 } }
+        ensures fit { IsFit result.0 }
+        ensures accounts { IsAccounted result.0 result.1 result.2 }
     {
-        let Desk { log, .. } = self;
-        log.into_journal()
-    }
-
-    /// The number of the desk.
-    pub fn number(&self) -> u8
-        ensures { result ≡ self.now.number }
-    {
-        self.log.desk()
-    }
-
-    /// The stamp of the newest event, or the start of the clock.
-    pub fn clock(&self) -> u64
-        ensures { result ≡ self.now.clock }
-    {
-        self.log.clock()
+        let Desk { shard, outs, ins } = self;
+        (shard, outs, ins)
     }
 
     /// What happened here, oldest event first.
     ///
-    /// It is a lawful journal of this desk: each event was allowed after those before it, the versions of a slot
-    /// are 1, 2, 3 and so on, each after the end of the one before, and what was sent is what came and then the
-    /// letters still on their way, in order for each pair of processes.
+    /// It is a lawful journal of this desk: each event was allowed after those before it, and the versions of a slot
+    /// are 1, 2, 3 and so on, each after the end of the one before. The clock is that of its newest event. For every
+    /// desk, what it sent there is what was posted to that desk and then what waits for it in the outbox; and what was
+    /// collected from that desk is what it received from there, one for one and in order, and then the letter in the
+    /// hold.
     pub fn journal(&self) -> &Journal
-        ensures desk { result.now.desk ≡ self.now.number }
-        ensures past { result.now.past ≡ self.now.journal }
-        ensures local { IsLocal [] self.now.config.start self.now.config.top_version self.now.number self.now.journal }
-        ensures account { Agrees (posts [] self.now.journal self.now.number) (gots self.now.journal self.now.number) self.now.queue }
+        ensures desk { result.now.desk ≡ self.now.shard.number }
+        ensures past { result.now.past ≡ self.now.shard.journal }
+        ensures whole { IsDesk self.now }
+        ensures local { IsLocal self.now.shard.start self.now.shard.config.start self.now.shard.config.top_version self.now.shard.number self.now.shard.journal }
+        ensures clock { self.now.shard.clock ≡ clock self.now.shard.config.start self.now.shard.journal }
+        ensures posted { (e : ℕ) → posts self.now.shard.start self.now.shard.journal e ≡ posted_to self.now e ++ waits_for self.now e }
+        ensures collected { (d : ℕ) → Agrees (collected_from self.now d) (gots self.now.shard.journal d) (held_from d self.now.shard.hold) }
     {
-        let _ = &self.queue;
-        self.log.journal()
+        self.shard.journal()
+    }
+
+    /// The number of the desk.
+    pub fn number(&self) -> u8
+        ensures { result ≡ self.now.shard.number }
+    {
+        self.shard.number()
+    }
+
+    /// The settings of the node.
+    pub fn config(&self) -> Config
+        ensures { result ≡ self.now.shard.config }
+    {
+        self.shard.config()
+    }
+
+    /// The stamp of the newest event, or the start of the clock.
+    pub fn clock(&self) -> u64
+        ensures { result ≡ self.now.shard.clock }
+    {
+        self.shard.clock()
     }
 
     /// Whether p lives here. False of a pid whose slot another process has by now.
     pub fn alive_here(&self, p: Pid) -> bool
-        ensures { result ≡ lives self.now p }
+        ensures { result ≡ lives self.now.shard p }
     {
-        find(&self.log, &self.table, p).is_some()
+        self.shard.alive_here(p)
     }
 
     /// The items that wait in the mailbox of p, oldest first, or `None` where it does not live here.
     pub fn waiting(&self, p: Pid) -> Option<&[Item]>
-        ensures { option_copied result ≡ cond (lives self.now p) (Some (state_in self.now p).waiting) None }
+        ensures { option_copied result ≡ cond (lives self.now.shard p) (Some (state_in self.now.shard p).waiting) None }
     {
-        match find(&self.log, &self.table, p) {
-            Some(process) => Some(process.waiting()),
-            None => None,
-        }
+        self.shard.waiting(p)
     }
 
     /// The ids under which p is linked with q, or `None` where there is no link, or p does not live here.
     ///
     /// It is p's own half of the link: that of q may differ while letters of the two are on their way.
     pub fn linked(&self, p: Pid, q: Pid) -> Option<Ids>
-        ensures { result ≡ cond (lives self.now p) (held_by self.now p q) None }
+        ensures { result ≡ cond (lives self.now.shard p) (held_by self.now.shard p q) None }
     {
-        find(&self.log, &self.table, p)?.linked(q)
+        self.shard.linked(p, q)
+    }
+
+    /// How many letters wait in the outbox and the hold, staying at `u64::MAX` once it is reached.
+    pub fn pending(&self) -> u64
+        ensures { result ≡ min (count_pending self.now.shard) (2 ^ 64 - 1) }
+    {
+        self.shard.pending()
     }
 
     /// Whether p may be the target of a call: its numbers are in the node's ranges, and if it is of this desk,
     /// its version was issued.
     pub fn knows(&self, p: Pid) -> bool
-        ensures { result ≡ knows self.now p }
+        ensures { result ≡ knows self.now.shard p }
     {
-        p.shard < self.config.desks
-            && p.slot < self.config.slots
-            && p.version >= 1
-            && p.version <= self.config.top_version
-            && (p.shard != self.log.desk() || p.version <= self.table.issued(p.slot))
+        self.shard.knows(p)
     }
 
     /// The pid that the next birth on this desk has, or `None` exactly where no slot is free: a birth is then
     /// refused as `Full`, or as `Worn` where the clock is at its limit.
     pub fn vacant(&self) -> Option<Pid>
-        ensures { result ≡ self.now.vacant }
+        ensures { result ≡ self.now.shard.vacant }
     {
-        spawning::vacant(&self.log, &self.table)
+        self.shard.vacant()
+    }
+
+    /// Makes a process that no other one bears: Erlang's `spawn/1`, called from outside of the desk (section Process
+    /// Creation).
+    ///
+    /// Its pid is the one that `vacant` tells, which no process had before. Refused as `Worn` where the clock is at
+    /// its limit, then as `Full` where no slot is free, then as `Memory`.
+    pub fn spawn(&mut self) -> Result<Pid, Fault>
+        ensures does { Bears None None self.old.shard result self.new.shard }
+        ensures known { IfOk result (λ p. (p.shard ≡ self.new.shard.number) × (knows self.new.shard p ≡ true)) }
+        ensures ends { HasSameEnds self.old self.new }
+        ensures goes_on { GoesOn self.old self.new }
+    {
+        self.shard.spawn()
+    }
+
+    /// Makes a process that its parent bears, linked with it where that is asked: Erlang's `spawn/1` and
+    /// `spawn_link/1`, sections Process Creation and Links.
+    ///
+    /// Both halves of the link stand at once, without a letter. Refused as `Gone` where the parent is not alive here,
+    /// then as `Worn` where the clock is at its limit, then as `Full` where no slot is free, then as `Memory`.
+    pub fn spawn_child(&mut self, parent: Pid, linked: bool) -> Result<Pid, Fault>
+        ensures does { BearsChild parent linked self.old.shard result self.new.shard }
+        ensures known { IfOk result (λ p. (p.shard ≡ self.new.shard.number) × (knows self.new.shard p ≡ true)) }
+        ensures ends { HasSameEnds self.old self.new }
+        ensures goes_on { GoesOn self.old self.new }
+    {
+        self.shard.spawn_child(parent, linked)
     }
 
     /// Sends a message: Erlang's `!`, chapter Processes, section Signals.
     ///
-    /// It comes to the receiver in a later turn, after all that the sender sent it before. A receiver that is not
-    /// alive then loses it, and nobody is told. Refused as `Gone`, `Worn` or `Memory`.
+    /// It comes to the receiver after all that the sender sent it before. A receiver that is not alive then loses
+    /// it, and nobody is told. Refused as `Gone`, `Worn` or `Memory`.
     pub fn send(&mut self, from: Pid, to: Pid, body: Body) -> Result<(), Fault>
-        requires { knows self.old to ≡ true }
-        ensures { Calls from (Some (Event.Said from to (Signal.Message body))) tt self.old result self.new }
+        requires { knows self.old.shard to ≡ true }
+        ensures does { Calls from (Some (Event.Said from to (Signal.Message body))) tt self.old.shard result self.new.shard }
+        ensures ends { HasSameEnds self.old self.new }
+        ensures goes_on { GoesOn self.old self.new }
     {
-        self.say(from, to, Signal::Message(body))
+        self.shard.send(from, to, body)
     }
 
     /// Sends an exit signal that no link carries: Erlang's `exit/2`, section Receiving Exit Signals.
@@ -179,31 +197,12 @@ impl Desk {
     /// other as an item. One that does not is ended by it, with that reason, except that `normal` ends it only where
     /// it is the sender itself. Refused as `Gone`, `Worn` or `Memory`.
     pub fn exit_signal(&mut self, from: Pid, to: Pid, reason: Reason) -> Result<(), Fault>
-        requires { knows self.old to ≡ true }
-        ensures { Calls from (Some (Event.Said from to (Signal.Exit reason))) tt self.old result self.new }
+        requires { knows self.old.shard to ≡ true }
+        ensures does { Calls from (Some (Event.Said from to (Signal.Exit reason))) tt self.old.shard result self.new.shard }
+        ensures ends { HasSameEnds self.old self.new }
+        ensures goes_on { GoesOn self.old self.new }
     {
-        self.say(from, to, Signal::Exit(reason))
-    }
-
-    /// Sends a signal that changes nothing in its sender.
-    fn say(&mut self, from: Pid, to: Pid, signal: Signal) -> Result<(), Fault>
-        requires known { knows self.old to ≡ true }
-        requires plain { IsPlain signal }
-        ensures { Calls from (Some (Event.Said from to signal)) tt self.old result self.new }
-    {
-        let Some(_process) = find(&self.log, &self.table, from) else {
-            return Err(Fault::Gone);
-        };
-        self.log.prepare(0)?;
-        self.queue.reserve(1)?;
-        let stamp = self.log.write(0, Event::Said(from, to, signal));
-        self.queue.push_back_reserved(Letter {
-            from,
-            to,
-            signal,
-            stamp,
-        });
-        Ok(())
+        self.shard.exit_signal(from, to, reason)
     }
 
     /// Links p with another process: Erlang's `link/1`, section Links.
@@ -211,34 +210,12 @@ impl Desk {
     /// Nothing happens where p is the target, or holds a link with it. A target that is not alive when the link
     /// comes answers it by an exit signal with `noproc`. Refused as `Gone`, `Worn` or `Memory`.
     pub fn link(&mut self, p: Pid, to: Pid) -> Result<(), Fault>
-        requires { knows self.old to ≡ true }
-        ensures { Calls p (link_event self.old p to) tt self.old result self.new }
+        requires { knows self.old.shard to ≡ true }
+        ensures does { Calls p (link_event self.old.shard p to) tt self.old.shard result self.new.shard }
+        ensures ends { HasSameEnds self.old self.new }
+        ensures goes_on { GoesOn self.old self.new }
     {
-        let Some(process) = find(&self.log, &self.table, p) else {
-            return Err(Fault::Gone);
-        };
-        if p == to {
-            return Ok(());
-        }
-        if process.linked(to).is_some() {
-            return Ok(());
-        }
-        self.log.prepare(0)?;
-        self.queue.reserve(1)?;
-        let id = LinkId {
-            desk: self.log.desk(),
-            number: self.log.clock() + 1,
-        };
-        add_link(&mut self.table, p, to, id)?;
-        let signal = Signal::Link(id);
-        let stamp = self.log.write(0, Event::Said(p, to, signal));
-        self.queue.push_back_reserved(Letter {
-            from: p,
-            to,
-            signal,
-            stamp,
-        });
-        Ok(())
+        self.shard.link(p, to)
     }
 
     /// Takes the link of p with another process back: Erlang's `unlink/1`, section Links.
@@ -246,64 +223,12 @@ impl Desk {
     /// Nothing happens where there is none. An exit signal that the link carries has no effect on p from here on: it
     /// may still come, and is dropped. Refused as `Gone`, `Worn` or `Memory`.
     pub fn unlink(&mut self, p: Pid, to: Pid) -> Result<(), Fault>
-        requires { knows self.old to ≡ true }
-        ensures { Calls p (unlink_event self.old p to) tt self.old result self.new }
+        requires { knows self.old.shard to ≡ true }
+        ensures does { Calls p (unlink_event self.old.shard p to) tt self.old.shard result self.new.shard }
+        ensures ends { HasSameEnds self.old self.new }
+        ensures goes_on { GoesOn self.old self.new }
     {
-        let Some(process) = find(&self.log, &self.table, p) else {
-            return Err(Fault::Gone);
-        };
-        let Some(ids) = process.linked(to) else {
-            return Ok(());
-        };
-        self.log.prepare(0)?;
-        self.queue.reserve(1)?;
-        cut_link(&mut self.table, p, to);
-        let signal = Signal::Unlink(ids);
-        let stamp = self.log.write(0, Event::Said(p, to, signal));
-        self.queue.push_back_reserved(Letter {
-            from: p,
-            to,
-            signal,
-            stamp,
-        });
-        Ok(())
-    }
-
-    /// Sets whether p traps exits, and answers whether it did: Erlang's `process_flag(trap_exit, _)`, section
-    /// Receiving Exit Signals.
-    ///
-    /// The flag counts when an exit signal comes, not when it is sent. Refused as `Gone`, `Worn` or `Memory`.
-    pub fn trap(&mut self, p: Pid, on: bool) -> Result<bool, Fault>
-        ensures { Calls p (Some (Event.Flag p on)) (state_in self.old p).traps self.old result self.new }
-    {
-        let Some(process) = find(&self.log, &self.table, p) else {
-            return Err(Fault::Gone);
-        };
-        let before = process.traps();
-        self.log.prepare(0)?;
-        set_trap(&mut self.table, p, on);
-        self.log.write(0, Event::Flag(p, on));
-        Ok(before)
-    }
-
-    /// Takes the first item that fits out of the mailbox of p; the others stay, in order: Erlang's `receive`
-    /// with `after 0`, chapter Expressions, section Receive.
-    ///
-    /// `Ok(None)` says that nothing fits; it has no event. Refused as `Gone`, or where an item fits, as `Worn` or
-    /// `Memory`.
-    pub fn receive(&mut self, p: Pid, pick: Pick) -> Result<Option<Item>, Fault>
-        ensures { Calls p (take_event self.old p pick) (first_match self.old p pick) self.old result self.new }
-    {
-        let Some(process) = find(&self.log, &self.table, p) else {
-            return Err(Fault::Gone);
-        };
-        let Some((place, item)) = process.first(pick) else {
-            return Ok(None);
-        };
-        self.log.prepare(0)?;
-        take_at(&mut self.table, p, place);
-        self.log.write(0, Event::Took(p, pick, item));
-        Ok(Some(item))
+        self.shard.unlink(p, to)
     }
 
     /// Watches another process: Erlang's `monitor/2`, section Monitors. It answers the reference, which the one
@@ -312,31 +237,12 @@ impl Desk {
     /// A target that is not alive when the monitor comes is answered by a DOWN with `noproc`. Refused as `Gone`,
     /// as `Myself` where w is the target, as `Worn` or `Memory`.
     pub fn monitor(&mut self, w: Pid, t: Pid) -> Result<Ref, Fault>
-        requires { knows self.old t ≡ true }
-        ensures { Monitors w t self.old result self.new }
+        requires { knows self.old.shard t ≡ true }
+        ensures does { Monitors w t self.old.shard result self.new.shard }
+        ensures ends { HasSameEnds self.old self.new }
+        ensures goes_on { GoesOn self.old self.new }
     {
-        let Some(_process) = find(&self.log, &self.table, w) else {
-            return Err(Fault::Gone);
-        };
-        if w == t {
-            return Err(Fault::Myself);
-        }
-        self.log.prepare(0)?;
-        self.queue.reserve(1)?;
-        let monitor = Ref {
-            desk: self.log.desk(),
-            number: self.log.clock() + 1,
-        };
-        add_monitor(&mut self.table, w, monitor, t)?;
-        let signal = Signal::Monitor(monitor);
-        let stamp = self.log.write(0, Event::Said(w, t, signal));
-        self.queue.push_back_reserved(Letter {
-            from: w,
-            to: t,
-            signal,
-            stamp,
-        });
-        Ok(monitor)
+        self.shard.monitor(w, t)
     }
 
     /// Gives a monitor of w up: Erlang's `demonitor/2`, section Monitors. It answers whether it wrote an event.
@@ -345,30 +251,36 @@ impl Desk {
     /// any more. Of any other the DOWN is taken out of the mailbox, where `flush` asks for it and it waits. Refused as
     /// `Gone`, or where there is an event to write, as `Worn` or `Memory`.
     pub fn demonitor(&mut self, w: Pid, monitor: Ref, flush: bool) -> Result<bool, Fault>
-        ensures { Calls w (demonitor_event self.old w monitor flush) (is_some (demonitor_event self.old w monitor flush)) self.old result self.new }
+        ensures does { Calls w (demonitor_event self.old.shard w monitor flush) (is_some (demonitor_event self.old.shard w monitor flush)) self.old.shard result self.new.shard }
+        ensures ends { HasSameEnds self.old self.new }
+        ensures goes_on { GoesOn self.old self.new }
     {
-        let Some(process) = find(&self.log, &self.table, w) else {
-            return Err(Fault::Gone);
-        };
-        let Some(t) = process.target_of(monitor) else {
-            if !flush {
-                return Ok(false);
-            }
-            let taken = self.receive(w, Pick::DownOf(monitor))?;
-            return Ok(taken.is_some());
-        };
-        self.log.prepare(0)?;
-        self.queue.reserve(1)?;
-        cut_monitor(&mut self.table, w, monitor);
-        let signal = Signal::Demonitor(monitor);
-        let stamp = self.log.write(0, Event::Said(w, t, signal));
-        self.queue.push_back_reserved(Letter {
-            from: w,
-            to: t,
-            signal,
-            stamp,
-        });
-        Ok(true)
+        self.shard.demonitor(w, monitor, flush)
+    }
+
+    /// Sets whether p traps exits, and answers whether it did: Erlang's `process_flag(trap_exit, _)`, section
+    /// Receiving Exit Signals.
+    ///
+    /// The flag counts when an exit signal comes, not when it is sent. Refused as `Gone`, `Worn` or `Memory`.
+    pub fn trap(&mut self, p: Pid, on: bool) -> Result<bool, Fault>
+        ensures does { Calls p (Some (Event.Flag p on)) (state_in self.old.shard p).traps self.old.shard result self.new.shard }
+        ensures ends { HasSameEnds self.old self.new }
+        ensures goes_on { GoesOn self.old self.new }
+    {
+        self.shard.trap(p, on)
+    }
+
+    /// Takes the first item that fits out of the mailbox of p; the others stay, in order: Erlang's `receive`
+    /// with `after 0`, chapter Expressions, section Receive.
+    ///
+    /// `Ok(None)` says that nothing fits; it has no event. Refused as `Gone`, or where an item fits, as `Worn` or
+    /// `Memory`.
+    pub fn receive(&mut self, p: Pid, pick: Pick) -> Result<Option<Item>, Fault>
+        ensures does { Calls p (take_event self.old.shard p pick) (first_match self.old.shard p pick) self.old.shard result self.new.shard }
+        ensures ends { HasSameEnds self.old self.new }
+        ensures goes_on { GoesOn self.old self.new }
+    {
+        self.shard.receive(p, pick)
     }
 
     /// Ends p with this reason: Erlang's `exit/1`, section Process Termination.
@@ -377,29 +289,27 @@ impl Desk {
     /// an open monitor is told that it is watched no more. The items that wait are dropped. The slot is free for its
     /// next version, or retired where p had the top one. Refused as `Gone`, `Worn` or `Memory`.
     pub fn exit(&mut self, p: Pid, reason: Reason) -> Result<(), Fault>
-        ensures { Calls p (Some (Event.Left p reason)) tt self.old result self.new }
+        ensures does { Calls p (Some (Event.Left p reason)) tt self.old.shard result self.new.shard }
+        ensures ends { HasSameEnds self.old self.new }
+        ensures goes_on { GoesOn self.old self.new }
     {
-        let Some(process) = find(&self.log, &self.table, p) else {
-            return Err(Fault::Gone);
-        };
-        self.log.prepare(0)?;
-        self.queue.reserve(process.owed_len())?;
-        let stamp = self.log.write(0, Event::Left(p, reason));
-        retire(&mut self.table, &mut self.queue, p, reason, stamp);
-        Ok(())
+        self.shard.exit(p, reason)
     }
 
-    /// Posts letters into the lane, and then handles at most `budget` of those that are there, oldest first.
+    /// Posts letters, and then handles at most `budget` letters.
     ///
-    /// It stops before the budget is used up where the lane is empty, or where `stopped` says why: the letter at
-    /// which it stopped stays the oldest, and a later turn goes on with it. Letters that are sent while it handles
-    /// wait for the next turn.
+    /// First it posts: for each desk from 0 upwards the letters that wait for it, oldest first, until none is left or
+    /// the lane is full. Then it handles: first the letter in the hold, then those that are collected, the lanes being
+    /// looked at in turn. It stops before the budget is used up where no lane shows a letter, or where `stopped` says
+    /// why: the letter at which it stopped stays in the hold, and the next turn goes on with it. Letters that are sent
+    /// while it handles wait in the outbox for the next turn.
     pub fn turn(&mut self, budget: u32) -> Turned
-        ensures { Turns budget self.old result self.new }
+        ensures turns { Turns budget self.old result self.new }
+        ensures goes_on { GoesOn self.old self.new }
     {
         let posted = self.post();
         let mut handled: u64 = 0;
-        for _i in 0..budget {
+        for _letter in 0..budget {
             match self.handle() {
                 Ok(true) => handled += 1,
                 Ok(false) => break,
@@ -419,85 +329,68 @@ impl Desk {
         }
     }
 
-    /// Fills the lane from the outbox, and says how many letters it took.
+    // Posts to each desk from 0 upwards, and says how many letters.
     fn post(&mut self) -> u64
-        ensures after { self.new ≡ filled self.old }
-        ensures count { result + self.old.mark ≡ min self.old.config.lane (length self.old.queue) }
+        ensures posts { Posts self.old self.new }
+        ensures count { result ≡ min (total self.new.outs.posted - total self.old.outs.posted) (2 ^ 64 - 1) }
     {
-        let mark = self.queue.len().min(self.config.lane as usize);
-        let posted = mark - self.mark;
-        self.mark = mark;
-        posted as u64
+        let mut posted: u64 = 0;
+        for to in 0..self.shard.config().desks {
+            posted = posted.saturating_add(self.post_to(to));
+        }
+        posted
     }
 
-    /// Handles the oldest letter of the lane, if there is one.
+    // Posts the letters that wait for desk `to` until none is left or the lane is full, and says how many.
+    fn post_to(&mut self, to: u8) -> u64
+        requires { to < self.old.shard.config.desks }
+        ensures to { PostsTo to self.old self.new }
+        ensures some { PostsSome to result self.old self.new }
+    {
+        let waiting = self.shard.count_out(to);
+        let mut posted: u64 = 0;
+        for _letter in 0..waiting {
+            if !self.post_one(to) {
+                return posted;
+            }
+            posted += 1;
+        }
+        posted
+    }
+
+    // Posts the oldest letter that waits for desk `to`, if there is one and the lane has a place.
+    fn post_one(&mut self, to: u8) -> bool
+        requires { to < self.old.shard.config.desks }
+        ensures { PostsOne to self.old result self.new }
+    {
+        let Some(letter) = self.shard.first_out(to) else {
+            return false;
+        };
+        let Ok(()) = self.outs.post(to, letter) else {
+            return false;
+        };
+        let _ = self.shard.next_out(to);
+        true
+    }
+
+    // Handles the letter in the hold, or else the next that is collected, and says whether there was one.
     fn handle(&mut self) -> Result<bool, Stop>
         ensures { Handles self.old result self.new }
     {
-        if self.mark == 0 {
+        if let Some(letter) = self.shard.held() {
+            self.shard.handle(letter)?;
+            let _ = self.shard.take_hold();
+            return Ok(true);
+        }
+        let Some((_from, letter)) = self.ins.collect() else {
             return Ok(false);
+        };
+        match self.shard.handle(letter) {
+            Ok(_ended) => Ok(true),
+            Err(stop) => {
+                self.shard.put_hold(letter);
+                Err(stop)
+            }
         }
-        let Some(letter) = self.queue.front().copied() else {
-            return Ok(false);
-        };
-        self.log.prepare(letter.stamp)?;
-        let stamp = self.log.clock().max(letter.stamp) + 1;
-        deliver(&self.log, &mut self.table, &mut self.queue, letter, stamp)?;
-        self.log.write(
-            letter.stamp,
-            Event::Came(letter.from, letter.to, letter.signal),
-        );
-        self.mark -= 1;
-        Ok(true)
-    }
-
-    /// Makes a process that no other one bears: Erlang's `spawn/1`, called from outside of the desk (section Process
-    /// Creation).
-    ///
-    /// Its pid is the one that `vacant` tells, which no process had before. Refused as `Worn` where the clock is at
-    /// its limit, then as `Full` where no slot is free, then as `Memory`.
-    pub fn spawn(&mut self) -> Result<Pid, Fault>
-        ensures { Bears None None self.old result self.new }
-    {
-        if self.log.is_worn(0) {
-            return Err(Fault::Worn);
-        }
-        let Some(pid) = spawning::vacant(&self.log, &self.table) else {
-            return Err(Fault::Full);
-        };
-        self.log.prepare(0)?;
-        spawning::admit(&mut self.table, Process::new(self.alloc, pid))?;
-        self.log.write(0, Event::Born(pid, None, None));
-        Ok(pid)
-    }
-
-    /// Makes a process that its parent bears, linked with it where that is asked: Erlang's `spawn/1` and
-    /// `spawn_link/1`, sections Process Creation and Links.
-    ///
-    /// Both halves of the link stand at once, without a letter. Refused as `Gone` where the parent is not alive here,
-    /// then as `Worn` where the clock is at its limit, then as `Full` where no slot is free, then as `Memory`.
-    pub fn spawn_child(&mut self, parent: Pid, linked: bool) -> Result<Pid, Fault>
-        ensures { BearsChild parent linked self.old result self.new }
-    {
-        let Some(_process) = find(&self.log, &self.table, parent) else {
-            return Err(Fault::Gone);
-        };
-        if self.log.is_worn(0) {
-            return Err(Fault::Worn);
-        }
-        let Some(pid) = spawning::vacant(&self.log, &self.table) else {
-            return Err(Fault::Full);
-        };
-        let link = linked.then_some(LinkId {
-            desk: self.log.desk(),
-            number: self.log.clock() + 1,
-        });
-        self.log.prepare(0)?;
-        spawning::make_room(&mut self.table, parent, link)?;
-        let child = spawning::newborn(self.alloc, pid, parent, link)?;
-        spawning::admit(&mut self.table, child)?;
-        spawning::adopt(&mut self.table, parent, pid, link);
-        self.log.write(0, Event::Born(pid, Some(parent), link));
-        Ok(pid)
     }
 }

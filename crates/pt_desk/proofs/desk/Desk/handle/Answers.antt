@@ -1,34 +1,53 @@
-use Rattle.std.proofs.Common.{◌+◌, ◌-◌, max, true, sym, ap, ◌∙◌, subst, arith}
-use Rattle.std.specs.Prelude.{Ok}
-use Rattle.std.proofs.lemmas.Grind.{common_steps}
-use Rattle.pt_desk.specs.Residents.{resident_at}
-use Rattle.pt_desk.specs.Deliveries.{IsItself}
-use Rattle.pt_desk.specs.Turns.{IsFirst, Handles}
-use Rattle.pt_desk.specs.Whole.{desk_of}
-use Rattle.pt_desk.proofs.Handling.{itself_at, handled_whole, handled_answer}
+use Rattle.std.proofs.Common.{Some, sym, ◌∙◌, subst}
+use Rattle.pt_desk.specs.Turns.{HandlesNext}
+use Rattle.pt_desk.proofs.Turning.{next_held, held_accounted, next_collected, collected_accounted, refused_accounted}
+use Rattle.pt_desk.proofs.Posted.{of_parts}
 use Rattle.pt_desk.proofs.desk.Desk.handle.Goals as goal
 
-pub deliver-requires-clause-itself : goal.deliver-requires-clause-itself
-deliver-requires-clause-itself c =
-    subst (λ d. IsItself c.in-Some.letter.to (resident_at d c.self.inside.table c.in-Some.letter.to)) (sym c.in_ok-prepare.ensures.0.0)
-    (itself_at c.self.inside.config c.self.inside.log c.self.inside.table c.self.inside.queue.items c.self.inside.mark c.self.invariant c.in-Some.letter.to)
+pub invariant_of-self-in-Some : goal.invariant_of-self-in-Some
+invariant_of-self-in-Some c =
+    let i = c.self.inside in
+    record {
+      fit = c.take_hold.ensures.fit;
+      accounts = held_accounted i.shard c.handle.new.self c.take_hold.new.self i.outs i.ins c.in-Some.letter c.self.invariant.fit.boxes c.self.invariant.accounts
+          (sym c.held.ensures ∙ c.in-Some.is) c.in_ok-handle.ensures.does.1 c.take_hold.ensures.rest;
+    }
 
-pub invariant_of-self-2 : goal.invariant_of-self-2
-invariant_of-self-2 c =
-    let first : IsFirst c.in-Some.letter (desk_of c.self.inside.config c.self.inside.log c.self.inside.table c.self.inside.queue.items c.self.inside.mark)
-    = (grind (arith, common_steps), omega arith) in
-    handled_whole c.self.inside.config c.self.inside.log c.self.inside.table c.self.inside.queue.items c.self.inside.mark c.self.invariant
-    c.in-Some.letter first c.prepare.new.self c.write.new.self c.deliver.new.table c.deliver.new.queue.items c.in_ok-prepare.ensures
-    (c.max-stamp.result + 1) (ap (λ k. k + 1) (c.max-stamp.ensures ∙ ap (λ k. max k c.in-Some.letter.stamp) c.clock.ensures))
-    c.in_ok-deliver.ensures.ok c.write.ensures.written
+pub returns-in-Some : goal.returns-in-Some
+returns-in-Some c =
+    let i = c.self.inside in (
+      c.in-Some.letter,
+      subst (λ d. HandlesNext c.in-Some.letter d (of_parts c.take_hold.new.self i.outs i.ins)) c.self.view_is
+          (next_held i.shard c.handle.new.self c.take_hold.new.self i.outs i.ins c.in-Some.letter
+          (sym c.held.ensures ∙ c.in-Some.is) c.in_ok-handle.ensures.does.0 c.in_ok-handle.ensures.does.1 c.take_hold.ensures.rest),
+    )
 
-pub returns : goal.returns
-returns c =
-    let first : IsFirst c.in-Some.letter (desk_of c.self.inside.config c.self.inside.log c.self.inside.table c.self.inside.queue.items c.self.inside.mark)
-    = (grind (arith, common_steps), omega arith) in
-    let answer =
-    handled_answer c.self.inside.config c.self.inside.log c.self.inside.table c.self.inside.queue.items c.self.inside.mark c.self.invariant
-    c.in-Some.letter first c.prepare.new.self c.write.new.self c.deliver.new.table c.deliver.new.queue.items c.in_ok-prepare.ensures
-    (c.max-stamp.result + 1) (ap (λ k. k + 1) (c.max-stamp.ensures ∙ ap (λ k. max k c.in-Some.letter.stamp) c.clock.ensures))
-    c.in_ok-deliver.ensures.ok c.write.ensures.written in
-    subst (λ d. Handles d (Ok true) (desk_of c.self.inside.config c.write.new.self c.deliver.new.table c.deliver.new.queue.items (c.self.inside.mark - 1))) c.self.view_is answer
+pub invariant_of-self-in-Ok : goal.invariant_of-self-in-Ok
+invariant_of-self-in-Ok c =
+    let i = c.self.inside in
+    record {
+      fit = c.handle-2.ensures.fit;
+      accounts = collected_accounted i.shard i.outs i.ins c.collect.new.self c.in-Some-collect._from c.in-Some-collect.letter
+          (sym c.held.ensures ∙ c.in_default.is) c.in-Some-collect.ensures.some c.collect.ensures.place
+          c.handle-2.new.self c.self.invariant.fit.boxes c.self.invariant.accounts c.in-Ok.ensures.does.1;
+    }
+
+pub invariant_of-self-in-Err : goal.invariant_of-self-in-Err
+invariant_of-self-in-Err c =
+    let i = c.self.inside in
+    record {
+      fit = c.put_hold.ensures.fit;
+      accounts = refused_accounted i.shard i.outs i.ins c.collect.new.self c.in-Some-collect._from c.in-Some-collect.letter
+          (sym c.held.ensures ∙ c.in_default.is) c.in-Some-collect.ensures.some c.collect.ensures.place
+          c.handle-2.new.self c.put_hold.new.self c.in-Err.stop c.self.invariant.accounts c.in-Err.ensures.does c.put_hold.ensures.held;
+    }
+
+pub returns-in-Ok : goal.returns-in-Ok
+returns-in-Ok c =
+    let i = c.self.inside in (
+      c.in-Some-collect.letter,
+      subst (λ d. HandlesNext c.in-Some-collect.letter d (of_parts c.handle-2.new.self i.outs c.collect.new.self)) c.self.view_is
+          (next_collected i.shard i.outs i.ins c.collect.new.self c.in-Some-collect._from c.in-Some-collect.letter
+          (sym c.held.ensures ∙ c.in_default.is) c.in-Some-collect.ensures.some c.collect.ensures.place c.in-Some-collect.ensures.first
+          c.handle-2.new.self c.in-Ok.ensures.does.0 c.in-Ok.ensures.does.1),
+    )

@@ -1,9 +1,9 @@
-use Rattle.pt_desk.proofs.Bears.{spawned_whole}
+use Rattle.std.proofs.Common.{None}
+use Rattle.pt_desk.proofs.Calling.{bears_step, step_accounted}
 use Rattle.pt_desk.proofs.desk.Desk.spawn.Goals as goal
 
-pub invariant_of-self-2 : goal.invariant_of-self-2
-invariant_of-self-2 c =
-    spawned_whole c.self.inside.config c.self.inside.log c.prepare.new.self c.write.new.self c.self.inside.table c.admit.new.table
-    c.self.inside.queue.items c.self.inside.mark c.self.invariant
-    c.in-Some.pid c.in-Some.ensures c.in_ok-prepare.ensures c.new.result c.new.ensures.me c.new.ensures.state
-    c.in_ok-admit.field-0 c.in_ok-admit.ensures.ok c.write.ensures.written
+pub invariant_of-self : goal.invariant_of-self
+invariant_of-self c =
+    let s = c.self.inside.shard in
+    let does = c.spawn.ensures.does in
+    step_accounted s c.spawn.new.self c.self.inside.outs c.self.inside.ins (bears_step None None s c.spawn.result c.spawn.new.self does) c.self.invariant c.spawn.ensures.fit

@@ -1,9 +1,11 @@
-use Rattle.pt_desk.proofs.Says.{flagged_whole}
+use Rattle.std.proofs.Common.{Some}
+use Rattle.pt_events.specs.declared.event.Event.TheVariants.{Flag}
+use Rattle.pt_shard.specs.ShardState.{state_in}
+use Rattle.pt_desk.proofs.Calling.{calls_step, step_accounted, own_flag}
 use Rattle.pt_desk.proofs.desk.Desk.trap.Goals as goal
 
-pub invariant_of-self-2 : goal.invariant_of-self-2
-invariant_of-self-2 c =
-    flagged_whole c.self.inside.config c.self.inside.log c.prepare.new.self c.write.new.self c.self.inside.table c.set_trap.new.table
-    c.self.inside.queue.items c.self.inside.queue.items c.self.inside.queue.items c.self.inside.mark c.self.invariant
-    c.args.p c.in-Some.process.now.me c.in-Some.process.now.state c.in-Some.ensures c.args.on
-    c.in_ok-prepare.ensures c.set_trap.ensures c.write.ensures.written
+pub invariant_of-self : goal.invariant_of-self
+invariant_of-self c =
+    let s = c.self.inside.shard in
+    let does = c.trap.ensures.does in
+    step_accounted s c.trap.new.self c.self.inside.outs c.self.inside.ins (calls_step c.args.p (Some (Flag c.args.p c.args.on)) (state_in s c.args.p).traps s c.trap.result c.trap.new.self (own_flag _ _) does) c.self.invariant c.trap.ensures.fit

@@ -1,6 +1,7 @@
-use Rattle.std.proofs.Common.{◌≡◌, ◌+◌}
-use Rattle.pt_desk.specs.Turns.{received, filled}
+use Rattle.std.proofs.Common.{◌≡◌, List, length}
+use Rattle.pt_signal.specs.declared.letter.Letter.{Letter}
+use Rattle.pt_desk.specs.Turns.{HandlesAll}
 use Rattle.pt_desk.proofs.desk.Desk.turn.Given as goal
 
-abbrev pub invariant-loop-i : goal.invariant-loop-i
-invariant-loop-i l = (l.self ≡ received l.handled (filled l.fn.self)) × (l.handled ≡ l._i) × (l.handled + l.self.mark ≡ (filled l.fn.self).mark)
+abbrev pub invariant-loop-letter : goal.invariant-loop-letter
+invariant-loop-letter l = (letters : List Letter) × (l.handled ≡ length letters) × (l.handled ≡ l._letter) × HandlesAll letters l.initial.self l.self

@@ -1,0 +1,140 @@
+-- What a turn does with the letters that it finds.
+use Rattle.std.proofs.Common.{◌≡◌, ℕ, ◌+◌, ◌^◌, ◌<◌, ◌≤◌, ◌⊎◌, inl, inr, List, [], ◌∷◌, ◌++◌, length, max, Option, Some, None, Err, refl, sym, ap, ◌∙◌, subst, append_assoc, arith}
+use Rattle.pt_signal.specs.declared.letter.Letter.{Letter}
+use Rattle.pt_carrier.specs.Ends.{OutEnds, InEnds, Collects, IsFirst}
+use Rattle.pt_shard.specs.declared.stop.Stop.{Stop}
+use Rattle.pt_shard.specs.declared.stop.Stop.TheVariants.{Memory, Worn}
+use Rattle.pt_shard.specs.ShardState.{ShardState, handled, Handles as ShardHandles}
+use Rattle.pt_shard.specs.Outbox.{holding}
+use Rattle.pt_shard.specs.Extends.{Extends}
+use Rattle.pt_shard.specs.Known.{knows}
+use Rattle.pt_desk.specs.DeskState.{DeskState, GoesOn, IsAccounted, place}
+use Rattle.pt_desk.specs.Posting.{Posts, OnlyPosts}
+use Rattle.pt_desk.specs.Turns.{TakesIn, Fetches, FindsNone, HandlesNext, HandlesAll, Stays, EndsWith, handled_held}
+use Rattle.pt_desk.proofs.Accounts.{accounted_handled, accounted_taken}
+use Rattle.pt_desk.proofs.Posted.{of_parts}
+
+-- the letter in the hold is handled
+pub next_held : (s s1 s2 : ShardState) (o : OutEnds) (i : InEnds) (l : Letter) → s.hold ≡ Some l → max s.clock l.stamp < 2 ^ 62 → s1 ≡ handled l s → s2 ≡ holding None s1
+    → HandlesNext l (of_parts s o i) (of_parts s2 o i)
+next_held s s1 s2 o i l holds within handles frees = record {
+  fetched = of_parts s o i;
+  fetches = inl (holds, refl);
+  within = within;
+  after = ap (λ (z : ShardState). of_parts z o i) (frees ∙ ap (λ (z : ShardState). holding None z) handles);
+}
+
+pub held_accounted : (s s1 s2 : ShardState) (o : OutEnds) (i : InEnds) (l : Letter) → length s.outbox ≡ s.config.desks → IsAccounted s o i → s.hold ≡ Some l → s1 ≡ handled l s → s2 ≡ holding None s1 → IsAccounted s2 o i
+held_accounted s s1 s2 o i l boxes acc holds handles frees =
+    subst (λ z. IsAccounted z o i) (sym (frees ∙ ap (λ (z : ShardState). holding None z) handles)) (accounted_handled s o i boxes acc l holds)
+
+refused : (l : Letter) (s s' : ShardState) (stop : Stop) → ShardHandles l s (Err stop) s' → s' ≡ s
+refused l s s' Memory h = h.1
+refused l s s' Worn h = h.1
+
+-- a letter is collected while the hold is free
+module _ (s : ShardState) (o : OutEnds) (i i' : InEnds) (k : ℕ) (l : Letter) (free : s.hold ≡ None) (takes : Collects i i' k l) (place_is : i'.place ≡ i.place) where
+  from_is : k ≡ l.from.shard
+  from_is = sym takes.from_there
+
+  is_free : s ≡ holding None s
+  is_free = ap (λ h. holding h s) free
+
+  module _ (first : IsFirst i i' k) where
+    pub taken_in : TakesIn l (of_parts s o i) (of_parts (holding (Some l) s) o i')
+    taken_in = record {
+      free = free;
+      shard = refl;
+      outs = refl;
+      place = place_is;
+      collects = subst (λ k. Collects i i' k l) from_is takes;
+      first = subst (IsFirst i i') from_is first;
+    }
+
+    pub next_collected : (s1 : ShardState) → max s.clock l.stamp < 2 ^ 62 → s1 ≡ handled l s → HandlesNext l (of_parts s o i) (of_parts s1 o i')
+    next_collected s1 within handles = record {
+      fetched = of_parts (holding (Some l) s) o i';
+      fetches = inr taken_in;
+      within = within;
+      after = ap (λ (z : ShardState). of_parts z o i') (handles ∙ ap (handled l) is_free);
+    }
+
+  taken_accounted : IsAccounted s o i → IsAccounted (holding (Some l) s) o i'
+  taken_accounted acc = accounted_taken s o i acc i' l free (subst (λ k. Collects i i' k l) from_is takes) place_is
+
+  pub refused_accounted : (s1 s2 : ShardState) (stop : Stop) → IsAccounted s o i → ShardHandles l s (Err stop) s1 → s2 ≡ holding (Some l) s1 → IsAccounted s2 o i'
+  refused_accounted s1 s2 stop acc refuses keeps = subst (λ z. IsAccounted z o i') (sym (keeps ∙ ap (holding (Some l)) (refused l s s1 stop refuses))) (taken_accounted acc)
+
+  pub collected_accounted : (s1 : ShardState) → length s.outbox ≡ s.config.desks → IsAccounted s o i → s1 ≡ handled l s → IsAccounted s1 o i'
+  collected_accounted s1 boxes acc handles =
+      subst (λ z. IsAccounted z o i') (sym (handles ∙ ap (handled l) is_free))
+      (accounted_handled (holding (Some l) s) o i' boxes (taken_accounted acc) l refl)
+
+-- it is the same desk, later ------------------------------------------------------------------
+
+pub extends : (s : ShardState) → Extends s s
+extends s = record { start = refl; number = refl; config = refl; more = []; journal = refl; known = λ p h. h }
+
+pub extends_then : (old mid new : ShardState) → Extends old mid → Extends mid new → Extends old new
+extends_then old mid new a b = record {
+  start = b.start ∙ a.start;
+  number = b.number ∙ a.number;
+  config = b.config ∙ a.config;
+  more = b.more ++ a.more;
+  journal = b.journal ∙ ap (λ z. b.more ++ z) a.journal ∙ sym (append_assoc b.more a.more old.journal);
+  known = λ p h. b.known p (a.known p h);
+}
+
+pub goes_on_then : (old mid new : DeskState) → GoesOn old mid → GoesOn mid new → GoesOn old new
+goes_on_then old mid new a b = record { shard = extends_then old.shard mid.shard new.shard a.shard b.shard; place = b.place ∙ a.place }
+
+same_goes_on : (old new : DeskState) → new ≡ old → GoesOn old new
+same_goes_on old new h = record { shard = subst (λ (d : DeskState). Extends old.shard d.shard) (sym h) (extends old.shard); place = ap place h }
+
+posts_go_on : (old new : DeskState) → Posts old new → GoesOn old new
+posts_go_on old new p = record {
+  shard = subst (Extends old.shard) (sym p.only.shard) (record { start = refl; number = refl; config = refl; more = []; journal = refl; known = λ q h. h });
+  place = λ j. (p.only.place j, ap (λ (i : InEnds). i.place) p.only.ins j);
+}
+
+fetches_go_on : (l : Letter) (old new : DeskState) → Fetches l old new → GoesOn old new
+fetches_go_on l old new f =
+    elim f [
+      | inl same ↦ same_goes_on old new same.1
+      | inr takes ↦ record {
+        shard = subst (Extends old.shard) (sym takes.shard) (record { start = refl; number = refl; config = refl; more = []; journal = refl; known = λ q h. h });
+        place = λ j. (ap (λ (o : OutEnds). o.place) takes.outs j, takes.place j);
+      }
+    ]
+
+none_goes_on : (old new : DeskState) → FindsNone old new → GoesOn old new
+none_goes_on old new f = record {
+  shard = subst (Extends old.shard) (sym f.shard) (extends old.shard);
+  place = λ j. (ap (λ (o : OutEnds). o.place) f.outs j, f.place j);
+}
+
+held_goes_on : (l : Letter) (d : DeskState) → GoesOn d (handled_held l d)
+held_goes_on l d = record {
+  shard = record { start = refl; number = refl; config = refl; more = _ ∷ []; journal = refl; known = λ q h. h };
+  place = refl;
+}
+
+next_goes_on : (l : Letter) (old new : DeskState) → HandlesNext l old new → GoesOn old new
+next_goes_on l old new h =
+    goes_on_then old h.fetched new (fetches_go_on l old h.fetched h.fetches) (subst (GoesOn h.fetched) (sym h.after) (held_goes_on l h.fetched))
+
+all_go_on : (letters : List Letter) (old new : DeskState) → HandlesAll letters old new → GoesOn old new
+all_go_on [] old new h = same_goes_on old new h
+all_go_on (l ∷ letters) old new (before, all, next) = goes_on_then old before new (all_go_on letters old before all) (next_goes_on l before new next)
+
+stays_go_on : (stop : Stop) (old new : DeskState) → Stays stop old new → GoesOn old new
+stays_go_on Worn old new h = fetches_go_on h.0 old new h.1
+stays_go_on Memory old new h = fetches_go_on h.0 old new h.1
+
+ends_go_on : (stopped : Option Stop) (count budget : ℕ) (old new : DeskState) → EndsWith stopped count budget old new → GoesOn old new
+ends_go_on None count budget old new h = elim h [ inl same ↦ same_goes_on old new same.1 | inr none ↦ none_goes_on old new none.1 ]
+ends_go_on (Some stop) count budget old new h = stays_go_on stop old new h.1
+
+pub turn_goes_on : (old mid last new : DeskState) (letters : List Letter) (stopped : Option Stop) (count budget : ℕ) → Posts old mid → HandlesAll letters mid last → EndsWith stopped count budget last new → GoesOn old new
+turn_goes_on old mid last new letters stopped count budget posts all ends =
+    goes_on_then old mid new (posts_go_on old mid posts) (goes_on_then mid last new (all_go_on letters mid last all) (ends_go_on stopped count budget last new ends))

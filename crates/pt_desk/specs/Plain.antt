@@ -1,9 +1,0 @@
--- Signals that may be said at any time, and change nothing in their sender.
-use Rattle.std.specs.Prelude.{⊤}
-use Rattle.pt_signal.specs.declared.signal.Signal.{Signal}
-use Rattle.pt_signal.specs.declared.signal.Signal.TheVariants.{Message}
-
-abbrev pub IsPlain : Signal → Type 0
-IsPlain (Message body) = ⊤
-IsPlain (Signal.Exit reason) = ⊤
-IsPlain _ = ⊥

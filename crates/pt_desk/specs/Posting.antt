@@ -1,0 +1,48 @@
+-- How a desk posts.
+use Rattle.std.specs.Prelude.{◌≡◌, ◌≢◌, ℕ, ◌+◌, ◌<◌, ◌⊎◌, Bool, true, false, List, [], ◌∷◌, ◌++◌, length, sum_by, take, drop, slice_index_or, slice_set}
+use Rattle.pt_signal.specs.declared.letter.Letter.{Letter}
+use Rattle.pt_carrier.specs.Ends.{IsFull, one_more}
+use Rattle.pt_desk.specs.DeskState.{DeskState, posted_to, waits_for}
+
+-- how many letters the lists have together
+abbrev pub total : List (List Letter) → ℕ
+total lists = sum_by length lists
+
+-- a front of what waited for desk e was posted, behind what was posted there before; the rest stays, and only
+-- where the lane is known to be full
+pub record PostsTo (e : ℕ) (old new : DeskState) : Type 0 where
+  pub count : ℕ
+  pub posted : posted_to new e ≡ posted_to old e ++ take count (waits_for old e)
+  pub left : waits_for new e ≡ drop count (waits_for old e)
+  pub full : (waits_for new e ≡ []) ⊎ IsFull new.outs e
+
+-- all but what is posted, what waits and what is known of the lanes out of the desk
+pub record OnlyPosts (old new : DeskState) : Type 0 where
+  pub shard : new.shard ≡ record old.shard { outbox = new.shard.outbox }
+  pub place : new.outs.place ≡ old.outs.place
+  pub capacity : new.outs.capacity ≡ old.outs.capacity
+  pub ins : new.ins ≡ old.ins
+
+-- so for every desk
+pub record Posts (old new : DeskState) : Type 0 where
+  pub each : (e : ℕ) → e < old.shard.config.desks → PostsTo e old new
+  pub only : OnlyPosts old new
+
+-- nothing of the lane to desk e has changed
+pub record SameLane (e : ℕ) (old new : DeskState) : Type 0 where
+  pub posted : posted_to new e ≡ posted_to old e
+  pub waits : waits_for new e ≡ waits_for old e
+  pub seen : slice_index_or new.outs.seen e 0 ≡ slice_index_or old.outs.seen e 0
+
+-- only letters for desk e were posted, and so many
+pub record PostsSome (e count : ℕ) (old new : DeskState) : Type 0 where
+  pub others : (k : ℕ) → k ≢ e → SameLane k old new
+  pub only : OnlyPosts old new
+  pub counted : total new.outs.posted ≡ total old.outs.posted + count
+
+-- the oldest letter that waits for desk e is posted; else none waits, or the lane is full
+abbrev pub PostsOne : ℕ → DeskState → Bool → DeskState → Type 0
+PostsOne e old true new =
+    (l : Letter) × (waits_for old e ≡ l ∷ drop 1 (waits_for old e)) × (posted_to new e ≡ posted_to old e ++ l ∷ []) × (waits_for new e ≡ drop 1 (waits_for old e)) × PostsSome e 1 old new
+PostsOne e old false new =
+    ((waits_for old e ≡ []) ⊎ IsFull new.outs e) × (posted_to new e ≡ posted_to old e) × (waits_for new e ≡ waits_for old e) × PostsSome e 0 old new
