@@ -3,3 +3,4 @@ pub mod Accounts
 pub mod Posted
 pub mod Turning
 pub mod Calling
+pub mod Fresh

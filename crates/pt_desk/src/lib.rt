@@ -1,7 +1,67 @@
-//! A desk of a node.
+//! One desk of a node: a shard of an Erlang-style process table with its ends of the lanes.
+//!
+//! A [`Desk`] is a `Shard` of `pt_shard` (processes, clock, journal, outbox and hold) together with the ends of
+//! `pt_carrier` by which it posts to each desk of the node and collects from each. Whoever holds the desk makes the
+//! calls of its processes, one after the other, and gives the desk its turns. A desk is used by one thread at a time,
+//! through `&mut`; desks of one node may be used by different threads at the same time.
+//!
+//! ```text
+//! let watcher = desk.spawn()?;
+//! let worker = desk.spawn()?;
+//! if desk.knows(worker) {
+//!     let watch = desk.monitor(watcher, worker)?;
+//!     desk.turn(16);                                           // the monitor comes to the worker
+//!     desk.exit(worker, Reason::Other(7))?;
+//!     desk.turn(16);                                           // its DOWN comes to the watcher
+//!     let down = desk.receive(watcher, Pick::DownOf(watch))?;  // down #0.3 <0.1.1> other:7
+//! }
+//! ```
+//!
+//! # Calls and turns
+//!
+//! A call writes at most one event into the desk's journal. What the event sends waits in the outbox, as letters with
+//! the event's stamp, until a [`turn`](Desk::turn) posts them into the lanes to their receivers' desks, that to the
+//! desk itself among them. A turn then handles letters: the one in the hold first, then those that the lanes show.
+//! What an arrival calls for, as the DOWNs of a process that it ends, is sent as letters in its turn.
+//!
+//! # A full lane, and a refused letter
+//!
+//! A letter whose lane is full stays in the outbox with those behind it, and the next turn goes on with it; letters to
+//! other desks are not held up. All memory that the receipt of a letter needs is taken before anything of it changes.
+//! Where it is refused, or the receipt's stamp would pass the limit of clocks, the letter stays in the hold, the turn
+//! stops and says why, and the next turn begins with that letter. So between two processes letters keep their order,
+//! none is lost, and none comes twice.
+//!
+//! # Refusals
+//!
+//! A call is refused by a `Fault`, and the desk is then exactly as it was. Where several could be given it is the
+//! first of `Gone` (the acting process is not alive here), `Myself` (a monitor of oneself), `Worn` (the call has an
+//! event to write, and the clock stands at 2^62), `Full` (no slot for a birth) and `Memory` (the call has an event
+//! to write, and a growth was refused). A call that has no event to write takes no memory and needs no clock. A target
+//! is to be one that the desk `knows`: a pid that was issued here, dead or alive, or any pid in range of another desk.
+//!
+//! # A desk is spent, not dropped
+//!
+//! A program that lets a `Desk` go does not compile. [`Desk::apart`] takes it into its parts, whose ends a node
+//! brings together again; [`Desk::whole`] is the reverse.
+//!
+//! # Cost
+//!
+//! A call costs what the shard's call costs. A turn costs the letters that it posts and handles, with what they end,
+//! and one look at each desk's queue; no call takes a lock or waits for another thread, and none allocates but for
+//! the events and letters that it writes.
+//!
+//! # For proofs above
+//!
+//! A contract sees a desk as the `DeskState` of `specs/DeskState`. `IsDesk` holds of every desk, and
+//! [`Desk::journal`] states it: what was sent to each desk was posted there or waits, and what was collected from
+//! each was received or is in the hold. `GoesOn` is on every call: number, settings and node stay, and the journal
+//! begins with the one before. `specs/Turns` says what a turn does.
 #![tactic(auto)]
 
 mod desk;
+#[cfg(test)]
+mod tests;
 mod turned;
 
 pub use desk::Desk;

@@ -1,0 +1,31 @@
+-- The accounts of a desk on which nothing has happened.
+use Rattle.std.proofs.Common.{◌≡◌, ℕ, zero, suc, ◌<◌, List, [], length, get_or, refl, sym, ap, ◌∙◌, map, arith}
+use Rattle.std.specs.Prelude.{replicate}
+use Rattle.pt_signal.specs.declared.letter.Letter.{Letter}
+use Rattle.pt_carrier.specs.Ends.{OutEnds, InEnds}
+use Rattle.pt_carrier.specs.Node.{places, IsNode, IsNew}
+use Rattle.pt_carrier.proofs.Places.{out_number, in_number, out_lanes, in_lanes}
+use Rattle.pt_shard.specs.declared.config.Config.{Config}
+use Rattle.pt_shard.specs.Opening.{fresh}
+use Rattle.pt_desk.specs.DeskState.{IsAccounted}
+
+empty_box : (n e : ℕ) → get_or {A = List Letter} (replicate n []) e [] ≡ []
+empty_box zero e = refl
+empty_box (suc n) zero = refl
+empty_box (suc n) (suc e) = empty_box n e
+
+-- a new shard, and the ends of its number in a node that was just opened
+pub fresh_accounted : (c : Config) (pairs : List (OutEnds × InEnds)) (capacity d : ℕ) (x : OutEnds × InEnds) → IsNode (map places pairs) → length pairs ≡ c.desks → IsNew c.desks capacity x
+    → d < c.desks → x ≡ get_or pairs d x → IsAccounted (fresh c d) x.0 x.1
+fresh_accounted c pairs capacity d x node count new d_in is =
+    let within : d < length pairs = omega arith in
+    record {
+      out_number = out_number places pairs node d x within is;
+      in_number = in_number places pairs node d x within is;
+      out_desks = out_lanes places pairs node d x within is ∙ count;
+      in_desks = in_lanes places pairs node d x within is ∙ count;
+      posted_desks = new.posted_desks;
+      collected_desks = new.collected_desks;
+      posted = λ e h. sym (rw (new.posted e, empty_box c.desks e) refl);
+      collected = λ k h. new.collected k;
+    }
