@@ -119,8 +119,8 @@ impl Outs {
         self.lanes[usize::from(to)].posted()
     }
 
-    // Gives up the ends.
-    pub(crate) fn close(self) {
+    /// Gives up the ends. For a node that is given up whole, after its gathering was refused.
+    pub fn close(self) {
         let Outs {
             number: _,
             lanes: _,
@@ -248,8 +248,9 @@ impl Ins {
         }
     }
 
-    // Gives up the ends, with the letters that stand in their lanes.
-    pub(crate) fn close(self) {
+    /// Gives up the ends, with the letters that stand in their lanes. For a node that is given up whole, after its
+    /// gathering was refused.
+    pub fn close(self) {
         let Ins {
             number: _,
             cursor: _,

@@ -1,0 +1,90 @@
+-- The laws of histories, at a node whose desks were gathered.
+use Rattle.std.proofs.Common.{◌≡◌, ℕ, ◌+◌, ◌<◌, ◌≤◌, true, false, List, [], length, map, get_or, refl, sym, ap, ◌∙◌, subst, arith, ⊎_elim}
+use Rattle.std.proofs.lemmas.Bool.{cases_lt}
+use Rattle.std.proofs.lemmas.List.{get_or_past, length-map}
+use Rattle.pt_signal.specs.declared.letter.Letter.{Letter}
+use Rattle.pt_events.specs.declared.event.Stamped.{Stamped}
+use Rattle.pt_events.specs.Journal.{events, content, posts, gots, Agrees, LanesAgree, IsLocal, IsMerge}
+use Rattle.pt_laws.specs.Headline.{HeadlineHolds}
+use Rattle.pt_laws.specs.Laws.{MergeLegal, LegalWithLeftOver}
+use Rattle.pt_laws.specs.LinkLaws.{MergeLinks}
+use Rattle.pt_laws.specs.Load.{load, IsQuiet}
+use Rattle.pt_laws.specs.LoadLaws.{EmptyIsQuiet, HasDesks, LoadByDesk}
+use Rattle.pt_laws.specs.MonitorLaws.{EmptyHasOldRefs, QuietMonitor, QuietWatch}
+use Rattle.pt_shard.specs.ShardState.{ShardState}
+use Rattle.pt_shard.specs.Fit.{IsFit}
+use Rattle.pt_gathered.specs.Gathered.{GatheredState, IsGathered, journals, over, over_in}
+use Rattle.pt_gathered.specs.Settling.{load_of, event_count, Settles, NothingLeft}
+use Rattle.pt_gathered.specs.Lawful.{IsLegalNode, KeepsHeadline, IsQuietNode, IsBounded, LinksStand, WatchesStand}
+use Rattle.pt_gathered.proofs.Agreeing.{local_at, at_map}
+use Rattle.pt_gathered.proofs.Overs.{over_both, over_left, over_right}
+
+module _ (g : GatheredState) (whole : IsGathered g) where
+  -- the journals of desks that the node has not are empty
+  past_end : (d : ℕ) → length g.shards ≤ d → journals g d ≡ []
+  past_end d h = get_or_past (map (λ (s : ShardState). s.journal) g.shards) d [] (omega (arith, length-map g.shards (λ (s : ShardState). s.journal)))
+
+  pub locals : (d : ℕ) → IsLocal [] g.config.start g.config.top_version d (journals g d)
+  locals d = ⊎_elim (λ (h : d < length g.shards). local_at g whole d d h h d h) (λ (h : length g.shards ≤ d). rw (past_end d h) tt) (cases_lt d (length g.shards))
+
+  beyond : (d : ℕ) (x : ShardState) → d < length g.shards → (e : ℕ) → length g.shards ≤ e → (get_or g.shards d x).config.desks ≤ e
+  beyond d x h e k = let a = ap (λ c. c.desks) (whole.shards d x h).config_is in let b = whole.desks in omega arith
+
+  posts_near_of : (s : ShardState) → IsFit s → (e : ℕ) → s.config.desks ≤ e → posts [] s.journal e ≡ []
+  posts_near_of s fit e h = subst (λ b. posts b s.journal e ≡ []) fit.first (fit.posts_near e h)
+
+  posts_out : (d e : ℕ) → d < length g.shards → length g.shards ≤ e → posts [] (journals g d) e ≡ []
+  posts_out d e h k = at_map (λ (s : ShardState). s.journal) (λ j. posts [] j e ≡ []) g.shards d [] h (λ x. posts_near_of (get_or g.shards d x) (whole.shards d x h).fit e (beyond d x h e k))
+
+  gots_out : (e d : ℕ) → e < length g.shards → length g.shards ≤ d → gots (journals g e) d ≡ []
+  gots_out e d h k = at_map (λ (s : ShardState). s.journal) (λ j. gots j d ≡ []) g.shards e [] h (λ x. (whole.shards e x h).fit.gots_near d (beyond e x h d k))
+
+  none_of : (posted gots over : List Letter) → posted ≡ [] → gots ≡ [] → over ≡ [] → Agrees posted gots over
+  none_of posted gots over a b c = rw (a, b, c) refl
+
+  pub lanes_agree : LanesAgree [] (journals g) (over g)
+  lanes_agree d e =
+      ⊎_elim
+      (λ (h : d < length g.shards).
+      ⊎_elim (λ (k : e < length g.shards). subst (Agrees (posts [] (journals g d) e) (gots (journals g e) d)) (sym (over_both g d e h k)) (whole.agree d e h k))
+      (λ (k : length g.shards ≤ e). none_of (posts [] (journals g d) e) (gots (journals g e) d) (over g d e) (posts_out d e h k) (ap (λ j. gots j d) (past_end e k)) (over_right g d e k))
+      (cases_lt e (length g.shards)))
+      (λ (h : length g.shards ≤ d).
+      none_of (posts [] (journals g d) e) (gots (journals g e) d) (over g d e) (ap (λ j. posts [] j e) (past_end d h))
+      (⊎_elim (λ (k : e < length g.shards). gots_out e d k h) (λ (k : length g.shards ≤ e). ap (λ j. gots j d) (past_end e k)) (cases_lt e (length g.shards))) (over_left g d e h))
+      (cases_lt d (length g.shards))
+
+  pub keeps_headline : HeadlineHolds → EmptyHasOldRefs → KeepsHeadline g
+  keeps_headline law empty = law [] g.config.start g.config.top_version (journals g) (over g) (empty g.config.start) locals lanes_agree
+
+  pub legal_node : MergeLegal → IsLegalNode g
+  legal_node law merged m = law [] g.config.start g.config.top_version (journals g) (over g) merged locals lanes_agree m
+
+  has_desks : HasDesks (length g.shards) [] (journals g) (over g)
+  has_desks = record { journals = past_end; lanes = over_right g; begun = λ p h. refl }
+
+  -- the load desk by desk is that of the history
+  pub load_is : LoadByDesk → (merged : List Stamped) → IsMerge (journals g) merged → load_of g ≡ load [] (events merged)
+  load_is law merged m = law [] g.config.start g.config.top_version (length g.shards) (journals g) (over g) merged locals lanes_agree m has_desks
+
+  nothing_over : NothingLeft g → (d e : ℕ) → over g d e ≡ []
+  nothing_over none d e =
+      ⊎_elim (λ (h : d < length g.shards). ⊎_elim (λ (k : e < length g.shards). over_both g d e h k ∙ none d e h k) (λ (k : length g.shards ≤ e). over_right g d e k) (cases_lt e (length g.shards)))
+      (λ (h : length g.shards ≤ d). over_left g d e h) (cases_lt d (length g.shards))
+
+  pub quiet_node : MergeLegal → EmptyIsQuiet → NothingLeft g → IsQuietNode g
+  quiet_node law empty none merged m =
+      let l = legal_node law merged m in
+      (l.0, empty [] (events merged) (λ d e. l.1 d e ∙ ap (map content) (nothing_over none d e)))
+
+  pub links_stand : IsQuietNode g → MergeLinks → LinksStand g
+  links_stand quiet links merged p q m other lives =
+      links g.config.start g.config.top_version (journals g) (over g) merged p q locals lanes_agree m (quiet merged m).1 other lives
+
+  pub watches_stand : IsQuietNode g → QuietMonitor → QuietWatch → WatchesStand g
+  watches_stand quiet monitors watches merged w t m is =
+      let q = quiet merged is in
+      (λ lives said. monitors (events merged) w t m q.0 q.1 lives said, λ gone. watches (events merged) w t m q.0 q.1 gone)
+
+pub is_bounded : LoadByDesk → (old new : GatheredState) → IsGathered old → Settles old new → IsBounded old new
+is_bounded law old new whole s merged m = let a = load_is old whole law merged m in let b = s.bound in omega arith

@@ -1,0 +1,10 @@
+pub mod Overs
+pub mod Loads
+pub mod Agreeing
+pub mod Ordering
+pub mod Settled
+pub mod Boxes
+pub mod Stepping
+pub mod Lawful
+pub mod Histories
+pub mod Places

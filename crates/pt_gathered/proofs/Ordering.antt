@@ -1,0 +1,191 @@
+-- What stays left over while letters come to one desk.
+use Rattle.std.proofs.Common.{◌≡◌, ℕ, zero, suc, ◌+◌, ◌<◌, ◌≤◌, ◌==◌, ◌&&◌, Bool, true, false, cond, List, [], ◌∷◌, ◌++◌, length, drop, refl, sym, ap, ◌∙◌, subst, append-nil, arith, get_or, set, below_more, le_refl}
+use Rattle.std.specs.Prelude.{Err, replicate}
+use Rattle.std.proofs.lemmas.List.{length-append, length-set, get_or-set_same, get_or-set_other}
+use Rattle.std.proofs.lemmas.Bool.{eqb-true, eq-eqb, ne_eqb, both_ways}
+use Rattle.pt_signal.specs.declared.letter.Letter.{Letter}
+use Rattle.pt_gathered.specs.Gathered.{GatheredState, journals, over_in}
+use Rattle.pt_shard.specs.declared.stop.Stop.{Stop}
+use Rattle.pt_gathered.specs.Settling.{Receives, replies_to, Steps, NothingTo}
+use Rattle.pt_gathered.specs.Order.{InTurn, ComesOnce, Comes, LaneComes, LaneStops, DeskComes}
+use Rattle.pt_gathered.specs.Waits.{Waits, Marks}
+
+-- one more in turn
+pub more_in_turn : (Does : ℕ → GatheredState → GatheredState → Type 0) (n : ℕ) (old mid new : GatheredState) → InTurn Does n old mid → Does n mid new → InTurn Does (n + 1) old new
+more_in_turn Does n old mid new done next = let e : n + 1 ≡ suc n = omega arith in subst (λ k. InTurn Does k old new) (sym e) (mid, done, next)
+
+-- nothing comes to a desk to which nothing is left over
+pub nothing_comes : (n e : ℕ) (g : GatheredState) → NothingTo n e g → DeskComes n e g g
+nothing_comes zero e g none = refl
+nothing_comes (suc n) e g none =
+    let empty : over_in g.shards g.lanes n e ≡ [] = none n (omega arith) in
+    let lane : LaneComes e n g g = subst (λ xs. Comes n e (length xs) g g) (sym empty) refl in
+    (g, nothing_comes n e g (λ d h. none d (omega arith)), lane)
+
+-- the letters between two numbers of which the sender is not e
+abbrev pub Same : ℕ → (ℕ → ℕ → Type 0) → GatheredState → GatheredState → Type 0
+Same e But old new =
+    (i k : ℕ) → i < length old.shards → k < length old.shards → (i ≡ e → ⊥) → (But i k → ⊥) → over_in new.shards new.lanes i k ≡ over_in old.shards old.lanes i k
+
+module _ (d e : ℕ) (l : Letter) (old new : GatheredState) (r : Receives d e l old new) where
+  plain : (i k : ℕ) → i < length old.shards → k < length old.shards → (i ≡ e → ⊥)
+      → over_in new.shards new.lanes i k ≡ cond ((i == d) && (k == e)) (drop 1 (over_in old.shards old.lanes i k)) (over_in old.shards old.lanes i k)
+  plain i k hi hk ne =
+      r.left i k hi hk
+      ∙ ap (λ b. cond ((i == d) && (k == e)) (drop 1 (over_in old.shards old.lanes i k)) (over_in old.shards old.lanes i k) ++ cond b (replies_to old.config.start e l (journals old e) k) []) (ne_eqb i e ne)
+      ∙ append-nil (cond ((i == d) && (k == e)) (drop 1 (over_in old.shards old.lanes i k)) (over_in old.shards old.lanes i k))
+
+  one_same : Same e (λ i k. (i ≡ d) × (k ≡ e)) old new
+  one_same i k hi hk ne but = plain i k hi hk ne ∙ go (i == d) refl (k == e) refl
+    where
+      go : (p : Bool) → (i == d) ≡ p → (q : Bool) → (k == e) ≡ q
+          → cond ((i == d) && (k == e)) (drop 1 (over_in old.shards old.lanes i k)) (over_in old.shards old.lanes i k) ≡ over_in old.shards old.lanes i k
+      go true p true q = absurd (but (eqb-true i d p, eqb-true k e q))
+      go true p false q = rw (p, q) refl
+      go false p b q = rw p refl
+
+  one_taken : d < length old.shards → e < length old.shards → (d ≡ e → ⊥) → over_in new.shards new.lanes d e ≡ drop 1 (over_in old.shards old.lanes d e)
+  one_taken d_in e_in ne = plain d e d_in e_in ne ∙ rw (eq-eqb d d refl, eq-eqb e e refl) refl
+
+drop_more : (m : ℕ) (xs : List Letter) → drop 1 (drop m xs) ≡ drop (suc m) xs
+drop_more zero xs = refl
+drop_more (suc m) [] = refl
+drop_more (suc m) (x ∷ xs) = drop_more m xs
+
+drop_all : (xs : List Letter) → drop (length xs) xs ≡ []
+drop_all [] = refl
+drop_all (x ∷ xs) = drop_all xs
+
+module _ (d e : ℕ) where
+  comes_count : (m : ℕ) (old new : GatheredState) → Comes d e m old new → length new.shards ≡ length old.shards
+  comes_count zero old new c = ap (λ (g : GatheredState). length g.shards) c
+  comes_count (suc m) old new c = c.2.1.count ∙ comes_count m old c.0 c.1
+
+  comes_same : (m : ℕ) (old new : GatheredState) → Comes d e m old new → Same e (λ i k. (i ≡ d) × (k ≡ e)) old new
+  comes_same zero old new c i k hi hk ne but = ap (λ (g : GatheredState). over_in g.shards g.lanes i k) c
+  comes_same (suc m) old new c i k hi hk ne but =
+      let n = comes_count m old c.0 c.1 in
+      one_same d e c.2.0 c.0 new c.2.1 i k (omega arith) (omega arith) ne but ∙ comes_same m old c.0 c.1 i k hi hk ne but
+
+  comes_taken : (m : ℕ) (old new : GatheredState) → Comes d e m old new → d < length old.shards → e < length old.shards → (d ≡ e → ⊥)
+      → over_in new.shards new.lanes d e ≡ drop m (over_in old.shards old.lanes d e)
+  comes_taken zero old new c d_in e_in ne = ap (λ (g : GatheredState). over_in g.shards g.lanes d e) c
+  comes_taken (suc m) old new c d_in e_in ne =
+      let n = comes_count m old c.0 c.1 in
+      one_taken d e c.2.0 c.0 new c.2.1 (omega arith) (omega arith) ne ∙ ap (drop 1) (comes_taken m old c.0 c.1 d_in e_in ne) ∙ drop_more m (over_in old.shards old.lanes d e)
+
+-- the desk e is come to from the desks below n
+module _ (e : ℕ) where
+  pub desk_count : (n : ℕ) (old new : GatheredState) → DeskComes n e old new → length new.shards ≡ length old.shards
+  desk_count zero old new c = ap (λ (g : GatheredState). length g.shards) c
+  desk_count (suc n) old new c = comes_count n e (length (over_in c.0.shards c.0.lanes n e)) c.0 new c.2 ∙ desk_count n old c.0 c.1
+
+  -- nothing changes between other desks
+  pub desk_same : (n : ℕ) (old new : GatheredState) → DeskComes n e old new → Same e (λ i k. k ≡ e) old new
+  desk_same zero old new c i k hi hk ne but = ap (λ (g : GatheredState). over_in g.shards g.lanes i k) c
+  desk_same (suc n) old new c i k hi hk ne but =
+      let m = desk_count n old c.0 c.1 in
+      comes_same n e (length (over_in c.0.shards c.0.lanes n e)) c.0 new c.2 i k (omega arith) (omega arith) ne (λ b. but b.1) ∙ desk_same n old c.0 c.1 i k hi hk ne but
+
+  -- and nothing is left over to it from those
+  pub desk_emptied : (n : ℕ) (old new : GatheredState) → DeskComes n e old new → n ≤ length old.shards → e < length old.shards
+      → (i : ℕ) → i < n → (i ≡ e → ⊥) → over_in new.shards new.lanes i e ≡ []
+  desk_emptied zero old new c n_in e_in i h ne = absurd (omega arith)
+  desk_emptied (suc n) old new c n_in e_in i h ne =
+      let m = desk_count n old c.0 c.1 in go (i == n) refl (λ less. desk_emptied n old c.0 c.1 (omega arith) e_in i less ne)
+    where
+      go : (b : Bool) → (i == n) ≡ b → (i < n → over_in c.0.shards c.0.lanes i e ≡ []) → over_in new.shards new.lanes i e ≡ []
+      go true q before =
+          let is : i ≡ n = eqb-true i n q in
+          let m = desk_count n old c.0 c.1 in
+          let other : n ≡ e → ⊥ = λ r. ne (is ∙ r) in
+          ap (λ j. over_in new.shards new.lanes j e) is
+          ∙ comes_taken n e (length (over_in c.0.shards c.0.lanes n e)) c.0 new c.2 (omega arith) (omega arith) other ∙ drop_all (over_in c.0.shards c.0.lanes n e)
+      go false q before =
+          let m = desk_count n old c.0 c.1 in
+          let not_n : i ≡ n → ⊥ = λ r. both_ways (i == n) q (eq-eqb i n r) in
+          comes_same n e (length (over_in c.0.shards c.0.lanes n e)) c.0 new c.2 i e (omega arith) (omega arith) ne (λ b. not_n b.0)
+          ∙ before (omega (arith, not_n))
+
+-- as many letters as were left over can come
+length_drop1 : (xs : List Letter) → length xs ≤ length (drop 1 xs) + 1
+length_drop1 [] = omega arith
+length_drop1 (x ∷ xs) = omega arith
+
+module _ (d e : ℕ) where
+  pub comes_left : (m : ℕ) (old new : GatheredState) → Comes d e m old new → d < length old.shards → e < length old.shards
+      → length (over_in old.shards old.lanes d e) ≤ m + length (over_in new.shards new.lanes d e)
+  comes_left zero old new c d_in e_in = let a = ap (λ (g : GatheredState). length (over_in g.shards g.lanes d e)) c in omega arith
+  comes_left (suc m) old new c d_in e_in =
+      let n = comes_count d e m old c.0 c.1 in
+      let before = comes_left m old c.0 c.1 d_in e_in in
+      let left = c.2.1.left d e (omega arith) (omega arith) in
+      let more : List Letter = cond (d == e) (replies_to c.0.config.start e c.2.0 (journals c.0 e) e) [] in
+      let at : over_in new.shards new.lanes d e ≡ drop 1 (over_in c.0.shards c.0.lanes d e) ++ more
+      = left ∙ rw (eq-eqb d d refl, eq-eqb e e refl) refl in
+      let count = ap length at ∙ length-append (drop 1 (over_in c.0.shards c.0.lanes d e)) more in
+      let one = length_drop1 (over_in c.0.shards c.0.lanes d e) in
+      omega arith
+
+-- one more does not come
+pub lane_stops : (d e k : ℕ) (old mid new : GatheredState) (stop : Stop) → Comes d e k old mid → k < length (over_in old.shards old.lanes d e) → Steps d e mid (Err stop) new → LaneStops e d stop old new
+lane_stops d e k old mid new stop comes within s =
+    subst (LaneStops e d stop old) (sym s.3) (record { count = k; comes = comes; before_end = within; next = s.0; oldest = s.2; refused = s.1 })
+
+-- which desks may have letters left over to them --------------------------------------------
+
+marked : (n e : ℕ) → get_or (replicate n true) e true ≡ true
+marked zero zero = refl
+marked zero (suc e) = refl
+marked (suc n) zero = refl
+marked (suc n) (suc e) = marked n e
+
+pub waits_at_first : (n : ℕ) (g : GatheredState) → Waits (replicate n true) g
+waits_at_first n g e h off = absurd (both_ways (get_or (replicate n true) e true) off (marked n e))
+
+-- the marks after letters came to desk e, of which those sent on were marked
+pub waits_after : (e : ℕ) (old new : GatheredState) (waits after : List Bool) → e < length old.shards → e < length waits → Waits waits old → DeskComes (length old.shards) e old new
+    → Marks e (length new.shards) new (set waits e false) after → Waits after new
+waits_after e old new waits after e_in room before comes marks k k_in unmarked i i_in =
+    go (i == e) refl
+  where
+    count : length new.shards ≡ length old.shards
+    count = desk_count e (length old.shards) old new comes
+
+    go : (b : Bool) → (i == e) ≡ b → over_in new.shards new.lanes i k ≡ []
+    go true q = ap (λ j. over_in new.shards new.lanes j k) (eqb-true i e q) ∙ marks.2 k k_in unmarked
+    go false q = other (k == e) refl
+      where
+        ne : i ≡ e → ⊥
+        ne r = both_ways (i == e) q (eq-eqb i e r)
+
+        other : (b : Bool) → (k == e) ≡ b → over_in new.shards new.lanes i k ≡ []
+        other true p = ap (over_in new.shards new.lanes i) (eqb-true k e p) ∙ desk_emptied e (length old.shards) old new comes (le_refl (length old.shards)) e_in i (omega (arith, i_in, count)) ne
+        other false p =
+            let not_e : k ≡ e → ⊥ = λ r. both_ways (k == e) p (eq-eqb k e r) in
+            let was : get_or waits k true ≡ false = sym (get_or-set_other waits e k false true not_e) ∙ marks.1 k unmarked in
+            desk_same e (length old.shards) old new comes i k (omega (arith, i_in, count)) (omega (arith, k_in, count)) ne not_e ∙ before k (omega (arith, k_in, count)) was i (omega (arith, i_in, count))
+
+-- one mark more, or none
+module _ (d n : ℕ) (g : GatheredState) (old : List Bool) where
+  pub marks_none : Marks d 0 g old old
+  marks_none = (refl, λ k h. h, λ k h u. absurd (omega arith))
+
+  pub marks_set : (k : ℕ) (now : List Bool) → k < length now → Marks d k g old now → Marks d (k + 1) g old (set now k true)
+  marks_set k now room m = (length-set now k true ∙ m.0, kept, found)
+    where
+      off : (j : ℕ) → get_or (set now k true) j true ≡ false → (j ≡ k → ⊥) × (get_or now j true ≡ false)
+      off j u = go (j == k) refl
+        where
+          go : (b : Bool) → (j == k) ≡ b → (j ≡ k → ⊥) × (get_or now j true ≡ false)
+          go true q = absurd (both_ways (get_or (set now k true) j true) u (ap (λ i. get_or (set now k true) i true) (eqb-true j k q) ∙ get_or-set_same now k true true room))
+          go false q = let ne : j ≡ k → ⊥ = λ r. both_ways (j == k) q (eq-eqb j k r) in (ne, sym (get_or-set_other now k j true true ne) ∙ u)
+
+      kept : (j : ℕ) → get_or (set now k true) j true ≡ false → get_or old j true ≡ false
+      kept j u = m.1 j (off j u).1
+
+      found : (j : ℕ) → j < k + 1 → get_or (set now k true) j true ≡ false → over_in g.shards g.lanes d j ≡ []
+      found j h u = let o = off j u in m.2 j (omega (arith, o.0)) o.1
+
+  pub marks_skip : (k : ℕ) (now : List Bool) → over_in g.shards g.lanes d k ≡ [] → Marks d k g old now → Marks d (k + 1) g old now
+  marks_skip k now empty m = (m.0, m.1, λ j h u. below_more (λ j. get_or now j true ≡ false → over_in g.shards g.lanes d j ≡ []) k (λ j l. m.2 j l) (λ u. empty) j h u)

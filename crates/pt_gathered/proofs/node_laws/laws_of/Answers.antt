@@ -1,0 +1,27 @@
+use Rattle.pt_gathered.proofs.Lawful.{lanes_agree, keeps_headline, legal_node, is_bounded, quiet_node, links_stand, watches_stand}
+use Rattle.pt_gathered.proofs.node_laws.laws_of.Goals as goal
+
+pub returns-clause-lanes : goal.returns-clause-lanes
+returns-clause-lanes c = lanes_agree c.args.gathered.now c.desks-desks.ensures.gathered
+
+pub returns-clause-headline : goal.returns-clause-headline
+returns-clause-headline c = keeps_headline c.args.gathered.now c.desks-desks.ensures.gathered c.headline_holds.ensures c.one_down.ensures.empty
+
+pub returns-clause-legal : goal.returns-clause-legal
+returns-clause-legal c = legal_node c.args.gathered.now c.desks-desks.ensures.gathered c.merge_is_legal.ensures
+
+pub returns-clause-bounded : goal.returns-clause-bounded
+returns-clause-bounded c new settles = is_bounded c.load_by_desk_falls.ensures.merge c.args.gathered.now new c.desks-desks.ensures.gathered settles
+
+pub returns-clause-quiet : goal.returns-clause-quiet
+returns-clause-quiet c none = quiet_node c.args.gathered.now c.desks-desks.ensures.gathered c.merge_is_legal.ensures c.receipts_lower_the_load.ensures.empty none
+
+pub returns-clause-links : goal.returns-clause-links
+returns-clause-links c none =
+    let whole = c.desks-desks.ensures.gathered in
+    links_stand c.args.gathered.now whole (quiet_node c.args.gathered.now whole c.merge_is_legal.ensures c.receipts_lower_the_load.ensures.empty none) c.merge_links.ensures
+
+pub returns-clause-watches : goal.returns-clause-watches
+returns-clause-watches c none =
+    let whole = c.desks-desks.ensures.gathered in
+    watches_stand c.args.gathered.now whole (quiet_node c.args.gathered.now whole c.merge_is_legal.ensures c.receipts_lower_the_load.ensures.empty none) c.quiet_monitors.ensures.monitors c.quiet_monitors.ensures.watches

@@ -1,0 +1,25 @@
+use Rattle.std.proofs.Common.{◌≡◌, ◌<◌, true, false, get_or, length, set, sym, ap, ◌∙◌, subst, arith}
+use Rattle.std.proofs.lemmas.List.{length-set, get_or_default}
+use Rattle.pt_gathered.specs.Waits.{Marks}
+use Rattle.pt_gathered.proofs.Ordering.{nothing_comes, waits_after}
+use Rattle.pt_gathered.proofs.settling.settle_desk.Goals as goal
+
+pub returns-then-not-waits-from-clause-order : goal.returns-then-not-waits-from-clause-order
+returns-then-not-waits-from-clause-order c =
+    let g = c.args.gathered.now in
+    let waits = c.args.waits.now in
+    let e = c.args.e in
+    let room : e < length waits = omega (arith, c.told-waits, c.desks-desks.ensures.few, c.requires.desk) in
+    nothing_comes (length g.shards) e g
+    (c.requires.waits e c.requires.desk (get_or_default waits e true false room ∙ ap (λ k. get_or waits k false) (sym c.from.ensures) ∙ c.if-not-waits-from.true))
+
+pub returns-clause-waits : goal.returns-clause-waits
+returns-clause-waits c =
+    let old = c.args.gathered.now in
+    let new = c.settle_to.new.gathered in
+    let waits = c.args.waits.now in
+    let e = c.args.e in
+    let marks : Marks e (length new.shards) new (set waits e false) c.mark.new.waits
+    = subst (λ k. Marks e (length new.shards) new (set waits k false) c.mark.new.waits) c.from-2.ensures c.mark.ensures in
+    let room : e < length waits = omega (arith, c.mark.array_long, marks.0, length-set waits e false, c.desks-desks.ensures.few, c.requires.desk) in
+    waits_after e old new waits c.mark.new.waits c.requires.desk room c.requires.waits c.in-Ok.ensures.order marks

@@ -1,0 +1,12 @@
+use Rattle.std.proofs.Common.{◌≡◌, ◌<◌}
+use Rattle.std.specs.Bool.{MatchBool}
+use Rattle.pt_gathered.specs.Settling.{Runs, event_count}
+use Rattle.pt_gathered.specs.Order.{Comes}
+use Rattle.pt_gathered.proofs.settling.settle_lane.Given as goal
+
+abbrev pub invariant-loop-k : goal.invariant-loop-k
+invariant-loop-k l = record {
+  runs : Runs l.fn.gathered l.fn.handled l.gathered l.handled;
+  moved : MatchBool l.moved (event_count l.fn.gathered < event_count l.gathered) ((l.gathered ≡ l.fn.gathered) × (l._k ≡ 0));
+  comes : Comes l.d l.e l._k l.fn.gathered l.gathered;
+}

@@ -1,0 +1,12 @@
+use Rattle.std.proofs.Common.{◌≡◌, ◌<◌}
+use Rattle.std.specs.Bool.{MatchBool}
+use Rattle.pt_gathered.specs.Settling.{Runs, NothingTo, event_count}
+use Rattle.pt_gathered.specs.Order.{DeskComes}
+use Rattle.pt_gathered.proofs.settling.settle_to.Given as goal
+
+abbrev pub invariant-loop-d : goal.invariant-loop-d
+invariant-loop-d l = record {
+  runs : Runs l.fn.gathered l.fn.handled l.gathered l.handled;
+  moved : MatchBool l.moved (event_count l.fn.gathered < event_count l.gathered) ((l.gathered ≡ l.fn.gathered) × NothingTo l.d l.e l.fn.gathered);
+  order : DeskComes l.d l.e l.fn.gathered l.gathered;
+}

@@ -1,0 +1,53 @@
+-- The desks of a node without their lanes, and the letters left over.
+use Rattle.std.specs.Prelude.{◌≡◌, ℕ, ◌+◌, ◌*◌, ◌<◌, ◌==◌, ◌&&◌, nat_lt, Bool, cond, List, [], ◌∷◌, ◌++◌, length, map, drop, slice_index_or, Option, Some, None}
+use Rattle.pt_signal.specs.declared.letter.Letter.{Letter}
+use Rattle.pt_events.specs.declared.event.Stamped.{Stamped}
+use Rattle.pt_events.specs.Journal.{Journals, posts, gots, Agrees}
+use Rattle.pt_shard.specs.declared.config.Config.{Config}
+use Rattle.pt_shard.specs.ShardState.{ShardState}
+use Rattle.pt_shard.specs.Fit.{IsFit}
+
+-- the lane from desk d to desk e stands at d * desks + e
+pub record GatheredState : Type 0 where
+  pub config : Config
+  pub shards : List ShardState
+  pub lanes : List (List Letter)
+
+abbrev pub journal_at : List ShardState → Journals
+journal_at shards d = slice_index_or (map (λ (s : ShardState). s.journal) shards) d []
+
+abbrev pub box_at : List ShardState → ℕ → ℕ → List Letter
+box_at shards d e = slice_index_or (slice_index_or (map (λ (s : ShardState). s.outbox) shards) d []) e []
+
+abbrev pub hold_at : List ShardState → ℕ → Option Letter
+hold_at shards e = slice_index_or (map (λ (s : ShardState). s.hold) shards) e None
+
+-- the letter in the hold, if it is from desk d
+abbrev pub held_from : ℕ → Option Letter → List Letter
+held_from d None = []
+held_from d (Some l) = cond (l.from.shard == d) (l ∷ []) []
+
+-- what is left over from desk d to desk e: the letter in the hold, those in the lane, those that were not posted
+abbrev pub over_in : List ShardState → List (List Letter) → ℕ → ℕ → List Letter
+over_in shards lanes d e = held_from d (hold_at shards e) ++ slice_index_or lanes (d * length shards + e) [] ++ box_at shards d e
+
+abbrev pub are_both : Bool → Bool → List Letter → List Letter
+are_both a b over = cond a (cond b over []) []
+
+abbrev pub over : GatheredState → ℕ → ℕ → List Letter
+over g d e = are_both (nat_lt d (length g.shards)) (nat_lt e (length g.shards)) (over_in g.shards g.lanes d e)
+
+abbrev pub journals : GatheredState → Journals
+journals g = journal_at g.shards
+
+-- the desk number d of the node, without its lanes
+pub record IsShardOf (config : Config) (d : ℕ) (s : ShardState) : Type 0 where
+  pub number : s.number ≡ d
+  pub config_is : s.config ≡ config
+  pub fit : IsFit s
+
+pub record IsGathered (g : GatheredState) : Type 0 where
+  pub desks : length g.shards ≡ g.config.desks
+  pub lanes : length g.lanes ≡ length g.shards * length g.shards
+  pub shards : (d : ℕ) (x : ShardState) → d < length g.shards → IsShardOf g.config d (slice_index_or g.shards d x)
+  pub agree : (d e : ℕ) → d < length g.shards → e < length g.shards → Agrees (posts [] (journals g d) e) (gots (journals g e) d) (over_in g.shards g.lanes d e)

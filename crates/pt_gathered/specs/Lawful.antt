@@ -1,0 +1,49 @@
+-- What the laws of histories say of a node whose desks were gathered, and of one that was settled.
+use Rattle.std.specs.Prelude.{◌≡◌, ℕ, ◌+◌, ◌≤◌, true, false, List, []}
+use Rattle.pt_signal.specs.declared.pid.Pid.{Pid}
+use Rattle.pt_signal.specs.declared.ids.Ref.{Ref}
+use Rattle.pt_signal.specs.Values.{same_pid}
+use Rattle.pt_events.specs.declared.event.Stamped.{Stamped}
+use Rattle.pt_events.specs.History.{IsLegal, life, alive}
+use Rattle.pt_events.specs.Journal.{events, LanesAgree, IsMerge}
+use Rattle.pt_laws.specs.Laws.{LegalWithLeftOver}
+use Rattle.pt_laws.specs.Load.{IsQuiet, load}
+use Rattle.pt_laws.specs.Links.{LinksAgree}
+use Rattle.pt_laws.specs.Headline.{IsHeadline}
+use Rattle.pt_laws.specs.Watch.{said_to, is_monitor, open_in, kept_in}
+use Rattle.pt_laws.specs.MonitorLaws.{demonitors_and_downs}
+use Rattle.pt_gathered.specs.Gathered.{GatheredState, journals, over}
+use Rattle.pt_gathered.specs.Settling.{event_count}
+
+-- the merge is legal, and what is in flight in it is what is left over
+abbrev pub IsLegalNode : GatheredState → Type 0
+IsLegalNode g = (merged : List Stamped) → IsMerge (journals g) merged → LegalWithLeftOver [] merged (over g)
+
+-- what each desk sent each other is what came there, in order, and then what is left over
+abbrev pub LanesKeep : GatheredState → Type 0
+LanesKeep g = LanesAgree [] (journals g) (over g)
+
+-- the headline, of all mailboxes of the node
+abbrev pub KeepsHeadline : GatheredState → Type 0
+KeepsHeadline g = IsHeadline [] (journals g) (over g)
+
+-- the merge is legal and quiet
+abbrev pub IsQuietNode : GatheredState → Type 0
+IsQuietNode g = (merged : List Stamped) → IsMerge (journals g) merged → IsLegal [] (events merged) × IsQuiet [] (events merged)
+
+-- the added events number at most the load of the history before
+abbrev pub IsBounded : GatheredState → GatheredState → Type 0
+IsBounded old new = (merged : List Stamped) → IsMerge (journals old) merged → event_count new ≤ event_count old + load [] (events merged)
+
+-- links stand at both ends, or at neither
+abbrev pub LinksStand : GatheredState → Type 0
+LinksStand g =
+    (merged : List Stamped) (p q : Pid) → IsMerge (journals g) merged → same_pid p q ≡ false → alive [] (events merged) p ≡ true → LinksAgree [] (events merged) p q
+
+-- a monitor of a live w was demonitored, or had its one DOWN, or is open at w and kept by a live t; of a w that ended none is kept
+abbrev pub WatchesStand : GatheredState → Type 0
+WatchesStand g =
+    (merged : List Stamped) (w t : Pid) (m : Ref) → IsMerge (journals g) merged
+    → (alive [] (events merged) w ≡ true → said_to w t (is_monitor m) (events merged) ≡ 1
+    → (demonitors_and_downs [] (events merged) w m + kept_in w t m (life [] (events merged) t) ≡ 1) × (open_in w t m (life [] (events merged) w) ≡ kept_in w t m (life [] (events merged) t)))
+    × (alive [] (events merged) w ≡ false → kept_in w t m (life [] (events merged) t) ≡ 0)

@@ -1,0 +1,49 @@
+//! The desks of a node, gathered: their journals, the letters left over, the one history, and settling.
+//!
+//! ```
+//! for left in gathered.left_over()? {
+//!     println!(rt; "{left}")?;                     // left-over 0 -> 1 <0.0.1> -> <1.0.1> message 1 7 @2
+//! }
+//! for stamped in gathered.history()? {
+//!     println!(rt; "{stamped}")?;                  // 1@0 born <0.0.1>
+//! }
+//! match gathered.settle() {
+//!     Ok(quiet) => ..                              // quiet.history(), quiet.handled()
+//!     Err(unsettled) => ..                         // unsettled.fault, and unsettled.gathered to go on from
+//! }
+//! ```
+//!
+//! # What is left over
+//!
+//! A letter that was sent and did not come stands in the hold of its receiver's desk, in the lane between the two
+//! desks, or in the outbox of its sender's desk. [`Gathered::left_over`] lists them by sending desk, then by receiving
+//! desk, oldest first. What each desk sent each other is what came there, in order, and then what is left over.
+//!
+//! # The history
+//!
+//! [`Gathered::history`] is the list of all events that rises by (stamp, desk). It is legal: each event may come after
+//! those before it, and each journal stands in it whole and in its order.
+//!
+//! # Settling
+//!
+//! [`Gathered::settle`] takes the letters left over to their receivers, pass by pass, until there are none. Each
+//! journal gets receipts alone, at most as many as the load of the history before: the letters left over, the links
+//! and monitors among them twice, and each link, watch and monitor that a live process has. Then links stand at both
+//! ends or at neither, and each monitor of a live process was given up, had its one `DOWN`, or is open and kept.
+//!
+//! # Cost
+//!
+//! A letter that settling handles costs its receipt and a few tests for each desk; desks to which nothing is left over
+//! are not looked at. No list of letters is moved and no journal is copied. `history` takes the logarithm of the
+//! number of desks for each event.
+#![tactic(auto, unfolding(crate::specs::Text::left_over_text))]
+
+mod gathered;
+mod left_over;
+mod node_laws;
+mod settling;
+
+pub use gathered::{Gathered, Lane};
+pub use left_over::LeftOver;
+pub use node_laws::laws_of;
+pub use settling::{Quiet, Unsettled};

@@ -1,0 +1,208 @@
+// The letters left over come to their receivers.
+
+ghost use Rattle.std.specs.Prelude.{◌≡◌, ℕ, ◌<◌, ◌≤◌, length, reverse, [], OnOk, IfOk, IfErr};
+ghost use Rattle.pt_events.specs.Journal.{IsMerge};
+ghost use Rattle.pt_laws.specs.Laws.{LegalWithLeftOver};
+ghost use Rattle.pt_gathered.specs.Gathered.{journals, over, over_in};
+ghost use Rattle.pt_gathered.specs.Settling.{Runs, Moves, Settles, NothingLeft, NothingTo, NothingBelow};
+ghost use Rattle.pt_gathered.specs.Order.{Passes, PassesStop, Pass, PassStops, DeskComes, DeskStops, LaneComes, LaneStops};
+ghost use Rattle.pt_gathered.specs.Waits.{Waits, Marks};
+ghost use Rattle.pt_gathered.specs.Lawful.{LanesKeep, KeepsHeadline, IsLegalNode, IsQuietNode, IsBounded, LinksStand, WatchesStand};
+
+use crate::gathered::Gathered;
+use crate::node_laws::laws_of;
+use pt_events::Stamped;
+use pt_shard::Stop;
+use std::alloc::AllocError;
+
+/// A node whose settling was refused, with what was handled so far.
+#[derive(Drop)]
+pub struct Unsettled {
+    /// Why.
+    pub fault: Stop,
+    /// The node as it is now.
+    pub gathered: Gathered,
+}
+
+/// A node in which no letter is left over.
+#[derive(Drop)]
+pub struct Quiet {
+    gathered: Gathered,
+    handled: u64,
+}
+
+impl Quiet {
+    /// How many letters were handled, staying at `u64::MAX` once it is reached.
+    pub fn handled(&self) -> u64
+        ensures { result ≡ self.now.handled }
+    {
+        self.handled
+    }
+
+    /// The events of all desks in the order of stamp, then desk: a legal history in which nothing is on its way.
+    pub fn history(&self) -> Result<Vec<Stamped>, AllocError>
+        ensures merge { IfOk result (λ h. IsMerge (journals self.now.gathered) (reverse h.items)) }
+        ensures legal { IfOk result (λ h. LegalWithLeftOver [] (reverse h.items) (over self.now.gathered)) }
+    {
+        self.gathered.history()
+    }
+}
+
+impl Gathered {
+    /// Brings the letters left over to their receivers, pass by pass, until there are none.
+    ///
+    /// In a pass, for each receiving desk from 0 and each sending desk from 0, the letters come that are left over
+    /// between the two when it is come to them, oldest first; what is sent meanwhile comes at a later place of the same
+    /// pass, or in a later one. Each journal gets receipts alone, and no more of them all than the load of the history
+    /// before. The merge of the journals is then legal and quiet: links stand at both ends or at neither, and each
+    /// monitor of a live process was given up, had its one `DOWN`, or is open and kept.
+    ///
+    /// Where a receipt is refused, as `Worn` where its stamp would pass the limit of clocks, else as `Memory`, the node
+    /// comes back with what was handled so far, of which all holds that holds of a gathered node; settling it again
+    /// goes on from there. A letter costs what its receipt costs, and a few tests for each desk.
+    pub fn settle(self) -> Result<Quiet, Unsettled>
+        ensures order { IfOk result (λ q. (count : ℕ) × Passes (length self.shards) count self q.gathered) }
+        ensures runs { IfOk result (λ q. Runs self 0 q.gathered q.handled) }
+        ensures nothing_left { IfOk result (λ q. NothingLeft q.gathered) }
+        ensures bounded { IfOk result (λ q. IsBounded self q.gathered) }
+        ensures quiet { IfOk result (λ q. IsQuietNode q.gathered) }
+        ensures links { IfOk result (λ q. LinksStand q.gathered) }
+        ensures watches { IfOk result (λ q. WatchesStand q.gathered) }
+        ensures refused { IfErr result (λ u. Settles self u.gathered) }
+        ensures refused_order { IfErr result (λ u. PassesStop (length self.shards) u.fault self u.gathered) }
+        ensures refused_bounded { IfErr result (λ u. IsBounded self u.gathered) }
+        ensures refused_lanes { IfErr result (λ u. LanesKeep u.gathered) }
+        ensures refused_headline { IfErr result (λ u. KeepsHeadline u.gathered) }
+        ensures refused_legal { IfErr result (λ u. IsLegalNode u.gathered) }
+    {
+        laws_of(&self);
+        let mut gathered = self;
+        let mut waits = [true; 64];
+        let mut handled = 0;
+        let mut more = true;
+        while more {
+            match pass(&mut gathered, &mut waits, &mut handled) {
+                Ok(moved) => more = moved,
+                Err(fault) => {
+                    laws_of(&gathered);
+                    return Err(Unsettled { fault, gathered });
+                }
+            }
+        }
+        laws_of(&gathered);
+        Ok(Quiet { gathered, handled })
+    }
+}
+
+// One pass: each receiving desk, from desk 0. A desk that is not marked in `waits` has nothing left over to it.
+fn pass(gathered: &mut Gathered, waits: &mut [bool; 64], handled: &mut u64) -> Result<bool, Stop>
+    requires { Waits waits.old gathered.old }
+    ensures runs { Runs gathered.old handled.old gathered.new handled.new }
+    ensures moves { Moves (NothingBelow (length gathered.old.shards) gathered.old) gathered.old result gathered.new }
+    ensures waits { OnOk result (Waits waits.new gathered.new) }
+    ensures order { OnOk result (Pass (length gathered.old.shards) 0 gathered.old gathered.new) }
+    ensures stops { IfErr result (λ stop. PassStops (length gathered.old.shards) stop gathered.old gathered.new) }
+{
+    let _before = *handled;
+    let mut moved = false;
+    for e in 0..gathered.desks() {
+        match settle_desk(gathered, e, waits, handled) {
+            Ok(some) => {
+                if some {
+                    moved = true;
+                }
+            }
+            Err(stop) => return Err(stop),
+        }
+    }
+    Ok(moved)
+}
+
+// The letters to desk e, if it is marked.
+fn settle_desk(
+    gathered: &mut Gathered,
+    e: u8,
+    waits: &mut [bool; 64],
+    handled: &mut u64,
+) -> Result<bool, Stop>
+    requires desk { e < length gathered.old.shards }
+    requires waits { Waits waits.old gathered.old }
+    ensures runs { Runs gathered.old handled.old gathered.new handled.new }
+    ensures moves { Moves (NothingTo (length gathered.old.shards) e gathered.old) gathered.old result gathered.new }
+    ensures waits { OnOk result (Waits waits.new gathered.new) }
+    ensures order { OnOk result (DeskComes (length gathered.old.shards) e gathered.old gathered.new) }
+    ensures stops { IfErr result (λ stop. DeskStops (length gathered.old.shards) e stop gathered.old gathered.new) }
+{
+    let _before = *handled;
+    let _desks = gathered.desks();
+    if !waits[usize::from(e)] {
+        return Ok(false);
+    }
+    let moved = match settle_to(gathered, e, handled) {
+        Ok(moved) => moved,
+        Err(stop) => return Err(stop),
+    };
+    waits[usize::from(e)] = false;
+    mark(gathered, e, waits);
+    Ok(moved)
+}
+
+// Marks the desks to which letters are left over from desk d.
+fn mark(gathered: &Gathered, d: u8, waits: &mut [bool; 64])
+    requires { d < length gathered.now.shards }
+    ensures { Marks d (length gathered.now.shards) gathered.now waits.old waits.new }
+{
+    for k in 0..gathered.desks() {
+        if gathered.count_over(d, k) > 0 {
+            waits[usize::from(k)] = true;
+        }
+    }
+}
+
+// The letters to desk e: each sending desk, from desk 0.
+fn settle_to(gathered: &mut Gathered, e: u8, handled: &mut u64) -> Result<bool, Stop>
+    requires { e < length gathered.old.shards }
+    ensures runs { Runs gathered.old handled.old gathered.new handled.new }
+    ensures moves { Moves (NothingTo (length gathered.old.shards) e gathered.old) gathered.old result gathered.new }
+    ensures order { OnOk result (DeskComes (length gathered.old.shards) e gathered.old gathered.new) }
+    ensures stops { IfErr result (λ stop. DeskStops (length gathered.old.shards) e stop gathered.old gathered.new) }
+{
+    let _before = *handled;
+    let mut moved = false;
+    for d in 0..gathered.desks() {
+        match settle_lane(gathered, d, e, handled) {
+            Ok(some) => {
+                if some {
+                    moved = true;
+                }
+            }
+            Err(stop) => return Err(stop),
+        }
+    }
+    Ok(moved)
+}
+
+// The letters that are now left over from desk d to desk e.
+fn settle_lane(gathered: &mut Gathered, d: u8, e: u8, handled: &mut u64) -> Result<bool, Stop>
+    requires { (d < length gathered.old.shards) × (e < length gathered.old.shards) }
+    ensures runs { Runs gathered.old handled.old gathered.new handled.new }
+    ensures moves { Moves (over_in gathered.old.shards gathered.old.lanes d e ≡ []) gathered.old result gathered.new }
+    ensures order { OnOk result (LaneComes e d gathered.old gathered.new) }
+    ensures stops { IfErr result (λ stop. LaneStops e d stop gathered.old gathered.new) }
+{
+    let count = gathered.count_over(d, e);
+    let _before = *handled;
+    let mut moved = false;
+    for _k in 0..count {
+        let more = match gathered.step(d, e) {
+            Ok(more) => more,
+            Err(stop) => return Err(stop),
+        };
+        if !more {
+            return Ok(moved);
+        }
+        *handled = handled.saturating_add(1);
+        moved = true;
+    }
+    Ok(moved)
+}

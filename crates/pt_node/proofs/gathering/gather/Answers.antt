@@ -1,0 +1,46 @@
+use Rattle.std.proofs.Common.{◌≡◌, List, map, refl, sym, ap, ◌∙◌, subst}
+use Rattle.std.proofs.lemmas.Simd.{map-map}
+use Rattle.pt_carrier.specs.Ends.{OutEnds, InEnds}
+use Rattle.pt_carrier.specs.Node.{places, kept, IsNode, AreLeft, lists}
+use Rattle.pt_gathered.specs.Gathered.{GatheredState}
+use Rattle.pt_desk.specs.DeskState.{DeskState, place}
+use Rattle.pt_node.specs.Desks.{AreDesksOf, AreAccounted, AreWhole, all_ends, all_shards}
+use Rattle.pt_node.specs.Gathering.{Gathers}
+use Rattle.pt_node.proofs.Together.{gathered_whole, same_journals}
+use Rattle.pt_node.proofs.Wholes.{whole_accounted, accounted_kept, accounted_count, desks_kept}
+use Rattle.pt_node.proofs.gathering.gather.Goals as goal
+
+pub reunite-requires : goal.reunite-requires
+reunite-requires c =
+    let desks = c.args.desks.items in
+    subst IsNode (sym (ap (map places) c.take_apart.ensures.pairs ∙ map-map places (λ (d : DeskState). (d.outs, d.ins)) desks)) c.requires.1.node
+
+pub of-gathered-requires : goal.of-gathered-requires
+of-gathered-requires c =
+    let desks = c.args.desks.items in
+    let node = c.requires.1 in
+    let r = c.index.result.now in
+    let config_is : c.config-config.result ≡ c.requires.0 = c.config-config.ensures ∙ ap (λ (d : DeskState). d.shard.config) c.index.ensures ∙ node.configs 0 r node.some in
+    let left : AreLeft (all_ends desks) c.fill.new.lanes.items
+    = subst (AreLeft (all_ends desks)) (sym c.fill.ensures) (subst (λ p. AreLeft p (lists c.in-Ok-reunite.left.lanes.items)) c.take_apart.ensures.pairs c.in-Ok-reunite.ensures.ok) in
+    gathered_whole desks (record { config = c.config-config.result; shards = c.take_apart.new.shards.items; lanes = c.fill.new.lanes.items })
+    (subst AreWhole c.as_slice.ensures.value c.look.ensures)
+    (record { node = subst (λ k. AreDesksOf k desks) (sym config_is) node; shards = c.take_apart.ensures.shards; left = left })
+
+pub make_whole-requires-clause-accounted : goal.make_whole-requires-clause-accounted
+make_whole-requires-clause-accounted c =
+    let desks = c.args.desks.items in
+    let back : map kept c.into_ends.result.items ≡ map kept (all_ends desks)
+    = ap (map kept) c.into_ends.ensures ∙ c.in-Err.ensures.back ∙ ap (map kept) c.take_apart.ensures.pairs in
+    accounted_kept c.take_apart.new.shards.items (all_ends desks) c.into_ends.result.items back
+    (subst (λ s. AreAccounted s (all_ends desks)) (sym c.take_apart.ensures.shards) (whole_accounted desks (subst AreWhole c.as_slice.ensures.value c.look.ensures)))
+
+pub returns-in-Ok-reunite-clause-journals : goal.returns-in-Ok-reunite-clause-journals
+returns-in-Ok-reunite-clause-journals c =
+    same_journals c.args.desks.items c.of-gathered.result (ap (λ (g : GatheredState). g.shards) c.of-gathered.ensures ∙ c.take_apart.ensures.shards)
+
+pub returns-in-Err-clause-back : goal.returns-in-Err-clause-back
+returns-in-Err-clause-back c =
+    let desks = c.args.desks.items in
+    desks_kept c.make_whole.new.desks.items desks (c.make_whole.ensures.shards ∙ c.take_apart.ensures.shards)
+    (ap (map kept) (c.make_whole.ensures.pairs ∙ c.into_ends.ensures) ∙ c.in-Err.ensures.back ∙ ap (map kept) c.take_apart.ensures.pairs)

@@ -1,0 +1,16 @@
+use Rattle.std.proofs.Common.{◌≡◌, ◌+◌, ◌≤◌, ◌++◌, vec_len}
+use Rattle.std.specs.Vec.{vec_capacity}
+use Rattle.pt_node.specs.Desks.{all_ends, all_shards}
+use Rattle.pt_node.proofs.making.take_apart.Given as goal
+
+abbrev pub invariant-loop-desks : goal.invariant-loop-desks
+invariant-loop-desks l = record {
+  pairs : l.pairs.items ++ all_ends l.desks.items ≡ all_ends l.fn.desks.items;
+  shards : l.shards.items ++ all_shards l.desks.items ≡ all_shards l.fn.desks.items;
+  capacity : vec_capacity l.desks ≡ vec_capacity l.fn.desks;
+  pair_room : vec_len l.pairs + vec_len l.desks ≤ vec_capacity l.pairs;
+  shard_room : vec_len l.shards + vec_len l.desks ≤ vec_capacity l.shards;
+}
+
+abbrev pub decreases-loop-desks : goal.decreases-loop-desks
+decreases-loop-desks l = vec_len l.desks

@@ -1,0 +1,18 @@
+use Rattle.std.proofs.Common.{◌≡◌, length, rules, arith}
+use Rattle.pt_shard.specs.Opening.{IsInRange}
+use Rattle.pt_node.proofs.Fresh.{fresh_accounted, fresh_desks}
+use Rattle.pt_node.proofs.opening.open.Goals as goal
+
+pub make_whole-requires-clause-accounted : goal.make_whole-requires-clause-accounted
+make_whole-requires-clause-accounted c =
+    let count : length c.in-Ok-open.pairs.items ≡ c.args.config.desks = omega (arith, c.in-Ok-open.ensures.count, c.in-Ok-open.pairs.ok.0) in
+    fresh_accounted c.args.config c.in-Ok.shards.items c.in-Ok-open.pairs.items c.in-Ok.ensures count c.in-Ok-open.ensures.node c.in-Ok-open.ensures.new
+
+pub returns : goal.returns
+returns c =
+    let count : length c.in-Ok-open.pairs.items ≡ c.args.config.desks = omega (arith, c.in-Ok-open.ensures.count, c.in-Ok-open.pairs.ok.0) in
+    let range : IsInRange c.args.config = search rules in (
+      range,
+      fresh_desks c.args.config c.in-Ok.shards.items c.in-Ok-open.pairs.items c.in-Ok.ensures count c.in-Ok-open.ensures.node c.in-Ok-open.ensures.new range
+          c.make_whole.new.desks.items c.make_whole.ensures.pairs c.make_whole.ensures.shards,
+    )

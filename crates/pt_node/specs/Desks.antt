@@ -1,0 +1,38 @@
+-- The desks of one node.
+use Rattle.std.specs.Prelude.{◌≡◌, ℕ, ◌<◌, List, [], ◌∷◌, length, map, slice_index_or, ⊤}
+use Rattle.pt_signal.specs.declared.letter.Letter.{Letter}
+use Rattle.pt_carrier.specs.Ends.{Place, OutEnds, InEnds}
+use Rattle.pt_carrier.specs.Node.{IsNode, kept}
+use Rattle.pt_shard.specs.declared.config.Config.{Config}
+use Rattle.pt_shard.specs.ShardState.{ShardState}
+use Rattle.pt_desk.specs.DeskState.{DeskState, IsDesk, IsAccounted, place}
+
+-- all desks of one opening with these settings, each once and in order: no call of a desk changes its settings or its place
+pub record AreDesksOf (config : Config) (desks : List DeskState) : Type 0 where
+  pub some : 0 < length desks
+  pub count : length desks ≡ config.desks
+  pub node : IsNode (map place desks)
+  pub configs : (d : ℕ) (x : DeskState) → d < length desks → (slice_index_or desks d x).shard.config ≡ config
+
+abbrev pub AreDesks : List DeskState → Type 0
+AreDesks desks = (config : Config) × AreDesksOf config desks
+
+abbrev pub all_ends : List DeskState → List (OutEnds × InEnds)
+all_ends desks = map (λ (d : DeskState). (d.outs, d.ins)) desks
+
+abbrev pub all_shards : List DeskState → List ShardState
+all_shards desks = map (λ (d : DeskState). d.shard) desks
+
+-- all of a desk but what its ends know of the other end of each lane
+abbrev pub desk_kept : DeskState → ShardState × (Place × List (List Letter) × List ℕ) × (Place × ℕ × List (List Letter))
+desk_kept d = (d.shard, (kept (d.outs, d.ins)).0, (kept (d.outs, d.ins)).1)
+
+-- what holds of every desk
+abbrev pub AreWhole : List DeskState → Type 0
+AreWhole desks = (d : ℕ) (x : DeskState) → d < length desks → IsDesk (slice_index_or desks d x)
+
+-- as many shards as pairs of ends, and each has its accounts with those at its place
+abbrev pub AreAccounted : List ShardState → List (OutEnds × InEnds) → Type 0
+AreAccounted [] [] = ⊤
+AreAccounted (s ∷ shards) (p ∷ pairs) = IsAccounted s p.0 p.1 × AreAccounted shards pairs
+AreAccounted _ _ = ⊥

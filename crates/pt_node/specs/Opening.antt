@@ -1,0 +1,25 @@
+-- A node that is opened.
+use Rattle.std.specs.Prelude.{◌≡◌, ℕ, ◌<◌, List, length, slice_index_or, Result, Ok, Err, Vec}
+use Rattle.pt_carrier.specs.Node.{IsNew}
+use Rattle.pt_shard.specs.declared.config.Config.{Config}
+use Rattle.pt_shard.specs.declared.config.OpenError.{OpenError}
+use Rattle.pt_shard.specs.declared.config.OpenError.TheVariants.{Bounds, Memory}
+use Rattle.pt_shard.specs.ShardState.{ShardState}
+use Rattle.pt_shard.specs.Opening.{IsInRange, fresh}
+use Rattle.pt_desk.specs.DeskState.{DeskState}
+use Rattle.pt_node.specs.Desks.{AreDesksOf}
+
+pub record AreFreshShards (config : Config) (shards : List ShardState) : Type 0 where
+  pub count : length shards ≡ config.desks
+  pub fresh_each : (d : ℕ) (x : ShardState) → d < length shards → slice_index_or shards d x ≡ fresh config d
+
+-- the desks of one node on which nothing has happened, with ends of lanes through which nothing went
+pub record AreFresh (config : Config) (desks : List DeskState) : Type 0 where
+  pub node : AreDesksOf config desks
+  pub shards : (d : ℕ) (x : DeskState) → d < length desks → (slice_index_or desks d x).shard ≡ fresh config d
+  pub ends : (d : ℕ) (x : DeskState) → d < length desks → IsNew config.desks config.lane ((slice_index_or desks d x).outs, (slice_index_or desks d x).ins)
+
+abbrev pub Opens : {A : Type 0} → Config → Result (Vec DeskState A) OpenError → Type 0
+Opens config (Ok desks) = IsInRange config × AreFresh config desks.items
+Opens config (Err Bounds) = ¬ IsInRange config
+Opens config (Err Memory) = IsInRange config

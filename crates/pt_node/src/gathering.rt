@@ -1,0 +1,131 @@
+// The desks of a node are brought together.
+
+ghost use Rattle.std.specs.Prelude.{◌≡◌, ◌≤◌, [], map, IfOk, IfErr, vec_len};
+ghost use Rattle.std.specs.Vec.{vec_capacity};
+ghost use Rattle.pt_carrier.specs.Node.{lists};
+ghost use Rattle.pt_carrier.specs.declared.reunion.Cause.{Cause};
+ghost use Rattle.pt_gathered.specs.Lawful.{LanesKeep, KeepsHeadline, IsLegalNode};
+ghost use Rattle.pt_node.specs.Desks.{AreDesks, desk_kept};
+ghost use Rattle.pt_node.specs.Gathering.{Gathers, HasJournalsOf};
+
+use crate::making::{look, make_whole, take_apart};
+use pt_carrier::{Cause, reunite};
+use pt_desk::Desk;
+use pt_gathered::{Gathered, Lane, laws_of};
+use pt_signal::Letter;
+use std::alloc::Global;
+use std::fmt;
+use std::marker::Model;
+
+/// The desks that were not gathered.
+///
+/// They cannot be dropped: they are taken out or abandoned. So this is no [`Error`](std::error::Error), which can be
+/// dropped, but its [`cause`](DesksBack::cause) is one.
+pub struct DesksBack {
+    desks: Vec<Desk>,
+}
+
+impl fmt::Display for DesksBack {
+    fn fmt<W: fmt::Write>(&self, f: &mut fmt::Formatter<W>) -> fmt::Result {
+        write!(f, "the desks come back: {}", self.cause())
+    }
+}
+
+impl Model for DesksBack {
+    ghost use Rattle.std.specs.Prelude.{List};
+    ghost use Rattle.pt_desk.specs.DeskState.{DeskState};
+
+    ghost Value = { List DeskState };
+
+    ghost view = { λ b. b.desks.items };
+}
+
+impl DesksBack {
+    /// Why the desks come back.
+    pub fn cause(&self) -> Cause
+        ensures { result ≡ Cause.Memory }
+    {
+        Cause::Memory
+    }
+
+    /// The desks, in order.
+    pub fn into_desks(self) -> Vec<Desk>
+        ensures { result.items ≡ self }
+    {
+        let DesksBack { desks } = self;
+        desks
+    }
+
+    /// Gives up the desks, with their processes, their journals and the letters between them.
+    pub fn abandon(self) {
+        let DesksBack { mut desks } = self;
+        while let Some(desk) = desks.pop() {
+            let (_shard, outs, ins) = desk.apart();
+            outs.close();
+            ins.close();
+        }
+        desks.destroy_empty();
+    }
+}
+
+/// Brings the desks of a node together: all desks of one [`open`](crate::open), each once and in order.
+///
+/// The journals are those of the desks, event for event. For any two desks, what the one sent to the other is what
+/// came there, one for one and in order, and then what is left over. So whatever was called on the desks, in whatever
+/// order and by whatever threads: each mailbox's messages from one sender are that sender's messages to it, in order
+/// and each once, from the mailbox's birth to its exit or the letters left over; nothing enters after the exit; taken
+/// and waiting items together are the arrivals; each monitor gives at most one `DOWN` and none after its demonitor.
+///
+/// Where memory is refused all desks come back as they were, in order; only what the ends of a lane know of each
+/// other may be more, which no call tells. It waits for nobody.
+pub fn gather(alloc: Global, desks: Vec<Desk>) -> Result<Gathered, DesksBack>
+    requires { AreDesks desks.items }
+    ensures gathers { IfOk result (λ g. Gathers desks.items g) }
+    ensures journals { IfOk result (λ g. HasJournalsOf desks.items g) }
+    ensures lanes { IfOk result (λ g. LanesKeep g) }
+    ensures headline { IfOk result (λ g. KeepsHeadline g) }
+    ensures legal { IfOk result (λ g. IsLegalNode g) }
+    ensures back { IfErr result (λ b. map desk_kept b ≡ map desk_kept desks.items) }
+{
+    look(desks.as_slice());
+    let mut desks = desks;
+    let count = desks.len();
+    let config = desks[0].config();
+    let Ok(mut lanes) = Vec::with_capacity(
+        alloc,
+        usize::from(config.desks) * usize::from(config.desks),
+    ) else {
+        return Err(DesksBack { desks });
+    };
+    let Ok(mut shards) = Vec::with_capacity(alloc, count) else {
+        return Err(DesksBack { desks });
+    };
+    let Ok(mut pairs) = Vec::with_capacity(alloc, count) else {
+        return Err(DesksBack { desks });
+    };
+    take_apart(&mut desks, &mut pairs, &mut shards);
+    match reunite(alloc, pairs) {
+        Ok(left) => {
+            desks.destroy_empty();
+            fill(left.lanes, &mut lanes);
+            let gathered = Gathered::of(alloc, config, shards, lanes);
+            laws_of(&gathered);
+            Ok(gathered)
+        }
+        Err(back) => {
+            make_whole(back.into_ends(), shards, &mut desks);
+            Err(DesksBack { desks })
+        }
+    }
+}
+
+// The lists of the letters left over, as lanes.
+fn fill(left: Vec<Vec<Letter>>, lanes: &mut Vec<Lane>)
+    requires { (lanes.old.items ≡ []) × (vec_len left ≤ vec_capacity lanes.old) }
+    ensures { lanes.new.items ≡ lists left.items }
+{
+    let mut left = left;
+    while left.len() > 0 {
+        lanes.push_reserved(Lane::of(left.remove(0)));
+    }
+}

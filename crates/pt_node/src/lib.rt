@@ -1,0 +1,39 @@
+//! The node: desks that are opened together, lent to threads or called one by one, and brought together again.
+//!
+//! ```
+//! let mut desks = open(alloc, config)?;
+//! let ping = desks[0].spawn()?;
+//! ..                                              // calls and turns of the desks, in any order, by any threads
+//! match gather(alloc, desks) {
+//!     Ok(gathered) => ..                          // its journals, history(), left_over() and settle()
+//!     Err(back) => ..                             // no memory: back.into_desks() are the desks, unchanged
+//! }
+//! ```
+//!
+//! # Opening
+//!
+//! [`open`] makes the desks of one node, in order: empty, each with its ends of the lanes. Where the desks go from
+//! there is the caller's matter, since they may move between threads; no call of a desk makes it one of another node.
+//!
+//! # Gathering
+//!
+//! [`gather`] takes all desks of one node, each once and in order. Whatever was called on them and by whatever
+//! threads, of each sender the messages to each mailbox, in order and each once, are then those that came before its
+//! birth, those that arrived, those that came after its end, and those left over; nothing entered a mailbox after its
+//! process ended; what was taken and what waits together are what arrived; and a monitor had one `DOWN` at most.
+#![tactic(auto)]
+
+mod gathering;
+mod making;
+mod opening;
+#[cfg(test)]
+mod tests;
+
+pub use gathering::{DesksBack, gather};
+pub use opening::open;
+pub use pt_carrier::Cause;
+pub use pt_desk::{Desk, Turned};
+pub use pt_events::{Event, Journal, Stamped};
+pub use pt_gathered::{Gathered, LeftOver, Quiet, Unsettled};
+pub use pt_shard::{Config, Fault, OpenError, Stop};
+pub use pt_signal::{Body, Ids, Item, Letter, LinkId, Pick, Pid, Reason, Ref, Signal};

@@ -1,0 +1,45 @@
+// The desks of a new node.
+
+ghost use Rattle.std.specs.Prelude.{◌≡◌, IfOk};
+ghost use Rattle.pt_shard.specs.Opening.{IsInRange};
+ghost use Rattle.pt_node.specs.Opening.{Opens, AreFreshShards};
+
+use crate::making::make_whole;
+use pt_desk::Desk;
+use pt_shard::{Config, OpenError, Shard};
+use std::alloc::{AllocError, Global};
+
+/// Opens a node: its desks, in order, on which nothing has happened, each with its ends of all lanes.
+///
+/// Refused as `Bounds` exactly where a setting is out of its range, else as `Memory` where there is none.
+pub fn open(alloc: Global, config: Config) -> Result<Vec<Desk>, OpenError>
+    ensures { Opens config result }
+{
+    if !config.is_in_range() {
+        return Err(OpenError::Bounds);
+    }
+    let Ok(shards) = fresh_shards(alloc, config) else {
+        return Err(OpenError::Memory);
+    };
+    let Ok(mut desks) = Vec::with_capacity(alloc, usize::from(config.desks)) else {
+        return Err(OpenError::Memory);
+    };
+    let Ok(pairs) = pt_carrier::open(alloc, config.desks, config.lane) else {
+        desks.destroy_empty();
+        return Err(OpenError::Memory);
+    };
+    make_whole(pairs, shards, &mut desks);
+    Ok(desks)
+}
+
+// The desks without their lanes, in order.
+fn fresh_shards(alloc: Global, config: Config) -> Result<Vec<Shard>, AllocError>
+    requires { IsInRange config }
+    ensures { IfOk result (λ v. AreFreshShards config v.items) }
+{
+    let mut shards = Vec::with_capacity(alloc, usize::from(config.desks))?;
+    for number in 0..config.desks {
+        shards.push(Shard::new(alloc, config, number)?)?;
+    }
+    Ok(shards)
+}
