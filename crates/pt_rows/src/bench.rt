@@ -1,225 +1,266 @@
-// A desk on a test bench. Its calls promise nothing, so that a test is proved fast: what they answer shows when
-// it runs.
+// The calls of a desk, with their answers as text, and looks at a desk and at what was gathered. Their texts are
+// promised by no clause: they are compared when a test runs.
 
-use pt_desk::{Config, Desk, Fault, OpenError, Turned};
-use pt_history::{Event, State, replay};
-use pt_signal::{Body, Pick, Pid, Reason, Ref};
+ghost use Rattle.pt_rows.specs.Rows.{IsStill};
+
+use crate::play::Call;
+use pt_history::{State, replay};
+use pt_node::{Body, Desk, Event, Fault, Gathered, Pick, Pid, Reason, Ref, Turned};
 use std::alloc::{AllocError, Global};
 use std::fmt::Display;
 
-/// A desk whose calls answer by text.
-#[derive(Drop)]
-pub struct Bench {
-    desk: Desk,
+/// Makes a call on a desk, which stays the desk that it was of its node.
+pub fn answer(alloc: Global, desk: &mut Desk, call: Call) -> Result<String, AllocError>
+    ensures { IsStill desk.old desk.new }
+{
+    match call {
+        Call::Spawn | Call::SpawnOn(_) => spawn(alloc, desk),
+        Call::Child(parent) => spawn_child(alloc, desk, parent, false),
+        Call::LinkedChild(parent) => spawn_child(alloc, desk, parent, true),
+        Call::Send(from, to, kind, num) => send(alloc, desk, from, to, kind, num),
+        Call::ExitSignal(from, to, reason) => exit_signal(alloc, desk, from, to, reason),
+        Call::Link(p, to) => link(alloc, desk, p, to),
+        Call::Unlink(p, to) => unlink(alloc, desk, p, to),
+        Call::Trap(p, on) => trap(alloc, desk, p, on),
+        Call::Exit(p, reason) => exit(alloc, desk, p, reason),
+        Call::Monitor(w, t) => monitor(alloc, desk, w, t),
+        Call::Demonitor(w, monitor) => demonitor(alloc, desk, w, monitor, false),
+        Call::Flush(w, monitor) => demonitor(alloc, desk, w, monitor, true),
+        Call::AskAlive(p, t) => ask_alive(alloc, desk, p, t),
+        Call::Receive(p, pick) => receive(alloc, desk, p, pick),
+        Call::Turn(budget) | Call::TurnOf(_, budget) => turn(alloc, desk, budget),
+        look => look_at(alloc, desk, look),
+    }
 }
 
-impl Bench {
-    /// A bench with a desk of these settings, on which nothing has happened.
-    pub fn open(alloc: Global, config: Config) -> Result<Bench, OpenError> {
-        let desk = Desk::alone(alloc, config)?;
-        Ok(Bench { desk })
+/// Looks at a desk.
+fn look_at(alloc: Global, desk: &Desk, call: Call) -> Result<String, AllocError> {
+    match call {
+        Call::Number => desk.number().to_string(alloc),
+        Call::Clock | Call::ClockOf(_) => desk.clock().to_string(alloc),
+        Call::Pending(_) => desk.pending().to_string(alloc),
+        Call::Events => desk.journal().events().len().to_string(alloc),
+        Call::Event(stamp) | Call::EventOf(_, stamp) => event(alloc, desk, stamp),
+        Call::Stamps => stamps(alloc, desk),
+        Call::Alive(p) => desk.alive_here(p).to_string(alloc),
+        Call::Ended(p) => ended(alloc, desk, p),
+        Call::Knows(p) | Call::KnowsOn(_, p) => desk.knows(p).to_string(alloc),
+        Call::Vacant => text_or_none(alloc, desk.vacant()),
+        Call::Linked(p, q) => text_or_none(alloc, desk.linked(p, q)),
+        Call::Waiting(p) => waiting(alloc, desk, p),
+        _ => "no look".to_string(alloc),
     }
+}
 
-    pub fn spawn(&mut self, alloc: Global) -> Result<String, AllocError> {
-        text(alloc, self.desk.spawn())
+fn spawn(alloc: Global, desk: &mut Desk) -> Result<String, AllocError>
+    ensures { IsStill desk.old desk.new }
+{
+    text(alloc, desk.spawn())
+}
+
+fn spawn_child(
+    alloc: Global,
+    desk: &mut Desk,
+    parent: Pid,
+    linked: bool,
+) -> Result<String, AllocError>
+    ensures { IsStill desk.old desk.new }
+{
+    text(alloc, desk.spawn_child(parent, linked))
+}
+
+fn send(
+    alloc: Global,
+    desk: &mut Desk,
+    from: Pid,
+    to: Pid,
+    kind: u32,
+    num: i64,
+) -> Result<String, AllocError>
+    ensures { IsStill desk.old desk.new }
+{
+    if !desk.knows(to) {
+        return "unknown".to_string(alloc);
     }
+    let body = Body {
+        kind,
+        num,
+        who: None,
+    };
+    done(alloc, desk.send(from, to, body))
+}
 
-    /// Makes a process and ends it.
-    pub fn spawn_and_exit(&mut self) -> Result<Pid, Fault> {
-        let p = self.desk.spawn()?;
-        self.desk.exit(p, Reason::Normal)?;
-        Ok(p)
+fn exit_signal(
+    alloc: Global,
+    desk: &mut Desk,
+    from: Pid,
+    to: Pid,
+    reason: Reason,
+) -> Result<String, AllocError>
+    ensures { IsStill desk.old desk.new }
+{
+    if !desk.knows(to) {
+        return "unknown".to_string(alloc);
     }
+    done(alloc, desk.exit_signal(from, to, reason))
+}
 
-    pub fn spawn_child(
-        &mut self,
-        alloc: Global,
-        parent: Pid,
-        linked: bool,
-    ) -> Result<String, AllocError> {
-        text(alloc, self.desk.spawn_child(parent, linked))
+fn link(alloc: Global, desk: &mut Desk, p: Pid, to: Pid) -> Result<String, AllocError>
+    ensures { IsStill desk.old desk.new }
+{
+    if !desk.knows(to) {
+        return "unknown".to_string(alloc);
     }
+    done(alloc, desk.link(p, to))
+}
 
-    pub fn send(
-        &mut self,
-        alloc: Global,
-        from: Pid,
-        to: Pid,
-        kind: u32,
-        num: i64,
-    ) -> Result<String, AllocError> {
-        if !self.desk.knows(to) {
-            return "unknown".to_string(alloc);
-        }
-        let body = Body {
-            kind,
-            num,
-            who: None,
-        };
-        done(alloc, self.desk.send(from, to, body))
+fn unlink(alloc: Global, desk: &mut Desk, p: Pid, to: Pid) -> Result<String, AllocError>
+    ensures { IsStill desk.old desk.new }
+{
+    if !desk.knows(to) {
+        return "unknown".to_string(alloc);
     }
+    done(alloc, desk.unlink(p, to))
+}
 
-    pub fn exit_signal(
-        &mut self,
-        alloc: Global,
-        from: Pid,
-        to: Pid,
-        reason: Reason,
-    ) -> Result<String, AllocError> {
-        if !self.desk.knows(to) {
-            return "unknown".to_string(alloc);
-        }
-        done(alloc, self.desk.exit_signal(from, to, reason))
+fn trap(alloc: Global, desk: &mut Desk, p: Pid, on: bool) -> Result<String, AllocError>
+    ensures { IsStill desk.old desk.new }
+{
+    text(alloc, desk.trap(p, on))
+}
+
+fn exit(alloc: Global, desk: &mut Desk, p: Pid, reason: Reason) -> Result<String, AllocError>
+    ensures { IsStill desk.old desk.new }
+{
+    done(alloc, desk.exit(p, reason))
+}
+
+fn monitor(alloc: Global, desk: &mut Desk, w: Pid, t: Pid) -> Result<String, AllocError>
+    ensures { IsStill desk.old desk.new }
+{
+    if !desk.knows(t) {
+        return "unknown".to_string(alloc);
     }
+    text(alloc, desk.monitor(w, t))
+}
 
-    pub fn link(&mut self, alloc: Global, p: Pid, to: Pid) -> Result<String, AllocError> {
-        if !self.desk.knows(to) {
-            return "unknown".to_string(alloc);
-        }
-        done(alloc, self.desk.link(p, to))
+fn demonitor(
+    alloc: Global,
+    desk: &mut Desk,
+    w: Pid,
+    monitor: Ref,
+    flush: bool,
+) -> Result<String, AllocError>
+    ensures { IsStill desk.old desk.new }
+{
+    text(alloc, desk.demonitor(w, monitor, flush))
+}
+
+fn receive(alloc: Global, desk: &mut Desk, p: Pid, pick: Pick) -> Result<String, AllocError>
+    ensures { IsStill desk.old desk.new }
+{
+    match desk.receive(p, pick) {
+        Ok(item) => text_or_none(alloc, item),
+        Err(fault) => format!(in alloc; "{fault:?}"),
     }
+}
 
-    pub fn unlink(&mut self, alloc: Global, p: Pid, to: Pid) -> Result<String, AllocError> {
-        if !self.desk.knows(to) {
-            return "unknown".to_string(alloc);
-        }
-        done(alloc, self.desk.unlink(p, to))
+fn turn(alloc: Global, desk: &mut Desk, budget: u32) -> Result<String, AllocError>
+    ensures { IsStill desk.old desk.new }
+{
+    let Turned {
+        posted,
+        handled,
+        stopped,
+    } = desk.turn(budget);
+    match stopped {
+        None => format!(in alloc; "posted {posted} handled {handled}"),
+        Some(stop) => format!(in alloc; "posted {posted} handled {handled}, then {stop:?}"),
     }
+}
 
-    pub fn trap(&mut self, alloc: Global, p: Pid, on: bool) -> Result<String, AllocError> {
-        text(alloc, self.desk.trap(p, on))
-    }
-
-    pub fn exit(&mut self, alloc: Global, p: Pid, reason: Reason) -> Result<String, AllocError> {
-        done(alloc, self.desk.exit(p, reason))
-    }
-
-    pub fn monitor(&mut self, alloc: Global, w: Pid, t: Pid) -> Result<String, AllocError> {
-        if !self.desk.knows(t) {
-            return "unknown".to_string(alloc);
-        }
-        text(alloc, self.desk.monitor(w, t))
-    }
-
-    pub fn demonitor(
-        &mut self,
-        alloc: Global,
-        w: Pid,
-        monitor: Ref,
-        flush: bool,
-    ) -> Result<String, AllocError> {
-        text(alloc, self.desk.demonitor(w, monitor, flush))
-    }
-
-    pub fn receive(&mut self, alloc: Global, p: Pid, pick: Pick) -> Result<String, AllocError> {
-        match self.desk.receive(p, pick) {
-            Ok(item) => text_or_none(alloc, item),
-            Err(fault) => format!(in alloc; "{fault:?}"),
-        }
-    }
-
-    pub fn turn(&mut self, alloc: Global, budget: u32) -> Result<String, AllocError> {
-        let Turned {
-            posted,
-            handled,
-            stopped,
-        } = self.desk.turn(budget);
-        match stopped {
-            None => format!(in alloc; "posted {posted} handled {handled}"),
-            Some(stop) => format!(in alloc; "posted {posted} handled {handled}, then {stop:?}"),
-        }
-    }
-
-    pub fn number(&self) -> u8 {
-        self.desk.number()
-    }
-
-    pub fn clock(&self) -> u64 {
-        self.desk.clock()
-    }
-
-    /// How many events the journal has.
-    pub fn events(&self) -> usize {
-        self.desk.journal().events().len()
-    }
-
-    /// The event with this stamp.
-    pub fn event(&self, alloc: Global, stamp: u64) -> Result<String, AllocError> {
-        for event in self.desk.journal().events() {
-            if event.stamp == stamp {
-                return event.to_string(alloc);
-            }
-        }
-        "none".to_string(alloc)
-    }
-
-    /// The stamps of all events, each with a blank after it.
-    pub fn stamps(&self, alloc: Global) -> Result<String, AllocError> {
-        let mut text = String::new(alloc);
-        for event in self.desk.journal().events() {
-            text.push_str(&event.stamp.to_string(alloc)?)?;
-            text.push_str(" ")?;
-        }
-        Ok(text)
-    }
-
-    pub fn alive_here(&self, p: Pid) -> bool {
-        self.desk.alive_here(p)
-    }
-
-    pub fn knows(&self, p: Pid) -> bool {
-        self.desk.knows(p)
-    }
-
-    pub fn vacant(&self, alloc: Global) -> Result<String, AllocError> {
-        text_or_none(alloc, self.desk.vacant())
-    }
-
-    pub fn linked(&self, alloc: Global, p: Pid, q: Pid) -> Result<String, AllocError> {
-        text_or_none(alloc, self.desk.linked(p, q))
-    }
-
-    /// The items that wait in a mailbox, each with a `;` after it.
-    pub fn waiting(&self, alloc: Global, p: Pid) -> Result<String, AllocError> {
-        let Some(items) = self.desk.waiting(p) else {
-            return "none".to_string(alloc);
-        };
-        let mut text = String::new(alloc);
-        for item in items {
-            text.push_str(&item.to_string(alloc)?)?;
-            text.push_str(";")?;
-        }
-        Ok(text)
-    }
-
-    /// What the journal leads to, if the judge of histories lets it pass.
-    fn judged(&self, alloc: Global) -> Result<Option<State>, AllocError> {
-        let mut events: Vec<Event> = Vec::new(alloc);
-        for stamped in self.desk.journal().events() {
-            events.push(stamped.event)?;
-        }
-        Ok(replay(alloc, events.as_slice()).ok())
-    }
-
-    /// Whether the judge of histories lets the journal pass.
-    pub fn is_legal(&self, alloc: Global) -> Result<bool, AllocError> {
-        Ok(self.judged(alloc)?.is_some())
-    }
-
-    /// The reason with which a process ended, as the judge of histories tells it.
-    pub fn ended(&self, alloc: Global, p: Pid) -> Result<String, AllocError> {
-        match self.judged(alloc)? {
-            Some(state) => text_or_none(alloc, state.ended(p)),
-            None => "unlawful".to_string(alloc),
+/// The event with this stamp.
+fn event(alloc: Global, desk: &Desk, stamp: u64) -> Result<String, AllocError> {
+    for event in desk.journal().events() {
+        if event.stamp == stamp {
+            return event.to_string(alloc);
         }
     }
+    "none".to_string(alloc)
+}
 
-    /// Closes the desk, and answers the desk and the length of the journal that it gives back.
-    pub fn close(self) -> (u8, usize) {
-        let Bench { desk } = self;
-        let journal = desk.close();
-        (journal.desk(), journal.events().len())
+/// The stamps of all events, each with a blank after it.
+fn stamps(alloc: Global, desk: &Desk) -> Result<String, AllocError> {
+    let mut text = String::new(alloc);
+    for event in desk.journal().events() {
+        text.push_str(&event.stamp.to_string(alloc)?)?;
+        text.push_str(" ")?;
     }
+    Ok(text)
+}
+
+/// The items that wait in a mailbox, each with a `;` after it.
+fn waiting(alloc: Global, desk: &Desk, p: Pid) -> Result<String, AllocError> {
+    let Some(items) = desk.waiting(p) else {
+        return "none".to_string(alloc);
+    };
+    let mut text = String::new(alloc);
+    for item in items {
+        text.push_str(&item.to_string(alloc)?)?;
+        text.push_str(";")?;
+    }
+    Ok(text)
+}
+
+/// The question whether another process is alive.
+fn ask_alive(alloc: Global, desk: &mut Desk, p: Pid, t: Pid) -> Result<String, AllocError>
+    ensures { IsStill desk.old desk.new }
+{
+    if !desk.knows(t) {
+        return "unknown".to_string(alloc);
+    }
+    text(alloc, desk.ask_alive(p, t))
+}
+
+/// The reason with which a process ended, as the judge tells it of the journal of a node's one desk.
+fn ended(alloc: Global, desk: &Desk, p: Pid) -> Result<String, AllocError> {
+    let mut events: Vec<Event> = Vec::new(alloc);
+    for stamped in desk.journal().events() {
+        events.push(stamped.event)?;
+    }
+    match replay(alloc, events.as_slice()) {
+        Ok(state) => text_or_none(alloc, state.ended(p)),
+        Err(_) => "unlawful".to_string(alloc),
+    }
+}
+
+/// The state that the merged history leads to, if the judge of histories lets it pass.
+pub fn judged(alloc: Global, gathered: &Gathered) -> Result<Option<State>, AllocError> {
+    let mut events: Vec<Event> = Vec::new(alloc);
+    for stamped in gathered.history()? {
+        events.push(stamped.event)?;
+    }
+    Ok(replay(alloc, events.as_slice()).ok())
+}
+
+/// The events of the merged history, each with a `;` after it.
+pub fn history(alloc: Global, gathered: &Gathered) -> Result<String, AllocError> {
+    let mut text = String::new(alloc);
+    for stamped in gathered.history()? {
+        text.push_str(&stamped.to_string(alloc)?)?;
+        text.push_str(";")?;
+    }
+    Ok(text)
+}
+
+/// The letters left over, each with a `;` after it.
+pub fn left_over(alloc: Global, gathered: &Gathered) -> Result<String, AllocError> {
+    let mut text = String::new(alloc);
+    for letter in gathered.left_over()? {
+        text.push_str(&letter.to_string(alloc)?)?;
+        text.push_str(";")?;
+    }
+    Ok(text)
 }
 
 fn text<T: Display + Drop>(alloc: Global, answer: Result<T, Fault>) -> Result<String, AllocError> {

@@ -3,7 +3,7 @@
 use crate::known::{A, B, C, D, E, settings};
 use crate::play::Call::*;
 use crate::play::play;
-use pt_signal::Reason;
+use pt_node::Reason;
 use std::test::Fail;
 
 #[test]

@@ -1,7 +1,6 @@
 // Settings, and the names that the processes of a desk get.
 
-use pt_desk::Config;
-use pt_signal::Pid;
+use pt_node::{Config, Pid};
 
 /// Settings of one desk with so many slots, a lane of eight letters and all versions.
 pub fn settings(slots: u32) -> Config {
@@ -44,3 +43,17 @@ pub const E: Pid = Pid {
     slot: 4,
     version: 1,
 };
+
+/// Settings of two desks, each with eight slots, lanes of so many letters and all versions.
+pub fn two_desks(lane: u32) -> Config {
+    Config {
+        desks: 2,
+        lane,
+        ..settings(8)
+    }
+}
+
+/// The first process of the second desk.
+pub const A1: Pid = Pid { shard: 1, ..A };
+/// The second one.
+pub const B1: Pid = Pid { shard: 1, ..B };

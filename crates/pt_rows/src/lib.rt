@@ -1,4 +1,4 @@
-//! Histories worked by hand, as tests through the public calls of a desk.
+//! Histories worked by hand, as tests through the public calls of a node and its desks.
 //!
 //! Each is a table: a call and its answer a line (`play`). What a helper or a test does is compared when it runs;
 //! none of them promises anything, so that they are proved fast.
@@ -6,6 +6,10 @@
 
 #[cfg(test)]
 mod bench;
+#[cfg(test)]
+mod asks;
+#[cfg(test)]
+mod desks;
 #[cfg(test)]
 mod exits;
 #[cfg(test)]
@@ -20,5 +24,7 @@ mod messages;
 mod monitors;
 #[cfg(test)]
 mod play;
+#[cfg(test)]
+mod settling;
 #[cfg(test)]
 mod slots;

@@ -1,14 +1,11 @@
 // Settings out of range, pids that a desk does not know, and a clock at its limit.
 
-use crate::bench::Bench;
 use crate::known::{A, settings};
 use crate::play::Call::*;
 use crate::play::play;
-use pt_desk::{Config, OpenError};
-use pt_signal::{Pick, Pid};
+use pt_node::{Config, OpenError, Pick, Pid, gather, open};
+use pt_shard::MAX_STAMP;
 use std::test::Fail;
-
-const LIMIT: u64 = 4_611_686_018_427_387_904;
 
 /// A pid of a second desk.
 const ABROAD: Pid = Pid {
@@ -27,7 +24,7 @@ const NEXT: Pid = Pid {
 #[test]
 fn a_clock_at_its_limit_refuses_what_has_an_event(rt: HostRuntime) -> Result<(), Fail> {
     let late = Config {
-        start: LIMIT - 1,
+        start: MAX_STAMP - 1,
         ..settings(8)
     };
     let steps = [
@@ -44,7 +41,7 @@ fn a_clock_at_its_limit_refuses_what_has_an_event(rt: HostRuntime) -> Result<(),
 #[test]
 fn a_turn_stops_at_the_limit_of_the_clock(rt: HostRuntime) -> Result<(), Fail> {
     let late = Config {
-        start: LIMIT - 2,
+        start: MAX_STAMP - 2,
         ..settings(8)
     };
     let steps = [
@@ -63,7 +60,7 @@ fn a_turn_stops_at_the_limit_of_the_clock(rt: HostRuntime) -> Result<(), Fail> {
 #[test]
 fn a_worn_clock_is_told_before_a_full_desk(rt: HostRuntime) -> Result<(), Fail> {
     let late = Config {
-        start: LIMIT - 1,
+        start: MAX_STAMP - 1,
         ..settings(1)
     };
     let steps = [
@@ -82,7 +79,6 @@ fn settings_out_of_range_are_refused(rt: HostRuntime) -> Result<(), Fail> {
     let fine = settings(8);
     let refused = [
         Config { desks: 0, ..fine },
-        Config { desks: 2, ..fine },
         Config { desks: 65, ..fine },
         Config { slots: 0, ..fine },
         Config {
@@ -99,15 +95,19 @@ fn settings_out_of_range_are_refused(rt: HostRuntime) -> Result<(), Fail> {
             ..fine
         },
         Config {
-            start: LIMIT + 1,
+            start: MAX_STAMP + 1,
             ..fine
         },
     ];
     for config in refused {
-        match Bench::open(rt.alloc(), config) {
-            Ok(_) => assert!(rt; false, "{config:?}"),
-            Err(error) => assert_eq!(rt; error, OpenError::Bounds, "{config:?}"),
-        }
+        let refused = match open(rt.alloc(), config) {
+            Ok(desks) => {
+                let _ = gather(rt.alloc(), desks).map_err(|back| back.abandon());
+                None
+            }
+            Err(error) => Some(error),
+        };
+        assert_eq!(rt; refused, Some(OpenError::Bounds), "{config:?}");
     }
     Ok(())
 }

@@ -3,8 +3,7 @@
 use crate::known::{A, B, settings};
 use crate::play::Call::*;
 use crate::play::play;
-use pt_desk::Config;
-use pt_signal::{Pick, Reason};
+use pt_node::{Config, Pick, Reason};
 use std::test::Fail;
 
 #[test]

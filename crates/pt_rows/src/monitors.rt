@@ -3,7 +3,7 @@
 use crate::known::{A, B, C, settings};
 use crate::play::Call::*;
 use crate::play::play;
-use pt_signal::{Pick, Reason, Ref};
+use pt_node::{Pick, Reason, Ref};
 use std::test::Fail;
 
 #[test]

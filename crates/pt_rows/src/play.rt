@@ -1,16 +1,19 @@
-// Plays a table of calls on a desk, and compares each answer with the one that the table has.
+// Plays a table of calls on the desks of a node, and compares each answer with the one that the table has.
 
-use crate::bench::Bench;
-use pt_desk::Config;
-use pt_signal::{Pick, Pid, Reason, Ref};
+ghost use Rattle.pt_node.specs.Desks.{AreDesks};
+
+use crate::bench;
+use pt_node::{Config, Desk, Gathered, Pick, Pid, Reason, Ref, gather, open};
 use std::alloc::{AllocError, Global};
 use std::process::Abort;
 use std::test::Fail;
 
-/// A call of a desk, or a look at it.
+/// A call of a desk, or a look at it. A call is made on the desk of its process; where none is named, on desk 0.
 #[derive(Clone, Copy, Debug)]
 pub enum Call {
     Spawn,
+    /// A birth on a desk.
+    SpawnOn(u8),
     Child(Pid),
     LinkedChild(Pid),
     /// A message, with its kind and its number.
@@ -24,20 +27,30 @@ pub enum Call {
     Demonitor(Pid, Ref),
     /// A demonitor that takes a DOWN that waits.
     Flush(Pid, Ref),
+    AskAlive(Pid, Pid),
     Receive(Pid, Pick),
     Turn(u32),
+    /// A turn of a desk.
+    TurnOf(u8, u32),
     Number,
     Clock,
+    ClockOf(u8),
+    /// How many letters wait in outbox and hold of a desk.
+    Pending(u8),
     /// How many events the journal has.
     Events,
     /// The event with this stamp.
     Event(u64),
+    /// The event of a desk with this stamp.
+    EventOf(u8, u64),
     /// The stamps of all events, each with a blank after it.
     Stamps,
     Alive(Pid),
-    /// With which reason the process ended, as the judge of histories tells it.
+    /// With which reason the process ended, as the judge of histories tells it of its desk's journal.
     Ended(Pid),
     Knows(Pid),
+    /// Whether a desk knows a pid.
+    KnowsOn(u8, Pid),
     Vacant,
     Linked(Pid, Pid),
     Waiting(Pid),
@@ -49,56 +62,93 @@ pub enum Call {
 /// and `unknown` for one that may not be made, since the desk does not know its target.
 pub type Step = (Call, &'static str);
 
-/// Plays the steps on a new desk, and closes it.
+/// Plays the steps on a new node, and gathers it. The judge of histories has to let the merged history pass.
 pub fn play(rt: &impl Abort, alloc: Global, config: Config, steps: &[Step]) -> Result<(), Fail> {
-    let mut bench = Bench::open(alloc, config)?;
-    run(rt, alloc, &mut bench, steps)?;
-    close(rt, alloc, bench)
+    let gathered = play_whole(rt, alloc, config, steps)?;
+    assert!(rt; bench::judged(alloc, &gathered)?.is_some());
+    Ok(())
 }
 
-/// Plays the steps on a desk.
-pub fn run(rt: &impl Abort, alloc: Global, bench: &mut Bench, steps: &[Step]) -> Result<(), Fail> {
+/// Plays the steps on a new node, and gathers it.
+pub fn play_whole(
+    rt: &impl Abort,
+    alloc: Global,
+    config: Config,
+    steps: &[Step],
+) -> Result<Gathered, Fail> {
+    let mut desks = open(alloc, config)?;
+    let played = run(rt, alloc, &mut desks, steps);
+    close(alloc, desks, played)
+}
+
+/// Plays the steps on the desks of a node.
+pub fn run(rt: &impl Abort, alloc: Global, desks: &mut Vec<Desk>, steps: &[Step]) -> Result<(), Fail>
+    requires { AreDesks desks.old.items }
+    ensures { AreDesks desks.new.items }
+{
     for (number, (call, want)) in steps.iter().enumerate() {
-        let got = answer(alloc, bench, *call)?;
+        let got = make(alloc, desks, *call)?;
         assert_eq!(rt; got.as_str(), *want, "step {number}, {call:?}");
     }
     Ok(())
 }
 
-/// Closes the desk, whose journal the judge of histories has to let pass, and which has to give it back whole.
-pub fn close(rt: &impl Abort, alloc: Global, bench: Bench) -> Result<(), Fail> {
-    let (number, events) = (bench.number(), bench.events());
-    assert!(rt; bench.is_legal(alloc)?);
-    assert_eq!(rt; bench.close(), (number, events));
-    Ok(())
+/// Gathers the desks of a node on which something was played.
+pub fn close(alloc: Global, desks: Vec<Desk>, played: Result<(), Fail>) -> Result<Gathered, Fail>
+    requires { AreDesks desks.items }
+{
+    match gather(alloc, desks) {
+        Ok(gathered) => {
+            played?;
+            Ok(gathered)
+        }
+        Err(back) => {
+            back.abandon();
+            played?;
+            Err(AllocError)?
+        }
+    }
 }
 
-fn answer(alloc: Global, bench: &mut Bench, call: Call) -> Result<String, AllocError> {
+/// Makes a call on the desk that it is for.
+#[tactic(auto, using(crate::proofs::Rows::still_desks))]
+pub fn make(alloc: Global, desks: &mut Vec<Desk>, call: Call) -> Result<String, AllocError>
+    requires { AreDesks desks.old.items }
+    ensures { AreDesks desks.new.items }
+{
+    let d = usize::from(desk_of(call));
+    if d >= desks.len() {
+        return "no such desk".to_string(alloc);
+    }
+    bench::answer(alloc, &mut desks[d], call)
+}
+
+/// The desk on which a call is made.
+fn desk_of(call: Call) -> u8 {
     match call {
-        Call::Spawn => bench.spawn(alloc),
-        Call::Child(parent) => bench.spawn_child(alloc, parent, false),
-        Call::LinkedChild(parent) => bench.spawn_child(alloc, parent, true),
-        Call::Send(from, to, kind, num) => bench.send(alloc, from, to, kind, num),
-        Call::ExitSignal(from, to, reason) => bench.exit_signal(alloc, from, to, reason),
-        Call::Link(p, to) => bench.link(alloc, p, to),
-        Call::Unlink(p, to) => bench.unlink(alloc, p, to),
-        Call::Trap(p, on) => bench.trap(alloc, p, on),
-        Call::Exit(p, reason) => bench.exit(alloc, p, reason),
-        Call::Monitor(w, t) => bench.monitor(alloc, w, t),
-        Call::Demonitor(w, monitor) => bench.demonitor(alloc, w, monitor, false),
-        Call::Flush(w, monitor) => bench.demonitor(alloc, w, monitor, true),
-        Call::Receive(p, pick) => bench.receive(alloc, p, pick),
-        Call::Turn(budget) => bench.turn(alloc, budget),
-        Call::Number => bench.number().to_string(alloc),
-        Call::Clock => bench.clock().to_string(alloc),
-        Call::Events => bench.events().to_string(alloc),
-        Call::Event(stamp) => bench.event(alloc, stamp),
-        Call::Stamps => bench.stamps(alloc),
-        Call::Alive(p) => bench.alive_here(p).to_string(alloc),
-        Call::Ended(p) => bench.ended(alloc, p),
-        Call::Knows(p) => bench.knows(p).to_string(alloc),
-        Call::Vacant => bench.vacant(alloc),
-        Call::Linked(p, q) => bench.linked(alloc, p, q),
-        Call::Waiting(p) => bench.waiting(alloc, p),
+        Call::SpawnOn(desk)
+        | Call::TurnOf(desk, _)
+        | Call::ClockOf(desk)
+        | Call::Pending(desk)
+        | Call::EventOf(desk, _)
+        | Call::KnowsOn(desk, _) => desk,
+        Call::Child(p)
+        | Call::LinkedChild(p)
+        | Call::Send(p, _, _, _)
+        | Call::ExitSignal(p, _, _)
+        | Call::Link(p, _)
+        | Call::Unlink(p, _)
+        | Call::Trap(p, _)
+        | Call::Exit(p, _)
+        | Call::Monitor(p, _)
+        | Call::Demonitor(p, _)
+        | Call::Flush(p, _)
+        | Call::AskAlive(p, _)
+        | Call::Receive(p, _)
+        | Call::Alive(p)
+        | Call::Ended(p)
+        | Call::Linked(p, _)
+        | Call::Waiting(p) => p.shard,
+        _ => 0,
     }
 }

@@ -1,11 +1,9 @@
 // Slots that are used again, and slots that are retired.
 
-use crate::bench::Bench;
-use crate::known::{A, B, settings};
+use crate::known::{A, B, C, D, settings};
 use crate::play::Call::*;
-use crate::play::{close, play, run};
-use pt_desk::Config;
-use pt_signal::{Pick, Pid, Reason};
+use crate::play::play;
+use pt_node::{Config, Pick, Pid, Reason};
 use std::test::Fail;
 
 #[test]
@@ -59,20 +57,28 @@ fn four_slots_with_two_versions_give_eight_pids(rt: HostRuntime) -> Result<(), F
         top_version: 2,
         ..settings(4)
     };
-    let mut bench = Bench::open(rt.alloc(), config)?;
-    let mut seen = Vec::new(rt.alloc());
-    for _ in 0..8 {
-        let p = bench.spawn_and_exit()?;
-        assert!(rt; !seen.contains(&p));
-        seen.push(p)?;
-    }
     let steps = [
+        (Spawn, "<0.0.1>"),
+        (Exit(A, Reason::Normal), "ok"),
+        (Spawn, "<0.0.2>"),
+        (Exit(Pid { version: 2, ..A }, Reason::Normal), "ok"),
+        (Spawn, "<0.1.1>"),
+        (Exit(B, Reason::Normal), "ok"),
+        (Spawn, "<0.1.2>"),
+        (Exit(Pid { version: 2, ..B }, Reason::Normal), "ok"),
+        (Spawn, "<0.2.1>"),
+        (Exit(C, Reason::Normal), "ok"),
+        (Spawn, "<0.2.2>"),
+        (Exit(Pid { version: 2, ..C }, Reason::Normal), "ok"),
+        (Spawn, "<0.3.1>"),
+        (Exit(D, Reason::Normal), "ok"),
+        (Spawn, "<0.3.2>"),
+        (Exit(Pid { version: 2, ..D }, Reason::Normal), "ok"),
         (Clock, "16"),
         (Spawn, "Full"),
         (Stamps, "1 2 3 4 5 6 7 8 9 10 11 12 13 14 15 16 "),
     ];
-    run(&rt, rt.alloc(), &mut bench, &steps)?;
-    close(&rt, rt.alloc(), bench)
+    play(&rt, rt.alloc(), config, &steps)
 }
 
 #[test]
