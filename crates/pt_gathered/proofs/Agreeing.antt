@@ -1,5 +1,5 @@
 -- The accounts of the lanes over one receipt.
-use Rattle.std.proofs.Common.{◌≡◌, ℕ, ◌+◌, ◌^◌, ◌<◌, ◌≤◌, ◌==◌, ◌&&◌, Bool, true, false, cond, List, [], ◌∷◌, ◌++◌, length, max, map, filter, drop, refl, sym, ap, ◌∙◌, subst, append-nil, get_or, arith}
+use Rattle.std.proofs.Common.{◌≡◌, ℕ, ◌<◌, ◌≤◌, ◌==◌, ◌&&◌, Bool, true, false, cond, List, [], ◌∷◌, ◌++◌, length, map, filter, drop, refl, sym, ap, ◌∙◌, subst, append-nil, get_or, arith}
 use Rattle.std.specs.Prelude.{⊤}
 use Rattle.std.proofs.lemmas.Bool.{eqb-true, eq-eqb, ne_eqb, both_ways}
 use Rattle.std.proofs.lemmas.List.{get_or-map}
@@ -8,13 +8,13 @@ use Rattle.pt_signal.specs.declared.letter.Letter.{Letter}
 use Rattle.pt_signal.specs.Process.{Sent, sent}
 use Rattle.pt_events.specs.declared.event.Stamped.{Stamped}
 use Rattle.pt_events.specs.History.{sent_by}
-use Rattle.pt_events.specs.Journal.{events, letter, letters, posts, got, gots, clock, Agrees, IsReceiptOf, IsLocal}
+use Rattle.pt_events.specs.Journal.{events, letter, letters, posts, gots, Agrees, IsLocal}
 use Rattle.pt_events.proofs.Homes.{AllFrom, from_home}
 use Rattle.pt_events.proofs.Agreeing.{Agrees-posted, Agrees-got}
 use Rattle.pt_shard.specs.declared.config.Config.{Config}
 use Rattle.pt_shard.specs.ShardState.{ShardState, came}
 use Rattle.pt_gathered.specs.Gathered.{GatheredState, IsGathered, IsShardOf, journals, over_in}
-use Rattle.pt_gathered.specs.Settling.{receipt, replies, replies_to, Receives}
+use Rattle.pt_gathered.specs.Settling.{receipt, replies_to, Receives}
 
 -- letters of a lane -------------------------------------------------------------------
 

@@ -1,20 +1,20 @@
 -- The laws of histories, at a node whose desks were gathered.
-use Rattle.std.proofs.Common.{◌≡◌, ℕ, ◌+◌, ◌<◌, ◌≤◌, true, false, List, [], length, map, get_or, refl, sym, ap, ◌∙◌, subst, arith, ⊎_elim}
+use Rattle.std.proofs.Common.{◌≡◌, ℕ, ◌<◌, ◌≤◌, List, [], length, map, get_or, refl, sym, ap, ◌∙◌, subst, arith, ⊎_elim}
 use Rattle.std.proofs.lemmas.Bool.{cases_lt}
 use Rattle.std.proofs.lemmas.List.{get_or_past, length-map}
 use Rattle.pt_signal.specs.declared.letter.Letter.{Letter}
 use Rattle.pt_events.specs.declared.event.Stamped.{Stamped}
 use Rattle.pt_events.specs.Journal.{events, content, posts, gots, Agrees, LanesAgree, IsLocal, IsMerge}
 use Rattle.pt_laws.specs.Headline.{HeadlineHolds}
-use Rattle.pt_laws.specs.Laws.{MergeLegal, LegalWithLeftOver}
+use Rattle.pt_laws.specs.Laws.{MergeLegal}
 use Rattle.pt_laws.specs.LinkLaws.{MergeLinks}
-use Rattle.pt_laws.specs.Load.{load, IsQuiet}
+use Rattle.pt_laws.specs.Load.{load}
 use Rattle.pt_laws.specs.LoadLaws.{EmptyIsQuiet, HasDesks, LoadByDesk}
 use Rattle.pt_laws.specs.MonitorLaws.{EmptyHasOldRefs, QuietMonitor, QuietWatch}
 use Rattle.pt_shard.specs.ShardState.{ShardState}
 use Rattle.pt_shard.specs.Fit.{IsFit}
-use Rattle.pt_gathered.specs.Gathered.{GatheredState, IsGathered, journals, over, over_in}
-use Rattle.pt_gathered.specs.Settling.{load_of, event_count, Settles, NothingLeft}
+use Rattle.pt_gathered.specs.Gathered.{GatheredState, IsGathered, journals, over}
+use Rattle.pt_gathered.specs.Settling.{load_of, Settles, NothingLeft}
 use Rattle.pt_gathered.specs.Lawful.{IsLegalNode, KeepsHeadline, IsQuietNode, IsBounded, LinksStand, WatchesStand}
 use Rattle.pt_gathered.proofs.Agreeing.{local_at, at_map}
 use Rattle.pt_gathered.proofs.Overs.{over_both, over_left, over_right}

@@ -7,7 +7,7 @@ use Rattle.pt_signal.specs.declared.letter.Letter.{Letter}
 use Rattle.pt_gathered.specs.Gathered.{GatheredState, journals, over_in}
 use Rattle.pt_shard.specs.declared.stop.Stop.{Stop}
 use Rattle.pt_gathered.specs.Settling.{Receives, replies_to, Steps, NothingTo}
-use Rattle.pt_gathered.specs.Order.{InTurn, ComesOnce, Comes, LaneComes, LaneStops, DeskComes}
+use Rattle.pt_gathered.specs.Order.{InTurn, Comes, LaneComes, LaneStops, DeskComes}
 use Rattle.pt_gathered.specs.Waits.{Waits, Marks}
 
 -- one more in turn

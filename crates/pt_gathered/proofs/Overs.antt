@@ -1,7 +1,6 @@
 -- What is left over between any two numbers, of desks or not.
-use Rattle.std.proofs.Common.{◌≡◌, ℕ, ◌<◌, ◌≤◌, Bool, true, false, List, [], length, refl, arith, nat_lt}
+use Rattle.std.proofs.Common.{◌≡◌, ℕ, ◌<◌, ◌≤◌, Bool, true, false, [], length, refl, arith, nat_lt}
 use Rattle.std.proofs.lemmas.Bool.{ltb-true, lt-ltb}
-use Rattle.pt_signal.specs.declared.letter.Letter.{Letter}
 use Rattle.pt_gathered.specs.Gathered.{GatheredState, are_both, over, over_in}
 
 module _ (g : GatheredState) where

@@ -1,20 +1,17 @@
 -- The letters left over, one of them taken out, and one receipt.
-use Rattle.std.proofs.Common.{◌≡◌, ◌≢◌, ℕ, ◌+◌, ◌*◌, ◌^◌, ◌<◌, ◌==◌, ◌&&◌, Bool, true, false, cond, List, [], ◌∷◌, ◌++◌, length, max, map, filter, drop, get_or, set, Option, Some, None, refl, sym, ap, ◌∙◌, subst, append_assoc, append-nil, arith, ⊎_elim}
+use Rattle.std.proofs.Common.{◌≡◌, ℕ, ◌+◌, ◌*◌, ◌^◌, ◌<◌, ◌==◌, ◌&&◌, Bool, true, false, cond, List, [], ◌∷◌, ◌++◌, length, max, map, drop, get_or, set, Option, Some, None, refl, sym, ap, ◌∙◌, subst, append_assoc, append-nil, arith, ⊎_elim}
 use Rattle.std.specs.Prelude.{slice_get, ◌⊎◌, Err}
 use Rattle.std.proofs.lemmas.Bool.{eqb-true, eq-eqb, ne_eqb, both_ways, cases_order}
-use Rattle.std.proofs.lemmas.List.{get_or-map, get_or_default, get_or-set_same, get_or-set_other, length-set, length-map}
+use Rattle.std.proofs.lemmas.List.{get_or_default, get_or-set_same, get_or-set_other, length-set}
 use Rattle.pt_signal.specs.declared.letter.Letter.{Letter}
-use Rattle.pt_signal.specs.Process.{Sent}
-use Rattle.pt_events.specs.declared.event.Stamped.{Stamped}
-use Rattle.pt_events.specs.History.{sent_by}
-use Rattle.pt_events.specs.Journal.{events, letter, clock}
+use Rattle.pt_events.specs.Journal.{clock}
 use Rattle.pt_gathered.proofs.Boxes.{put_at}
 use Rattle.pt_carrier.proofs.Lists.{get_or-map_read, get_or-map_set_same, get_or-map_set_other, map-set_same, map-through, length-map_same}
 use Rattle.pt_carrier.proofs.Rooms.{place_before}
 use Rattle.pt_shard.specs.declared.config.Config.{Config}
 use Rattle.pt_shard.specs.declared.stop.Stop.{Stop}
 use Rattle.pt_shard.specs.declared.stop.Stop.TheVariants.{Memory, Worn}
-use Rattle.pt_shard.specs.ShardState.{ShardState, put_out, handled, came, Handles}
+use Rattle.pt_shard.specs.ShardState.{ShardState, put_out, handled, Handles}
 use Rattle.pt_shard.specs.Fit.{IsFit}
 use Rattle.pt_gathered.specs.Gathered.{GatheredState, IsGathered, IsShardOf, journal_at, box_at, hold_at, held_from, over_in}
 use Rattle.pt_gathered.specs.Settling.{receipt, replies, replies_to, Receives, Steps}

@@ -1,7 +1,6 @@
 -- The desks of a node without their lanes, and the letters left over.
-use Rattle.std.specs.Prelude.{◌≡◌, ℕ, ◌+◌, ◌*◌, ◌<◌, ◌==◌, ◌&&◌, nat_lt, Bool, cond, List, [], ◌∷◌, ◌++◌, length, map, drop, slice_index_or, Option, Some, None}
+use Rattle.std.specs.Prelude.{◌≡◌, ℕ, ◌+◌, ◌*◌, ◌<◌, ◌==◌, nat_lt, Bool, cond, List, [], ◌∷◌, ◌++◌, length, map, slice_index_or, Option, Some, None}
 use Rattle.pt_signal.specs.declared.letter.Letter.{Letter}
-use Rattle.pt_events.specs.declared.event.Stamped.{Stamped}
 use Rattle.pt_events.specs.Journal.{Journals, posts, gots, Agrees}
 use Rattle.pt_shard.specs.declared.config.Config.{Config}
 use Rattle.pt_shard.specs.ShardState.{ShardState}

@@ -3,7 +3,6 @@ use Rattle.std.specs.Prelude.{◌≡◌, ℕ, ◌<◌, ◌==◌, ◌&&◌, cond,
 use Rattle.pt_signal.specs.declared.letter.Letter.{Letter}
 use Rattle.pt_shard.specs.declared.config.Config.{Config}
 use Rattle.pt_shard.specs.ShardState.{ShardState}
-use Rattle.pt_shard.specs.Fit.{IsFit}
 use Rattle.pt_gathered.specs.Gathered.{over_in, IsShardOf}
 
 -- all of a desk but its letters

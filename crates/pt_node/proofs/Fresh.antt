@@ -1,5 +1,5 @@
 -- The desks of a new node.
-use Rattle.std.proofs.Common.{◌≡◌, ℕ, zero, suc, ◌+◌, ◌<◌, List, [], ◌∷◌, ◌++◌, length, map, get_or, refl, sym, ap, ◌∙◌, subst, arith}
+use Rattle.std.proofs.Common.{◌≡◌, ℕ, zero, suc, ◌<◌, List, [], length, map, get_or, refl, sym, ap, ◌∙◌, subst, arith}
 use Rattle.std.specs.Prelude.{replicate}
 use Rattle.std.proofs.lemmas.List.{get_or-map, length-map}
 use Rattle.std.proofs.lemmas.Simd.{map-map}
@@ -9,8 +9,8 @@ use Rattle.pt_carrier.specs.Node.{places, IsNode, IsNew}
 use Rattle.pt_shard.specs.declared.config.Config.{Config}
 use Rattle.pt_shard.specs.ShardState.{ShardState}
 use Rattle.pt_shard.specs.Opening.{IsInRange, fresh}
-use Rattle.pt_desk.specs.DeskState.{DeskState, IsAccounted, place}
-use Rattle.pt_node.specs.Desks.{AreDesksOf, AreAccounted, all_ends, all_shards}
+use Rattle.pt_desk.specs.DeskState.{DeskState, IsAccounted}
+use Rattle.pt_node.specs.Desks.{AreAccounted, all_ends, all_shards}
 use Rattle.pt_node.specs.Opening.{AreFreshShards, AreFresh}
 use Rattle.pt_node.proofs.Wholes.{accounted_each}
 

@@ -1,19 +1,18 @@
 -- The accounts of desks whose lanes were brought together.
-use Rattle.std.proofs.Common.{◌≡◌, ℕ, ◌+◌, ◌*◌, ◌<◌, List, [], ◌∷◌, ◌++◌, length, map, get_or, refl, sym, ap, ◌∙◌, subst, append_assoc, arith, Option, Some, None}
+use Rattle.std.proofs.Common.{◌≡◌, ℕ, ◌+◌, ◌*◌, ◌<◌, List, [], ◌∷◌, ◌++◌, length, map, get_or, refl, sym, ap, ◌∙◌, subst, arith, Option, Some, None}
 use Rattle.std.proofs.lemmas.Simd.{map-map}
 use Rattle.std.proofs.lemmas.List.{get_or-map, length-map}
 use Rattle.pt_signal.specs.declared.letter.Letter.{Letter}
 use Rattle.pt_events.specs.Journal.{Agrees, posts, gots}
 use Rattle.pt_carrier.specs.Ends.{OutEnds, InEnds}
-use Rattle.pt_carrier.specs.Node.{AreLeft, all_posted, all_collected, entry}
-use Rattle.pt_carrier.proofs.Lists.{get_or-map_read}
+use Rattle.pt_carrier.specs.Node.{all_posted, all_collected, entry}
 use Rattle.pt_shard.specs.declared.config.Config.{Config}
 use Rattle.pt_shard.specs.ShardState.{ShardState}
 use Rattle.pt_gathered.specs.Gathered.{GatheredState, IsGathered, IsShardOf, journal_at, box_at, hold_at, held_from, over_in}
 use Rattle.pt_events.proofs.Agreeing.{Agrees-posted}
 use Rattle.pt_desk.specs.DeskState.{DeskState, IsDesk, IsAccounted, place}
 use Rattle.pt_desk.specs.DeskState as desk
-use Rattle.pt_node.specs.Desks.{AreDesksOf, all_ends, all_shards}
+use Rattle.pt_node.specs.Desks.{all_ends, all_shards}
 use Rattle.pt_node.specs.Gathering.{Gathers, HasJournalsOf}
 
 -- one lane: what was posted is what was collected and what the lane has

@@ -1,11 +1,9 @@
 -- Shards and ends that have their accounts with one another.
-use Rattle.std.proofs.Common.{◌≡◌, ℕ, zero, suc, ◌+◌, ◌<◌, List, [], ◌∷◌, ◌++◌, length, map, get_or, refl, sym, ap, ◌∙◌, subst, arith}
-use Rattle.std.proofs.lemmas.List.{get_or-map, length-map}
-use Rattle.pt_signal.specs.declared.letter.Letter.{Letter}
+use Rattle.std.proofs.Common.{◌≡◌, ℕ, suc, ◌<◌, List, [], ◌∷◌, length, map, get_or, refl, sym, ap, ◌∙◌, arith}
 use Rattle.pt_carrier.specs.Ends.{Place, OutEnds, InEnds}
 use Rattle.pt_carrier.specs.Node.{kept}
 use Rattle.pt_shard.specs.ShardState.{ShardState}
-use Rattle.pt_desk.specs.DeskState.{DeskState, IsDesk, IsAccounted}
+use Rattle.pt_desk.specs.DeskState.{DeskState, IsAccounted}
 use Rattle.pt_node.specs.Desks.{AreAccounted, AreWhole, all_ends, all_shards, desk_kept}
 
 -- each at its place

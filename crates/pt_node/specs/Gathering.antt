@@ -1,6 +1,5 @@
 -- What a gathering makes of the desks.
-use Rattle.std.specs.Prelude.{◌≡◌, ℕ, ◌<◌, List, [], length, map, slice_index_or}
-use Rattle.pt_events.specs.declared.event.Stamped.{Stamped}
+use Rattle.std.specs.Prelude.{◌≡◌, ℕ, List, [], length, map, slice_index_or}
 use Rattle.pt_carrier.specs.Node.{AreLeft}
 use Rattle.pt_gathered.specs.Gathered.{GatheredState, journals}
 use Rattle.pt_desk.specs.DeskState.{DeskState}

@@ -1,11 +1,9 @@
-use Rattle.std.proofs.Common.{◌≡◌, ℕ, ◌+◌, ◌*◌, ◌<◌, [], ◌∷◌, Some, None, List, length, get_or, set, drop, sym, ap, ◌∙◌, subst, arith}
+use Rattle.std.proofs.Common.{◌≡◌, ◌+◌, ◌*◌, ◌<◌, [], Some, length, get_or, sym, ap, ◌∙◌, arith}
 use Rattle.std.specs.Prelude.{slice_get, is_some}
 use Rattle.std.proofs.lemmas.List.{nil_from_length}
-use Rattle.pt_signal.specs.declared.letter.Letter.{Letter}
 use Rattle.pt_carrier.proofs.Rooms.{place_before}
 use Rattle.pt_shard.specs.ShardState.{ShardState}
-use Rattle.pt_gathered.specs.Gathered.{held_from, hold_at, box_at}
-use Rattle.pt_gathered.specs.Taking.{TakesOut}
+use Rattle.pt_gathered.specs.Gathered.{held_from, hold_at}
 use Rattle.pt_gathered.proofs.Stepping.{hold_is, lane_is, takes_hold, takes_lane, takes_box}
 use Rattle.pt_gathered.proofs.Places.{held_is, held_is_not}
 use Rattle.pt_gathered.proofs.gathered.take_out.Goals as goal

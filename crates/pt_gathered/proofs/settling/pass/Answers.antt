@@ -1,6 +1,6 @@
-use Rattle.std.proofs.Common.{◌≡◌, ℕ, ◌+◌, ◌<◌, ◌^◌, true, false, Ok, [], length, refl, subst, sym, arith}
-use Rattle.pt_gathered.specs.Gathered.{GatheredState, over_in}
-use Rattle.pt_gathered.specs.Settling.{Moves, Runs, NothingTo, event_count}
+use Rattle.std.proofs.Common.{◌≡◌, ℕ, ◌<◌, true, false, Ok, length, refl, subst, arith}
+use Rattle.pt_gathered.specs.Gathered.{GatheredState}
+use Rattle.pt_gathered.specs.Settling.{Moves, NothingTo, event_count}
 use Rattle.pt_gathered.specs.Order.{DeskComes, DeskStops}
 use Rattle.pt_gathered.proofs.Settled.{runs_same, runs_along, after_some, after_none}
 use Rattle.pt_gathered.proofs.Ordering.{more_in_turn}

@@ -1,7 +1,6 @@
-use Rattle.std.proofs.Common.{◌≡◌, ◌+◌, ◌<◌, ◌^◌, true, false, Ok, [], length, refl, sym, ap, subst, arith}
-use Rattle.pt_gathered.specs.Gathered.{GatheredState, over_in}
-use Rattle.pt_gathered.specs.Settling.{Steps, Runs, Receives}
-use Rattle.pt_gathered.specs.Order.{ComesOnce, Comes, LaneStops}
+use Rattle.std.proofs.Common.{◌≡◌, ◌<◌, true, false, Ok, length, refl, sym, ap, subst, arith}
+use Rattle.pt_gathered.specs.Settling.{Steps, Runs}
+use Rattle.pt_gathered.specs.Order.{ComesOnce}
 use Rattle.pt_gathered.proofs.Settled.{runs_same, runs_along, step_runs, step_moves, same_after}
 use Rattle.pt_gathered.proofs.Ordering.{more_in_turn, comes_left, lane_stops}
 use Rattle.pt_gathered.proofs.settling.settle_lane.Goals as goal

@@ -1,7 +1,7 @@
-use Rattle.std.proofs.Common.{◌≡◌, ℕ, ◌+◌, ◌<◌, ◌^◌, true, false, Ok, [], length, refl, subst, sym, arith}
+use Rattle.std.proofs.Common.{◌≡◌, ℕ, ◌<◌, true, false, Ok, [], refl, subst, arith}
 use Rattle.pt_gathered.specs.Gathered.{GatheredState, over_in}
-use Rattle.pt_gathered.specs.Settling.{Moves, Runs, NothingTo, event_count}
-use Rattle.pt_gathered.specs.Order.{LaneComes, DeskComes}
+use Rattle.pt_gathered.specs.Settling.{Moves, event_count}
+use Rattle.pt_gathered.specs.Order.{LaneComes}
 use Rattle.pt_gathered.proofs.Settled.{runs_same, runs_along, after_some, after_none}
 use Rattle.pt_gathered.proofs.Ordering.{more_in_turn}
 use Rattle.pt_gathered.proofs.settling.settle_to.Goals as goal

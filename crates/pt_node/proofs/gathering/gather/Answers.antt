@@ -1,13 +1,11 @@
-use Rattle.std.proofs.Common.{◌≡◌, List, map, refl, sym, ap, ◌∙◌, subst}
+use Rattle.std.proofs.Common.{◌≡◌, map, sym, ap, ◌∙◌, subst}
 use Rattle.std.proofs.lemmas.Simd.{map-map}
-use Rattle.pt_carrier.specs.Ends.{OutEnds, InEnds}
 use Rattle.pt_carrier.specs.Node.{places, kept, IsNode, AreLeft, lists}
 use Rattle.pt_gathered.specs.Gathered.{GatheredState}
-use Rattle.pt_desk.specs.DeskState.{DeskState, place}
-use Rattle.pt_node.specs.Desks.{AreDesksOf, AreAccounted, AreWhole, all_ends, all_shards}
-use Rattle.pt_node.specs.Gathering.{Gathers}
+use Rattle.pt_desk.specs.DeskState.{DeskState}
+use Rattle.pt_node.specs.Desks.{AreDesksOf, AreAccounted, AreWhole, all_ends}
 use Rattle.pt_node.proofs.Together.{gathered_whole, same_journals}
-use Rattle.pt_node.proofs.Wholes.{whole_accounted, accounted_kept, accounted_count, desks_kept}
+use Rattle.pt_node.proofs.Wholes.{whole_accounted, accounted_kept, desks_kept}
 use Rattle.pt_node.proofs.gathering.gather.Goals as goal
 
 pub reunite-requires : goal.reunite-requires

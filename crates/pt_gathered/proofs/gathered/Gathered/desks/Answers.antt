@@ -1,4 +1,4 @@
-use Rattle.std.proofs.Common.{◌≡◌, ◌≤◌, length, subst}
+use Rattle.std.proofs.Common.{◌≤◌, length, subst}
 use Rattle.pt_gathered.specs.Gathered.{GatheredState}
 use Rattle.pt_gathered.proofs.Agreeing.{few_desks}
 use Rattle.pt_gathered.proofs.gathered.Gathered.desks.Goals as goal

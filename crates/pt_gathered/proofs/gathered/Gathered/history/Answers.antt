@@ -1,8 +1,6 @@
-use Rattle.std.proofs.Common.{◌≡◌, ℕ, ◌<◌, List, length, map, get_or, reverse, sym, ap, ◌∙◌, subst}
-use Rattle.pt_events.specs.declared.event.Stamped.{Stamped}
+use Rattle.std.proofs.Common.{◌≡◌, reverse, sym, subst}
 use Rattle.pt_events.specs.Journal.{IsMerge}
-use Rattle.pt_laws.specs.Laws.{LegalWithLeftOver}
-use Rattle.pt_gathered.specs.Gathered.{GatheredState, journals, over}
+use Rattle.pt_gathered.specs.Gathered.{GatheredState, journals}
 use Rattle.pt_gathered.specs.History.{AreJournalsOf}
 use Rattle.pt_gathered.proofs.Histories.{merge_of_desks}
 use Rattle.pt_gathered.proofs.gathered.Gathered.history.Goals as goal

@@ -1,4 +1,4 @@
-use Rattle.std.proofs.Common.{◌≡◌, ◌++◌, length, sym, ap, ◌∙◌}
+use Rattle.std.proofs.Common.{◌++◌, length, sym, ap, ◌∙◌}
 use Rattle.pt_gathered.specs.LeftOvers.{left_from}
 use Rattle.pt_gathered.proofs.Places.{joined_more}
 use Rattle.pt_gathered.proofs.gathered.Gathered.left_over.Goals as goal

@@ -1,4 +1,4 @@
-use Rattle.std.proofs.Common.{◌≡◌, ◌++◌, append_assoc, sym, ap, ◌∙◌}
+use Rattle.std.proofs.Common.{◌++◌, append_assoc, sym, ap, ◌∙◌}
 use Rattle.pt_gathered.specs.LeftOvers.{left_from, left_between}
 use Rattle.pt_gathered.proofs.Places.{joined_more}
 use Rattle.pt_gathered.proofs.gathered.Gathered.list_from.Goals as goal

@@ -1,5 +1,5 @@
-use Rattle.std.proofs.Common.{◌≡◌, ◌+◌, length, refl, subst, arith}
-use Rattle.pt_gathered.specs.Order.{Pass, Passes, PassStops}
+use Rattle.std.proofs.Common.{◌+◌, length, refl, subst, arith}
+use Rattle.pt_gathered.specs.Order.{Pass, PassStops}
 use Rattle.pt_gathered.proofs.Settled.{runs_same, runs_along, settles_along, done_after}
 use Rattle.pt_gathered.proofs.Ordering.{more_in_turn, waits_at_first}
 use Rattle.pt_gathered.proofs.gathered.Gathered.settle.Goals as goal

@@ -1,8 +1,6 @@
-use Rattle.std.proofs.Common.{◌≡◌, ℕ, ◌<◌, [], None, Some, List, length, get_or, set, sym, ap, ◌∙◌, refl, subst, arith}
+use Rattle.std.proofs.Common.{◌≡◌, ◌<◌, [], length, get_or, set, sym, ap, ◌∙◌, refl, subst, arith}
 use Rattle.std.specs.Prelude.{slice_get, Err}
 use Rattle.std.proofs.lemmas.List.{set-get_or}
-use Rattle.pt_signal.specs.declared.letter.Letter.{Letter}
-use Rattle.pt_shard.specs.ShardState.{ShardState}
 use Rattle.pt_gathered.specs.Gathered.{GatheredState, IsGathered, over_in}
 use Rattle.pt_gathered.specs.Settling.{Steps, Receives}
 use Rattle.pt_gathered.specs.Taking.{AreShards, TakesOut}
