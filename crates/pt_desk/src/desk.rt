@@ -9,7 +9,7 @@ ghost use Rattle.pt_shard.specs.ShardState.{lives, state_in};
 ghost use Rattle.pt_shard.specs.Known.{knows};
 ghost use Rattle.pt_shard.specs.Outbox.{count_pending};
 ghost use Rattle.pt_shard.specs.Fit.{IsFit};
-ghost use Rattle.pt_shard.specs.Calls.{Calls, Monitors, Bears, BearsChild, link_event, unlink_event, first_match, take_event, demonitor_event, held_by};
+ghost use Rattle.pt_shard.specs.Calls.{Calls, Monitors, Bears, BearsChild, link_event, unlink_event, first_match, take_event, demonitor_event, held_by, new_ref};
 ghost use Rattle.pt_desk.specs.DeskState.{IsDesk, IsAccounted, HasSameEnds, GoesOn, posted_to, waits_for, collected_from, held_from};
 ghost use Rattle.pt_desk.specs.Posting.{PostsOne, PostsTo, PostsSome, Posts, total};
 ghost use Rattle.pt_desk.specs.Turns.{Handles, Turns};
@@ -256,6 +256,20 @@ impl Desk {
         ensures goes_on { GoesOn self.old self.new }
     {
         self.shard.demonitor(w, monitor, flush)
+    }
+
+    /// Asks whether another process is alive: Erlang's `is_process_alive/1`, section Processes and Erlang's signals. It
+    /// answers the reference, which the answer will have.
+    ///
+    /// The answer comes as an item, after all that t sent p before; t may be p. Refused as `Gone`, `Worn` or
+    /// `Memory`.
+    pub fn ask_alive(&mut self, p: Pid, t: Pid) -> Result<Ref, Fault>
+        requires { knows self.old.shard t ≡ true }
+        ensures does { Calls p (Some (Event.Said p t (Signal.AliveAsk (new_ref self.old.shard)))) (new_ref self.old.shard) self.old.shard result self.new.shard }
+        ensures ends { HasSameEnds self.old self.new }
+        ensures goes_on { GoesOn self.old self.new }
+    {
+        self.shard.ask_alive(p, t)
     }
 
     /// Sets whether p traps exits, and answers whether it did: Erlang's `process_flag(trap_exit, _)`, section

@@ -160,10 +160,21 @@ fn is_each_call_done(desk: &mut Desk) -> Result<bool, Fault>
         return Ok(false);
     }
     desk.exit_signal(b, a, Reason::Shutdown)?;
-    let told = turn(desk, 16) == Some((3, 3));
+    if !desk.knows(a) {
+        return Ok(false);
+    }
+    let question = desk.ask_alive(b, a)?;
+    let told = turn(desk, 16) == Some((4, 4)) && turn(desk, 16) == Some((1, 1));
     let item = desk.receive(a, Pick::ExitOf(b))?;
+    let answer = desk.receive(b, Pick::AliveOf(question))?;
     desk.exit(a, Reason::Normal)?;
-    let all = linked && cut && watched && !before && told && !desk.alive_here(a);
+    let all = linked
+        && cut
+        && watched
+        && !before
+        && told
+        && answer.is_some()
+        && !desk.alive_here(a);
     Ok(all && item == Some(Item::Exit(b, Reason::Shutdown)))
 }
 
