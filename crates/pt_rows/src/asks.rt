@@ -21,10 +21,7 @@ fn a_question_to_a_process_that_ended_is_answered_by_no(rt: HostRuntime) -> Resu
         (Turn(16), "posted 1 handled 1"),
         (Clock, "7"),
         (Waiting(A), "alive #0.4 <0.1.1> no;"),
-        (
-            Receive(A, Pick::AliveOf(question)),
-            "alive #0.4 <0.1.1> no",
-        ),
+        (Receive(A, Pick::AliveOf(question)), "alive #0.4 <0.1.1> no"),
     ];
     play(&rt, rt.alloc(), settings(8), &steps)
 }

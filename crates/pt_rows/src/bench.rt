@@ -5,9 +5,11 @@ ghost use Rattle.pt_rows.specs.Rows.{IsStill};
 
 use crate::play::Call;
 use pt_history::{State, replay};
-use pt_node::{Body, Desk, Event, Fault, Gathered, Pick, Pid, Reason, Ref, Turned};
+use pt_node::{Body, Desk, Event, Fault, Gathered, Pick, Pid, Reason, Ref, Stamped, Turned};
 use std::alloc::{AllocError, Global};
 use std::fmt::Display;
+use std::process::Abort;
+use std::test::Fail;
 
 /// Makes a call on a desk, which stays the desk that it was of its node.
 pub fn answer(alloc: Global, desk: &mut Desk, call: Call) -> Result<String, AllocError>
@@ -224,29 +226,51 @@ fn ask_alive(alloc: Global, desk: &mut Desk, p: Pid, t: Pid) -> Result<String, A
 
 /// The reason with which a process ended, as the judge tells it of the journal of a node's one desk.
 fn ended(alloc: Global, desk: &Desk, p: Pid) -> Result<String, AllocError> {
-    let mut events: Vec<Event> = Vec::new(alloc);
-    for stamped in desk.journal().events() {
-        events.push(stamped.event)?;
-    }
-    match replay(alloc, events.as_slice()) {
-        Ok(state) => text_or_none(alloc, state.ended(p)),
-        Err(_) => "unlawful".to_string(alloc),
+    match state_after(alloc, desk.journal().events())? {
+        Some(state) => text_or_none(alloc, state.ended(p)),
+        None => "unlawful".to_string(alloc),
     }
 }
 
 /// The state that the merged history leads to, if the judge of histories lets it pass.
 pub fn judged(alloc: Global, gathered: &Gathered) -> Result<Option<State>, AllocError> {
+    state_after(alloc, gathered.history()?.as_slice())
+}
+
+/// The state that the events lead to, if the judge of histories lets them pass.
+fn state_after(alloc: Global, history: &[Stamped]) -> Result<Option<State>, AllocError> {
     let mut events: Vec<Event> = Vec::new(alloc);
-    for stamped in gathered.history()? {
+    for stamped in history {
         events.push(stamped.event)?;
     }
     Ok(replay(alloc, events.as_slice()).ok())
 }
 
-/// The events of the merged history, each with a `;` after it.
-pub fn history(alloc: Global, gathered: &Gathered) -> Result<String, AllocError> {
+/// Settles, and compares how many letters were handled and the last of the events of the quiet history, each with a
+/// `;` after it. The judge of histories has to let the history pass, with nothing in flight.
+pub fn settled(
+    rt: &impl Abort,
+    alloc: Global,
+    gathered: Gathered,
+    handled: u64,
+    end: &str,
+) -> Result<(), Fail> {
+    let Ok(quiet) = gathered.settle() else {
+        return Err(AllocError)?;
+    };
+    assert_eq!(rt; quiet.handled(), handled);
+    let history = quiet.history()?;
+    let text = history_text(alloc, history.as_slice())?;
+    assert!(rt; text.ends_with(end), "{text}");
+    let state = state_after(alloc, history.as_slice())?;
+    assert_eq!(rt; state.map(|state| state.in_flight()), Some(0));
+    Ok(())
+}
+
+/// The events, each with a `;` after it.
+fn history_text(alloc: Global, history: &[Stamped]) -> Result<String, AllocError> {
     let mut text = String::new(alloc);
-    for stamped in gathered.history()? {
+    for stamped in history {
         text.push_str(&stamped.to_string(alloc)?)?;
         text.push_str(";")?;
     }

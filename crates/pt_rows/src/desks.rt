@@ -184,7 +184,8 @@ const THREE: [Step; 5] = [
 ];
 
 /// They as letters that are left over.
-const THREE_LEFT: &str = "left-over 0 -> 1 <0.0.1> -> <1.0.1> message 1 1 @2;left-over 0 -> 1 <0.0.1> -> <1.0.1> message 1 2 @3;left-over 0 -> 1 <0.0.1> -> <1.0.1> message 1 3 @4;";
+const THREE_LEFT: &str =
+    "left-over 0 -> 1 <0.0.1> -> <1.0.1> message 1 1 @2;left-over 0 -> 1 <0.0.1> -> <1.0.1> message 1 2 @3;left-over 0 -> 1 <0.0.1> -> <1.0.1> message 1 3 @4;";
 
 #[test]
 fn letters_in_the_outbox_are_left_over(rt: HostRuntime) -> Result<(), Fail> {

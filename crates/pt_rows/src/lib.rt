@@ -5,9 +5,9 @@
 #![tactic(auto)]
 
 #[cfg(test)]
-mod bench;
-#[cfg(test)]
 mod asks;
+#[cfg(test)]
+mod bench;
 #[cfg(test)]
 mod desks;
 #[cfg(test)]

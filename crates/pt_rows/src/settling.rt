@@ -36,6 +36,7 @@ fn three_messages_come_when_the_node_settles(rt: HostRuntime) -> Result<(), Fail
         (Send(A, A1, 1, 3), "ok"),
         (TurnOf(0, 16), "posted 3 handled 0"),
     ];
-    let end = "3@1 came <0.0.1> -> <1.0.1> message 1 1;4@0 said <0.0.1> -> <1.0.1> message 1 3;4@1 came <0.0.1> -> <1.0.1> message 1 2;5@1 came <0.0.1> -> <1.0.1> message 1 3;";
+    let end =
+        "3@1 came <0.0.1> -> <1.0.1> message 1 1;4@0 said <0.0.1> -> <1.0.1> message 1 3;4@1 came <0.0.1> -> <1.0.1> message 1 2;5@1 came <0.0.1> -> <1.0.1> message 1 3;";
     settled(&rt, rt.alloc(), two_desks(8), &steps, 3, 3, end)
 }
