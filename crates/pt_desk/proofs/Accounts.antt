@@ -1,5 +1,5 @@
 -- The accounts of a desk, over what it does.
-use Rattle.std.proofs.Common.{◌≡◌, ◌≢◌, ℕ, ◌+◌, ◌<◌, ◌≤◌, ◌==◌, Bool, true, false, cond, List, [], ◌∷◌, ◌++◌, length, max, map, filter, drop, get_or, set, Option, Some, None, refl, sym, ap, ◌∙◌, subst, append_assoc, append-nil, ⊎_elim, arith}
+use Rattle.std.proofs.Common.{◌≡◌, ◌≢◌, ℕ, ◌+◌, ◌<◌, ◌≤◌, ◌==◌, Bool, true, false, cond, [], ◌∷◌, ◌++◌, length, max, map, filter, drop, get_or, set, Option, Some, None, refl, sym, ap, ◌∙◌, subst, append_assoc, append-nil, ⊎_elim, arith}
 use Rattle.std.specs.Prelude.{IfSome}
 use Rattle.std.proofs.lemmas.Bool.{eqb-true, eq-eqb, ne_eqb, both_ways, cases_lt}
 use Rattle.std.proofs.lemmas.List.{get_or_past, get_or-set_same, get_or-set_other, length-set}
@@ -8,7 +8,7 @@ use Rattle.pt_signal.specs.declared.letter.Letter.{Letter}
 use Rattle.pt_signal.specs.Process.{sent}
 use Rattle.pt_events.specs.declared.event.Event.{Event}
 use Rattle.pt_events.specs.History.{sent_by}
-use Rattle.pt_events.specs.Journal.{events, letter, letters, posts, gots, Agrees}
+use Rattle.pt_events.specs.Journal.{letter, letters, posts, gots, Agrees}
 use Rattle.pt_carrier.specs.Ends.{OutEnds, InEnds, one_more, Collects}
 use Rattle.pt_shard.specs.ShardState.{ShardState, past, written, handled, came}
 use Rattle.pt_shard.specs.Outbox.{sent_on, holding}

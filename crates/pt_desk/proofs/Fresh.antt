@@ -1,5 +1,5 @@
 -- The accounts of a desk on which nothing has happened.
-use Rattle.std.proofs.Common.{◌≡◌, ℕ, zero, suc, ◌<◌, List, [], length, get_or, refl, sym, ap, ◌∙◌, map, arith}
+use Rattle.std.proofs.Common.{◌≡◌, ℕ, zero, suc, ◌<◌, List, [], length, get_or, refl, sym, ◌∙◌, map, arith}
 use Rattle.std.specs.Prelude.{replicate}
 use Rattle.pt_signal.specs.declared.letter.Letter.{Letter}
 use Rattle.pt_carrier.specs.Ends.{OutEnds, InEnds}

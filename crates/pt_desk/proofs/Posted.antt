@@ -1,8 +1,8 @@
 -- What a post does to the lanes out of a desk.
-use Rattle.std.proofs.Common.{◌≡◌, ◌≢◌, ℕ, ◌+◌, ◌<◌, ◌≤◌, ◌⊎◌, inl, inr, below_more, Bool, true, false, List, [], ◌∷◌, ◌++◌, length, take, drop, get_or, set, refl, sym, ap, ◌∙◌, subst, append_assoc, append-nil, length-drop, get_or-drop, arith}
-use Rattle.std.proofs.lemmas.List.{take_more, drop-drop, drop_all, get_or-set_same, get_or-set_other, length-set}
+use Rattle.std.proofs.Common.{◌≡◌, ℕ, ◌+◌, ◌<◌, ◌≤◌, inl, inr, below_more, true, false, List, [], ◌∷◌, ◌++◌, length, take, drop, get_or, refl, sym, ap, ◌∙◌, subst, append_assoc, append-nil, length-drop, get_or-drop, arith}
+use Rattle.std.proofs.lemmas.List.{take_more, drop-drop, drop_all, get_or-set_same, get_or-set_other}
 use Rattle.pt_signal.specs.declared.letter.Letter.{Letter}
-use Rattle.pt_carrier.specs.Ends.{OutEnds, InEnds, one_more, IsFull, LooksAt}
+use Rattle.pt_carrier.specs.Ends.{OutEnds, InEnds, one_more, LooksAt}
 use Rattle.pt_shard.specs.ShardState.{ShardState}
 use Rattle.pt_shard.specs.Outbox.{sent_on}
 use Rattle.pt_shard.specs.Fit.{IsFit}

@@ -1,5 +1,5 @@
 -- What a turn does with the letters that it finds.
-use Rattle.std.proofs.Common.{◌≡◌, ℕ, ◌+◌, ◌^◌, ◌<◌, ◌≤◌, ◌⊎◌, inl, inr, List, [], ◌∷◌, ◌++◌, length, max, Option, Some, None, Err, refl, sym, ap, ◌∙◌, subst, append_assoc, arith}
+use Rattle.std.proofs.Common.{◌≡◌, ℕ, ◌^◌, ◌<◌, inl, inr, List, [], ◌∷◌, ◌++◌, length, max, Option, Some, None, Err, refl, sym, ap, ◌∙◌, subst, append_assoc}
 use Rattle.pt_signal.specs.declared.letter.Letter.{Letter}
 use Rattle.pt_carrier.specs.Ends.{OutEnds, InEnds, Collects, IsFirst}
 use Rattle.pt_shard.specs.declared.stop.Stop.{Stop}
@@ -7,9 +7,8 @@ use Rattle.pt_shard.specs.declared.stop.Stop.TheVariants.{Memory, Worn}
 use Rattle.pt_shard.specs.ShardState.{ShardState, handled, Handles as ShardHandles}
 use Rattle.pt_shard.specs.Outbox.{holding}
 use Rattle.pt_shard.specs.Extends.{Extends}
-use Rattle.pt_shard.specs.Known.{knows}
 use Rattle.pt_desk.specs.DeskState.{DeskState, GoesOn, IsAccounted, place}
-use Rattle.pt_desk.specs.Posting.{Posts, OnlyPosts}
+use Rattle.pt_desk.specs.Posting.{Posts}
 use Rattle.pt_desk.specs.Turns.{TakesIn, Fetches, FindsNone, HandlesNext, HandlesAll, Stays, EndsWith, handled_held}
 use Rattle.pt_desk.proofs.Accounts.{accounted_handled, accounted_taken}
 use Rattle.pt_desk.proofs.Posted.{of_parts}

@@ -1,7 +1,7 @@
 -- How a desk posts.
-use Rattle.std.specs.Prelude.{◌≡◌, ◌≢◌, ℕ, ◌+◌, ◌<◌, ◌⊎◌, Bool, true, false, List, [], ◌∷◌, ◌++◌, length, sum_by, take, drop, slice_index_or, slice_set}
+use Rattle.std.specs.Prelude.{◌≡◌, ◌≢◌, ℕ, ◌+◌, ◌<◌, ◌⊎◌, Bool, true, false, List, [], ◌∷◌, ◌++◌, length, sum_by, take, drop, slice_index_or}
 use Rattle.pt_signal.specs.declared.letter.Letter.{Letter}
-use Rattle.pt_carrier.specs.Ends.{IsFull, one_more}
+use Rattle.pt_carrier.specs.Ends.{IsFull}
 use Rattle.pt_desk.specs.DeskState.{DeskState, posted_to, waits_for}
 
 -- how many letters the lists have together

@@ -1,4 +1,4 @@
-use Rattle.std.proofs.Common.{Some, sym, ◌∙◌, subst}
+use Rattle.std.proofs.Common.{sym, ◌∙◌, subst}
 use Rattle.pt_desk.specs.Turns.{HandlesNext}
 use Rattle.pt_desk.proofs.Turning.{next_held, held_accounted, next_collected, collected_accounted, refused_accounted}
 use Rattle.pt_desk.proofs.Posted.{of_parts}

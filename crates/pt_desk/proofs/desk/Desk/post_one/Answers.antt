@@ -1,4 +1,4 @@
-use Rattle.std.proofs.Common.{true, ◌≡◌, ◌<◌, ◌∷◌, [], drop, get_or, refl, sym, ap, ◌∙◌, subst, inl, arith}
+use Rattle.std.proofs.Common.{true, ◌<◌, [], get_or, refl, sym, ap, ◌∙◌, subst, inl, arith}
 use Rattle.pt_desk.specs.DeskState.{DeskState}
 use Rattle.pt_desk.specs.Posting.{PostsOne}
 use Rattle.pt_shard.specs.Fit.{AreBetween}

@@ -1,4 +1,4 @@
-use Rattle.std.proofs.Common.{true, subst, ap, ◌+◌}
+use Rattle.std.proofs.Common.{subst, ap, ◌+◌}
 use Rattle.pt_desk.specs.Posting.{PostsOne}
 use Rattle.pt_desk.proofs.Posted.{front_one}
 use Rattle.pt_desk.proofs.desk.Desk.post_to.Goals as goal

@@ -1,4 +1,4 @@
-use Rattle.std.proofs.Common.{◌∷◌, Some, None, ◌∙◌, ap, ◌+◌, subst, Ok, inl, inr, length, refl, arith}
+use Rattle.std.proofs.Common.{◌∷◌, Some, None, subst, Ok, inl, inr, refl, arith}
 use Rattle.pt_desk.specs.Turns.{Handles}
 use Rattle.pt_desk.proofs.Turning.{turn_goes_on}
 use Rattle.pt_desk.proofs.desk.Desk.turn.Goals as goal
