@@ -278,6 +278,13 @@ impl Ledger {
         self.outbox[usize::from(to)].first()
     }
 
+    pub fn out_at(&self, to: u8, place: usize) -> Option<Letter>
+        requires { to < length self.now.book.outbox }
+        ensures { result ≡ slice_get (slice_index_or self.now.book.outbox to []) place }
+    {
+        self.outbox[usize::from(to)].at(place)
+    }
+
     pub fn next_out(&mut self, to: u8) -> Option<Letter>
         requires { to < length self.old.book.outbox }
         ensures first { result ≡ slice_get (slice_index_or self.old.book.outbox to []) 0 }

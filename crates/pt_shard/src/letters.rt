@@ -44,6 +44,13 @@ impl Letters {
         self.letters.front().copied()
     }
 
+    /// The letter at this place, counted from the oldest.
+    pub fn at(&self, place: usize) -> Option<Letter>
+        ensures { result ≡ slice_get self.now.letters place }
+    {
+        self.letters.get(place).copied()
+    }
+
     pub fn pop(&mut self) -> Option<Letter>
         ensures first { result ≡ slice_get self.old.letters 0 }
         ensures rest { self.new.letters ≡ drop 1 self.old.letters }

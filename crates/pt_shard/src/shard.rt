@@ -463,6 +463,15 @@ impl Shard {
         self.ledger.first_out(to)
     }
 
+    /// The letter at this place among those that wait to be posted to desk `to`, counted from the oldest.
+    pub fn out_at(&self, to: u8, place: usize) -> Option<Letter>
+        requires { to < self.now.config.desks }
+        ensures { result ≡ slice_get (box self.now to) place }
+    {
+        let _ = &self.house;
+        self.ledger.out_at(to, place)
+    }
+
     /// Takes the oldest letter out that waits to be posted to desk `to`.
     pub fn next_out(&mut self, to: u8) -> Option<Letter>
         requires { to < self.old.config.desks }
