@@ -5,7 +5,7 @@ ghost use Rattle.pt_rows.specs.Rows.{IsStill};
 
 use crate::play::Call;
 use pt_history::{State, replay};
-use pt_node::{Body, Desk, Event, Fault, Gathered, Pick, Pid, Reason, Ref, Stamped, Turned};
+use pt_node::{Body, Desk, Event, Fault, Gathered, Item, Pick, Pid, Reason, Ref, Stamped, Turned};
 use std::alloc::{AllocError, Global};
 use std::fmt::Display;
 use std::process::Abort;
@@ -42,14 +42,16 @@ fn look_at(alloc: Global, desk: &Desk, call: Call) -> Result<String, AllocError>
         Call::Clock | Call::ClockOf(_) => desk.clock().to_string(alloc),
         Call::Pending(_) => desk.pending().to_string(alloc),
         Call::Events => desk.journal().events().len().to_string(alloc),
-        Call::Event(stamp) | Call::EventOf(_, stamp) => event(alloc, desk, stamp),
+        Call::Event(stamp) | Call::EventOf(_, stamp) => {
+            event_in(alloc, desk.journal().events(), desk.number(), stamp)
+        }
         Call::Stamps => stamps(alloc, desk),
         Call::Alive(p) => desk.alive_here(p).to_string(alloc),
         Call::Ended(p) => ended(alloc, desk, p),
         Call::Knows(p) | Call::KnowsOn(_, p) => desk.knows(p).to_string(alloc),
         Call::Vacant => text_or_none(alloc, desk.vacant()),
         Call::Linked(p, q) => text_or_none(alloc, desk.linked(p, q)),
-        Call::Waiting(p) => waiting(alloc, desk, p),
+        Call::Waiting(p) => items(alloc, desk.waiting(p)),
         _ => "no look".to_string(alloc),
     }
 }
@@ -181,16 +183,6 @@ fn turn(alloc: Global, desk: &mut Desk, budget: u32) -> Result<String, AllocErro
     }
 }
 
-/// The event with this stamp.
-fn event(alloc: Global, desk: &Desk, stamp: u64) -> Result<String, AllocError> {
-    for event in desk.journal().events() {
-        if event.stamp == stamp {
-            return event.to_string(alloc);
-        }
-    }
-    "none".to_string(alloc)
-}
-
 /// The stamps of all events, each with a blank after it.
 fn stamps(alloc: Global, desk: &Desk) -> Result<String, AllocError> {
     let mut text = String::new(alloc);
@@ -202,8 +194,8 @@ fn stamps(alloc: Global, desk: &Desk) -> Result<String, AllocError> {
 }
 
 /// The items that wait in a mailbox, each with a `;` after it.
-fn waiting(alloc: Global, desk: &Desk, p: Pid) -> Result<String, AllocError> {
-    let Some(items) = desk.waiting(p) else {
+fn items(alloc: Global, waiting: Option<&[Item]>) -> Result<String, AllocError> {
+    let Some(items) = waiting else {
         return "none".to_string(alloc);
     };
     let mut text = String::new(alloc);
@@ -246,35 +238,81 @@ fn state_after(alloc: Global, history: &[Stamped]) -> Result<Option<State>, Allo
     Ok(replay(alloc, events.as_slice()).ok())
 }
 
-/// Settles, and compares how many letters were handled and the last of the events of the quiet history, each with a
-/// `;` after it. The judge of histories has to let the history pass, with nothing in flight.
-pub fn settled(
-    rt: &impl Abort,
-    alloc: Global,
-    gathered: Gathered,
-    handled: u64,
-    end: &str,
-) -> Result<(), Fail> {
+/// A node that was settled: how many letters were handled, the quiet history, and the state that it leads to.
+#[derive(Drop)]
+pub struct Settled {
+    pub handled: u64,
+    history: Vec<Stamped>,
+    state: State,
+}
+
+/// Settles. The judge of histories has to let the history pass before and after, and then nothing is in flight.
+pub fn settle(rt: &impl Abort, alloc: Global, gathered: Gathered) -> Result<Settled, Fail> {
+    assert!(rt; judged(alloc, &gathered)?.is_some());
     let Ok(quiet) = gathered.settle() else {
         return Err(AllocError)?;
     };
-    assert_eq!(rt; quiet.handled(), handled);
+    let handled = quiet.handled();
     let history = quiet.history()?;
-    let text = history_text(alloc, history.as_slice())?;
-    assert!(rt; text.ends_with(end), "{text}");
-    let state = state_after(alloc, history.as_slice())?;
-    assert_eq!(rt; state.map(|state| state.in_flight()), Some(0));
-    Ok(())
+    let Some(state) = state_after(alloc, history.as_slice())? else {
+        panic!(rt; "the quiet history is unlawful");
+    };
+    assert_eq!(rt; state.in_flight(), 0);
+    Ok(Settled {
+        handled,
+        history,
+        state,
+    })
 }
 
-/// The events, each with a `;` after it.
-fn history_text(alloc: Global, history: &[Stamped]) -> Result<String, AllocError> {
-    let mut text = String::new(alloc);
-    for stamped in history {
-        text.push_str(&stamped.to_string(alloc)?)?;
-        text.push_str(";")?;
+impl Settled {
+    /// Whether the messages that wait at p from one sender are numbered 0, 1, 2 and so on, below `count`.
+    pub fn has_in_order(&self, p: Pid, from: Pid, count: i64) -> bool {
+        let Some(items) = self.state.waiting(p) else {
+            return false;
+        };
+        let mut next: i64 = 0;
+        for item in items {
+            if let Item::User(sender, body) = *item
+                && sender == from
+            {
+                if body.num != next {
+                    return false;
+                }
+                next = next.saturating_add(1);
+            }
+        }
+        next == count
     }
-    Ok(text)
+}
+
+/// Looks at a settled node, as at a desk.
+pub fn look_after(alloc: Global, settled: &Settled, call: Call) -> Result<String, AllocError> {
+    let state = &settled.state;
+    match call {
+        Call::Events => settled.history.len().to_string(alloc),
+        Call::EventOf(desk, stamp) => event_in(alloc, settled.history.as_slice(), desk, stamp),
+        Call::Alive(p) => state.alive(p).to_string(alloc),
+        Call::Ended(p) => text_or_none(alloc, state.ended(p)),
+        Call::Linked(p, q) => text_or_none(alloc, state.linked(p, q)),
+        Call::Waiting(p) => items(alloc, state.waiting(p)),
+        _ => "no look".to_string(alloc),
+    }
+}
+
+/// The event of a desk with this stamp.
+fn event_in(
+    alloc: Global,
+    history: &[Stamped],
+    desk: u8,
+    stamp: u64,
+) -> Result<String, AllocError> {
+    for event in history {
+        if event.desk == desk && event.stamp == stamp {
+            return event.to_string(alloc);
+        }
+    }
+    "none".to_string(alloc)
 }
 
 /// The letters left over, each with a `;` after it.

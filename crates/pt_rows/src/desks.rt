@@ -249,7 +249,7 @@ fn play_fifty(rt: &impl Abort, alloc: Global, desks: &mut Vec<Desk>) -> Result<(
 }
 
 /// Two senders send fifty messages each, and what the receiver is to have in the end is told.
-fn send_fifty(alloc: Global, desks: &mut Vec<Desk>) -> Result<String, Fail>
+pub fn send_fifty(alloc: Global, desks: &mut Vec<Desk>) -> Result<String, Fail>
     requires { AreDesks desks.old.items }
     ensures { AreDesks desks.new.items }
 {

@@ -82,6 +82,33 @@ pub fn play_whole(
     close(alloc, desks, played)
 }
 
+/// Plays the steps on a new node, and then some more of them, and gathers it.
+pub fn play_on(
+    rt: &impl Abort,
+    alloc: Global,
+    config: Config,
+    steps: &[Step],
+    more: &[Step],
+) -> Result<Gathered, Fail> {
+    let mut desks = open(alloc, config)?;
+    let played = run_both(rt, alloc, &mut desks, steps, more);
+    close(alloc, desks, played)
+}
+
+fn run_both(
+    rt: &impl Abort,
+    alloc: Global,
+    desks: &mut Vec<Desk>,
+    steps: &[Step],
+    more: &[Step],
+) -> Result<(), Fail>
+    requires { AreDesks desks.old.items }
+    ensures { AreDesks desks.new.items }
+{
+    run(rt, alloc, desks, steps)?;
+    run(rt, alloc, desks, more)
+}
+
 /// Plays the steps on the desks of a node.
 pub fn run(
     rt: &impl Abort,
