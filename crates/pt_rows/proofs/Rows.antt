@@ -7,7 +7,7 @@ use Rattle.pt_desk.specs.DeskState.{DeskState, place}
 use Rattle.pt_node.specs.Desks.{AreDesks, AreDesksOf}
 use Rattle.pt_rows.specs.Rows.{IsStill}
 
-settings : DeskState → Config
+abbrev settings : DeskState → Config
 settings d = d.shard.config
 
 pub still_desks : (desks : List DeskState) (d : ℕ) (old x : DeskState) → AreDesks desks → d < length desks → old ≡ get_or desks d old → IsStill old x → AreDesks (set desks d x)

@@ -1,5 +1,6 @@
 // Plays a table of calls on the desks of a node, and compares each answer with the one that the table has.
 
+ghost use Rattle.std.specs.Prelude.{◌<◌};
 ghost use Rattle.pt_node.specs.Desks.{AreDesks};
 
 use crate::bench;
@@ -144,17 +145,24 @@ pub fn close(alloc: Global, desks: Vec<Desk>, played: Result<(), Fail>) -> Resul
 }
 
 /// Makes a call on the desk that it is for, or on desk 0 where the node has no such desk.
-#[tactic(auto, using(crate::proofs::Rows::still_desks))]
 pub fn make(alloc: Global, desks: &mut Vec<Desk>, call: Call) -> Result<String, AllocError>
     requires { AreDesks desks.old.items }
     ensures { AreDesks desks.new.items }
 {
-    let named = usize::from(desk_of(call));
-    let d = if named < desks.len() { named } else { 0 };
+    let d = place_of(call, desks.len());
     bench::answer(alloc, &mut desks[d], call)
 }
 
-/// The desk on which a call is made.
+/// The place of the desk on which a call is made, in a node of so many desks.
+fn place_of(call: Call, count: usize) -> usize
+    requires { 0 < count }
+    ensures { result < count }
+{
+    let named = usize::from(desk_of(call));
+    if named < count { named } else { 0 }
+}
+
+/// The desk that a call names.
 fn desk_of(call: Call) -> u8 {
     match call {
         Call::SpawnOn(desk)

@@ -1,5 +1,5 @@
 -- What the two processes of the run call.
-use Rattle.std.specs.Prelude.{◌≡◌, ℕ, pos, List, [], ◌∷◌, None}
+use Rattle.std.specs.Prelude.{◌≡◌, ℕ, pos, List, [], ◌∷◌, map, slice_index_or, None}
 use Rattle.pt_signal.specs.declared.pid.Pid.{Pid}
 use Rattle.pt_signal.specs.declared.reason.Reason.TheVariants.{Normal}
 use Rattle.pt_signal.specs.declared.item.Body.{Body}
@@ -8,6 +8,7 @@ use Rattle.pt_events.specs.declared.event.Event.TheVariants.{Born, Said, Came, T
 use Rattle.pt_events.specs.History.{Past}
 use Rattle.pt_events.specs.Journal.{events}
 use Rattle.pt_events.specs.declared.event.Stamped.{Stamped}
+use Rattle.pt_desk.specs.DeskState.{DeskState}
 
 -- a history, the newest event first, without receipts and takes
 abbrev pub calls : Past → Past
@@ -32,3 +33,7 @@ exchange ping pong =
 -- a run of the two processes, whichever pids they got
 abbrev pub IsExchange : List Stamped → Type 0
 IsExchange journal = (ping : Pid) × (pong : Pid) × (calls_in journal ≡ exchange ping pong)
+
+-- the journal of desk 0
+abbrev pub first_journal : List DeskState → List Stamped
+first_journal desks = slice_index_or (map (λ (d : DeskState). d.shard.journal) desks) 0 []
