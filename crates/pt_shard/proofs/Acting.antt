@@ -228,8 +228,8 @@ module _ (a : Parts) (whole : IsWhole a) (p : Pid) (f : Found a p) where
       residents =
           put_one (past (shard_of a)) e p own.alone (resident_at a.house.desk a.house.table) (resident_at a.house.desk house.table) whole.sound.residents
           (subst (λ x. IsPut p x (resident_at a.house.desk a.house.table) (resident_at a.house.desk house.table)) (sym after) (put_by_pid a.house.desk p v a.house.table house.table stands.0 puts));
-      issues = λ slot. puts.settings.issues slot ∙ whole.sound.issues slot ∙ sym (issued_same (past (shard_of a)) e slot own.no_birth);
-      born = issued_kept a.house.desk (past (shard_of a)) e own.no_birth whole.sound.born;
+      issues = λ slot. puts.settings.issues slot ∙ whole.sound.issues slot ∙ sym (issued_same [] (past (shard_of a)) e slot own.no_birth);
+      born = issued_kept [] a.house.desk (past (shard_of a)) e own.no_birth whole.sound.born;
       capacity = puts.settings.capacity;
       top_version = puts.settings.top_version;
     }

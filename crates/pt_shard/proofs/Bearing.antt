@@ -121,25 +121,25 @@ offered_key desk None key q h k = absurd (cc)
 offered_key desk (Some other) key q h k = cc
 
 -- a new process knows its own pid
-knows_new : (d : ShardState) (p : Pid) → p.shard ≡ d.number → d.number < d.config.desks → p.slot < d.config.slots → 0 < p.version → p.version ≤ d.config.top_version → p.version ≤ issued_in (past d) p.slot → knows d p ≡ true
+knows_new : (d : ShardState) (p : Pid) → p.shard ≡ d.number → d.number < d.config.desks → p.slot < d.config.slots → 0 < p.version → p.version ≤ d.config.top_version → p.version ≤ issued_in d.start (past d) p.slot → knows d p ≡ true
 knows_new d p here inside slot some top issued = grind (arith, nat_tests)
 
 module _ (a : Parts) (whole : IsWhole a) (key : Key) (r : Resident) (mid : Table) (ins : Inserted r key a.house.table mid) where
   abbrev child : Pid
   child = pid_at a.house.desk key
 
-  next_is : key.version ≡ issued_in (past (shard_of a)) key.slot + 1
+  next_is : key.version ≡ issued_in [] (past (shard_of a)) key.slot + 1
   next_is = ins.version_is_next ∙ ap (λ n. n + 1) (whole.sound.issues key.slot)
 
   not_yet : life [] (past (shard_of a)) child ≡ unborn
-  not_yet = is_unborn_is _ (next_unborn a.house.desk (past (shard_of a)) child whole.sound.born next_is)
+  not_yet = is_unborn_is _ (next_unborn [] a.house.desk (past (shard_of a)) child whole.sound.born next_is)
 
   -- whoever had the slot before has ended
   follows : 1 < key.version → is_ended (life [] (past (shard_of a)) (previous child)) ≡ true
   follows some =
       let empty : at a.house.table key.slot (pred key.version) ≡ None = offered_empty key r a.house.table mid ins (pred key.version) (other_version key.version (omega arith)) in
       let none : resident_at a.house.desk a.house.table (previous child) ≡ None = rw (eq-eqb a.house.desk a.house.desk refl, empty) refl in
-      ended_is (life [] (past (shard_of a)) (previous child)) (previous_born a.house.desk (past (shard_of a)) child whole.sound.born refl next_is some)
+      ended_is (life [] (past (shard_of a)) (previous child)) (previous_born [] a.house.desk (past (shard_of a)) child whole.sound.born refl next_is some)
       (lives_not (life [] (past (shard_of a)) (previous child)) (previous child) (sym (whole.sound.residents (previous child)) ∙ none))
 
   module _ (parent : Option Pid) (link : Option LinkId) (table' : Table) where
@@ -154,7 +154,7 @@ module _ (a : Parts) (whole : IsWhole a) (key : Key) (r : Resident) (mid : Table
       pub capacity : table'.capacity ≡ mid.capacity
       pub top_version : table'.top_version ≡ mid.top_version
 
-    issued_now : (slot : ℕ) → issued mid slot ≡ issued_in (Born child parent link ∷ past (shard_of a)) slot
+    issued_now : (slot : ℕ) → issued mid slot ≡ issued_in [] (Born child parent link ∷ past (shard_of a)) slot
     issued_now slot = ins.issues slot ∙ ap (cond (key.slot == slot) key.version) (whole.sound.issues slot)
 
     lawful : IsBirth → IsLawful a whole (a.book.clock + 1) (Born child parent link) table'
@@ -169,7 +169,7 @@ module _ (a : Parts) (whole : IsWhole a) (key : Key) (r : Resident) (mid : Table
       residents = λ p.
           b.reads p ∙ ap (read_born child parent link p) (whole.sound.residents p) ∙ sym (birth_resident (past (shard_of a)) child parent link not_yet p);
       issues = λ slot. b.issues slot ∙ issued_now slot;
-      born = issued_more a.house.desk (past (shard_of a)) child parent link refl next_is whole.sound.born;
+      born = issued_more [] a.house.desk (past (shard_of a)) child parent link refl next_is whole.sound.born;
       capacity = b.capacity ∙ ins.settings.capacity;
       top_version = b.top_version ∙ ins.settings.top_version;
     }
@@ -182,7 +182,7 @@ module _ (a : Parts) (whole : IsWhole a) (key : Key) (r : Resident) (mid : Table
       is = rw whole.home refl;
       here = refl;
       known =
-          let latest : issued_in (Born child parent link ∷ past (shard_of a)) key.slot ≡ key.version = rw (eq-eqb key.slot key.slot refl) refl in
+          let latest : issued_in [] (Born child parent link ∷ past (shard_of a)) key.slot ≡ key.version = rw (eq-eqb key.slot key.slot refl) refl in
           knows_new (shard_of (parts_of a.config (wrote (a.book.clock + 1) (Born child parent link) [] a.book) (with_table a.house table'))) child refl whole.sound.fit.here
           (let k = ins.slot_in_range in omega (arith, whole.capacity)) (let k = ins.version_is_next in omega arith) (let k = ins.version_in_range in omega (arith, whole.top_version)) (omega (arith, latest));
     }

@@ -83,8 +83,8 @@ module _ (a : Parts) (whole : IsWhole a) where
     pub known : IsKnown [] a.house.desk a.config.top_version (past before) e
     pub near : IsNear a.config.desks e
     pub residents : (p : Pid) → resident_at a.house.desk table p ≡ resident (e ∷ past before) p
-    pub issues : (slot : ℕ) → issued table slot ≡ issued_in (e ∷ past before) slot
-    pub born : BornAreIssued a.house.desk (e ∷ past before)
+    pub issues : (slot : ℕ) → issued table slot ≡ issued_in [] (e ∷ past before) slot
+    pub born : BornAreIssued [] a.house.desk (e ∷ past before)
     pub capacity : table.capacity ≡ a.house.table.capacity
     pub top_version : table.top_version ≡ a.house.table.top_version
 
@@ -163,7 +163,7 @@ module _ (a : Parts) (whole : IsWhole a) where
           config = refl;
           more = stamped_now ∷ [];
           journal = refl;
-          known = stays_known before (record (written n e before) { vacant = vacant_at a.house.desk table }) e refl refl refl whole.sound.born law.born;
+          known = stays_known before (record (written n e before) { vacant = vacant_at a.house.desk table }) e refl refl refl refl whole.sound.born law.born;
         })
 
   -- it is the desk that the event makes of the one before

@@ -82,8 +82,8 @@ module _ (a : Parts) (whole : IsWhole a) (l : Letter) (here : l.to.shard ≡ a.h
           let comes : resident (came l ∷ past (shard_of a)) l.to ≡ remains l (standing a l) = rw (same_pid_refl l.to, there) (gets_is l (life [] (past (shard_of a)) l.to)) in
           put_one (past (shard_of a)) (came l) l.to (λ q. refl) (resident_at a.house.desk a.house.table) (resident_at a.house.desk house.table) whole.sound.residents
           (subst (λ v. IsPut l.to v (resident_at a.house.desk a.house.table) (resident_at a.house.desk house.table)) (sym comes) delivers.live);
-      issues = λ slot. delivers.settings.issues slot ∙ whole.sound.issues slot ∙ sym (issued_same (past (shard_of a)) (came l) slot refl);
-      born = issued_kept a.house.desk (past (shard_of a)) (came l) refl whole.sound.born;
+      issues = λ slot. delivers.settings.issues slot ∙ whole.sound.issues slot ∙ sym (issued_same [] (past (shard_of a)) (came l) slot refl);
+      born = issued_kept [] a.house.desk (past (shard_of a)) (came l) refl whole.sound.born;
       capacity = delivers.settings.capacity;
       top_version = delivers.settings.top_version;
     }

@@ -90,7 +90,7 @@ empty_boxed d n e = go (cases_lt e n)
     go (inl within) = subst (AreBetween d e) (sym (get_or-replicate n e [] [] within)) tt
     go (inr beyond) = let k : length (replicate {A = List Letter} n []) ≡ n = length-replicate n [] in subst (AreBetween d e) (sym (get_or_past (replicate n []) e [] (omega (arith, beyond, k)))) tt
 
-none_issued : (desk : ℕ) (p : Pid) → true ≡ not (is_issued desk [] p)
+none_issued : (desk : ℕ) (p : Pid) → true ≡ not (is_issued [] desk [] p)
 none_issued desk p = grind (arith, nat_tests)
 
 module _ (config : Config) (settings : IsInRange config) (house : ResidentsState) (inside : house.desk < config.desks) (empty : IsEmpty config.slots config.top_version house.table) where

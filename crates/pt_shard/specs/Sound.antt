@@ -4,7 +4,7 @@ use Rattle.pt_signal.specs.declared.pid.Pid.{Pid}
 use Rattle.pt_signal.specs.Process.{ProcessState}
 use Rattle.pt_events.specs.declared.event.Event.{Event}
 use Rattle.pt_events.specs.declared.event.Event.TheVariants.{Said, Came}
-use Rattle.pt_events.specs.History.{Past, Phase, living, life, is_unborn}
+use Rattle.pt_events.specs.History.{Past, Start, Phase, living, life, is_unborn}
 use Rattle.pt_shard.specs.ShardState.{ShardState, past}
 use Rattle.pt_shard.specs.Known.{issued_in}
 use Rattle.pt_shard.specs.Fit.{IsFit}
@@ -15,12 +15,12 @@ Every P [] = ⊤
 Every P (x ∷ xs) = P x × Every P xs
 
 -- p is of the desk, and its version is one that its slot had
-abbrev pub is_issued : ℕ → Past → Pid → Bool
-is_issued desk past p = (p.shard == desk) && (nat_lt 0 p.version && nat_le p.version (issued_in past p.slot))
+abbrev pub is_issued : Start → ℕ → Past → Pid → Bool
+is_issued start desk past p = (p.shard == desk) && (nat_lt 0 p.version && nat_le p.version (issued_in start past p.slot))
 
 -- those pids were born, and no others
-abbrev pub BornAreIssued : ℕ → Past → Type 0
-BornAreIssued desk past = (p : Pid) → is_unborn (life [] past p) ≡ not (is_issued desk past p)
+abbrev pub BornAreIssued : Start → ℕ → Past → Type 0
+BornAreIssued start desk past = (p : Pid) → is_unborn (life start past p) ≡ not (is_issued start desk past p)
 
 -- a live process, by its pid and its state
 abbrev pub of_phase : Pid → Phase → Option (Pid × ProcessState)
@@ -46,6 +46,6 @@ pub record IsSound (d : ShardState) (read : Pid → Option (Pid × ProcessState)
   pub fit : IsFit d
   -- each live process stands in its slot as the journal has it, and nothing else stands anywhere
   pub residents : (p : Pid) → read p ≡ resident (past d) p
-  pub issues : (slot : ℕ) → issued slot ≡ issued_in (past d) slot
-  pub born : BornAreIssued d.number (past d)
+  pub issues : (slot : ℕ) → issued slot ≡ issued_in d.start (past d) slot
+  pub born : BornAreIssued d.start d.number (past d)
   pub near : AllNear d.config.desks (past d)
