@@ -1,3 +1,4 @@
 pub mod Together
 pub mod Wholes
 pub mod Fresh
+pub mod GoingOn

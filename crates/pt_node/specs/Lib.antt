@@ -1,3 +1,4 @@
 pub mod Desks
 pub mod Opening
 pub mod Gathering
+pub mod Running

@@ -15,6 +15,12 @@
 //! [`open`] makes the desks of one node, in order: empty, each with its ends of the lanes. Where the desks go from
 //! there is the caller's matter, since they may move between threads; no call of a desk makes it one of another node.
 //!
+//! # Running
+//!
+//! [`run`] gives each desk a worker on a thread of its own, and [`run_single`] does the same turns on the calling
+//! thread. What a worker does is a [`Work`], and a [`Gate`] stands around each of its turns. The desks come back in
+//! order, still those of one node.
+//!
 //! # Gathering
 //!
 //! [`gather`] takes all desks of one node, each once and in order. Whatever was called on them and by whatever
@@ -26,6 +32,7 @@
 mod gathering;
 mod making;
 mod opening;
+mod running;
 #[cfg(test)]
 mod tests;
 
@@ -37,3 +44,4 @@ pub use pt_events::{Event, Journal, Stamped};
 pub use pt_gathered::{Gathered, LeftOver, Quiet, Unsettled};
 pub use pt_shard::{Config, Fault, OpenError, Stop};
 pub use pt_signal::{Body, Ids, Item, Letter, LinkId, Pick, Pid, Reason, Ref, Signal};
+pub use running::{FreeGate, Gate, Ran, Work, run, run_single};

@@ -1,0 +1,12 @@
+use Rattle.pt_node.proofs.GoingOn.{still_desks, written}
+use Rattle.pt_node.proofs.running.run.Goals as goal
+
+pub returns : goal.returns
+returns g c =
+    let old = c.args.desks.items in
+    let new = c.work_all.new.desks in
+    let continued = rw c.deref_mut.ensures.value at c.work_all.ensures in
+    rw (written old new c.args.desks.len continued.count c.args.desks.ok.0) (record {
+      each = continued;
+      desks = still_desks old new continued
+    })

@@ -1,0 +1,180 @@
+// Workers, each with a desk of a node.
+
+ghost use Rattle.std.specs.Prelude.{◌<◌, map, vec_len};
+ghost use Rattle.pt_desk.specs.DeskState.{GoesOn};
+ghost use Rattle.pt_node.specs.Desks.{AreDesks};
+ghost use Rattle.pt_node.specs.Running.{AllGoOn};
+
+use pt_desk::Desk;
+use std::thread;
+use std::thread::Threads;
+
+/// What a worker does with its desk in each of its turns, before the desk's own turn.
+///
+/// What a step does about a refusal of the desk is its own matter. It promises what each call of a desk does: the desk
+/// stays the same desk of the same node, and its journal begins with the one before.
+pub trait Work {
+    /// One step.
+    fn step(&mut self, desk: &mut Desk)
+        ensures { GoesOn desk.old desk.new };
+}
+
+/// What stands before and after each turn of each worker.
+///
+/// The workers share one gate, so it is used from several threads at a time.
+pub trait Gate {
+    /// Whether the worker of that desk goes on with that turn, counted from 0; else it ends.
+    fn before(&self, desk: u8, turn: u64) -> bool;
+
+    /// Told that the worker of that desk has done that turn.
+    fn after(&self, desk: u8, turn: u64);
+}
+
+/// The gate that is always open.
+#[derive(Clone, Copy, Debug)]
+pub struct FreeGate;
+
+impl Gate for FreeGate {
+    fn before(&self, _desk: u8, _turn: u64) -> bool {
+        true
+    }
+
+    fn after(&self, _desk: u8, _turn: u64) {}
+}
+
+/// All desks and their work, in order, after a run.
+pub struct Ran<W> {
+    /// The desks as their workers left them.
+    pub desks: Vec<(Desk, W)>,
+}
+
+/// Lets each desk's worker do up to `turns` turns on a thread of its own, and gives every desk back, in order.
+///
+/// A worker's turn is `gate.before`, which may end it, the work's `step`, the desk's `turn` with that budget, and
+/// `gate.after`. The desks are lent, so none moves into a thread; where no thread can be made the workers run one
+/// after another. When `run` returns every worker has ended. An empty list is given back.
+///
+/// Each desk that comes back is the one at its place in the list handed in, gone on. So the desks of one node are that
+/// still, and [`gather`](crate::gather) takes them. Where a turn of a desk stops, its letter stays in the hold, and the
+/// worker's next turn goes on with it.
+pub fn run<R: Threads + Sync, G: Gate + Sync, W: Work + Send>(
+    rt: &R,
+    desks: Vec<(Desk, W)>,
+    turns: u64,
+    budget: u32,
+    gate: &G,
+) -> Ran<W>
+    ensures each { AllGoOn desks.items result.desks.items }
+    ensures desks { AreDesks (map (λ p. p.0) desks.items) → AreDesks (map (λ p. p.0) result.desks.items) }
+{
+    let mut desks = desks;
+    work_all(rt, &mut desks, turns, budget, gate);
+    Ran { desks }
+}
+
+/// The same turns on the calling thread, in rounds: each round is one turn of every worker that has not ended, from
+/// desk 0 upwards. It is meant for the desks of a node, so for 64 at most.
+///
+/// Each desk that comes back is the one at its place in the list handed in, gone on, as with [`run`].
+pub fn run_single<G: Gate, W: Work>(
+    desks: Vec<(Desk, W)>,
+    turns: u64,
+    budget: u32,
+    gate: &G,
+) -> Ran<W>
+    ensures each { AllGoOn desks.items result.desks.items }
+    ensures desks { AreDesks (map (λ p. p.0) desks.items) → AreDesks (map (λ p. p.0) result.desks.items) }
+{
+    let mut desks = desks;
+    let mut ended = 0;
+    for turn in 0..turns {
+        ended = one_round(&mut desks, ended, turn, budget, gate);
+        if ended.count_ones() as usize == desks.len() {
+            return Ran { desks };
+        }
+    }
+    Ran { desks }
+}
+
+// A turn of every worker that has not ended. The bit of a desk's number is set once its worker has ended.
+fn one_round<G: Gate, W: Work>(
+    desks: &mut Vec<(Desk, W)>,
+    ended: u64,
+    turn: u64,
+    budget: u32,
+    gate: &G,
+) -> u64
+    ensures { AllGoOn desks.old.items desks.new.items }
+{
+    let mut ended = ended;
+    for d in 0..desks.len() {
+        ended = turn_at(desks, d, ended, turn, budget, gate);
+    }
+    ended
+}
+
+// A turn of the worker of desk d, if it has not ended, and who has ended then.
+fn turn_at<G: Gate, W: Work>(
+    desks: &mut Vec<(Desk, W)>,
+    d: usize,
+    ended: u64,
+    turn: u64,
+    budget: u32,
+    gate: &G,
+) -> u64
+    requires { d < vec_len desks.old }
+    ensures { AllGoOn desks.old.items desks.new.items }
+{
+    let bit = 1u64.wrapping_shl((d % 64) as u32);
+    if ended & bit != 0 {
+        return ended;
+    }
+    if one_turn(&mut desks[d], turn, budget, gate) {
+        return ended;
+    }
+    ended | bit
+}
+
+// The workers, each on a thread of its own as far as threads can be made.
+fn work_all<R: Threads + Sync, G: Gate + Sync, W: Work + Send>(
+    rt: &R,
+    desks: &mut [(Desk, W)],
+    turns: u64,
+    budget: u32,
+    gate: &G,
+)
+    ensures { AllGoOn desks.old desks.new }
+{
+    let workers = desks.len();
+    if workers > 0 {
+        thread::for_each_mut(rt, desks, workers, &|_, pair: &mut (Desk, W)| {
+            work_turns(pair, turns, budget, gate);
+        });
+    }
+}
+
+// The turns of one worker.
+fn work_turns<G: Gate, W: Work>(pair: &mut (Desk, W), turns: u64, budget: u32, gate: &G)
+    ensures { GoesOn pair.old.0 pair.new.0 }
+{
+    for turn in 0..turns {
+        if !one_turn(pair, turn, budget, gate) {
+            return;
+        }
+    }
+}
+
+// One turn of a worker, or false where the gate ends it.
+fn one_turn<G: Gate, W: Work>(pair: &mut (Desk, W), turn: u64, budget: u32, gate: &G) -> bool
+    ensures { GoesOn pair.old.0 pair.new.0 }
+{
+    let (desk, work) = pair;
+    let number = desk.number();
+    if !gate.before(number, turn) {
+        return false;
+    }
+    work.step(desk);
+    let _ = desk.turn(budget);
+    gate.after(number, turn);
+    true
+}
