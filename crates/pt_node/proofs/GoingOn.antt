@@ -1,5 +1,5 @@
 -- Lemmas on desks that go on.
-use Rattle.std.proofs.Common.{◌≡◌, ◌≢◌, ⊎_elim, subst, ℕ, ◌<◌, ◌==◌, Bool, true, false, List, [], ◌∷◌, ◌++◌, map, length, get_or, set, take, drop, refl, ap, sym, ◌∙◌, arith}
+use Rattle.std.proofs.Common.{◌≡◌, ◌≢◌, ⊎_elim, subst, ℕ, ◌<◌, List, [], ◌∷◌, ◌++◌, map, length, get_or, set, take, drop, refl, ap, sym, ◌∙◌, arith}
 use Rattle.std.proofs.lemmas.Bool.{cases_eq}
 use Rattle.std.proofs.lemmas.List.{same_lists, get_or-map, length-map, nil_from_length, get_or-set_same, get_or-set_other, length-set, get_or_default, drop_all, append-nil, take_all}
 use Rattle.std.proofs.lemmas.Simd.{map-map}
@@ -44,9 +44,9 @@ module _ {W : Type 0} where
       let old = x ∷ xs in
       let f : DeskState × W → Place × Place = λ p. place p.0 in
       same_lists (map f new) (map f old) (length-map new f ∙ c.count ∙ sym (length-map old f)) (λ k d l.
-        let within : k < length new = omega (arith, l, length-map new f) in
-        let before : k < length old = omega (arith, within, c.count) in
-        get_or-map f new k x d within ∙ (c.each k x before).place ∙ sym (get_or-map f old k x d before))
+      let within : k < length new = omega (arith, l, length-map new f) in
+      let before : k < length old = omega (arith, within, c.count) in
+      get_or-map f new k x d within ∙ (c.each k x before).place ∙ sym (get_or-map f old k x d before))
 
   -- desks of one node are that node's where each goes on
   same_node : (config : Config) (old new : List (DeskState × W)) → AllGoOn old new → AreDesksOf config (map (λ (p : DeskState × W). p.0) old) → AreDesksOf config (map (λ (p : DeskState × W). p.0) new)

@@ -147,9 +147,14 @@ fn work_all<R: Threads + Sync, G: Gate + Sync, W: Work + Send>(
 {
     let workers = desks.len();
     if workers > 0 {
-        thread::for_each_mut(rt, desks, workers, &|_, pair: &mut (Desk, W)| {
-            work_turns(pair, turns, budget, gate);
-        });
+        thread::for_each_mut(
+            rt,
+            desks,
+            workers,
+            &|_, pair: &mut (Desk, W)| {
+                work_turns(pair, turns, budget, gate);
+            },
+        );
     }
 }
 

@@ -8,5 +8,5 @@ returns g c =
     let continued = rw c.deref_mut.ensures.value at c.work_all.ensures in
     rw (written old new c.args.desks.len continued.count c.args.desks.ok.0) (record {
       each = continued;
-      desks = still_desks old new continued
+      desks = still_desks old new continued;
     })
