@@ -1,4 +1,4 @@
--- The lanes of a node while they are made.
+-- The lanes of a node while they are made. No public clause cites this module.
 use Rattle.std.specs.Prelude.{◌≡◌, ℕ, ◌<◌, List, [], length, slice_index_or}
 use Rattle.pt_carrier.specs.Lanes.{Sending, Receiving, new_sending, new_receiving}
 

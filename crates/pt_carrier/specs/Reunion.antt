@@ -1,4 +1,4 @@
--- The ends of a node while they are brought together.
+-- The ends of a node while they are brought together. No public clause cites this module.
 use Rattle.std.specs.Prelude.{◌≡◌, ◌≢◌, ◌⊎◌, ℕ, ◌<◌, ◌≤◌, List, [], ◌++◌, length, map, slice_index_or, Vec}
 use Rattle.std.specs.Vec.{vec_capacity}
 use Rattle.pt_signal.specs.declared.letter.Letter.{Letter}

@@ -1,4 +1,4 @@
--- The journals of the desks, as `merge` takes them.
+-- The journals of the desks, as `merge` takes them. No public clause cites this module.
 use Rattle.std.specs.Prelude.{◌≡◌, ℕ, List, map}
 use denote.Ref.{Bor}
 use Rattle.pt_events.specs.declared.event.Stamped.{Stamped}

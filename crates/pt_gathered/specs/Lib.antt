@@ -1,9 +1,9 @@
 pub mod Gathered
-pub mod History
 pub mod LeftOvers
 pub mod Text
 pub mod Settling
 pub mod Order
+pub mod Lawful
+pub mod History
 pub mod Waits
 pub mod Taking
-pub mod Lawful

@@ -1,4 +1,4 @@
--- The first letter left over from one desk to another is taken out.
+-- The first letter left over from one desk to another is taken out. No public clause cites this module.
 use Rattle.std.specs.Prelude.{◌≡◌, ℕ, ◌<◌, ◌==◌, ◌&&◌, cond, List, [], length, map, drop, slice_index_or, None}
 use Rattle.pt_signal.specs.declared.letter.Letter.{Letter}
 use Rattle.pt_shard.specs.declared.config.Config.{Config}

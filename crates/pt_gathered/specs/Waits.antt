@@ -1,4 +1,4 @@
--- Which desks may have letters left over to them.
+-- Which desks may have letters left over to them. No public clause cites this module.
 use Rattle.std.specs.Prelude.{◌≡◌, ℕ, ◌<◌, Bool, true, false, List, [], length, slice_index_or}
 use Rattle.pt_gathered.specs.Gathered.{GatheredState, over_in}
 use Rattle.pt_gathered.specs.Settling.{NothingTo}

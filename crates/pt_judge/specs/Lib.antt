@@ -1,4 +1,4 @@
-pub mod Places
 pub mod Judging
-pub mod Same
 pub mod Judge
+pub mod Places
+pub mod Same

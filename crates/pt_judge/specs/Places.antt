@@ -1,4 +1,4 @@
--- Places in a list.
+-- Places in a list. No public clause cites this module.
 use Rattle.std.specs.Prelude.{ℕ, suc, Bool, cond, List, [], ◌∷◌}
 
 -- the place of the first that passes the test, or the length of the list

@@ -1,4 +1,4 @@
--- When two values are the same, as tests.
+-- When two values are the same, as tests. No public clause cites this module.
 use Rattle.std.specs.Prelude.{Bool, true, false, ◌==◌, ◌&&◌}
 use Rattle.std.specs.Bool.{beq}
 use Rattle.std.specs.Ordering.{int_eq}

@@ -1,5 +1,5 @@
 pub mod Resident
 pub mod Outcome
+pub mod Places
 pub mod Gaps
 pub mod Held
-pub mod Places

@@ -1,3 +1,4 @@
+-- The printed lines of a history.
 use Rattle.std.specs.Prelude.{ℕ, List, ◌++◌, codes}
 use Rattle.std.specs.List.{flat_map}
 use Rattle.pt_events.specs.declared.event.Stamped.{Stamped}

@@ -1,4 +1,4 @@
--- What a step of the run leaves of its desk.
+-- What a step of the run leaves of its desk. No public clause cites this module.
 use Rattle.std.specs.Prelude.{◌≡◌}
 use Rattle.pt_desk.specs.DeskState.{DeskState, place}
 

@@ -1,4 +1,4 @@
--- What goes back from a live process.
+-- What goes back from a live process. No public clause cites this module.
 use Rattle.std.specs.Prelude.{true, Option, Some, None}
 use Rattle.pt_signal.specs.declared.signal.Signal.{Signal}
 use Rattle.pt_signal.specs.declared.signal.Signal.TheVariants.{AliveAsk, AliveSay}

@@ -1,4 +1,4 @@
--- What a letter makes of the process that stands in the place of its receiver.
+-- What a letter makes of the process that stands in the place of its receiver. No public clause cites this module.
 use Rattle.std.specs.Prelude.{Bool, false, List, ◌++◌, Option, Some, None, is_some}
 use Rattle.pt_signal.specs.declared.pid.Pid.{Pid}
 use Rattle.pt_signal.specs.declared.reason.Reason.{Reason}

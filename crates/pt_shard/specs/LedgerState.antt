@@ -1,4 +1,4 @@
--- The clock, the journal and the letters of a desk.
+-- The clock, the journal and the letters of a desk. No public clause cites this module.
 use Rattle.std.specs.Prelude.{◌≡◌, ℕ, ◌^◌, ◌<◌, ◌≤◌, List, [], ◌∷◌, length, slice_index_or, Option, Some, None, Result, Ok, Err, max, ⊤}
 use Rattle.pt_signal.specs.declared.letter.Letter.{Letter}
 use Rattle.pt_signal.specs.declared.signal.Signal.{Signal}

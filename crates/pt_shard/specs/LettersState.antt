@@ -1,4 +1,4 @@
--- The letters for one desk.
+-- The letters for one desk. No public clause cites this module.
 use Rattle.std.specs.Prelude.{ℕ, List}
 use Rattle.pt_signal.specs.declared.letter.Letter.{Letter}
 

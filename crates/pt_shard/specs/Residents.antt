@@ -1,4 +1,4 @@
--- The slots of a desk, read by pids.
+-- The slots of a desk, read by pids. No public clause cites this module.
 use Rattle.std.specs.Prelude.{◌≡◌, ℕ, ◌+◌, ◌<◌, ⊤, ◌==◌, ◌&&◌, Bool, cond, Option, Some, None, IfSome, IsSome}
 use Rattle.std.specs.Option.{option_map}
 use Rattle.pt_signal.specs.declared.pid.Pid.{Pid}

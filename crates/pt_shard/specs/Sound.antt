@@ -1,4 +1,4 @@
--- What holds of every desk: its processes are those that its journal gives.
+-- What holds of every desk: its processes are those that its journal gives. No public clause cites this module.
 use Rattle.std.specs.Prelude.{◌≡◌, ℕ, ◌<◌, Bool, ◌&&◌, not, ◌==◌, nat_lt, nat_le, List, [], ◌∷◌, Option, Some, None, ⊤}
 use Rattle.pt_signal.specs.declared.pid.Pid.{Pid}
 use Rattle.pt_signal.specs.Process.{ProcessState}

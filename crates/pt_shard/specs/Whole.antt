@@ -1,4 +1,4 @@
--- The parts of a desk, and what holds of them.
+-- The parts of a desk, and what holds of them. No public clause cites this module.
 use Rattle.std.specs.Prelude.{◌≡◌, []}
 use Rattle.pt_slots.specs.State.{issued}
 use Rattle.pt_shard.specs.declared.config.Config.{Config}

@@ -1,6 +1,6 @@
+pub mod State
 pub mod Calls
-pub mod Grows
 pub mod Keys
 pub mod Lends
 pub mod Sound
-pub mod State
+pub mod Grows
