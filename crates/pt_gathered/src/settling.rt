@@ -14,6 +14,8 @@ use crate::node_laws::laws_of;
 use pt_events::Stamped;
 use pt_shard::Stop;
 use std::alloc::AllocError;
+use std::error::Error;
+use std::fmt;
 
 /// A node whose settling was refused, with what was handled so far.
 #[derive(Drop)]
@@ -23,6 +25,22 @@ pub struct Unsettled {
     /// The node as it is now.
     pub gathered: Gathered,
 }
+
+impl fmt::Debug for Unsettled {
+    fn fmt<W: fmt::Write>(&self, f: &mut fmt::Formatter<W>) -> fmt::Result {
+        let fault = self.fault;
+        write!(f, "Unsettled {{ fault: {fault:?}, .. }}")
+    }
+}
+
+impl fmt::Display for Unsettled {
+    fn fmt<W: fmt::Write>(&self, f: &mut fmt::Formatter<W>) -> fmt::Result {
+        let fault = self.fault;
+        write!(f, "the node is not settled: {fault}")
+    }
+}
+
+impl Error for Unsettled {}
 
 /// A node in which no letter is left over.
 #[derive(Drop)]
