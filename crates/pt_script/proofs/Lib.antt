@@ -9,3 +9,5 @@ pub mod SoundSteps
 pub mod SoundLists
 pub mod SoundScripts
 pub mod ReasonFacts
+pub mod Standing
+pub mod Numbering

@@ -78,11 +78,11 @@ behind_child n s name next lt h = record {
   asks = h.asks;
 }
 
-abbrev ListIs : Data → Spawning → Type 0
+abbrev pub ListIs : Data → Spawning → Type 0
 ListIs d c = required list (get (codes "ops") d) ≡ Ok c.ops
 
 -- the `ops` of a spawn are a list
-spawn_list : (s : Scope) (d : Data) → IfOk (spawn s d) (ListIs d)
+pub spawn_list : (s : Scope) (d : Data) → IfOk (spawn s d) (ListIs d)
 unfolding spawn
 spawn_list s d =
     let P : List Data → Type 0 = λ ops. required list (get (codes "ops") d) ≡ Ok ops in

@@ -1,11 +1,19 @@
 -- The laws of scripts.
-use Rattle.std.specs.Prelude.{◌≡◌, ◌<◌, ◌^◌, ℕ, List, Result, Ok, Err}
+use Rattle.std.specs.Prelude.{◌≡◌, ℕ, List, Some, Result, Ok, Err}
+use Rattle.serde_json.specs.Data.{Data}
+use Rattle.serde_json.specs.Read.{read}
 use Rattle.pt_signal.specs.declared.reason.Reason.{Reason}
 use Rattle.pt_signal.specs.Text.{reason_text}
+use Rattle.pt_script.specs.declared.fault.Fault.{Fault}
+use Rattle.pt_script.specs.declared.fault.Place.{Place}
+use Rattle.pt_script.specs.declared.fault.ScriptError.TheVariants.{Refused}
+use Rattle.pt_script.specs.declared.values.Settings.{Settings}
 use Rattle.pt_script.specs.Plans.{Whole}
+use Rattle.pt_script.specs.Steps.{each}
 use Rattle.pt_script.specs.Operations.{reason_of}
-use Rattle.pt_script.specs.Scripts.{reading}
+use Rattle.pt_script.specs.Scripts.{Heads, next_head, no_heads, reading}
 use Rattle.pt_script.specs.Sound.{IsSound}
+use Rattle.pt_script.specs.Standing.{HasPlace, IsNumbered, AreNamesOf, processes_of}
 
 -- whatever bytes are accepted, their script is sound
 abbrev pub AcceptedAreSound : Type 0
@@ -14,3 +22,15 @@ AcceptedAreSound = (bytes : List ℕ) (w : Whole) → reading bytes ≡ Ok w →
 -- a reason is read from the text that it is printed as, and from no other
 abbrev pub ReasonsAsPrinted : Type 0
 ReasonsAsPrinted = (text : List ℕ) (r : Reason) → reason_of text ≡ Ok r → text ≡ reason_text r
+
+-- the process and the operation that a fault names are in the text
+abbrev pub FaultsHavePlaces : Type 0
+FaultsHavePlaces = (bytes : List ℕ) (fault : Fault) (place : Place) → reading bytes ≡ Err (Refused fault place) → HasPlace (read bytes) place
+
+-- the numbers of an accepted script are the places of its processes in the text
+abbrev pub NumbersArePlaces : Type 0
+NumbersArePlaces = (bytes : List ℕ) (w : Whole) → reading bytes ≡ Ok w → (d : Data) × (read bytes ≡ Some d) × IsNumbered d w
+
+-- a name that the heads of the processes settle stands for the place of the process that has it
+abbrev pub NamesArePlaces : Type 0
+NamesArePlaces = (s : Settings) (ds : List Data) (heads : Heads) → each (next_head s) no_heads ds ≡ Ok heads → AreNamesOf (processes_of ds) heads.names

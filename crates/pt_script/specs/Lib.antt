@@ -7,4 +7,5 @@ pub mod Operations
 pub mod Lists
 pub mod Scripts
 pub mod Sound
+pub mod Standing
 pub mod Laws

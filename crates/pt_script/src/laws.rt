@@ -1,6 +1,6 @@
 // The laws of scripts: each is the contract of a function that does nothing.
 
-ghost use Rattle.pt_script.specs.Laws.{AcceptedAreSound, ReasonsAsPrinted};
+ghost use Rattle.pt_script.specs.Laws.{AcceptedAreSound, ReasonsAsPrinted, FaultsHavePlaces, NumbersArePlaces, NamesArePlaces};
 
 /// In every script that is accepted, each number of a process is below the number of processes, each tag was made
 /// by an earlier operation of its list, each desk is one of the node's, the settings are in their ranges, and there
@@ -12,4 +12,22 @@ pub fn accepted_scripts_are_sound()
 /// A reason is read from the text that it is printed as, and from no other.
 pub fn reasons_are_read_as_printed()
     ensures { ReasonsAsPrinted }
+{}
+
+/// The process that the place of a fault names is one of the text, and so is the operation: processes are counted in
+/// the order in which they begin, whatever is wrong in them, and operations in the list of their process.
+pub fn faults_have_places()
+    ensures { FaultsHavePlaces }
+{}
+
+/// In every script that is accepted, the number of a process is its place in the text: the script has one process for
+/// each of the text, with as many operations, each spawn has the number of the process that it spawns, and each process
+/// of the script's list has its own.
+pub fn numbers_are_places()
+    ensures { NumbersArePlaces }
+{}
+
+/// The name of a process of the script's list stands for that process, by its place in the text.
+pub fn names_are_places()
+    ensures { NamesArePlaces }
 {}

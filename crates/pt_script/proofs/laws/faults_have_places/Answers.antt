@@ -1,0 +1,5 @@
+use Rattle.pt_script.proofs.Numbering.{faults_have_places}
+use Rattle.pt_script.proofs.laws.faults_have_places.Goals as goal
+
+pub returns : goal.returns
+returns c = faults_have_places
