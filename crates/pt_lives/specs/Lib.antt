@@ -1,0 +1,6 @@
+pub mod Holding
+pub mod LifeState
+pub mod Table
+pub mod DeskLives
+pub mod Pids
+pub mod LivesState
