@@ -21,7 +21,7 @@ use Rattle.pt_gathered.proofs.Overs.{over_both, over_left, over_right}
 
 module _ (g : GatheredState) (whole : IsGathered g) where
   -- the journals of desks that the node has not are empty
-  past_end : (d : ℕ) → length g.shards ≤ d → journals g d ≡ []
+  pub past_end : (d : ℕ) → length g.shards ≤ d → journals g d ≡ []
   past_end d h = get_or_past (map (λ (s : ShardState). s.journal) g.shards) d [] (omega (arith, length-map g.shards (λ (s : ShardState). s.journal)))
 
   pub locals : (d : ℕ) → IsLocal [] g.config.start g.config.top_version d (journals g d)

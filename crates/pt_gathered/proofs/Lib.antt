@@ -6,5 +6,7 @@ pub mod Settled
 pub mod Boxes
 pub mod Stepping
 pub mod Lawful
+pub mod Told
+pub mod Again
 pub mod Histories
 pub mod Places

@@ -4,6 +4,7 @@ pub mod Text
 pub mod Settling
 pub mod Order
 pub mod Lawful
+pub mod Quiet
 pub mod History
 pub mod Waits
 pub mod Taking

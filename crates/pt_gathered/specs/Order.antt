@@ -1,9 +1,10 @@
 -- In which order settling takes the letters left over to their receivers.
-use Rattle.std.specs.Prelude.{◌≡◌, ℕ, zero, suc, ◌<◌, ◌∷◌, length, drop}
+use Rattle.std.specs.Prelude.{◌≡◌, ℕ, zero, suc, ◌<◌, ◌⊎◌, ◌∷◌, length, drop}
 use Rattle.pt_signal.specs.declared.letter.Letter.{Letter}
 use Rattle.pt_shard.specs.declared.stop.Stop.{Stop}
+use Rattle.pt_shard.specs.declared.stop.Stop.TheVariants.{Memory}
 use Rattle.pt_gathered.specs.Gathered.{GatheredState, over_in}
-use Rattle.pt_gathered.specs.Settling.{Receives, IsRefused}
+use Rattle.pt_gathered.specs.Settling.{Receives, IsRefused, NothingLeft}
 
 -- what 0 does, then what 1 does, up to below n
 abbrev pub InTurn : (ℕ → GatheredState → GatheredState → Type 0) → ℕ → GatheredState → GatheredState → Type 0
@@ -63,3 +64,14 @@ pub record PassesStop (n : ℕ) (stop : Stop) (old new : GatheredState) : Type 0
   pub mid : GatheredState
   pub done : Passes n count old mid
   pub stops : PassStops n stop mid new
+
+-- all passes came to their end and nothing is left over, and there was no memory for what the quiet node tells
+pub record TellsNothing (n : ℕ) (stop : Stop) (old new : GatheredState) : Type 0 where
+  pub memory : stop ≡ Memory
+  pub count : ℕ
+  pub done : Passes n count old new
+  pub nothing_left : NothingLeft new
+
+-- a receipt was refused, or what comes after the last one
+abbrev pub SettlingStops : ℕ → Stop → GatheredState → GatheredState → Type 0
+SettlingStops n stop old new = PassesStop n stop old new ⊎ TellsNothing n stop old new

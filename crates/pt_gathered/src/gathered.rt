@@ -3,6 +3,7 @@
 ghost use Rattle.std.specs.Prelude.{◌≡◌, ◌*◌, ◌<◌, ◌≤◌, ◌-◌, ◌^◌, ◌++◌, min, [], length, map, reverse, drop, slice_get, IfOk, OnOk, IfSome, IfNone};
 ghost use Rattle.pt_events.specs.Journal.{IsMerge};
 ghost use Rattle.pt_laws.specs.Laws.{LegalWithLeftOver};
+ghost use Rattle.pt_lives.specs.LivesState.{AreLivesOf};
 ghost use Rattle.pt_merge.specs.Merging.{AreApart, journal_of};
 ghost use Rattle.pt_gathered.specs.Gathered.{IsGathered, held_from, hold_at, over, over_in, journals};
 ghost use Rattle.pt_gathered.specs.LeftOvers.{all_left, left_from, left_between};
@@ -13,6 +14,7 @@ ghost use Rattle.pt_gathered.specs.History.{AreJournalsOf};
 use crate::left_over::LeftOver;
 use crate::node_laws::laws_of;
 use pt_events::{Journal, Stamped};
+use pt_lives::Lives;
 use pt_merge::merge;
 use pt_shard::{Config, Shard, Stop};
 use pt_signal::Letter;
@@ -172,6 +174,17 @@ impl Gathered {
             })?;
         }
         Ok(())
+    }
+
+    /// What became of all processes, of which each journal tells by one reading of it.
+    pub(crate) fn lives(&self) -> Result<Lives, AllocError>
+        ensures { IfOk result (λ lives. AreLivesOf (journals self.now) lives) }
+    {
+        let mut lives = Lives::new(self.alloc);
+        for which in 0..self.shards.len() {
+            lives = lives.with(self.alloc, self.shards[which].journal())?;
+        }
+        Ok(lives)
     }
 
     // The letter at this place among those left over from desk d to desk e, counted from the oldest.

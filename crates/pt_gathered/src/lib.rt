@@ -8,7 +8,7 @@
 //!     println!(rt; "{stamped}")?;                  // 1@0 born <0.0.1>
 //! }
 //! match gathered.settle() {
-//!     Ok(quiet) => ..                              // quiet.history(), quiet.handled()
+//!     Ok(quiet) => ..                              // quiet.history(), quiet.handled(), quiet.pids(), quiet.account(pid)
 //!     Err(unsettled) => ..                         // unsettled.fault, and unsettled.gathered to go on from
 //! }
 //! ```
@@ -31,19 +31,28 @@
 //! and monitors among them twice, and each link, watch and monitor that a live process has. Then links stand at both
 //! ends or at neither, and each monitor of a live process was given up, had its one `DOWN`, or is open and kept.
 //!
+//! At its end settling reads each journal once. Then [`Quiet`] tells, without memory, which processes were born, why
+//! each one ended, how many items arrived, were taken and wait, and what it is linked with, keeps and watches; of an
+//! ended process what it held at its end.
+//!
 //! # Cost
 //!
-//! A letter that settling handles costs its receipt and a few tests for each desk; desks to which nothing is left over
-//! are not looked at. No list of letters is moved and no journal is copied. `history` takes the logarithm of the
-//! number of desks for each event.
+//! A letter that settling handles costs its receipt and, where it is the only one to its desk in a pass, about six simple
+//! tests for each desk, some 400 in a node of 64; where many letters come to a desk in a pass they share these. Desks to
+//! which nothing is left over are not looked at. No list of letters is moved and no journal is copied; reading the
+//! journals takes constant time, on average, for each event. `history` takes the logarithm of the number of desks for
+//! each event.
 #![tactic(auto, unfolding(crate::specs::Text::left_over_text))]
 
 mod gathered;
 mod left_over;
 mod node_laws;
+mod quiet;
 mod settling;
 
 pub use gathered::{Gathered, Lane};
 pub use left_over::LeftOver;
 pub use node_laws::laws_of;
-pub use settling::{Quiet, Unsettled};
+pub use pt_lives::Account;
+pub use quiet::Quiet;
+pub use settling::Unsettled;

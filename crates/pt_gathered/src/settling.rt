@@ -1,19 +1,17 @@
 // The letters left over come to their receivers.
 
-ghost use Rattle.std.specs.Prelude.{◌≡◌, ℕ, ◌<◌, ◌≤◌, length, reverse, [], OnOk, IfOk, IfErr};
-ghost use Rattle.pt_events.specs.Journal.{IsMerge};
-ghost use Rattle.pt_laws.specs.Laws.{LegalWithLeftOver};
-ghost use Rattle.pt_gathered.specs.Gathered.{journals, over, over_in};
+ghost use Rattle.std.specs.Prelude.{◌≡◌, ℕ, ◌<◌, ◌≤◌, length, [], OnOk, IfOk, IfErr};
+ghost use Rattle.pt_shard.specs.declared.stop.Stop.TheVariants.{Memory};
+ghost use Rattle.pt_gathered.specs.Gathered.{over_in};
 ghost use Rattle.pt_gathered.specs.Settling.{Runs, Moves, Settles, NothingLeft, NothingTo, NothingBelow};
-ghost use Rattle.pt_gathered.specs.Order.{Passes, PassesStop, Pass, PassStops, DeskComes, DeskStops, LaneComes, LaneStops};
+ghost use Rattle.pt_gathered.specs.Order.{Passes, SettlingStops, Pass, PassStops, DeskComes, DeskStops, LaneComes, LaneStops};
 ghost use Rattle.pt_gathered.specs.Waits.{Waits, Marks};
 ghost use Rattle.pt_gathered.specs.Lawful.{LanesKeep, KeepsHeadline, IsLegalNode, IsQuietNode, IsBounded, LinksStand, WatchesStand};
 
 use crate::gathered::Gathered;
 use crate::node_laws::laws_of;
-use pt_events::Stamped;
+use crate::quiet::Quiet;
 use pt_shard::Stop;
-use std::alloc::AllocError;
 use std::error::Error;
 use std::fmt;
 
@@ -42,30 +40,6 @@ impl fmt::Display for Unsettled {
 
 impl Error for Unsettled {}
 
-/// A node in which no letter is left over.
-#[derive(Drop)]
-pub struct Quiet {
-    gathered: Gathered,
-    handled: u64,
-}
-
-impl Quiet {
-    /// How many letters were handled, staying at `u64::MAX` once it is reached.
-    pub fn handled(&self) -> u64
-        ensures { result ≡ self.now.handled }
-    {
-        self.handled
-    }
-
-    /// The events of all desks in the order of stamp, then desk: a legal history in which nothing is on its way.
-    pub fn history(&self) -> Result<Vec<Stamped>, AllocError>
-        ensures merge { IfOk result (λ h. IsMerge (journals self.now.gathered) (reverse h.items)) }
-        ensures legal { IfOk result (λ h. LegalWithLeftOver [] (reverse h.items) (over self.now.gathered)) }
-    {
-        self.gathered.history()
-    }
-}
-
 impl Gathered {
     /// Brings the letters left over to their receivers, pass by pass, until there are none.
     ///
@@ -75,9 +49,14 @@ impl Gathered {
     /// before. The merge of the journals is then legal and quiet: links stand at both ends or at neither, and each
     /// monitor of a live process was given up, had its one `DOWN`, or is open and kept.
     ///
+    /// Once no letter is left over, each journal is read once, from its first event to its last, for what the quiet
+    /// node tells of its processes.
+    ///
     /// Where a receipt is refused, as `Worn` where its stamp would pass the limit of clocks, else as `Memory`, the node
     /// comes back with what was handled so far, of which all holds that holds of a gathered node; settling it again
-    /// goes on from there. A letter costs what its receipt costs, and a few tests for each desk.
+    /// goes on from there. Where the reading of the journals finds no memory, the fault is `Memory` too, and no letter
+    /// is left over in the node that comes back; settling that again changes nothing of it, and reads the journals anew. A
+    /// letter costs what its receipt costs, and a few tests for each desk.
     pub fn settle(self) -> Result<Quiet, Unsettled>
         ensures order { IfOk result (λ q. (count : ℕ) × Passes (length self.shards) count self q.gathered) }
         ensures runs { IfOk result (λ q. Runs self 0 q.gathered q.handled) }
@@ -86,12 +65,14 @@ impl Gathered {
         ensures quiet { IfOk result (λ q. IsQuietNode q.gathered) }
         ensures links { IfOk result (λ q. LinksStand q.gathered) }
         ensures watches { IfOk result (λ q. WatchesStand q.gathered) }
+        ensures again { NothingLeft self → IfOk result (λ q. (q.gathered ≡ self) × (q.handled ≡ 0)) }
         ensures refused { IfErr result (λ u. Settles self u.gathered) }
-        ensures refused_order { IfErr result (λ u. PassesStop (length self.shards) u.fault self u.gathered) }
+        ensures refused_order { IfErr result (λ u. SettlingStops (length self.shards) u.fault self u.gathered) }
         ensures refused_bounded { IfErr result (λ u. IsBounded self u.gathered) }
         ensures refused_lanes { IfErr result (λ u. LanesKeep u.gathered) }
         ensures refused_headline { IfErr result (λ u. KeepsHeadline u.gathered) }
         ensures refused_legal { IfErr result (λ u. IsLegalNode u.gathered) }
+        ensures refused_again { NothingLeft self → IfErr result (λ u. (u.gathered ≡ self) × (u.fault ≡ Memory)) }
     {
         laws_of(&self);
         let mut gathered = self;
@@ -108,7 +89,13 @@ impl Gathered {
             }
         }
         laws_of(&gathered);
-        Ok(Quiet { gathered, handled })
+        match gathered.lives() {
+            Ok(lives) => Ok(Quiet::of(gathered, handled, lives)),
+            Err(_) => Err(Unsettled {
+                fault: Stop::Memory,
+                gathered,
+            }),
+        }
     }
 }
 

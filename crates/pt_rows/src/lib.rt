@@ -25,6 +25,8 @@ mod monitors;
 #[cfg(test)]
 mod play;
 #[cfg(test)]
+mod quiet;
+#[cfg(test)]
 mod settling;
 #[cfg(test)]
 mod slots;

@@ -96,7 +96,7 @@ fn messages_that_came_are_not_handled_again(rt: HostRuntime) -> Result<(), Fail>
 }
 
 /// A chain of links whose third process traps, and whose first one exits.
-const CHAIN: [Step; 12] = [
+pub const CHAIN: [Step; 12] = [
     (Spawn, "<0.0.1>"),
     (Spawn, "<0.1.1>"),
     (Spawn, "<0.2.1>"),
@@ -142,7 +142,7 @@ fn a_chain_that_is_cut_off_settles_to_its_end(rt: HostRuntime) -> Result<(), Fai
 }
 
 /// A link that both ends take back at once, and that one of them makes anew.
-const CROSSING: [Step; 8] = [
+pub const CROSSING: [Step; 8] = [
     (Spawn, "<0.0.1>"),
     (SpawnOn(1), "<1.0.1>"),
     (Link(A, A1), "ok"),

@@ -1,0 +1,105 @@
+// A node in which no letter is left over.
+
+ghost use Rattle.std.specs.Prelude.{◌≡◌, [], reverse, is_some, IfOk};
+ghost use Rattle.std.specs.Map.{lookup};
+ghost use Rattle.std.specs.List.{list_any};
+ghost use Rattle.pt_signal.specs.Values.{same_ref};
+ghost use Rattle.pt_signal.specs.Process.{held};
+ghost use Rattle.pt_events.specs.History.{life, state, open_monitors};
+ghost use Rattle.pt_events.specs.Journal.{IsMerge};
+ghost use Rattle.pt_laws.specs.Laws.{LegalWithLeftOver};
+ghost use Rattle.pt_lives.specs.LivesState.{AreLivesOf, AreAllPids, InEveryMerge, account_in};
+ghost use Rattle.pt_gathered.specs.Gathered.{journals, over};
+
+use crate::gathered::Gathered;
+use pt_events::Stamped;
+use pt_lives::{Account, Lives};
+use pt_signal::{Ids, Pid, Ref};
+use std::alloc::AllocError;
+use std::marker::Model;
+
+/// A node in which no letter is left over, and what became of its processes.
+///
+/// What it tells of a process holds in every merge of the journals. Of its calls `history` alone takes memory.
+#[derive(Drop)]
+pub struct Quiet {
+    gathered: Gathered,
+    handled: u64,
+    lives: Lives,
+}
+
+impl Model for Quiet {
+    ghost use Rattle.pt_gathered.specs.Gathered.{journals};
+    ghost use Rattle.pt_gathered.specs.Quiet.{QuietState};
+    ghost use Rattle.pt_lives.specs.LivesState.{AreLivesOf};
+
+    ghost Value = { QuietState };
+
+    ghost view = { λ q. record { gathered = q.gathered; handled = q.handled } };
+
+    ghost invariant = { λ q. AreLivesOf (journals q.gathered) q.lives };
+}
+
+impl Quiet {
+    pub(crate) fn of(gathered: Gathered, handled: u64, lives: Lives) -> Quiet
+        requires { AreLivesOf (journals gathered) lives }
+        ensures { result ≡ record { gathered = gathered; handled = handled } }
+    {
+        Quiet {
+            gathered,
+            handled,
+            lives,
+        }
+    }
+
+    /// How many letters were handled, staying at `u64::MAX` once it is reached.
+    pub fn handled(&self) -> u64
+        ensures { result ≡ self.now.handled }
+    {
+        self.handled
+    }
+
+    /// The events of all desks in the order of stamp, then desk: a legal history in which nothing is on its way.
+    pub fn history(&self) -> Result<Vec<Stamped>, AllocError>
+        ensures merge { IfOk result (λ h. IsMerge (journals self.now.gathered) (reverse h.items)) }
+        ensures legal { IfOk result (λ h. LegalWithLeftOver [] (reverse h.items) (over self.now.gathered)) }
+    {
+        self.gathered.history()
+    }
+
+    /// The pids of all processes that were ever born, each once, by shard, slot and version.
+    pub fn pids(&self) -> &[Pid]
+        ensures { InEveryMerge (journals self.now.gathered) (λ past. AreAllPids past result.now) }
+    {
+        self.lives.pids()
+    }
+
+    /// Why the process ended, if it has, and how many items arrived in its mailbox, were taken, and wait or were left
+    /// untaken at its end; `None` exactly where it was never born.
+    pub fn account(&self, pid: Pid) -> Option<Account>
+        ensures { InEveryMerge (journals self.now.gathered) (λ past. result ≡ account_in past pid) }
+    {
+        self.lives.account(pid)
+    }
+
+    /// The ids under which a process is linked with another one, or was just after its own end.
+    pub fn linked(&self, pid: Pid, peer: Pid) -> Option<Ids>
+        ensures { InEveryMerge (journals self.now.gathered) (λ past. result ≡ held (state [] past pid).links peer) }
+    {
+        self.lives.linked(pid, peer)
+    }
+
+    /// Whether a process keeps a watch of this reference for its watcher, or did just after its own end.
+    pub fn kept(&self, target: Pid, monitor: Ref) -> bool
+        ensures { InEveryMerge (journals self.now.gathered) (λ past. result ≡ list_any (λ k. same_ref monitor k.0) (state [] past target).kept) }
+    {
+        self.lives.kept(target, monitor)
+    }
+
+    /// Whether a process's monitor of this reference is open; none is once the process has ended.
+    pub fn watching(&self, watcher: Pid, monitor: Ref) -> bool
+        ensures { InEveryMerge (journals self.now.gathered) (λ past. result ≡ is_some (lookup (same_ref monitor) (open_monitors (life [] past watcher)))) }
+    {
+        self.lives.watching(watcher, monitor)
+    }
+}
