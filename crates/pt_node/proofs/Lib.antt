@@ -2,3 +2,4 @@ pub mod Together
 pub mod Wholes
 pub mod Fresh
 pub mod GoingOn
+pub mod StillDesks

@@ -17,6 +17,11 @@ pub record AreDesksOf (config : Config) (desks : List DeskState) : Type 0 where
 abbrev pub AreDesks : List DeskState → Type 0
 AreDesks desks = (config : Config) × AreDesksOf config desks
 
+-- what a caller needs of what it does to one of the desks, so that all of them stay the desks of their node: the desk
+-- keeps its place among the lanes and its settings, as each call of a desk does
+abbrev pub IsStill : DeskState → DeskState → Type 0
+IsStill old new = (place new ≡ place old) × (new.shard.config ≡ old.shard.config)
+
 abbrev pub all_ends : List DeskState → List (OutEnds × InEnds)
 all_ends desks = map (λ (d : DeskState). (d.outs, d.ins)) desks
 

@@ -42,6 +42,6 @@ pub use pt_carrier::Cause;
 pub use pt_desk::{Desk, Turned};
 pub use pt_events::{Event, Journal, Stamped};
 pub use pt_gathered::{Account, Gathered, LeftOver, Quiet, Unsettled};
-pub use pt_shard::{Config, Fault, OpenError, Stop};
+pub use pt_shard::{Config, Fault, MAX_DESKS, MAX_LANE, MAX_SLOTS, MAX_STAMP, OpenError, Stop};
 pub use pt_signal::{Body, Ids, Item, Letter, LinkId, Pick, Pid, Reason, Ref, Signal};
 pub use running::{FreeGate, Gate, Ran, Work, run, run_single};
