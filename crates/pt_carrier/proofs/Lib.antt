@@ -5,3 +5,4 @@ pub mod Collecting
 pub mod Making
 pub mod Meeting
 pub mod Rooms
+pub mod Taking

@@ -89,6 +89,7 @@ impl Outs {
     /// The letter goes behind all that were posted there before. It is handed back, and nothing is posted, only
     /// where the lane is full (`Full`): the letters posted to that desk, less those that this end knows to be
     /// collected, number the capacity, after it has looked again. Takes no memory and waits for nobody.
+    #[inline(always)]
     pub fn post(&mut self, to: u8, letter: Letter) -> Result<(), Refused>
         requires to { to < length self.old.place.rings }
         requires from_here { letter.from.shard ≡ self.old.place.number }
@@ -119,7 +120,12 @@ impl Outs {
         self.lanes[usize::from(to)].posted()
     }
 
-    /// Gives up the ends. For a node that is given up whole, after its gathering was refused.
+    /// Gives up the ends of a desk, for a node that is given up whole.
+    ///
+    /// The node can then never be reunited, since that takes the ends of every desk; so nothing that is claimed of a
+    /// reunited or gathered node holds of it. The other desks' ends go on: what they post to this desk stays in its
+    /// lane, and is refused once the lane is full. It is public because the node that gives its desks up stands in
+    /// a crate above; a program that keeps its node has no use for it.
     pub fn close(self) {
         let Outs {
             number: _,
@@ -145,6 +151,7 @@ impl Ins {
     /// The lanes are looked at from the cursor upwards and round. The first that shows a letter gives its oldest,
     /// and the cursor goes to the desk after that one; it begins at desk 0. The answer is `None` only where this end
     /// knows no letter of any lane, and the cursor then stays. Takes no memory and waits for nobody.
+    #[inline(always)]
     pub fn collect(&mut self) -> Option<(u8, Letter)>
         ensures place { self.new.place ≡ self.old.place }
         ensures some { IfSome result (λ r. Collects self.old self.new r.0 r.1) }
@@ -159,6 +166,7 @@ impl Ins {
     }
 
     // The first desk from the cursor upwards and round whose lane shows a letter.
+    #[inline(always)]
     fn first(&mut self) -> Option<u8>
         ensures same { (self.new.place ≡ self.old.place) × (self.new.cursor ≡ self.old.cursor) × (self.new.collected ≡ self.old.collected) }
         ensures some { IfSome result (λ d. Shows self.old self.new d × IsFirst self.old self.new d) }
@@ -173,6 +181,7 @@ impl Ins {
     }
 
     // The same, of the desks from `low` up to below `high`.
+    #[inline(always)]
     fn first_among(&mut self, low: usize, high: usize) -> Option<u8>
         requires { (low ≤ high) × (high ≤ length self.old.place.rings) }
         ensures same { (self.new.place ≡ self.old.place) × (self.new.cursor ≡ self.old.cursor) × (self.new.collected ≡ self.old.collected) }
@@ -189,6 +198,7 @@ impl Ins {
     }
 
     // Collects the oldest letter that is known to wait in the lane from desk `d`.
+    #[inline(always)]
     fn take(&mut self, d: u8) -> Letter
         requires { (d < length self.old.place.rings) × (0 < length (slice_index_or self.old.known d [])) }
         ensures collects { Collects self.old self.new d result }
@@ -248,8 +258,9 @@ impl Ins {
         }
     }
 
-    /// Gives up the ends, with the letters that stand in their lanes. For a node that is given up whole, after its
-    /// gathering was refused.
+    /// Gives up the ends of a desk, for a node that is given up whole: the other half of [`Outs::close`].
+    ///
+    /// The letters that stand in their lanes are lost once both ends of a lane are given up.
     pub fn close(self) {
         let Ins {
             number: _,

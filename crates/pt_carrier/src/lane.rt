@@ -47,6 +47,7 @@ impl Model for InLane {
 
 impl OutLane {
     // Posts the letter where a place is free, and tells whether it did.
+    #[inline(always)]
     pub(crate) fn post(&mut self, letter: Letter) -> bool
         requires { (letter.from.shard ≡ self.old.from) × (letter.to.shard ≡ self.old.to) }
         ensures same { (self.new.ring ≡ self.old.ring) × (self.new.from ≡ self.old.from) × (self.new.to ≡ self.old.to) }
@@ -73,6 +74,7 @@ impl OutLane {
 
 impl InLane {
     // Whether a letter shows. What is known already is asked first, which leaves the other end's memory alone.
+    #[inline(always)]
     pub(crate) fn shows(&mut self) -> bool
         ensures same { (self.new.ring ≡ self.old.ring) × (self.new.from ≡ self.old.from) × (self.new.to ≡ self.old.to) × (self.new.collected ≡ self.old.collected) }
         ensures looked { IsPrefix self.old.known self.new.known }
@@ -106,6 +108,10 @@ impl InLane {
     }
 
     // Takes the oldest letter that is known to wait. It names the desks of this lane.
+    //
+    // The letter is looked at in its place, so that it is moved once and whole.
+    #[inline(always)]
+    #[tactic(auto, using(crate::proofs::Taking::front_from, crate::proofs::Taking::front_to))]
     pub(crate) fn take_known(&mut self) -> Letter
         requires { 0 < length self.old.known }
         ensures same { (self.new.ring ≡ self.old.ring) × (self.new.from ≡ self.old.from) × (self.new.to ≡ self.old.to) }
@@ -113,13 +119,32 @@ impl InLane {
         ensures collected { self.new.collected ≡ self.old.collected ++ result ∷ [] }
         ensures shards { (result.from.shard ≡ self.old.from) × (result.to.shard ≡ self.old.to) }
     {
+        let front = self.ring.peek_known();
+        if front.from.shard != self.from || front.to.shard != self.to {
+            return self.take_addressed();
+        }
         let letter = self.ring.pop_known();
         self.count = self.count.saturating_add(1);
-        if letter.from.shard == self.from && letter.to.shard == self.to {
-            letter
-        } else {
-            addressed(letter, self.from, self.to)
-        }
+        letter
+    }
+
+    // The same, with the desks of this lane written into the letter. One that was posted names them, so this is never
+    // called; but the end that receives cannot see that. To write the two numbers each time would move each letter in
+    // pieces.
+    #[cold]
+    #[inline(never)]
+    fn take_addressed(&mut self) -> Letter
+        requires { 0 < length self.old.known }
+        ensures same { (self.new.ring ≡ self.old.ring) × (self.new.from ≡ self.old.from) × (self.new.to ≡ self.old.to) }
+        ensures taken { self.old.known ≡ result ∷ self.new.known }
+        ensures collected { self.new.collected ≡ self.old.collected ++ result ∷ [] }
+        ensures shards { (result.from.shard ≡ self.old.from) × (result.to.shard ≡ self.old.to) }
+    {
+        let mut oldest = self.ring.pop_known();
+        self.count = self.count.saturating_add(1);
+        oldest.from.shard = self.from;
+        oldest.to.shard = self.to;
+        oldest
     }
 
     // Moves the letters that are known to wait to the end of the list, which has room for them.
@@ -131,19 +156,6 @@ impl InLane {
             list.push_reserved(self.take_known());
         }
     }
-}
-
-// The letter, between these desks. One that was posted names the desks of its lane, so this is never called; but the
-// end that receives cannot see that. To write the two numbers each time would move each letter in pieces.
-#[cold]
-#[inline(never)]
-fn addressed(letter: Letter, from: u8, to: u8) -> Letter
-    ensures { result ≡ on_lane from to letter }
-{
-    let mut letter = letter;
-    letter.from.shard = from;
-    letter.to.shard = to;
-    letter
 }
 
 // The two ends of a new lane.
