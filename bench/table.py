@@ -66,17 +66,26 @@ LANES = {
     "one_way": "one way between two threads",
     "there_and_back": "there and back between two threads",
 }
-plain, kept, huge = ("plain", "kept", "huge")
+plain, kept, huge = "plain", "kept", "huge"
 table(
     "One desk",
-    ["Workload", "Pundewo", "Rust", "Erlang", "to Rust", "to Erlang", "to Rust, memory kept", "to Rust, huge pages", "huge pages to plain"],
+    ["Workload", "Pundewo", "Rust", "Erlang", "to Rust", "to Erlang"],
     [
         [NAMES[it], figure((plain, "desk", it)), figure((plain, "rust", it)), figure((plain, "erlang", it))]
         + [ratio((plain, "desk", it), (plain, by, it)) for by in ("rust", "erlang")]
-        + [ratio((setting, "desk", it), (setting, "rust", it)) for setting in (kept, huge)]
-        + [ratio((huge, "desk", it), (plain, "desk", it))]
         for it in NAMES
         if (plain, "desk", it) in rates or (plain, "rust", it) in rates
+    ],
+)
+table(
+    "The same with memory kept, and on huge pages",
+    ["Workload", "memory kept: to Rust", "huge pages: to Rust", "huge pages to plain", "memory kept to plain"],
+    [
+        [NAMES[it]]
+        + [ratio((setting, "desk", it), (setting, "rust", it)) for setting in (kept, huge)]
+        + [ratio((setting, "desk", it), (plain, "desk", it)) for setting in (huge, kept)]
+        for it in NAMES
+        if (plain, "desk", it) in rates
     ],
 )
 table(
@@ -84,17 +93,30 @@ table(
     ["Workload", "Rust, unordered", "to it"],
     [[NAMES[it], figure((plain, "rust-unordered", it)), ratio((plain, "desk", it), (plain, "rust-unordered", it))] for it in NAMES],
 )
-growth = [it for it in works if it.startswith(("message_", "birth_"))]
+# nanoseconds of one time, of the best round
+def nanoseconds(key):
+    best = max(rates.get(key, [0]))
+    return f"{1e9 / best:.0f}" if best else ""
+
+
+GROWTH = [
+    ("10,000 events", "events_10000"),
+    ("100,000 events", "events_100000"),
+    ("1,000,000 events", "events_1000000"),
+    ("10 live processes", "live_10"),
+    ("1,000 live processes", "live_1000"),
+    ("65,000 live processes", "live_65000"),
+]
 table(
-    "Growth",
-    ["Workload", "Pundewo", "Rust", "to Rust"],
-    [[it, figure((plain, "desk", it)), figure((plain, "rust", it)), ratio((plain, "desk", it), (plain, "rust", it))] for it in growth],
+    "Growth: nanoseconds of a message with its turn and its receive, and of a birth and its end",
+    ["Behind or beside", "message, Pundewo", "message, Rust", "birth and end, Pundewo", "birth and end, Rust"],
+    [[name] + [nanoseconds((plain, by, f"{work}_{it}")) for work in ("message", "birth") for by in ("desk", "rust")] for name, it in GROWTH],
 )
 table(
     "The slots",
     ["Workload, live keys", "`pt_slots`", "slab and versions, Rust", "`slotmap`", "to slab", "to `slotmap`"],
     [
-        [it, *[figure((plain, by, it)) for by in ("slots", "slab", "slotmap")]]
+        [it.replace("_by_64", " by 64").replace("old_key", "old keys").replace("_", ", "), *[figure((plain, by, it)) for by in ("slots", "slab", "slotmap")]]
         + [ratio((plain, "slots", it), (plain, by, it)) for by in ("slab", "slotmap")]
         for it in works
         if (plain, "slotmap", it) in rates

@@ -1,7 +1,7 @@
 //! slots [MS]: keys with versions, as lines `slotmap WORKLOAD PER_SECOND` (the crate) and `slab WORKLOAD PER_SECOND`: a slab
 //! beside a vector of versions, which is what `pt_slots` is, without proof.
 
-use beside::{rate, timed, Steps};
+use beside::{timed, Steps};
 use slab::Slab;
 use slotmap::{DefaultKey, SlotMap};
 use std::hint::black_box;
@@ -67,6 +67,18 @@ impl Slots for Versioned {
         }
         self.values.try_remove(key.slot as usize)
     }
+}
+
+// So many units for a second: the best of three repeats, or of as many as fill so many milliseconds.
+fn rate(ms: u64, units: u64, mut repeat: impl FnMut() -> u64) -> u64 {
+    let (mut best, mut total, mut times) = (u64::MAX, 0, 0);
+    while times < 3 || total < ms * 1_000_000 {
+        let spent = repeat();
+        best = best.min(spent);
+        total += spent;
+        times += 1;
+    }
+    units * 1_000_000_000 / best
 }
 
 fn filled<S: Slots>(live: usize) -> (S, Vec<S::Key>) {
