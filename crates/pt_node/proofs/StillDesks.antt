@@ -1,12 +1,17 @@
 -- The desks of a node stay its desks, whatever is called on one of them. For the crates that hold desks in a list and
 -- call them one by one: such a call ensures `IsStill` of its desk, and by `still_desks` the list with that desk written
 -- back is still that of one node, which `gather` takes.
-use Rattle.std.proofs.Common.{◌≡◌, ℕ, ◌<◌, List, length, map, get_or, set, sym, ◌∙◌, ap}
-use Rattle.std.proofs.lemmas.List.{get_or-map, length-set}
+use Rattle.std.proofs.Common.{◌≡◌, ℕ, ◌<◌, List, length, map, get_or, set, sym, ◌∙◌, ap, subst, arith}
+use Rattle.std.proofs.lemmas.List.{get_or-map, length-map, length-set}
+use Rattle.std.proofs.lemmas.Simd.{map-map}
+use Rattle.pt_carrier.specs.Ends.{Place}
+use Rattle.pt_carrier.specs.Node.{IsNode}
 use Rattle.pt_carrier.proofs.Lists.{map-set_same}
+use Rattle.pt_signal.specs.declared.letter.Letter.{Letter}
 use Rattle.pt_shard.specs.declared.config.Config.{Config}
+use Rattle.pt_shard.specs.ShardState.{ShardState}
 use Rattle.pt_desk.specs.DeskState.{DeskState, place}
-use Rattle.pt_node.specs.Desks.{AreDesks, AreDesksOf, IsStill}
+use Rattle.pt_node.specs.Desks.{AreDesks, AreDesksOf, IsStill, desk_kept}
 
 abbrev settings : DeskState → Config
 settings d = d.shard.config
@@ -26,3 +31,23 @@ still_desks desks d old x node l r s = (
         ∙ node.1.configs k y (rw (sym (length-set desks d x)) h);
   },
 )
+
+abbrev kept_place : ShardState × (Place × List (List Letter) × List ℕ) × (Place × ℕ × List (List Letter)) → Place × Place
+kept_place z = (z.1.0, z.2.0)
+
+-- desks that were kept, as a refused gathering keeps them, are still those of one node
+pub kept_desks : (new old : List DeskState) → map desk_kept new ≡ map desk_kept old → AreDesks old → AreDesks new
+kept_desks new old kept node =
+    let count : length new ≡ length old = sym (length-map new desk_kept) ∙ ap length kept ∙ length-map old desk_kept in
+    let all : map place new ≡ map place old = sym (map-map kept_place desk_kept new) ∙ ap (map kept_place) kept ∙ map-map kept_place desk_kept old in (
+      node.0,
+      record {
+        some = omega (arith, count, node.1.some);
+        count = count ∙ node.1.count;
+        node = subst IsNode (sym all) node.1.node;
+        configs = λ k y h.
+            let before : k < length old = omega (arith, h, count) in
+            ap (λ z. z.0.config) (sym (get_or-map desk_kept new k y (desk_kept y) h) ∙ ap (λ zs. get_or zs k (desk_kept y)) kept ∙ get_or-map desk_kept old k y (desk_kept y) before)
+            ∙ node.1.configs k y before;
+      },
+    )

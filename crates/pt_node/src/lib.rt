@@ -19,7 +19,7 @@
 //!
 //! [`run`] gives each desk a worker on a thread of its own, and [`run_single`] does the same turns on the calling
 //! thread. What a worker does is a [`Work`], and a [`Gate`] stands around each of its turns. The desks come back in
-//! order, still those of one node.
+//! order, still those of one node. [`assign`] gives the desks their work before, and [`release`] takes them back.
 //!
 //! # Gathering
 //!
@@ -32,12 +32,16 @@
 mod gathering;
 mod making;
 mod opening;
+mod pairs;
 mod running;
 #[cfg(test)]
 mod tests;
+#[cfg(test)]
+mod worker_tests;
 
 pub use gathering::{DesksBack, gather};
 pub use opening::open;
+pub use pairs::{assign, release};
 pub use pt_carrier::Cause;
 pub use pt_desk::{Desk, Turned};
 pub use pt_events::{Event, Journal, Stamped};

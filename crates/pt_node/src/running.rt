@@ -1,9 +1,9 @@
 // Workers, each with a desk of a node.
 
-ghost use Rattle.std.specs.Prelude.{◌<◌, map, vec_len};
+ghost use Rattle.std.specs.Prelude.{◌≡◌, ℕ, ◌<◌, Bool, MatchBool, map, vec_len};
 ghost use Rattle.pt_desk.specs.DeskState.{GoesOn};
 ghost use Rattle.pt_node.specs.Desks.{AreDesks};
-ghost use Rattle.pt_node.specs.Running.{AllGoOn};
+ghost use Rattle.pt_node.specs.Running.{AllGoOn, AllWork, TakesTurn, Works};
 
 use pt_desk::Desk;
 use std::thread;
@@ -22,9 +22,15 @@ pub trait Work {
 /// What stands before and after each turn of each worker.
 ///
 /// The workers share one gate, so it is used from several threads at a time.
+///
+/// What `before` may answer for a desk and a turn is the ghost member `lets`: what a run promises of the turns that its
+/// workers take is said in its terms.
 pub trait Gate {
+    ghost lets: { Self → ℕ → ℕ → Bool → Type 0 };
+
     /// Whether the worker of that desk goes on with that turn, counted from 0; else it ends.
-    fn before(&self, desk: u8, turn: u64) -> bool;
+    fn before(&self, desk: u8, turn: u64) -> bool
+        ensures { lets self.now desk turn result };
 
     /// Told that the worker of that desk has done that turn.
     fn after(&self, desk: u8, turn: u64);
@@ -35,6 +41,10 @@ pub trait Gate {
 pub struct FreeGate;
 
 impl Gate for FreeGate {
+    ghost use Rattle.std.specs.Prelude.{◌≡◌, true};
+
+    ghost lets = { λ _ _ _ answer. answer ≡ true };
+
     fn before(&self, _desk: u8, _turn: u64) -> bool {
         true
     }
@@ -55,8 +65,9 @@ pub struct Ran<W> {
 /// after another. When `run` returns every worker has ended. An empty list is given back.
 ///
 /// Each desk that comes back is the one at its place in the list handed in, gone on. So the desks of one node are that
-/// still, and [`gather`](crate::gather) takes them. Where a turn of a desk stops, its letter stays in the hold, and the
-/// worker's next turn goes on with it.
+/// still, and [`gather`](crate::gather) takes them. Each worker takes all its turns, or those before the first that its
+/// gate did not let begin: a turn of a desk that stops ends no worker. Its letter stays in the hold, and the worker's
+/// next turn goes on with it.
 pub fn run<R: Threads + Sync, G: Gate + Sync, W: Work + Send>(
     rt: &R,
     desks: Vec<(Desk, W)>,
@@ -65,6 +76,7 @@ pub fn run<R: Threads + Sync, G: Gate + Sync, W: Work + Send>(
     gate: &G,
 ) -> Ran<W>
     ensures each { AllGoOn desks.items result.desks.items }
+    ensures turns { AllWork (G.lets gate.now) turns budget desks.items result.desks.items }
     ensures desks { AreDesks (map (λ p. p.0) desks.items) → AreDesks (map (λ p. p.0) result.desks.items) }
 {
     let mut desks = desks;
@@ -143,7 +155,8 @@ fn work_all<R: Threads + Sync, G: Gate + Sync, W: Work + Send>(
     budget: u32,
     gate: &G,
 )
-    ensures { AllGoOn desks.old desks.new }
+    ensures each { AllGoOn desks.old desks.new }
+    ensures turns { AllWork (G.lets gate.now) turns budget desks.old desks.new }
 {
     let workers = desks.len();
     if workers > 0 {
@@ -160,7 +173,8 @@ fn work_all<R: Threads + Sync, G: Gate + Sync, W: Work + Send>(
 
 // The turns of one worker.
 fn work_turns<G: Gate, W: Work>(pair: &mut (Desk, W), turns: u64, budget: u32, gate: &G)
-    ensures { GoesOn pair.old.0 pair.new.0 }
+    ensures goes_on { GoesOn pair.old.0 pair.new.0 }
+    ensures turns { Works (G.lets gate.now pair.old.0.shard.number) turns budget pair.old pair.new }
 {
     for turn in 0..turns {
         if !one_turn(pair, turn, budget, gate) {
@@ -171,7 +185,9 @@ fn work_turns<G: Gate, W: Work>(pair: &mut (Desk, W), turns: u64, budget: u32, g
 
 // One turn of a worker, or false where the gate ends it.
 fn one_turn<G: Gate, W: Work>(pair: &mut (Desk, W), turn: u64, budget: u32, gate: &G) -> bool
-    ensures { GoesOn pair.old.0 pair.new.0 }
+    ensures goes_on { GoesOn pair.old.0 pair.new.0 }
+    ensures lets { G.lets gate.now pair.old.0.shard.number turn result }
+    ensures takes { MatchBool result (TakesTurn budget pair.old pair.new) (pair.new ≡ pair.old) }
 {
     let (desk, work) = pair;
     let number = desk.number();

@@ -1,5 +1,8 @@
 use Rattle.pt_desk.proofs.Turning.{goes_on_then}
 use Rattle.pt_node.proofs.running.one_turn.Goals as goal
 
-pub returns : goal.returns
-returns g c = goes_on_then _ _ _ c.step.ensures c.turn.ensures.goes_on
+pub returns-clause-goes_on : goal.returns-clause-goes_on
+returns-clause-goes_on g c = goes_on_then _ _ _ c.step.ensures c.turn.ensures.goes_on
+
+pub returns-clause-takes : goal.returns-clause-takes
+returns-clause-takes g c = record { stepped = c.step.new.desk; step = c.step.ensures; turned = c.turn.result; turn = c.turn.ensures.turns }

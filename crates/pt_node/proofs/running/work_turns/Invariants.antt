@@ -1,5 +1,9 @@
 use Rattle.pt_desk.specs.DeskState.{GoesOn}
+use Rattle.pt_node.specs.Running.{TakesTurns}
 use Rattle.pt_node.proofs.running.work_turns.Given as goal
 
 abbrev pub invariant-loop-turn : goal.invariant-loop-turn
-invariant-loop-turn g l = GoesOn l.initial.pair.0 l.pair.0
+invariant-loop-turn g l = record {
+  goes_on : GoesOn l.initial.pair.0 l.pair.0;
+  took : TakesTurns (g.G.Gate.lets l.gate l.initial.pair.0.shard.number) l.budget l.turn l.initial.pair l.pair;
+}

@@ -1,0 +1,38 @@
+// Desks and what is done with them, as a run takes them.
+
+ghost use Rattle.std.specs.Prelude.{◌≡◌, ◌≤◌, [], map, vec_len};
+ghost use Rattle.std.specs.Vec.{vec_capacity};
+
+use pt_desk::Desk;
+
+/// Gives each desk the work at its place, in order, as [`run`](crate::run) takes them.
+///
+/// It takes no memory: the list of pairs is empty and has room for all of them. The other two lists are empty then.
+pub fn assign<W>(desks: &mut Vec<Desk>, works: &mut Vec<W>, pairs: &mut Vec<(Desk, W)>)
+    requires as_many { vec_len works.old ≡ vec_len desks.old }
+    requires room { (pairs.old.items ≡ []) × (vec_len desks.old ≤ vec_capacity pairs.old) }
+    ensures desks { map (λ p. p.0) pairs.new.items ≡ desks.old.items }
+    ensures works { map (λ p. p.1) pairs.new.items ≡ works.old.items }
+    ensures empty { (desks.new.items ≡ []) × (works.new.items ≡ []) }
+{
+    while desks.len() > 0 {
+        pairs.push_reserved((desks.remove(0), works.remove(0)));
+    }
+}
+
+/// Takes the desks from their work, in order, as [`gather`](crate::gather) takes them.
+///
+/// It takes no memory: the other two lists are empty and have room for all. The list of pairs is empty then.
+pub fn release<W>(pairs: &mut Vec<(Desk, W)>, desks: &mut Vec<Desk>, works: &mut Vec<W>)
+    requires desks { (desks.old.items ≡ []) × (vec_len pairs.old ≤ vec_capacity desks.old) }
+    requires works { (works.old.items ≡ []) × (vec_len pairs.old ≤ vec_capacity works.old) }
+    ensures desks { desks.new.items ≡ map (λ p. p.0) pairs.old.items }
+    ensures works { works.new.items ≡ map (λ p. p.1) pairs.old.items }
+    ensures empty { pairs.new.items ≡ [] }
+{
+    while pairs.len() > 0 {
+        let (desk, work) = pairs.remove(0);
+        desks.push_reserved(desk);
+        works.push_reserved(work);
+    }
+}
