@@ -17,8 +17,6 @@ mod names;
 mod operation;
 mod reading;
 mod script;
-#[cfg(test)]
-mod tests;
 mod values;
 
 pub use fault::{Fault, Place, ScriptError};

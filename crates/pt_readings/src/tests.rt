@@ -1,6 +1,6 @@
 // Texts and what they are read as. What is read is printed: the refusal's line, or what each process does.
 
-use super::*;
+use pt_script::{Script, Settings, Top};
 use std::alloc::Global;
 use std::test::Fail;
 
