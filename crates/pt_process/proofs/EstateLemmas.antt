@@ -59,3 +59,48 @@ module _ {V : Type 0} (me : Pid) (r : Reason) (links : List (Pid × Ids)) (kept 
       ∙ ap (slice_get ends) place
       ∙ slice_get-map (λ m. sent me m.1 (Demonitor m.0)) watching _
       ∙ ap (option_map (λ m. sent me m.1 (Demonitor m.0))) at
+
+-- whom an end concerns, by numbers
+module _ {V : Type 0} (links : List (Pid × Ids)) (kept : List ((Ref × Pid) × V)) (watching : List (Ref × Pid)) where
+  abbrev linked : List Pid
+  linked = map (λ e. e.0) links
+
+  abbrev watchers : List Pid
+  watchers = map (λ k. k.1) (keys_of kept)
+
+  abbrev watched : List Pid
+  watched = map (λ m. m.1) watching
+
+  pub peer_linked : (i : ℕ) (e : Pid × Ids) → i < length links → slice_get links i ≡ Some e → slice_get (linked ++ watchers ++ watched) i ≡ Some e.0
+  peer_linked i e within at =
+      let n : length linked ≡ length links = length-map links _ in
+      let short : i < length (linked ++ watchers) = omega (arith, length-append linked watchers, n, within) in
+      slice_get-front (linked ++ watchers) watched i short
+      ∙ slice_get-front linked watchers i (omega (arith, n, within))
+      ∙ slice_get-map (λ e. e.0) links i
+      ∙ ap (option_map (λ e. e.0)) at
+
+  pub peer_watcher : (i : ℕ) (e : (Ref × Pid) × V) → length links ≤ i → i - length links < length kept → slice_get kept (i - length links) ≡ Some e
+      → slice_get (linked ++ watchers ++ watched) i ≡ Some e.0.1
+  peer_watcher i e past within at =
+      let n : length linked ≡ length links = length-map links _ in
+      let m : length watchers ≡ length kept = length-map (keys_of kept) _ ∙ length-map kept _ in
+      let short : i < length (linked ++ watchers) = omega (arith, length-append linked watchers, n, m, past, within) in
+      let place : i - length linked ≡ i - length links = omega (arith, n) in
+      slice_get-front (linked ++ watchers) watched i short
+      ∙ slice_get-past linked watchers i (omega (arith, n, past))
+      ∙ ap (slice_get watchers) place
+      ∙ slice_get-map (λ k. k.1) (keys_of kept) _
+      ∙ ap (option_map (λ k. k.1)) (slice_get-map (λ e. e.0) kept _ ∙ ap (option_map (λ e. e.0)) at)
+
+  pub peer_watched : (i : ℕ) (e : Ref × Pid) → length links + length kept ≤ i → slice_get watching (i - length links - length kept) ≡ Some e
+      → slice_get (linked ++ watchers ++ watched) i ≡ Some e.1
+  peer_watched i e past at =
+      let n : length linked ≡ length links = length-map links _ in
+      let m : length watchers ≡ length kept = length-map (keys_of kept) _ ∙ length-map kept _ in
+      let both : length (linked ++ watchers) ≡ length links + length kept = omega (arith, length-append linked watchers, n, m) in
+      let place : i - length (linked ++ watchers) ≡ i - length links - length kept = omega (arith, both) in
+      slice_get-past (linked ++ watchers) watched i (omega (arith, both, past))
+      ∙ ap (slice_get watched) place
+      ∙ slice_get-map (λ m. m.1) watching _
+      ∙ ap (option_map (λ m. m.1)) at

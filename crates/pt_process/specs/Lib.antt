@@ -1,5 +1,6 @@
 pub mod Resident
 pub mod Outcome
 pub mod Places
+pub mod Peers
 pub mod Gaps
 pub mod Held

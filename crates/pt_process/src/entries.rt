@@ -1,6 +1,6 @@
 // Entries in order of entry.
 
-ghost use Rattle.std.specs.Prelude.{◌≡◌, ◌<◌, ◌≤◌, ◌^◌, ◌∷◌, ◌++◌, [], length, position, None, IsOk, IsSome, IfOk, OnOk, OnErr};
+ghost use Rattle.std.specs.Prelude.{◌≡◌, ◌<◌, ◌≤◌, ◌^◌, ◌∷◌, ◌++◌, [], length, position, slice_get, Some, None, IsOk, IsSome, IfOk, OnOk, OnErr};
 ghost use Rattle.std.specs.List.{list_any, IsDistinct};
 ghost use Rattle.std.specs.Map.{lookup, remove_entry, set_value, keys_of};
 ghost use Rattle.std.specs.Vec.{vec_capacity};
@@ -143,6 +143,19 @@ impl<K: Eq + Hash + Copy, V: Copy> Entries<K, V> {
         }
     }
 
+    /// The entry with this number, in order of entry. It closes the gaps that it finds.
+    pub fn nth(&mut self, i: usize) -> (K, V)
+        requires { i < length self.old.entries }
+        ensures entry { slice_get self.old.entries i ≡ Some result }
+        ensures same { self.new.entries ≡ self.old.entries }
+        ensures room { self.old.room ≤ self.new.room }
+    {
+        match &mut self.places {
+            Places::Few(few) => row(few, i),
+            Places::Many(many) => many.nth(i),
+        }
+    }
+
     /// The entries alone, in order.
     pub fn into_rows(self) -> Rows<K, V>
         ensures { result ≡ self.entries }
@@ -219,6 +232,14 @@ fn take<K: Eq + Copy, V: Copy>(few: &mut Vec<(K, V)>, key: &K) -> Option<V>
         Some(place) => Some(few.remove(place).1),
         None => None,
     }
+}
+
+fn row<K: Copy, V: Copy>(few: &mut Vec<(K, V)>, i: usize) -> (K, V)
+    requires { i < length few.old.items }
+    ensures entry { slice_get few.old.items i ≡ Some result }
+    ensures same { few.new ≡ few.old }
+{
+    few[i]
 }
 
 // The same entries found by hash, with room for one more.

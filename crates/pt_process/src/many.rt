@@ -125,8 +125,22 @@ impl<K: Eq + Hash + Copy, V: Copy> Many<K, V> {
     pub fn close(&mut self)
         ensures entries { self.new.entries ≡ self.old.entries }
         ensures closed { self.new.gaps ≡ 0 }
+        ensures room { self.old.room ≤ self.new.room }
     {
         drop_gaps(&mut self.places);
+    }
+
+    /// The entry with this number, in order of entry. The gaps are closed first, if there are any.
+    pub fn nth(&mut self, i: usize) -> (K, V)
+        requires { i < length self.old.entries }
+        ensures entry { slice_get self.old.entries i ≡ Some result }
+        ensures same { self.new.entries ≡ self.old.entries }
+        ensures room { self.old.room ≤ self.new.room }
+    {
+        if self.places.len() > self.count {
+            self.close();
+        }
+        self.at(i)
     }
 
     /// The entry with this number, in order of entry, where there is no gap.

@@ -7,6 +7,7 @@ ghost use Rattle.pt_signal.specs.Values.{fits, same_pid, same_ref, without_first
 ghost use Rattle.pt_signal.specs.Process.{fresh, held, holds_any, same_watch, cut, handle, queued, obey, verdict, say, estate};
 ghost use Rattle.pt_process.specs.Outcome.{Accepts, has_two, ruled};
 ghost use Rattle.pt_process.specs.Places.{IsFirst};
+ghost use Rattle.pt_process.specs.Peers.{peers};
 
 use crate::{Entries, Estate, ExitSignal, Mailbox, Outcome, Verdict};
 use pt_signal::{Ids, Item, LinkId, Pick, Pid, Reason, Ref, Signal};
@@ -104,9 +105,31 @@ impl Process {
 
     /// How many signals it would owe at its end.
     pub fn owed_len(&self) -> usize
-        ensures { (reason : Reason) → result ≡ length (estate self.now.me self.now.state reason) }
+        ensures signals { (reason : Reason) → result ≡ length (estate self.now.me self.now.state reason) }
+        ensures peers { result ≡ length (peers self.now.state) }
     {
         self.links.len() + self.kept.len() + self.watching.len()
+    }
+
+    /// To whom the signal with this number would go that it would owe at its end. Nothing that can be read changes.
+    pub fn owed_to(&mut self, i: usize) -> Pid
+        requires { i < length (peers self.old.state) }
+        ensures to { slice_get (peers self.old.state) i ≡ Some result }
+        ensures me { self.new.me ≡ self.old.me }
+        ensures state { self.new.state ≡ self.old.state }
+    {
+        let links = self.links.len();
+        if i < links {
+            let (peer, _) = self.links.nth(i);
+            return peer;
+        }
+        let kept = self.kept.len();
+        if i - links < kept {
+            let ((_, watcher), _) = self.kept.nth(i - links);
+            return watcher;
+        }
+        let (_, watched) = self.watching.nth(i - links - kept);
+        watched
     }
 
     /// Takes a signal in: Erlang Reference Manual, chapter Processes, sections Links, Monitors and Receiving Exit
