@@ -2,7 +2,7 @@
 use Rattle.std.proofs.Common.{◌≡◌, ℕ, ◌+◌, ◌^◌, ◌<◌, max, Bool, true, false, cond, ◌==◌, List, [], ◌∷◌, length, map, Option, Some, None, refl, sym, ap, ◌∙◌, subst, arith}
 use Rattle.std.specs.Prelude.{IsSome, IsSomeAnd, IfSome}
 use Rattle.std.specs.Option.{option_map}
-use Rattle.std.specs.List.{find, remove}
+use Rattle.std.specs.List.{find}
 use Rattle.std.proofs.lemmas.Bool.{eqb-true, eq-eqb}
 use Rattle.std.proofs.lemmas.Bool.Decides.{nat_tests}
 use Rattle.pt_signal.specs.declared.pid.Pid.{Pid}
@@ -21,7 +21,10 @@ use Rattle.pt_events.specs.Journal.{letter, IsHome, MayHere, IsNewAt, IsKnown}
 use Rattle.pt_events.proofs.Steps.{said, took, flagged, left}
 use Rattle.pt_slots.specs.declared.Key.{Key}
 use Rattle.pt_slots.specs.State.{at, next_key}
+use Rattle.pt_signal.specs.declared.reason.Reason.TheVariants.{Normal}
 use Rattle.pt_process.specs.Resident.{Owing}
+use Rattle.pt_process.specs.Peers.{peers}
+use Rattle.pt_shard.proofs.Endings.{estate_peers, every_to}
 use Rattle.pt_shard.specs.ShardState.{past, lives, written, vacated, ended_by, sends}
 use Rattle.pt_shard.specs.Extends.{Extends}
 use Rattle.pt_shard.specs.Fit.{IsFit}
@@ -34,7 +37,6 @@ use Rattle.pt_shard.specs.Whole.{Parts, parts_of, shard_of, IsWhole}
 use Rattle.pt_signal.specs.declared.ids.Ids.{Ids}
 use Rattle.pt_signal.specs.declared.ids.Ref.{Ref}
 use Rattle.pt_signal.specs.declared.ids.LinkId.{LinkId}
-use Rattle.pt_process.specs.Places.{IsFirst}
 use Rattle.std.specs.Map.{lookup}
 use Rattle.pt_signal.specs.Values.{same_ref}
 use Rattle.pt_events.specs.History.{made_link, made_ref}
@@ -72,7 +74,7 @@ at_home desk table p r h = go (p.shard == desk) refl h
 pub same_settings : (table : Table) → SameSettings table table
 same_settings table = record { issues = λ slot. refl; capacity = refl; top_version = refl }
 
-same_place : (p : Pid) (slot version : ℕ) → is_place_of p slot version ≡ true → (p.slot ≡ slot) × (p.version ≡ version)
+pub same_place : (p : Pid) (slot version : ℕ) → is_place_of p slot version ≡ true → (p.slot ≡ slot) × (p.version ≡ version)
 same_place p slot version h = (grind (arith, nat_tests), grind (arith, nat_tests))
 
 changed_nothing : (o : Option (Pid × ProcessState)) → changed (λ me s. s) o ≡ o
@@ -260,14 +262,13 @@ module _ (a : Parts) (whole : IsWhole a) (p : Pid) (f : Found a p) where
         let after = ap (of_phase p) (flagged [] (past (shard_of a)) p f.s lives_here on) ∙ sym (ap (changed (λ me s. record s { traps = on })) stands.1) in
         outcome a whole (a.book.clock + 1) (Flag p on) book house desk (own_lawful (Flag p on) own _ changes.puts after) is (ap (option_pid a.house.desk) changes.next)
 
-    pub took_item : (k : Pick) (i : Item) (place : ℕ) → find (fits k) f.s.waiting ≡ Some i → remove f.s.waiting place ≡ without_first (fits k) f.s.waiting
+    pub took_item : (k : Pick) (i : Item) → find (fits k) f.s.waiting ≡ Some i
         → book ≡ wrote (a.book.clock + 1) (Took p k i) [] a.book
-        → Changes p (λ me t. record t { waiting = remove t.waiting place }) a.house.table house.table
+        → Changes p (λ me t. record t { waiting = without_first (fits k) t.waiting }) a.house.table house.table
         → Outcome a (parts_of a.config book house) (a.book.clock + 1) (Took p k i)
-    took_item k i place first less is changes =
+    took_item k i first is changes =
         let own : IsOwn (Took p k i) = record { alone = λ q. refl; no_birth = refl; home = stands.0; may = rw lives_here (refl, first); new_at = tt; known = tt; near = tt } in
-        let after = ap (of_phase p) (took [] (past (shard_of a)) p f.s lives_here k i) ∙ ap (λ w. Some (p, record f.s { waiting = w })) (sym less)
-        ∙ sym (ap (changed (λ me t. record t { waiting = remove t.waiting place })) stands.1) in
+        let after = ap (of_phase p) (took [] (past (shard_of a)) p f.s lives_here k i) ∙ sym (ap (changed (λ me t. record t { waiting = without_first (fits k) t.waiting })) stands.1) in
         outcome a whole (a.book.clock + 1) (Took p k i) book house desk (own_lawful (Took p k i) own _ changes.puts after) is (ap (option_pid a.house.desk) changes.next)
 
     pub left_by : (r : Reason) (owing : Owing) → Ends p r owing a.house.table house.table
@@ -313,10 +314,6 @@ module _ (a : Parts) (whole : IsWhole a) (p : Pid) (f : Found a p) where
   pub open_target : (m : Ref) (t : Pid) → Some t ≡ lookup (same_ref m) f.s.watching → (t.shard < a.config.desks) × (t.shard ≡ a.house.desk → is_unborn (life [] (past (shard_of a)) t) ≡ false)
   open_target m t found = open_at a.config.desks a.config.start a.config.top_version a.house.desk a.book.journal m t f.s.watching watched (sym found)
 
-  -- the place of the first item that fits
-  pub place_within : (k : Pick) (place : ℕ) (i : Item) → IsFirst (fits k) f.s.waiting (Some (place, i)) → IsSomeAnd (in_place a.house.table p) (λ r. place < length r.1.waiting)
-  place_within k place i first = subst (λ o. IsSomeAnd o (λ r. place < length r.1.waiting)) (sym (stands a whole p f).1) first.0
-
   -- the half of a link that is taken back
   pub takes_back : (to : Pid) (ids : Ids) → Some ids ≡ held f.s.links to → (table : Table) → Changes p (λ me s. unlinked to s) a.house.table table → Changes p (λ me s. say s to (Unlink ids)) a.house.table table
   takes_back to ids holds table changes =
@@ -332,9 +329,16 @@ module _ (a : Parts) (whole : IsWhole a) (p : Pid) (f : Found a p) where
       subst (λ n. Every (λ l. l.to.shard < n) owing.owed) (sym whole.sound.fit.boxes)
       (subst (Every (λ l. l.to.shard < a.config.desks)) (sym owes) (sent_near a whole (Left p r) tt))
 
-  pub left_count : (r : Reason) (owing : Owing) (table : Table) → Ends p r owing a.house.table table → length owing.owed ≡ length (estate f.me f.s r)
-  left_count r owing table ends =
-      ap (λ o. length o.owed) (owes_is p r owing a.house.table table f.s (stands a whole p f).1 ends) ∙ ap (λ m. length (estate m f.s r)) (sym (both a whole p f).1)
+  pub left_peers : (r : Reason) (owing : Owing) (table : Table) → Ends p r owing a.house.table table → map (λ l. l.to) owing.owed ≡ peers f.s
+  left_peers r owing table ends = ap (λ o. map (λ l. l.to) o.owed) (owes_is p r owing a.house.table table f.s (stands a whole p f).1 ends) ∙ estate_peers p f.s r
+
+  pub peers_near : Every (λ q. q.shard < length a.book.outbox) (peers f.s)
+  peers_near =
+      let owes : estate p f.s Normal ≡ sent_by [] (past (shard_of a)) (Left p Normal) = sym (ap (λ x. left_sends x p Normal) (lives_here a whole p f)) in
+      subst (Every (λ q. q.shard < length a.book.outbox)) (estate_peers p f.s Normal)
+      (every_to (length a.book.outbox) (estate p f.s Normal)
+      (subst (λ n. Every (λ l. l.to.shard < n) (estate p f.s Normal)) (sym whole.sound.fit.boxes)
+      (subst (Every (λ l. l.to.shard < a.config.desks)) (sym owes) (sent_near a whole (Left p Normal) tt))))
 
   pub left_from : (r : Reason) (owing : Owing) (table : Table) → Ends p r owing a.house.table table → owing.from ≡ p
   left_from r owing table ends = ap (λ o. o.from) (owes_is p r owing a.house.table table f.s (stands a whole p f).1 ends)

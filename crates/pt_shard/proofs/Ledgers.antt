@@ -1,10 +1,10 @@
 -- The letters of a desk, box by box.
-use Rattle.std.proofs.Common.{◌≡◌, ℕ, zero, suc, ◌+◌, ◌-◌, ◌^◌, ◌<◌, ◌≤◌, ◌⊎◌, inl, inr, ◌==◌, Bool, true, false, max, min, List, [], ◌∷◌, ◌++◌, length, map, take, drop, set, get_or, Some, refl, sym, ap, ◌∙◌, subst, arith}
-use Rattle.std.specs.Prelude.{Result, Ok, Err, slice_get, sum_by}
-use Rattle.std.proofs.lemmas.List.Sums.{sum_by_more}
+use Rattle.std.proofs.Common.{◌≡◌, ℕ, zero, suc, ◌+◌, ◌-◌, ◌^◌, ◌<◌, ◌≤◌, ◌⊎◌, inl, inr, ◌==◌, Bool, true, false, cond, max, min, List, [], ◌∷◌, ◌++◌, length, map, take, drop, set, get_or, Some, refl, sym, ap, ◌∙◌, subst, arith}
+use Rattle.std.specs.Prelude.{Result, Ok, Err, slice_get, sum_by, count_by}
+use Rattle.std.proofs.lemmas.List.Sums.{sum_by_more, sum_by-drop_more}
 use Rattle.std.specs.Result.{IsErr, IsErrAnd}
 use Rattle.std.proofs.lemmas.Bool.{eqb-true, eq-eqb, both_ways, cases_lt}
-use Rattle.std.proofs.lemmas.List.{map-set, map_more, length-map, get_or_past, get_or-set_same, get_or-set_other}
+use Rattle.std.proofs.lemmas.List.{length-set, map-set, map_more, length-map, get_or_past, get_or-set_same, get_or-set_other}
 use Rattle.std.proofs.lemmas.Option.{get_or_from_slice_get}
 use Rattle.pt_signal.specs.declared.pid.Pid.{Pid}
 use Rattle.pt_signal.specs.declared.letter.Letter.{Letter}
@@ -23,7 +23,7 @@ use Rattle.pt_carrier.proofs.Lists.{map-set_more, map-set_same, get_or-map_read,
 use Rattle.pt_shard.specs.declared.stop.Stop.{Stop}
 use Rattle.pt_shard.specs.declared.stop.Stop.TheVariants.{Memory}
 use Rattle.pt_shard.specs.LettersState.{LettersState}
-use Rattle.pt_shard.specs.LedgerState.{Book, LedgerState, wrote, IsUpTo, Prepares}
+use Rattle.pt_shard.specs.LedgerState.{Book, LedgerState, wrote, IsUpTo, Prepares, is_of}
 use Rattle.pt_shard.specs.Sound.{Every}
 
 -- an event stamped above the clock is newer than the journal
@@ -73,23 +73,96 @@ put_out_more : (boxes : List (List Letter)) (ls : List Letter) (l : Letter) → 
 put_out_more boxes [] l = refl
 put_out_more boxes (x ∷ ls) l = put_out_more (one_more boxes x.to.shard x) ls l
 
-every_at : {X : Type 0} (P : X → Type 0) (xs : List X) (i : ℕ) (x : X) → Every P xs → slice_get xs i ≡ Some x → P x
+pub every_at : {X : Type 0} (P : X → Type 0) (xs : List X) (i : ℕ) (x : X) → Every P xs → slice_get xs i ≡ Some x → P x
 every_at P [] i x h got = absurd (cc)
 every_at P (y ∷ xs) zero x h got = let e : y ≡ x = cc in subst P e h.0
 every_at P (y ∷ xs) (suc i) x h got = every_at P xs i x h.1 got
 
-pub room_less : (rooms : List ℕ) (t n e : ℕ) → n ≤ get_or rooms e 0 → n - 1 ≤ get_or (set rooms t (get_or rooms t 0 - 1)) e 0
-room_less rooms t n e enough = go (t == e) refl (cases_lt e (length rooms))
-  where
-    go : (b : Bool) → (t == e) ≡ b → (e < length rooms) ⊎ (length rooms ≤ e) → n - 1 ≤ get_or (set rooms t (get_or rooms t 0 - 1)) e 0
-    go b k (inr beyond) = let none = get_or_past rooms e 0 beyond in omega (arith, enough, none)
-    go true k (inl within) =
-        let at : t ≡ e = eqb-true t e k in
-        let here : get_or (set rooms e (get_or rooms e 0 - 1)) e 0 ≡ get_or rooms e 0 - 1 = get_or-set_same rooms e (get_or rooms e 0 - 1) 0 within in
-        subst (λ x. n - 1 ≤ get_or (set rooms x (get_or rooms x 0 - 1)) e 0) (sym at) (omega (arith, enough, here))
-    go false k (inl within) =
-        let other : get_or (set rooms t (get_or rooms t 0 - 1)) e 0 ≡ get_or rooms e 0 = get_or-set_other rooms t e (get_or rooms t 0 - 1) 0 (λ h. both_ways (t == e) k (eq-eqb t e (sym h))) in
-        omega (arith, enough, other)
+-- how many of the first i+1, and of the last, are of desk e
+count_first : (e i : ℕ) (qs : List Pid) (q : Pid) → i < length qs → slice_get qs i ≡ Some q → count_by (is_of e) (take (i + 1) qs) ≡ count_by (is_of e) (take i qs) + cond (q.shard == e) 1 0
+count_first e i qs q within got =
+    sum_by_more (λ x. cond (is_of e x) 1 0) qs i q within ∙ ap (λ x. count_by (is_of e) (take i qs) + cond (is_of e x) 1 0) (get_or_from_slice_get qs i q q got)
+
+count_last : (e i : ℕ) (qs : List Pid) (q : Pid) → i < length qs → slice_get qs i ≡ Some q → count_by (is_of e) (drop i qs) ≡ cond (q.shard == e) 1 0 + count_by (is_of e) (drop (i + 1) qs)
+count_last e i qs q within got =
+    sum_by-drop_more (λ x. cond (is_of e x) 1 0) qs i q within ∙ ap (λ x. cond (is_of e x) 1 0 + count_by (is_of e) (drop (i + 1) qs)) (get_or_from_slice_get qs i q q got)
+
+module _ (qs : List Pid) (i : ℕ) (q : Pid) (within : i < length qs) (got : slice_get qs i ≡ Some q) where
+  -- there is room for the next letter
+  pub room_next : (rooms : List ℕ) → count_by (is_of q.shard) (drop i qs) ≤ get_or rooms q.shard 0 → 0 < get_or rooms q.shard 0
+  room_next rooms enough =
+      let n = count_last q.shard i qs q within got in
+      let one : ◌≡◌ {A = ℕ} (cond (q.shard == q.shard) 1 0) 1 = rw (eq-eqb q.shard q.shard refl) refl in
+      omega (arith, enough, n, one)
+
+  -- and then for the others
+  pub room_less : (rooms : List ℕ) (e : ℕ) → count_by (is_of e) (drop i qs) ≤ get_or rooms e 0
+      → count_by (is_of e) (drop (i + 1) qs) ≤ get_or (set rooms q.shard (get_or rooms q.shard 0 - 1)) e 0
+  room_less rooms e enough = go (q.shard == e) refl (cases_lt e (length rooms))
+    where
+      n : count_by (is_of e) (drop i qs) ≡ cond (q.shard == e) 1 0 + count_by (is_of e) (drop (i + 1) qs)
+      n = count_last e i qs q within got
+
+      go : (b : Bool) → (q.shard == e) ≡ b → (e < length rooms) ⊎ (length rooms ≤ e) → count_by (is_of e) (drop (i + 1) qs) ≤ get_or (set rooms q.shard (get_or rooms q.shard 0 - 1)) e 0
+      go b k (inr beyond) =
+          let none = get_or_past rooms e 0 beyond in
+          let at = get_or_past (set rooms q.shard (get_or rooms q.shard 0 - 1)) e 0 (let m = length-set rooms q.shard (get_or rooms q.shard 0 - 1) in omega (arith, beyond, m)) in
+          omega (arith, enough, none, at, n)
+      go true k (inl inside) =
+          let at : q.shard ≡ e = eqb-true q.shard e k in
+          let here : get_or (set rooms e (get_or rooms e 0 - 1)) e 0 ≡ get_or rooms e 0 - 1 = get_or-set_same rooms e (get_or rooms e 0 - 1) 0 inside in
+          let one : ◌≡◌ {A = ℕ} (cond (q.shard == e) 1 0) 1 = rw k refl in
+          subst (λ x. count_by (is_of e) (drop (i + 1) qs) ≤ get_or (set rooms x (get_or rooms x 0 - 1)) e 0) (sym at) (omega (arith, enough, here, n, one))
+      go false k (inl inside) =
+          let other : get_or (set rooms q.shard (get_or rooms q.shard 0 - 1)) e 0 ≡ get_or rooms e 0 = get_or-set_other rooms q.shard e (get_or rooms q.shard 0 - 1) 0 (λ h. both_ways (q.shard == e) k (eq-eqb q.shard e (sym h))) in
+          let zero_ : ◌≡◌ {A = ℕ} (cond (q.shard == e) 1 0) 0 = rw k refl in
+          omega (arith, enough, other, n, zero_)
+
+  module _ (t : ℕ) (is : t ≡ q.shard) (counts : List ℕ) (few : length counts ≡ 64) (t_in : t < 64)
+      (so_far : (e : ℕ) → e < 64 → get_or counts e 0 ≡ count_by (is_of e) (take i qs)) where
+    -- the counts of one letter more
+    pub counts_more : (e : ℕ) → e < 64 → get_or (set counts t (get_or counts t 0 + 1)) e 0 ≡ count_by (is_of e) (take (i + 1) qs)
+    counts_more e e_in = go (t == e) refl
+      where
+        n : count_by (is_of e) (take (i + 1) qs) ≡ count_by (is_of e) (take i qs) + cond (t == e) 1 0
+        n = count_first e i qs q within got ∙ ap (λ x. count_by (is_of e) (take i qs) + cond (x == e) 1 0) (sym is)
+
+        go : (b : Bool) → (t == e) ≡ b → get_or (set counts t (get_or counts t 0 + 1)) e 0 ≡ count_by (is_of e) (take (i + 1) qs)
+        go true k =
+            let at : t ≡ e = eqb-true t e k in
+            let one : ◌≡◌ {A = ℕ} (cond (t == e) 1 0) 1 = rw k refl in
+            let here : get_or (set counts e (get_or counts e 0 + 1)) e 0 ≡ get_or counts e 0 + 1 = get_or-set_same counts e (get_or counts e 0 + 1) 0 (omega (arith, few, e_in)) in
+            let was = so_far e e_in in
+            subst (λ x. get_or (set counts x (get_or counts x 0 + 1)) e 0 ≡ count_by (is_of e) (take (i + 1) qs)) (sym at) (omega (arith, here, was, n, one))
+        go false k =
+            let none : ◌≡◌ {A = ℕ} (cond (t == e) 1 0) 0 = rw k refl in
+            let other : get_or (set counts t (get_or counts t 0 + 1)) e 0 ≡ get_or counts e 0 = get_or-set_other counts t e (get_or counts t 0 + 1) 0 (λ h. both_ways (t == e) k (eq-eqb t e (sym h))) in
+            let was = so_far e e_in in
+            omega (arith, other, was, n, none)
+
+    -- the boxes have room for one letter more
+    pub reserved_more : (items : List LettersState) (new : LettersState) → t < length items → get_or counts t 0 + 1 ≤ new.room
+        → ((e : ℕ) → e < length items → count_by (is_of e) (take i qs) ≤ get_or (rooms_in items) e 0)
+        → (e : ℕ) → e < length items → count_by (is_of e) (take (i + 1) qs) ≤ get_or (rooms_in (set items t new)) e 0
+    reserved_more items new inside roomy before e e_in = go (t == e) refl
+      where
+        n : count_by (is_of e) (take (i + 1) qs) ≡ count_by (is_of e) (take i qs) + cond (t == e) 1 0
+        n = count_first e i qs q within got ∙ ap (λ x. count_by (is_of e) (take i qs) + cond (x == e) 1 0) (sym is)
+
+        go : (b : Bool) → (t == e) ≡ b → count_by (is_of e) (take (i + 1) qs) ≤ get_or (rooms_in (set items t new)) e 0
+        go true k =
+            let at : t ≡ e = eqb-true t e k in
+            let one : ◌≡◌ {A = ℕ} (cond (t == e) 1 0) 1 = rw k refl in
+            let here : get_or (rooms_in (set items t new)) t 0 ≡ new.room = get_or-map_set_same (λ (b : LettersState). b.room) items t new 0 inside in
+            let was = so_far t t_in in
+            let there : get_or (rooms_in (set items t new)) e 0 ≡ new.room = ap (λ x. get_or (rooms_in (set items t new)) x 0) (sym at) ∙ here in
+            let same : count_by (is_of e) (take i qs) ≡ count_by (is_of t) (take i qs) = ap (λ x. count_by (is_of x) (take i qs)) (sym at) in
+            omega (arith, roomy, there, was, n, one, same)
+        go false k =
+            let none : ◌≡◌ {A = ℕ} (cond (t == e) 1 0) 0 = rw k refl in
+            let other : get_or (rooms_in (set items t new)) e 0 ≡ get_or (rooms_in items) e 0 = get_or-map_set_other (λ (b : LettersState). b.room) items t e new 0 (λ h. both_ways (t == e) k (eq-eqb t e (sym h))) in
+            let was = before e e_in in
+            omega (arith, other, was, n, none)
 
 pub one_more_length : (boxes boxes' : List (List Letter)) (k : ℕ) (l : Letter) → boxes' ≡ one_more boxes k l → length boxes' ≡ length boxes
 one_more_length boxes boxes' k l is = ap length is ∙ one_more_count boxes k l
@@ -125,19 +198,3 @@ counted_more items outbox is e within old read held count len new so_far one mor
     let at : get_or outbox e [] ≡ old.letters = ap (λ o. get_or o e []) (sym is) ∙ get_or-map_read (λ (b : LettersState). b.letters) items e old [] within read in
     let step : sum_by length (take (e + 1) outbox) ≡ sum_by length (take e outbox) + length (get_or outbox e []) = sum_by_more length outbox e [] inside in
     omega (arith, so_far, one, more, step, ap length at)
-
--- the boxes up to e have room, and now that of e
-pub reserved_more : (items : List LettersState) (e count : ℕ) → e < length items → (new : LettersState) → count ≤ new.room
-    → ((k : ℕ) → k < e → count ≤ get_or (rooms_in items) k 0) → (k : ℕ) → k < e + 1 → count ≤ get_or (rooms_in (set items e new)) k 0
-reserved_more items e count within new roomy before k low = go (k == e) refl
-  where
-    go : (b : Bool) → (k == e) ≡ b → count ≤ get_or (rooms_in (set items e new)) k 0
-    go true h =
-        let at : k ≡ e = eqb-true k e h in
-        let here : get_or (rooms_in (set items e new)) e 0 ≡ new.room = get_or-map_set_same (λ (b : LettersState). b.room) items e new 0 within in
-        subst (λ x. count ≤ get_or (rooms_in (set items e new)) x 0) (sym at) (omega (arith, roomy, here))
-    go false h =
-        let apart : (k ≡ e → ⊥) = λ p. both_ways (k == e) h (eq-eqb k e p) in
-        let other : get_or (rooms_in (set items e new)) k 0 ≡ get_or (rooms_in items) k 0 = get_or-map_set_other (λ (b : LettersState). b.room) items e k new 0 apart in
-        let old : count ≤ get_or (rooms_in items) k 0 = before k (omega (arith, low, apart)) in
-        omega (arith, old, other)

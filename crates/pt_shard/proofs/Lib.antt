@@ -8,7 +8,9 @@ mod Endings
 mod Removals
 mod Keeps
 mod Acting
+mod Lent
 mod Receiving
 mod Outcomes
 mod Bearing
 mod Standing
+mod Acted

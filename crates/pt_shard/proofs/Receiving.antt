@@ -1,6 +1,6 @@
 -- A desk that handles a letter is whole afterwards, and is as the receipt makes it.
 use Rattle.std.proofs.Common.{◌≡◌, ℕ, ◌+◌, ◌^◌, ◌<◌, ◌≤◌, max, Bool, true, false, cond, [], ◌∷◌, length, map, Option, Some, None, is_some, refl, sym, ap, ◌∙◌, subst, append-nil, arith}
-use Rattle.std.specs.Prelude.{IsSome}
+use Rattle.std.specs.Prelude.{IsSome, count_by}
 use Rattle.std.specs.Option.{option_to_list}
 use Rattle.pt_signal.specs.declared.pid.Pid.{Pid}
 use Rattle.pt_signal.specs.declared.letter.Letter.{Letter}
@@ -25,7 +25,8 @@ use Rattle.pt_shard.proofs.Births.{issued_kept, issued_same}
 use Rattle.pt_shard.proofs.Frames.{IsPut, put_one}
 use Rattle.pt_signal.specs.declared.signal.Signal.TheVariants.{Message, Link, Unlink, LinkExit, Monitor, Demonitor, AliveAsk, AliveSay}
 use Rattle.pt_shard.specs.Sound.{Every}
-use Rattle.pt_shard.proofs.Endings.{fewer_owed}
+use Rattle.pt_shard.proofs.Endings.{fewer_owed, estate_peers}
+use Rattle.pt_process.specs.Peers.{peers}
 use Rattle.pt_shard.proofs.Keeps.{IsLawful, sent_near}
 use Rattle.pt_shard.proofs.Acting.{Outcome, outcome, Found, stands, both, put_by_pid, same_settings, vacant_next, option_pid, owes_is, put_there}
 
@@ -180,12 +181,12 @@ module _ (a : Parts) (whole : IsWhole a) (l : Letter) (here : l.to.shard ≡ a.h
       subst (λ n. Every (λ x. x.to.shard < n) owing.owed) (sym whole.sound.fit.boxes)
       (subst (Every (λ x. x.to.shard < a.config.desks)) (sym (owed_is ∙ sent_is)) (sent_near a whole (came l) near))
 
-  pub owed_fewer : (owed : ℕ) → owed ≡ length (estate f.me f.s r) → length owing.owed ≤ owed
-  owed_fewer owed is =
-      let fewer = fewer_owed l.to f.s l.from r r l.signal ending_is in
-      let same : length (estate f.me f.s r) ≡ length (estate l.to f.s r) = ap (λ m. length (estate m f.s r)) (both a whole l.to f).1 in
-      let now : length owing.owed ≡ length (estate l.to after r) = ap (λ o. length o.owed) (owes_is l.to r owing mid.table last.table after in_mid ends) in
-      omega (arith, fewer, same, now, is)
+  pub owed_counted : (P : Pid → Bool) → count_by P (map (λ x. x.to) owing.owed) ≤ count_by P (peers f.s)
+  owed_counted P =
+      let fewer = fewer_owed P l.to f.s l.from r l.signal ending_is in
+      let now : map (λ x. x.to) owing.owed ≡ peers after
+      = ap (λ o. map (λ x. x.to) o.owed) (owes_is l.to r owing mid.table last.table after in_mid ends) ∙ estate_peers l.to after r in
+      rw now fewer
 
   pub owing_from : owing.from ≡ l.to
   owing_from = ap (λ o. o.from) (owes_is l.to r owing mid.table last.table after in_mid ends)

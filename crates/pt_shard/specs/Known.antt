@@ -1,5 +1,5 @@
 -- Which pids a desk knows: the ones that may be the target of a call.
-use Rattle.std.specs.Prelude.{ℕ, Bool, ◌&&◌, ◌||◌, not, ◌==◌, nat_lt, nat_le, cond, max, [], ◌∷◌}
+use Rattle.std.specs.Prelude.{◌≡◌, ◌≢◌, ℕ, Bool, true, ◌&&◌, ◌||◌, not, ◌==◌, nat_lt, nat_le, cond, max, [], ◌∷◌}
 use Rattle.pt_signal.specs.declared.pid.Pid.{Pid}
 use Rattle.pt_events.specs.declared.event.Event.TheVariants.{Born}
 use Rattle.pt_events.specs.History.{Past, Start, is_unborn}
@@ -27,3 +27,7 @@ is_not_ahead d p = not (p.shard == d.number) || nat_le p.version (issued_in d.st
 
 abbrev pub knows : ShardState → Pid → Bool
 knows d p = is_in_node d.config p && is_not_ahead d p
+
+-- what a desk knows, each other desk of its node knows, unless the pid is of that one
+abbrev pub IsKnownToOthers : Type 0
+IsKnownToOthers = (d e : ShardState) (p : Pid) → e.config ≡ d.config → knows d p ≡ true → p.shard ≢ e.number → knows e p ≡ true

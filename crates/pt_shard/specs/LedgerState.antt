@@ -1,5 +1,6 @@
 -- The clock, the journal and the letters of a desk. No public clause cites this module.
-use Rattle.std.specs.Prelude.{◌≡◌, ℕ, ◌^◌, ◌<◌, ◌≤◌, List, [], ◌∷◌, length, slice_index_or, Option, Some, None, Result, Ok, Err, max, ⊤}
+use Rattle.std.specs.Prelude.{◌≡◌, ℕ, ◌^◌, ◌<◌, ◌≤◌, ◌==◌, Bool, count_by, List, [], ◌∷◌, length, slice_index_or, Option, Some, None, Result, Ok, Err, max, ⊤}
+use Rattle.pt_signal.specs.declared.pid.Pid.{Pid}
 use Rattle.pt_signal.specs.declared.letter.Letter.{Letter}
 use Rattle.pt_signal.specs.declared.signal.Signal.{Signal}
 use Rattle.pt_events.specs.declared.event.Event.{Event}
@@ -44,9 +45,13 @@ abbrev pub HasRoomFor : Option Signal → ℕ → LedgerState → Type 0
 HasRoomFor None e s = ⊤
 HasRoomFor (Some x) e s = HasRoomAt e s
 
--- for so many letters, whichever desks they go to
-abbrev pub HasRoomEach : ℕ → LedgerState → Type 0
-HasRoomEach n s = (e : ℕ) → e < length s.book.outbox → n ≤ slice_index_or s.rooms e 0
+-- the process is of desk e
+abbrev pub is_of : ℕ → Pid → Bool
+is_of e q = q.shard == e
+
+-- for a letter to each of them
+abbrev pub HasRoomToAll : List Pid → LedgerState → Type 0
+HasRoomToAll qs s = (e : ℕ) → e < length s.book.outbox → count_by (is_of e) qs ≤ slice_index_or s.rooms e 0
 
 -- an attempt to make room for an event that is stamped above floor, and for letters
 abbrev pub Prepares : ℕ → (LedgerState → Type 0) → LedgerState → Result (Unit {0}) Stop → LedgerState → Type 0

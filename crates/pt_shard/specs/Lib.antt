@@ -11,6 +11,8 @@ pub mod Plain
 pub mod LedgerState
 pub mod LettersState
 pub mod Residents
+pub mod Lending
+pub mod Acts
 pub mod Sound
 pub mod Whole
 pub mod Deliveries

@@ -8,7 +8,7 @@ use Rattle.pt_signal.specs.declared.reason.Reason.{Reason}
 use Rattle.pt_signal.specs.declared.signal.Signal.TheVariants.{Unlink}
 use Rattle.pt_signal.specs.Process.{ProcessState, held, say, estate}
 use Rattle.pt_slots.specs.declared.Key.{Key}
-use Rattle.pt_slots.specs.State.{SlotsState, at, issued, next_key}
+use Rattle.pt_slots.specs.State.{SlotsState, at, issued, next_key, with_value}
 use Rattle.pt_process.specs.Resident.{Resident, Owing}
 
 abbrev pub Table : Type 0
@@ -26,6 +26,18 @@ seen (Some r) = Some (r.me, r.state)
 -- what the slots of the desk have for p
 abbrev pub resident_at : ℕ → Table → Pid → Option (Pid × ProcessState)
 resident_at desk table p = cond (p.shard == desk) (seen (at table p.slot p.version)) None
+
+-- the process p, if it stands in the slots of the desk
+abbrev pub living_at : ℕ → Table → Pid → Option Resident
+living_at desk table p = cond (p.shard == desk) (at table p.slot p.version) None
+
+-- the key of a pid
+abbrev pub key_at : Pid → Key
+key_at p = record { slot = p.slot; version = p.version }
+
+-- the processes, of which p is now v
+abbrev pub with_process : ResidentsState → Pid → Resident → ResidentsState
+with_process s p v = record s { table = with_value s.table (key_at p) v }
 
 -- the pid of a key of the desk
 abbrev pub pid_at : ℕ → Key → Pid

@@ -1,6 +1,6 @@
 // The clock, the journal and the letters of a desk.
 
-ghost use Rattle.std.specs.Prelude.{◌≡◌, ℕ, ◌+◌, ◌-◌, ◌<◌, ◌≤◌, ◌^◌, [], ◌∷◌, max, min, nat_le, length, map, drop, replicate, slice_get, slice_index_or, slice_set, sum_by, None, IfOk, OnOk};
+ghost use Rattle.std.specs.Prelude.{◌≡◌, ℕ, ◌+◌, ◌-◌, ◌<◌, ◌≤◌, ◌^◌, [], ◌∷◌, max, min, nat_le, length, map, drop, replicate, slice_get, slice_index_or, slice_set, sum_by, count_by, None, IfOk, OnOk};
 ghost use Rattle.pt_signal.specs.declared.signal.Signal.{Signal};
 ghost use Rattle.pt_signal.specs.Process.{sent};
 ghost use Rattle.pt_events.specs.declared.event.Event.{Event};
@@ -9,7 +9,8 @@ ghost use Rattle.pt_events.specs.Journal.{letter as stamp_letter};
 ghost use Rattle.std.specs.Option.{option_to_list};
 ghost use Rattle.pt_shard.specs.ShardState.{came};
 ghost use Rattle.pt_carrier.specs.Ends.{one_more};
-ghost use Rattle.pt_shard.specs.LedgerState.{Book, wrote, Prepares, HasNoNeed, HasRoomAt, HasRoomFor, HasRoomEach};
+ghost use Rattle.pt_shard.specs.LedgerState.{Book, wrote, Prepares, HasNoNeed, HasRoomAt, HasRoomFor, HasRoomToAll, is_of};
+ghost use Rattle.pt_process.specs.Peers.{peers};
 ghost use Rattle.pt_shard.specs.LettersState.{LettersState};
 ghost use Rattle.pt_shard.specs.Outbox.{count_held};
 ghost use Rattle.pt_shard.specs.Sound.{Every};
@@ -18,7 +19,7 @@ use crate::config::MAX_STAMP;
 use crate::letters::Letters;
 use crate::stop::Stop;
 use pt_events::{Event, Journal, Stamped};
-use pt_process::Estate;
+use pt_process::{Estate, Process};
 use pt_signal::{Letter, LinkId, Pid, Ref, Signal};
 use std::alloc::{AllocError, Global};
 use std::marker::Model;
@@ -66,13 +67,22 @@ fn no_letters(alloc: Global, desks: u8) -> Result<Vec<Letters>, AllocError>
     Ok(outbox)
 }
 
-// Makes room for so many letters in each box.
-fn reserve_each(outbox: &mut Vec<Letters>, count: usize) -> Result<(), AllocError>
+// Makes room for what a process would owe at its end, in the boxes of those that it would go to.
+fn reserve_owed(outbox: &mut Vec<Letters>, process: &mut Process) -> Result<(), AllocError>
+    requires few { length outbox.old.items ≤ 64 }
+    requires near { Every (λ q. q.shard < length outbox.old.items) (peers process.old.state) }
     ensures letters { map (λ (b : LettersState). b.letters) outbox.new.items ≡ map (λ (b : LettersState). b.letters) outbox.old.items }
-    ensures room { OnOk result ((e : ℕ) → e < length outbox.new.items → count ≤ slice_index_or (map (λ (b : LettersState). b.room) outbox.new.items) e 0) }
+    ensures me { process.new.me ≡ process.old.me }
+    ensures state { process.new.state ≡ process.old.state }
+    ensures room { OnOk result ((e : ℕ) → e < length outbox.new.items → count_by (is_of e) (peers process.old.state) ≤ slice_index_or (map (λ (b : LettersState). b.room) outbox.new.items) e 0) }
 {
-    for e in 0..outbox.len() {
-        outbox[e].reserve(count)?;
+    // How many letters so far, for each desk.
+    let mut counts = [0_usize; 64];
+    for i in 0..process.owed_len() {
+        let desk = usize::from(process.owed_to(i).shard);
+        let count = counts[desk] + 1;
+        counts[desk] = count;
+        outbox[desk].reserve(count)?;
     }
     Ok(())
 }
@@ -162,15 +172,19 @@ impl Ledger {
         }
     }
 
-    /// Makes room for an event that is stamped above `floor`, and for so many letters, whichever desks they go to.
-    pub fn prepare_end(&mut self, floor: u64, owed: usize) -> Result<(), Stop>
-        ensures { Prepares floor (HasRoomEach owed) self.old result self.new }
+    /// Makes room for an event that is stamped above `floor`, and for what a process would owe at its end.
+    pub fn prepare_end(&mut self, floor: u64, process: &mut Process) -> Result<(), Stop>
+        requires few { length self.old.book.outbox ≤ 64 }
+        requires near { Every (λ q. q.shard < length self.old.book.outbox) (peers process.old.state) }
+        ensures does { Prepares floor (HasRoomToAll (peers process.old.state)) self.old result self.new }
+        ensures me { process.new.me ≡ process.old.me }
+        ensures state { process.new.state ≡ process.old.state }
     {
         self.prepare(floor)?;
-        if owed == 0 {
+        if process.owed_len() == 0 {
             return Ok(());
         }
-        reserve_each(&mut self.outbox, owed)?;
+        reserve_owed(&mut self.outbox, process)?;
         Ok(())
     }
 
@@ -249,7 +263,7 @@ impl Ledger {
         requires room { 0 < self.old.room }
         requires from { estate.now.from ≡ from }
         requires to { Every (λ l. l.to.shard < length self.old.book.outbox) estate.now.owed }
-        requires letters { HasRoomEach (length estate.now.owed) self.old }
+        requires letters { HasRoomToAll (map (λ l. l.to) estate.now.owed) self.old }
         ensures { self.new.book ≡ wrote (max self.old.book.clock floor + 1) event (map (letter (max self.old.book.clock floor + 1)) estate.now.owed) self.old.book }
     {
         let stamp = self.write(floor, event);

@@ -44,8 +44,8 @@
 //! `send`, `trap`, `link`, `unlink`, `monitor`, `demonitor`, `ask_alive`, `spawn` and the readers but `pending` take
 //! constant time, on average where a vector or a table has to grow. `receive` costs what it looks at, so the first
 //! item is O(1); a `demonitor` that looks for a DOWN to flush is such a receive. `exit` costs the links, watchers and
-//! open monitors that the process has, and makes room for them once a desk; so does a receipt that ends its
-//! receiver. `pending` looks at each desk's queue once. Nothing grows with the journal or with the number of
+//! open monitors that the process has, and makes room for just what it owes, where that goes; so does a receipt that
+//! ends its receiver. `pending` looks at each desk's queue once. Nothing grows with the journal or with the number of
 //! processes.
 //!
 //! # What is proved
@@ -56,6 +56,7 @@
 
 mod config;
 mod fault;
+mod laws;
 mod ledger;
 mod letters;
 mod residents;
@@ -64,5 +65,6 @@ mod stop;
 
 pub use config::{Config, MAX_DESKS, MAX_LANE, MAX_SLOTS, MAX_STAMP, OpenError};
 pub use fault::Fault;
+pub use laws::known_to_others;
 pub use shard::Shard;
 pub use stop::Stop;

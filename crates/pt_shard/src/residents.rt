@@ -1,16 +1,17 @@
 // The processes of a desk, by their slots.
 
-ghost use Rattle.std.specs.Prelude.{◌≡◌, ◌<◌, ◌≤◌, length, Some, None, IsSome, IsSomeAnd, IfOk, IfSome, OnOk, OnErr};
+ghost use Rattle.std.specs.Prelude.{◌≡◌, ◌<◌, ◌≤◌, Some, None, IsSome, IsSomeAnd, IfOk, IfSome, OnOk, OnErr};
 ghost use Rattle.std.specs.Option.{option_copied};
-ghost use Rattle.std.specs.List.{remove};
 ghost use Rattle.std.specs.Map.{lookup};
 ghost use Rattle.pt_signal.specs.Values.{same_ref};
-ghost use Rattle.pt_signal.specs.Process.{say, handle, fresh};
+ghost use Rattle.pt_signal.specs.Process.{say, fresh};
 ghost use Rattle.pt_signal.specs.declared.signal.Signal.{Signal};
 ghost use Rattle.pt_slots.specs.State.{issued, next_key};
 ghost use Rattle.pt_slots.specs.Calls.{IsEmpty, Inserted};
 ghost use Rattle.pt_events.specs.History.{linked};
-ghost use Rattle.pt_shard.specs.Residents.{seen, in_place, resident_at, vacant_at, Changes, IsSameTable, Ends, HasRoomFor, unlinked};
+ghost use Rattle.std.specs.Borrow.{sem};
+ghost use Rattle.std.specs.Option.{option_copied_mut};
+ghost use Rattle.pt_shard.specs.Residents.{living_at, seen, in_place, resident_at, vacant_at, Changes, IsSameTable, Ends, HasRoomFor, unlinked};
 
 use pt_process::{Estate, Process};
 use pt_signal::{LinkId, Pid, Reason, Ref, Signal};
@@ -45,6 +46,8 @@ fn key_of(p: Pid) -> Key
 }
 
 impl Residents {
+    ghost use Rattle.pt_shard.specs.Lending.{LendsProcess};
+
     pub fn new(
         alloc: Global,
         desk: u8,
@@ -85,6 +88,20 @@ impl Residents {
         self.table.get(key_of(p))
     }
 
+    /// The process, to be changed, if it lives here.
+    pub fn find_mut(&mut self, p: Pid) -> Option<&mut Process>
+        ensures* writes_back { sem 𝓛 (LendsProcess self.entry p result) }
+        ensures value { option_copied_mut result ≡ living_at self.old.desk self.old.table p }
+    {
+        if p.shard != self.desk {
+            return None;
+        }
+        self.table.get_mut(Key {
+            slot: p.slot,
+            version: p.version,
+        })
+    }
+
     /// Sets the flag of a process that lives here.
     pub fn set_trap(&mut self, p: Pid, on: bool)
         requires { IsSome (in_place self.old.table p) }
@@ -95,18 +112,6 @@ impl Residents {
             unreachable!()
         };
         process.set_trap(on);
-    }
-
-    /// Takes the item at a place out of the mailbox of a process that lives here.
-    pub fn take_at(&mut self, p: Pid, place: usize)
-        requires { IsSomeAnd (in_place self.old.table p) (λ r. place < length r.1.waiting) }
-        ensures desk { self.new.desk ≡ self.old.desk }
-        ensures changes { Changes p (λ me s. record s { waiting = remove s.waiting place }) self.old.table self.new.table }
-    {
-        let Some(process) = self.table.get_mut(key_of(p)) else {
-            unreachable!()
-        };
-        process.take_at(place);
     }
 
     /// The half of a link that a process keeps, which lives here.
@@ -157,20 +162,6 @@ impl Residents {
             unreachable!()
         };
         process.cut_monitor(monitor);
-    }
-
-    /// Lets a process take a signal in, which lives here.
-    pub fn accept(&mut self, p: Pid, from: Pid, signal: Signal) -> Result<(), AllocError>
-        requires { IsSome (in_place self.old.table p) }
-        ensures desk { self.new.desk ≡ self.old.desk }
-        ensures ok { OnOk result (Changes p (λ me s. (handle me s from signal).state) self.old.table self.new.table) }
-        ensures err { OnErr result (IsSameTable self.old.table self.new.table) }
-    {
-        let Some(process) = self.table.get_mut(key_of(p)) else {
-            unreachable!()
-        };
-        process.accept(from, signal)?;
-        Ok(())
     }
 
     /// Makes room for the half of a link, if there is one, that a process is to keep, which lives here.

@@ -1,6 +1,6 @@
 // A desk without its lanes.
 
-ghost use Rattle.std.specs.Prelude.{◌≡◌, true, ◌<◌, ◌^◌, ◌-◌, min, drop, length, slice_get, Some, None, IfOk, OnOk, cond, is_some};
+ghost use Rattle.std.specs.Prelude.{◌≡◌, true, ◌<◌, ◌≤◌, ◌^◌, ◌-◌, min, drop, length, slice_get, Some, None, IfOk, OnOk, cond, is_some};
 ghost use Rattle.std.specs.Option.{option_copied};
 ghost use Rattle.pt_signal.specs.declared.signal.Signal.{Signal};
 ghost use Rattle.pt_events.specs.declared.event.Event.{Event};
@@ -13,6 +13,12 @@ ghost use Rattle.pt_shard.specs.Outbox.{sent_on, holding, count_pending};
 ghost use Rattle.pt_shard.specs.Calls.{Calls, Monitors, Bears, BearsChild, link_event, unlink_event, first_match, take_event, demonitor_event, held_by, new_ref};
 ghost use Rattle.pt_shard.specs.Plain.{IsPlain};
 ghost use Rattle.pt_shard.specs.Backs.{living_back};
+ghost use Rattle.std.specs.Option.{option_map};
+ghost use Rattle.std.specs.List.{find};
+ghost use Rattle.pt_signal.specs.Values.{fits};
+ghost use Rattle.pt_process.specs.Peers.{peers};
+ghost use Rattle.pt_shard.specs.Sound.{Every};
+ghost use Rattle.pt_shard.specs.Acts.{Acts, TakesIn, PreparesEnding};
 
 use crate::config::Config;
 use crate::fault::Fault;
@@ -254,16 +260,10 @@ impl Shard {
         ensures extends { Extends self.old self.new }
         ensures fit { IsFit self.new }
     {
-        let Some(process) = self.house.find(p) else {
+        let Some(process) = self.house.find_mut(p) else {
             return Err(Fault::Gone);
         };
-        let Some((place, item)) = process.first(pick) else {
-            return Ok(None);
-        };
-        self.ledger.prepare(0)?;
-        self.house.take_at(p, place);
-        self.ledger.write(0, Event::Took(p, pick, item));
-        Ok(Some(item))
+        take(process, &mut self.ledger, p, pick)
     }
 
     /// Watches another process: Erlang's `monitor/2`, section Monitors. It answers the reference, which the one
@@ -346,10 +346,10 @@ impl Shard {
         ensures extends { Extends self.old self.new }
         ensures fit { IsFit self.new }
     {
-        let Some(process) = self.house.find(p) else {
+        let Some(process) = self.house.find_mut(p) else {
             return Err(Fault::Gone);
         };
-        self.ledger.prepare_end(0, process.owed_len())?;
+        self.ledger.prepare_end(0, process)?;
         let estate = self.house.end(p, reason);
         self.ledger.close(0, Event::Left(p, reason), p, &estate);
         Ok(())
@@ -425,21 +425,17 @@ impl Shard {
             signal,
             stamp,
         } = letter;
-        let Some(process) = self.house.find(to) else {
+        let Some(process) = self.house.find_mut(to) else {
             let back = signal.answer_of_dead();
             self.ledger.prepare_back(stamp, back, from)?;
             self.ledger.receive(letter, back);
             return Ok(None);
         };
         let Some(reason) = process.would_end(from, &signal) else {
-            let back = answer_of_living(signal);
-            self.ledger.prepare_back(stamp, back, from)?;
-            self.house.accept(to, from, signal)?;
-            self.ledger.receive(letter, back);
+            take_in(process, &mut self.ledger, letter)?;
             return Ok(None);
         };
-        self.ledger.prepare_end(stamp, process.owed_len())?;
-        self.house.accept(to, from, signal)?;
+        prepare_ending(process, &mut self.ledger, letter)?;
         let estate = self.house.end(to, reason);
         self.ledger
             .close(stamp, Event::Came(from, to, signal), to, &estate);
@@ -527,6 +523,47 @@ impl Shard {
         self.ledger.say(from, to, signal);
         Ok(())
     }
+}
+
+/// Takes the first item that fits out of the mailbox of a process, and writes it down.
+fn take(
+    process: &mut Process,
+    ledger: &mut Ledger,
+    p: Pid,
+    pick: Pick,
+) -> Result<Option<Item>, Fault>
+    ensures { Acts (option_map (Event.Took p pick) (find (fits pick) process.old.state.waiting)) (find (fits pick) process.old.state.waiting) process.old ledger.old result process.new ledger.new }
+{
+    let Some((place, item)) = process.first(pick) else {
+        return Ok(None);
+    };
+    ledger.prepare(0)?;
+    process.take_at(place);
+    ledger.write(0, Event::Took(p, pick, item));
+    Ok(Some(item))
+}
+
+/// Takes a letter to a live process, and sends what it answers.
+fn take_in(process: &mut Process, ledger: &mut Ledger, letter: Letter) -> Result<(), Stop>
+    requires { letter.from.shard < length ledger.old.book.outbox }
+    ensures { TakesIn letter process.old ledger.old result process.new ledger.new }
+{
+    let back = answer_of_living(letter.signal);
+    ledger.prepare_back(letter.stamp, back, letter.from)?;
+    process.accept(letter.from, letter.signal)?;
+    ledger.receive(letter, back);
+    Ok(())
+}
+
+/// Takes a letter to a process that ends by it, with room for what it then owes.
+fn prepare_ending(process: &mut Process, ledger: &mut Ledger, letter: Letter) -> Result<(), Stop>
+    requires few { length ledger.old.book.outbox ≤ 64 }
+    requires near { Every (λ q. q.shard < length ledger.old.book.outbox) (peers process.old.state) }
+    ensures { PreparesEnding letter process.old ledger.old result process.new ledger.new }
+{
+    ledger.prepare_end(letter.stamp, process)?;
+    process.accept(letter.from, letter.signal)?;
+    Ok(())
 }
 
 /// How a live process answers a signal, if it does.

@@ -1,0 +1,65 @@
+-- What a process does with the ledger of its desk. No public clause cites this module.
+use Rattle.std.specs.Prelude.{◌≡◌, ℕ, ◌+◌, ◌^◌, ◌<◌, ◌≤◌, max, List, [], ◌∷◌, map, Option, Some, None, Result, Ok, Err}
+use Rattle.std.specs.Option.{option_to_list}
+use Rattle.pt_signal.specs.declared.letter.Letter.{Letter}
+use Rattle.pt_signal.specs.Values.{fits, without_first}
+use Rattle.pt_signal.specs.Process.{ProcessState, say, sent, handle}
+use Rattle.pt_events.specs.declared.event.Event.{Event}
+use Rattle.pt_events.specs.declared.event.Event.TheVariants.{Said, Took, Flag}
+use Rattle.pt_events.specs.Journal.{letter}
+use Rattle.pt_process.specs.Resident.{Resident}
+use Rattle.pt_process.specs.Peers.{peers}
+use Rattle.pt_shard.specs.declared.fault.Fault.{Fault}
+use Rattle.pt_shard.specs.declared.fault.Fault.TheVariants as fault
+use Rattle.pt_shard.specs.declared.stop.Stop.{Stop}
+use Rattle.pt_shard.specs.declared.stop.Stop.TheVariants.{Memory, Worn}
+use Rattle.pt_shard.specs.ShardState.{came}
+use Rattle.pt_shard.specs.Backs.{living_back}
+use Rattle.pt_shard.specs.LedgerState.{LedgerState, wrote, HasRoomToAll}
+
+-- what an event of its own makes of a process
+abbrev pub done : Event → ProcessState → ProcessState
+done (Said p to x) s = say s to x
+done (Took p k i) s = record s { waiting = without_first (fits k) s.waiting }
+done (Flag p on) s = record s { traps = on }
+done _ s = s
+
+-- what it sends by it, stamped n
+abbrev pub posted : ℕ → Event → List Letter
+posted n (Said p to x) = letter n (sent p to x) ∷ []
+posted n _ = []
+
+-- nothing changed but for room
+abbrev pub IsStill : Resident → LedgerState → Resident → LedgerState → Type 0
+IsStill r l r' l' = (r'.me ≡ r.me) × (r'.state ≡ r.state) × (l'.book ≡ l.book)
+
+-- it wrote that event, if any, and answers so
+abbrev pub Acts : {A : Type 0} → Option Event → A → Resident → LedgerState → Result A Fault → Resident → LedgerState → Type 0
+Acts None answer r l (Ok a) r' l' = (a ≡ answer) × IsStill r l r' l'
+Acts None answer r l (Err f) r' l' = ⊥
+Acts (Some e) answer r l (Ok a) r' l' =
+    (l.book.clock < 2 ^ 62) × (a ≡ answer) × (r'.me ≡ r.me) × (r'.state ≡ done e r.state) × (l'.book ≡ wrote (l.book.clock + 1) e (posted (l.book.clock + 1) e) l.book)
+Acts (Some e) answer r l (Err fault.Worn) r' l' = (2 ^ 62 ≤ l.book.clock) × IsStill r l r' l'
+Acts (Some e) answer r l (Err fault.Memory) r' l' = (l.book.clock < 2 ^ 62) × IsStill r l r' l'
+Acts (Some e) answer r l (Err fault.Gone) r' l' = ⊥
+Acts (Some e) answer r l (Err fault.Full) r' l' = ⊥
+Acts (Some e) answer r l (Err fault.Myself) r' l' = ⊥
+
+-- a letter could not be handled
+abbrev pub IsStopped : Letter → Stop → Resident → LedgerState → Resident → LedgerState → Type 0
+IsStopped x Worn r l r' l' = (2 ^ 62 ≤ max l.book.clock x.stamp) × IsStill r l r' l'
+IsStopped x Memory r l r' l' = (max l.book.clock x.stamp < 2 ^ 62) × IsStill r l r' l'
+
+-- the letter did to it what its signal does, and its answer is sent
+abbrev pub TakesIn : Letter → Resident → LedgerState → Result (Unit {0}) Stop → Resident → LedgerState → Type 0
+TakesIn x r l (Ok _) r' l' =
+    (max l.book.clock x.stamp < 2 ^ 62) × (r'.me ≡ r.me) × (r'.state ≡ (handle r.me r.state x.from x.signal).state)
+    × (l'.book ≡ wrote (max l.book.clock x.stamp + 1) (came x) (map (letter (max l.book.clock x.stamp + 1)) (map (sent x.to x.from) (option_to_list (living_back x.signal)))) l.book)
+TakesIn x r l (Err s) r' l' = IsStopped x s r l r' l'
+
+-- the letter did to it what its signal does, and what it owed before finds room
+abbrev pub PreparesEnding : Letter → Resident → LedgerState → Result (Unit {0}) Stop → Resident → LedgerState → Type 0
+PreparesEnding x r l (Ok _) r' l' =
+    (max l.book.clock x.stamp < 2 ^ 62) × (r'.me ≡ r.me) × (r'.state ≡ (handle r.me r.state x.from x.signal).state)
+    × (l'.book ≡ l.book) × (0 < l'.room) × HasRoomToAll (peers r.state) l'
+PreparesEnding x r l (Err s) r' l' = IsStopped x s r l r' l'
