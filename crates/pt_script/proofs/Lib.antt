@@ -11,3 +11,4 @@ pub mod SoundScripts
 pub mod ReasonFacts
 pub mod Standing
 pub mod Numbering
+pub mod Writing

@@ -9,10 +9,14 @@ use Rattle.pt_script.specs.declared.fault.Place.{Place}
 use Rattle.pt_script.specs.declared.fault.ScriptError.TheVariants.{Refused}
 use Rattle.pt_script.specs.declared.values.Settings.{Settings}
 use Rattle.pt_script.specs.Plans.{Whole}
+use Rattle.pt_script.specs.declared.values.Operation.{Operation}
 use Rattle.pt_script.specs.Steps.{each}
+use Rattle.pt_script.specs.Scopes.{Scope}
+use Rattle.pt_script.specs.Lists.{simple}
 use Rattle.pt_script.specs.Operations.{reason_of}
 use Rattle.pt_script.specs.Scripts.{Heads, next_head, no_heads, reading}
 use Rattle.pt_script.specs.Sound.{IsSound}
+use Rattle.pt_script.specs.Writing.{Called, written, CanSay, scope_behind}
 use Rattle.pt_script.specs.Standing.{HasPlace, IsNumbered, AreNamesOf, processes_of}
 
 -- whatever bytes are accepted, their script is sound
@@ -34,3 +38,7 @@ NumbersArePlaces = (bytes : List ℕ) (w : Whole) → reading bytes ≡ Ok w →
 -- a name that the heads of the processes settle stands for the place of the process that has it
 abbrev pub NamesArePlaces : Type 0
 NamesArePlaces = (s : Settings) (ds : List Data) (heads : Heads) → each (next_head s) no_heads ds ≡ Ok heads → AreNamesOf (processes_of ds) heads.names
+
+-- an operation that was written is read back, and with the scope behind it
+abbrev pub OperationsReadBack : Type 0
+OperationsReadBack = (s : Scope) (c : Called) (o : Operation) → CanSay s c o → simple s (written c o) ≡ Ok (o, scope_behind s c o)

@@ -8,4 +8,5 @@ pub mod Lists
 pub mod Scripts
 pub mod Sound
 pub mod Standing
+pub mod Writing
 pub mod Laws

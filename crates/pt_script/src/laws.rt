@@ -1,6 +1,6 @@
 // The laws of scripts: each is the contract of a function that does nothing.
 
-ghost use Rattle.pt_script.specs.Laws.{AcceptedAreSound, ReasonsAsPrinted, FaultsHavePlaces, NumbersArePlaces, NamesArePlaces};
+ghost use Rattle.pt_script.specs.Laws.{AcceptedAreSound, ReasonsAsPrinted, FaultsHavePlaces, NumbersArePlaces, NamesArePlaces, OperationsReadBack};
 
 /// In every script that is accepted, each number of a process is below the number of processes, each tag was made
 /// by an earlier operation of its list, each desk is one of the node's, the settings are in their ranges, and there
@@ -30,4 +30,10 @@ pub fn numbers_are_places()
 /// The name of a process of the script's list stands for that process, by its place in the text.
 pub fn names_are_places()
     ensures { NamesArePlaces }
+{}
+
+/// Whatever can be said in a scope is read as it is written there: each operation but a spawn, with numbers in their
+/// ranges and with processes and tags by names that are theirs in the scope.
+pub fn operations_read_back()
+    ensures { OperationsReadBack }
 {}
