@@ -10,7 +10,7 @@ use crate::steps::{gathered, tell};
 use crate::strategy::Strategy;
 use crate::supervisor::{Supervisor, Tended};
 use crate::two_processes::two_processes;
-use pt_node::{Config, Desk, OpenError, Pid, Reason, open};
+use pt_node::{Config, Desk, Event, OpenError, Pid, Reason, Signal, open};
 use std::alloc::Global;
 use std::process::Abort;
 use std::test::Fail;
@@ -202,6 +202,28 @@ fn a_monster_without_health_ends(rt: HostRuntime) -> Result<(), Fail> {
 #[test]
 fn a_text_comes_with_its_message(rt: HostRuntime) -> Result<(), Fail> {
     played(&rt, rt.alloc(), Play::Texts)
+}
+
+#[test]
+fn threads_lose_no_message(rt: HostRuntime) -> Result<(), Fail> {
+    let config = Config {
+        desks: 3,
+        ..ONE_DESK
+    };
+    let Ok(quiet) = ring(&rt, rt.alloc(), config, 20)?.settle() else {
+        panic!(rt; "the node does not settle");
+    };
+    let mut next = [0i64; 3];
+    for stamped in quiet.history()? {
+        if let Event::Came(from, _to, Signal::Message(body)) = stamped.event {
+            assert!(rt; from.shard < 3);
+            let shard = usize::from(from.shard);
+            assert_eq!(rt; body.num, next[shard]);
+            next[shard] = next[shard].saturating_add(1);
+        }
+    }
+    assert_eq!(rt; next, [20, 20, 20]);
+    Ok(())
 }
 
 #[test]
