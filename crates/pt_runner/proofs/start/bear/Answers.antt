@@ -1,0 +1,69 @@
+use Rattle.std.proofs.Common.{◌≡◌, ◌+◌, ◌<◌, List, [], length, get_or, set, ap, sym, subst, refl, ◌∙◌, arith}
+use Rattle.std.proofs.lemmas.List.{get_or_default}
+use Rattle.std.proofs.lemmas.Result.{err_from_is_err_and}
+use Rattle.pt_signal.specs.declared.pid.Pid.{Pid}
+use Rattle.pt_script.specs.declared.values.Top.{Top}
+use Rattle.pt_runner.specs.Starting.{config_of}
+use Rattle.pt_runner.proofs.Starting.{Begun, begun_none, begun_same, begun_more, not_born, node_set, left_as_is, desk_within}
+use Rattle.pt_runner.proofs.start.bear.Goals as goal
+
+pub returns-in_err-born-clause-bears : goal.returns-in_err-born-clause-bears
+returns-in_err-born-clause-bears c =
+    let p = err_from_is_err_and c.from_residual.result c.from_residual.ensures.1 in
+    let w = c.args.script.now in
+    left_as_is (config_of w.settings) w.tops 0 [] c.args.desks.now c.from_residual.result p.0 p.1 (begun_none (config_of w.settings) w.tops c.args.desks.now c.requires)
+
+pub returns-in_err-pid-clause-desks : goal.returns-in_err-pid-clause-desks
+returns-in_err-pid-clause-desks c =
+    let w = c.args.script.now in
+    let i = c.loop-top.top-index in
+    let desks = c.loop-top.desks in
+    let none : Top = record { process = 0; desk = 0 } in
+    let config = config_of w.settings in
+    let begun = c.loop-top.invariant.begun in
+    let few : i < length w.tops = omega (arith, c.loop-top-test.true, ap length c.tops-tops.ensures.tops) in
+    let within : (get_or c.tops-tops.result.now i none).desk < length desks = subst (λ (ts : List Top). (get_or ts i none).desk < length desks) (sym c.tops-tops.ensures.tops) (desk_within w desks i none c.tops-tops.ensures.sound begun.node few) in
+    let d = (get_or c.tops-tops.result.now i none).desk in
+    let x = c.index-desks-top.result in
+    let old = get_or desks d x in
+    node_set config desks d old c.spawn.new.self begun.node within (get_or_default desks d x old within) c.spawn.ensures.goes_on
+
+pub returns-in_err-pid-clause-bears : goal.returns-in_err-pid-clause-bears
+returns-in_err-pid-clause-bears c =
+    let p = err_from_is_err_and c.from_residual-in_err-pid.result c.from_residual-in_err-pid.ensures.1 in
+    let w = c.args.script.now in
+    let i = c.loop-top.top-index in
+    let desks = c.loop-top.desks in
+    let none : Top = record { process = 0; desk = 0 } in
+    let d = (get_or c.tops-tops.result.now i none).desk in
+    let config = config_of w.settings in
+    let begun = c.loop-top.invariant.begun in
+    let x = c.index-desks-top.result in
+    let old = get_or desks d x in
+    let y = c.spawn.new.self in
+    let few : i < length w.tops = omega (arith, c.loop-top-test.true, ap length c.tops-tops.ensures.tops) in
+    let within : d < length desks = subst (λ (ts : List Top). (get_or ts i none).desk < length desks) (sym c.tops-tops.ensures.tops) (desk_within w desks i none c.tops-tops.ensures.sound begun.node few) in
+    let same : y.shard ≡ old.shard = not_born old.shard y.shard c.in_err-pid.field-0.0 c.in_err-pid.ensures.does in
+    left_as_is config w.tops i c.loop-top.born.items (set desks d y) c.from_residual-in_err-pid.result p.0 p.1 (begun_same config w.tops i c.loop-top.born.items desks d old y begun within (get_or_default desks d x old within) c.spawn.ensures.goes_on same)
+
+pub loop-top-preserved : goal.loop-top-preserved
+loop-top-preserved c =
+    let w = c.args.script.now in
+    let i = c.loop-top.top-index in
+    let desks = c.loop-top.desks in
+    let none : Top = record { process = 0; desk = 0 } in
+    let t = get_or c.tops-tops.result.now i none in
+    let config = config_of w.settings in
+    let begun = c.loop-top.invariant.begun in
+    let x = c.index-desks-top.result in
+    let old = get_or desks t.desk x in
+    let y = c.spawn.new.self in
+    let few : i < length w.tops = omega (arith, c.loop-top-test.true, ap length c.tops-tops.ensures.tops) in
+    let within : t.desk < length desks = subst (λ (ts : List Top). (get_or ts i none).desk < length desks) (sym c.tops-tops.ensures.tops) (desk_within w desks i none c.tops-tops.ensures.sound begun.node few) in
+    let here : get_or w.tops i t ≡ t = get_or_default w.tops i t none few ∙ ap (λ (ts : List Top). get_or ts i none) (sym c.tops-tops.ensures.tops) in
+    let more = begun_more config w.tops i c.loop-top.born.items desks t.desk old y begun within (get_or_default desks t.desk x old within) c.spawn.ensures.goes_on t c.in_ok-pid.pid few here refl c.in_ok-pid.ensures.known.0 c.in_ok-pid.ensures.does in
+    record {
+      begun = subst (λ (born : List Pid). Begun config w.tops (i + 1) born (set desks t.desk y)) (sym c.push_reserved.ensures.items) more;
+      capacity = c.push_reserved.ensures.capacity ∙ c.loop-top.invariant.capacity;
+      counted = c.push_reserved.ensures.len ∙ ap (λ n. n + 1) c.loop-top.invariant.counted;
+    }

@@ -1,0 +1,246 @@
+// The operations of a process, as calls of its desk.
+#![tactic(auto, using(crate::proofs::Calling::stays, crate::proofs::Calling::none_done))]
+
+ghost use Rattle.std.specs.Prelude.{◌≡◌, ◌+◌, true, IfSome, []};
+ghost use Rattle.pt_desk.specs.DeskState.{GoesOn, HasSameEnds};
+ghost use Rattle.pt_shard.specs.Known.{knows};
+ghost use Rattle.pt_runner.specs.Stepping.{Leaves, IsNoEnd, came_of};
+
+use pt_node::{Body, Desk, Fault, Pick, Pid, Reason, Ref};
+use pt_script::{Operation, Pattern};
+
+/// What came of an operation.
+#[derive(Clone, Copy, Debug, PartialEq, Eq)]
+pub enum Progress {
+    /// It is done, or passed over.
+    Done,
+    /// It is to be tried again.
+    Stays,
+    /// It is refused, and its process is to end with this reason.
+    Ends(Reason),
+}
+
+/// The references that the monitors and asks of a process got, by tag.
+pub type References = Vec<Option<Ref>>;
+
+/// What came of an operation, by the answer to its call.
+pub fn progress_of<T: Drop>(answer: Result<T, Fault>) -> Progress
+    ensures { result ≡ came_of answer }
+{
+    match answer {
+        Ok(_) => Progress::Done,
+        Err(Fault::Full) => Progress::Ends(Reason::Other(1)),
+        Err(Fault::Myself) => Progress::Ends(Reason::Other(5)),
+        Err(Fault::Memory | Fault::Worn | Fault::Gone) => Progress::Stays,
+    }
+}
+
+/// The pid of a process of the script, by its number.
+fn pid_of(pids: &[Option<Pid>], process: u32) -> Option<Pid> {
+    match pids.get(process as usize) {
+        Some(pid) => *pid,
+        None => None,
+    }
+}
+
+/// The pid of a process of the script, where the desk knows it.
+fn target(desk: &Desk, pids: &[Option<Pid>], process: u32) -> Option<Pid>
+    ensures { IfSome result (λ p. knows desk.now.shard p ≡ true) }
+{
+    let pid = pid_of(pids, process)?;
+    if desk.knows(pid) { Some(pid) } else { None }
+}
+
+/// The reference of a tag.
+fn reference_of(references: &References, tag: u32) -> Option<Ref> {
+    match references.get(tag as usize) {
+        Some(reference) => *reference,
+        None => None,
+    }
+}
+
+/// What a receive takes.
+fn pick_of(pids: &[Option<Pid>], references: &References, pattern: Pattern) -> Option<Pick> {
+    match pattern {
+        Pattern::Any => Some(Pick::Any),
+        Pattern::Kind(kind) => Some(Pick::Kind(kind)),
+        Pattern::From(process) => pid_of(pids, process).map(Pick::From),
+        Pattern::ExitOf(process) => pid_of(pids, process).map(Pick::ExitOf),
+        Pattern::DownOf(tag) => reference_of(references, tag).map(Pick::DownOf),
+        Pattern::AliveOf(tag) => reference_of(references, tag).map(Pick::AliveOf),
+    }
+}
+
+/// Does an operation of p that spawns nothing.
+pub fn call(
+    desk: &mut Desk,
+    pids: &[Option<Pid>],
+    references: &mut References,
+    p: Pid,
+    operation: Operation,
+) -> Progress
+    ensures leaves { Leaves p result desk.old.shard desk.new.shard }
+    ensures ends { HasSameEnds desk.old desk.new }
+    ensures goes_on { GoesOn desk.old desk.new }
+{
+    match operation {
+        Operation::Send { to, kind, num, who } => send(desk, pids, p, to, kind, num, who),
+        Operation::Receive(pattern) => receive(desk, pids, references, p, pattern, Progress::Stays),
+        Operation::Check(pattern) => receive(desk, pids, references, p, pattern, Progress::Done),
+        Operation::Link(to) => link(desk, pids, p, to),
+        Operation::Unlink(to) => unlink(desk, pids, p, to),
+        Operation::Monitor { to, tag: _ } => monitor(desk, pids, references, p, to),
+        Operation::Demonitor { tag, flush } => demonitor(desk, references, p, tag, flush),
+        Operation::Alive { to, tag: _ } => ask_alive(desk, pids, references, p, to),
+        Operation::Trap(on) => progress_of(desk.trap(p, on)),
+        Operation::Exit(reason) => progress_of(desk.exit(p, reason)),
+        Operation::Signal { to, reason } => exit_signal(desk, pids, p, to, reason),
+        Operation::Spawn {
+            process: _,
+            linked: _,
+        }
+        | Operation::Pass => Progress::Done,
+    }
+}
+
+fn send(
+    desk: &mut Desk,
+    pids: &[Option<Pid>],
+    p: Pid,
+    to: u32,
+    kind: u32,
+    num: i64,
+    who: Option<u32>,
+) -> Progress
+    ensures leaves { Leaves p result desk.old.shard desk.new.shard }
+    ensures ends { HasSameEnds desk.old desk.new }
+    ensures goes_on { GoesOn desk.old desk.new }
+{
+    let Some(to) = target(desk, pids, to) else {
+        return Progress::Done;
+    };
+    let who = match who {
+        Some(process) => pid_of(pids, process),
+        None => None,
+    };
+    progress_of(desk.send(p, to, Body { kind, num, who }))
+}
+
+/// Takes an item that fits; with none, what comes of it is `without`.
+fn receive(
+    desk: &mut Desk,
+    pids: &[Option<Pid>],
+    references: &References,
+    p: Pid,
+    pattern: Pattern,
+    without: Progress,
+) -> Progress
+    requires { IsNoEnd without }
+    ensures leaves { Leaves p result desk.old.shard desk.new.shard }
+    ensures ends { HasSameEnds desk.old desk.new }
+    ensures goes_on { GoesOn desk.old desk.new }
+{
+    let Some(pick) = pick_of(pids, references, pattern) else {
+        return Progress::Done;
+    };
+    let answer = desk.receive(p, pick);
+    if answer == Ok(None) {
+        without
+    } else {
+        progress_of(answer)
+    }
+}
+
+fn link(desk: &mut Desk, pids: &[Option<Pid>], p: Pid, to: u32) -> Progress
+    ensures leaves { Leaves p result desk.old.shard desk.new.shard }
+    ensures ends { HasSameEnds desk.old desk.new }
+    ensures goes_on { GoesOn desk.old desk.new }
+{
+    match target(desk, pids, to) {
+        Some(to) => progress_of(desk.link(p, to)),
+        None => Progress::Done,
+    }
+}
+
+fn unlink(desk: &mut Desk, pids: &[Option<Pid>], p: Pid, to: u32) -> Progress
+    ensures leaves { Leaves p result desk.old.shard desk.new.shard }
+    ensures ends { HasSameEnds desk.old desk.new }
+    ensures goes_on { GoesOn desk.old desk.new }
+{
+    match target(desk, pids, to) {
+        Some(to) => progress_of(desk.unlink(p, to)),
+        None => Progress::Done,
+    }
+}
+
+fn exit_signal(desk: &mut Desk, pids: &[Option<Pid>], p: Pid, to: u32, reason: Reason) -> Progress
+    ensures leaves { Leaves p result desk.old.shard desk.new.shard }
+    ensures ends { HasSameEnds desk.old desk.new }
+    ensures goes_on { GoesOn desk.old desk.new }
+{
+    match target(desk, pids, to) {
+        Some(to) => progress_of(desk.exit_signal(p, to, reason)),
+        None => Progress::Done,
+    }
+}
+
+fn monitor(
+    desk: &mut Desk,
+    pids: &[Option<Pid>],
+    references: &mut References,
+    p: Pid,
+    to: u32,
+) -> Progress
+    ensures leaves { Leaves p result desk.old.shard desk.new.shard }
+    ensures ends { HasSameEnds desk.old desk.new }
+    ensures goes_on { GoesOn desk.old desk.new }
+{
+    if references.reserve(1).is_err() {
+        return Progress::Stays;
+    }
+    let Some(to) = target(desk, pids, to) else {
+        references.push_reserved(None);
+        return Progress::Done;
+    };
+    let answer = desk.monitor(p, to);
+    if let Ok(reference) = answer {
+        references.push_reserved(Some(reference));
+    }
+    progress_of(answer)
+}
+
+fn demonitor(desk: &mut Desk, references: &References, p: Pid, tag: u32, flush: bool) -> Progress
+    ensures leaves { Leaves p result desk.old.shard desk.new.shard }
+    ensures ends { HasSameEnds desk.old desk.new }
+    ensures goes_on { GoesOn desk.old desk.new }
+{
+    match reference_of(references, tag) {
+        Some(reference) => progress_of(desk.demonitor(p, reference, flush)),
+        None => Progress::Done,
+    }
+}
+
+fn ask_alive(
+    desk: &mut Desk,
+    pids: &[Option<Pid>],
+    references: &mut References,
+    p: Pid,
+    to: u32,
+) -> Progress
+    ensures leaves { Leaves p result desk.old.shard desk.new.shard }
+    ensures ends { HasSameEnds desk.old desk.new }
+    ensures goes_on { GoesOn desk.old desk.new }
+{
+    if references.reserve(1).is_err() {
+        return Progress::Stays;
+    }
+    let Some(to) = target(desk, pids, to) else {
+        references.push_reserved(None);
+        return Progress::Done;
+    };
+    let answer = desk.ask_alive(p, to);
+    if let Ok(reference) = answer {
+        references.push_reserved(Some(reference));
+    }
+    progress_of(answer)
+}

@@ -1,0 +1,37 @@
+//! The work of a script: what its processes do on the desks of a node.
+//!
+//! ```
+//! let script = Script::read(alloc, text)?;
+//! let mut desks = open(alloc, config(&script))?;
+//! let runners = Runner::start(alloc, &script, &mut desks)?;    // the processes of the script's list are born
+//! ..                                                           // each desk with its runner, to `run` or `run_single`
+//! ```
+//!
+//! # Steps
+//!
+//! A [`Runner`] is the [`Work`](pt_node::Work) of one desk. In a step each process of the script that lives there does
+//! at most one operation, in order of birth; one that is born in a step starts in the next. A `receive` without an item
+//! that fits is tried again in the next step, and so is an operation that is refused for memory or at the clock's limit.
+//! An operation that is refused as `Full` or as `Myself` ends its process in the same step, with the reason `other:` and
+//! the refusal's number. `"trap":true` is an operation of its own before the others, and a process whose operations are
+//! used up exits with `normal` as its last one.
+//!
+//! # Names
+//!
+//! An operation speaks of processes by their numbers in the script, and of monitors by their tags. The runner keeps the
+//! pid of each process that the operations of its desk may name, and the reference of each tag of a process. A number
+//! without a pid, a pid that the desk does not know, or a tag without a reference comes on the desks of another node
+//! alone: such an operation is passed over.
+//!
+//! # Cost
+//!
+//! A step costs the operations that it does, a look at each process of the script that lives on the desk, and one at
+//! each that ended since the step before.
+#![tactic(auto)]
+
+mod calls;
+mod runner;
+mod start;
+
+pub use runner::Runner;
+pub use start::config;

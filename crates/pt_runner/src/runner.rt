@@ -1,0 +1,205 @@
+// The work of a script on one desk.
+
+ghost use Rattle.std.specs.Prelude.{◌≡◌, ◌<◌, ◌≤◌, ◌+◌, ◌++◌, [], ◌∷◌, false, vec_len, vec_capacity};
+ghost use Rattle.std.specs.List.{All, filter};
+ghost use Rattle.pt_desk.specs.DeskState.{GoesOn, HasSameEnds};
+ghost use Rattle.pt_shard.specs.ShardState.{lives};
+ghost use Rattle.pt_runner.specs.Stepping.{DoesOne, Concludes, ActsOnce, Steps, processes_of, pid_at, born_by};
+
+use crate::calls::{Progress, References, call, progress_of};
+use pt_node::{Desk, Fault, Pid, Reason, Work};
+use pt_script::{Operation, Script};
+use std::alloc::Global;
+
+/// A process of the script that was born on the desk.
+#[derive(Drop)]
+pub(crate) struct Actor {
+    pid: Pid,
+    /// Its number in the script.
+    process: u32,
+    /// Whether trapping exits is its next operation, before those of its list.
+    begins: bool,
+    /// How many operations of its list are behind it.
+    done: usize,
+    references: References,
+}
+
+impl Actor {
+    /// A process that was born just now.
+    pub(crate) fn new(alloc: Global, script: &Script, pid: Pid, process: u32) -> Actor
+        ensures { result.pid ≡ pid }
+    {
+        let begins = match script.processes().get(process as usize) {
+            Some(plan) => plan.traps(),
+            None => false,
+        };
+        Actor {
+            pid,
+            process,
+            begins,
+            done: 0,
+            references: Vec::new(alloc),
+        }
+    }
+
+    /// Its next operation; behind the last one that is its exit.
+    fn next(&self, script: &Script) -> Operation {
+        if self.begins {
+            return Operation::Trap(true);
+        }
+        let Some(plan) = script.processes().get(self.process as usize) else {
+            return Operation::Exit(Reason::Normal);
+        };
+        match plan.operations().get(self.done) {
+            Some(operation) => *operation,
+            None => Operation::Exit(Reason::Normal),
+        }
+    }
+
+    /// Its next operation is behind it.
+    fn advance(&mut self)
+        ensures { self.new.pid ≡ self.old.pid }
+    {
+        if self.begins {
+            self.begins = false;
+        } else {
+            self.done = self.done.saturating_add(1);
+        }
+    }
+
+    /// Does an operation that spawns nothing.
+    fn perform(&mut self, pids: &[Option<Pid>], operation: Operation, desk: &mut Desk)
+        ensures does { DoesOne self.old.pid desk.old.shard desk.new.shard [] }
+        ensures ends { HasSameEnds desk.old desk.new }
+        ensures goes_on { GoesOn desk.old desk.new }
+        ensures pid { self.new.pid ≡ self.old.pid }
+    {
+        let progress = call(desk, pids, &mut self.references, self.pid, operation);
+        self.conclude(progress, desk);
+    }
+
+    /// Goes on behind an operation, or ends by its refusal.
+    fn conclude(&mut self, progress: Progress, desk: &mut Desk)
+        ensures leaves { Concludes self.old.pid progress desk.old.shard desk.new.shard }
+        ensures ends { HasSameEnds desk.old desk.new }
+        ensures goes_on { GoesOn desk.old desk.new }
+        ensures pid { self.new.pid ≡ self.old.pid }
+    {
+        match progress {
+            Progress::Done => self.advance(),
+            Progress::Stays => {}
+            Progress::Ends(reason) => {
+                let _ = desk.exit(self.pid, reason);
+            }
+        }
+    }
+}
+
+/// What the processes of a script do on one desk.
+#[derive(Drop)]
+pub struct Runner<'a> {
+    alloc: Global,
+    script: &'a Script,
+    /// The pids that operations here may name, by the numbers of their processes.
+    pids: Vec<Option<Pid>>,
+    /// The processes of the script that were born on the desk, in order of birth. One that has ended is taken out when
+    /// the next step begins.
+    actors: Vec<Actor>,
+}
+
+impl<'a> Runner<'a> {
+    pub(crate) fn new(
+        alloc: Global,
+        script: &'a Script,
+        pids: Vec<Option<Pid>>,
+        actors: Vec<Actor>,
+    ) -> Runner<'a>
+        ensures { result.actors ≡ actors }
+    {
+        Runner {
+            alloc,
+            script,
+            pids,
+            actors,
+        }
+    }
+
+    /// Takes out the processes that have ended.
+    fn bury(&mut self, desk: &Desk)
+        ensures { processes_of self.new ≡ filter (lives desk.now.shard) (processes_of self.old) }
+    {
+        self.actors.retain(|actor| desk.alive_here(actor.pid));
+    }
+
+    /// Does at most one operation of the process at this index.
+    fn act(&mut self, index: usize, pid: Pid, desk: &mut Desk)
+        requires index { index < vec_len self.old.actors }
+        requires pid { pid_at self.old index pid ≡ pid }
+        ensures does { ActsOnce pid self.old desk.old.shard self.new desk.new.shard }
+        ensures ends { HasSameEnds desk.old desk.new }
+        ensures goes_on { GoesOn desk.old desk.new }
+    {
+        let operation = self.actors[index].next(self.script);
+        if let Operation::Spawn { process, linked } = operation {
+            self.spawn(index, pid, process, linked, desk);
+        } else {
+            self.actors[index].perform(self.pids.as_slice(), operation, desk);
+        }
+    }
+
+    /// Spawns a process, whose first operation comes in the next step.
+    fn spawn(&mut self, index: usize, pid: Pid, process: u32, linked: bool, desk: &mut Desk)
+        requires index { index < vec_len self.old.actors }
+        requires pid { pid_at self.old index pid ≡ pid }
+        ensures does { ActsOnce pid self.old desk.old.shard self.new desk.new.shard }
+        ensures ends { HasSameEnds desk.old desk.new }
+        ensures goes_on { GoesOn desk.old desk.new }
+    {
+        if self.actors.reserve(1).is_err() {
+            return;
+        }
+        let answer = desk.spawn_child(pid, linked);
+        self.enter(process, answer);
+        self.actors[index].conclude(progress_of(answer), desk);
+    }
+
+    /// Lists the process that was born, if one was.
+    fn enter(&mut self, process: u32, answer: Result<Pid, Fault>)
+        requires { vec_len self.old.actors < vec_capacity self.old.actors }
+        ensures listed { processes_of self.new ≡ processes_of self.old ++ born_by answer }
+        ensures len { vec_len self.old.actors ≤ vec_len self.new.actors }
+    {
+        match answer {
+            Ok(child) => self.list(process, child),
+            Err(_refused) => {}
+        }
+    }
+
+    /// Lists a process, and its pid.
+    fn list(&mut self, process: u32, child: Pid)
+        requires { vec_len self.old.actors < vec_capacity self.old.actors }
+        ensures listed { processes_of self.new ≡ processes_of self.old ++ child ∷ [] }
+        ensures len { vec_len self.new.actors ≡ vec_len self.old.actors + 1 }
+    {
+        let actor = Actor::new(self.alloc, self.script, child, process);
+        self.actors.push_reserved(actor);
+        if let Some(place) = self.pids.get_mut(process as usize) {
+            *place = Some(child);
+        }
+    }
+}
+
+impl Work for Runner<'_> {
+    fn step(&mut self, desk: &mut Desk)
+        ensures steps { Steps (processes_of self.old) desk.old.shard (processes_of self.new) desk.new.shard }
+        ensures idle { All (λ p. lives desk.old.shard p ≡ false) (processes_of self.old) → desk.new.shard ≡ desk.old.shard }
+        ensures ends { HasSameEnds desk.old desk.new }
+        ensures goes_on { GoesOn desk.old desk.new }
+    {
+        self.bury(desk);
+        for index in 0..self.actors.len() {
+            let pid = self.actors[index].pid;
+            self.act(index, pid, desk);
+        }
+    }
+}
