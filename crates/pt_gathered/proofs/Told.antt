@@ -1,7 +1,6 @@
 -- What is told of the processes, while the journals are read one after the other.
 use Rattle.std.proofs.Common.{◌≡◌, ℕ, zero, suc, ◌+◌, ◌<◌, ◌≤◌, ◌⊎◌, inl, inr, List, [], ◌∷◌, ◌++◌, length, get_or, refl, sym, ap, ◌∙◌, subst, arith}
 use Rattle.std.proofs.lemmas.List.{get_or-map, length-append}
-use Rattle.pt_events.specs.declared.event.Stamped.{Stamped}
 use Rattle.pt_events.specs.Journal.{events, IsLocal}
 use Rattle.pt_events.specs.JournalState.{JournalState}
 use Rattle.pt_lives.specs.DeskLives.{DeskTable, IsDeskJournal, IsTableOf}

@@ -23,9 +23,10 @@ use Rattle.pt_events.specs.Journal.{events, IsNext, IsLocal, IsHome, IsOf, MayHe
 use Rattle.pt_events.proofs.Phases.{each_branch}
 use Rattle.pt_events.proofs.InOrder.{reverse_take, reverse_split}
 use Rattle.pt_laws.specs.Taken.{taken, taken_by}
-use Rattle.pt_lives.specs.LifeState.{LifeState, MaySee, MayMeet, MayDo}
-use Rattle.pt_lives.specs.Table.{Slots, at, of_version, slot_at, found, Tells, AreTold, MayShow, may_show_parent, MayObserve, Observes}
+use Rattle.pt_lives.specs.LifeState.{LifeState}
+use Rattle.pt_lives.specs.Table.{Slots, at, of_version, slot_at, found, Tells, AreTold}
 use Rattle.pt_lives.specs.DeskLives.{IsDeskJournal}
+use Rattle.pt_lives.specs.Steps.{MayShow, may_show_parent, MayObserve, Observes, MaySee, MayMeet, MayDo}
 use Rattle.pt_lives.proofs.Places.{slice_get-past}
 use Rattle.pt_lives.proofs.Told.{HomeParent, found_here, none_unborn, told_changed, told_born}
 

@@ -1,5 +1,5 @@
 -- What a table tells is what every merge says.
-use Rattle.std.proofs.Common.{◌≡◌, ℕ, zero, suc, ◌+◌, ◌<◌, ◌≤◌, ◌⊎◌, inl, inr, Option, Some, None, is_some, List, [], ◌∷◌, ◌++◌, length, get_or, refl, ap, sym, ◌∙◌, subst, arith, append-nil}
+use Rattle.std.proofs.Common.{◌≡◌, ℕ, ◌+◌, ◌<◌, ◌≤◌, Option, Some, None, is_some, List, [], length, get_or, refl, ap, sym, ◌∙◌, subst, arith}
 use Rattle.std.specs.Option.{option_map}
 use Rattle.std.specs.Map.{lookup}
 use Rattle.std.specs.List.{list_any}
@@ -14,9 +14,8 @@ use Rattle.pt_laws.specs.JournalLaws.{JournalsSay}
 use Rattle.pt_laws.specs.Taken.{taken}
 use Rattle.pt_lives.specs.LifeState.{LifeState, account_of}
 use Rattle.pt_lives.specs.Table.{Tells, found}
-use Rattle.pt_lives.specs.DeskLives.{DeskTable, life_in, IsTableOf, linked_in, kept_in, watching_in, pids_in}
-use Rattle.pt_lives.specs.LivesState.{Lives, AreLivesOf, all_pids, account_at, account_in}
-use Rattle.std.proofs.lemmas.List.Concat.{flat_map-append}
+use Rattle.pt_lives.specs.DeskLives.{DeskTable, life_in, IsTableOf, linked_in, kept_in, watching_in}
+use Rattle.pt_lives.specs.LivesState.{Lives, AreLivesOf, account_at, account_in}
 use Rattle.pt_lives.proofs.Counted.{balance}
 
 -- one desk -----------------------------------------------------------------------------------------
@@ -72,7 +71,3 @@ tells_here journals lives p n t of e h r =
     let k : p.shard < length lives = omega arith in
     let same : t ≡ get_or lives p.shard t = subst (λ n. t ≡ get_or lives n t) e r in
     tells_of p.shard (events (journals p.shard)) t p (subst (IsTableOf p.shard (events (journals p.shard))) (sym same) (of.told p.shard t k))
-
--- one desk more
-pub pids_push : (lives : Lives) (t : DeskTable) (before now : List _) → before ≡ all_pids lives → now ≡ before ++ pids_in t.slots → now ≡ all_pids (lives ++ t ∷ [])
-pids_push lives t before now e f = f ∙ ap (λ z. z ++ pids_in t.slots) e ∙ ap (λ z. all_pids lives ++ z) (sym (append-nil _)) ∙ sym (flat_map-append (λ (t : DeskTable). pids_in t.slots) lives (t ∷ []))

@@ -12,8 +12,9 @@ use Rattle.pt_events.specs.declared.event.Event.TheVariants.{Born, Said, Came, T
 use Rattle.pt_events.specs.History.{Past, unborn, life, after, change, newborn, touches, is_unborn}
 use Rattle.pt_laws.specs.Taken.{taken, taken_by}
 use Rattle.pt_events.proofs.Phases.{after_born, each_branch}
-use Rattle.pt_lives.specs.LifeState.{LifeState, shown}
-use Rattle.pt_lives.specs.Table.{Slots, at, found, is_place_of, Changes, Puts, changes_parent, Observes, Tells, AreTold}
+use Rattle.pt_lives.specs.LifeState.{LifeState}
+use Rattle.pt_lives.specs.Table.{Slots, at, found, Tells, AreTold}
+use Rattle.pt_lives.specs.Steps.{is_place_of, Changes, Puts, changes_parent, Observes, shown}
 
 -- one pid -------------------------------------------------------------------------------------
 

@@ -8,9 +8,8 @@ use Rattle.pt_signal.specs.declared.ids.Ids.{Ids}
 use Rattle.pt_signal.specs.Values.{same_ref}
 use Rattle.pt_signal.specs.Process.{held}
 use Rattle.pt_events.specs.declared.event.Stamped.{Stamped}
-use Rattle.pt_events.specs.History.{Past, state_of}
+use Rattle.pt_events.specs.History.{Past, state_of, open_monitors}
 use Rattle.pt_events.specs.Journal.{IsLocal}
-use Rattle.pt_events.specs.History.{open_monitors}
 use Rattle.pt_lives.specs.LifeState.{LifeState, account_of}
 use Rattle.pt_lives.specs.Table.{Slots, at, found, AreTold}
 

@@ -3,9 +3,10 @@
 ghost use Rattle.std.specs.Prelude.{◌≡◌, ◌+◌, ◌<◌, ◌++◌, ℕ, length, OnOk, IfOk};
 ghost use Rattle.std.specs.Option.{option_map};
 ghost use Rattle.pt_events.specs.Journal.{events};
-ghost use Rattle.pt_lives.specs.LifeState.{shown, account_of};
+ghost use Rattle.pt_lives.specs.LifeState.{account_of};
 ghost use Rattle.pt_lives.specs.DeskLives.{AreCounted, IsDeskJournal, IsTableOf, life_in, linked_in, kept_in, watching_in, pids_in};
-ghost use Rattle.pt_lives.specs.Table.{Changes, KeepsLengths, Puts, Observes, MayShow, MayObserve, slot_at, at};
+ghost use Rattle.pt_lives.specs.Table.{slot_at};
+ghost use Rattle.pt_lives.specs.Steps.{Changes, KeepsLengths, Puts, Observes, MayShow, MayObserve, shown};
 
 use crate::Account;
 use crate::life::Life;

@@ -6,7 +6,8 @@ ghost use Rattle.std.specs.List.{list_any};
 ghost use Rattle.pt_signal.specs.Values.{same_ref};
 ghost use Rattle.pt_signal.specs.Process.{held, say};
 ghost use Rattle.pt_events.specs.History.{unborn, living, newborn, live_or_end, state_of, open_monitors, change};
-ghost use Rattle.pt_lives.specs.LifeState.{shown, MaySee, MayDo, account_of};
+ghost use Rattle.pt_lives.specs.LifeState.{account_of};
+ghost use Rattle.pt_lives.specs.Steps.{shown, MaySee, MayDo};
 ghost use Rattle.pt_events.specs.declared.event.Event.TheVariants.{Said};
 
 use crate::Account;

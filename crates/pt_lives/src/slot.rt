@@ -1,10 +1,10 @@
 // The processes that one slot has had.
 
-ghost use Rattle.std.specs.Prelude.{◌≡◌, ◌++◌, ◌∷◌, [], ◌==◌, ℕ, cond, length, map, IfSome, OnOk};
+ghost use Rattle.std.specs.Prelude.{◌≡◌, ◌++◌, ◌∷◌, [], ◌==◌, ℕ, cond, length, IfSome, OnOk};
 ghost use Rattle.std.specs.Option.{option_map};
-ghost use Rattle.pt_lives.specs.LifeState.{shown, MaySee};
 ghost use Rattle.pt_lives.specs.Table.{of_version};
 ghost use Rattle.pt_lives.specs.DeskLives.{pids_of};
+ghost use Rattle.pt_lives.specs.Steps.{shown, MaySee};
 
 use crate::life::Life;
 use pt_events::Event;

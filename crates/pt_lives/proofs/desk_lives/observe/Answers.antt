@@ -1,9 +1,9 @@
 use Rattle.std.proofs.Common.{refl, ap}
 use Rattle.pt_events.specs.declared.event.Event.TheVariants.{Born}
-use Rattle.pt_lives.specs.Table.{changes_parent}
 use Rattle.pt_lives.proofs.Told.{some_parent, no_parent, observed_born}
 use Rattle.pt_lives.proofs.desk_lives.observe.Goals as goal
 use Rattle.pt_lives.proofs.desk_lives.observe.Goals.{in-Some+in_ok-show-in-Some, in-None}
+use Rattle.pt_lives.specs.Steps.{changes_parent}
 
 pub returns-in_ok-bear-in-Born : goal.returns-in_ok-bear-in-Born
 returns-in_ok-bear-in-Born c =

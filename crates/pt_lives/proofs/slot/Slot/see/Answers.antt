@@ -1,7 +1,8 @@
 use Rattle.std.proofs.Common.{arith, ◌≡◌, ◌-◌, ◌<◌, ◌≤◌, ◌==◌, ℕ, List, cond, set, get_or, length, subst}
 use Rattle.std.specs.Option.{option_map}
-use Rattle.pt_lives.specs.LifeState.{LifeState, shown}
+use Rattle.pt_lives.specs.LifeState.{LifeState}
 use Rattle.pt_lives.specs.Table.{of_version}
+use Rattle.pt_lives.specs.Steps.{shown}
 use Rattle.pt_lives.proofs.Places.{seen_version, unseen_version}
 use Rattle.pt_lives.proofs.slot.Slot.see.Goals as goal
 
