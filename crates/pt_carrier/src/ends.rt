@@ -1,4 +1,5 @@
-// The ends of one desk.
+//! The ends of one desk.
+
 ghost use Rattle.std.specs.Prelude.{◌≡◌, ◌≢◌, ℕ, ◌⊎◌, ◌+◌, ◌*◌, ◌-◌, ◌%◌, ◌^◌, ◌<◌, ◌≤◌, min, length, [], IsOk, OnOk, IfErr, IfSome, IfNone, slice_index_or};
 ghost use Rattle.pt_carrier.specs.declared.ends.TheConstants.{MAX_DESKS};
 ghost use Rattle.pt_carrier.specs.Ends.{OutEnds, InEnds, out_ends, in_ends, GoOutFrom, ComeInTo, one_more, IsFull, LooksAt, Collects, Shows, ShowNone, IsFirst};
@@ -64,7 +65,7 @@ pub struct Refused {
     pub letter: Letter,
 }
 
-// The desk after desk `d`, round the node. It divides nothing, since a collect takes this step for each letter.
+/// The desk after desk `d`, round the node. It divides nothing, since a collect takes this step for each letter.
 fn next_desk(d: u8, desks: usize) -> u8
     requires { (d < desks) × (desks ≤ MAX_DESKS) }
     ensures { result ≡ (d + 1) % desks }
@@ -165,7 +166,7 @@ impl Ins {
         Some((d, letter))
     }
 
-    // The first desk from the cursor upwards and round whose lane shows a letter.
+    /// The first desk from the cursor upwards and round whose lane shows a letter.
     #[inline(always)]
     fn first(&mut self) -> Option<u8>
         ensures same { (self.new.place ≡ self.old.place) × (self.new.cursor ≡ self.old.cursor) × (self.new.collected ≡ self.old.collected) }
@@ -180,7 +181,7 @@ impl Ins {
         self.first_among(0, cursor)
     }
 
-    // The same, of the desks from `low` up to below `high`.
+    /// The same, of the desks from `low` up to below `high`.
     #[inline(always)]
     fn first_among(&mut self, low: usize, high: usize) -> Option<u8>
         requires { (low ≤ high) × (high ≤ length self.old.place.rings) }
@@ -197,7 +198,7 @@ impl Ins {
         None
     }
 
-    // Collects the oldest letter that is known to wait in the lane from desk `d`.
+    /// Collects the oldest letter that is known to wait in the lane from desk `d`.
     #[inline(always)]
     fn take(&mut self, d: u8) -> Letter
         requires { (d < length self.old.place.rings) × (0 < length (slice_index_or self.old.known d [])) }
@@ -218,7 +219,7 @@ impl Ins {
         self.lanes[usize::from(from)].collected()
     }
 
-    // Looks at the lane from the other desk, beside its other end.
+    /// Looks at the lane from the other desk, beside its other end.
     pub(crate) fn meet(&mut self, outs: &mut Outs)
         requires { Meets outs.old self.old }
         ensures outs { out_kept outs.new ≡ out_kept outs.old }
@@ -231,7 +232,7 @@ impl Ins {
         self.lanes[from].meet(&mut outs.lanes[to]);
     }
 
-    // How many letters from that desk are known to wait.
+    /// How many letters from that desk are known to wait.
     pub(crate) fn known(&self, from: usize) -> usize
         requires { from < length self.now.place.rings }
         ensures { result ≡ length (slice_index_or self.now.known from []) }
@@ -239,7 +240,7 @@ impl Ins {
         self.lanes[from].known()
     }
 
-    // Gives up the ends, and moves the letters that are known to wait to the lists of their lanes.
+    /// Gives up the ends, and moves the letters that are known to wait to the lists of their lanes.
     pub(crate) fn empty_into(self, left: &mut [Vec<Letter>])
         requires here { self.place.number < length self.place.rings }
         requires room { (d : ℕ) → d < length self.place.rings → HasRoom (slice_index_or self.known d []) left.old (d * length self.place.rings + self.place.number) }

@@ -1,4 +1,5 @@
-// One lane: a ring with an end that sends and an end that receives.
+//! One lane: a ring with an end that sends and an end that receives.
+
 ghost use Rattle.std.specs.Prelude.{◌≡◌, ◌↔◌, ◌+◌, ◌-◌, ◌^◌, ◌<◌, ◌≤◌, min, vec_len, length, map, [], ◌∷◌, ◌++◌, IsTrue, IfOk};
 ghost use Rattle.std.specs.Bool.{OnTrue, OnFalse};
 ghost use mathlib.Core.List.{IsPrefix};
@@ -11,7 +12,7 @@ use rtrb::{Consumer, Producer, RingBuffer};
 use std::alloc::{AllocError, Global};
 use std::marker::Model;
 
-// The end that sends.
+/// The end that sends.
 #[derive(Drop)]
 pub(crate) struct OutLane {
     ring: Producer<Letter>,
@@ -28,7 +29,7 @@ impl Model for OutLane {
     ghost invariant = { λ a. (a.count ≡ min (length (sent a.ring)) (2 ^ 64 - 1)) × (producer_capacity a.ring ≤ length (sent a.ring) + known_free a.ring) };
 }
 
-// The end that receives.
+/// The end that receives.
 #[derive(Drop)]
 pub(crate) struct InLane {
     ring: Consumer<Letter>,
@@ -46,7 +47,7 @@ impl Model for InLane {
 }
 
 impl OutLane {
-    // Posts the letter where a place is free, and tells whether it did.
+    /// Posts the letter where a place is free, and tells whether it did.
     #[inline(always)]
     pub(crate) fn post(&mut self, letter: Letter) -> bool
         requires { (letter.from.shard ≡ self.old.from) × (letter.to.shard ≡ self.old.to) }
@@ -64,7 +65,7 @@ impl OutLane {
         true
     }
 
-    // How many letters were posted.
+    /// How many letters were posted.
     pub(crate) fn posted(&self) -> u64
         ensures { result ≡ min (length self.now.posted) (2 ^ 64 - 1) }
     {
@@ -73,7 +74,7 @@ impl OutLane {
 }
 
 impl InLane {
-    // Whether a letter shows. What is known already is asked first, which leaves the other end's memory alone.
+    /// Whether a letter shows. What is known already is asked first, which leaves the other end's memory alone.
     #[inline(always)]
     pub(crate) fn shows(&mut self) -> bool
         ensures same { (self.new.ring ≡ self.old.ring) × (self.new.from ≡ self.old.from) × (self.new.to ≡ self.old.to) × (self.new.collected ≡ self.old.collected) }
@@ -83,14 +84,14 @@ impl InLane {
         !self.ring.is_empty()
     }
 
-    // How many letters were collected.
+    /// How many letters were collected.
     pub(crate) fn collected(&self) -> u64
         ensures { result ≡ min (length self.now.collected) (2 ^ 64 - 1) }
     {
         self.count
     }
 
-    // Looks at the lane beside its other end: what was posted is what was collected, then what is known.
+    /// Looks at the lane beside its other end: what was posted is what was collected, then what is known.
     pub(crate) fn meet(&mut self, other: &mut OutLane)
         requires { (other.old.ring ≡ self.old.ring) × (other.old.from ≡ self.old.from) × (other.old.to ≡ self.old.to) }
         ensures same { (self.new.ring ≡ self.old.ring) × (self.new.from ≡ self.old.from) × (self.new.to ≡ self.old.to) × (self.new.collected ≡ self.old.collected) }
@@ -100,16 +101,16 @@ impl InLane {
         self.ring.slots_beside(&mut other.ring);
     }
 
-    // How many letters are known to wait.
+    /// How many letters are known to wait.
     pub(crate) fn known(&self) -> usize
         ensures { result ≡ length self.now.known }
     {
         self.ring.cached_slots()
     }
 
-    // Takes the oldest letter that is known to wait. It names the desks of this lane.
-    //
-    // The letter is looked at in its place, so that it is moved once and whole.
+    /// Takes the oldest letter that is known to wait. It names the desks of this lane.
+    ///
+    /// The letter is looked at in its place, so that it is moved once and whole.
     #[inline(always)]
     #[tactic(auto, using(crate::proofs::Taking::front_from, crate::proofs::Taking::front_to))]
     pub(crate) fn take_known(&mut self) -> Letter
@@ -128,9 +129,9 @@ impl InLane {
         letter
     }
 
-    // The same, with the desks of this lane written into the letter. One that was posted names them, so this is never
-    // called; but the end that receives cannot see that. To write the two numbers each time would move each letter in
-    // pieces.
+    /// The same, with the desks of this lane written into the letter. One that was posted names them, so this is never
+    /// called; but the end that receives cannot see that. To write the two numbers each time would move each letter in
+    /// pieces.
     #[cold]
     #[inline(never)]
     fn take_addressed(&mut self) -> Letter
@@ -147,7 +148,7 @@ impl InLane {
         oldest
     }
 
-    // Moves the letters that are known to wait to the end of the list, which has room for them.
+    /// Moves the letters that are known to wait to the end of the list, which has room for them.
     pub(crate) fn empty_into(&mut self, list: &mut Vec<Letter>)
         requires { vec_len list.old + length self.old.known ≤ vec_capacity list.old }
         ensures { list.new.items ≡ list.old.items ++ self.old.known }
@@ -158,7 +159,7 @@ impl InLane {
     }
 }
 
-// The two ends of a new lane.
+/// The two ends of a new lane.
 pub(crate) fn make(
     alloc: Global,
     from: u8,

@@ -1,4 +1,5 @@
-// All lanes of a node are made.
+//! All lanes of a node are made.
+
 ghost use Rattle.std.specs.Prelude.{◌≡◌, ℕ, ◌<◌, ◌≤◌, length, map, [], ◌∷◌, ◌++◌, IfOk, slice_index_or, vec_len};
 ghost use Rattle.pt_carrier.specs.Lanes.{Sending, new_sending, new_receiving};
 ghost use Rattle.pt_carrier.specs.Ends.{OutEnds, InEnds};
@@ -27,7 +28,7 @@ pub fn open(alloc: Global, desks: u8, capacity: u32) -> Result<Vec<(Outs, Ins)>,
     pair_up(alloc, desks, capacity, rows, columns)
 }
 
-// All lanes: those out of each desk, and those into each desk.
+/// All lanes: those out of each desk, and those into each desk.
 fn all_lanes(
     alloc: Global,
     desks: u8,
@@ -43,7 +44,7 @@ fn all_lanes(
     Ok((rows, columns))
 }
 
-// A list for the lanes into each desk.
+/// A list for the lanes into each desk.
 fn empty_columns(alloc: Global, desks: u8) -> Result<Vec<Vec<InLane>>, AllocError>
     ensures { IfOk result (λ v. (vec_len v ≡ desks) × ((e : ℕ) → slice_index_or (lists v.items) e [] ≡ [])) }
 {
@@ -54,7 +55,7 @@ fn empty_columns(alloc: Global, desks: u8) -> Result<Vec<Vec<InLane>>, AllocErro
     Ok(columns)
 }
 
-// The lanes out of desk d. The other end of each goes to the end of the lanes into its desk.
+/// The lanes out of desk d. The other end of each goes to the end of the lanes into its desk.
 fn lanes_from(
     alloc: Global,
     d: u8,
@@ -76,7 +77,7 @@ fn lanes_from(
     Ok(row)
 }
 
-// The ends of each desk. They are made only here, after the last refusal, since they cannot be dropped.
+/// The ends of each desk. They are made only here, after the last refusal, since they cannot be dropped.
 fn pair_up(
     alloc: Global,
     desks: u8,

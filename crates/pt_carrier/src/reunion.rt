@@ -1,4 +1,5 @@
-// The ends of a node are brought together.
+//! The ends of a node are brought together.
+
 ghost use Rattle.std.specs.Prelude.{◌≡◌, ℕ, ◌+◌, ◌*◌, ◌<◌, length, map, [], IfOk, IfErr, slice_index_or, vec_len};
 ghost use Rattle.pt_carrier.specs.Ends.{OutEnds, InEnds};
 ghost use Rattle.pt_carrier.specs.Node.{places, IsNode, lists, kept, AreLeft, entry};
@@ -97,7 +98,7 @@ pub fn reunite(alloc: Global, pairs: Vec<(Outs, Ins)>) -> Result<Leftovers, Ends
     }
 }
 
-// Looks at every lane.
+/// Looks at every lane.
 fn look(pairs: &mut [(Outs, Ins)])
     requires { IsNode (map places pairs.old) }
     ensures kept { map kept pairs.new ≡ map kept pairs.old }
@@ -111,7 +112,7 @@ fn look(pairs: &mut [(Outs, Ins)])
     }
 }
 
-// Looks at the lane from desk d to desk e.
+/// Looks at the lane from desk d to desk e.
 fn meet_at(pairs: &mut [(Outs, Ins)], d: usize, e: usize)
     requires node { IsNode (map places pairs.old) }
     requires within { (d < length pairs.old) × (e < length pairs.old) }
@@ -129,7 +130,7 @@ fn meet_at(pairs: &mut [(Outs, Ins)], d: usize, e: usize)
     }
 }
 
-// An empty list for each lane, with room for the letters that are known to wait in it.
+/// An empty list for each lane, with room for the letters that are known to wait in it.
 fn make_room(alloc: Global, pairs: &[(Outs, Ins)]) -> Result<Vec<Vec<Letter>>, AllocError>
     requires { IsNode (map places pairs.now) }
     ensures count { IfOk result (λ v. vec_len v ≡ length pairs.now * length pairs.now) }
@@ -144,7 +145,7 @@ fn make_room(alloc: Global, pairs: &[(Outs, Ins)]) -> Result<Vec<Vec<Letter>>, A
     Ok(lanes)
 }
 
-// Gives up the ends, and moves the letters that are known to wait to the lists of their lanes.
+/// Gives up the ends, and moves the letters that are known to wait to the lists of their lanes.
 fn empty_all(pairs: Vec<(Outs, Ins)>, left: &mut [Vec<Letter>])
     requires node { IsNode (map places pairs.items) }
     requires room { (d e : ℕ) → d < vec_len pairs → e < vec_len pairs → HasRoom (entry (all_known pairs.items) e d) left.old (d * vec_len pairs + e) }

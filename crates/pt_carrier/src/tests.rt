@@ -1,4 +1,5 @@
-// Worked rows, and letters between two threads.
+//! Worked rows, and letters between two threads.
+
 ghost use Rattle.std.specs.Prelude.{◌≡◌, ◌<◌, ◌≤◌, length, map, vec_len};
 ghost use Rattle.pt_carrier.specs.Node.{places, IsNode};
 
@@ -9,7 +10,7 @@ use std::process::Abort;
 use std::test::Fail;
 use std::thread::{Threads, join_mut};
 
-// A message with that number, from a process of the one desk to one of the other.
+/// A message with that number, from a process of the one desk to one of the other.
 fn letter(from: u8, to: u8, num: i64) -> Letter
     ensures { (result.from.shard ≡ from) × (result.to.shard ≡ to) }
 {
@@ -36,7 +37,7 @@ fn letter(from: u8, to: u8, num: i64) -> Letter
     }
 }
 
-// The ends of a new node. Where memory is refused once, the second try serves.
+/// The ends of a new node. Where memory is refused once, the second try serves.
 fn opened(rt: &impl Abort, alloc: Global, desks: u8, capacity: u32) -> Vec<(Outs, Ins)>
     requires desks { (1 ≤ desks) × (desks ≤ MAX_DESKS) }
     requires capacity { (1 ≤ capacity) × (capacity ≤ MAX_CAPACITY) }
@@ -49,7 +50,7 @@ fn opened(rt: &impl Abort, alloc: Global, desks: u8, capacity: u32) -> Vec<(Outs
     }
 }
 
-// Posts a message with that number, and gives the letter that is refused.
+/// Posts a message with that number, and gives the letter that is refused.
 fn post(pairs: &mut Vec<(Outs, Ins)>, from: u8, to: u8, num: i64) -> Option<Letter>
     requires node { IsNode (map places pairs.old.items) }
     requires desks { (from < vec_len pairs.old) × (to < vec_len pairs.old) }
@@ -70,7 +71,7 @@ fn collect(pairs: &mut Vec<(Outs, Ins)>, at: u8) -> Option<(u8, Letter)>
     pairs[usize::from(at)].1.collect()
 }
 
-// How many letters were posted in that lane, and how many collected.
+/// How many letters were posted in that lane, and how many collected.
 fn counts(pairs: &Vec<(Outs, Ins)>, from: u8, to: u8) -> (u64, u64)
     requires node { IsNode (map places pairs.now.items) }
     requires desks { (from < vec_len pairs.now) × (to < vec_len pairs.now) }
@@ -81,7 +82,7 @@ fn counts(pairs: &Vec<(Outs, Ins)>, from: u8, to: u8) -> (u64, u64)
     )
 }
 
-// Reunites the ends. Where memory is refused once, the ends that come back serve for the second try.
+/// Reunites the ends. Where memory is refused once, the ends that come back serve for the second try.
 fn reunited(rt: &impl Abort, alloc: Global, pairs: Vec<(Outs, Ins)>) -> Leftovers
     requires { IsNode (map places pairs.items) }
 {
@@ -99,7 +100,7 @@ fn reunited(rt: &impl Abort, alloc: Global, pairs: Vec<(Outs, Ins)>) -> Leftover
     }
 }
 
-// The number of lanes, and each left-over letter with the number of its lane.
+/// The number of lanes, and each left-over letter with the number of its lane.
 fn left_over(
     rt: &impl Abort,
     alloc: Global,
@@ -230,12 +231,12 @@ fn sixty_four_desks_post_to_all(rt: HostRuntime) -> Result<(), Fail> {
     Ok(())
 }
 
-// How many letters go each way between the two threads, and how often a thread tries.
+/// How many letters go each way between the two threads, and how often a thread tries.
 const LETTERS: i64 = 1_000;
 
 const TRIES: u64 = 1_000_000_000;
 
-// Posts the letter with that number to the other desk, as long as there is one. The number of the next.
+/// Posts the letter with that number to the other desk, as long as there is one. The number of the next.
 fn post_next(outs: &mut Outs, here: u8, there: u8, num: i64) -> i64
     requires { (outs.old.place.number ≡ here) × (there < length outs.old.place.rings) }
     ensures { outs.new.place ≡ outs.old.place }
@@ -247,7 +248,7 @@ fn post_next(outs: &mut Outs, here: u8, there: u8, num: i64) -> i64
     }
 }
 
-// Collects a letter where one shows. The number of the next, or none where it was another than awaited.
+/// Collects a letter where one shows. The number of the next, or none where it was another than awaited.
 fn collect_next(ins: &mut Ins, here: u8, there: u8, num: i64) -> Option<i64>
     ensures { ins.new.place ≡ ins.old.place }
 {
@@ -258,7 +259,7 @@ fn collect_next(ins: &mut Ins, here: u8, there: u8, num: i64) -> Option<i64>
     }
 }
 
-// Posts letters to the other desk and collects those from there, until all have gone both ways in order.
+/// Posts letters to the other desk and collects those from there, until all have gone both ways in order.
 fn exchange(pair: &mut (Outs, Ins), here: u8, there: u8) -> bool
     requires { (pair.old.0.place.number ≡ here) × (there < length pair.old.0.place.rings) }
     ensures { places pair.new ≡ places pair.old }
@@ -279,7 +280,7 @@ fn exchange(pair: &mut (Outs, Ins), here: u8, there: u8) -> bool
     false
 }
 
-// Lends the ends of each of two desks to a thread of its own.
+/// Lends the ends of each of two desks to a thread of its own.
 fn exchange_on_threads(rt: &impl Threads, pairs: &mut [(Outs, Ins)]) -> (bool, bool)
     requires node { IsNode (map places pairs.old) }
     requires two { length pairs.old ≡ 2 }

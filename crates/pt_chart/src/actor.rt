@@ -1,4 +1,4 @@
-// A process of the chart.
+//! A process of the chart.
 
 use pt_process::{Estate, Outcome, Process};
 use pt_signal::{LinkId, Pick, Pid, Reason, Signal};

@@ -1,4 +1,4 @@
-// The chart, from its background to its foreground.
+//! The chart, from its background to its foreground.
 
 use crate::actor::Actor;
 use crate::page::Page;
@@ -31,7 +31,7 @@ pub fn chart(alloc: Global, events: &[Stamped]) -> Result<String, AllocError> {
     Ok(drawing.text)
 }
 
-// How many characters the longest line of an event has.
+/// How many characters the longest line of an event has.
 fn longest(alloc: Global, events: &[Stamped]) -> Result<usize, AllocError> {
     let mut longest = 0;
     for stamped in events {
@@ -68,7 +68,7 @@ impl Drawing {
         )
     }
 
-    // The style of a stroke, and its arrow heads.
+    /// The style of a stroke, and its arrow heads.
     fn stroke(&mut self, stroke: &Stroke) -> Result<(), AllocError> {
         let Stroke {
             class,
@@ -90,7 +90,7 @@ impl Drawing {
         )
     }
 
-    // A line an event.
+    /// A line an event.
     fn lines(&mut self, events: &[Stamped]) -> Result<(), AllocError> {
         let width = self.page.width();
         let mut row = 0usize;
@@ -106,7 +106,7 @@ impl Drawing {
         Ok(())
     }
 
-    // The head and the line of each process.
+    /// The head and the line of each process.
     fn columns(&mut self, story: &Story) -> Result<(), AllocError> {
         let bottom = self.page.end().saturating_add(48);
         let mut column = 0usize;
@@ -171,7 +171,7 @@ impl Drawing {
         }
     }
 
-    // The mark of each event.
+    /// The mark of each event.
     fn marks(&mut self, events: &[Stamped], story: &Story) -> Result<(), AllocError> {
         let mut row = 0usize;
         for stamped in events {
@@ -208,7 +208,7 @@ impl Drawing {
         }
     }
 
-    // The middle of the column of a process.
+    /// The middle of the column of a process.
     fn column(&self, story: &Story, pid: Pid) -> u64 {
         self.page.x(story.column(pid))
     }
@@ -222,7 +222,7 @@ impl Drawing {
         self.name(x, y.saturating_add(4), pid)
     }
 
-    // What is sent, beside its sender and towards its receiver.
+    /// What is sent, beside its sender and towards its receiver.
     fn label(&mut self, from: u64, to: u64, y: u64, signal: Signal) -> Result<(), AllocError> {
         let class = stroke_of(&signal).class;
         let base = y.saturating_sub(4);
@@ -253,7 +253,7 @@ impl Drawing {
         )
     }
 
-    // A cross where a process ends, with the reason.
+    /// A cross where a process ends, with the reason.
     fn ends(&mut self, story: &Story) -> Result<(), AllocError> {
         let mut column = 0usize;
         for actor in &story.actors {
@@ -282,7 +282,7 @@ impl Drawing {
         )
     }
 
-    // The text of a value, with XML's own characters escaped.
+    /// The text of a value, with XML's own characters escaped.
     fn escaped<D: Display + Drop>(&mut self, value: D) -> Result<(), AllocError> {
         let plain = format!(in self.alloc; "{value}")?;
         for c in plain.chars() {

@@ -1,4 +1,4 @@
-// Where things stand on the page, in pixels.
+//! Where things stand on the page, in pixels.
 
 /// How far the rows stand from one another.
 const ROW: u64 = 22;

@@ -1,4 +1,4 @@
-// The processes of a history, and the arrows between them.
+//! The processes of a history, and the arrows between them.
 
 ghost use Rattle.std.specs.Prelude.{◌≡◌, ◌<◌, ◌≤◌, map, length, vec_len, IfOk, IfSome, OnOk};
 
@@ -54,7 +54,7 @@ impl Story {
         }
     }
 
-    // The event of a row.
+    /// The event of a row.
     fn tell(&mut self, row: usize, event: Event) -> Result<(), AllocError> {
         match event {
             Event::Born(pid, parent, link) => self.birth(row, pid, parent, link),
@@ -118,7 +118,7 @@ impl Story {
         }
     }
 
-    // The place, among the arrows on their way to a process, of the oldest one from another.
+    /// The place, among the arrows on their way to a process, of the oldest one from another.
     fn first_from(&self, sender: usize, k: usize) -> Option<usize>
         requires { k < vec_len self.now.actors }
     {
@@ -132,7 +132,7 @@ impl Story {
             })
     }
 
-    // The arrow at this place among those on their way to a process has come.
+    /// The arrow at this place among those on their way to a process has come.
     fn meet(&mut self, row: usize, k: usize, place: usize)
         requires { k < vec_len self.old.actors }
         ensures { vec_len self.new.actors ≡ vec_len self.old.actors }
@@ -147,7 +147,7 @@ impl Story {
         }
     }
 
-    // A process ends, and sends what it owes.
+    /// A process ends, and sends what it owes.
     fn end(&mut self, row: usize, k: usize, reason: Reason) -> Result<(), AllocError>
         requires { k < vec_len self.old.actors }
     {
@@ -161,7 +161,7 @@ impl Story {
         Ok(())
     }
 
-    // An arrow begins.
+    /// An arrow begins.
     fn send(&mut self, row: usize, from: usize, to: Pid, signal: Signal) -> Result<(), AllocError> {
         let to = self.place(to)?;
         let arrow = self.arrows.len();
@@ -175,7 +175,7 @@ impl Story {
         self.actors[to].expect(arrow)
     }
 
-    // The place of a process, which joins the others if it is not among them.
+    /// The place of a process, which joins the others if it is not among them.
     fn place(&mut self, pid: Pid) -> Result<usize, AllocError>
         ensures within { IfOk result (λ k. k < vec_len self.new.actors) }
         ensures grows { vec_len self.old.actors ≤ vec_len self.new.actors }
@@ -190,14 +190,14 @@ impl Story {
     }
 }
 
-// The place of a process.
+/// The place of a process.
 fn place_of(actors: &[Actor], pid: Pid) -> Option<usize>
     ensures { IfSome result (λ k. k < length actors.now) }
 {
     actors.iter().position(|actor| actor.pid == pid)
 }
 
-// A process for each birth, in order.
+/// A process for each birth, in order.
 fn births(alloc: Global, events: &[Stamped]) -> Result<Vec<Actor>, AllocError> {
     let mut actors = Vec::new(alloc);
     for stamped in events {

@@ -1,4 +1,4 @@
-// How a signal is drawn.
+//! How a signal is drawn.
 
 use pt_signal::Signal;
 

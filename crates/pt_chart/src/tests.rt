@@ -1,3 +1,5 @@
+//! Histories and the charts that they are drawn as.
+
 use crate::chart;
 use std::test::Fail;
 

@@ -1,4 +1,4 @@
-// A desk of a node.
+//! A desk of a node.
 
 ghost use Rattle.std.specs.Prelude.{◌≡◌, ◌<◌, ◌+◌, ◌-◌, ◌^◌, ◌++◌, ℕ, min, true, Some, None, IfOk, cond, is_some};
 ghost use Rattle.std.specs.Option.{option_copied};
@@ -343,7 +343,7 @@ impl Desk {
         }
     }
 
-    // Posts to each desk from 0 upwards, and says how many letters.
+    /// Posts to each desk from 0 upwards, and says how many letters.
     fn post(&mut self) -> u64
         ensures posts { Posts self.old self.new }
         ensures count { result ≡ min (total self.new.outs.posted - total self.old.outs.posted) (2 ^ 64 - 1) }
@@ -355,7 +355,7 @@ impl Desk {
         posted
     }
 
-    // Posts the letters that wait for desk `to` until none is left or the lane is full, and says how many.
+    /// Posts the letters that wait for desk `to` until none is left or the lane is full, and says how many.
     fn post_to(&mut self, to: u8) -> u64
         requires { to < self.old.shard.config.desks }
         ensures to { PostsTo to self.old self.new }
@@ -372,7 +372,7 @@ impl Desk {
         posted
     }
 
-    // Posts the oldest letter that waits for desk `to`, if there is one and the lane has a place.
+    /// Posts the oldest letter that waits for desk `to`, if there is one and the lane has a place.
     fn post_one(&mut self, to: u8) -> bool
         requires { to < self.old.shard.config.desks }
         ensures { PostsOne to self.old result self.new }
@@ -387,7 +387,7 @@ impl Desk {
         true
     }
 
-    // Handles the letter in the hold, or else the next that is collected, and says whether there was one.
+    /// Handles the letter in the hold, or else the next that is collected, and says whether there was one.
     fn handle(&mut self) -> Result<bool, Stop>
         ensures { Handles self.old result self.new }
     {

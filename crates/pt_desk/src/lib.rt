@@ -5,16 +5,16 @@
 //! calls of its processes, one after the other, and gives the desk its turns. A desk is used by one thread at a time,
 //! through `&mut`; desks of one node may be used by different threads at the same time.
 //!
+//! From the program `pt_hello`:
+//!
 //! ```text
 //! let watcher = desk.spawn()?;
 //! let worker = desk.spawn()?;
-//! if desk.knows(worker) {
-//!     let watch = desk.monitor(watcher, worker)?;
-//!     desk.turn(16);                                           // the monitor comes to the worker
-//!     desk.exit(worker, Reason::Other(7))?;
-//!     desk.turn(16);                                           // its DOWN comes to the watcher
-//!     let down = desk.receive(watcher, Pick::DownOf(watch))?;  // down #0.3 <0.1.1> other:7
-//! }
+//! let monitor = desk.monitor(watcher, worker)?;
+//! let _ = desk.turn(16); // the monitor comes to the worker
+//! desk.exit(worker, Reason::Other(7))?;
+//! let _ = desk.turn(16); // its DOWN comes to the watcher
+//! desk.receive(watcher, Pick::DownOf(monitor))
 //! ```
 //!
 //! # Calls and turns

@@ -1,4 +1,5 @@
-// Two desks and the letters between them. What the calls answer is compared when the tests run.
+//! Two desks and the letters between them. What the calls answer is compared when the tests run.
+
 ghost use Rattle.std.specs.Prelude.{◌≡◌, ◌≤◌, ◌∷◌, []};
 ghost use Rattle.pt_carrier.specs.Node.{IsNode};
 ghost use Rattle.pt_shard.specs.Opening.{IsInRange};
@@ -25,7 +26,7 @@ fn config(lane: u32) -> Config
     }
 }
 
-// The two desks of a node on which nothing has happened.
+/// The two desks of a node on which nothing has happened.
 fn two_desks(rt: &impl Abort, alloc: Global, lane: u32) -> (Desk, Desk)
     requires { (1 ≤ lane) × (lane ≤ 65536) }
     ensures { IsNode (place result.0 ∷ place result.1 ∷ []) }
@@ -42,7 +43,7 @@ fn two_desks(rt: &impl Abort, alloc: Global, lane: u32) -> (Desk, Desk)
     (left, right)
 }
 
-// Spends the two desks, with the letters that are left over.
+/// Spends the two desks, with the letters that are left over.
 fn spend(rt: &impl Abort, alloc: Global, left: Desk, right: Desk)
     requires { IsNode (place left ∷ place right ∷ []) }
 {
@@ -74,7 +75,7 @@ fn send(desk: &mut Desk, from: Pid, to: Pid, kind: u32, num: i64) -> Result<(), 
     desk.send(from, to, message(kind, num))
 }
 
-// What a turn posted and handled, where nothing stopped it.
+/// What a turn posted and handled, where nothing stopped it.
 fn turn(desk: &mut Desk, budget: u32) -> Option<(u64, u64)>
     ensures { place desk.new ≡ place desk.old }
 {
@@ -85,7 +86,7 @@ fn turn(desk: &mut Desk, budget: u32) -> Option<(u64, u64)>
     }
 }
 
-// The kind and number of the first message that fits.
+/// The kind and number of the first message that fits.
 fn receive(desk: &mut Desk, p: Pid, pick: Pick) -> Option<(u32, i64)>
     ensures { place desk.new ≡ place desk.old }
 {
@@ -134,7 +135,7 @@ fn a_narrow_lane_keeps_the_order(rt: HostRuntime) {
     spend(&rt, rt.alloc(), left, right);
 }
 
-// Two processes of the desk meet: each call that may be refused for memory, and what it answers.
+/// Two processes of the desk meet: each call that may be refused for memory, and what it answers.
 fn is_each_call_done(desk: &mut Desk) -> Result<bool, Fault>
     ensures { place desk.new ≡ place desk.old }
 {

@@ -1,4 +1,4 @@
-// What a turn did.
+//! What a turn did.
 
 use pt_shard::Stop;
 

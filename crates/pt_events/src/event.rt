@@ -1,4 +1,4 @@
-// What happens to processes.
+//! What happens to processes.
 
 use pt_signal::{Item, LinkId, Pick, Pid, Reason, Route, Signal};
 use std::fmt;

@@ -1,4 +1,4 @@
-// The events of one desk.
+//! The events of one desk.
 
 ghost use Rattle.std.specs.Prelude.{◌≡◌, ◌<◌, [], ◌∷◌, reverse, OnOk, IfOk, IfErr, OnErr};
 ghost use Rattle.std.specs.Bool.{MatchBool};
@@ -92,7 +92,7 @@ impl Journal {
     }
 }
 
-// Whether the events, oldest first, are the desk's and their stamps strictly rise.
+/// Whether the events, oldest first, are the desk's and their stamps strictly rise.
 fn is_in_order(desk: u8, events: &[Stamped]) -> bool
     ensures { MatchBool result (IsInOrder desk (reverse events.now)) (¬ IsInOrder desk (reverse events.now)) }
 {
@@ -106,7 +106,7 @@ fn is_in_order(desk: u8, events: &[Stamped]) -> bool
     true
 }
 
-// Whether the event is the desk's and stamped above the newest one.
+/// Whether the event is the desk's and stamped above the newest one.
 fn is_next(desk: u8, newest: Option<u64>, event: &Stamped) -> bool
     ensures { result ≡ is_next desk newest event.now }
 {

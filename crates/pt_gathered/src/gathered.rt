@@ -1,4 +1,4 @@
-// The desks of a node without their lanes, and the letters left over.
+//! The desks of a node without their lanes, and the letters left over.
 
 ghost use Rattle.std.specs.Prelude.{◌≡◌, ◌*◌, ◌<◌, ◌≤◌, ◌-◌, ◌^◌, ◌++◌, min, [], length, map, reverse, drop, slice_get, IfOk, OnOk, IfSome, IfNone};
 ghost use Rattle.pt_events.specs.Journal.{IsMerge};
@@ -149,7 +149,7 @@ impl Gathered {
         Ok(left)
     }
 
-    // Lists the letters left over from desk d.
+    /// Lists the letters left over from desk d.
     fn list_from(&self, d: u8, left: &mut Vec<LeftOver>) -> Result<(), AllocError>
         requires { d < length self.now.shards }
         ensures { OnOk result (left.new.items ≡ left.old.items ++ left_from self.now d (length self.now.shards)) }
@@ -160,7 +160,7 @@ impl Gathered {
         Ok(())
     }
 
-    // Lists the letters left over from desk d to desk e.
+    /// Lists the letters left over from desk d to desk e.
     fn list_between(&self, d: u8, e: u8, left: &mut Vec<LeftOver>) -> Result<(), AllocError>
         requires { (d < length self.now.shards) × (e < length self.now.shards) }
         ensures { OnOk result (left.new.items ≡ left.old.items ++ left_between self.now d e) }
@@ -187,7 +187,7 @@ impl Gathered {
         Ok(lives)
     }
 
-    // The letter at this place among those left over from desk d to desk e, counted from the oldest.
+    /// The letter at this place among those left over from desk d to desk e, counted from the oldest.
     fn letter_at(&self, d: u8, e: u8, place: usize) -> Option<Letter>
         requires { (d < length self.now.shards) × (e < length self.now.shards) }
         ensures { result ≡ slice_get (over_in self.now.shards self.now.lanes d e) place }
@@ -240,7 +240,7 @@ impl Gathered {
     }
 }
 
-// The letter in the hold of desk e, if it is from desk d.
+/// The letter in the hold of desk e, if it is from desk d.
 fn held_from(shards: &[Shard], d: u8, e: u8) -> Option<Letter>
     requires { e < length shards.now }
     ensures { result ≡ slice_get (held_from d (hold_at shards.now e)) 0 }
@@ -251,7 +251,7 @@ fn held_from(shards: &[Shard], d: u8, e: u8) -> Option<Letter>
     }
 }
 
-// The letter at this place among those left over from desk d to desk e, counted from the oldest.
+/// The letter at this place among those left over from desk d to desk e, counted from the oldest.
 fn letter_at(
     config: Config,
     shards: &[Shard],
@@ -280,7 +280,7 @@ fn letter_at(
     shards[usize::from(d)].out_at(e, place - lane.len())
 }
 
-// The journals of the desks, in order of desk.
+/// The journals of the desks, in order of desk.
 fn journals_of<'a>(
     alloc: Global,
     config: Config,
@@ -296,14 +296,14 @@ fn journals_of<'a>(
     Ok(journals)
 }
 
-// The merge of the journals.
+/// The merge of the journals.
 fn merged(alloc: Global, journals: &[&Journal]) -> Result<Vec<Stamped>, AllocError>
     ensures { IfOk result (λ m. AreApart journals.now → IsMerge (journal_of journals.now) (reverse m.items)) }
 {
     merge(alloc, journals)
 }
 
-// Takes the oldest letter left over from desk d to desk e out.
+/// Takes the oldest letter left over from desk d to desk e out.
 fn take_out(config: Config, shards: &mut Vec<Shard>, lanes: &mut Vec<Lane>, d: u8, e: u8)
     requires within { (d < length shards.old.items) × (e < length shards.old.items) }
     requires lanes { length lanes.old.items ≡ length shards.old.items * length shards.old.items }
@@ -324,7 +324,7 @@ fn take_out(config: Config, shards: &mut Vec<Shard>, lanes: &mut Vec<Lane>, d: u
     let _ = shards[usize::from(d)].next_out(e);
 }
 
-// How many letters are left over from desk d to desk e.
+/// How many letters are left over from desk d to desk e.
 fn count_of(config: Config, shards: &[Shard], lanes: &[Lane], d: u8, e: u8) -> u128
     requires within { (d < length shards.now) × (e < length shards.now) }
     requires lanes { length lanes.now ≡ length shards.now * length shards.now }

@@ -1,4 +1,4 @@
-// A letter that was sent and did not come.
+//! A letter that was sent and did not come.
 
 use pt_signal::Letter;
 use std::fmt;

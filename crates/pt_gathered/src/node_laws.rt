@@ -1,4 +1,4 @@
-// The laws of histories, at a node whose desks were gathered.
+//! The laws of histories, at a node whose desks were gathered.
 
 ghost use Rattle.pt_gathered.specs.Gathered.{GatheredState};
 ghost use Rattle.pt_gathered.specs.Settling.{Settles, NothingLeft};

@@ -1,4 +1,4 @@
-// A node in which no letter is left over.
+//! A node in which no letter is left over.
 
 ghost use Rattle.std.specs.Prelude.{◌≡◌, [], reverse, is_some, IfOk};
 ghost use Rattle.std.specs.Map.{lookup};

@@ -1,4 +1,4 @@
-// The letters left over come to their receivers.
+//! The letters left over come to their receivers.
 
 ghost use Rattle.std.specs.Prelude.{◌≡◌, ℕ, ◌<◌, ◌≤◌, length, [], OnOk, IfOk, IfErr};
 ghost use Rattle.pt_shard.specs.declared.stop.Stop.TheVariants.{Memory};
@@ -99,7 +99,7 @@ impl Gathered {
     }
 }
 
-// One pass: each receiving desk, from desk 0. A desk that is not marked in `waits` has nothing left over to it.
+/// One pass: each receiving desk, from desk 0. A desk that is not marked in `waits` has nothing left over to it.
 fn pass(gathered: &mut Gathered, waits: &mut [bool; 64], handled: &mut u64) -> Result<bool, Stop>
     requires { Waits waits.old gathered.old }
     ensures runs { Runs gathered.old handled.old gathered.new handled.new }
@@ -123,7 +123,7 @@ fn pass(gathered: &mut Gathered, waits: &mut [bool; 64], handled: &mut u64) -> R
     Ok(moved)
 }
 
-// The letters to desk e, if it is marked.
+/// The letters to desk e, if it is marked.
 fn settle_desk(
     gathered: &mut Gathered,
     e: u8,
@@ -152,7 +152,7 @@ fn settle_desk(
     Ok(moved)
 }
 
-// Marks the desks to which letters are left over from desk d.
+/// Marks the desks to which letters are left over from desk d.
 fn mark(gathered: &Gathered, d: u8, waits: &mut [bool; 64])
     requires { d < length gathered.now.shards }
     ensures { Marks d (length gathered.now.shards) gathered.now waits.old waits.new }
@@ -164,7 +164,7 @@ fn mark(gathered: &Gathered, d: u8, waits: &mut [bool; 64])
     }
 }
 
-// The letters to desk e: each sending desk, from desk 0.
+/// The letters to desk e: each sending desk, from desk 0.
 fn settle_to(gathered: &mut Gathered, e: u8, handled: &mut u64) -> Result<bool, Stop>
     requires { e < length gathered.old.shards }
     ensures runs { Runs gathered.old handled.old gathered.new handled.new }
@@ -187,7 +187,7 @@ fn settle_to(gathered: &mut Gathered, e: u8, handled: &mut u64) -> Result<bool, 
     Ok(moved)
 }
 
-// The letters that are now left over from desk d to desk e.
+/// The letters that are now left over from desk d to desk e.
 fn settle_lane(gathered: &mut Gathered, d: u8, e: u8, handled: &mut u64) -> Result<bool, Stop>
     requires { (d < length gathered.old.shards) × (e < length gathered.old.shards) }
     ensures runs { Runs gathered.old handled.old gathered.new handled.new }

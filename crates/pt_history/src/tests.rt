@@ -1,3 +1,5 @@
+//! Histories that are merged and judged.
+
 use crate::{Cause, Event, Journal, Stamped, State, merge, replay};
 use pt_signal::{Body, Ids, Item, LinkId, Pick, Pid, Reason, Ref, Signal};
 use std::alloc::{AllocError, Global};
@@ -135,7 +137,7 @@ fn unlawful(rt: HostRuntime) {
     );
 }
 
-// Five processes in a row of links, of which the middle one traps, and the first ends.
+/// Five processes in a row of links, of which the middle one traps, and the first ends.
 fn cascade() -> [Event; 17] {
     let said = |from, to, number| Event::Said(pid(from), pid(to), Signal::Link(link(number)));
     let came = |from, to, number| Event::Came(pid(from), pid(to), Signal::Link(link(number)));
@@ -211,7 +213,7 @@ fn watches(rt: HostRuntime) {
     );
 }
 
-// The second process is asked whether it is alive after it was sent `kill`; its answer, as the last event has it.
+/// The second process is asked whether it is alive after it was sent `kill`; its answer, as the last event has it.
 fn asked_after_kill(alive: bool) -> [Event; 7] {
     let (a, b) = (pid(0), pid(1));
     let kill = Signal::Exit(Reason::Kill);

@@ -1,4 +1,4 @@
-// Why an event may not come.
+//! Why an event may not come.
 
 use thiserror::Error;
 

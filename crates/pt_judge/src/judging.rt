@@ -1,4 +1,4 @@
-// The plain judge of histories.
+//! The plain judge of histories.
 
 mod entries;
 mod flights;

@@ -1,4 +1,4 @@
-// The laws of histories: each is the contract of a function that does nothing.
+//! The laws of histories: each is the contract of a function that does nothing.
 
 ghost use Rattle.pt_laws.specs.Acts.{LocalActs, LegalActs};
 ghost use Rattle.pt_laws.specs.Lives.{LivesOnce, StaysEnded, NothingAfterEnd, AliveUntilEnd};

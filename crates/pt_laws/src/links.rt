@@ -1,4 +1,4 @@
-// The laws of links: each is the contract of a function that does nothing.
+//! The laws of links: each is the contract of a function that does nothing.
 
 ghost use Rattle.pt_laws.specs.LinkLaws.{QuietLinks, KnownBornFree, MergeKnown, MergeLinks, QuietLinksOver, MergeLinksOver, KnownAgain};
 ghost use Rattle.pt_laws.specs.EarlyLinks.{EarlyLinkUnknown, EarlyLinkAbroad};

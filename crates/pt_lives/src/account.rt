@@ -1,4 +1,4 @@
-// What is told of one process.
+//! What is told of one process.
 
 use pt_signal::Reason;
 

@@ -1,4 +1,4 @@
-// The processes of one desk.
+//! The processes of one desk.
 
 ghost use Rattle.std.specs.Prelude.{◌≡◌, ◌+◌, ◌<◌, ◌++◌, ℕ, length, OnOk, IfOk};
 ghost use Rattle.std.specs.Option.{option_map};
@@ -33,7 +33,7 @@ impl Model for DeskLives {
     ghost invariant = { λ d. AreCounted d.slots.items };
 }
 
-// One of the process's own events happens.
+/// One of the process's own events happens.
 fn show(slots: &mut Vec<Slot>, pid: Pid, event: Event) -> Result<(), AllocError>
     requires { MayShow slots.old.items pid event }
     ensures changes { OnOk result (Changes pid (shown event) slots.old.items slots.new.items) }
@@ -46,7 +46,7 @@ fn show(slots: &mut Vec<Slot>, pid: Pid, event: Event) -> Result<(), AllocError>
     Ok(())
 }
 
-// Makes the table long enough to have the slot.
+/// Makes the table long enough to have the slot.
 fn grow(alloc: Global, slots: &mut Vec<Slot>, slot: usize) -> Result<(), AllocError>
     ensures long { OnOk result (slot < length slots.new.items) }
     ensures same { (s : ℕ) → slot_at slots.new.items s ≡ slot_at slots.old.items s }
@@ -57,7 +57,7 @@ fn grow(alloc: Global, slots: &mut Vec<Slot>, slot: usize) -> Result<(), AllocEr
     Ok(())
 }
 
-// The process begins, in the next version of its slot.
+/// The process begins, in the next version of its slot.
 fn bear(alloc: Global, slots: &mut Vec<Slot>, pid: Pid, life: Life) -> Result<(), AllocError>
     requires { pid.version ≡ length (slot_at slots.old.items pid.slot) + 1 }
     ensures { OnOk result (Puts pid life slots.old.items slots.new.items) }
@@ -68,7 +68,7 @@ fn bear(alloc: Global, slots: &mut Vec<Slot>, pid: Pid, life: Life) -> Result<()
     Ok(())
 }
 
-// The event happens.
+/// The event happens.
 fn observe(alloc: Global, slots: &mut Vec<Slot>, event: Event) -> Result<(), AllocError>
     requires { MayObserve slots.old.items event }
     ensures { OnOk result (Observes event slots.old.items slots.new.items) }

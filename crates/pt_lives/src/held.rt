@@ -1,4 +1,4 @@
-// What a process holds.
+//! What a process holds.
 
 ghost use Rattle.std.specs.Prelude.{◌≡◌, length, is_some};
 ghost use Rattle.std.specs.Map.{lookup};

@@ -1,4 +1,4 @@
-// One process, from its birth on.
+//! One process, from its birth on.
 
 ghost use Rattle.std.specs.Prelude.{◌≡◌, ◌+◌, ◌<◌, ◌^◌, is_some, IfOk, OnOk};
 ghost use Rattle.std.specs.Map.{lookup};
@@ -42,7 +42,7 @@ impl Model for Life {
     ghost invariant = { λ l. Stands l.ended l.held };
 }
 
-// What the process says changes it so.
+/// What the process says changes it so.
 fn say(process: &mut Process, to: Pid, signal: Signal) -> Result<(), AllocError>
     requires { MayDo process.old.me process.old.state (Said process.old.me to signal) }
     ensures me { process.new.me ≡ process.old.me }
@@ -62,7 +62,7 @@ fn say(process: &mut Process, to: Pid, signal: Signal) -> Result<(), AllocError>
     Ok(())
 }
 
-// One of its own events happens to a live process; the reason with which it ends by that, if it does.
+/// One of its own events happens to a live process; the reason with which it ends by that, if it does.
 fn meet(process: &mut Process, event: Event) -> Result<Option<Reason>, AllocError>
     requires { MayDo process.old.me process.old.state event }
     ensures me { process.new.me ≡ process.old.me }

@@ -1,4 +1,4 @@
-// The processes of all desks.
+//! The processes of all desks.
 
 ghost use Rattle.std.specs.Prelude.{◌≡◌, [], length, is_some, IfOk};
 ghost use Rattle.std.specs.Map.{lookup};

@@ -1,4 +1,4 @@
-// The processes that one slot has had.
+//! The processes that one slot has had.
 
 ghost use Rattle.std.specs.Prelude.{◌≡◌, ◌++◌, ◌∷◌, [], ◌==◌, ℕ, cond, length, IfSome, OnOk};
 ghost use Rattle.std.specs.Option.{option_map};
@@ -12,7 +12,7 @@ use pt_signal::Pid;
 use std::alloc::{AllocError, Global};
 use std::marker::Model;
 
-// By version; the first is version 1.
+/// By version; the first is version 1.
 #[derive(Drop)]
 pub(crate) struct Slot {
     lives: Vec<Life>,
@@ -50,7 +50,7 @@ impl Slot {
         }
     }
 
-    // One of that version's own events happens.
+    /// One of that version's own events happens.
     pub fn see(&mut self, version: u32, event: Event) -> Result<(), AllocError>
         requires { IfSome (of_version self.old version) (MaySee event) }
         ensures versions { OnOk result ((v : ℕ) → of_version self.new v ≡ cond (version == v) (option_map (shown event) (of_version self.old v)) (of_version self.old v)) }
@@ -73,7 +73,7 @@ impl Slot {
         Ok(())
     }
 
-    // Adds the pids, by version.
+    /// Adds the pids, by version.
     pub fn list(&self, pids: &mut Vec<Pid>) -> Result<(), AllocError>
         ensures { OnOk result (pids.new.items ≡ pids.old.items ++ pids_of self.now) }
     {

@@ -1,4 +1,4 @@
-// The journals of several desks as one list.
+//! The journals of several desks as one list.
 
 ghost use Rattle.std.specs.Prelude.{◌≡◌, ℕ, ◌+◌, ◌<◌, ◌≤◌, ◌^◌, length, reverse, IfOk, OnSome};
 ghost use Rattle.pt_events.specs.Journal.{IsMerge};
@@ -8,14 +8,14 @@ ghost use Rattle.pt_merge.specs.Merging.{AreApart, journal_of, AreInOrder, desk_
 use pt_events::{Journal, Stamped};
 use std::alloc::{AllocError, Global};
 
-// Journals race to give the next event of the merge. Of the journals from `low` up to `high`, where there are two
-// or more, the winner stands in the seat of the middle one: so each has one match, and a journal that moves on
-// plays again in a number of matches that is the logarithm of the number of journals.
+/// Journals race to give the next event of the merge. Of the journals from `low` up to `high`, where there are two
+/// or more, the winner stands in the seat of the middle one: so each has one match, and a journal that moves on
+/// plays again in a number of matches that is the logarithm of the number of journals.
 #[derive(Clone, Copy)]
 struct Seat {
-    // The journal that won the match in whose middle this seat is.
+    /// The journal that won the match in whose middle this seat is.
     winner: usize,
-    // How many events of the journal with this number were taken.
+    /// How many events of the journal with this number were taken.
     taken: usize,
 }
 
@@ -36,7 +36,7 @@ pub fn merge(alloc: Global, journals: &[&Journal]) -> Result<Vec<Stamped>, Alloc
     Ok(merged)
 }
 
-// How many events there are.
+/// How many events there are.
 fn count(journals: &[&Journal]) -> usize
     ensures { AreInOrder journals.now }
 {
@@ -47,7 +47,7 @@ fn count(journals: &[&Journal]) -> usize
     count
 }
 
-// The events of a journal, oldest first.
+/// The events of a journal, oldest first.
 fn events_of<'a>(journals: &[&'a Journal], which: usize) -> &'a [Stamped]
     requires { which < length journals.now }
     ensures events { result.now ≡ events_at journals.now which }
@@ -56,7 +56,7 @@ fn events_of<'a>(journals: &[&'a Journal], which: usize) -> &'a [Stamped]
     journals[which].events()
 }
 
-// The seats of journals of which nothing was taken, all matches played.
+/// The seats of journals of which nothing was taken, all matches played.
 fn seats(alloc: Global, journals: &[&Journal]) -> Result<Vec<Seat>, AllocError>
     ensures length { IfOk result (λ seats. length seats.items ≡ length journals.now) }
     ensures untaken { IfOk result (λ seats. (j : ℕ) → taken_at seats.items j ≡ 0) }
@@ -73,7 +73,7 @@ fn seats(alloc: Global, journals: &[&Journal]) -> Result<Vec<Seat>, AllocError>
     Ok(seats)
 }
 
-// The next event of a journal, if any is left.
+/// The next event of a journal, if any is left.
 fn head(journals: &[&Journal], seats: &[Seat], which: usize) -> Option<Stamped>
     requires same { length seats.now ≡ length journals.now }
     requires within { which < length journals.now }
@@ -83,7 +83,7 @@ fn head(journals: &[&Journal], seats: &[Seat], which: usize) -> Option<Stamped>
     events_of(journals, which).get(seats[which].taken).copied()
 }
 
-// The stamp and the desk of the next event of a journal, if any is left.
+/// The stamp and the desk of the next event of a journal, if any is left.
 fn key(journals: &[&Journal], seats: &[Seat], which: usize) -> Option<(u64, u8)>
     requires same { length seats.now ≡ length journals.now }
     requires within { which < length journals.now }
@@ -93,7 +93,7 @@ fn key(journals: &[&Journal], seats: &[Seat], which: usize) -> Option<(u64, u8)>
     Some((next.stamp, next.desk))
 }
 
-// Whether the one comes no later than the other; no event comes last.
+/// Whether the one comes no later than the other; no event comes last.
 fn leads(one: Option<(u64, u8)>, other: Option<(u64, u8)>) -> bool
     ensures { result ≡ leads one other }
 {
@@ -104,7 +104,7 @@ fn leads(one: Option<(u64, u8)>, other: Option<(u64, u8)>) -> bool
     }
 }
 
-// The winner among the journals from `low` up to `high`.
+/// The winner among the journals from `low` up to `high`.
 fn winner(seats: &[Seat], low: usize, high: usize) -> usize
     requires some { low < high }
     requires within { high ≤ length seats.now }
@@ -116,7 +116,7 @@ fn winner(seats: &[Seat], low: usize, high: usize) -> usize
     seats[low + (high - low) / 2].winner
 }
 
-// The best of the winners of the two halves.
+/// The best of the winners of the two halves.
 fn best_of_halves(journals: &[&Journal], seats: &[Seat], low: usize, high: usize) -> usize
     requires same { length seats.now ≡ length journals.now }
     requires some { low + 1 < high }
@@ -135,7 +135,7 @@ fn best_of_halves(journals: &[&Journal], seats: &[Seat], low: usize, high: usize
     }
 }
 
-// Plays the match among the journals from `low` up to `high`, of which each half has played.
+/// Plays the match among the journals from `low` up to `high`, of which each half has played.
 fn play(journals: &[&Journal], seats: &mut Vec<Seat>, low: usize, high: usize)
     requires same { length seats.old.items ≡ length journals.now }
     requires some { low + 1 < high }
@@ -149,7 +149,7 @@ fn play(journals: &[&Journal], seats: &mut Vec<Seat>, low: usize, high: usize)
     seats[low + (high - low) / 2].winner = best;
 }
 
-// Plays every match among the journals from `low` up to `high`.
+/// Plays every match among the journals from `low` up to `high`.
 fn play_all(journals: &[&Journal], seats: &mut Vec<Seat>, low: usize, high: usize)
     requires same { length seats.old.items ≡ length journals.now }
     requires some { low < high }
@@ -166,7 +166,7 @@ fn play_all(journals: &[&Journal], seats: &mut Vec<Seat>, low: usize, high: usiz
     play(journals, seats, low, high);
 }
 
-// Takes the next event of a journal from `low` up to `high`, and plays its matches there again.
+/// Takes the next event of a journal from `low` up to `high`, and plays its matches there again.
 fn advance(journals: &[&Journal], seats: &mut Vec<Seat>, low: usize, high: usize, which: usize)
     requires same { length seats.old.items ≡ length journals.now }
     requires within { high ≤ length journals.now }
@@ -190,7 +190,7 @@ fn advance(journals: &[&Journal], seats: &mut Vec<Seat>, low: usize, high: usize
     play(journals, seats, low, high);
 }
 
-// Takes the next event of the merge, if any is left.
+/// Takes the next event of the merge, if any is left.
 fn next(journals: &[&Journal], seats: &mut Vec<Seat>) -> Option<Stamped>
     requires same { length seats.old.items ≡ length journals.now }
     requires played { 0 < length journals.now → IsPlayed (key_at journals.now seats.old.items) (winner_at seats.old.items) 0 (length journals.now) }

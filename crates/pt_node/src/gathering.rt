@@ -1,4 +1,4 @@
-// The desks of a node are brought together.
+//! The desks of a node are brought together.
 
 ghost use Rattle.std.specs.Prelude.{◌≡◌, ◌≤◌, [], map, IfOk, IfErr, vec_len};
 ghost use Rattle.std.specs.Vec.{vec_capacity};
@@ -119,7 +119,7 @@ pub fn gather(alloc: Global, desks: Vec<Desk>) -> Result<Gathered, DesksBack>
     }
 }
 
-// The lists of the letters left over, as lanes.
+/// The lists of the letters left over, as lanes.
 fn fill(left: Vec<Vec<Letter>>, lanes: &mut Vec<Lane>)
     requires { (lanes.old.items ≡ []) × (vec_len left ≤ vec_capacity lanes.old) }
     ensures { lanes.new.items ≡ lists left.items }

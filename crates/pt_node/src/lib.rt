@@ -1,14 +1,16 @@
 //! The node: desks that are opened together, lent to threads or called one by one, and brought together again.
 //!
+//! From the recipe `two_processes` of `pt_uses`, where the whole stands with others:
+//!
 //! ```
-//! let mut desks = open(alloc, config)?;
-//! let ping = desks[0].spawn()?;
-//! ..                                              // calls and turns of the desks, in any order, by any threads
-//! match gather(alloc, desks) {
-//!     Ok(gathered) => ..                          // its journals, history(), left_over() and settle()
-//!     Err(back) => ..                             // no memory: back.into_desks() are the desks, unchanged
-//! }
+//! let ping = desk.spawn()?;
+//! let pong = desk.spawn()?;
+//! tell(desk, ping, pong, ASK, 7)?;
+//! let _ = desk.turn(16);
+//! let _question = desk.receive(pong, Pick::Kind(ASK))?;
 //! ```
+//!
+//! One `use pt_node::{..}` has all that a program calls.
 //!
 //! # Opening
 //!

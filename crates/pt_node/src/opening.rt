@@ -1,4 +1,4 @@
-// The desks of a new node.
+//! The desks of a new node.
 
 ghost use Rattle.std.specs.Prelude.{◌≡◌, IfOk};
 ghost use Rattle.pt_shard.specs.Opening.{IsInRange};
@@ -32,7 +32,7 @@ pub fn open(alloc: Global, config: Config) -> Result<Vec<Desk>, OpenError>
     Ok(desks)
 }
 
-// The desks without their lanes, in order.
+/// The desks without their lanes, in order.
 fn fresh_shards(alloc: Global, config: Config) -> Result<Vec<Shard>, AllocError>
     requires { IsInRange config }
     ensures { IfOk result (λ v. AreFreshShards config v.items) }

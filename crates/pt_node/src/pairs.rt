@@ -1,4 +1,4 @@
-// Desks and what is done with them, as a run takes them.
+//! Desks and what is done with them, as a run takes them.
 
 ghost use Rattle.std.specs.Prelude.{◌≡◌, ◌≤◌, [], map, vec_len};
 ghost use Rattle.std.specs.Vec.{vec_capacity};

@@ -1,4 +1,4 @@
-// Workers, each with a desk of a node.
+//! Workers, each with a desk of a node.
 
 ghost use Rattle.std.specs.Prelude.{◌≡◌, ℕ, ◌<◌, Bool, MatchBool, map, vec_len};
 ghost use Rattle.pt_desk.specs.DeskState.{GoesOn};
@@ -108,7 +108,7 @@ pub fn run_single<G: Gate, W: Work>(
     Ran { desks }
 }
 
-// A turn of every worker that has not ended. The bit of a desk's number is set once its worker has ended.
+/// A turn of every worker that has not ended. The bit of a desk's number is set once its worker has ended.
 fn one_round<G: Gate, W: Work>(
     desks: &mut Vec<(Desk, W)>,
     ended: u64,
@@ -125,7 +125,7 @@ fn one_round<G: Gate, W: Work>(
     ended
 }
 
-// A turn of the worker of desk d, if it has not ended, and who has ended then.
+/// A turn of the worker of desk d, if it has not ended, and who has ended then.
 fn turn_at<G: Gate, W: Work>(
     desks: &mut Vec<(Desk, W)>,
     d: usize,
@@ -147,7 +147,7 @@ fn turn_at<G: Gate, W: Work>(
     ended | bit
 }
 
-// The workers, each on a thread of its own as far as threads can be made.
+/// The workers, each on a thread of its own as far as threads can be made.
 fn work_all<R: Threads + Sync, G: Gate + Sync, W: Work + Send>(
     rt: &R,
     desks: &mut [(Desk, W)],
@@ -171,7 +171,7 @@ fn work_all<R: Threads + Sync, G: Gate + Sync, W: Work + Send>(
     }
 }
 
-// The turns of one worker.
+/// The turns of one worker.
 fn work_turns<G: Gate, W: Work>(pair: &mut (Desk, W), turns: u64, budget: u32, gate: &G)
     ensures goes_on { GoesOn pair.old.0 pair.new.0 }
     ensures turns { Works (G.lets gate.now pair.old.0.shard.number) turns budget pair.old pair.new }
@@ -183,7 +183,7 @@ fn work_turns<G: Gate, W: Work>(pair: &mut (Desk, W), turns: u64, budget: u32, g
     }
 }
 
-// One turn of a worker, or false where the gate ends it.
+/// One turn of a worker, or false where the gate ends it.
 fn one_turn<G: Gate, W: Work>(pair: &mut (Desk, W), turn: u64, budget: u32, gate: &G) -> bool
     ensures goes_on { GoesOn pair.old.0 pair.new.0 }
     ensures lets { G.lets gate.now pair.old.0.shard.number turn result }

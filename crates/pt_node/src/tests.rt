@@ -1,4 +1,4 @@
-// A node on which nothing happened, and settings out of their range.
+//! A node on which nothing happened, and settings out of their range.
 
 use super::*;
 use std::alloc::Global;
@@ -13,7 +13,7 @@ const SETTINGS: Config = Config {
     start: 0,
 };
 
-// The node, opened and gathered at once.
+/// The node, opened and gathered at once.
 fn gathered<R: Abort>(rt: &R, alloc: Global) -> Gathered {
     let Ok(desks) = open(alloc, SETTINGS) else {
         panic!(rt; "the node does not open");
@@ -27,7 +27,7 @@ fn gathered<R: Abort>(rt: &R, alloc: Global) -> Gathered {
     }
 }
 
-// Why a node with these settings is not opened.
+/// Why a node with these settings is not opened.
 fn refusal<R: Abort>(rt: &R, alloc: Global, config: Config) -> OpenError {
     match open(alloc, config) {
         Ok(desks) => {

@@ -1,4 +1,4 @@
-// Workers: that those of `run` are on two threads, that letters pass between them, and that a turn that stops ends none.
+//! Workers: that those of `run` are on two threads, that letters pass between them, and that a turn that stops ends none.
 
 ghost use Rattle.std.specs.Prelude.{◌≡◌, map};
 ghost use Rattle.pt_desk.specs.DeskState.{GoesOn};

@@ -1,4 +1,4 @@
-// What the command line can ask for.
+//! What the command line can ask for.
 
 /// The most turns that can be asked for.
 pub const MOST_TURNS: u64 = 1_000_000;

@@ -47,7 +47,7 @@ fn options_of<'a>(
     Ok((file, chosen(&matches)))
 }
 
-// The command with its arguments and the help on each.
+/// The command with its arguments and the help on each.
 fn command<'a>(alloc: Global) -> Result<Command<'a>, AllocError> {
     let file = Arg::new(alloc, "FILE").help(
         "The script; standard input where none is named, and for -",
@@ -76,7 +76,7 @@ fn command<'a>(alloc: Global) -> Result<Command<'a>, AllocError> {
         .arg(print)
 }
 
-// What the words ask for.
+/// What the words ask for.
 fn chosen(matches: &ArgMatches<'_>) -> Options
     ensures { result.turns ≤ MOST_TURNS }
 {

@@ -1,10 +1,12 @@
+//! Command lines and what they are read as.
+
 use crate::{Mode, Options, Show, options};
 use clap::error::ErrorKind;
 use std::alloc::{AllocError, Global};
 use std::process::Abort;
 use std::test::Fail;
 
-// The words of a command line, after the program's name.
+/// The words of a command line, after the program's name.
 fn words(alloc: Global, line: &str) -> Result<Vec<String>, AllocError> {
     let mut words = Vec::new(alloc);
     words.push(String::from_str(alloc, "pt_run")?)?;

@@ -1,4 +1,4 @@
-// Entries in order of entry.
+//! Entries in order of entry.
 
 ghost use Rattle.std.specs.Prelude.{◌≡◌, ◌<◌, ◌≤◌, ◌^◌, ◌∷◌, ◌++◌, [], length, position, slice_get, Some, None, IsOk, IsSome, IfOk, OnOk, OnErr};
 ghost use Rattle.std.specs.List.{list_any, IsDistinct};
@@ -212,7 +212,7 @@ fn any_first<J: PartialEq + Copy, K: Copy, V: Copy>(few: &[((J, K), V)], first: 
     few.iter().any(|(key, _)| first == key.0)
 }
 
-// A key that is there takes the value, in its place.
+/// A key that is there takes the value, in its place.
 fn write<K: Eq + Copy, V: Copy>(few: &mut Vec<(K, V)>, key: &K, value: V)
     ensures entries { few.new.items ≡ set_value (K.eq key.now) few.old.items value }
     ensures capacity { vec_capacity few.new ≡ vec_capacity few.old }
@@ -242,7 +242,7 @@ fn row<K: Copy, V: Copy>(few: &mut Vec<(K, V)>, i: usize) -> (K, V)
     few[i]
 }
 
-// The same entries found by hash, with room for one more.
+/// The same entries found by hash, with room for one more.
 fn widen<K: Eq + Hash + Copy, V: Copy>(few: &Vec<(K, V)>) -> Result<Box<Many<K, V>>, AllocError>
     requires distinct { IsDistinct K.eq (keys_of few.now.items) }
     requires few { length few.now.items ≤ 8 }

@@ -1,4 +1,4 @@
-// What an ended process owes.
+//! What an ended process owes.
 
 ghost use Rattle.std.specs.Prelude.{◌≡◌, ◌<◌, length, slice_get, Some};
 ghost use Rattle.pt_signal.specs.Process.{sent};

@@ -1,4 +1,4 @@
-// The items that wait for a receive.
+//! The items that wait for a receive.
 
 ghost use Rattle.std.specs.Prelude.{◌≡◌, ◌+◌, ◌-◌, ◌*◌, ◌<◌, ◌≤◌, ◌++◌, ◌∷◌, [], take, drop, length, slice_get, Some, OnOk, OnErr};
 ghost use Rattle.std.specs.List.{position, remove};
@@ -96,7 +96,7 @@ impl Mailbox {
     }
 }
 
-// Takes an item out: what stands before it moves up, or what stands behind it down, whichever is the shorter.
+/// Takes an item out: what stands before it moves up, or what stands behind it down, whichever is the shorter.
 fn take_out(items: &mut Vec<Item>, head: &mut usize, place: usize) -> Item
     requires { head.old + place < length items.old.items }
     ensures item { slice_get (drop head.old items.old.items) place ≡ Some result }
@@ -113,7 +113,7 @@ fn take_out(items: &mut Vec<Item>, head: &mut usize, place: usize) -> Item
     item
 }
 
-// Closes the gap before the head where it is more than half, so that its cost was paid by as many takes.
+/// Closes the gap before the head where it is more than half, so that its cost was paid by as many takes.
 fn close_gap(items: &mut Vec<Item>, head: &mut usize)
     requires { head.old ≤ length items.old.items }
     ensures waiting { drop head.new items.new.items ≡ drop head.old items.old.items }
@@ -127,7 +127,7 @@ fn close_gap(items: &mut Vec<Item>, head: &mut usize)
     }
 }
 
-// Copies what stands from the head on to the front, in one block: `copy_within` goes item by item.
+/// Copies what stands from the head on to the front, in one block: `copy_within` goes item by item.
 fn bring_forward(items: &mut [Item], head: usize)
     requires within { head ≤ length items.old }
     requires apart { length items.old - head ≤ head }

@@ -1,4 +1,4 @@
-// Entries by hash, in order of entry.
+//! Entries by hash, in order of entry.
 
 ghost use Rattle.std.specs.Prelude.{◌≡◌, ◌+◌, ◌<◌, ◌≤◌, ◌^◌, ◌&&◌, ◌∷◌, ◌++◌, [], length, slice_get, is_some, Some, None, IsOk, IfOk, IsSome, OnOk};
 ghost use Rattle.std.specs.HashMap.{spare};
@@ -174,7 +174,7 @@ fn any_first<J: PartialEq + Eq + Hash + Copy, K: Eq + Hash + Copy, V: Copy>(
         .any(|(key, value)| value.is_some() && first == key.0)
 }
 
-// The gap goes that the key left, if it left one.
+/// The gap goes that the key left, if it left one.
 fn clear_gap<K: Eq + Hash + Copy, V: Copy>(
     places: &mut IndexMap<K, Option<V>>,
     key: &K,
@@ -192,7 +192,7 @@ fn clear_gap<K: Eq + Hash + Copy, V: Copy>(
     }
 }
 
-// Takes the value at a key out of its place.
+/// Takes the value at a key out of its place.
 fn take_value<K: Eq + Hash + Copy, V: Copy>(
     places: &mut IndexMap<K, Option<V>>,
     key: &K,
@@ -207,8 +207,8 @@ fn take_value<K: Eq + Hash + Copy, V: Copy>(
     }
 }
 
-// After a removal: the gaps at the end go, and all of them where they outnumber the entries, so that the cost was
-// paid by as many removals.
+/// After a removal: the gaps at the end go, and all of them where they outnumber the entries, so that the cost was
+/// paid by as many removals.
 fn settle<K: Eq + Hash + Copy, V: Copy>(places: &mut IndexMap<K, Option<V>>, count: usize)
     requires distinct { IsDistinct K.eq (keys_of places.old.entries) }
     requires counted { count ≡ length (present places.old.entries) }

@@ -1,4 +1,4 @@
-// What became of a signal.
+//! What became of a signal.
 
 use pt_signal::{Reason, Ref};
 

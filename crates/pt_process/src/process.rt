@@ -1,4 +1,4 @@
-// One process.
+//! One process.
 
 ghost use Rattle.std.specs.Prelude.{◌≡◌, ◌+◌, ◌<◌, ◌≤◌, ◌^◌, ◌∷◌, ◌++◌, [], false, length, is_some, slice_get, remove, find, IsOk, IsSome, OnOk, OnErr, IfOk, IfSome, IfNone, OnSome};
 ghost use Rattle.std.specs.List.{list_any};
@@ -396,7 +396,7 @@ impl Process {
         }
     }
 
-    // The entry of a linked process goes whatever the verdict on its exit signal.
+    /// The entry of a linked process goes whatever the verdict on its exit signal.
     fn obey_link(&mut self, from: Pid, verdict: Verdict) -> Result<Outcome, AllocError>
         requires { IsSome (held self.old.state.links from) }
         ensures { Accepts self.old (obey (ruled verdict) (record self.old.state { links = remove_entry (same_pid from) self.old.state.links })) result self.new }

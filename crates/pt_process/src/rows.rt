@@ -1,4 +1,4 @@
-// The entries of an ended process.
+//! The entries of an ended process.
 
 ghost use Rattle.std.specs.Prelude.{◌≡◌, ◌<◌, ◌≤◌, ◌^◌, length, slice_get, Some};
 

@@ -1,3 +1,5 @@
+//! Processes and their lists, of few entries and of many.
+
 use crate::{Entries, Estate, Outcome, Process};
 use pt_signal::{Body, Ids, Item, LinkId, Pick, Pid, Reason, Ref, Signal};
 use std::alloc::Global;
@@ -27,7 +29,7 @@ fn message(kind: u32) -> Body {
     }
 }
 
-// The helpers promise nothing, so that a test is proved fast; what they answer shows when it runs.
+/// The helpers promise nothing, so that a test is proved fast; what they answer shows when it runs.
 fn process(alloc: Global) -> Process {
     Process::new(alloc, pid(0))
 }

@@ -1,4 +1,4 @@
-// What an exit signal does to a process.
+//! What an exit signal does to a process.
 
 ghost use Rattle.std.specs.Prelude.{◌≡◌};
 ghost use Rattle.pt_signal.specs.Process.{verdict};

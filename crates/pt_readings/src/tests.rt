@@ -1,4 +1,4 @@
-// Texts and what they are read as. What is read is printed: the refusal's line, or what each process does.
+//! Texts and what they are read as. What is read is printed: the refusal's line, or what each process does.
 
 use pt_script::{Script, Settings, Top};
 use std::alloc::Global;

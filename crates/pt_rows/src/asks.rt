@@ -1,4 +1,4 @@
-// Asking whether a process is alive.
+//! Asking whether a process is alive.
 
 use crate::known::{A, B, settings};
 use crate::play::Call::*;

@@ -1,5 +1,5 @@
-// The calls of a desk, with their answers as text, and looks at a desk and at what was gathered. Their texts are
-// promised by no clause: they are compared when a test runs.
+//! The calls of a desk, with their answers as text, and looks at a desk and at what was gathered. Their texts are
+//! promised by no clause: they are compared when a test runs.
 
 ghost use Rattle.pt_rows.specs.Rows.{IsStill};
 

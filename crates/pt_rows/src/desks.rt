@@ -1,4 +1,4 @@
-// Several desks: letters between them, narrow lanes, and what is left over when they are gathered.
+//! Several desks: letters between them, narrow lanes, and what is left over when they are gathered.
 
 ghost use Rattle.pt_node.specs.Desks.{AreDesks};
 

@@ -1,4 +1,4 @@
-// Exit signals, the trap flag, and ends that go down a chain of links.
+//! Exit signals, the trap flag, and ends that go down a chain of links.
 
 use crate::known::{A, B, C, D, E, settings};
 use crate::play::Call::*;

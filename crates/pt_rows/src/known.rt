@@ -1,4 +1,4 @@
-// Settings, and the names that the processes of a desk get.
+//! Settings, and the names that the processes of a desk get.
 
 use pt_node::{Config, Pid};
 

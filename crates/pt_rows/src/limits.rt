@@ -1,4 +1,4 @@
-// Settings out of range, pids that a desk does not know, and a clock at its limit.
+//! Settings out of range, pids that a desk does not know, and a clock at its limit.
 
 use crate::known::{A, settings};
 use crate::play::Call::*;

@@ -1,4 +1,4 @@
-// Links: making, taking back, crossing calls, and links with the dead.
+//! Links: making, taking back, crossing calls, and links with the dead.
 
 use crate::known::{A, B, C, settings};
 use crate::play::Call::*;

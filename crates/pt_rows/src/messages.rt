@@ -1,4 +1,4 @@
-// Messages, selective receive, and turns.
+//! Messages, selective receive, and turns.
 
 use crate::known::{A, B, settings};
 use crate::play::Call::*;

@@ -1,4 +1,4 @@
-// Monitors, the one DOWN of each, and demonitors.
+//! Monitors, the one DOWN of each, and demonitors.
 
 use crate::known::{A, B, C, settings};
 use crate::play::Call::*;

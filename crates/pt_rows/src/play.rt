@@ -1,4 +1,4 @@
-// Plays a table of calls on the desks of a node, and compares each answer with the one that the table has.
+//! Plays a table of calls on the desks of a node, and compares each answer with the one that the table has.
 
 ghost use Rattle.std.specs.Prelude.{◌<◌};
 ghost use Rattle.pt_node.specs.Desks.{AreDesks};

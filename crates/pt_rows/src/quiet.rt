@@ -1,4 +1,4 @@
-// What a settled node tells of its processes.
+//! What a settled node tells of its processes.
 
 use crate::known::{A, A1, B, C, D, E, settings, two_desks};
 use crate::play::Call::*;

@@ -1,4 +1,4 @@
-// Nodes that are gathered while letters are on their way, and settled.
+//! Nodes that are gathered while letters are on their way, and settled.
 
 ghost use Rattle.pt_node.specs.Desks.{AreDesks};
 

@@ -1,4 +1,4 @@
-// Slots that are used again, and slots that are retired.
+//! Slots that are used again, and slots that are retired.
 
 use crate::known::{A, B, C, D, settings};
 use crate::play::Call::*;

@@ -1,4 +1,5 @@
-// The operations of a process, as calls of its desk.
+//! The operations of a process, as calls of its desk.
+
 #![tactic(auto, using(crate::proofs::Calling::stays, crate::proofs::Calling::none_done))]
 
 ghost use Rattle.std.specs.Prelude.{◌≡◌, ◌+◌, true, IfSome, []};

@@ -1,4 +1,4 @@
-// The work of a script on one desk.
+//! The work of a script on one desk.
 
 ghost use Rattle.std.specs.Prelude.{◌≡◌, ◌<◌, ◌≤◌, ◌+◌, ◌++◌, [], ◌∷◌, false, vec_len, vec_capacity};
 ghost use Rattle.std.specs.List.{All, filter};

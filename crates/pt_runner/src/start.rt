@@ -1,4 +1,4 @@
-// How the work of a script begins.
+//! How the work of a script begins.
 
 ghost use Rattle.std.specs.Prelude.{◌≡◌, ◌≤◌, IfOk, length, vec_len};
 ghost use Rattle.pt_shard.specs.Opening.{IsInRange};

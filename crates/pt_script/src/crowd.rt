@@ -1,4 +1,4 @@
-// The processes that a script begins with, counted by their desks.
+//! The processes that a script begins with, counted by their desks.
 
 ghost use Rattle.std.specs.Prelude.{◌≡◌, ◌<◌, ◌==◌, [], ◌∷◌, ◌++◌, count_by, OnOk};
 

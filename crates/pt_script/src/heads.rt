@@ -1,4 +1,4 @@
-// The heads of the processes that a script begins with: all but their operations.
+//! The heads of the processes that a script begins with: all but their operations.
 
 ghost use Rattle.std.specs.Prelude.{◌≡◌, ◌≤◌, ◌<◌, ◌==◌, IfOk, OnOk, map, min, count_by, option_map, if◌then◌else◌};
 ghost use Rattle.serde_json.specs.View.{view};

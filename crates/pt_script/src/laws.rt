@@ -1,4 +1,4 @@
-// The laws of scripts: each is the contract of a function that does nothing.
+//! The laws of scripts: each is the contract of a function that does nothing.
 
 ghost use Rattle.pt_script.specs.Laws.{AcceptedAreSound, ReasonsAsPrinted, FaultsHavePlaces, NumbersArePlaces, NamesArePlaces, OperationsReadBack};
 

@@ -1,4 +1,4 @@
-// The lists of operations, spawns within spawns.
+//! The lists of operations, spawns within spawns.
 
 ghost use Rattle.std.specs.Prelude.{◌≡◌, ◌≤◌, ◌<◌, ◌+◌, map, vec_len, OnOk};
 ghost use Rattle.serde_json.specs.View.{view};

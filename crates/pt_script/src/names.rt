@@ -1,4 +1,4 @@
-// Names of processes and tags of monitors, and what each stands for.
+//! Names of processes and tags of monitors, and what each stands for.
 
 ghost use Rattle.std.specs.Prelude.{◌≡◌, ◌++◌, [], None, Some, List, ℕ, OnOk, codes, ◌<◌, length};
 ghost use Rattle.std.specs.Str.{bytes_eq};

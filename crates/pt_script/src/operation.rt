@@ -1,4 +1,4 @@
-// One operation, in the scope that it stands in.
+//! One operation, in the scope that it stands in.
 
 ghost use Rattle.std.specs.Prelude.{◌≡◌, map, option_map, None, codes};
 ghost use Rattle.std.specs.List.{list_all};

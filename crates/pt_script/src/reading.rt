@@ -1,4 +1,4 @@
-// A script as a whole.
+//! A script as a whole.
 
 ghost use Rattle.std.specs.Prelude.{◌≡◌, ◌≤◌, IfOk, [], map};
 ghost use Rattle.serde_json.specs.View.{view};

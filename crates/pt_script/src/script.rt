@@ -1,4 +1,4 @@
-// What a script says.
+//! What a script says.
 
 ghost use Rattle.std.specs.Prelude.{◌≡◌};
 ghost use Rattle.pt_script.specs.Sound.{IsSound};

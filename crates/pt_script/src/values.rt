@@ -1,4 +1,4 @@
-// The plain values of which a script is made.
+//! The plain values of which a script is made.
 
 use pt_signal::Reason;
 

@@ -1,4 +1,4 @@
-// The settings of a node, and their limits.
+//! The settings of a node, and their limits.
 
 ghost use Rattle.std.specs.Bool.{MatchBool};
 ghost use Rattle.pt_shard.specs.Opening.{IsInRange};

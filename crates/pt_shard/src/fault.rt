@@ -1,4 +1,4 @@
-// Why a call is refused.
+//! Why a call is refused.
 
 use crate::stop::Stop;
 use std::alloc::AllocError;

@@ -1,4 +1,4 @@
-// What one desk of a node knows, told of another.
+//! What one desk of a node knows, told of another.
 
 ghost use Rattle.pt_shard.specs.Known.{IsKnownToOthers};
 

@@ -1,4 +1,4 @@
-// The clock, the journal and the letters of a desk.
+//! The clock, the journal and the letters of a desk.
 
 ghost use Rattle.std.specs.Prelude.{◌≡◌, ℕ, ◌+◌, ◌-◌, ◌<◌, ◌≤◌, ◌^◌, [], ◌∷◌, max, min, nat_le, length, map, drop, replicate, slice_get, slice_index_or, slice_set, sum_by, count_by, None, IfOk, OnOk};
 ghost use Rattle.pt_signal.specs.declared.signal.Signal.{Signal};
@@ -67,7 +67,7 @@ fn no_letters(alloc: Global, desks: u8) -> Result<Vec<Letters>, AllocError>
     Ok(outbox)
 }
 
-// Makes room for what a process would owe at its end, in the boxes of those that it would go to.
+/// Makes room for what a process would owe at its end, in the boxes of those that it would go to.
 fn reserve_owed(outbox: &mut Vec<Letters>, process: &mut Process) -> Result<(), AllocError>
     requires few { length outbox.old.items ≤ 64 }
     requires near { Every (λ q. q.shard < length outbox.old.items) (peers process.old.state) }

@@ -1,4 +1,4 @@
-// The letters for one desk.
+//! The letters for one desk.
 
 ghost use Rattle.std.specs.Prelude.{◌≡◌, ◌+◌, ◌<◌, ◌≤◌, ◌++◌, ◌∷◌, [], length, drop, slice_get, OnOk};
 

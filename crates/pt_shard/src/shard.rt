@@ -1,4 +1,4 @@
-// A desk without its lanes.
+//! A desk without its lanes.
 
 ghost use Rattle.std.specs.Prelude.{◌≡◌, true, ◌<◌, ◌≤◌, ◌^◌, ◌-◌, min, drop, length, slice_get, Some, None, IfOk, OnOk, cond, is_some};
 ghost use Rattle.std.specs.Option.{option_copied};

@@ -1,4 +1,4 @@
-// Why a letter is not handled.
+//! Why a letter is not handled.
 
 use std::alloc::AllocError;
 use thiserror::Error;

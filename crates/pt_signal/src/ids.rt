@@ -1,4 +1,4 @@
-// References of monitors and questions, and ids of links.
+//! References of monitors and questions, and ids of links.
 
 ghost use Rattle.std.specs.Prelude.{◌≡◌};
 ghost use Rattle.pt_signal.specs.Process.{one_id, has_id, share_id, add_id, without_ids};

@@ -1,4 +1,4 @@
-// What stands in a mailbox, and which of it a receive takes.
+//! What stands in a mailbox, and which of it a receive takes.
 
 ghost use Rattle.std.specs.Prelude.{◌≡◌};
 ghost use Rattle.pt_signal.specs.Values.{fits};

@@ -1,4 +1,4 @@
-// Signals on their way.
+//! Signals on their way.
 
 use crate::{Pid, Signal};
 use std::fmt;

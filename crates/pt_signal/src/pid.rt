@@ -1,4 +1,4 @@
-// Names of processes.
+//! Names of processes.
 
 use std::cmp::Ordering;
 use std::fmt;

@@ -1,4 +1,4 @@
-// Why processes end.
+//! Why processes end.
 
 use std::fmt;
 

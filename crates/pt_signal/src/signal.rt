@@ -1,4 +1,4 @@
-// What one process sends another.
+//! What one process sends another.
 
 ghost use Rattle.std.specs.Prelude.{◌≡◌};
 ghost use Rattle.std.specs.Option.{option_map};

@@ -118,7 +118,7 @@ pub enum InsertError<T> {
     Memory(T),
 }
 
-// What `grow` did: made room, or found every slot taken or retired, or found no memory.
+/// What `grow` did: made room, or found every slot taken or retired, or found no memory.
 enum Growth {
     Ready,
     Full,
@@ -130,9 +130,9 @@ enum Growth {
 /// See the page of this crate for an example, and for what differs from the `slotmap` crate.
 #[derive(Drop)]
 pub struct Slots<T> {
-    // A retired slot stays occupied, by `None`, so that the slab does not offer it again.
+    /// A retired slot stays occupied, by `None`, so that the slab does not offer it again.
     entries: Slab<Option<T>>,
-    // The latest version that each slot has issued.
+    /// The latest version that each slot has issued.
     versions: Vec<u32>,
     capacity: u32,
     top_version: u32,
@@ -151,7 +151,7 @@ impl<T> Model for Slots<T> {
         IsSound (state s.entries s.versions.items s.capacity s.top_version) s.retired s.entries.capacity };
 }
 
-// The value of a slot that has one.
+/// The value of a slot that has one.
 fn value_mut<T>(entry: &mut Option<T>) -> &mut T
     requires { IsSome entry.old }
     ensures* writes_back { sem 𝓛 (option_follows_value T.row entry.entry result) }
@@ -163,8 +163,8 @@ fn value_mut<T>(entry: &mut Option<T>) -> &mut T
     }
 }
 
-// Gives each of so many slots a version to count up from. The slab grows by doubling, so this seldom
-// has anything to do.
+/// Gives each of so many slots a version to count up from. The slab grows by doubling, so this seldom
+/// has anything to do.
 fn make_room(versions: &mut Vec<u32>, slots: usize) -> Result<(), AllocError>
     ensures room { OnOk result (slots ≤ vec_len versions.new) }
     ensures never_shrinks { OnOk result (vec_len versions.old ≤ vec_len versions.new) }
@@ -263,8 +263,8 @@ impl<T> Slots<T> {
         })
     }
 
-    // Sees to it that the slot that is offered can take a value. A slot that has a version also has its
-    // place in the slab, and is below the capacity.
+    /// Sees to it that the slot that is offered can take a value. A slot that has a version also has its
+    /// place in the slab, and is below the capacity.
     #[inline]
     fn ready(&mut self) -> Growth
         ensures { Grows self.old result self.new }
@@ -276,8 +276,8 @@ impl<T> Slots<T> {
         }
     }
 
-    // Makes room for the slot that is offered, which was never used. It takes no value and answers in a
-    // register, so that `insert` keeps nothing in memory.
+    /// Makes room for the slot that is offered, which was never used. It takes no value and answers in a
+    /// register, so that `insert` keeps nothing in memory.
     #[cold]
     #[inline(never)]
     fn grow(&mut self) -> Growth
@@ -321,7 +321,7 @@ impl<T> Slots<T> {
         }
     }
 
-    // `remove` for the top version of a slot, which it retires.
+    /// `remove` for the top version of a slot, which it retires.
     #[cold]
     #[inline(never)]
     fn remove_last(&mut self, key: Key) -> Option<T>

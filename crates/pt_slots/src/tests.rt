@@ -1,3 +1,5 @@
+//! Slots that are filled, emptied and retired.
+
 use super::*;
 use std::test::Fail;
 

@@ -1,4 +1,4 @@
-// Lists that are searched from their front.
+//! Lists that are searched from their front.
 
 ghost use Rattle.std.specs.Prelude.{◌≡◌, Bool};
 ghost use Rattle.std.specs.Option.{option_map};
@@ -6,7 +6,7 @@ ghost use Rattle.std.specs.List.{find};
 ghost use Rattle.pt_signal.specs.Values.{without_first};
 ghost use Rattle.pt_judge.specs.Places.{first_place};
 
-// What is looked for in a list.
+/// What is looked for in a list.
 pub trait Test<T> {
     ghost passes: { Self → T → Bool };
 
@@ -14,7 +14,7 @@ pub trait Test<T> {
         ensures { result ≡ passes self.now item.now };
 }
 
-// The place of the first that passes, or the length of the list.
+/// The place of the first that passes, or the length of the list.
 pub fn place_of<T, K: Test<T>>(list: &[T], test: &K) -> usize
     ensures { result ≡ first_place (K.passes test.now) list.now }
 {
@@ -26,7 +26,7 @@ pub fn place_of<T, K: Test<T>>(list: &[T], test: &K) -> usize
     list.len()
 }
 
-// The first that passes.
+/// The first that passes.
 pub fn first<'a, T, K: Test<T>>(list: &'a [T], test: &K) -> Option<&'a T>
     ensures { option_map (λ item. item.now) result ≡ find (K.passes test.now) list.now }
 {
@@ -38,14 +38,14 @@ pub fn first<'a, T, K: Test<T>>(list: &'a [T], test: &K) -> Option<&'a T>
     }
 }
 
-// A copy of the first that passes.
+/// A copy of the first that passes.
 pub fn find<T: Copy, K: Test<T>>(list: &[T], test: &K) -> Option<T>
     ensures { result ≡ find (K.passes test.now) list.now }
 {
     first(list, test).copied()
 }
 
-// Takes out the first that passes.
+/// Takes out the first that passes.
 pub fn take_out<T: Drop, K: Test<T>>(list: &mut Vec<T>, test: &K)
     ensures { list.new.items ≡ without_first (K.passes test.now) list.old.items }
 {

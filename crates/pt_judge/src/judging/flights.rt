@@ -1,4 +1,4 @@
-// The signals on their way.
+//! The signals on their way.
 
 ghost use Rattle.std.specs.Prelude.{◌≡◌, ◌++◌, ◌∷◌, [], map, OnOk};
 ghost use Rattle.std.specs.List.{find};
@@ -16,7 +16,7 @@ use pt_signal::{Ids, Pid, Reason, Ref, Signal};
 use std::alloc::AllocError;
 use std::marker::Model;
 
-// One signal on its way.
+/// One signal on its way.
 #[derive(Drop)]
 pub struct Flight {
     from: Pid,
@@ -40,7 +40,7 @@ impl Flight {
     }
 }
 
-// The sender and the receiver of a signal.
+/// The sender and the receiver of a signal.
 #[derive(Clone, Copy)]
 struct Pair(Pid, Pid);
 
@@ -54,7 +54,7 @@ impl Test<Flight> for Pair {
     }
 }
 
-// The oldest signal on its way from the one to the other.
+/// The oldest signal on its way from the one to the other.
 pub fn oldest(flights: &[Flight], from: Pid, to: Pid) -> Option<Signal>
     ensures { result ≡ option_map (λ flight. flight.signal) (find (is_between from to) flights.now) }
 {
@@ -64,7 +64,7 @@ pub fn oldest(flights: &[Flight], from: Pid, to: Pid) -> Option<Signal>
     }
 }
 
-// What came is on its way no more.
+/// What came is on its way no more.
 pub fn land(flights: &mut Vec<Flight>, event: Event)
     ensures { flights.new.items ≡ landed event flights.old.items }
 {
@@ -124,7 +124,7 @@ fn send_demonitors(
     Ok(())
 }
 
-// Sends what a process owes at its end.
+/// Sends what a process owes at its end.
 fn send_estate(
     flights: &mut Vec<Flight>,
     me: Pid,
@@ -139,7 +139,7 @@ fn send_estate(
     Ok(())
 }
 
-// Sends what the process owes, if it has ended.
+/// Sends what the process owes, if it has ended.
 fn send_end(flights: &mut Vec<Flight>, lives: &[Life], pid: Pid) -> Result<(), AllocError>
     ensures { OnOk result (flights.new.items ≡ flights.old.items ++ owed lives.now pid) }
 {
@@ -149,7 +149,7 @@ fn send_end(flights: &mut Vec<Flight>, lives: &[Life], pid: Pid) -> Result<(), A
     }
 }
 
-// Sends what goes back from a process that is not alive.
+/// Sends what goes back from a process that is not alive.
 fn send_back(
     flights: &mut Vec<Flight>,
     me: Pid,
@@ -164,7 +164,7 @@ fn send_back(
     }
 }
 
-// Sends what a live process answers.
+/// Sends what a live process answers.
 fn send_answer(
     flights: &mut Vec<Flight>,
     me: Pid,
@@ -179,7 +179,7 @@ fn send_answer(
     }
 }
 
-// Sends what the event sends, where the lives are those after it, and its process lived before it or did not.
+/// Sends what the event sends, where the lives are those after it, and its process lived before it or did not.
 pub fn dispatch(
     flights: &mut Vec<Flight>,
     lives: &[Life],

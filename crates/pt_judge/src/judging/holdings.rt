@@ -1,4 +1,4 @@
-// What one process holds.
+//! What one process holds.
 
 ghost use Rattle.std.specs.Prelude.{◌≡◌, [], IfOk, OnOk};
 ghost use Rattle.pt_signal.specs.Values.{same_pid};
@@ -61,7 +61,7 @@ impl Holdings {
         }
     }
 
-    // Links it with the peer under the id.
+    /// Links it with the peer under the id.
     pub fn link(&mut self, peer: Pid, id: LinkId) -> Result<(), AllocError>
         ensures { OnOk result (self.new ≡ record self.old { links = enter peer id self.old.links }) }
     {
@@ -98,7 +98,7 @@ impl Holdings {
         self.traps
     }
 
-    // An exit signal comes, by a link or not; gives the reason of the end, where it ends the process.
+    /// An exit signal comes, by a link or not; gives the reason of the end, where it ends the process.
     fn exit(
         &mut self,
         by_link: bool,
@@ -155,7 +155,7 @@ impl Holdings {
         Ok(None)
     }
 
-    // A signal comes while the process lives; gives the reason of the end, where it ends the process.
+    /// A signal comes while the process lives; gives the reason of the end, where it ends the process.
     fn handle(&mut self, me: Pid, from: Pid, signal: Signal) -> Result<Option<Reason>, AllocError>
         ensures { IfOk result (IsHandled me self.old from signal self.new) }
     {
@@ -189,7 +189,7 @@ impl Holdings {
         Ok(())
     }
 
-    // One of the process's own events happens while it lives; gives the reason of the end, where it ends.
+    /// One of the process's own events happens while it lives; gives the reason of the end, where it ends.
     pub fn change(&mut self, me: Pid, event: Event) -> Result<Option<Reason>, AllocError>
         ensures { IfOk result (λ ending. live_or_end ending self.new ≡ change me event (living self.old)) }
     {

@@ -1,4 +1,4 @@
-// The lists of one process.
+//! The lists of one process.
 
 ghost use Rattle.std.specs.Prelude.{◌≡◌, OnOk};
 ghost use Rattle.std.specs.Map.{lookup, remove_entry, set_value};
@@ -30,7 +30,7 @@ impl Test<(Ref, Pid)> for Ref {
     }
 }
 
-// A kept watch.
+/// A kept watch.
 #[derive(Clone, Copy)]
 struct Watch(Ref, Pid);
 
@@ -54,7 +54,7 @@ impl Test<Item> for Pick {
     }
 }
 
-// The ids under which the process is linked with the peer.
+/// The ids under which the process is linked with the peer.
 pub fn ids_with(links: &[(Pid, Ids)], peer: Pid) -> Option<Ids>
     ensures { result ≡ held links.now peer }
 {
@@ -64,14 +64,14 @@ pub fn ids_with(links: &[(Pid, Ids)], peer: Pid) -> Option<Ids>
     }
 }
 
-// Takes out the whole entry of the peer.
+/// Takes out the whole entry of the peer.
 pub fn leave(links: &mut Vec<(Pid, Ids)>, peer: Pid)
     ensures { links.new.items ≡ remove_entry (same_pid peer) links.old.items }
 {
     take_out(links, &peer);
 }
 
-// Writes the ids of the peer's entry.
+/// Writes the ids of the peer's entry.
 fn set_ids(links: &mut Vec<(Pid, Ids)>, peer: Pid, ids: Ids)
     ensures { links.new.items ≡ set_value (same_pid peer) links.old.items ids }
 {
@@ -81,7 +81,7 @@ fn set_ids(links: &mut Vec<(Pid, Ids)>, peer: Pid, ids: Ids)
     }
 }
 
-// The id enters at the peer, unless there are two.
+/// The id enters at the peer, unless there are two.
 pub fn enter(links: &mut Vec<(Pid, Ids)>, peer: Pid, id: LinkId) -> Result<(), AllocError>
     ensures { OnOk result (links.new.items ≡ enter peer id links.old.items) }
 {
@@ -92,7 +92,7 @@ pub fn enter(links: &mut Vec<(Pid, Ids)>, peer: Pid, id: LinkId) -> Result<(), A
     Ok(())
 }
 
-// The named ids leave at the peer.
+/// The named ids leave at the peer.
 pub fn cut(links: &mut Vec<(Pid, Ids)>, peer: Pid, named: Ids)
     ensures { links.new.items ≡ cut peer named links.old.items }
 {
@@ -104,7 +104,7 @@ pub fn cut(links: &mut Vec<(Pid, Ids)>, peer: Pid, named: Ids)
     }
 }
 
-// The process that is watched under the reference.
+/// The process that is watched under the reference.
 pub fn target_of(watching: &[(Ref, Pid)], monitor: Ref) -> Option<Pid>
     ensures { result ≡ lookup (same_ref monitor) watching.now }
 {
@@ -114,21 +114,21 @@ pub fn target_of(watching: &[(Ref, Pid)], monitor: Ref) -> Option<Pid>
     }
 }
 
-// Closes the monitor.
+/// Closes the monitor.
 pub fn close(watching: &mut Vec<(Ref, Pid)>, monitor: Ref)
     ensures { watching.new.items ≡ remove_entry (same_ref monitor) watching.old.items }
 {
     take_out(watching, &monitor);
 }
 
-// Whether the watch is kept.
+/// Whether the watch is kept.
 pub fn keeps(kept: &[(Ref, Pid)], monitor: Ref, watcher: Pid) -> bool
     ensures { result ≡ list_any (same_watch monitor watcher) kept.now }
 {
     find(kept, &Watch(monitor, watcher)).is_some()
 }
 
-// Keeps the watch, if it is not kept.
+/// Keeps the watch, if it is not kept.
 pub fn keep(kept: &mut Vec<(Ref, Pid)>, monitor: Ref, watcher: Pid) -> Result<(), AllocError>
     ensures { OnOk result (kept.new.items ≡ keep monitor watcher kept.old.items) }
 {
@@ -138,21 +138,21 @@ pub fn keep(kept: &mut Vec<(Ref, Pid)>, monitor: Ref, watcher: Pid) -> Result<()
     Ok(())
 }
 
-// Keeps the watch no more.
+/// Keeps the watch no more.
 pub fn forget(kept: &mut Vec<(Ref, Pid)>, monitor: Ref, watcher: Pid)
     ensures { kept.new.items ≡ without_first (same_watch monitor watcher) kept.old.items }
 {
     take_out(kept, &Watch(monitor, watcher));
 }
 
-// The first item that the pick fits.
+/// The first item that the pick fits.
 pub fn first_match(waiting: &[Item], pick: Pick) -> Option<Item>
     ensures { result ≡ find (fits pick) waiting.now }
 {
     find(waiting, &pick)
 }
 
-// Takes out the first item that the pick fits.
+/// Takes out the first item that the pick fits.
 pub fn take(waiting: &mut Vec<Item>, pick: Pick)
     ensures { waiting.new.items ≡ without_first (fits pick) waiting.old.items }
 {

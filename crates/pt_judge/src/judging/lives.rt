@@ -1,4 +1,4 @@
-// The lives of all processes.
+//! The lives of all processes.
 
 ghost use Rattle.std.specs.Prelude.{◌≡◌, map, is_some, IfOk, OnOk};
 ghost use Rattle.std.specs.Option.{option_map};
@@ -14,7 +14,7 @@ use pt_signal::{LinkId, Pid, Reason};
 use std::alloc::{AllocError, Global};
 use std::marker::Model;
 
-// One process, from its birth on.
+/// One process, from its birth on.
 #[derive(Drop)]
 pub struct Life {
     pid: Pid,
@@ -41,7 +41,7 @@ impl Test<Life> for Pid {
     }
 }
 
-// Whether the event is one of the process's own.
+/// Whether the event is one of the process's own.
 fn touches(pid: Pid, event: Event) -> bool
     ensures { result ≡ touches pid event }
 {
@@ -112,7 +112,7 @@ impl Life {
     }
 }
 
-// Shows the event to every process.
+/// Shows the event to every process.
 fn show_all(lives: &mut Vec<Life>, event: Event) -> Result<(), AllocError>
     ensures { OnOk result (lives.new.items ≡ map (shown event) lives.old.items) }
 {
@@ -122,7 +122,7 @@ fn show_all(lives: &mut Vec<Life>, event: Event) -> Result<(), AllocError>
     Ok(())
 }
 
-// The event happens.
+/// The event happens.
 pub fn observe(alloc: Global, lives: &mut Vec<Life>, event: Event) -> Result<(), AllocError>
     requires { MayBeBorn lives.old.items event }
     ensures { OnOk result (IsObserved lives.old.items lives.new.items event) }
@@ -134,14 +134,14 @@ pub fn observe(alloc: Global, lives: &mut Vec<Life>, event: Event) -> Result<(),
     Ok(())
 }
 
-// The life of the pid, if it was born.
+/// The life of the pid, if it was born.
 fn found(lives: &[Life], pid: Pid) -> Option<&Life>
     ensures { option_map (λ life. life.now.1) result ≡ lookup (same_pid pid) lives.now }
 {
     first(lives, &pid)
 }
 
-// Whether the process was born.
+/// Whether the process was born.
 pub fn is_known(lives: &[Life], pid: Pid) -> bool
     ensures { result ≡ is_some (lookup (same_pid pid) lives.now) }
 {
@@ -166,7 +166,7 @@ pub fn reason(lives: &[Life], pid: Pid) -> Option<Reason>
     }
 }
 
-// What the process holds, or held just after its end.
+/// What the process holds, or held just after its end.
 pub fn holdings(lives: &[Life], pid: Pid) -> Option<&Holdings>
     ensures { option_map (λ held. held.now) result ≡ option_map state_of (lookup (same_pid pid) lives.now) }
 {
@@ -176,7 +176,7 @@ pub fn holdings(lives: &[Life], pid: Pid) -> Option<&Holdings>
     }
 }
 
-// Whether the receiver of what came, or who leaves, lives.
+/// Whether the receiver of what came, or who leaves, lives.
 pub fn lived(lives: &[Life], event: Event) -> bool
     ensures { result ≡ lived lives.now event }
 {

@@ -1,4 +1,4 @@
-// When two values are the same.
+//! When two values are the same.
 
 ghost use Rattle.std.specs.Prelude.{◌≡◌};
 ghost use Rattle.pt_judge.specs.Same.{same_reason, same_body, same_item, same_ids, same_signal};

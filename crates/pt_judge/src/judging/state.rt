@@ -1,4 +1,4 @@
-// What a legal history leads to.
+//! What a legal history leads to.
 
 ghost use Rattle.std.specs.Prelude.{◌≡◌, ◌∷◌, [], Some, None, cond, reverse, length, is_some, IfOk};
 ghost use Rattle.std.specs.Option.{option_map};
@@ -85,7 +85,7 @@ fn made_ref(events: &[Event], monitor: Ref) -> bool
 }
 
 impl State {
-    // The state before any event.
+    /// The state before any event.
     pub(super) fn new(alloc: Global) -> State
         ensures { result ≡ record { past = []; lives = []; flights = [] } }
     {
@@ -334,7 +334,7 @@ impl State {
         None
     }
 
-    // Why the event may not come next, if it may not; memory aside.
+    /// Why the event may not come next, if it may not; memory aside.
     pub(super) fn cause(&self, event: Event) -> Option<Cause>
         ensures { result ≡ cause (known self.now) event }
     {
@@ -348,7 +348,7 @@ impl State {
         }
     }
 
-    // The state after an event that no cause refuses.
+    /// The state after an event that no cause refuses.
     pub(super) fn after(self, alloc: Global, event: Event) -> Result<State, AllocError>
         requires { cause (known self) event ≡ None }
         ensures { IfOk result (λ state. IsStep self event state) }

@@ -1,4 +1,4 @@
-// The judge.
+//! The judge.
 
 ghost use Rattle.std.specs.Prelude.{[]};
 ghost use Rattle.pt_events.specs.History.{Start, Past};
@@ -9,7 +9,7 @@ use crate::judging::state::State;
 use pt_events::Event;
 use std::alloc::Global;
 
-// The state after the event, or the lowest cause for which it may not come.
+/// The state after the event, or the lowest cause for which it may not come.
 fn judge(alloc: Global, state: State, event: Event) -> Result<State, Cause>
     ensures { (start : Start) (past : Past) → IsAfter start past state → Judges start past event result }
 {
