@@ -11,7 +11,7 @@ pub returns-then-is_empty-clause-state : goal.returns-then-is_empty-clause-state
 returns-then-is_empty-clause-state c =
     let p = c.in-Process.process.value in
     let owed : (r : Reason) → 0 ≡ length (estate p.me p.state r)
-    = λ r. sym c.if-owed_len-eq0.true ∙ c.owed_len.ensures r ∙ ap (λ (x : Resident). length (estate x.me x.state r)) c.deref.ensures in
+    = λ r. sym c.if-owed_len-eq0.true ∙ c.owed_len.ensures.signals r ∙ ap (λ (x : Resident). length (estate x.me x.state r)) c.deref.ensures in
     let none : length p.state.waiting ≡ 0
     = ap (λ (x : Resident). length x.state.waiting) (sym c.deref-then-owed_len-eq0.ensures) ∙ ap length (sym c.waiting.ensures) ∙ eqb-true _ 0 (sym c.is_empty.ensures ∙ c.if-is_empty.true) in
     let traps : c.traps-traps.result ≡ p.state.traps = c.traps-traps.ensures ∙ ap (λ (x : Resident). x.state.traps) c.deref-then-is_empty-2.ensures in
