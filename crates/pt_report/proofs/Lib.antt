@@ -1,0 +1,4 @@
+mod Accounts
+mod Faults
+mod Settings
+mod Writing

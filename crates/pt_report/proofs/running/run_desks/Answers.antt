@@ -1,0 +1,22 @@
+use Rattle.std.proofs.Common.{sym, subst}
+use Rattle.pt_node.specs.Desks.{AreDesks, AreDesksOf}
+use Rattle.pt_runner.specs.Starting.{config_of}
+use Rattle.pt_report.proofs.Settings.{same_settings}
+use Rattle.pt_report.proofs.running.run_desks.Goals as goal
+
+pub gather-requires : goal.gather-requires
+gather-requires g c =
+    let config = config_of c.args.script.now.settings in
+    subst AreDesks (sym c.part.ensures) (c.run_pairs-ran.ensures.desks (config, subst (AreDesksOf config) (sym c.pair.ensures.pairs) c.requires.node))
+
+pub returns-in-Ok-gather-clause-node : goal.returns-in-Ok-gather-clause-node
+returns-in-Ok-gather-clause-node g c =
+    let config = config_of c.args.script.now.settings in
+    let later = c.in-Ok-gather.gathered.config in
+    let gathers = c.in-Ok-gather.ensures.gathers in
+    record {
+      config = same_settings config later c.pair.new.pairs.items c.run_pairs-ran.result.desks.items
+          (subst (AreDesksOf config) (sym c.pair.ensures.pairs) c.requires.node) (subst (AreDesksOf later) c.part.ensures gathers.node) c.run_pairs-ran.ensures.each;
+      desks = c.part.new.desks.items;
+      gathers = gathers;
+    }

@@ -1,0 +1,35 @@
+-- What a fault is told as, and the status that the program ends with.
+use Rattle.std.specs.Prelude.{ℕ, ⊤}
+use Rattle.pt_script.specs.declared.fault.ScriptError.TheVariants.{Refused}
+use Rattle.pt_shard.specs.declared.fault.Fault.{Fault}
+use Rattle.pt_shard.specs.declared.fault.Fault.TheVariants.{Memory as DeskMemory, Worn as DeskWorn}
+use Rattle.pt_shard.specs.declared.stop.Stop.{Stop}
+use Rattle.pt_shard.specs.declared.stop.Stop.TheVariants.{Memory as StopMemory, Worn as StopWorn}
+use Rattle.pt_report.specs.declared.fault.ReportFault.{ReportFault}
+use Rattle.pt_report.specs.declared.fault.ReportFault.TheVariants.{Script, Memory, Desk}
+
+-- 1 where the bytes are no script, else 3
+abbrev pub status_of : ReportFault → ℕ
+status_of (Script (Refused fault place)) = 1
+status_of _ = 3
+
+-- what a desk's refusal is told as
+abbrev pub told : Fault → ReportFault
+told DeskMemory = Memory
+told fault = Desk fault
+
+-- what is told where settling stops
+abbrev pub stopped : Stop → ReportFault
+stopped StopMemory = Memory
+stopped StopWorn = Desk DeskWorn
+
+-- a fault of memory or of a desk
+abbrev pub IsOfNode : ReportFault → Type 0
+IsOfNode Memory = ⊤
+IsOfNode (Desk fault) = ⊤
+IsOfNode _ = ⊥
+
+-- any fault but that of a script
+abbrev pub IsNoScript : ReportFault → Type 0
+IsNoScript (Script error) = ⊥
+IsNoScript _ = ⊤

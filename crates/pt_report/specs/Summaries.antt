@@ -1,0 +1,44 @@
+-- What a summary prints.
+use Rattle.std.specs.Prelude.{◌≡◌, ℕ, ◌-◌, ◌^◌, ◌++◌, min, List, [], length, Option, Some, None, codes}
+use Rattle.std.specs.List.{flat_map}
+use Rattle.std.specs.Io.KnownBytes.{Appends}
+use Rattle.pt_signal.specs.declared.pid.Pid.{Pid}
+use Rattle.pt_events.specs.History.{Past}
+use Rattle.pt_lives.specs.declared.account.Account.{Account}
+use Rattle.pt_lives.specs.LivesState.{AreAllPids, InEveryMerge, account_in}
+use Rattle.pt_gathered.specs.Gathered.{GatheredState, journals}
+use Rattle.pt_gathered.specs.LeftOvers.{all_left}
+use Rattle.pt_gathered.specs.Quiet.{QuietState}
+use Rattle.pt_gathered.specs.Settling.{event_count, Settles, NothingLeft}
+use Rattle.pt_report.specs.declared.totals.Totals.{Totals}
+use Rattle.pt_report.specs.Lines.{account_text, totals_text}
+
+-- a number of 64 bits, which stays at the greatest
+abbrev pub capped : ℕ → ℕ
+capped n = min n (2 ^ 64 - 1)
+
+-- the line of a process, if it was born
+abbrev pub account_line : Pid → Option Account → List ℕ
+account_line p None = []
+account_line p (Some a) = account_text p a ++ codes "\n"
+
+-- the lines of these processes, with what the history says of each
+abbrev pub account_lines : Past → List Pid → List ℕ
+account_lines past pids = flat_map (λ p. account_line p (account_in past p)) pids
+
+-- a line a process that was ever born, by shard, slot and version, whichever merge of the journals is read, and then more
+abbrev pub AppendsAccounts : List ℕ → QuietState → Option (List ℕ) → Option (List ℕ) → Type 0
+AppendsAccounts more q old new =
+    (pids : List Pid) × InEveryMerge (journals q.gathered) (λ past. AreAllPids past pids × Appends old new (account_lines past pids ++ more))
+
+-- the totals of a gathered node, and of the same one settled
+pub record Totalled (g : GatheredState) (q : QuietState) (t : Totals) : Type 0 where
+  pub settles : Settles g q.gathered
+  pub quiet : NothingLeft q.gathered
+  pub events : t.events ≡ capped (event_count g)
+  pub left_over : t.left_over ≡ length (all_left g)
+  pub came : t.settled ≡ capped (event_count q.gathered - event_count g)
+
+-- the node is settled; a line a process is written, and then the totals
+abbrev pub Summarizes : GatheredState → Option (List ℕ) → Option (List ℕ) → Type 0
+Summarizes g old new = (q : QuietState) × (t : Totals) × Totalled g q t × AppendsAccounts (totals_text t ++ codes "\n") q old new

@@ -1,0 +1,79 @@
+// The lines of a summary.
+
+use pt_gathered::Account;
+use pt_signal::{Pid, Reason};
+use std::fmt;
+
+/// What became of a process.
+#[derive(Clone, Copy)]
+pub struct ProcessLine {
+    pub pid: Pid,
+    pub account: Account,
+}
+
+/// The last line of a summary.
+#[derive(Clone, Copy)]
+pub struct Totals {
+    /// How many events the gathered journals have.
+    pub events: u64,
+    /// How many letters were left over.
+    pub left_over: u64,
+    /// How many letters settling brought to their receivers.
+    pub settled: u64,
+}
+
+// Whether a process is alive, or the reason it ended with.
+#[derive(Clone, Copy)]
+struct Fate(Option<Reason>);
+
+impl fmt::Display for Fate {
+    ghost use Rattle.std.specs.Prelude.{Some};
+    ghost use Rattle.pt_report.specs.Lines.{fate_text};
+
+    ghost output = { λ f. Some (fate_text f.0) };
+
+    fn fmt<W: fmt::Write>(&self, f: &mut fmt::Formatter<W>) -> fmt::Result {
+        match self.0 {
+            Some(reason) => write!(f, "ended {reason}"),
+            None => f.write_str("alive"),
+        }
+    }
+}
+
+impl fmt::Display for ProcessLine {
+    ghost use Rattle.std.specs.Prelude.{Some};
+    ghost use Rattle.pt_report.specs.Lines.{account_text};
+
+    ghost output = { λ l. Some (account_text l.pid l.account) };
+
+    fn fmt<W: fmt::Write>(&self, f: &mut fmt::Formatter<W>) -> fmt::Result {
+        let ProcessLine { pid, account } = *self;
+        let Account {
+            ended,
+            arrived,
+            taken,
+            waiting,
+        } = account;
+        let fate = Fate(ended);
+        write!(
+            f,
+            "{pid} {fate} arrived {arrived} taken {taken} waiting {waiting}"
+        )
+    }
+}
+
+impl fmt::Display for Totals {
+    ghost use Rattle.std.specs.Prelude.{Some};
+    ghost use Rattle.pt_report.specs.Lines.{totals_text};
+
+    ghost output = { λ t. Some (totals_text t) };
+
+    fn fmt<W: fmt::Write>(&self, f: &mut fmt::Formatter<W>) -> fmt::Result {
+        let Totals {
+            events,
+            left_over,
+            settled,
+        } = *self;
+        write!(f, "events {events} left-over {left_over} settled {settled}")
+    }
+}
