@@ -7,13 +7,15 @@ use pt_desk::Desk;
 
 /// Gives each desk the work at its place, in order, as [`run`](crate::run) takes them.
 ///
-/// It takes no memory: the list of pairs is empty and has room for all of them. The other two lists are empty then.
+/// It takes no memory: the list of pairs is empty and has room for all of them. The other two lists are empty then, and
+/// keep their room for what [`release`] gives back.
 pub fn assign<W>(desks: &mut Vec<Desk>, works: &mut Vec<W>, pairs: &mut Vec<(Desk, W)>)
     requires as_many { vec_len works.old ≡ vec_len desks.old }
     requires room { (pairs.old.items ≡ []) × (vec_len desks.old ≤ vec_capacity pairs.old) }
     ensures desks { map (λ p. p.0) pairs.new.items ≡ desks.old.items }
     ensures works { map (λ p. p.1) pairs.new.items ≡ works.old.items }
     ensures empty { (desks.new.items ≡ []) × (works.new.items ≡ []) }
+    ensures kept { (vec_capacity desks.new ≡ vec_capacity desks.old) × (vec_capacity works.new ≡ vec_capacity works.old) }
 {
     while desks.len() > 0 {
         pairs.push_reserved((desks.remove(0), works.remove(0)));

@@ -8,6 +8,7 @@ invariant-loop-pairs g l = record {
   works : map (λ p. p.1) l.pairs.items ++ l.works.items ≡ l.fn.works.items;
   as_many : vec_len l.works ≡ vec_len l.desks;
   room : vec_len l.pairs + vec_len l.desks ≤ vec_capacity l.pairs;
+  kept : (vec_capacity l.desks ≡ vec_capacity l.fn.desks) × (vec_capacity l.works ≡ vec_capacity l.fn.works);
 }
 
 abbrev pub decreases-loop-pairs : goal.decreases-loop-pairs
