@@ -1,18 +1,28 @@
 -- What a process does with the ledger makes the desk what its event makes of it.
-use Rattle.std.proofs.Common.{◌≡◌, ℕ, ◌+◌, ◌^◌, ◌<◌, ◌≤◌, max, length, map, Option, Some, None, refl, sym, ap, ◌∙◌, subst, arith}
-use Rattle.std.specs.Prelude.{IsSome, Result, Ok, Err, ⊤}
+use Rattle.std.proofs.Common.{◌≡◌, ℕ, ◌+◌, ◌^◌, ◌<◌, ◌≤◌, ◌||◌, max, Bool, true, false, cond, [], length, map, Option, Some, None, is_some, refl, sym, ap, ◌∙◌, subst, arith}
+use Rattle.std.specs.Prelude.{IfSome, IsSome, Result, Ok, Err, ⊤}
 use Rattle.std.specs.List.{find}
+use Rattle.std.specs.Bool.{then_some}
+use Rattle.std.specs.Map.{lookup}
 use Rattle.std.specs.Option.{option_map}
 use Rattle.pt_signal.specs.declared.pid.Pid.{Pid}
 use Rattle.pt_signal.specs.declared.item.Item.{Item}
 use Rattle.pt_signal.specs.declared.item.Pick.{Pick}
 use Rattle.pt_signal.specs.declared.letter.Letter.{Letter}
-use Rattle.pt_signal.specs.Values.{fits}
-use Rattle.pt_signal.specs.Process.{handle}
+use Rattle.pt_signal.specs.declared.ids.Ids.{Ids}
+use Rattle.pt_signal.specs.declared.ids.LinkId.{LinkId}
+use Rattle.pt_signal.specs.declared.ids.Ref.{Ref}
+use Rattle.pt_signal.specs.declared.signal.Signal.TheVariants.{Link, Unlink, Monitor, Demonitor}
+use Rattle.pt_signal.specs.Values.{fits, same_pid, same_ref}
+use Rattle.pt_signal.specs.Process.{held, handle, fresh}
 use Rattle.pt_events.specs.declared.event.Event.{Event}
-use Rattle.pt_events.specs.declared.event.Event.TheVariants.{Took}
+use Rattle.pt_events.specs.declared.event.Event.TheVariants.{Born, Said, Took, Flag}
+use Rattle.pt_events.specs.History.{state_of, linked as linked_to}
 use Rattle.pt_signal.specs.declared.reason.Reason.{Reason}
 use Rattle.pt_events.specs.Journal.{letter}
+use Rattle.pt_slots.specs.declared.Key.{Key}
+use Rattle.pt_slots.specs.State.{next_key}
+use Rattle.pt_slots.specs.Calls.{Inserted}
 use Rattle.pt_process.specs.Resident.{Resident, Owing}
 use Rattle.pt_process.specs.Peers.{peers}
 use Rattle.pt_shard.specs.Sound.{Every}
@@ -22,19 +32,19 @@ use Rattle.pt_shard.specs.declared.fault.Fault.TheVariants as fault
 use Rattle.pt_shard.specs.declared.stop.Stop.{Stop}
 use Rattle.pt_shard.specs.declared.stop.Stop.TheVariants.{Memory, Worn}
 use Rattle.std.specs.Result.{IsErr, IsErrAnd}
-use Rattle.pt_shard.specs.ShardState.{Handles, came}
-use Rattle.pt_shard.specs.Calls.{Calls, take_event, first_match}
+use Rattle.pt_shard.specs.ShardState.{ShardState, Handles, came, state_in}
+use Rattle.pt_shard.specs.Known.{knows}
+use Rattle.pt_shard.specs.Calls.{Calls, BearsChild, new_link, new_ref, link_event, unlink_event, take_event, first_match, demonitor_event, demonitor_at, if_asked}
 use Rattle.pt_shard.specs.Extends.{Extends}
 use Rattle.pt_shard.specs.Fit.{IsFit}
 use Rattle.pt_shard.specs.LedgerState.{Book, LedgerState, wrote}
-use Rattle.pt_shard.specs.Residents.{ResidentsState, living_at, with_process, in_place, Changes, Ends, IsSameTable}
+use Rattle.pt_shard.specs.Residents.{ResidentsState, living_at, with_process, in_place, pid_at, vacant_at, Changes, Ends, IsSameTable, HasRoomFor}
 use Rattle.pt_shard.specs.Whole.{Parts, parts_of, shard_of, IsWhole}
-use Rattle.pt_shard.specs.Acts.{Acts, IsStill, IsStopped, TakesIn, done, posted}
-use Rattle.pt_shard.proofs.Acting.{Outcome, Found, alive, lives_here, is_there, took_item, peers_near}
-use Rattle.pt_shard.proofs.Outcomes.{take_event_is, first_match_is}
-use Rattle.pt_shard.proofs.Bearing.{Unchanged, unchanged}
+use Rattle.pt_shard.specs.Acts.{Acts, IsStill, PreparesBirth, IsStopped, TakesIn, done, posted, link_after, ref_after, taking, linking, unlinking, giving_up, giving_up_at}
+use Rattle.pt_shard.proofs.Acting.{Outcome, Found, own_book, alive, lives_here, is_there, said_to, said_known, set_flag, took_item, link_now, link_new, ref_now, ref_new, not_open_yet, open_target, peers_near}
+use Rattle.pt_shard.proofs.Bearing.{Unchanged, unchanged, BirthOutcome, adopts, child_outcome, room_stays, parent_is_there}
 use Rattle.pt_shard.proofs.Receiving.{receipt_stamp, receipt_book, taken_in, living_back_is}
-use Rattle.pt_shard.proofs.Lent.{there, given_back, unharmed, ends_after}
+use Rattle.pt_shard.proofs.Lent.{there, given_back, unharmed, roomy, ends_after}
 
 -- a call of the process p, and what it left
 pub record Acted (A : Type 0) (a b : Parts) (p : Pid) (event : Option Event) (answer : A) (result : Result A Fault) : Type 0 where
@@ -42,6 +52,11 @@ pub record Acted (A : Type 0) (a b : Parts) (p : Pid) (event : Option Event) (an
   pub fit : IsFit (shard_of b)
   pub extends : Extends (shard_of a) (shard_of b)
   pub does : Calls p event answer (shard_of a) result (shard_of b)
+
+-- what is given up, as a desk tells it
+giving_up_is : (d : ShardState) (p : Pid) (m : Ref) (flush : Bool) (o : Option Pid) → demonitor_at o d p m flush ≡ giving_up_at o p m flush (state_in d p)
+giving_up_is d p m flush None = refl
+giving_up_is d p m flush (Some t) = refl
 
 module _ (a : Parts) (whole : IsWhole a) (p : Pid) (was : Resident) (found : Some was ≡ living_at a.house.desk a.house.table p) where
   abbrev pub acting : Found a p
@@ -86,23 +101,120 @@ module _ (a : Parts) (whole : IsWhole a) (p : Pid) (was : Resident) (found : Som
     acted (Some e) law (Err fault.Full) h = absurd h
     acted (Some e) law (Err fault.Myself) h = absurd h
 
-  -- a receive
-  taking_law : (k : Pick) → IsLaw (option_map (Took p k) (find (fits k) was.state.waiting))
+  -- what its events make of the desk ------------------------------------------------------------
+
+  flagging_law : (on : Bool) → IsLaw (Some (Flag p on))
+  flagging_law on = λ can book house desk is changes. set_flag a whole p acting can book house desk on is changes
+
+  taking_law : (k : Pick) → IsLaw (taking p k was.state)
   taking_law k = go (find (fits k) was.state.waiting) refl
     where
       go : (o : Option Item) → find (fits k) was.state.waiting ≡ o → IsLaw (option_map (Took p k) o)
       go None h = tt
       go (Some i) h = λ can book house desk is changes. took_item a whole p acting can book house desk k i h is changes
 
-  module _ (k : Pick) (ledger : LedgerState) (is : ledger.book ≡ a.book) (now : Resident) (ledger' : LedgerState) (r : Result (Option Item) Fault)
-      (h : Acts (option_map (Took p k) (find (fits k) was.state.waiting)) (find (fits k) was.state.waiting) was ledger r now ledger') where
-    pub received : Acted (Option Item) a (left_with ledger'.book now) p (take_event (shard_of a) p k) (first_match (shard_of a) p k) r
-    received =
-        let one = acted (find (fits k) was.state.waiting) ledger is now ledger' (option_map (Took p k) (find (fits k) was.state.waiting)) (taking_law k) r h in
-        let event = take_event_is (shard_of a) p was.state (lives_here a whole p acting) k (find (fits k) was.state.waiting) refl in
-        let answer = first_match_is (shard_of a) p was.state (lives_here a whole p acting) k in
-        subst (λ e. Acted (Option Item) a (left_with ledger'.book now) p e (first_match (shard_of a) p k) r) (sym event)
-        (subst (λ x. Acted (Option Item) a (left_with ledger'.book now) p (option_map (Took p k) (find (fits k) was.state.waiting)) x r) (sym answer) one)
+  linking_law : (to : Pid) → knows (shard_of a) to ≡ true → IsLaw (linking p to a.book was.state)
+  linking_law to known = go (same_pid p to) refl (held was.state.links to) refl
+    where
+      now : link_after a.book ≡ new_link (shard_of a)
+      now = link_now a whole a.book refl (link_after a.book) refl
+
+      go : (b : Bool) → same_pid p to ≡ b → (o : Option Ids) → held was.state.links to ≡ o → IsLaw (cond (b || is_some o) None (Some (Said p to (Link (link_after a.book)))))
+      go true e o h = tt
+      go false e (Some ids) h = tt
+      go false e None h = λ can book house desk is changes.
+          said_known a whole p acting can book house desk to (Link (link_after a.book)) known (link_new a whole (link_after a.book) now, h, e)
+          (ap (λ (j : LinkId). j.desk) now, ap (λ (j : LinkId). j.number) now) is changes
+
+  unlinking_law : (to : Pid) → knows (shard_of a) to ≡ true → IsLaw (unlinking p to was.state)
+  unlinking_law to known = go (held was.state.links to) refl
+    where
+      go : (o : Option Ids) → held was.state.links to ≡ o → IsLaw (option_map (λ ids. Said p to (Unlink ids)) o)
+      go None h = tt
+      go (Some ids) h = λ can book house desk is changes. said_known a whole p acting can book house desk to (Unlink ids) known h tt is changes
+
+  watching_law : (t : Pid) → knows (shard_of a) t ≡ true → same_pid p t ≡ false → IsLaw (Some (Said p t (Monitor (ref_after a.book))))
+  watching_law t known other =
+      let now : ref_after a.book ≡ new_ref (shard_of a) = ref_now a whole a.book refl (ref_after a.book) refl in
+      λ can book house desk is changes.
+      said_known a whole p acting can book house desk t (Monitor (ref_after a.book)) known (ref_new a whole (ref_after a.book) now, other)
+      (ap (λ (j : Ref). j.desk) now, ap (λ (j : Ref). j.number) now) is changes
+
+  giving_up_law : (m : Ref) (flush : Bool) → IsLaw (giving_up p m flush was.state)
+  giving_up_law m flush = go (lookup (same_ref m) was.state.watching) refl
+    where
+      asked : (b : Bool) → IsLaw (if_asked b (taking p (Pick.DownOf m) was.state))
+      asked true = taking_law (Pick.DownOf m)
+      asked false = tt
+
+      go : (o : Option Pid) → lookup (same_ref m) was.state.watching ≡ o → IsLaw (giving_up_at o p m flush was.state)
+      go None h = asked flush
+      go (Some t) h =
+          let target = open_target a whole p acting m t (sym h) in
+          λ can book house desk is changes. said_to a whole p acting can book house desk t (Demonitor m) target.1 target.0 h tt is changes
+
+  -- what is asked of those that say it ----------------------------------------------------------------
+
+  pub near_open : (m : Ref) → IfSome (lookup (same_ref m) was.state.watching) (λ t. t.shard < length a.book.outbox)
+  near_open m = go (lookup (same_ref m) was.state.watching) refl
+    where
+      go : (o : Option Pid) → lookup (same_ref m) was.state.watching ≡ o → IfSome o (λ t. t.shard < length a.book.outbox)
+      go None h = tt
+      go (Some t) h = subst (λ n. t.shard < n) (sym whole.sound.fit.boxes) (open_target a whole p acting m t (sym h)).0
+
+  pub not_watching : lookup (same_ref (ref_after a.book)) was.state.watching ≡ None
+  not_watching = not_open_yet a whole p acting (ref_after a.book) (ref_now a whole a.book refl (ref_after a.book) refl)
+
+  -- the calls -----------------------------------------------------------------------------------------
+
+  module _ (ledger : LedgerState) (is : ledger.book ≡ a.book) (now : Resident) (ledger' : LedgerState) where
+    -- as the call tells it
+    called : {A : Type 0} (event event' : Option Event) (answer answer' : A) (r : Result A Fault) → event' ≡ event → answer' ≡ answer → IsLaw event
+        → Acts event answer was ledger r now ledger' → Acted A a (left_with ledger'.book now) p event' answer' r
+    called event event' answer answer' r e x law h =
+        subst (λ o. Acted _ a (left_with ledger'.book now) p o answer' r) (sym e)
+        (subst (λ y. Acted _ a (left_with ledger'.book now) p event y r) (sym x) (acted answer ledger is now ledger' event law r h))
+
+    pub flagged : (on : Bool) (r : Result Bool Fault) → Acts (Some (Flag p on)) was.state.traps was ledger r now ledger'
+        → Acted Bool a (left_with ledger'.book now) p (Some (Flag p on)) (state_in (shard_of a) p).traps r
+    flagged on r h =
+        called (Some (Flag p on)) (Some (Flag p on)) was.state.traps (state_in (shard_of a) p).traps r refl (ap (λ f. (state_of f).traps) (lives_here a whole p acting)) (flagging_law on) h
+
+    pub received : (k : Pick) (r : Result (Option Item) Fault) → Acts (taking p k was.state) (find (fits k) was.state.waiting) was ledger r now ledger'
+        → Acted (Option Item) a (left_with ledger'.book now) p (take_event (shard_of a) p k) (first_match (shard_of a) p k) r
+    received k r h =
+        called (taking p k was.state) (take_event (shard_of a) p k) (find (fits k) was.state.waiting) (first_match (shard_of a) p k) r
+        (ap (λ f. taking p k (state_of f)) (lives_here a whole p acting)) (ap (λ f. find (fits k) (state_of f).waiting) (lives_here a whole p acting)) (taking_law k) h
+
+    pub linked : (to : Pid) → knows (shard_of a) to ≡ true → (r : Result (Unit {0}) Fault) → Acts (linking p to ledger.book was.state) (tt {0}) was ledger r now ledger'
+        → Acted (Unit {0}) a (left_with ledger'.book now) p (link_event (shard_of a) p to) (tt {0}) r
+    linked to known r h =
+        called (linking p to a.book was.state) (link_event (shard_of a) p to) (tt {0}) (tt {0}) r
+        (ap (λ f. cond (same_pid p to || is_some (held (state_of f).links to)) None (Some (Said p to (Link (new_link (shard_of a)))))) (lives_here a whole p acting)
+        ∙ ap (λ j. cond (same_pid p to || is_some (held was.state.links to)) None (Some (Said p to (Link j)))) (sym (link_now a whole a.book refl (link_after a.book) refl)))
+        refl (linking_law to known) (subst (λ b. Acts (linking p to b was.state) (tt {0}) was ledger r now ledger') is h)
+
+    pub unlinked : (to : Pid) → knows (shard_of a) to ≡ true → (r : Result (Unit {0}) Fault) → Acts (unlinking p to was.state) (tt {0}) was ledger r now ledger'
+        → Acted (Unit {0}) a (left_with ledger'.book now) p (unlink_event (shard_of a) p to) (tt {0}) r
+    unlinked to known r h =
+        called (unlinking p to was.state) (unlink_event (shard_of a) p to) (tt {0}) (tt {0}) r (ap (λ f. unlinking p to (state_of f)) (lives_here a whole p acting)) refl (unlinking_law to known) h
+
+    pub watched : (t : Pid) → knows (shard_of a) t ≡ true → same_pid p t ≡ false → (r : Result Ref Fault)
+        → Acts (Some (Said p t (Monitor (ref_after ledger.book)))) (ref_after ledger.book) was ledger r now ledger'
+        → Acted Ref a (left_with ledger'.book now) p (Some (Said p t (Monitor (new_ref (shard_of a))))) (new_ref (shard_of a)) r
+    watched t known other r h =
+        let id : new_ref (shard_of a) ≡ ref_after a.book = sym (ref_now a whole a.book refl (ref_after a.book) refl) in
+        called (Some (Said p t (Monitor (ref_after a.book)))) (Some (Said p t (Monitor (new_ref (shard_of a))))) (ref_after a.book) (new_ref (shard_of a)) r
+        (ap (λ j. Some (Said p t (Monitor j))) id) id (watching_law t known other)
+        (subst (λ b. Acts (Some (Said p t (Monitor (ref_after b)))) (ref_after b) was ledger r now ledger') is h)
+
+    pub gave_up : (m : Ref) (flush : Bool) (r : Result Bool Fault) → Acts (giving_up p m flush was.state) (is_some (giving_up p m flush was.state)) was ledger r now ledger'
+        → Acted Bool a (left_with ledger'.book now) p (demonitor_event (shard_of a) p m flush) (is_some (demonitor_event (shard_of a) p m flush)) r
+    gave_up m flush r h =
+        let event : demonitor_event (shard_of a) p m flush ≡ giving_up p m flush was.state
+        = giving_up_is (shard_of a) p m flush (lookup (same_ref m) (state_in (shard_of a) p).watching) ∙ ap (λ f. giving_up p m flush (state_of f)) (lives_here a whole p acting) in
+        called (giving_up p m flush was.state) (demonitor_event (shard_of a) p m flush) (is_some (giving_up p m flush was.state)) (is_some (demonitor_event (shard_of a) p m flush)) r
+        event (ap is_some event) (giving_up_law m flush) h
 
 -- a letter to a live process
 module _ (a : Parts) (whole : IsWhole a) (l : Letter) (was : Resident) (found : Some was ≡ living_at a.house.desk a.house.table l.to)
@@ -158,3 +270,70 @@ module _ (a : Parts) (whole : IsWhole a) (p : Pid) (was : Resident) (found : Som
     -- and then taken out
     pub ends_too : (r : Reason) (owing : Owing) (last : ResidentsState) → Ends p r owing (with_process a.house p now).table last.table → Ends p r owing a.house.table last.table
     ends_too r owing last ends = ends_after p r owing a.house.table (with_process a.house p now).table last.table same_after ends
+
+-- the key of the pid that is vacant
+vacant_key : (desk : ℕ) (o : Option Key) → IsSome (option_map (pid_at desk) o) → IsSome o
+vacant_key desk None free = free
+vacant_key desk (Some key) free = refl
+
+-- a parent, before the birth
+module _ (a : Parts) (whole : IsWhole a) (par : Pid) (was : Resident) (found : Some was ≡ living_at a.house.desk a.house.table par)
+    (asked : Bool) (ledger : LedgerState) (is : ledger.book ≡ a.book) (now : Resident) (ledger' : LedgerState) where
+  abbrev before : Parts
+  before = parts_of a.config ledger'.book (with_process a.house par now)
+
+  -- there was no room
+  pub no_room : (f : Fault) → PreparesBirth asked was ledger (Err f) now ledger' → Unchanged a before
+  no_room fault.Worn h = kept_still a whole par was found ledger'.book now h.1.0 h.1.1 (h.1.2 ∙ is)
+  no_room fault.Memory h = kept_still a whole par was found ledger'.book now h.1.0 h.1.1 (h.1.2 ∙ is)
+  no_room fault.Gone h = absurd h
+  no_room fault.Full h = absurd h
+  no_room fault.Myself h = absurd h
+
+  pub bears_none : IsSome (vacant_at a.house.desk a.house.table) → (f : Fault) → PreparesBirth asked was ledger (Err f) now ledger'
+      → (r : Result Pid Fault) → IsErr r × IsErrAnd r (λ g. g ≡ f) → BearsChild par asked (shard_of a) r (shard_of before)
+  bears_none free fault.Worn h (Ok q) err = absurd (cc)
+  bears_none free fault.Memory h (Ok q) err = absurd (cc)
+  bears_none free fault.Gone h (Ok q) err = absurd h
+  bears_none free fault.Full h (Ok q) err = absurd h
+  bears_none free fault.Myself h (Ok q) err = absurd h
+  bears_none free fault.Worn h (Err f) err =
+      subst (λ x. BearsChild par asked (shard_of a) (Err x) (shard_of before)) (sym err.1)
+      (alive a whole par (acting a whole par was found), subst (λ (b : Book). 2 ^ 62 ≤ b.clock) is h.0, (no_room fault.Worn h).is)
+  bears_none free fault.Memory h (Err f) err =
+      subst (λ x. BearsChild par asked (shard_of a) (Err x) (shard_of before)) (sym err.1)
+      (alive a whole par (acting a whole par was found), subst (λ (b : Book). b.clock < 2 ^ 62) is h.0, free, (no_room fault.Memory h).is)
+  bears_none free fault.Gone h (Err f) err = absurd h
+  bears_none free fault.Full h (Err f) err = absurd h
+  bears_none free fault.Myself h (Err f) err = absurd h
+
+  module _ (link : Option LinkId) (h : PreparesBirth asked was ledger (Ok link) now ledger') where
+    pub ready : Unchanged a before
+    ready = kept_still a whole par was found ledger'.book now h.2.0 h.2.1 (h.2.2 ∙ is)
+
+    pub can_bear : a.book.clock < 2 ^ 62
+    can_bear = subst (λ (b : Book). b.clock < 2 ^ 62) is h.0
+
+    pub same_before : IsSameTable a.house.table (with_process a.house par now).table
+    same_before = same_after a whole par was found now h.2.0 h.2.1
+
+    -- a slot is free as it was
+    pub stays_vacant : IsSome (vacant_at a.house.desk a.house.table) → IsSome (next_key (with_process a.house par now).table)
+    stays_vacant free = subst IsSome (sym same_before.next) (vacant_key a.house.desk (next_key a.house.table) free)
+
+    module _ (q : Pid) (free : Some q ≡ vacant_at a.house.desk a.house.table) (child : Resident) (mid : ResidentsState) (desk : mid.desk ≡ a.house.desk)
+        (inserts : IfSome (next_key (with_process a.house par now).table) (λ key. Inserted child key (with_process a.house par now).table mid.table)) where
+      pub parent_lives : IsSome (in_place mid.table par)
+      parent_lives = parent_is_there a whole par (acting a whole par was found) q free (with_process a.house par now) refl same_before child mid desk inserts
+
+      pub parent_has_room : HasRoomFor link par mid.table
+      parent_has_room =
+          room_stays a whole par (acting a whole par was found) q free (with_process a.house par now) refl same_before child mid desk inserts link
+          (roomy a.house.desk a.house.table par was found now link h.4)
+
+      pub bore : child.me ≡ q → child.state ≡ linked_to (Some par) link fresh → (last : ResidentsState) → last.desk ≡ mid.desk → Changes par (adopts q link) mid.table last.table
+          → (book : Book) → book ≡ wrote (max ledger'.book.clock 0 + 1) (Born q (Some par) link) [] ledger'.book → BirthOutcome (shard_of a) (parts_of a.config book last) q (Some par) link
+      bore me state last desk' changes book book_is =
+          child_outcome a whole par (acting a whole par was found) q free (with_process a.house par now) refl same_before child mid desk inserts can_bear asked link
+          (h.1 ∙ ap (λ (b : Book). then_some asked (link_after b)) is ∙ ap (then_some asked) (link_now a whole a.book refl (link_after a.book) refl))
+          me state last desk' changes book (own_book (Born q (Some par) link) (λ n. []) ledger'.book a.book book (h.2.2 ∙ is) book_is)

@@ -1,6 +1,6 @@
 -- A desk on which one process acts is whole afterwards, and is as its event makes it.
 use Rattle.std.proofs.Common.{◌≡◌, ℕ, ◌+◌, ◌^◌, ◌<◌, max, Bool, true, false, cond, ◌==◌, List, [], ◌∷◌, length, map, Option, Some, None, refl, sym, ap, ◌∙◌, subst, arith}
-use Rattle.std.specs.Prelude.{IsSome, IsSomeAnd, IfSome}
+use Rattle.std.specs.Prelude.{IsSome, IfSome}
 use Rattle.std.specs.Option.{option_map}
 use Rattle.std.specs.List.{find}
 use Rattle.std.proofs.lemmas.Bool.{eqb-true, eq-eqb}
@@ -13,7 +13,7 @@ use Rattle.pt_signal.specs.declared.reason.Reason.{Reason}
 use Rattle.pt_signal.specs.declared.signal.Signal.{Signal}
 use Rattle.pt_signal.specs.declared.signal.Signal.TheVariants.{Message, Link, Unlink, LinkExit, Monitor, Demonitor, AliveAsk, AliveSay}
 use Rattle.pt_signal.specs.Values.{same_pid, fits, without_first}
-use Rattle.pt_signal.specs.Process.{ProcessState, held, say, sent, estate}
+use Rattle.pt_signal.specs.Process.{ProcessState, say, sent, estate}
 use Rattle.pt_events.specs.declared.event.Event.{Event}
 use Rattle.pt_events.specs.declared.event.Event.TheVariants.{Said, Took, Flag, Left}
 use Rattle.pt_events.specs.History.{living, is_living, life, touches, is_unborn, left_sends, sent_by, MaySay}
@@ -34,7 +34,6 @@ use Rattle.pt_shard.specs.LedgerState.{Book, wrote}
 use Rattle.pt_shard.specs.Sound.{IsNear, of_phase, resident}
 use Rattle.pt_shard.specs.Residents.{Table, ResidentsState, seen, resident_at, in_place, changed, is_place_of, pid_at, vacant_at, Puts, Changes, Ends, SameSettings}
 use Rattle.pt_shard.specs.Whole.{Parts, parts_of, shard_of, IsWhole}
-use Rattle.pt_signal.specs.declared.ids.Ids.{Ids}
 use Rattle.pt_signal.specs.declared.ids.Ref.{Ref}
 use Rattle.pt_signal.specs.declared.ids.LinkId.{LinkId}
 use Rattle.std.specs.Map.{lookup}
@@ -42,7 +41,6 @@ use Rattle.pt_signal.specs.Values.{same_ref}
 use Rattle.pt_events.specs.History.{made_link, made_ref}
 use Rattle.pt_shard.specs.Calls.{new_link, new_ref}
 use Rattle.pt_shard.specs.Sound.{Every}
-use Rattle.pt_shard.specs.Residents.{unlinked, unlinked_at}
 use Rattle.pt_shard.proofs.Fresh.{fresh_link, fresh_ref}
 use Rattle.pt_shard.proofs.Near.{near_life, not_open, open_at, IsNearPhase, IsOpen}
 use Rattle.pt_shard.proofs.Births.{is_birth, issued_kept, issued_same, known_near, known_born}
@@ -92,7 +90,7 @@ left_alone p table = record { puts = record { live = λ slot version. go slot ve
         rw (h, changed_nothing (in_place table p)) (sym (ap (λ x. seen (at table x p.version)) e.0 ∙ ap (λ x. seen (at table slot x)) e.1))
 
 -- the place of p itself
-own_place : (p : Pid) → is_place_of p p.slot p.version ≡ true
+pub own_place : (p : Pid) → is_place_of p p.slot p.version ≡ true
 own_place p = rw (eq-eqb p.slot p.slot refl, eq-eqb p.version p.version refl) refl
 
 pub put_there : (p : Pid) (v : Option (Pid × ProcessState)) (old new : Table) → Puts p v old new → in_place new p ≡ v
@@ -306,20 +304,12 @@ module _ (a : Parts) (whole : IsWhole a) (p : Pid) (f : Found a p) where
       (subst (IsNearPhase a.config.desks (IsOpen a.config.desks a.config.start a.house.desk a.book.journal)) (lives_here a whole p f) near).watching
 
   -- a reference that is made now was not open before
-  pub not_open_yet : (m : Ref) → m ≡ new_ref (shard_of a) → IsSomeAnd (in_place a.house.table p) (λ r. lookup (same_ref m) r.1.watching ≡ None)
+  pub not_open_yet : (m : Ref) → m ≡ new_ref (shard_of a) → lookup (same_ref m) f.s.watching ≡ None
   not_open_yet m is =
-      let none = not_open a.config.desks a.config.start a.config.top_version a.house.desk a.book.journal m (let k = whole.sound.fit.clock_is in let n = ap (λ (j : Ref). j.number) is in omega (arith, k, n)) f.s.watching watched in
-      subst (λ o. IsSomeAnd o (λ r. lookup (same_ref m) r.1.watching ≡ None)) (sym (stands a whole p f).1) none
+      not_open a.config.desks a.config.start a.config.top_version a.house.desk a.book.journal m (let k = whole.sound.fit.clock_is in let n = ap (λ (j : Ref). j.number) is in omega (arith, k, n)) f.s.watching watched
 
   pub open_target : (m : Ref) (t : Pid) → Some t ≡ lookup (same_ref m) f.s.watching → (t.shard < a.config.desks) × (t.shard ≡ a.house.desk → is_unborn (life [] (past (shard_of a)) t) ≡ false)
   open_target m t found = open_at a.config.desks a.config.start a.config.top_version a.house.desk a.book.journal m t f.s.watching watched (sym found)
-
-  -- the half of a link that is taken back
-  pub takes_back : (to : Pid) (ids : Ids) → Some ids ≡ held f.s.links to → (table : Table) → Changes p (λ me s. unlinked to s) a.house.table table → Changes p (λ me s. say s to (Unlink ids)) a.house.table table
-  takes_back to ids holds table changes =
-      let is : changed (λ me s. unlinked to s) (in_place a.house.table p) ≡ changed (λ me s. say s to (Unlink ids)) (in_place a.house.table p)
-      = rw (stands a whole p f).1 (ap (λ t. Some (p, t)) (ap (λ o. unlinked_at o to f.s) (sym holds))) in
-      record { puts = subst (λ v. Puts p v a.house.table table) is changes.puts; next = changes.next }
 
   -- what it owes at its end goes to desks of the node
   pub left_near : (r : Reason) (owing : Owing) (table : Table) → Ends p r owing a.house.table table → Every (λ l. l.to.shard < length a.book.outbox) owing.owed

@@ -25,12 +25,9 @@ use Rattle.pt_shard.specs.ShardState.{ShardState, past, after, lives}
 use Rattle.pt_shard.specs.Known.{knows, issued_in}
 use Rattle.pt_shard.specs.Extends.{Extends}
 use Rattle.pt_shard.specs.Fit.{IsFit}
-use Rattle.pt_shard.specs.declared.stop.Stop.{Stop}
-use Rattle.pt_shard.specs.declared.stop.Stop.TheVariants as stop
-use Rattle.pt_shard.specs.Faults.{fault_of}
-use Rattle.pt_shard.specs.LedgerState.{Book, LedgerState, Prepares, wrote}
+use Rattle.pt_shard.specs.LedgerState.{Book, wrote}
 use Rattle.pt_shard.specs.Sound.{resident, of_phase}
-use Rattle.pt_shard.specs.Residents.{Table, ResidentsState, seen, resident_at, in_place, changed, vacant_at, pid_at, Changes, IsSameTable, HasRoom, HasRoomFor}
+use Rattle.pt_shard.specs.Residents.{Table, ResidentsState, seen, resident_at, in_place, changed, vacant_at, pid_at, Changes, IsSameTable, HasRoomFor}
 use Rattle.pt_shard.specs.Whole.{Parts, parts_of, shard_of, IsWhole}
 use Rattle.pt_shard.proofs.Births.{issued_more, next_unborn, previous, previous_born, is_unborn_is, ended_is}
 use Rattle.pt_shard.proofs.Frames.{lives_not}
@@ -384,10 +381,3 @@ module _ (par : Pid) (asked : Bool) (old new : ShardState) (alive_par : lives ol
   pub child_no_memory : CanWrite old → (r : Result Pid Fault) → IsErr r × IsErrAnd r (λ f. f ≡ Memory) → BearsChild par asked old r new
   child_no_memory can (Ok q) err = absurd (cc)
   child_no_memory can (Err f) err = subst (λ x. BearsChild par asked old (Err x) new) (sym err.1) (alive_par, can, free, left)
-
-  pub child_not_prepared : (ledger prepared : LedgerState) (s : Stop) (HasRoom : LedgerState → Type 0) → old.clock ≡ ledger.book.clock → Prepares 0 HasRoom ledger (Err s) prepared
-      → (r : Result Pid Fault) → IsErr r × IsErrAnd r (λ f. f ≡ fault_of s) → BearsChild par asked old r new
-  child_not_prepared ledger prepared stop.Worn HasRoom clock h (Ok q) err = absurd (cc)
-  child_not_prepared ledger prepared stop.Memory HasRoom clock h (Ok q) err = absurd (cc)
-  child_not_prepared ledger prepared stop.Worn HasRoom clock h (Err f) err = subst (λ x. BearsChild par asked old (Err x) new) (sym err.1) (alive_par, let k = h.1 in omega arith, left)
-  child_not_prepared ledger prepared stop.Memory HasRoom clock h (Err f) err = subst (λ x. BearsChild par asked old (Err x) new) (sym err.1) (alive_par, let k = h.1 in omega arith, free, left)

@@ -1,16 +1,18 @@
 -- The processes of a desk once one of them was lent and given back.
-use Rattle.std.proofs.Common.{◌≡◌, ℕ, ◌+◌, Bool, true, false, cond, ◌==◌, Option, Some, None, refl, sym, ap, ◌∙◌, subst}
+use Rattle.std.proofs.Common.{◌≡◌, ℕ, ◌+◌, ◌<◌, Bool, true, false, cond, ◌==◌, Option, Some, None, refl, sym, ap, ◌∙◌, subst}
 use Rattle.std.proofs.lemmas.Bool.{eqb-true, eq-eqb}
 use Rattle.pt_signal.specs.declared.pid.Pid.{Pid}
 use Rattle.std.specs.Prelude.{IfSome, IsSome}
+use Rattle.pt_signal.specs.declared.ids.LinkId.{LinkId}
 use Rattle.pt_signal.specs.declared.reason.Reason.{Reason}
 use Rattle.pt_signal.specs.Process.{ProcessState, estate}
 use Rattle.pt_slots.specs.State.{at, next_key, with_value}
 use Rattle.pt_slots.specs.Calls.{Written}
 use Rattle.pt_slots.proofs.Steps.{written}
 use Rattle.pt_process.specs.Resident.{Resident, Owing}
-use Rattle.pt_shard.specs.Residents.{Table, seen, in_place, resident_at, living_at, key_at, changed, is_place_of, Changes, Ends, IsSameTable}
-use Rattle.pt_shard.proofs.Acting.{same_place}
+use Rattle.pt_shard.specs.Acts.{HasRoomIf}
+use Rattle.pt_shard.specs.Residents.{Table, seen, in_place, resident_at, living_at, key_at, changed, is_place_of, Changes, Ends, IsSameTable, HasRoomFor}
+use Rattle.pt_shard.proofs.Acting.{own_place, same_place}
 
 module _ (desk : ℕ) (table : Table) (p : Pid) (was : Resident) (found : Some was ≡ living_at desk table p) where
   here : (p.shard ≡ desk) × (at table p.slot p.version ≡ Some was)
@@ -44,6 +46,13 @@ module _ (desk : ℕ) (table : Table) (p : Pid) (was : Resident) (found : Some w
             → seen (at (with_value table (key_at p) now) slot version) ≡ cond (is_place_of p slot version) (changed f (in_place table p)) (seen (at table slot version))
         go true slot version h = let e = wrote_it.live slot version in rw h (ap seen e ∙ rw h (sym value))
         go false slot version h = let e = wrote_it.live slot version in rw h (ap seen e ∙ rw h refl)
+
+  -- given back with room for one more link
+  pub roomy : (now : Resident) (link : Option LinkId) → HasRoomIf link now → HasRoomFor link p (with_value table (key_at p) now)
+  roomy now None room = tt
+  roomy now (Some i) room =
+      let stands : at (with_value table (key_at p) now) p.slot p.version ≡ Some now = (written table (key_at p) was here.1 now).live p.slot p.version ∙ rw (own_place p) refl in
+      subst (λ o. IfSome o (λ r. 0 < r.room)) (sym stands) room
 
   -- given back as it was
   pub unharmed : (now : Resident) → now.me ≡ was.me → now.state ≡ was.state → IsSameTable table (with_value table (key_at p) now)

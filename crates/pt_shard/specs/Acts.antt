@@ -1,9 +1,17 @@
 -- What a process does with the ledger of its desk. No public clause cites this module.
-use Rattle.std.specs.Prelude.{◌≡◌, ℕ, ◌+◌, ◌^◌, ◌<◌, ◌≤◌, max, List, [], ◌∷◌, map, Option, Some, None, Result, Ok, Err}
-use Rattle.std.specs.Option.{option_to_list}
+use Rattle.std.specs.Prelude.{◌≡◌, ℕ, ◌+◌, ◌^◌, ◌<◌, ◌≤◌, ◌||◌, max, Bool, cond, List, [], ◌∷◌, map, Option, Some, None, is_some, Result, Ok, Err, ⊤}
+use Rattle.std.specs.Bool.{then_some}
+use Rattle.std.specs.List.{find}
+use Rattle.std.specs.Map.{lookup}
+use Rattle.std.specs.Option.{option_to_list, option_map}
+use Rattle.pt_signal.specs.declared.pid.Pid.{Pid}
+use Rattle.pt_signal.specs.declared.ids.LinkId.{LinkId}
+use Rattle.pt_signal.specs.declared.ids.Ref.{Ref}
+use Rattle.pt_signal.specs.declared.item.Pick.{Pick}
 use Rattle.pt_signal.specs.declared.letter.Letter.{Letter}
-use Rattle.pt_signal.specs.Values.{fits, without_first}
-use Rattle.pt_signal.specs.Process.{ProcessState, say, sent, handle}
+use Rattle.pt_signal.specs.declared.signal.Signal.TheVariants.{Link, Unlink, Demonitor}
+use Rattle.pt_signal.specs.Values.{fits, same_pid, same_ref, without_first}
+use Rattle.pt_signal.specs.Process.{ProcessState, held, say, sent, handle}
 use Rattle.pt_events.specs.declared.event.Event.{Event}
 use Rattle.pt_events.specs.declared.event.Event.TheVariants.{Said, Took, Flag}
 use Rattle.pt_events.specs.Journal.{letter}
@@ -15,7 +23,8 @@ use Rattle.pt_shard.specs.declared.stop.Stop.{Stop}
 use Rattle.pt_shard.specs.declared.stop.Stop.TheVariants.{Memory, Worn}
 use Rattle.pt_shard.specs.ShardState.{came}
 use Rattle.pt_shard.specs.Backs.{living_back}
-use Rattle.pt_shard.specs.LedgerState.{LedgerState, wrote, HasRoomToAll}
+use Rattle.pt_shard.specs.Calls.{if_asked}
+use Rattle.pt_shard.specs.LedgerState.{Book, LedgerState, wrote, HasRoomToAll}
 
 -- what an event of its own makes of a process
 abbrev pub done : Event → ProcessState → ProcessState
@@ -28,6 +37,37 @@ done _ s = s
 abbrev pub posted : ℕ → Event → List Letter
 posted n (Said p to x) = letter n (sent p to x) ∷ []
 posted n _ = []
+
+-- the id and the reference that the next event makes
+abbrev pub link_after : Book → LinkId
+link_after b = record { desk = b.desk; number = b.clock + 1 }
+
+abbrev pub ref_after : Book → Ref
+ref_after b = record { desk = b.desk; number = b.clock + 1 }
+
+-- the event by which a process does what it is asked, or none where there is nothing to do -------------
+
+-- it takes the first item that fits
+abbrev pub taking : Pid → Pick → ProcessState → Option Event
+taking p k s = option_map (Took p k) (find (fits k) s.waiting)
+
+-- it makes a link, unless it is the target, or holds a link with it
+abbrev pub linking : Pid → Pid → Book → ProcessState → Option Event
+linking p to b s = cond (same_pid p to || is_some (held s.links to)) None (Some (Said p to (Link (link_after b))))
+
+-- it takes the link back that it holds with the target
+abbrev pub unlinking : Pid → Pid → ProcessState → Option Event
+unlinking p to s = option_map (λ ids. Said p to (Unlink ids)) (held s.links to)
+
+abbrev pub giving_up_at : Option Pid → Pid → Ref → Bool → ProcessState → Option Event
+giving_up_at (Some t) w m flush s = Some (Said w t (Demonitor m))
+giving_up_at None w m flush s = if_asked flush (taking w (Pick.DownOf m) s)
+
+-- it gives an open monitor up; of a closed one it takes a DOWN that waits, where that was asked
+abbrev pub giving_up : Pid → Ref → Bool → ProcessState → Option Event
+giving_up w m flush s = giving_up_at (lookup (same_ref m) s.watching) w m flush s
+
+-- what a process does, and what that leaves ----------------------------------------------------------
 
 -- nothing changed but for room
 abbrev pub IsStill : Resident → LedgerState → Resident → LedgerState → Type 0
@@ -44,6 +84,21 @@ Acts (Some e) answer r l (Err fault.Memory) r' l' = (l.book.clock < 2 ^ 62) × I
 Acts (Some e) answer r l (Err fault.Gone) r' l' = ⊥
 Acts (Some e) answer r l (Err fault.Full) r' l' = ⊥
 Acts (Some e) answer r l (Err fault.Myself) r' l' = ⊥
+
+-- the process takes one more link without memory, where there is one
+abbrev pub HasRoomIf : Option LinkId → Resident → Type 0
+HasRoomIf None r = ⊤
+HasRoomIf (Some i) r = 0 < r.room
+
+-- there is room for a birth, with the link that is asked for
+abbrev pub PreparesBirth : Bool → Resident → LedgerState → Result (Option LinkId) Fault → Resident → LedgerState → Type 0
+PreparesBirth linked r l (Ok link) r' l' =
+    (l.book.clock < 2 ^ 62) × (link ≡ then_some linked (link_after l.book)) × IsStill r l r' l' × (0 < l'.room) × HasRoomIf link r'
+PreparesBirth linked r l (Err fault.Worn) r' l' = (2 ^ 62 ≤ l.book.clock) × IsStill r l r' l'
+PreparesBirth linked r l (Err fault.Memory) r' l' = (l.book.clock < 2 ^ 62) × IsStill r l r' l'
+PreparesBirth linked r l (Err fault.Gone) r' l' = ⊥
+PreparesBirth linked r l (Err fault.Full) r' l' = ⊥
+PreparesBirth linked r l (Err fault.Myself) r' l' = ⊥
 
 -- a letter could not be handled
 abbrev pub IsStopped : Letter → Stop → Resident → LedgerState → Resident → LedgerState → Type 0

@@ -2,11 +2,9 @@
 use Rattle.std.specs.Prelude.{◌≡◌, ℕ, ◌+◌, ◌<◌, ⊤, ◌==◌, ◌&&◌, Bool, cond, Option, Some, None, IfSome, IsSome}
 use Rattle.std.specs.Option.{option_map}
 use Rattle.pt_signal.specs.declared.pid.Pid.{Pid}
-use Rattle.pt_signal.specs.declared.ids.Ids.{Ids}
 use Rattle.pt_signal.specs.declared.ids.LinkId.{LinkId}
 use Rattle.pt_signal.specs.declared.reason.Reason.{Reason}
-use Rattle.pt_signal.specs.declared.signal.Signal.TheVariants.{Unlink}
-use Rattle.pt_signal.specs.Process.{ProcessState, held, say, estate}
+use Rattle.pt_signal.specs.Process.{ProcessState, estate}
 use Rattle.pt_slots.specs.declared.Key.{Key}
 use Rattle.pt_slots.specs.State.{SlotsState, at, issued, next_key, with_value}
 use Rattle.pt_process.specs.Resident.{Resident, Owing}
@@ -95,11 +93,3 @@ pub record Ends (p : Pid) (reason : Reason) (owing : Owing) (old new : Table) : 
   pub lived : IsSome (in_place old p)
   pub puts : Puts p None old new
   pub next : next_key new ≡ cond (p.version == old.top_version) (next_key old) (Some (record { slot = p.slot; version = p.version + 1 }))
-
--- the links of a process that takes its link with another back
-abbrev pub unlinked_at : Option Ids → Pid → ProcessState → ProcessState
-unlinked_at None to s = s
-unlinked_at (Some ids) to s = say s to (Unlink ids)
-
-abbrev pub unlinked : Pid → ProcessState → ProcessState
-unlinked to s = unlinked_at (held s.links to) to s

@@ -1,20 +1,17 @@
 //! The processes of a desk, by their slots.
 
-ghost use Rattle.std.specs.Prelude.{◌≡◌, ◌<◌, ◌≤◌, Some, None, IsSome, IsSomeAnd, IfOk, IfSome, OnOk, OnErr};
+ghost use Rattle.std.specs.Prelude.{◌≡◌, ◌<◌, ◌≤◌, Some, None, IsSome, IfOk, IfSome, OnOk, OnErr};
 ghost use Rattle.std.specs.Option.{option_copied};
-ghost use Rattle.std.specs.Map.{lookup};
-ghost use Rattle.pt_signal.specs.Values.{same_ref};
-ghost use Rattle.pt_signal.specs.Process.{say, fresh};
-ghost use Rattle.pt_signal.specs.declared.signal.Signal.{Signal};
+ghost use Rattle.pt_signal.specs.Process.{fresh};
 ghost use Rattle.pt_slots.specs.State.{issued, next_key};
 ghost use Rattle.pt_slots.specs.Calls.{IsEmpty, Inserted};
 ghost use Rattle.pt_events.specs.History.{linked};
 ghost use Rattle.std.specs.Borrow.{sem};
 ghost use Rattle.std.specs.Option.{option_copied_mut};
-ghost use Rattle.pt_shard.specs.Residents.{living_at, seen, in_place, resident_at, vacant_at, Changes, IsSameTable, Ends, HasRoomFor, unlinked};
+ghost use Rattle.pt_shard.specs.Residents.{living_at, seen, in_place, resident_at, vacant_at, Changes, Ends, HasRoomFor};
 
 use pt_process::{Estate, Process};
-use pt_signal::{LinkId, Pid, Reason, Ref, Signal};
+use pt_signal::{LinkId, Pid, Reason};
 use pt_slots::{InsertError, Key, Slots};
 use std::alloc::{AllocError, Global};
 use std::marker::Model;
@@ -100,84 +97,6 @@ impl Residents {
             slot: p.slot,
             version: p.version,
         })
-    }
-
-    /// Sets the flag of a process that lives here.
-    pub fn set_trap(&mut self, p: Pid, on: bool)
-        requires { IsSome (in_place self.old.table p) }
-        ensures desk { self.new.desk ≡ self.old.desk }
-        ensures changes { Changes p (λ me s. record s { traps = on }) self.old.table self.new.table }
-    {
-        let Some(process) = self.table.get_mut(key_of(p)) else {
-            unreachable!()
-        };
-        process.set_trap(on);
-    }
-
-    /// The half of a link that a process keeps, which lives here.
-    pub fn add_link(&mut self, p: Pid, peer: Pid, id: LinkId) -> Result<(), AllocError>
-        requires { IsSome (in_place self.old.table p) }
-        ensures desk { self.new.desk ≡ self.old.desk }
-        ensures ok { OnOk result (Changes p (λ me s. say s peer (Signal.Link id)) self.old.table self.new.table) }
-        ensures err { OnErr result (IsSameTable self.old.table self.new.table) }
-    {
-        let Some(process) = self.table.get_mut(key_of(p)) else {
-            unreachable!()
-        };
-        process.add_link(peer, id)
-    }
-
-    /// Takes back the half of a link that a process keeps, which lives here.
-    pub fn cut_link(&mut self, p: Pid, peer: Pid)
-        requires { IsSome (in_place self.old.table p) }
-        ensures desk { self.new.desk ≡ self.old.desk }
-        ensures changes { Changes p (λ me s. unlinked peer s) self.old.table self.new.table }
-    {
-        let Some(process) = self.table.get_mut(key_of(p)) else {
-            unreachable!()
-        };
-        process.cut_link(peer);
-    }
-
-    /// Opens a monitor of a process that lives here.
-    pub fn add_monitor(&mut self, p: Pid, monitor: Ref, target: Pid) -> Result<(), AllocError>
-        requires { IsSomeAnd (in_place self.old.table p) (λ r. lookup (same_ref monitor) r.1.watching ≡ None) }
-        ensures desk { self.new.desk ≡ self.old.desk }
-        ensures ok { OnOk result (Changes p (λ me s. say s target (Signal.Monitor monitor)) self.old.table self.new.table) }
-        ensures err { OnErr result (IsSameTable self.old.table self.new.table) }
-    {
-        let Some(process) = self.table.get_mut(key_of(p)) else {
-            unreachable!()
-        };
-        process.add_monitor(monitor, target)
-    }
-
-    /// Closes a monitor of a process that lives here.
-    pub fn cut_monitor(&mut self, p: Pid, monitor: Ref)
-        requires { IsSome (in_place self.old.table p) }
-        ensures desk { self.new.desk ≡ self.old.desk }
-        ensures changes { Changes p (λ me s. say s me (Signal.Demonitor monitor)) self.old.table self.new.table }
-    {
-        let Some(process) = self.table.get_mut(key_of(p)) else {
-            unreachable!()
-        };
-        process.cut_monitor(monitor);
-    }
-
-    /// Makes room for the half of a link, if there is one, that a process is to keep, which lives here.
-    pub fn make_room(&mut self, p: Pid, link: Option<LinkId>) -> Result<(), AllocError>
-        requires { IsSome (in_place self.old.table p) }
-        ensures desk { self.new.desk ≡ self.old.desk }
-        ensures same { IsSameTable self.old.table self.new.table }
-        ensures ok { OnOk result (HasRoomFor link p self.new.table) }
-    {
-        if link.is_none() {
-            return Ok(());
-        }
-        let Some(process) = self.table.get_mut(key_of(p)) else {
-            unreachable!()
-        };
-        process.room()
     }
 
     /// The pid that the next birth has, or `None` where no slot is free.

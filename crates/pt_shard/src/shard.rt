@@ -1,6 +1,6 @@
 //! A desk without its lanes.
 
-ghost use Rattle.std.specs.Prelude.{◌≡◌, true, ◌<◌, ◌≤◌, ◌^◌, ◌-◌, min, drop, length, slice_get, Some, None, IfOk, OnOk, cond, is_some};
+ghost use Rattle.std.specs.Prelude.{◌≡◌, true, ◌<◌, ◌≤◌, ◌^◌, ◌-◌, min, drop, length, slice_get, Some, None, IfSome, IfOk, OnOk, cond, is_some};
 ghost use Rattle.std.specs.Option.{option_copied};
 ghost use Rattle.pt_signal.specs.declared.signal.Signal.{Signal};
 ghost use Rattle.pt_events.specs.declared.event.Event.{Event};
@@ -13,12 +13,12 @@ ghost use Rattle.pt_shard.specs.Outbox.{sent_on, holding, count_pending};
 ghost use Rattle.pt_shard.specs.Calls.{Calls, Monitors, Bears, BearsChild, link_event, unlink_event, first_match, take_event, demonitor_event, held_by, new_ref};
 ghost use Rattle.pt_shard.specs.Plain.{IsPlain};
 ghost use Rattle.pt_shard.specs.Backs.{living_back};
-ghost use Rattle.std.specs.Option.{option_map};
 ghost use Rattle.std.specs.List.{find};
-ghost use Rattle.pt_signal.specs.Values.{fits};
+ghost use Rattle.std.specs.Map.{lookup};
+ghost use Rattle.pt_signal.specs.Values.{fits, same_ref};
 ghost use Rattle.pt_process.specs.Peers.{peers};
 ghost use Rattle.pt_shard.specs.Sound.{Every};
-ghost use Rattle.pt_shard.specs.Acts.{Acts, TakesIn, PreparesEnding};
+ghost use Rattle.pt_shard.specs.Acts.{Acts, PreparesBirth, TakesIn, PreparesEnding, taking, linking, unlinking, giving_up, ref_after};
 
 use crate::config::Config;
 use crate::fault::Fault;
@@ -27,7 +27,7 @@ use crate::residents::{Residents, newborn};
 use crate::stop::Stop;
 use pt_events::{Event, Journal};
 use pt_process::Process;
-use pt_signal::{Body, Ids, Item, Letter, Pick, Pid, Reason, Ref, Signal};
+use pt_signal::{Body, Ids, Item, Letter, LinkId, Pick, Pid, Reason, Ref, Signal};
 use std::alloc::{AllocError, Global};
 use std::marker::Model;
 
@@ -193,20 +193,10 @@ impl Shard {
         ensures extends { Extends self.old self.new }
         ensures fit { IsFit self.new }
     {
-        let Some(process) = self.house.find(p) else {
+        let Some(process) = self.house.find_mut(p) else {
             return Err(Fault::Gone);
         };
-        if p == to {
-            return Ok(());
-        }
-        if process.linked(to).is_some() {
-            return Ok(());
-        }
-        self.ledger.prepare_letter(0, to)?;
-        let id = self.ledger.next_link();
-        self.house.add_link(p, to, id)?;
-        self.ledger.say(p, to, Signal::Link(id));
-        Ok(())
+        keep_link(process, &mut self.ledger, p, to)
     }
 
     /// Takes the link of p with another process back: Erlang's `unlink/1`, section Links.
@@ -219,16 +209,10 @@ impl Shard {
         ensures extends { Extends self.old self.new }
         ensures fit { IsFit self.new }
     {
-        let Some(process) = self.house.find(p) else {
+        let Some(process) = self.house.find_mut(p) else {
             return Err(Fault::Gone);
         };
-        let Some(ids) = process.linked(to) else {
-            return Ok(());
-        };
-        self.ledger.prepare_letter(0, to)?;
-        self.house.cut_link(p, to);
-        self.ledger.say(p, to, Signal::Unlink(ids));
-        Ok(())
+        drop_link(process, &mut self.ledger, p, to)
     }
 
     /// Sets whether p traps exits, and answers whether it did: Erlang's `process_flag(trap_exit, _)`, section
@@ -240,14 +224,10 @@ impl Shard {
         ensures extends { Extends self.old self.new }
         ensures fit { IsFit self.new }
     {
-        let Some(process) = self.house.find(p) else {
+        let Some(process) = self.house.find_mut(p) else {
             return Err(Fault::Gone);
         };
-        let before = process.traps();
-        self.ledger.prepare(0)?;
-        self.house.set_trap(p, on);
-        self.ledger.write(0, Event::Flag(p, on));
-        Ok(before)
+        set_flag(process, &mut self.ledger, p, on)
     }
 
     /// Takes the first item that fits out of the mailbox of p; the others stay, in order: Erlang's `receive`
@@ -277,17 +257,13 @@ impl Shard {
         ensures extends { Extends self.old self.new }
         ensures fit { IsFit self.new }
     {
-        let Some(_process) = self.house.find(w) else {
+        let Some(process) = self.house.find_mut(w) else {
             return Err(Fault::Gone);
         };
         if w == t {
             return Err(Fault::Myself);
         }
-        self.ledger.prepare_letter(0, t)?;
-        let monitor = self.ledger.next_ref();
-        self.house.add_monitor(w, monitor, t)?;
-        self.ledger.say(w, t, Signal::Monitor(monitor));
-        Ok(monitor)
+        open_monitor(process, &mut self.ledger, w, t)
     }
 
     /// Gives a monitor of w up: Erlang's `demonitor/2`, section Monitors. It answers whether it wrote an event.
@@ -300,20 +276,10 @@ impl Shard {
         ensures extends { Extends self.old self.new }
         ensures fit { IsFit self.new }
     {
-        let Some(process) = self.house.find(w) else {
+        let Some(process) = self.house.find_mut(w) else {
             return Err(Fault::Gone);
         };
-        let Some(t) = process.target_of(monitor) else {
-            if !flush {
-                return Ok(false);
-            }
-            let taken = self.receive(w, Pick::DownOf(monitor))?;
-            return Ok(taken.is_some());
-        };
-        self.ledger.prepare_letter(0, t)?;
-        self.house.cut_monitor(w, monitor);
-        self.ledger.say(w, t, Signal::Demonitor(monitor));
-        Ok(true)
+        close_monitor(process, &mut self.ledger, w, monitor, flush)
     }
 
     /// Asks whether another process is alive: Erlang's `is_process_alive/1`, section Processes and Erlang's signals. It
@@ -389,19 +355,20 @@ impl Shard {
         ensures extends { Extends self.old self.new }
         ensures fit { IsFit self.new }
     {
-        let Some(_process) = self.house.find(parent) else {
+        let vacant = self.house.vacant();
+        let Some(process) = self.house.find_mut(parent) else {
             return Err(Fault::Gone);
         };
         if self.ledger.is_worn(0) {
             return Err(Fault::Worn);
         }
-        let Some(pid) = self.house.vacant() else {
+        let Some(pid) = vacant else {
             return Err(Fault::Full);
         };
-        self.ledger.prepare(0)?;
-        let link = linked.then_some(self.ledger.next_link());
-        self.house.make_room(parent, link)?;
+        let link = prepare_birth(process, &mut self.ledger, linked)?;
         let child = newborn(self.alloc, pid, parent, link)?;
+        // The parent is looked up once more where there is a link. The birth may be refused here, so its half cannot
+        // enter before; and the birth may move the slots, so no reference into them lasts until after.
         self.house.admit(child)?;
         self.house.adopt(parent, pid, link);
         self.ledger.write(0, Event::Born(pid, Some(parent), link));
@@ -525,6 +492,83 @@ impl Shard {
     }
 }
 
+/// Sets the flag of a process, writes it down, and answers what it was.
+fn set_flag(process: &mut Process, ledger: &mut Ledger, p: Pid, on: bool) -> Result<bool, Fault>
+    ensures { Acts (Some (Event.Flag p on)) process.old.state.traps process.old ledger.old result process.new ledger.new }
+{
+    ledger.prepare(0)?;
+    let before = process.set_trap(on);
+    ledger.write(0, Event::Flag(p, on));
+    Ok(before)
+}
+
+/// Enters the half of a link that a process keeps, and says it to the other, unless there is such a link.
+fn keep_link(process: &mut Process, ledger: &mut Ledger, p: Pid, to: Pid) -> Result<(), Fault>
+    requires { to.shard < length ledger.old.book.outbox }
+    ensures { Acts (linking p to ledger.old.book process.old.state) tt process.old ledger.old result process.new ledger.new }
+{
+    if p == to || process.linked(to).is_some() {
+        return Ok(());
+    }
+    ledger.prepare_letter(0, to)?;
+    let id = ledger.next_link();
+    process.add_link(to, id)?;
+    ledger.say(p, to, Signal::Link(id));
+    Ok(())
+}
+
+/// Takes the half of a link back that a process keeps, if there is one, and says it to the other.
+fn drop_link(process: &mut Process, ledger: &mut Ledger, p: Pid, to: Pid) -> Result<(), Fault>
+    requires { to.shard < length ledger.old.book.outbox }
+    ensures { Acts (unlinking p to process.old.state) tt process.old ledger.old result process.new ledger.new }
+{
+    let Some(ids) = process.linked(to) else {
+        return Ok(());
+    };
+    ledger.prepare_letter(0, to)?;
+    process.cut_link(to);
+    ledger.say(p, to, Signal::Unlink(ids));
+    Ok(())
+}
+
+/// Opens a monitor of a process, says it to the target, and answers its reference.
+fn open_monitor(process: &mut Process, ledger: &mut Ledger, w: Pid, t: Pid) -> Result<Ref, Fault>
+    requires near { t.shard < length ledger.old.book.outbox }
+    requires new { lookup (same_ref (ref_after ledger.old.book)) process.old.state.watching ≡ None }
+    ensures { Acts (Some (Event.Said w t (Signal.Monitor (ref_after ledger.old.book)))) (ref_after ledger.old.book) process.old ledger.old result process.new ledger.new }
+{
+    ledger.prepare_letter(0, t)?;
+    let monitor = ledger.next_ref();
+    process.add_monitor(monitor, t)?;
+    ledger.say(w, t, Signal::Monitor(monitor));
+    Ok(monitor)
+}
+
+/// Closes the monitor of a process, if it is open, and says it to the target; else takes the DOWN out that waits, where
+/// that is asked. It answers whether it wrote an event.
+fn close_monitor(
+    process: &mut Process,
+    ledger: &mut Ledger,
+    w: Pid,
+    monitor: Ref,
+    flush: bool,
+) -> Result<bool, Fault>
+    requires { IfSome (lookup (same_ref monitor) process.old.state.watching) (λ t. t.shard < length ledger.old.book.outbox) }
+    ensures { Acts (giving_up w monitor flush process.old.state) (is_some (giving_up w monitor flush process.old.state)) process.old ledger.old result process.new ledger.new }
+{
+    let Some(t) = process.target_of(monitor) else {
+        if !flush {
+            return Ok(false);
+        }
+        let taken = take(process, ledger, w, Pick::DownOf(monitor))?;
+        return Ok(taken.is_some());
+    };
+    ledger.prepare_letter(0, t)?;
+    process.cut_monitor(monitor);
+    ledger.say(w, t, Signal::Demonitor(monitor));
+    Ok(true)
+}
+
 /// Takes the first item that fits out of the mailbox of a process, and writes it down.
 fn take(
     process: &mut Process,
@@ -532,7 +576,7 @@ fn take(
     p: Pid,
     pick: Pick,
 ) -> Result<Option<Item>, Fault>
-    ensures { Acts (option_map (Event.Took p pick) (find (fits pick) process.old.state.waiting)) (find (fits pick) process.old.state.waiting) process.old ledger.old result process.new ledger.new }
+    ensures { Acts (taking p pick process.old.state) (find (fits pick) process.old.state.waiting) process.old ledger.old result process.new ledger.new }
 {
     let Some((place, item)) = process.first(pick) else {
         return Ok(None);
@@ -541,6 +585,23 @@ fn take(
     process.take_at(place);
     ledger.write(0, Event::Took(p, pick, item));
     Ok(Some(item))
+}
+
+/// Makes room for a birth, and for the half of a link that the parent then keeps, where one is asked for. It answers
+/// the id of the link.
+fn prepare_birth(
+    parent: &mut Process,
+    ledger: &mut Ledger,
+    linked: bool,
+) -> Result<Option<LinkId>, Fault>
+    ensures { PreparesBirth linked parent.old ledger.old result parent.new ledger.new }
+{
+    ledger.prepare(0)?;
+    if !linked {
+        return Ok(None);
+    }
+    parent.room()?;
+    Ok(Some(ledger.next_link()))
 }
 
 /// Takes a letter to a live process, and sends what it answers.

@@ -1,89 +1,146 @@
-use Rattle.std.proofs.Common.{◌≡◌, ◌<◌, ◌^◌, Ok, Some, [], sym, ap, ◌∙◌, refl, subst, arith}
-use Rattle.std.specs.Bool.{then_some}
-use Rattle.pt_events.specs.declared.event.Event.TheVariants.{Born}
+use Rattle.std.proofs.Common.{◌≡◌, ℕ, ◌<◌, ◌≤◌, ◌^◌, max, true, false, Err, refl, sym, ◌∙◌, subst, arith}
+use Rattle.std.specs.Prelude.{IsSome, nat_le}
+use Rattle.std.proofs.lemmas.Bool.Decides.{nat_tests}
+use Rattle.pt_shard.specs.declared.fault.Fault.TheVariants.{Worn, Full}
 use Rattle.pt_shard.specs.Calls.{BearsChild}
-use Rattle.pt_shard.specs.ShardState.{after}
 use Rattle.pt_shard.specs.Extends.{Extends}
+use Rattle.pt_shard.specs.Residents.{ResidentsState, IsSameTable, with_process}
 use Rattle.pt_shard.specs.Whole.{parts_of, shard_of}
-use Rattle.pt_shard.proofs.Acting.{own_book, alive, link_now}
-use Rattle.std.specs.Prelude.{IsSome}
-use Rattle.pt_shard.specs.LedgerState.{HasNoNeed}
-use Rattle.pt_shard.specs.Residents.{ResidentsState, IsSameTable}
-use Rattle.pt_shard.proofs.Outcomes.{same_book}
-use Rattle.pt_shard.proofs.Bearing.{Unchanged, unchanged, same_table, child_no_memory, child_not_prepared, BirthOutcome, child_outcome, room_stays, parent_is_there}
+use Rattle.pt_shard.proofs.Acting.{alive}
+use Rattle.pt_shard.proofs.Bearing.{unchanged, child_no_memory}
+use Rattle.pt_shard.proofs.Acted.{acting, kept_still, no_room, bears_none, ready, can_bear, same_before, stays_vacant, parent_lives, parent_has_room, bore}
 use Rattle.pt_shard.proofs.shard.Shard.spawn_child.Goals as goal
 
-born : (c : goal.After-write) → BirthOutcome (shard_of (parts_of c.self.inside.config c.self.inside.ledger.book c.self.inside.house)) (parts_of c.self.inside.config c.write.new.self.book c.adopt.new.self) c.in-Some-vacant.pid (Some c.args.parent) c.then_some-link.result
-born c =
-    let can : c.self.inside.ledger.book.clock < 2 ^ 62 = (let k = c.in_ok-prepare.ensures.does.1 in omega arith) in
-    let now = link_now (parts_of c.self.inside.config c.self.inside.ledger.book c.self.inside.house) c.self.invariant c.prepare.new.self.book c.in_ok-prepare.ensures.does.0 c.next_link.result c.next_link.ensures in
-    child_outcome (parts_of c.self.inside.config c.self.inside.ledger.book c.self.inside.house) c.self.invariant c.args.parent (record { me = c.in-Some._process.now.me; s = c.in-Some._process.now.state; there = c.in-Some.ensures }) c.in-Some-vacant.pid c.in-Some-vacant.ensures c.make_room.new.self c.make_room.ensures.desk c.make_room.ensures.same c.in_ok-child.child c.admit.new.self c.admit.ensures.desk c.in_ok-admit.ensures.ok can
-    c.args.linked c.then_some-link.result (c.then_some-link.ensures ∙ ap (then_some c.args.linked) now) c.in_ok-child.ensures.me c.in_ok-child.ensures.state c.adopt.new.self c.adopt.ensures.desk c.adopt.ensures.changes c.write.new.self.book
-    (own_book (Born c.in-Some-vacant.pid (Some c.args.parent) c.then_some-link.result) (λ n. []) c.prepare.new.self.book c.self.inside.ledger.book c.write.new.self.book c.in_ok-prepare.ensures.does.0 c.write.ensures.book)
+-- what the test of the clock says
+worn_is : (n : ℕ) → nat_le (2 ^ 62) (max n 0) ≡ true → 2 ^ 62 ≤ n
+worn_is n h = let k : 2 ^ 62 ≤ max n 0 = grind (arith, nat_tests) in omega (arith, k)
 
-pub adopt-requires-clause-lives : goal.adopt-requires-clause-lives
-adopt-requires-clause-lives c = parent_is_there (parts_of c.self.inside.config c.self.inside.ledger.book c.self.inside.house) c.self.invariant c.args.parent (record { me = c.in-Some._process.now.me; s = c.in-Some._process.now.state; there = c.in-Some.ensures }) c.in-Some-vacant.pid c.in-Some-vacant.ensures c.make_room.new.self c.make_room.ensures.desk c.make_room.ensures.same c.in_ok-child.child c.admit.new.self c.admit.ensures.desk c.in_ok-admit.ensures.ok
+fresh_is : (n : ℕ) → nat_le (2 ^ 62) (max n 0) ≡ false → n < 2 ^ 62
+fresh_is n h = let k : max n 0 < 2 ^ 62 = grind (arith, nat_tests) in omega (arith, k)
 
-pub adopt-requires-clause-room : goal.adopt-requires-clause-room
-adopt-requires-clause-room c = room_stays (parts_of c.self.inside.config c.self.inside.ledger.book c.self.inside.house) c.self.invariant c.args.parent (record { me = c.in-Some._process.now.me; s = c.in-Some._process.now.state; there = c.in-Some.ensures }) c.in-Some-vacant.pid c.in-Some-vacant.ensures c.make_room.new.self c.make_room.ensures.desk c.make_room.ensures.same c.in_ok-child.child c.admit.new.self c.admit.ensures.desk c.in_ok-admit.ensures.ok c.then_some-link.result c.in_ok-make_room.ensures.ok
+-- refused before the birth is prepared
+pub invariant_of-self-then-is_worn : goal.invariant_of-self-then-is_worn
+invariant_of-self-then-is_worn c =
+    let i = c.self.inside in
+    (kept_still (parts_of i.config i.ledger.book i.house) c.self.invariant c.args.parent c.in-Some.process.now c.in-Some.ensures.value i.ledger.book c.in-Some.process.now refl refl refl).whole
 
-pub invariant_of-self-2 : goal.invariant_of-self-2
-invariant_of-self-2 c = (born c).whole
+pub returns-then-is_worn-clause-does : goal.returns-then-is_worn-clause-does
+returns-then-is_worn-clause-does c =
+    let i = c.self.inside in
+    let same = kept_still (parts_of i.config i.ledger.book i.house) c.self.invariant c.args.parent c.in-Some.process.now c.in-Some.ensures.value i.ledger.book c.in-Some.process.now refl refl refl in
+    subst (λ d. BearsChild c.args.parent c.args.linked d (Err Worn) (shard_of (parts_of i.config i.ledger.book (with_process i.house c.args.parent c.in-Some.process.now)))) c.self.view_is (
+      alive (parts_of i.config i.ledger.book i.house) c.self.invariant c.args.parent (acting (parts_of i.config i.ledger.book i.house) c.self.invariant c.args.parent c.in-Some.process.now c.in-Some.ensures.value),
+      worn_is i.ledger.book.clock (sym c.is_worn.ensures ∙ c.if-is_worn.true),
+      same.is,
+    )
 
-pub returns-clause-does : goal.returns-clause-does
-returns-clause-does c =
-    let can : c.self.inside.ledger.book.clock < 2 ^ 62 = (let k = c.in_ok-prepare.ensures.does.1 in omega arith) in
-    let now = link_now (parts_of c.self.inside.config c.self.inside.ledger.book c.self.inside.house) c.self.invariant c.prepare.new.self.book c.in_ok-prepare.ensures.does.0 c.next_link.result c.next_link.ensures in
-    let link = c.then_some-link.ensures ∙ ap (then_some c.args.linked) now in
-    subst (λ d. BearsChild c.args.parent c.args.linked d (Ok c.in-Some-vacant.pid) (shard_of (parts_of c.self.inside.config c.write.new.self.book c.adopt.new.self))) c.self.view_is
-    (alive (parts_of c.self.inside.config c.self.inside.ledger.book c.self.inside.house) c.self.invariant c.args.parent (record { me = c.in-Some._process.now.me; s = c.in-Some._process.now.state; there = c.in-Some.ensures }), (can, sym c.in-Some-vacant.ensures, subst (λ l. shard_of (parts_of c.self.inside.config c.write.new.self.book c.adopt.new.self) ≡ record (after (Born c.in-Some-vacant.pid (Some c.args.parent) l) (shard_of (parts_of c.self.inside.config c.self.inside.ledger.book c.self.inside.house))) { vacant = (shard_of (parts_of c.self.inside.config c.write.new.self.book c.adopt.new.self)).vacant }) link (born c).is))
+pub invariant_of-self-in_default-vacant : goal.invariant_of-self-in_default-vacant
+invariant_of-self-in_default-vacant c =
+    let i = c.self.inside in
+    (kept_still (parts_of i.config i.ledger.book i.house) c.self.invariant c.args.parent c.in-Some.process.now c.in-Some.ensures.value i.ledger.book c.in-Some.process.now refl refl refl).whole
 
-pub returns-clause-known : goal.returns-clause-known
-returns-clause-known c = ((born c).here, (born c).known)
+pub returns-in_default-vacant-clause-does : goal.returns-in_default-vacant-clause-does
+returns-in_default-vacant-clause-does c =
+    let i = c.self.inside in
+    let same = kept_still (parts_of i.config i.ledger.book i.house) c.self.invariant c.args.parent c.in-Some.process.now c.in-Some.ensures.value i.ledger.book c.in-Some.process.now refl refl refl in
+    subst (λ d. BearsChild c.args.parent c.args.linked d (Err Full) (shard_of (parts_of i.config i.ledger.book (with_process i.house c.args.parent c.in-Some.process.now)))) c.self.view_is (
+      alive (parts_of i.config i.ledger.book i.house) c.self.invariant c.args.parent (acting (parts_of i.config i.ledger.book i.house) c.self.invariant c.args.parent c.in-Some.process.now c.in-Some.ensures.value),
+      fresh_is i.ledger.book.clock (sym c.is_worn.ensures ∙ c.if-is_worn.false),
+      sym c.in_default-vacant.ensures,
+      same.is,
+    )
 
-pub returns-clause-extends : goal.returns-clause-extends
-returns-clause-extends c = subst (λ d. Extends d (shard_of (parts_of c.self.inside.config c.write.new.self.book c.adopt.new.self))) c.self.view_is (born c).extends
+-- no room for it
+pub invariant_of-self-in_err-link : goal.invariant_of-self-in_err-link
+invariant_of-self-in_err-link c =
+    let i = c.self.inside in
+    (no_room (parts_of i.config i.ledger.book i.house) c.self.invariant c.args.parent c.in-Some.process.now c.in-Some.ensures.value c.args.linked i.ledger refl c.prepare_birth.new.parent c.prepare_birth.new.ledger c.in_err-link.field-0.0 c.in_err-link.ensures).whole
 
-pub returns-clause-fit : goal.returns-clause-fit
-returns-clause-fit c = (born c).fit
+pub returns-in_err-link-clause-does : goal.returns-in_err-link-clause-does
+returns-in_err-link-clause-does c =
+    let i = c.self.inside in
+    subst (λ d. BearsChild c.args.parent c.args.linked d c.from_residual.result (shard_of (parts_of i.config c.prepare_birth.new.ledger.book (with_process i.house c.args.parent c.prepare_birth.new.parent)))) c.self.view_is
+    (bears_none (parts_of i.config i.ledger.book i.house) c.self.invariant c.args.parent c.in-Some.process.now c.in-Some.ensures.value c.args.linked i.ledger refl c.prepare_birth.new.parent c.prepare_birth.new.ledger (subst IsSome c.in-Some-vacant.ensures refl) c.in_err-link.field-0.0 c.in_err-link.ensures c.from_residual.result c.from_residual.ensures)
 
-refused_prepare : (c : goal.After-from_residual) → Unchanged (parts_of c.self.inside.config c.self.inside.ledger.book c.self.inside.house) (parts_of c.self.inside.config c.prepare.new.self.book c.self.inside.house)
-refused_prepare c = unchanged (parts_of c.self.inside.config c.self.inside.ledger.book c.self.inside.house) c.self.invariant c.prepare.new.self.book c.self.inside.house (same_book 0 HasNoNeed c.self.inside.ledger c.prepare.new.self c.in_err-prepare.field-0.0 c.in_err-prepare.ensures.does) refl (same_table c.self.inside.house.table)
-
-pub returns-in_err-prepare-clause-does : goal.returns-in_err-prepare-clause-does
-returns-in_err-prepare-clause-does c =
-    subst (λ d. BearsChild c.args.parent c.args.linked d c.from_residual.result (shard_of (parts_of c.self.inside.config c.prepare.new.self.book c.self.inside.house))) c.self.view_is
-    (child_not_prepared c.args.parent c.args.linked (shard_of (parts_of c.self.inside.config c.self.inside.ledger.book c.self.inside.house)) (shard_of (parts_of c.self.inside.config c.prepare.new.self.book c.self.inside.house)) (alive (parts_of c.self.inside.config c.self.inside.ledger.book c.self.inside.house) c.self.invariant c.args.parent (record { me = c.in-Some._process.now.me; s = c.in-Some._process.now.state; there = c.in-Some.ensures })) (subst IsSome c.in-Some-vacant.ensures refl) (refused_prepare c).is c.self.inside.ledger c.prepare.new.self c.in_err-prepare.field-0.0 HasNoNeed refl c.in_err-prepare.ensures.does c.from_residual.result c.from_residual.ensures)
-
-refused_make_room : (c : goal.After-from_residual-in_err-make_room) → Unchanged (parts_of c.self.inside.config c.self.inside.ledger.book c.self.inside.house) (parts_of c.self.inside.config c.prepare.new.self.book c.make_room.new.self)
-refused_make_room c = unchanged (parts_of c.self.inside.config c.self.inside.ledger.book c.self.inside.house) c.self.invariant c.prepare.new.self.book c.make_room.new.self c.in_ok-prepare.ensures.does.0 c.make_room.ensures.desk c.make_room.ensures.same
-
-pub returns-in_err-make_room-clause-does : goal.returns-in_err-make_room-clause-does
-returns-in_err-make_room-clause-does c =
-    let can : c.self.inside.ledger.book.clock < 2 ^ 62 = (let k = c.in_ok-prepare.ensures.does.1 in omega arith) in
-    subst (λ d. BearsChild c.args.parent c.args.linked d c.from_residual-in_err-make_room.result (shard_of (parts_of c.self.inside.config c.prepare.new.self.book c.make_room.new.self))) c.self.view_is
-    (child_no_memory c.args.parent c.args.linked (shard_of (parts_of c.self.inside.config c.self.inside.ledger.book c.self.inside.house)) (shard_of (parts_of c.self.inside.config c.prepare.new.self.book c.make_room.new.self)) (alive (parts_of c.self.inside.config c.self.inside.ledger.book c.self.inside.house) c.self.invariant c.args.parent (record { me = c.in-Some._process.now.me; s = c.in-Some._process.now.state; there = c.in-Some.ensures })) (subst IsSome c.in-Some-vacant.ensures refl) (refused_make_room c).is can c.from_residual-in_err-make_room.result c.from_residual-in_err-make_room.ensures)
-
-refused_child : (c : goal.After-from_residual-in_err-child) → Unchanged (parts_of c.self.inside.config c.self.inside.ledger.book c.self.inside.house) (parts_of c.self.inside.config c.prepare.new.self.book c.make_room.new.self)
-refused_child c = unchanged (parts_of c.self.inside.config c.self.inside.ledger.book c.self.inside.house) c.self.invariant c.prepare.new.self.book c.make_room.new.self c.in_ok-prepare.ensures.does.0 c.make_room.ensures.desk c.make_room.ensures.same
+-- no memory for the child
+pub invariant_of-self-in_err-child : goal.invariant_of-self-in_err-child
+invariant_of-self-in_err-child c =
+    let i = c.self.inside in
+    (ready (parts_of i.config i.ledger.book i.house) c.self.invariant c.args.parent c.in-Some.process.now c.in-Some.ensures.value c.args.linked i.ledger refl c.prepare_birth.new.parent c.prepare_birth.new.ledger c.in_ok-link.link c.in_ok-link.ensures).whole
 
 pub returns-in_err-child-clause-does : goal.returns-in_err-child-clause-does
 returns-in_err-child-clause-does c =
-    let can : c.self.inside.ledger.book.clock < 2 ^ 62 = (let k = c.in_ok-prepare.ensures.does.1 in omega arith) in
-    subst (λ d. BearsChild c.args.parent c.args.linked d c.from_residual-in_err-child.result (shard_of (parts_of c.self.inside.config c.prepare.new.self.book c.make_room.new.self))) c.self.view_is
-    (child_no_memory c.args.parent c.args.linked (shard_of (parts_of c.self.inside.config c.self.inside.ledger.book c.self.inside.house)) (shard_of (parts_of c.self.inside.config c.prepare.new.self.book c.make_room.new.self)) (alive (parts_of c.self.inside.config c.self.inside.ledger.book c.self.inside.house) c.self.invariant c.args.parent (record { me = c.in-Some._process.now.me; s = c.in-Some._process.now.state; there = c.in-Some.ensures })) (subst IsSome c.in-Some-vacant.ensures refl) (refused_child c).is can c.from_residual-in_err-child.result c.from_residual-in_err-child.ensures)
+    let i = c.self.inside in
+    let same = ready (parts_of i.config i.ledger.book i.house) c.self.invariant c.args.parent c.in-Some.process.now c.in-Some.ensures.value c.args.linked i.ledger refl c.prepare_birth.new.parent c.prepare_birth.new.ledger c.in_ok-link.link c.in_ok-link.ensures in
+    subst (λ d. BearsChild c.args.parent c.args.linked d c.from_residual-in_err-child.result (shard_of (parts_of i.config c.prepare_birth.new.ledger.book (with_process i.house c.args.parent c.prepare_birth.new.parent)))) c.self.view_is
+    (child_no_memory c.args.parent c.args.linked (shard_of (parts_of i.config i.ledger.book i.house)) (shard_of (parts_of i.config c.prepare_birth.new.ledger.book (with_process i.house c.args.parent c.prepare_birth.new.parent)))
+    (alive (parts_of i.config i.ledger.book i.house) c.self.invariant c.args.parent (acting (parts_of i.config i.ledger.book i.house) c.self.invariant c.args.parent c.in-Some.process.now c.in-Some.ensures.value))
+    (subst IsSome c.in-Some-vacant.ensures refl) same.is (can_bear (parts_of i.config i.ledger.book i.house) c.self.invariant c.args.parent c.in-Some.process.now c.in-Some.ensures.value c.args.linked i.ledger refl c.prepare_birth.new.parent c.prepare_birth.new.ledger c.in_ok-link.link c.in_ok-link.ensures) c.from_residual-in_err-child.result c.from_residual-in_err-child.ensures)
 
-refused_admit : (c : goal.After-from_residual-in_err-admit) → Unchanged (parts_of c.self.inside.config c.self.inside.ledger.book c.self.inside.house) (parts_of c.self.inside.config c.prepare.new.self.book c.admit.new.self)
-refused_admit c = unchanged (parts_of c.self.inside.config c.self.inside.ledger.book c.self.inside.house) c.self.invariant c.prepare.new.self.book c.admit.new.self c.in_ok-prepare.ensures.does.0 (c.admit.ensures.desk ∙ c.make_room.ensures.desk) (subst (λ (h : ResidentsState). IsSameTable c.self.inside.house.table h.table) (sym c.in_err-admit.ensures.err) c.make_room.ensures.same)
+-- no memory for its slot
+pub admit-requires : goal.admit-requires
+admit-requires c =
+    let i = c.self.inside in
+    stays_vacant (parts_of i.config i.ledger.book i.house) c.self.invariant c.args.parent c.in-Some.process.now c.in-Some.ensures.value c.args.linked i.ledger refl c.prepare_birth.new.parent c.prepare_birth.new.ledger c.in_ok-link.link c.in_ok-link.ensures (subst IsSome c.in-Some-vacant.ensures refl)
+
+pub invariant_of-self-in_err-admit : goal.invariant_of-self-in_err-admit
+invariant_of-self-in_err-admit c =
+    let i = c.self.inside in
+    let same = unchanged (parts_of i.config i.ledger.book i.house) c.self.invariant c.prepare_birth.new.ledger.book c.admit.new.self c.in_ok-link.ensures.2.2 c.admit.ensures.desk
+    (subst (λ (h : ResidentsState). IsSameTable i.house.table h.table) (sym c.in_err-admit.ensures.err) (same_before (parts_of i.config i.ledger.book i.house) c.self.invariant c.args.parent c.in-Some.process.now c.in-Some.ensures.value c.args.linked i.ledger refl c.prepare_birth.new.parent c.prepare_birth.new.ledger c.in_ok-link.link c.in_ok-link.ensures)) in
+    same.whole
 
 pub returns-in_err-admit-clause-does : goal.returns-in_err-admit-clause-does
 returns-in_err-admit-clause-does c =
-    let can : c.self.inside.ledger.book.clock < 2 ^ 62 = (let k = c.in_ok-prepare.ensures.does.1 in omega arith) in
-    subst (λ d. BearsChild c.args.parent c.args.linked d c.from_residual-in_err-admit.result (shard_of (parts_of c.self.inside.config c.prepare.new.self.book c.admit.new.self))) c.self.view_is
-    (child_no_memory c.args.parent c.args.linked (shard_of (parts_of c.self.inside.config c.self.inside.ledger.book c.self.inside.house)) (shard_of (parts_of c.self.inside.config c.prepare.new.self.book c.admit.new.self)) (alive (parts_of c.self.inside.config c.self.inside.ledger.book c.self.inside.house) c.self.invariant c.args.parent (record { me = c.in-Some._process.now.me; s = c.in-Some._process.now.state; there = c.in-Some.ensures })) (subst IsSome c.in-Some-vacant.ensures refl) (refused_admit c).is can c.from_residual-in_err-admit.result c.from_residual-in_err-admit.ensures)
+    let i = c.self.inside in
+    let same = unchanged (parts_of i.config i.ledger.book i.house) c.self.invariant c.prepare_birth.new.ledger.book c.admit.new.self c.in_ok-link.ensures.2.2 c.admit.ensures.desk
+    (subst (λ (h : ResidentsState). IsSameTable i.house.table h.table) (sym c.in_err-admit.ensures.err) (same_before (parts_of i.config i.ledger.book i.house) c.self.invariant c.args.parent c.in-Some.process.now c.in-Some.ensures.value c.args.linked i.ledger refl c.prepare_birth.new.parent c.prepare_birth.new.ledger c.in_ok-link.link c.in_ok-link.ensures)) in
+    subst (λ d. BearsChild c.args.parent c.args.linked d c.from_residual-in_err-admit.result (shard_of (parts_of i.config c.prepare_birth.new.ledger.book c.admit.new.self))) c.self.view_is
+    (child_no_memory c.args.parent c.args.linked (shard_of (parts_of i.config i.ledger.book i.house)) (shard_of (parts_of i.config c.prepare_birth.new.ledger.book c.admit.new.self))
+    (alive (parts_of i.config i.ledger.book i.house) c.self.invariant c.args.parent (acting (parts_of i.config i.ledger.book i.house) c.self.invariant c.args.parent c.in-Some.process.now c.in-Some.ensures.value))
+    (subst IsSome c.in-Some-vacant.ensures refl) same.is (can_bear (parts_of i.config i.ledger.book i.house) c.self.invariant c.args.parent c.in-Some.process.now c.in-Some.ensures.value c.args.linked i.ledger refl c.prepare_birth.new.parent c.prepare_birth.new.ledger c.in_ok-link.link c.in_ok-link.ensures) c.from_residual-in_err-admit.result c.from_residual-in_err-admit.ensures)
 
-pub invariant_of-self-in_err-admit : goal.invariant_of-self-in_err-admit
-invariant_of-self-in_err-admit c = (refused_admit c).whole
+-- born
+pub adopt-requires-clause-lives : goal.adopt-requires-clause-lives
+adopt-requires-clause-lives c =
+    let i = c.self.inside in
+    parent_lives (parts_of i.config i.ledger.book i.house) c.self.invariant c.args.parent c.in-Some.process.now c.in-Some.ensures.value c.args.linked i.ledger refl c.prepare_birth.new.parent c.prepare_birth.new.ledger c.in_ok-link.link c.in_ok-link.ensures
+    c.in-Some-vacant.pid c.in-Some-vacant.ensures c.in_ok-child.child c.admit.new.self c.admit.ensures.desk c.in_ok-admit.ensures.ok
 
-pub returns-in_err-admit-clause-extends : goal.returns-in_err-admit-clause-extends
-returns-in_err-admit-clause-extends c = subst (λ d. Extends d (shard_of (parts_of c.self.inside.config c.prepare.new.self.book c.admit.new.self))) c.self.view_is (refused_admit c).extends
+pub adopt-requires-clause-room : goal.adopt-requires-clause-room
+adopt-requires-clause-room c =
+    let i = c.self.inside in
+    parent_has_room (parts_of i.config i.ledger.book i.house) c.self.invariant c.args.parent c.in-Some.process.now c.in-Some.ensures.value c.args.linked i.ledger refl c.prepare_birth.new.parent c.prepare_birth.new.ledger c.in_ok-link.link c.in_ok-link.ensures
+    c.in-Some-vacant.pid c.in-Some-vacant.ensures c.in_ok-child.child c.admit.new.self c.admit.ensures.desk c.in_ok-admit.ensures.ok
+
+pub invariant_of-self-2 : goal.invariant_of-self-2
+invariant_of-self-2 c =
+    let i = c.self.inside in
+    let one = bore (parts_of i.config i.ledger.book i.house) c.self.invariant c.args.parent c.in-Some.process.now c.in-Some.ensures.value c.args.linked i.ledger refl c.prepare_birth.new.parent c.prepare_birth.new.ledger c.in_ok-link.link c.in_ok-link.ensures
+    c.in-Some-vacant.pid c.in-Some-vacant.ensures c.in_ok-child.child c.admit.new.self c.admit.ensures.desk c.in_ok-admit.ensures.ok
+    c.in_ok-child.ensures.me c.in_ok-child.ensures.state c.adopt.new.self c.adopt.ensures.desk c.adopt.ensures.changes c.write.new.self.book c.write.ensures.book in
+    one.whole
+
+pub returns-clause-known : goal.returns-clause-known
+returns-clause-known c =
+    let i = c.self.inside in
+    let one = bore (parts_of i.config i.ledger.book i.house) c.self.invariant c.args.parent c.in-Some.process.now c.in-Some.ensures.value c.args.linked i.ledger refl c.prepare_birth.new.parent c.prepare_birth.new.ledger c.in_ok-link.link c.in_ok-link.ensures
+    c.in-Some-vacant.pid c.in-Some-vacant.ensures c.in_ok-child.child c.admit.new.self c.admit.ensures.desk c.in_ok-admit.ensures.ok
+    c.in_ok-child.ensures.me c.in_ok-child.ensures.state c.adopt.new.self c.adopt.ensures.desk c.adopt.ensures.changes c.write.new.self.book c.write.ensures.book in
+    (one.here, one.known)
+
+pub returns-clause-extends : goal.returns-clause-extends
+returns-clause-extends c =
+    let i = c.self.inside in
+    let one = bore (parts_of i.config i.ledger.book i.house) c.self.invariant c.args.parent c.in-Some.process.now c.in-Some.ensures.value c.args.linked i.ledger refl c.prepare_birth.new.parent c.prepare_birth.new.ledger c.in_ok-link.link c.in_ok-link.ensures
+    c.in-Some-vacant.pid c.in-Some-vacant.ensures c.in_ok-child.child c.admit.new.self c.admit.ensures.desk c.in_ok-admit.ensures.ok
+    c.in_ok-child.ensures.me c.in_ok-child.ensures.state c.adopt.new.self c.adopt.ensures.desk c.adopt.ensures.changes c.write.new.self.book c.write.ensures.book in
+    subst (λ d. Extends d (shard_of (parts_of i.config c.write.new.self.book c.adopt.new.self))) c.self.view_is one.extends
+
+pub returns-clause-fit : goal.returns-clause-fit
+returns-clause-fit c =
+    let i = c.self.inside in
+    let one = bore (parts_of i.config i.ledger.book i.house) c.self.invariant c.args.parent c.in-Some.process.now c.in-Some.ensures.value c.args.linked i.ledger refl c.prepare_birth.new.parent c.prepare_birth.new.ledger c.in_ok-link.link c.in_ok-link.ensures
+    c.in-Some-vacant.pid c.in-Some-vacant.ensures c.in_ok-child.child c.admit.new.self c.admit.ensures.desk c.in_ok-admit.ensures.ok
+    c.in_ok-child.ensures.me c.in_ok-child.ensures.state c.adopt.new.self c.adopt.ensures.desk c.adopt.ensures.changes c.write.new.self.book c.write.ensures.book in
+    one.fit
