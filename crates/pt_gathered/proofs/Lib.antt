@@ -10,3 +10,4 @@ pub mod Told
 pub mod Again
 pub mod Histories
 pub mod Places
+pub mod Posted

@@ -4,11 +4,12 @@ use Rattle.std.specs.Prelude.{Err, replicate}
 use Rattle.std.proofs.lemmas.List.{length-append, length-set, get_or-set_same, get_or-set_other}
 use Rattle.std.proofs.lemmas.Bool.{eqb-true, eq-eqb, ne_eqb, both_ways}
 use Rattle.pt_signal.specs.declared.letter.Letter.{Letter}
-use Rattle.pt_gathered.specs.Gathered.{GatheredState, journals, over_in}
+use Rattle.pt_gathered.specs.Gathered.{GatheredState, box_at, journals, over_in}
 use Rattle.pt_shard.specs.declared.stop.Stop.{Stop}
 use Rattle.pt_gathered.specs.Settling.{Receives, replies_to, Steps, NothingTo}
 use Rattle.pt_gathered.specs.Order.{InTurn, Comes, LaneComes, LaneStops, DeskComes}
-use Rattle.pt_gathered.specs.Waits.{Waits, Marks}
+use Rattle.pt_gathered.specs.Waits.{KeepsNone, Marks, NonePosted, Waits, posted_in}
+use Rattle.pt_gathered.proofs.Posted.{over_none, posted_none}
 
 -- one more in turn
 pub more_in_turn : (Does : ℕ → GatheredState → GatheredState → Type 0) (n : ℕ) (old mid new : GatheredState) → InTurn Does n old mid → Does n mid new → InTurn Does (n + 1) old new
@@ -47,7 +48,7 @@ module _ (d e : ℕ) (l : Letter) (old new : GatheredState) (r : Receives d e l 
   one_taken : d < length old.shards → e < length old.shards → (d ≡ e → ⊥) → over_in new.shards new.lanes d e ≡ drop 1 (over_in old.shards old.lanes d e)
   one_taken d_in e_in ne = plain d e d_in e_in ne ∙ rw (eq-eqb d d refl, eq-eqb e e refl) refl
 
-drop_more : (m : ℕ) (xs : List Letter) → drop 1 (drop m xs) ≡ drop (suc m) xs
+pub drop_more : (m : ℕ) (xs : List Letter) → drop 1 (drop m xs) ≡ drop (suc m) xs
 drop_more zero xs = refl
 drop_more (suc m) [] = refl
 drop_more (suc m) (x ∷ xs) = drop_more m xs
@@ -127,6 +128,11 @@ module _ (d e : ℕ) where
       let one = length_drop1 (over_in c.0.shards c.0.lanes d e) in
       omega arith
 
+-- while fewer came than were left over, one is left over
+pub one_left : (d e k : ℕ) (old mid : GatheredState) → Comes d e k old mid → d < length old.shards → e < length old.shards
+    → k < length (over_in old.shards old.lanes d e) → over_in mid.shards mid.lanes d e ≡ [] → ⊥
+one_left d e k old mid comes d_in e_in more none = let left = comes_left d e k old mid comes d_in e_in in absurd (omega (arith, ap length none))
+
 -- one more does not come
 pub lane_stops : (d e k : ℕ) (old mid new : GatheredState) (stop : Stop) → Comes d e k old mid → k < length (over_in old.shards old.lanes d e) → Steps d e mid (Err stop) new → LaneStops e d stop old new
 lane_stops d e k old mid new stop comes within s =
@@ -145,26 +151,34 @@ waits_at_first n g e h off = absurd (both_ways (get_or (replicate n true) e true
 
 -- the marks after letters came to desk e, of which those sent on were marked
 pub waits_after : (e : ℕ) (old new : GatheredState) (waits after : List Bool) → e < length old.shards → e < length waits → Waits waits old → DeskComes (length old.shards) e old new
-    → Marks e (length new.shards) new (set waits e false) after → Waits after new
-waits_after e old new waits after e_in room before comes marks k k_in unmarked i i_in =
-    go (i == e) refl
+    → KeepsNone old new → NonePosted e new → Marks e (length new.shards) new (set waits e false) after → Waits after new
+waits_after e old new waits after e_in room before comes keeps none marks k k_in unmarked i i_in =
+    go (i == e) refl (k == e) refl
   where
     count : length new.shards ≡ length old.shards
     count = desk_count e (length old.shards) old new comes
 
-    go : (b : Bool) → (i == e) ≡ b → over_in new.shards new.lanes i k ≡ []
-    go true q = ap (λ j. over_in new.shards new.lanes j k) (eqb-true i e q) ∙ marks.2 k k_in unmarked
-    go false q = other (k == e) refl
-      where
-        ne : i ≡ e → ⊥
-        ne r = both_ways (i == e) q (eq-eqb i e r)
+    -- what is not marked was not marked before
+    was : (k ≡ e → ⊥) → get_or waits k true ≡ false
+    was other = sym (get_or-set_other waits e k false true other) ∙ marks.1 k unmarked
 
-        other : (b : Bool) → (k == e) ≡ b → over_in new.shards new.lanes i k ≡ []
-        other true p = ap (over_in new.shards new.lanes i) (eqb-true k e p) ∙ desk_emptied e (length old.shards) old new comes (le_refl (length old.shards)) e_in i (omega (arith, i_in, count)) ne
-        other false p =
-            let not_e : k ≡ e → ⊥ = λ r. both_ways (k == e) p (eq-eqb k e r) in
-            let was : get_or waits k true ≡ false = sym (get_or-set_other waits e k false true not_e) ∙ marks.1 k unmarked in
-            desk_same e (length old.shards) old new comes i k (omega (arith, i_in, count)) (omega (arith, k_in, count)) ne not_e ∙ before k (omega (arith, k_in, count)) was i (omega (arith, i_in, count))
+    go : (b : Bool) → (i == e) ≡ b → (c : Bool) → (k == e) ≡ c → over_in new.shards new.lanes i k ≡ []
+    go true q true p =
+        let to : posted_in new.shards new.lanes i k ≡ [] = ap (posted_in new.shards new.lanes i) (eqb-true k e p) ∙ none i i_in in
+        over_none new.shards new.lanes i k to (ap (λ j. box_at new.shards j k) (eqb-true i e q) ∙ marks.2 k k_in unmarked)
+    go true q false p =
+        let not_e : k ≡ e → ⊥ = λ r. both_ways (k == e) p (eq-eqb k e r) in
+        let from = before k (omega (arith, k_in, count)) (was not_e) i (omega (arith, i_in, count)) in
+        let to = keeps i k (omega (arith, i_in, count)) (omega (arith, k_in, count)) (posted_none old.shards old.lanes i k from) in
+        over_none new.shards new.lanes i k to (ap (λ j. box_at new.shards j k) (eqb-true i e q) ∙ marks.2 k k_in unmarked)
+    go false q true p =
+        let ne : i ≡ e → ⊥ = λ r. both_ways (i == e) q (eq-eqb i e r) in
+        ap (over_in new.shards new.lanes i) (eqb-true k e p) ∙ desk_emptied e (length old.shards) old new comes (le_refl (length old.shards)) e_in i (omega (arith, i_in, count)) ne
+    go false q false p =
+        let ne : i ≡ e → ⊥ = λ r. both_ways (i == e) q (eq-eqb i e r) in
+        let not_e : k ≡ e → ⊥ = λ r. both_ways (k == e) p (eq-eqb k e r) in
+        desk_same e (length old.shards) old new comes i k (omega (arith, i_in, count)) (omega (arith, k_in, count)) ne not_e
+        ∙ before k (omega (arith, k_in, count)) (was not_e) i (omega (arith, i_in, count))
 
 -- one mark more, or none
 module _ (d n : ℕ) (g : GatheredState) (old : List Bool) where
@@ -184,8 +198,8 @@ module _ (d n : ℕ) (g : GatheredState) (old : List Bool) where
       kept : (j : ℕ) → get_or (set now k true) j true ≡ false → get_or old j true ≡ false
       kept j u = m.1 j (off j u).1
 
-      found : (j : ℕ) → j < k + 1 → get_or (set now k true) j true ≡ false → over_in g.shards g.lanes d j ≡ []
+      found : (j : ℕ) → j < k + 1 → get_or (set now k true) j true ≡ false → box_at g.shards d j ≡ []
       found j h u = let o = off j u in m.2 j (omega (arith, o.0)) o.1
 
-  pub marks_skip : (k : ℕ) (now : List Bool) → over_in g.shards g.lanes d k ≡ [] → Marks d k g old now → Marks d (k + 1) g old now
-  marks_skip k now empty m = (m.0, m.1, λ j h u. below_more (λ j. get_or now j true ≡ false → over_in g.shards g.lanes d j ≡ []) k (λ j l. m.2 j l) (λ u. empty) j h u)
+  pub marks_skip : (k : ℕ) (now : List Bool) → box_at g.shards d k ≡ [] → Marks d k g old now → Marks d (k + 1) g old now
+  marks_skip k now empty m = (m.0, m.1, λ j h u. below_more (λ j. get_or now j true ≡ false → box_at g.shards d j ≡ []) k (λ j l. m.2 j l) (λ u. empty) j h u)

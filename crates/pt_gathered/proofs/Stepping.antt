@@ -1,6 +1,6 @@
 -- The letters left over, one of them taken out, and one receipt.
 use Rattle.std.proofs.Common.{◌≡◌, ℕ, ◌+◌, ◌*◌, ◌^◌, ◌<◌, ◌==◌, ◌&&◌, Bool, true, false, cond, List, [], ◌∷◌, ◌++◌, length, max, map, drop, get_or, set, Option, Some, None, refl, sym, ap, ◌∙◌, subst, append_assoc, append-nil, arith, ⊎_elim}
-use Rattle.std.specs.Prelude.{slice_get, ◌⊎◌, Err}
+use Rattle.std.specs.Prelude.{slice_get, ◌⊎◌, Ok, Err}
 use Rattle.std.proofs.lemmas.Bool.{eqb-true, eq-eqb, ne_eqb, both_ways, cases_order}
 use Rattle.std.proofs.lemmas.List.{get_or_default, get_or-set_same, get_or-set_other, length-set}
 use Rattle.pt_signal.specs.declared.letter.Letter.{Letter}
@@ -16,6 +16,8 @@ use Rattle.pt_shard.specs.Fit.{IsFit}
 use Rattle.pt_gathered.specs.Gathered.{GatheredState, IsGathered, IsShardOf, journal_at, box_at, hold_at, held_from, over_in}
 use Rattle.pt_gathered.specs.Settling.{receipt, replies, replies_to, Receives, Steps}
 use Rattle.pt_gathered.specs.Taking.{bare, AreShards, TakesOut}
+use Rattle.pt_gathered.specs.Waits.{posted_in, StepsPosted}
+use Rattle.pt_gathered.proofs.Posted.{steps_posted}
 use Rattle.pt_gathered.proofs.Agreeing.{AllBetween, between_ends, agree_step}
 
 -- which letter is the first ----------------------------------------------------------------
@@ -97,6 +99,23 @@ module _ (shards : List ShardState) (lanes : List (List Letter)) (d e : ℕ) (d_
             rw (p, q, away) refl
         go false p false q = rw (p, q) refl
 
+    held_posted : (i k : ℕ) (rest : List Letter) → held_from i (cond (k == e) None (hold_at shards k)) ++ rest
+        ≡ cond ((i == d) && (k == e)) (drop 1 (held_from i (hold_at shards k) ++ rest)) (held_from i (hold_at shards k) ++ rest)
+    held_posted i k rest = go (i == d) refl (k == e) refl
+      where
+        at : k ≡ e → hold_at shards k ≡ Some l
+        at q = ap (hold_at shards) q ∙ hold_is shards e s e_in is ∙ holds
+
+        go : (p : Bool) → (i == d) ≡ p → (q : Bool) → (k == e) ≡ q
+            → held_from i (cond (k == e) None (hold_at shards k)) ++ rest
+            ≡ cond ((i == d) && (k == e)) (drop 1 (held_from i (hold_at shards k) ++ rest)) (held_from i (hold_at shards k) ++ rest)
+        go true p true q = rw (p, q, at (eqb-true k e q), eq-eqb l.from.shard i (from ∙ sym (eqb-true i d p))) refl
+        go true p false q = rw (p, q) refl
+        go false p true q =
+            let away : held_from i (hold_at shards k) ≡ [] = held_away i (hold_at shards k) l (at (eqb-true k e q)) (λ r. both_ways (i == d) p (eq-eqb i d (sym r ∙ from))) in
+            rw (p, q, away) refl
+        go false p false q = rw (p, q) refl
+
     boxes_same : map (λ (s : ShardState). s.outbox) (set shards e (record s { hold = None })) ≡ map (λ (s : ShardState). s.outbox) shards
     boxes_same = map-set_same (λ (s : ShardState). s.outbox) shards e s (record s { hold = None }) e_in is refl
 
@@ -106,6 +125,9 @@ module _ (shards : List ShardState) (lanes : List (List Letter)) (d e : ℕ) (d_
       lane_count = refl;
       over = λ i k hi hk.
           rw (length-set shards e (record s { hold = None }), boxes_same, read_set (λ (s : ShardState). s.hold) shards e (record s { hold = None }) k None e_in) (held_drop i k);
+      posted = λ i k hi hk.
+          rw (length-set shards e (record s { hold = None }), read_set (λ (s : ShardState). s.hold) shards e (record s { hold = None }) k None e_in)
+          (held_posted i k (get_or lanes (i * length shards + k) []));
     }
 
   -- the first in the lane
@@ -126,6 +148,8 @@ module _ (shards : List ShardState) (lanes : List (List Letter)) (d e : ℕ) (d_
       lane_count = length-set lanes n (drop 1 x);
       over = λ i k hi hk. subst (λ m. held_from i (hold_at shards k) ++ get_or (set lanes m (drop 1 x)) (i * length shards + k) [] ++ box_at shards i k
           ≡ cond ((i == d) && (k == e)) (drop 1 (over_in shards lanes i k)) (over_in shards lanes i k)) (sym at) (go i k hi hk (i == d) refl (k == e) refl);
+      posted = λ i k hi hk. subst (λ m. held_from i (hold_at shards k) ++ get_or (set lanes m (drop 1 x)) (i * length shards + k) []
+          ≡ cond ((i == d) && (k == e)) (drop 1 (posted_in shards lanes i k)) (posted_in shards lanes i k)) (sym at) (posted_go i k hi hk (i == d) refl (k == e) refl);
     }
       where
         lane : get_or lanes (d * length shards + e) [] ≡ x
@@ -149,6 +173,16 @@ module _ (shards : List ShardState) (lanes : List (List Letter)) (d e : ℕ) (d_
         go i k hi hk true p false q = rw (p, q, other i k hi hk (λ r. both_ways (k == e) q (eq-eqb k e r.1))) refl
         go i k hi hk false p q' q = rw (p, other i k hi hk (λ r. both_ways (i == d) p (eq-eqb i d r.0))) refl
 
+        posted_go : (i k : ℕ) → i < length shards → k < length shards → (p : Bool) → (i == d) ≡ p → (q : Bool) → (k == e) ≡ q
+            → held_from i (hold_at shards k) ++ get_or (set lanes (d * length shards + e) (drop 1 x)) (i * length shards + k) []
+            ≡ cond ((i == d) && (k == e)) (drop 1 (posted_in shards lanes i k)) (posted_in shards lanes i k)
+        posted_go i k hi hk true p true q =
+            let Same : ℕ → ℕ → Type 0 = λ i k. held_from i (hold_at shards k) ++ get_or (set lanes (d * length shards + e) (drop 1 x)) (i * length shards + k) [] ≡ drop 1 (posted_in shards lanes i k) in
+            let here : Same d e = rw (held, get_or-set_same lanes (d * length shards + e) (drop 1 x) [] place_in, lane) refl in
+            rw (p, q) (subst (λ i. Same i k) (sym (eqb-true i d p)) (subst (Same d) (sym (eqb-true k e q)) here))
+        posted_go i k hi hk true p false q = rw (p, q, other i k hi hk (λ r. both_ways (k == e) q (eq-eqb k e r.1))) refl
+        posted_go i k hi hk false p q' q = rw (p, other i k hi hk (λ r. both_ways (i == d) p (eq-eqb i d r.0))) refl
+
     -- the first that was not posted
     pub takes_box : (s : ShardState) → s ≡ get_or shards d s → get_or lanes (d * length shards + e) [] ≡ [] → e < length s.outbox
         → TakesOut d e shards (set shards d (record s { outbox = set s.outbox e (drop 1 (get_or s.outbox e [])) })) lanes lanes
@@ -158,8 +192,19 @@ module _ (shards : List ShardState) (lanes : List (List Letter)) (d e : ℕ) (d_
       over = λ i k hi hk.
           rw (length-set shards d (record s { outbox = set s.outbox e (drop 1 (get_or s.outbox e [])) }), holds, read_set (λ (s : ShardState). s.outbox) shards d (record s { outbox = set s.outbox e (drop 1 (get_or s.outbox e [])) }) i [] d_in)
           (go i k (i == d) refl (k == e) refl);
+      posted = λ i k hi hk.
+          rw (length-set shards d (record s { outbox = set s.outbox e (drop 1 (get_or s.outbox e [])) }), holds) (posted_go i k (i == d) refl (k == e) refl);
     }
       where
+        posted_go : (i k : ℕ) (p : Bool) → (i == d) ≡ p → (q : Bool) → (k == e) ≡ q
+            → posted_in shards lanes i k ≡ cond ((i == d) && (k == e)) (drop 1 (posted_in shards lanes i k)) (posted_in shards lanes i k)
+        posted_go i k true p true q =
+            let Same : ℕ → ℕ → Type 0 = λ i k. posted_in shards lanes i k ≡ drop 1 (posted_in shards lanes i k) in
+            let here : Same d e = rw (held, empty) refl in
+            rw (p, q) (subst (λ i. Same i k) (sym (eqb-true i d p)) (subst (Same d) (sym (eqb-true k e q)) here))
+        posted_go i k true p false q = rw (p, q) refl
+        posted_go i k false p q' q = rw p refl
+
         holds : map (λ (s : ShardState). s.hold) (set shards d (record s { outbox = set s.outbox e (drop 1 (get_or s.outbox e [])) })) ≡ map (λ (s : ShardState). s.hold) shards
         holds = map-set_same (λ (s : ShardState). s.hold) shards d s (record s { outbox = set s.outbox e (drop 1 (get_or s.outbox e [])) }) d_in is refl
 
@@ -271,6 +316,15 @@ module _ (config : Config) (shards : List ShardState) (lanes : List (List Letter
             rw (p, q) (ap (drop 1) (over_one i k hk) ∙ dropped (over_in shards lanes i k) more (drop 1 (over_in shards lanes d e)) at)
         go true p false q = rw (p, q) (over_one i k hk)
         go false p q' q = rw p (over_one i k hk)
+
+    posted_one : (i k : ℕ) → posted_in (set shards e s') lanes i k ≡ posted_in shards lanes i k
+    posted_one i k =
+        ap (λ h. held_from i (get_or h k None) ++ get_or lanes (i * length (set shards e s') + k) []) holds_one
+        ∙ ap (λ n. held_from i (hold_at shards k) ++ get_or lanes (i * n + k) []) count1
+
+    pub posted_steps : StepsPosted d e old_node (Ok true) new_node
+    posted_steps = steps_posted d e old_node new_node d_in e_in (λ i k hi hk.
+        took.posted i k (omega (arith, hi, count1)) (omega (arith, hk, count1)) ∙ ap (λ xs. cond ((i == d) && (k == e)) (drop 1 xs) xs) (posted_one i k))
 
     pub receives : Receives d e l old_node new_node
     receives = record {

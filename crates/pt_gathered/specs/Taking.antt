@@ -4,6 +4,7 @@ use Rattle.pt_signal.specs.declared.letter.Letter.{Letter}
 use Rattle.pt_shard.specs.declared.config.Config.{Config}
 use Rattle.pt_shard.specs.ShardState.{ShardState}
 use Rattle.pt_gathered.specs.Gathered.{over_in, IsShardOf}
+use Rattle.pt_gathered.specs.Waits.{posted_in}
 
 -- all of a desk but its letters
 abbrev pub bare : ShardState → ShardState
@@ -17,3 +18,4 @@ pub record TakesOut (d e : ℕ) (old new : List ShardState) (lanes lanes' : List
   pub bare_same : map bare new ≡ map bare old
   pub lane_count : length lanes' ≡ length lanes
   pub over : (i k : ℕ) → i < length old → k < length old → over_in new lanes' i k ≡ cond ((i == d) && (k == e)) (drop 1 (over_in old lanes i k)) (over_in old lanes i k)
+  pub posted : (i k : ℕ) → i < length old → k < length old → posted_in new lanes' i k ≡ cond ((i == d) && (k == e)) (drop 1 (posted_in old lanes i k)) (posted_in old lanes i k)

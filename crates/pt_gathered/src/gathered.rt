@@ -5,11 +5,12 @@ ghost use Rattle.pt_events.specs.Journal.{IsMerge};
 ghost use Rattle.pt_laws.specs.Laws.{LegalWithLeftOver};
 ghost use Rattle.pt_lives.specs.LivesState.{AreLivesOf};
 ghost use Rattle.pt_merge.specs.Merging.{AreApart, journal_of};
-ghost use Rattle.pt_gathered.specs.Gathered.{IsGathered, held_from, hold_at, over, over_in, journals};
+ghost use Rattle.pt_gathered.specs.Gathered.{IsGathered, box_at, held_from, hold_at, over, over_in, journals};
 ghost use Rattle.pt_gathered.specs.LeftOvers.{all_left, left_from, left_between};
 ghost use Rattle.pt_gathered.specs.Settling.{Steps};
 ghost use Rattle.pt_gathered.specs.Taking.{TakesOut, AreShards};
 ghost use Rattle.pt_gathered.specs.History.{AreJournalsOf};
+ghost use Rattle.pt_gathered.specs.Waits.{StepsPosted};
 
 use crate::left_over::LeftOver;
 use crate::node_laws::laws_of;
@@ -216,10 +217,19 @@ impl Gathered {
         )
     }
 
+    /// How many letters wait in the outbox of desk d for desk e.
+    pub(crate) fn count_out(&self, d: u8, e: u8) -> usize
+        requires { (d < length self.now.shards) × (e < length self.now.shards) }
+        ensures { result ≡ length (box_at self.now.shards d e) }
+    {
+        self.shards[usize::from(d)].count_out(e)
+    }
+
     /// The first letter left over from desk d to desk e, if there is one, comes to its receiver.
     pub(crate) fn step(&mut self, d: u8, e: u8) -> Result<bool, Stop>
         requires { (d < length self.old.shards) × (e < length self.old.shards) }
-        ensures { Steps d e self.old result self.new }
+        ensures does { Steps d e self.old result self.new }
+        ensures posted { StepsPosted d e self.old result self.new }
     {
         let Some(letter) = letter_at(
             self.config,

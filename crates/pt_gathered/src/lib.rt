@@ -37,9 +37,9 @@
 //!
 //! # Cost
 //!
-//! A letter that settling handles costs its receipt and, where it is the only one to its desk in a pass, about six simple
-//! tests for each desk, some 400 in a node of 64; where many letters come to a desk in a pass they share these. Desks to
-//! which nothing is left over are not looked at. No list of letters is moved and no journal is copied; reading the
+//! A letter that settling handles costs its receipt and, where it is the only one of its pass, three simple tests for
+//! each desk, 192 in a node of 64; letters of one pass share these. Desks to which nothing is left over are not looked at,
+//! and each lane is looked at in full once. No list of letters is moved and no journal is copied; reading the
 //! journals takes constant time, on average, for each event. `history` takes the logarithm of the number of desks for
 //! each event.
 #![tactic(auto, unfolding(crate::specs::Text::left_over_text))]

@@ -5,7 +5,7 @@ ghost use Rattle.pt_shard.specs.declared.stop.Stop.TheVariants.{Memory};
 ghost use Rattle.pt_gathered.specs.Gathered.{over_in};
 ghost use Rattle.pt_gathered.specs.Settling.{Runs, Moves, Settles, NothingLeft, NothingTo, NothingBelow};
 ghost use Rattle.pt_gathered.specs.Order.{Passes, SettlingStops, Pass, PassStops, DeskComes, DeskStops, LaneComes, LaneStops};
-ghost use Rattle.pt_gathered.specs.Waits.{Waits, Marks};
+ghost use Rattle.pt_gathered.specs.Waits.{Waits, Marks, AreLeast, IsLeast, KeepsNone, NonePosted, posted_in};
 ghost use Rattle.pt_gathered.specs.Lawful.{LanesKeep, KeepsHeadline, IsLegalNode, IsQuietNode, IsBounded, LinksStand, WatchesStand};
 
 use crate::gathered::Gathered;
@@ -55,8 +55,13 @@ impl Gathered {
     /// Where a receipt is refused, as `Worn` where its stamp would pass the limit of clocks, else as `Memory`, the node
     /// comes back with what was handled so far, of which all holds that holds of a gathered node; settling it again
     /// goes on from there. Where the reading of the journals finds no memory, the fault is `Memory` too, and no letter
-    /// is left over in the node that comes back; settling that again changes nothing of it, and reads the journals anew. A
-    /// letter costs what its receipt costs, and a few tests for each desk.
+    /// is left over in the node that comes back; settling that again changes nothing of it, and reads the journals anew.
+    ///
+    /// A letter costs what its receipt costs, and tests. Where it is the only one of its pass there are three for each
+    /// desk, each of one mark or of one count: whether letters may be left over to the desk, whether the desk has any for
+    /// the receiver in its outbox, and whether the receiver now has any for the desk. That is 192 in a node of 64, and a
+    /// dozen for where the letter itself stands; letters of the same pass share the first 64, and those that come to the
+    /// same desk in it the others too. Besides, each lane is looked at once in full, when its desk is first come to.
     pub fn settle(self) -> Result<Quiet, Unsettled>
         ensures order { IfOk result (λ q. (count : ℕ) × Passes (length self.shards) count self q.gathered) }
         ensures runs { IfOk result (λ q. Runs self 0 q.gathered q.handled) }
@@ -77,10 +82,11 @@ impl Gathered {
         laws_of(&self);
         let mut gathered = self;
         let mut waits = [true; 64];
+        let mut least = [0; 64];
         let mut handled = 0;
         let mut more = true;
         while more {
-            match pass(&mut gathered, &mut waits, &mut handled) {
+            match pass(&mut gathered, &mut waits, &mut least, &mut handled) {
                 Ok(moved) => more = moved,
                 Err(fault) => {
                     laws_of(&gathered);
@@ -99,19 +105,30 @@ impl Gathered {
     }
 }
 
-/// One pass: each receiving desk, from desk 0. A desk that is not marked in `waits` has nothing left over to it.
-fn pass(gathered: &mut Gathered, waits: &mut [bool; 64], handled: &mut u64) -> Result<bool, Stop>
-    requires { Waits waits.old gathered.old }
+/// One pass: each receiving desk, from desk 0.
+///
+/// A desk that is not marked in `waits` has nothing left over to it. In `least` stands how many letters an outbox has to
+/// hold for a desk so that any can be left over between the two: 0 until that desk was come to, and 1 from then on, since
+/// all letters to it then wait in outboxes.
+fn pass(
+    gathered: &mut Gathered,
+    waits: &mut [bool; 64],
+    least: &mut [usize; 64],
+    handled: &mut u64,
+) -> Result<bool, Stop>
+    requires waits { Waits waits.old gathered.old }
+    requires least { AreLeast least.old gathered.old }
     ensures runs { Runs gathered.old handled.old gathered.new handled.new }
     ensures moves { Moves (NothingBelow (length gathered.old.shards) gathered.old) gathered.old result gathered.new }
     ensures waits { OnOk result (Waits waits.new gathered.new) }
+    ensures least { OnOk result (AreLeast least.new gathered.new) }
     ensures order { OnOk result (Pass (length gathered.old.shards) 0 gathered.old gathered.new) }
     ensures stops { IfErr result (λ stop. PassStops (length gathered.old.shards) stop gathered.old gathered.new) }
 {
     let _before = *handled;
     let mut moved = false;
     for e in 0..gathered.desks() {
-        match settle_desk(gathered, e, waits, handled) {
+        match settle_desk(gathered, e, waits, least, handled) {
             Ok(some) => {
                 if some {
                     moved = true;
@@ -128,13 +145,16 @@ fn settle_desk(
     gathered: &mut Gathered,
     e: u8,
     waits: &mut [bool; 64],
+    least: &mut [usize; 64],
     handled: &mut u64,
 ) -> Result<bool, Stop>
     requires desk { e < length gathered.old.shards }
     requires waits { Waits waits.old gathered.old }
+    requires least { AreLeast least.old gathered.old }
     ensures runs { Runs gathered.old handled.old gathered.new handled.new }
     ensures moves { Moves (NothingTo (length gathered.old.shards) e gathered.old) gathered.old result gathered.new }
     ensures waits { OnOk result (Waits waits.new gathered.new) }
+    ensures least { OnOk result (AreLeast least.new gathered.new) }
     ensures order { OnOk result (DeskComes (length gathered.old.shards) e gathered.old gathered.new) }
     ensures stops { IfErr result (λ stop. DeskStops (length gathered.old.shards) e stop gathered.old gathered.new) }
 {
@@ -143,39 +163,43 @@ fn settle_desk(
     if !waits[usize::from(e)] {
         return Ok(false);
     }
-    let moved = match settle_to(gathered, e, handled) {
+    let moved = match settle_to(gathered, e, least[usize::from(e)], handled) {
         Ok(moved) => moved,
         Err(stop) => return Err(stop),
     };
     waits[usize::from(e)] = false;
+    least[usize::from(e)] = 1;
     mark(gathered, e, waits);
     Ok(moved)
 }
 
-/// Marks the desks to which letters are left over from desk d.
+/// Marks the desks for which desk d has letters in its outbox.
 fn mark(gathered: &Gathered, d: u8, waits: &mut [bool; 64])
     requires { d < length gathered.now.shards }
     ensures { Marks d (length gathered.now.shards) gathered.now waits.old waits.new }
 {
     for k in 0..gathered.desks() {
-        if gathered.count_over(d, k) > 0 {
+        if gathered.count_out(d, k) > 0 {
             waits[usize::from(k)] = true;
         }
     }
 }
 
 /// The letters to desk e: each sending desk, from desk 0.
-fn settle_to(gathered: &mut Gathered, e: u8, handled: &mut u64) -> Result<bool, Stop>
-    requires { e < length gathered.old.shards }
+fn settle_to(gathered: &mut Gathered, e: u8, least: usize, handled: &mut u64) -> Result<bool, Stop>
+    requires desk { e < length gathered.old.shards }
+    requires least { IsLeast e least gathered.old }
     ensures runs { Runs gathered.old handled.old gathered.new handled.new }
     ensures moves { Moves (NothingTo (length gathered.old.shards) e gathered.old) gathered.old result gathered.new }
     ensures order { OnOk result (DeskComes (length gathered.old.shards) e gathered.old gathered.new) }
     ensures stops { IfErr result (λ stop. DeskStops (length gathered.old.shards) e stop gathered.old gathered.new) }
+    ensures keeps { OnOk result (KeepsNone gathered.old gathered.new) }
+    ensures none { OnOk result (NonePosted e gathered.new) }
 {
     let _before = *handled;
     let mut moved = false;
     for d in 0..gathered.desks() {
-        match settle_lane(gathered, d, e, handled) {
+        match settle_lane(gathered, d, e, least, handled) {
             Ok(some) => {
                 if some {
                     moved = true;
@@ -187,16 +211,28 @@ fn settle_to(gathered: &mut Gathered, e: u8, handled: &mut u64) -> Result<bool, 
     Ok(moved)
 }
 
-/// The letters that are now left over from desk d to desk e.
-fn settle_lane(gathered: &mut Gathered, d: u8, e: u8, handled: &mut u64) -> Result<bool, Stop>
-    requires { (d < length gathered.old.shards) × (e < length gathered.old.shards) }
+/// The letters that are now left over from desk d to desk e: none where the outbox holds fewer than `least` for it.
+fn settle_lane(
+    gathered: &mut Gathered,
+    d: u8,
+    e: u8,
+    least: usize,
+    handled: &mut u64,
+) -> Result<bool, Stop>
+    requires within { (d < length gathered.old.shards) × (e < length gathered.old.shards) }
+    requires least { (least ≤ 1) × (0 < least → posted_in gathered.old.shards gathered.old.lanes d e ≡ []) }
     ensures runs { Runs gathered.old handled.old gathered.new handled.new }
     ensures moves { Moves (over_in gathered.old.shards gathered.old.lanes d e ≡ []) gathered.old result gathered.new }
     ensures order { OnOk result (LaneComes e d gathered.old gathered.new) }
     ensures stops { IfErr result (λ stop. LaneStops e d stop gathered.old gathered.new) }
+    ensures keeps { OnOk result (KeepsNone gathered.old gathered.new) }
+    ensures none { OnOk result (posted_in gathered.new.shards gathered.new.lanes d e ≡ []) }
 {
-    let count = gathered.count_over(d, e);
     let _before = *handled;
+    if gathered.count_out(d, e) < least {
+        return Ok(false);
+    }
+    let count = gathered.count_over(d, e);
     let mut moved = false;
     for _k in 0..count {
         let more = match gathered.step(d, e) {

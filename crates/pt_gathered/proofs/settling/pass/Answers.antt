@@ -8,7 +8,7 @@ use Rattle.pt_gathered.proofs.settling.pass.Goals as goal
 use Rattle.pt_gathered.proofs.settling.pass.Goals.{then-some, else-some}
 
 pub loop-e-init : goal.loop-e-init
-loop-e-init c = record { runs = runs_same c.args.gathered.now c.args.handled.now (omega arith); moved = (refl, λ k h. absurd (omega arith)); waits = c.requires; order = refl }
+loop-e-init c = record { runs = runs_same c.args.gathered.now c.args.handled.now (omega arith); moved = (refl, λ k h. absurd (omega arith)); waits = c.requires.waits; least = c.requires.least; order = refl }
 
 pub returns-in-Err-clause-runs : goal.returns-in-Err-clause-runs
 returns-in-Err-clause-runs c =
@@ -45,5 +45,6 @@ loop-e-preserved c =
             after_none a g g' P c.loop-e.e c.loop-e.moved c.if-some.moved w.moved-is inv.moved none.0 none.1
       ];
       waits = c.in-Ok.ensures.waits;
+      least = c.in-Ok.ensures.least;
       order = more_in_turn (DeskComes (length a.shards)) c.loop-e.e a g g' inv.order (subst (λ n. DeskComes n c.loop-e.e g g') inv.runs.settles.count c.in-Ok.ensures.order);
     }

@@ -6,6 +6,7 @@ use Rattle.pt_gathered.specs.Order.{Pass, PassStops, PassesStop}
 use Rattle.pt_gathered.specs.Quiet.{QuietState}
 use Rattle.pt_gathered.proofs.Settled.{runs_same, runs_along, settles_along, done_after}
 use Rattle.pt_gathered.proofs.Ordering.{more_in_turn, waits_at_first}
+use Rattle.pt_gathered.proofs.Posted.{least_at_first}
 use Rattle.pt_gathered.proofs.Again.{passes_go_on, nothing_new}
 use Rattle.pt_gathered.proofs.gathered.Gathered.settle.Goals as goal
 
@@ -19,6 +20,7 @@ loop-more-preserved c =
       runs = runs_along a 0 g c.loop-more.handled g' c.pass.new.handled inv.runs c.in-Ok.ensures.runs;
       done = done_after g g' c.in-Ok.moved c.in-Ok.ensures.moves;
       waits = c.in-Ok.ensures.waits;
+      least = c.in-Ok.ensures.least;
       order = (inv.order.0 + 1, more_in_turn (Pass (length a.shards)) inv.order.0 a g g' inv.order.1 (subst (λ n. Pass n 0 g g') inv.runs.settles.count c.in-Ok.ensures.order));
     }
 
@@ -53,7 +55,7 @@ returns-in-Err-clause-refused_again c none =
     absurd (passes_go_on (length c.args.self.shards) c.args.self (le_refl (length c.args.self.shards)) none c.in-Err.fault c.pass.new.gathered stops)
 
 pub loop-more-init : goal.loop-more-init
-loop-more-init c = record { runs = runs_same c.args.self 0 (omega arith); done = tt; waits = waits_at_first 64 c.args.self; order = (0, refl) }
+loop-more-init c = record { runs = runs_same c.args.self 0 (omega arith); done = tt; waits = waits_at_first 64 c.args.self; least = least_at_first 64 c.args.self; order = (0, refl) }
 
 pub returns-in-Err-lives-clause-refused_order : goal.returns-in-Err-lives-clause-refused_order
 returns-in-Err-lives-clause-refused_order c =

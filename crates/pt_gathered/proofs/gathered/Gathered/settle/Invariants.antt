@@ -3,7 +3,7 @@ use Rattle.std.specs.Prelude.{⊤}
 use Rattle.std.specs.Bool.{MatchBool}
 use Rattle.pt_gathered.specs.Settling.{Runs, NothingLeft, load_of}
 use Rattle.pt_gathered.specs.Order.{Passes}
-use Rattle.pt_gathered.specs.Waits.{Waits}
+use Rattle.pt_gathered.specs.Waits.{AreLeast, Waits}
 use Rattle.pt_gathered.proofs.gathered.Gathered.settle.Given as goal
 
 abbrev pub invariant-loop-more : goal.invariant-loop-more
@@ -11,6 +11,7 @@ invariant-loop-more l = record {
   runs : Runs l.fn.self 0 l.gathered l.handled;
   done : MatchBool l.more ⊤ (NothingLeft l.gathered);
   waits : Waits l.waits l.gathered;
+  least : AreLeast l.least l.gathered;
   order : (count : ℕ) × Passes (length l.fn.self.shards) count l.fn.self l.gathered;
 }
 
