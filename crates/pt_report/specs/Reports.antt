@@ -1,27 +1,38 @@
 -- What a report prints, and when it is refused.
-use Rattle.std.specs.Prelude.{◌≡◌, ℕ, List, Option, Result, Ok, reverse, ⊤}
+use Rattle.std.specs.Prelude.{◌≡◌, ℕ, ◌<◌, List, length, slice_index_or, Option, Result, Ok, reverse}
 use Rattle.std.specs.Io.KnownBytes.{Appends}
 use Rattle.pt_events.specs.declared.event.Stamped.{Stamped}
 use Rattle.pt_events.specs.Journal.{IsMerge}
 use Rattle.pt_gathered.specs.Gathered.{GatheredState, journals}
 use Rattle.pt_gathered.specs.LeftOvers.{all_left}
-use Rattle.pt_desk.specs.DeskState.{DeskState}
+use Rattle.pt_signal.specs.declared.pid.Pid.{Pid}
+use Rattle.pt_desk.specs.DeskState.{DeskState, GoesOn}
+use Rattle.pt_node.specs.Desks.{AreDesksOf}
 use Rattle.pt_node.specs.Gathering.{Gathers}
 use Rattle.pt_script.specs.Plans.{Whole}
 use Rattle.pt_script.specs.Scripts.{reading}
 use Rattle.pt_script.specs.Lists.{Refuses}
 use Rattle.pt_options.specs.declared.choices.Show.{Show}
 use Rattle.pt_options.specs.declared.choices.Show.TheVariants.{Summary, History, Chart}
-use Rattle.pt_runner.specs.Starting.{config_of}
+use Rattle.pt_runner.specs.Starting.{config_of, Begins}
 use Rattle.pt_report.specs.Lines.{history_text}
 use Rattle.pt_report.specs.Summaries.{Summarizes}
 use Rattle.pt_report.specs.declared.fault.ReportFault.{ReportFault}
 use Rattle.pt_report.specs.declared.fault.ReportFault.TheVariants.{Script, Memory, Desk, File}
 
--- the node has the settings of the script and was gathered from desks of one node
+-- The node is one on which the script was run: desks with its settings, on which its processes were born in order, and
+-- nothing else had happened, went on from there, each at its place, and were gathered.
 pub record IsNodeOf (script : Whole) (g : GatheredState) : Type 0 where
   pub config : g.config ≡ config_of script.settings
+  -- the desks when all were born, and the pids of these
+  pub begun : List DeskState
+  pub node : AreDesksOf (config_of script.settings) begun
+  pub born : List Pid
+  pub begins : Begins script.tops (length script.tops) born begun
+  -- the desks when they had been run
   pub desks : List DeskState
+  pub count : length desks ≡ length begun
+  pub went_on : (d : ℕ) (x : DeskState) → d < length begun → GoesOn (slice_index_or begun d x) (slice_index_or desks d x)
   pub gathers : Gathers desks g
 
 -- what stands in the writer now, beyond what stood there before, is what is asked for of the node

@@ -1,4 +1,4 @@
-// The chart of a history.
+//! The chart of a history.
 
 ghost use Rattle.std.specs.Prelude.{◌≡◌, ◌≢◌, ℕ, OnOk, IfErr, List};
 ghost use Rattle.std.specs.Io.KnownBytes.{Appends};
@@ -30,7 +30,7 @@ pub fn print_chart<W: Write>(
     }
 }
 
-// Writes a text, and passes on what the writer holds back.
+/// Writes a text, and passes on what the writer holds back.
 #[tactic(auto, using(crate::proofs::Writing::appends_then, crate::proofs::Writing::appends_keeps))]
 fn write_text<W: Write>(out: &mut W, text: &str) -> io::Result<()>
     ensures { OnOk result (Appends (W.contents out.old) (W.contents out.new) text.now) }

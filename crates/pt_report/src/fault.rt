@@ -1,4 +1,4 @@
-// Why a script was not run, or what happened not printed.
+//! Why a script was not run, or what happened not printed.
 
 ghost use Rattle.std.specs.Prelude.{◌≡◌};
 ghost use Rattle.pt_report.specs.Status.{status_of};
@@ -40,7 +40,7 @@ impl ReportFault {
     }
 }
 
-// The number by which a fault of a desk is printed.
+/// The number by which a fault of a desk is printed.
 fn number_of(fault: &Fault) -> u8 {
     match fault {
         Fault::Full => 1,

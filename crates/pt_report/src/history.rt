@@ -1,4 +1,4 @@
-// The lines of a history.
+//! The lines of a history.
 
 ghost use Rattle.std.specs.Prelude.{◌≡◌, ◌≢◌, OnOk, IfErr, List, reverse};
 ghost use Rattle.std.specs.Io.KnownBytes.{Appends};
@@ -29,7 +29,7 @@ pub fn print_history<W: Write>(gathered: &Gathered, out: &mut W) -> Result<(), R
     }
 }
 
-// Writes the events, then the letters left over, and passes on what the writer holds back.
+/// Writes the events, then the letters left over, and passes on what the writer holds back.
 #[tactic(auto, using(crate::proofs::Writing::appends_then, crate::proofs::Writing::appends_keeps))]
 fn write_history<W: Write>(out: &mut W, events: &[Stamped], letters: &[LeftOver]) -> io::Result<()>
     ensures { OnOk result (Appends (W.contents out.old) (W.contents out.new) (history_text events.now letters.now)) }
@@ -39,7 +39,7 @@ fn write_history<W: Write>(out: &mut W, events: &[Stamped], letters: &[LeftOver]
     out.flush()
 }
 
-// Writes one line an event.
+/// Writes one line an event.
 fn write_events<W: Write>(out: &mut W, events: &[Stamped]) -> io::Result<()>
     ensures { OnOk result (Appends (W.contents out.old) (W.contents out.new) (lines events.now)) }
 {
@@ -49,7 +49,7 @@ fn write_events<W: Write>(out: &mut W, events: &[Stamped]) -> io::Result<()>
     Ok(())
 }
 
-// Writes one line a letter.
+/// Writes one line a letter.
 fn write_letters<W: Write>(out: &mut W, letters: &[LeftOver]) -> io::Result<()>
     ensures { OnOk result (Appends (W.contents out.old) (W.contents out.new) (left_lines letters.now)) }
 {

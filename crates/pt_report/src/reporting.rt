@@ -1,4 +1,4 @@
-// A script is run, and what happened is printed.
+//! A script is run, and what happened is printed.
 
 ghost use Rattle.std.specs.Prelude.{◌≡◌, ◌≢◌, OnOk, IfErr};
 ghost use Rattle.pt_report.specs.Reports.{Reports, IsRefusedAs};

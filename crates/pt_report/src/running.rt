@@ -1,10 +1,11 @@
-// A script is run.
+//! A script is run.
 
-ghost use Rattle.std.specs.Prelude.{◌≡◌, ◌≤◌, map, vec_len, [], IfOk, IfErr};
+ghost use Rattle.std.specs.Prelude.{◌≡◌, ◌≤◌, List, length, map, vec_len, [], IfOk, IfErr};
 ghost use Rattle.std.specs.Vec.{vec_capacity};
+ghost use Rattle.pt_signal.specs.declared.pid.Pid.{Pid};
 ghost use Rattle.pt_node.specs.Desks.{AreDesks, AreDesksOf};
 ghost use Rattle.pt_node.specs.Running.{AllGoOn};
-ghost use Rattle.pt_runner.specs.Starting.{config_of};
+ghost use Rattle.pt_runner.specs.Starting.{Begins, config_of};
 ghost use Rattle.pt_report.specs.Reports.{IsNodeOf};
 ghost use Rattle.pt_report.specs.Status.{IsOfNode};
 
@@ -40,7 +41,7 @@ pub fn run_script<R: Threads + Sync>(
     }
 }
 
-// Runs the desks, each with its runner, and gathers them.
+/// Runs the desks, each with its runner, and gathers them.
 fn run_desks<R: Threads + Sync>(
     rt: &R,
     alloc: Global,
@@ -50,6 +51,7 @@ fn run_desks<R: Threads + Sync>(
     runners: Vec<Runner<'_>>,
 ) -> Result<Gathered, ReportFault>
     requires node { AreDesksOf (config_of script.now.settings) desks.items }
+    requires begins { (born : List Pid) × Begins script.now.tops (length script.now.tops) born desks.items }
     requires runners { vec_len runners ≡ vec_len desks }
     ensures node { IfOk result (λ g. IsNodeOf script.now g) }
     ensures fault { IfErr result IsOfNode }
@@ -71,7 +73,7 @@ fn run_desks<R: Threads + Sync>(
     }
 }
 
-// Runs the desks as the options say.
+/// Runs the desks as the options say.
 fn run_pairs<'a, R: Threads + Sync>(
     rt: &R,
     options: &Options,
@@ -87,7 +89,7 @@ fn run_pairs<'a, R: Threads + Sync>(
     }
 }
 
-// Gives each desk its runner, in order. The list of the desks keeps its room.
+/// Gives each desk its runner, in order. The list of the desks keeps its room.
 fn pair<'a>(desks: &mut Vec<Desk>, runners: Vec<Runner<'a>>, pairs: &mut Vec<(Desk, Runner<'a>)>)
     requires runners { vec_len runners ≡ vec_len desks.old }
     requires pairs { (pairs.old.items ≡ []) × (vec_len desks.old ≤ vec_capacity pairs.old) }
@@ -100,7 +102,7 @@ fn pair<'a>(desks: &mut Vec<Desk>, runners: Vec<Runner<'a>>, pairs: &mut Vec<(De
     }
 }
 
-// Takes the desks from their runners, in order.
+/// Takes the desks from their runners, in order.
 fn part(ran: Ran<Runner<'_>>, desks: &mut Vec<Desk>)
     requires { (desks.old.items ≡ []) × (vec_len ran.desks ≤ vec_capacity desks.old) }
     ensures { desks.new.items ≡ map (λ p. p.0) ran.entry.desks.items }
@@ -113,7 +115,7 @@ fn part(ran: Ran<Runner<'_>>, desks: &mut Vec<Desk>)
     pairs.destroy_empty();
 }
 
-// Gives up the desks of a node.
+/// Gives up the desks of a node.
 fn abandon(alloc: Global, desks: Vec<Desk>)
     requires { AreDesks desks.items }
 {

@@ -1,4 +1,4 @@
-// The lines of a summary.
+//! The lines of a summary.
 
 ghost use Rattle.std.specs.Prelude.{◌≡◌, ◌≢◌, ◌-◌, ◌^◌, ◌++◌, [], codes, min, OnOk, IfErr};
 ghost use Rattle.pt_gathered.specs.Settling.{event_count};
@@ -41,7 +41,7 @@ pub fn print_summary<W: Write>(gathered: Gathered, out: &mut W) -> Result<(), Re
     }
 }
 
-// How many events the journals have, staying at the greatest number.
+/// How many events the journals have, staying at the greatest number.
 fn count_events(gathered: &Gathered) -> u64
     ensures { result ≡ min (event_count gathered.now) (2 ^ 64 - 1) }
 {
@@ -54,7 +54,7 @@ fn count_events(gathered: &Gathered) -> u64
     count
 }
 
-// Writes a line a process, then the totals, and passes on what the writer holds back.
+/// Writes a line a process, then the totals, and passes on what the writer holds back.
 fn write_summary<W: Write>(out: &mut W, quiet: &Quiet, totals: Totals) -> io::Result<()>
     ensures { OnOk result (AppendsAccounts (totals_text totals ++ codes "\n") quiet.now (W.contents out.old) (W.contents out.new)) }
 {
@@ -63,7 +63,7 @@ fn write_summary<W: Write>(out: &mut W, quiet: &Quiet, totals: Totals) -> io::Re
     out.flush()
 }
 
-// Writes one line a process.
+/// Writes one line a process.
 #[tactic(auto, using(crate::proofs::Accounts::next_lines, crate::proofs::Accounts::all_lines))]
 fn write_accounts<W: Write>(out: &mut W, quiet: &Quiet) -> io::Result<()>
     ensures { OnOk result (AppendsAccounts [] quiet.now (W.contents out.old) (W.contents out.new)) }
@@ -74,7 +74,7 @@ fn write_accounts<W: Write>(out: &mut W, quiet: &Quiet) -> io::Result<()>
     Ok(())
 }
 
-// Writes the line of a process, if it was born.
+/// Writes the line of a process, if it was born.
 #[tactic(auto, using(crate::proofs::Accounts::told_line))]
 fn write_account<W: Write>(out: &mut W, quiet: &Quiet, pid: Pid) -> io::Result<()>
     ensures { OnOk result (InEveryMerge (journals quiet.now.gathered) (λ past. Appends (W.contents out.old) (W.contents out.new) (account_line pid (account_in past pid)))) }

@@ -1,4 +1,4 @@
-// Scripts that are run, and what is printed of them.
+//! Scripts that are run, and what is printed of them.
 
 use crate::{ReportFault, report};
 use pt_options::{Mode, Options, Show};
@@ -37,7 +37,7 @@ fn asked(print: Show, turns: u64) -> Options {
     }
 }
 
-// Runs a script on one thread and compares what is printed.
+/// Runs a script on one thread and compares what is printed.
 fn prints<R: Abort + Threads + Sync>(
     rt: &R,
     alloc: Global,
@@ -52,7 +52,7 @@ fn prints<R: Abort + Threads + Sync>(
     Ok(())
 }
 
-// Reads bytes that are refused, and compares the line and the status.
+/// Reads bytes that are refused, and compares the line and the status.
 fn refuses<R: Abort + Threads + Sync>(
     rt: &R,
     alloc: Global,
@@ -290,7 +290,7 @@ fn long_and_deep_texts_are_refused(rt: HostRuntime) -> Result<(), Fail> {
     )
 }
 
-// A writer that takes one byte a write, and refuses from a write or flush on.
+/// A writer that takes one byte a write, and refuses from a write or flush on.
 #[derive(Drop)]
 struct Failing {
     left: u32,
@@ -317,7 +317,7 @@ impl Write for Failing {
     }
 }
 
-// Lets the writer refuse from its first, second, third and so on call on, until a run meets no refusal.
+/// Lets the writer refuse from its first, second, third and so on call on, until a run meets no refusal.
 fn fails_each_time<R: Abort + Threads + Sync>(
     rt: &R,
     alloc: Global,

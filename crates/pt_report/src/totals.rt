@@ -1,4 +1,4 @@
-// The lines of a summary.
+//! The lines of a summary.
 
 use pt_gathered::Account;
 use pt_signal::{Pid, Reason};
@@ -22,7 +22,7 @@ pub struct Totals {
     pub settled: u64,
 }
 
-// Whether a process is alive, or the reason it ended with.
+/// Whether a process is alive, or the reason it ended with.
 #[derive(Clone, Copy)]
 struct Fate(Option<Reason>);
 

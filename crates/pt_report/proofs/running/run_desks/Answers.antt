@@ -1,7 +1,7 @@
 use Rattle.std.proofs.Common.{sym, subst}
 use Rattle.pt_node.specs.Desks.{AreDesks, AreDesksOf}
 use Rattle.pt_runner.specs.Starting.{config_of}
-use Rattle.pt_report.proofs.Settings.{same_settings}
+use Rattle.pt_report.proofs.Settings.{same_settings, counted, went_on}
 use Rattle.pt_report.proofs.running.run_desks.Goals as goal
 
 pub gather-requires : goal.gather-requires
@@ -14,9 +14,17 @@ returns-in-Ok-gather-clause-node g c =
     let config = config_of c.args.script.now.settings in
     let later = c.in-Ok-gather.gathered.config in
     let gathers = c.in-Ok-gather.ensures.gathers in
+    let first = c.pair.new.pairs.items in
+    let last = c.run_pairs-ran.result.desks.items in
     record {
-      config = same_settings config later c.pair.new.pairs.items c.run_pairs-ran.result.desks.items
+      config = same_settings config later first last
           (subst (AreDesksOf config) (sym c.pair.ensures.pairs) c.requires.node) (subst (AreDesksOf later) c.part.ensures gathers.node) c.run_pairs-ran.ensures.each;
+      begun = c.args.desks.items;
+      node = c.requires.node;
+      born = c.requires.begins.0;
+      begins = c.requires.begins.1;
       desks = c.part.new.desks.items;
+      count = counted first last c.args.desks.items c.part.new.desks.items c.pair.ensures.pairs c.part.ensures c.run_pairs-ran.ensures.each;
+      went_on = went_on first last c.args.desks.items c.part.new.desks.items c.pair.ensures.pairs c.part.ensures c.run_pairs-ran.ensures.each;
       gathers = gathers;
     }
