@@ -113,6 +113,7 @@ impl Ledger {
     }
 
     /// Whether no event can be stamped above `floor`.
+    #[inline(always)]
     pub fn is_worn(&self, floor: u64) -> bool
         ensures { result ≡ nat_le (2 ^ 62) (max self.now.book.clock floor) }
     {
@@ -140,6 +141,7 @@ impl Ledger {
     }
 
     /// Makes room for an event that is stamped above `floor`.
+    #[inline(always)]
     pub fn prepare(&mut self, floor: u64) -> Result<(), Stop>
         ensures does { Prepares floor HasNoNeed self.old result self.new }
         ensures same { self.new.rooms ≡ self.old.rooms }
@@ -152,6 +154,7 @@ impl Ledger {
     }
 
     /// Makes room for an event that is stamped above `floor`, and for a letter to this process.
+    #[inline(always)]
     pub fn prepare_letter(&mut self, floor: u64, to: Pid) -> Result<(), Stop>
         requires { to.shard < length self.old.book.outbox }
         ensures { Prepares floor (HasRoomAt to.shard) self.old result self.new }
@@ -162,6 +165,7 @@ impl Ledger {
     }
 
     /// Makes room for an event that is stamped above `floor`, and for a letter to this process, if there is one.
+    #[inline(always)]
     pub fn prepare_back(&mut self, floor: u64, back: Option<Signal>, to: Pid) -> Result<(), Stop>
         requires { to.shard < length self.old.book.outbox }
         ensures { Prepares floor (HasRoomFor back to.shard) self.old result self.new }
@@ -190,6 +194,7 @@ impl Ledger {
 
     /// Writes an event, stamped above `floor` too, for which there is room, and answers the stamp.
     #[tactic(auto, using(crate::proofs::Ledgers::newer_above))]
+    #[inline(always)]
     pub fn write(&mut self, floor: u64, event: Event) -> u64
         requires can { max self.old.book.clock floor < 2 ^ 62 }
         requires room { 0 < self.old.room }
@@ -205,6 +210,7 @@ impl Ledger {
     }
 
     /// Puts a letter, for which there is room, behind those for the same desk.
+    #[inline(always)]
     fn put(&mut self, letter: Letter)
         requires to { letter.to.shard < length self.old.book.outbox }
         requires room { HasRoomAt letter.to.shard self.old }
@@ -215,6 +221,7 @@ impl Ledger {
     }
 
     /// Writes that a process says a signal, and sends it, for both of which there is room.
+    #[inline(always)]
     pub fn say(&mut self, from: Pid, to: Pid, signal: Signal)
         requires can { max self.old.book.clock 0 < 2 ^ 62 }
         requires room { 0 < self.old.room }
@@ -232,24 +239,20 @@ impl Ledger {
     }
 
     /// Writes that a letter came, and sends what goes back, if anything, for both of which there is room.
-    pub fn receive(&mut self, letter: Letter, back: Option<Signal>)
-        requires can { max self.old.book.clock letter.stamp < 2 ^ 62 }
+    #[inline(always)]
+    pub fn receive(&mut self, letter: &Letter, back: Option<Signal>)
+        requires can { max self.old.book.clock letter.now.stamp < 2 ^ 62 }
         requires room { 0 < self.old.room }
-        requires from { letter.from.shard < length self.old.book.outbox }
-        requires letter { HasRoomFor back letter.from.shard self.old }
-        ensures { self.new.book ≡ wrote (max self.old.book.clock letter.stamp + 1) (came letter) (map (stamp_letter (max self.old.book.clock letter.stamp + 1)) (map (sent letter.to letter.from) (option_to_list back))) self.old.book }
+        requires from { letter.now.from.shard < length self.old.book.outbox }
+        requires letter { HasRoomFor back letter.now.from.shard self.old }
+        ensures { self.new.book ≡ wrote (max self.old.book.clock letter.now.stamp + 1) (came letter.now) (map (stamp_letter (max self.old.book.clock letter.now.stamp + 1)) (map (sent letter.now.to letter.now.from) (option_to_list back))) self.old.book }
     {
-        let Letter {
-            from,
-            to,
-            signal,
-            ..
-        } = letter;
-        let stamp = self.write(letter.stamp, Event::Came(from, to, signal));
+        let event = Event::Came(letter.from, letter.to, letter.signal);
+        let stamp = self.write(letter.stamp, event);
         if let Some(signal) = back {
             self.put(Letter {
-                from: to,
-                to: from,
+                from: letter.to,
+                to: letter.from,
                 signal,
                 stamp,
             });

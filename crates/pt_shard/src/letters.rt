@@ -32,12 +32,14 @@ impl Letters {
         }
     }
 
+    #[inline(always)]
     pub fn len(&self) -> usize
         ensures { result ≡ length self.now.letters }
     {
         self.letters.len()
     }
 
+    #[inline(always)]
     pub fn first(&self) -> Option<Letter>
         ensures { result ≡ slice_get self.now.letters 0 }
     {
@@ -51,6 +53,7 @@ impl Letters {
         self.letters.get(place).copied()
     }
 
+    #[inline(always)]
     pub fn pop(&mut self) -> Option<Letter>
         ensures first { result ≡ slice_get self.old.letters 0 }
         ensures rest { self.new.letters ≡ drop 1 self.old.letters }
@@ -59,14 +62,19 @@ impl Letters {
     }
 
     /// Makes room for so many more letters.
+    #[inline(always)]
     pub fn reserve(&mut self, count: usize) -> Result<(), AllocError>
         ensures same { self.new.letters ≡ self.old.letters }
         ensures room { OnOk result (count ≤ self.new.room) }
     {
+        if count <= self.letters.capacity().saturating_sub(self.letters.len()) {
+            return Ok(());
+        }
         self.letters.reserve(count)
     }
 
     /// Adds a letter, for which there is room.
+    #[inline(always)]
     pub fn push(&mut self, letter: Letter)
         requires { 0 < self.old.room }
         ensures letters { self.new.letters ≡ self.old.letters ++ letter ∷ [] }

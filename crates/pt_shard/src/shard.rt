@@ -379,6 +379,7 @@ impl Shard {
     ///
     /// Stopped as `Worn` where the stamp of the receipt would pass the limit of clocks, else as `Memory`; the desk
     /// is then as it was.
+    #[inline(never)]
     pub fn handle(&mut self, letter: Letter) -> Result<Option<Pid>, Stop>
         requires here { letter.to.shard ≡ self.old.number }
         requires near { letter.from.shard < self.old.config.desks }
@@ -386,27 +387,21 @@ impl Shard {
         ensures extends { Extends self.old self.new }
         ensures fit { IsFit self.new }
     {
-        let Letter {
-            from,
-            to,
-            signal,
-            stamp,
-        } = letter;
-        let Some(process) = self.house.find_mut(to) else {
-            let back = signal.answer_of_dead();
-            self.ledger.prepare_back(stamp, back, from)?;
-            self.ledger.receive(letter, back);
+        let Some(process) = self.house.find_mut(letter.to) else {
+            let back = letter.signal.answer_of_dead();
+            self.ledger.prepare_back(letter.stamp, back, letter.from)?;
+            self.ledger.receive(&letter, back);
             return Ok(None);
         };
-        let Some(reason) = process.would_end(from, &signal) else {
-            take_in(process, &mut self.ledger, letter)?;
+        let Some(reason) = process.would_end(letter.from, &letter.signal) else {
+            take_in(process, &mut self.ledger, &letter)?;
             return Ok(None);
         };
-        prepare_ending(process, &mut self.ledger, letter)?;
-        let estate = self.house.end(to, reason);
-        self.ledger
-            .close(stamp, Event::Came(from, to, signal), to, &estate);
-        Ok(Some(to))
+        prepare_ending(process, &mut self.ledger, &letter)?;
+        let estate = self.house.end(letter.to, reason);
+        let event = Event::Came(letter.from, letter.to, letter.signal);
+        self.ledger.close(letter.stamp, event, letter.to, &estate);
+        Ok(Some(letter.to))
     }
 
     /// How many letters wait to be posted to desk `to`.
@@ -476,6 +471,7 @@ impl Shard {
     }
 
     /// Sends a signal that changes nothing in its sender.
+    #[inline(always)]
     fn say(&mut self, from: Pid, to: Pid, signal: Signal) -> Result<(), Fault>
         requires known { knows self.old to ≡ true }
         requires plain { IsPlain signal }
@@ -570,6 +566,7 @@ fn close_monitor(
 }
 
 /// Takes the first item that fits out of the mailbox of a process, and writes it down.
+#[inline(never)]
 fn take(
     process: &mut Process,
     ledger: &mut Ledger,
@@ -605,9 +602,10 @@ fn prepare_birth(
 }
 
 /// Takes a letter to a live process, and sends what it answers.
-fn take_in(process: &mut Process, ledger: &mut Ledger, letter: Letter) -> Result<(), Stop>
-    requires { letter.from.shard < length ledger.old.book.outbox }
-    ensures { TakesIn letter process.old ledger.old result process.new ledger.new }
+#[inline(always)]
+fn take_in(process: &mut Process, ledger: &mut Ledger, letter: &Letter) -> Result<(), Stop>
+    requires { letter.now.from.shard < length ledger.old.book.outbox }
+    ensures { TakesIn letter.now process.old ledger.old result process.new ledger.new }
 {
     let back = answer_of_living(letter.signal);
     ledger.prepare_back(letter.stamp, back, letter.from)?;
@@ -617,10 +615,11 @@ fn take_in(process: &mut Process, ledger: &mut Ledger, letter: Letter) -> Result
 }
 
 /// Takes a letter to a process that ends by it, with room for what it then owes.
-fn prepare_ending(process: &mut Process, ledger: &mut Ledger, letter: Letter) -> Result<(), Stop>
+#[inline(never)]
+fn prepare_ending(process: &mut Process, ledger: &mut Ledger, letter: &Letter) -> Result<(), Stop>
     requires few { length ledger.old.book.outbox ≤ 64 }
     requires near { Every (λ q. q.shard < length ledger.old.book.outbox) (peers process.old.state) }
-    ensures { PreparesEnding letter process.old ledger.old result process.new ledger.new }
+    ensures { PreparesEnding letter.now process.old ledger.old result process.new ledger.new }
 {
     ledger.prepare_end(letter.stamp, process)?;
     process.accept(letter.from, letter.signal)?;
