@@ -1,5 +1,5 @@
 -- What the calls of a process leave.
-use Rattle.std.proofs.Common.{◌≡◌, ⊎_elim, inl, inr, List, [], ◌∷◌, Bool, true, false, cond, Option, Some, None, Result, Ok, Err, refl, ap, sym, subst, ◌∙◌}
+use Rattle.std.proofs.Common.{◌≡◌, ◌⊎◌, ⊎_elim, inl, inr, List, [], ◌∷◌, Bool, true, false, cond, Option, Some, None, Result, Ok, Err, refl, ap, sym, subst, ◌∙◌}
 use Rattle.std.specs.Option.{option_map}
 use Rattle.pt_signal.specs.declared.pid.Pid.{Pid}
 use Rattle.pt_signal.specs.declared.ids.Ids.{Ids}
@@ -18,6 +18,9 @@ use Rattle.pt_shard.specs.ShardState.{ShardState, lives, after}
 use Rattle.pt_shard.specs.Calls.{Calls, Monitors, Bears, BearsChild, link_event, unlink_event, take_event, first_match, demonitor_event, demonitor_at, held_by, new_link, new_ref, birth_link, if_asked}
 use Rattle.pt_desk.specs.DeskState.{DeskState, GoesOn, place}
 use Rattle.pt_desk.proofs.Turning.{extends}
+use Rattle.pt_runner.specs.declared.calls.Progress.{Progress}
+use Rattle.pt_runner.specs.declared.calls.Progress.TheVariants.{Done, Stays}
+use Rattle.pt_runner.specs.Acting.{taken_of}
 use Rattle.pt_runner.specs.Stepping.{author, child_of, Does, DoesOne, came_of, Leaves, Concludes, born_by}
 
 pub stays : (d : DeskState) → GoesOn d d
@@ -118,3 +121,13 @@ spawned p q linked (Err Worn) old between new same b c = inl (c ∙ b.2, refl)
 spawned p q linked (Err Memory) old between new same b c = inl (c ∙ b.3, refl)
 spawned p q linked (Err Full) old between new same b c = subst (λ (s : ShardState). DoesOne p s new []) b.3 (subst (λ (n : Pid). DoesOne n between new []) same c)
 spawned p q linked (Err Myself) old between new same b c = absurd b
+
+-- a receive, where what comes of it without an item ends nobody
+without_item : (p : Pid) (without : Progress) (old new : ShardState) → (without ≡ Done) ⊎ (without ≡ Stays) → DoesOne p old new [] → Leaves p without old new
+without_item p without old new (inl e) one = subst (λ (x : Progress). Leaves p x old new) (sym e) one
+without_item p without old new (inr e) one = subst (λ (x : Progress). Leaves p x old new) (sym e) one
+
+pub take_leaves : (p : Pid) (k : Pick) (without : Progress) (old new : ShardState) (answer : Result (Option Item) Fault) → (without ≡ Done) ⊎ (without ≡ Stays) → Calls p (take_event old p k) (first_match old p k) old answer new → Leaves p (taken_of without answer) old new
+take_leaves p k without old new (Ok None) h c = without_item p without old new h (leaves p (take_event old p k) (first_match old p k) old new (Ok None) (take_own old p k) c)
+take_leaves p k without old new (Ok (Some item)) h c = leaves p (take_event old p k) (first_match old p k) old new (Ok (Some item)) (take_own old p k) c
+take_leaves p k without old new (Err fault) h c = leaves p (take_event old p k) (first_match old p k) old new (Err fault) (take_own old p k) c

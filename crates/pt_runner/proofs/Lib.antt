@@ -1,3 +1,4 @@
 pub mod Calling
 pub mod Stepping
+pub mod Acting
 pub mod Starting

@@ -67,10 +67,6 @@ abbrev pub Leaves : Pid → Progress → ShardState → ShardState → Type 0
 Leaves p (Ends reason) old new = new ≡ old
 Leaves p _ old new = DoesOne p old new []
 
-abbrev pub IsNoEnd : Progress → Type 0
-IsNoEnd (Ends reason) = ⊥
-IsNoEnd _ = Unit {0}
-
 -- how a process goes on behind an operation: it ends where its refusal says so
 abbrev pub Concludes : Pid → Progress → ShardState → ShardState → Type 0
 Concludes p (Ends reason) old new = DoesOne p old new []

@@ -2,12 +2,19 @@
 
 #![tactic(auto, using(crate::proofs::Calling::stays, crate::proofs::Calling::none_done))]
 
-ghost use Rattle.std.specs.Prelude.{◌≡◌, ◌+◌, true, IfSome, []};
+ghost use Rattle.std.specs.Prelude.{◌≡◌, ◌≢◌, ◌⊎◌, ℕ, Bool, ◌+◌, ◌<◌, ◌++◌, true, Some, IfSome, [], vec_len, vec_capacity};
+ghost use Rattle.pt_signal.specs.declared.signal.Signal.{Signal};
+ghost use Rattle.pt_events.specs.declared.event.Event.{Event};
 ghost use Rattle.pt_desk.specs.DeskState.{GoesOn, HasSameEnds};
+ghost use Rattle.pt_shard.specs.Calls.{link_event, unlink_event};
 ghost use Rattle.pt_shard.specs.Known.{knows};
-ghost use Rattle.pt_runner.specs.Stepping.{Leaves, IsNoEnd, came_of};
+ghost use Rattle.pt_script.specs.declared.values.Operation.{Operation};
+ghost use Rattle.pt_runner.specs.declared.calls.Progress.TheVariants.{Done, Stays};
+ghost use Rattle.pt_runner.specs.Acting as spec;
+ghost use Rattle.pt_runner.specs.Acting.{Performs};
+ghost use Rattle.pt_runner.specs.Stepping.{Leaves, came_of};
 
-use pt_node::{Body, Desk, Fault, Pick, Pid, Reason, Ref};
+use pt_node::{Body, Desk, Fault, Item, Pick, Pid, Reason, Ref};
 use pt_script::{Operation, Pattern};
 
 /// What came of an operation.
@@ -37,23 +44,38 @@ pub fn progress_of<T: Drop>(answer: Result<T, Fault>) -> Progress
 }
 
 /// The pid of a process of the script, by its number.
-fn pid_of(pids: &[Option<Pid>], process: u32) -> Option<Pid> {
+fn pid_of(pids: &[Option<Pid>], process: u32) -> Option<Pid>
+    ensures { result ≡ spec.pid_of pids.now process }
+{
     match pids.get(process as usize) {
         Some(pid) => *pid,
         None => None,
     }
 }
 
+/// The pid of a process of the script, if one is named.
+fn pid_if(pids: &[Option<Pid>], process: Option<u32>) -> Option<Pid>
+    ensures { result ≡ spec.pid_if pids.now process }
+{
+    match process {
+        Some(process) => pid_of(pids, process),
+        None => None,
+    }
+}
+
 /// The pid of a process of the script, where the desk knows it.
 fn target(desk: &Desk, pids: &[Option<Pid>], process: u32) -> Option<Pid>
-    ensures { IfSome result (λ p. knows desk.now.shard p ≡ true) }
+    ensures known { IfSome result (λ p. knows desk.now.shard p ≡ true) }
+    ensures target { result ≡ spec.target_of desk.now.shard pids.now process }
 {
     let pid = pid_of(pids, process)?;
     if desk.knows(pid) { Some(pid) } else { None }
 }
 
 /// The reference of a tag.
-fn reference_of(references: &References, tag: u32) -> Option<Ref> {
+fn reference_of(references: &References, tag: u32) -> Option<Ref>
+    ensures { result ≡ spec.reference_of references.now.items tag }
+{
     match references.get(tag as usize) {
         Some(reference) => *reference,
         None => None,
@@ -61,7 +83,9 @@ fn reference_of(references: &References, tag: u32) -> Option<Ref> {
 }
 
 /// What a receive takes.
-fn pick_of(pids: &[Option<Pid>], references: &References, pattern: Pattern) -> Option<Pick> {
+fn pick_of(pids: &[Option<Pid>], references: &References, pattern: Pattern) -> Option<Pick>
+    ensures { result ≡ spec.pick_of pids.now references.now.items pattern }
+{
     match pattern {
         Pattern::Any => Some(Pick::Any),
         Pattern::Kind(kind) => Some(Pick::Kind(kind)),
@@ -80,6 +104,8 @@ pub fn call(
     p: Pid,
     operation: Operation,
 ) -> Progress
+    requires plain { (process : ℕ) (linked : Bool) → operation ≢ Operation.Spawn process linked }
+    ensures performs { Performs pids.now p operation desk.old.shard references.old.items result desk.new.shard references.new.items }
     ensures leaves { Leaves p result desk.old.shard desk.new.shard }
     ensures ends { HasSameEnds desk.old desk.new }
     ensures goes_on { GoesOn desk.old desk.new }
@@ -96,11 +122,11 @@ pub fn call(
         Operation::Trap(on) => progress_of(desk.trap(p, on)),
         Operation::Exit(reason) => progress_of(desk.exit(p, reason)),
         Operation::Signal { to, reason } => exit_signal(desk, pids, p, to, reason),
+        Operation::Pass => Progress::Done,
         Operation::Spawn {
             process: _,
             linked: _,
-        }
-        | Operation::Pass => Progress::Done,
+        } => unreachable!(),
     }
 }
 
@@ -113,6 +139,7 @@ fn send(
     num: i64,
     who: Option<u32>,
 ) -> Progress
+    ensures does { spec.Sends pids.now p to kind num who desk.old.shard result desk.new.shard }
     ensures leaves { Leaves p result desk.old.shard desk.new.shard }
     ensures ends { HasSameEnds desk.old desk.new }
     ensures goes_on { GoesOn desk.old desk.new }
@@ -120,11 +147,19 @@ fn send(
     let Some(to) = target(desk, pids, to) else {
         return Progress::Done;
     };
-    let who = match who {
-        Some(process) => pid_of(pids, process),
-        None => None,
-    };
+    let who = pid_if(pids, who);
     progress_of(desk.send(p, to, Body { kind, num, who }))
+}
+
+/// What comes of a receive; where no item fits that is `without`.
+fn taken_of(answer: Result<Option<Item>, Fault>, without: Progress) -> Progress
+    ensures { result ≡ spec.taken_of without answer }
+{
+    match answer {
+        Ok(None) => without,
+        Ok(Some(_)) => Progress::Done,
+        Err(_) => progress_of(answer),
+    }
 }
 
 /// Takes an item that fits; with none, what comes of it is `without`.
@@ -136,7 +171,8 @@ fn receive(
     pattern: Pattern,
     without: Progress,
 ) -> Progress
-    requires { IsNoEnd without }
+    requires { (without ≡ Done) ⊎ (without ≡ Stays) }
+    ensures does { spec.Takes (spec.pick_of pids.now references.now.items pattern) p without desk.old.shard result desk.new.shard }
     ensures leaves { Leaves p result desk.old.shard desk.new.shard }
     ensures ends { HasSameEnds desk.old desk.new }
     ensures goes_on { GoesOn desk.old desk.new }
@@ -144,15 +180,11 @@ fn receive(
     let Some(pick) = pick_of(pids, references, pattern) else {
         return Progress::Done;
     };
-    let answer = desk.receive(p, pick);
-    if answer == Ok(None) {
-        without
-    } else {
-        progress_of(answer)
-    }
+    taken_of(desk.receive(p, pick), without)
 }
 
 fn link(desk: &mut Desk, pids: &[Option<Pid>], p: Pid, to: u32) -> Progress
+    ensures does { spec.CallsAt (spec.target_of desk.old.shard pids.now to) p (link_event desk.old.shard p) desk.old.shard result desk.new.shard }
     ensures leaves { Leaves p result desk.old.shard desk.new.shard }
     ensures ends { HasSameEnds desk.old desk.new }
     ensures goes_on { GoesOn desk.old desk.new }
@@ -164,6 +196,7 @@ fn link(desk: &mut Desk, pids: &[Option<Pid>], p: Pid, to: u32) -> Progress
 }
 
 fn unlink(desk: &mut Desk, pids: &[Option<Pid>], p: Pid, to: u32) -> Progress
+    ensures does { spec.CallsAt (spec.target_of desk.old.shard pids.now to) p (unlink_event desk.old.shard p) desk.old.shard result desk.new.shard }
     ensures leaves { Leaves p result desk.old.shard desk.new.shard }
     ensures ends { HasSameEnds desk.old desk.new }
     ensures goes_on { GoesOn desk.old desk.new }
@@ -175,6 +208,7 @@ fn unlink(desk: &mut Desk, pids: &[Option<Pid>], p: Pid, to: u32) -> Progress
 }
 
 fn exit_signal(desk: &mut Desk, pids: &[Option<Pid>], p: Pid, to: u32, reason: Reason) -> Progress
+    ensures does { spec.CallsAt (spec.target_of desk.old.shard pids.now to) p (λ t. Some (Event.Said p t (Signal.Exit reason))) desk.old.shard result desk.new.shard }
     ensures leaves { Leaves p result desk.old.shard desk.new.shard }
     ensures ends { HasSameEnds desk.old desk.new }
     ensures goes_on { GoesOn desk.old desk.new }
@@ -185,6 +219,16 @@ fn exit_signal(desk: &mut Desk, pids: &[Option<Pid>], p: Pid, to: u32, reason: R
     }
 }
 
+/// Notes the reference that the next tag stands for, if there is one.
+fn note(references: &mut References, answer: Result<Ref, Fault>)
+    requires { vec_len references.old < vec_capacity references.old }
+    ensures { references.new.items ≡ references.old.items ++ spec.got answer }
+{
+    if let Ok(reference) = answer {
+        references.push_reserved(Some(reference));
+    }
+}
+
 fn monitor(
     desk: &mut Desk,
     pids: &[Option<Pid>],
@@ -192,6 +236,7 @@ fn monitor(
     p: Pid,
     to: u32,
 ) -> Progress
+    ensures does { spec.MonitorsAt p (spec.target_of desk.old.shard pids.now to) desk.old.shard references.old.items result desk.new.shard references.new.items }
     ensures leaves { Leaves p result desk.old.shard desk.new.shard }
     ensures ends { HasSameEnds desk.old desk.new }
     ensures goes_on { GoesOn desk.old desk.new }
@@ -204,13 +249,12 @@ fn monitor(
         return Progress::Done;
     };
     let answer = desk.monitor(p, to);
-    if let Ok(reference) = answer {
-        references.push_reserved(Some(reference));
-    }
+    note(references, answer);
     progress_of(answer)
 }
 
 fn demonitor(desk: &mut Desk, references: &References, p: Pid, tag: u32, flush: bool) -> Progress
+    ensures does { spec.Demonitors (spec.reference_of references.now.items tag) p flush desk.old.shard result desk.new.shard }
     ensures leaves { Leaves p result desk.old.shard desk.new.shard }
     ensures ends { HasSameEnds desk.old desk.new }
     ensures goes_on { GoesOn desk.old desk.new }
@@ -228,6 +272,7 @@ fn ask_alive(
     p: Pid,
     to: u32,
 ) -> Progress
+    ensures does { spec.AsksAt p (spec.target_of desk.old.shard pids.now to) desk.old.shard references.old.items result desk.new.shard references.new.items }
     ensures leaves { Leaves p result desk.old.shard desk.new.shard }
     ensures ends { HasSameEnds desk.old desk.new }
     ensures goes_on { GoesOn desk.old desk.new }
@@ -240,8 +285,6 @@ fn ask_alive(
         return Progress::Done;
     };
     let answer = desk.ask_alive(p, to);
-    if let Ok(reference) = answer {
-        references.push_reserved(Some(reference));
-    }
+    note(references, answer);
     progress_of(answer)
 }

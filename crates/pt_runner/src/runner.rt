@@ -1,9 +1,11 @@
 //! The work of a script on one desk.
 
-ghost use Rattle.std.specs.Prelude.{◌≡◌, ◌<◌, ◌≤◌, ◌+◌, ◌++◌, [], ◌∷◌, false, vec_len, vec_capacity};
+ghost use Rattle.std.specs.Prelude.{◌≡◌, ◌≢◌, ℕ, Bool, ◌<◌, ◌≤◌, ◌+◌, ◌++◌, [], ◌∷◌, false, Some, Ok, slice_set, map, vec_len, vec_capacity};
 ghost use Rattle.std.specs.List.{All, filter};
 ghost use Rattle.pt_desk.specs.DeskState.{GoesOn, HasSameEnds};
 ghost use Rattle.pt_shard.specs.ShardState.{lives};
+ghost use Rattle.pt_script.specs.declared.values.Operation.{Operation};
+ghost use Rattle.pt_runner.specs.Acting.{Plays, GoesBehind, ActsAt, EachDoesNext, acting, table, newborn, next_of, advanced, living, with_child, SpawnsAt};
 ghost use Rattle.pt_runner.specs.Stepping.{DoesOne, Concludes, ActsOnce, Steps, processes_of, pid_at, born_by};
 
 use crate::calls::{Progress, References, call, progress_of};
@@ -27,7 +29,8 @@ pub(crate) struct Actor {
 impl Actor {
     /// A process that was born just now.
     pub(crate) fn new(alloc: Global, script: &Script, pid: Pid, process: u32) -> Actor
-        ensures { result.pid ≡ pid }
+        ensures pid { result.pid ≡ pid }
+        ensures newborn { acting result ≡ newborn script.now.processes process pid }
     {
         let begins = match script.processes().get(process as usize) {
             Some(plan) => plan.traps(),
@@ -43,7 +46,9 @@ impl Actor {
     }
 
     /// Its next operation; behind the last one that is its exit.
-    fn next(&self, script: &Script) -> Operation {
+    fn next(&self, script: &Script) -> Operation
+        ensures { result ≡ next_of script.now.processes (acting self.now) }
+    {
         if self.begins {
             return Operation::Trap(true);
         }
@@ -58,7 +63,8 @@ impl Actor {
 
     /// Its next operation is behind it.
     fn advance(&mut self)
-        ensures { self.new.pid ≡ self.old.pid }
+        ensures pid { self.new.pid ≡ self.old.pid }
+        ensures advanced { acting self.new ≡ advanced (acting self.old) }
     {
         if self.begins {
             self.begins = false;
@@ -69,6 +75,8 @@ impl Actor {
 
     /// Does an operation that spawns nothing.
     fn perform(&mut self, pids: &[Option<Pid>], operation: Operation, desk: &mut Desk)
+        requires plain { (process : ℕ) (linked : Bool) → operation ≢ Operation.Spawn process linked }
+        ensures plays { Plays pids.now operation (acting self.old) desk.old.shard (acting self.new) desk.new.shard }
         ensures does { DoesOne self.old.pid desk.old.shard desk.new.shard [] }
         ensures ends { HasSameEnds desk.old desk.new }
         ensures goes_on { GoesOn desk.old desk.new }
@@ -80,6 +88,7 @@ impl Actor {
 
     /// Goes on behind an operation, or ends by its refusal.
     fn conclude(&mut self, progress: Progress, desk: &mut Desk)
+        ensures behind { GoesBehind progress (acting self.old) desk.old.shard (acting self.new) desk.new.shard }
         ensures leaves { Concludes self.old.pid progress desk.old.shard desk.new.shard }
         ensures ends { HasSameEnds desk.old desk.new }
         ensures goes_on { GoesOn desk.old desk.new }
@@ -92,6 +101,16 @@ impl Actor {
                 let _ = desk.exit(self.pid, reason);
             }
         }
+    }
+}
+
+/// The process of this number has this pid.
+fn put_pid(pids: &mut Vec<Option<Pid>>, process: u32, pid: Pid)
+    ensures { pids.new.items ≡ slice_set pids.old.items process (Some pid) }
+{
+    let place = process as usize;
+    if place < pids.len() {
+        pids[place] = Some(pid);
     }
 }
 
@@ -114,7 +133,8 @@ impl<'a> Runner<'a> {
         pids: Vec<Option<Pid>>,
         actors: Vec<Actor>,
     ) -> Runner<'a>
-        ensures { result.actors ≡ actors }
+        ensures actors { result.actors ≡ actors }
+        ensures table { table result ≡ record { plans = script.now.processes; pids = pids.items; actors = map acting actors.items } }
     {
         Runner {
             alloc,
@@ -126,15 +146,17 @@ impl<'a> Runner<'a> {
 
     /// Takes out the processes that have ended.
     fn bury(&mut self, desk: &Desk)
-        ensures { processes_of self.new ≡ filter (lives desk.now.shard) (processes_of self.old) }
+        ensures processes { processes_of self.new ≡ filter (lives desk.now.shard) (processes_of self.old) }
+        ensures living { table self.new ≡ living desk.now.shard (table self.old) }
     {
         self.actors.retain(|actor| desk.alive_here(actor.pid));
     }
 
-    /// Does at most one operation of the process at this index.
+    /// Does the next operation of the process at this index.
     fn act(&mut self, index: usize, pid: Pid, desk: &mut Desk)
         requires index { index < vec_len self.old.actors }
         requires pid { pid_at self.old index pid ≡ pid }
+        ensures acts { ActsAt index (table self.old) desk.old.shard (table self.new) desk.new.shard }
         ensures does { ActsOnce pid self.old desk.old.shard self.new desk.new.shard }
         ensures ends { HasSameEnds desk.old desk.new }
         ensures goes_on { GoesOn desk.old desk.new }
@@ -151,6 +173,7 @@ impl<'a> Runner<'a> {
     fn spawn(&mut self, index: usize, pid: Pid, process: u32, linked: bool, desk: &mut Desk)
         requires index { index < vec_len self.old.actors }
         requires pid { pid_at self.old index pid ≡ pid }
+        ensures spawns { SpawnsAt process linked index (table self.old) desk.old.shard (table self.new) desk.new.shard }
         ensures does { ActsOnce pid self.old desk.old.shard self.new desk.new.shard }
         ensures ends { HasSameEnds desk.old desk.new }
         ensures goes_on { GoesOn desk.old desk.new }
@@ -166,6 +189,7 @@ impl<'a> Runner<'a> {
     /// Lists the process that was born, if one was.
     fn enter(&mut self, process: u32, answer: Result<Pid, Fault>)
         requires { vec_len self.old.actors < vec_capacity self.old.actors }
+        ensures table { table self.new ≡ with_child process answer (table self.old) }
         ensures listed { processes_of self.new ≡ processes_of self.old ++ born_by answer }
         ensures len { vec_len self.old.actors ≤ vec_len self.new.actors }
     {
@@ -178,20 +202,20 @@ impl<'a> Runner<'a> {
     /// Lists a process, and its pid.
     fn list(&mut self, process: u32, child: Pid)
         requires { vec_len self.old.actors < vec_capacity self.old.actors }
+        ensures table { table self.new ≡ with_child process (Ok child) (table self.old) }
         ensures listed { processes_of self.new ≡ processes_of self.old ++ child ∷ [] }
         ensures len { vec_len self.new.actors ≡ vec_len self.old.actors + 1 }
     {
         let actor = Actor::new(self.alloc, self.script, child, process);
         self.actors.push_reserved(actor);
-        if let Some(place) = self.pids.get_mut(process as usize) {
-            *place = Some(child);
-        }
+        put_pid(&mut self.pids, process, child);
     }
 }
 
 impl Work for Runner<'_> {
     fn step(&mut self, desk: &mut Desk)
         ensures steps { Steps (processes_of self.old) desk.old.shard (processes_of self.new) desk.new.shard }
+        ensures does { EachDoesNext (table self.old) desk.old.shard (table self.new) desk.new.shard }
         ensures idle { All (λ p. lives desk.old.shard p ≡ false) (processes_of self.old) → desk.new.shard ≡ desk.old.shard }
         ensures ends { HasSameEnds desk.old desk.new }
         ensures goes_on { GoesOn desk.old desk.new }

@@ -11,7 +11,7 @@ use std::alloc::Global;
 use std::process::Abort;
 use std::test::Fail;
 
-// The node of a script, run on one thread and gathered.
+/// The node of a script, run on one thread and gathered.
 fn run_script<R: Abort>(rt: &R, alloc: Global, script: &Script, turns: u64) -> Gathered {
     let Ok(mut desks) = open(alloc, config(script)) else {
         panic!(rt; "the node does not open");
@@ -22,7 +22,7 @@ fn run_script<R: Abort>(rt: &R, alloc: Global, script: &Script, turns: u64) -> G
     }
 }
 
-// Runs the desks, each with its runner, and gathers them.
+/// Runs the desks, each with its runner, and gathers them.
 fn run_desks<R: Abort>(
     rt: &R,
     alloc: Global,
@@ -50,7 +50,7 @@ fn run_desks<R: Abort>(
     }
 }
 
-// Gives each desk its runner, in order. The list of the desks keeps its room.
+/// Gives each desk its runner, in order. The list of the desks keeps its room.
 fn pair<'a>(desks: &mut Vec<Desk>, runners: Vec<Runner<'a>>, pairs: &mut Vec<(Desk, Runner<'a>)>)
     requires runners { vec_len runners ≡ vec_len desks.old }
     requires pairs { (pairs.old.items ≡ []) × (vec_len desks.old ≤ vec_capacity pairs.old) }
@@ -63,7 +63,7 @@ fn pair<'a>(desks: &mut Vec<Desk>, runners: Vec<Runner<'a>>, pairs: &mut Vec<(De
     }
 }
 
-// Takes the desks from their runners, in order.
+/// Takes the desks from their runners, in order.
 fn part(ran: Ran<Runner<'_>>, desks: &mut Vec<Desk>)
     requires { (desks.old.items ≡ []) × (vec_len ran.desks ≤ vec_capacity desks.old) }
     ensures { desks.new.items ≡ map (λ p. p.0) ran.entry.desks.items }
@@ -76,7 +76,7 @@ fn part(ran: Ran<Runner<'_>>, desks: &mut Vec<Desk>)
     pairs.destroy_empty();
 }
 
-// The history of a script that is run for so many turns, each event with a line feed behind it.
+/// The history of a script that is run for so many turns, each event with a line feed behind it.
 fn history_of<R: Abort>(rt: &R, alloc: Global, text: &str, turns: u64) -> Result<String, Fail> {
     let script = Script::read(alloc, text)?;
     let node = run_script(rt, alloc, &script, turns);

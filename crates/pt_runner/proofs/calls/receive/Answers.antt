@@ -1,13 +1,17 @@
-use Rattle.std.proofs.Common.{sym, subst}
-use Rattle.pt_shard.specs.Calls.{take_event, first_match}
+use Rattle.std.proofs.Common.{refl, sym, subst, ◌∙◌}
 use Rattle.pt_runner.specs.declared.calls.Progress.{Progress}
 use Rattle.pt_runner.specs.Stepping.{Leaves}
-use Rattle.pt_runner.proofs.Calling.{leaves, take_own}
+use Rattle.pt_runner.proofs.Acting.{take_passed, take_at}
+use Rattle.pt_runner.proofs.Calling.{take_leaves}
 use Rattle.pt_runner.proofs.calls.receive.Goals as goal
 
-pub returns-else-eq-clause-leaves : goal.returns-else-eq-clause-leaves
-returns-else-eq-clause-leaves c =
-    let old = c.args.desk.now.shard in
-    let new = c.receive-answer.new.self.shard in
-    let k = c.in-Some.pick in
-    subst (λ (r : Progress). Leaves c.args.p r old new) (sym c.progress_of.ensures) (leaves c.args.p (take_event old c.args.p k) (first_match old c.args.p k) old new c.receive-answer.result (take_own old c.args.p k) c.receive-answer.ensures.does)
+pub returns-in_default-clause-does : goal.returns-in_default-clause-does
+returns-in_default-clause-does c = take_passed _ c.args.p c.args.without c.args.desk.now.shard (sym c.pick_of.ensures ∙ c.in_default.is)
+
+pub returns-clause-does : goal.returns-clause-does
+returns-clause-does c = take_at _ c.in-Some.pick c.args.p c.args.without c.args.desk.now.shard c.receive.new.self.shard c.receive.result c.taken_of.result (sym c.pick_of.ensures ∙ c.in-Some.is) c.receive.ensures.does c.taken_of.ensures
+
+pub returns-clause-leaves : goal.returns-clause-leaves
+returns-clause-leaves c =
+    subst (λ (x : Progress). Leaves c.args.p x c.args.desk.now.shard c.receive.new.self.shard) (sym c.taken_of.ensures)
+    (take_leaves c.args.p c.in-Some.pick c.args.without c.args.desk.now.shard c.receive.new.self.shard c.receive.result c.requires c.receive.ensures.does)

@@ -1,0 +1,144 @@
+-- What operations do, and what a step does.
+use Rattle.std.proofs.Common.{◌≡◌, ◌≢◌, inl, inr, ℕ, zero, suc, ◌+◌, ◌<◌, List, [], ◌∷◌, ◌++◌, Bool, true, false, cond, length, length-append, map, get_or, set, Option, Some, None, Result, Ok, Err, refl, ap, sym, subst, ◌∙◌, add-one, arith}
+use Rattle.std.specs.Prelude.{is_some}
+use Rattle.std.specs.List.{filter}
+use Rattle.std.proofs.lemmas.List.{map-set, get_or-map, get_or_append_left, get_or_default, length-map}
+use Rattle.pt_signal.specs.declared.ids.Ref.{Ref}
+use Rattle.pt_signal.specs.declared.item.Item.{Item}
+use Rattle.pt_signal.specs.declared.item.Pick.{Pick}
+use Rattle.pt_signal.specs.declared.pid.Pid.{Pid}
+use Rattle.pt_events.specs.declared.event.Event.{Event}
+use Rattle.pt_script.specs.Plans.{Plan}
+use Rattle.pt_script.specs.declared.values.Operation.{Operation}
+use Rattle.pt_script.specs.declared.values.Operation.TheVariants.{Send, Receive, Check, Link, Unlink, Monitor, Demonitor, Alive, Trap, Exit, Signal as SendExit, Spawn, Pass}
+use Rattle.pt_signal.specs.declared.signal.Signal.TheVariants.{AliveAsk}
+use Rattle.pt_events.specs.declared.event.Event.TheVariants.{Said}
+use Rattle.pt_shard.specs.declared.fault.Fault.{Fault}
+use Rattle.pt_shard.specs.Calls.{Calls, Monitors, take_event, first_match, demonitor_event, new_ref}
+use Rattle.pt_runner.specs.Stepping.{came_of}
+use Rattle.pt_runner.specs.declared.calls.Progress.TheVariants.{Done, Stays, Ends}
+use Rattle.pt_shard.specs.ShardState.{ShardState, lives}
+use Rattle.pt_runner.specs.declared.calls.Progress.{Progress}
+use Rattle.pt_runner.specs.declared.runner.Actor.{Actor}
+use Rattle.pt_runner.proofs.Stepping.{pid_of, kept_pids}
+use Rattle.pt_runner.specs.Acting.{CallsAt, Takes, taken_of, Demonitors, MonitorsAt, AsksAt, got, Performs, Acting, Table, acting, set_acting, with_child, newborn, GoesBehind, Plays, Acts, ActsAt, EachActs}
+
+-- calls on a target ------------------------------------------------------------------------
+
+pub passed_at : (at : Option Pid) (p : Pid) (event : Pid → Option Event) (old : ShardState) → at ≡ None → CallsAt at p event old Done old
+passed_at at p event old is = subst (λ (o : Option Pid). CallsAt o p event old Done old) (sym is) (refl, refl)
+
+pub call_at : (at : Option Pid) (t p : Pid) (event : Pid → Option Event) (e : Option Event) (old new : ShardState) (answer : Result (Unit {0}) Fault) (progress : Progress) → at ≡ Some t → e ≡ event t → Calls p e (tt {0}) old answer new → progress ≡ came_of answer → CallsAt at p event old progress new
+call_at at t p event e old new answer progress is same calls came =
+    subst (λ (o : Option Pid). CallsAt o p event old progress new) (sym is) (answer, subst (λ (f : Option Event). Calls p f (tt {0}) old answer new) same calls, came)
+
+pub take_passed : (at : Option Pick) (p : Pid) (without : Progress) (old : ShardState) → at ≡ None → Takes at p without old Done old
+take_passed at p without old is = subst (λ (o : Option Pick). Takes o p without old Done old) (sym is) (refl, refl)
+
+pub take_at : (at : Option Pick) (k : Pick) (p : Pid) (without : Progress) (old new : ShardState) (answer : Result (Option Item) Fault) (progress : Progress) → at ≡ Some k → Calls p (take_event old p k) (first_match old p k) old answer new → progress ≡ taken_of without answer → Takes at p without old progress new
+take_at at k p without old new answer progress is calls came =
+    subst (λ (o : Option Pick). Takes o p without old progress new) (sym is) (answer, calls, came)
+
+pub demonitor_passed : (at : Option Ref) (p : Pid) (flush : Bool) (old : ShardState) → at ≡ None → Demonitors at p flush old Done old
+demonitor_passed at p flush old is = subst (λ (o : Option Ref). Demonitors o p flush old Done old) (sym is) (refl, refl)
+
+pub demonitor_at : (at : Option Ref) (m : Ref) (p : Pid) (flush : Bool) (old new : ShardState) (answer : Result Bool Fault) (progress : Progress) → at ≡ Some m → Calls p (demonitor_event old p m flush) (is_some (demonitor_event old p m flush)) old answer new → progress ≡ came_of answer → Demonitors at p flush old progress new
+demonitor_at at m p flush old new answer progress is calls came =
+    subst (λ (o : Option Ref). Demonitors o p flush old progress new) (sym is) (answer, calls, came)
+
+-- operations that make a tag
+
+pub no_room : (p : Pid) (at : Option Pid) (old : ShardState) (references after : List (Option Ref)) → after ≡ references → MonitorsAt p at old references Stays old after
+no_room p None old references after e = inl (refl, refl, e)
+no_room p (Some t) old references after e = inl (refl, refl, e)
+
+pub no_target : (p : Pid) (at : Option Pid) (old : ShardState) (references after : List (Option Ref)) → at ≡ None → after ≡ references ++ None ∷ [] → MonitorsAt p at old references Done old after
+no_target p at old references after is e = subst (λ (o : Option Pid). MonitorsAt p o old references Done old after) (sym is) (inr ((refl, refl), e))
+
+pub monitor_at : (p : Pid) (at : Option Pid) (t : Pid) (old new : ShardState) (references after : List (Option Ref)) (answer : Result Ref Fault) (progress : Progress) → at ≡ Some t → Monitors p t old answer new → progress ≡ came_of answer → after ≡ references ++ got answer → MonitorsAt p at old references progress new after
+monitor_at p at t old new references after answer progress is calls came noted =
+    subst (λ (o : Option Pid). MonitorsAt p o old references progress new after) (sym is) (inr (answer, calls, came, noted))
+
+pub ask_no_room : (p : Pid) (at : Option Pid) (old : ShardState) (references after : List (Option Ref)) → after ≡ references → AsksAt p at old references Stays old after
+ask_no_room p None old references after e = inl (refl, refl, e)
+ask_no_room p (Some t) old references after e = inl (refl, refl, e)
+
+pub ask_no_target : (p : Pid) (at : Option Pid) (old : ShardState) (references after : List (Option Ref)) → at ≡ None → after ≡ references ++ None ∷ [] → AsksAt p at old references Done old after
+ask_no_target p at old references after is e = subst (λ (o : Option Pid). AsksAt p o old references Done old after) (sym is) (inr ((refl, refl), e))
+
+pub ask_at : (p : Pid) (at : Option Pid) (t : Pid) (old new : ShardState) (references after : List (Option Ref)) (answer : Result Ref Fault) (progress : Progress) → at ≡ Some t → Calls p (Some (Said p t (AliveAsk (new_ref old)))) (new_ref old) old answer new → progress ≡ came_of answer → after ≡ references ++ got answer → AsksAt p at old references progress new after
+ask_at p at t old new references after answer progress is calls came noted =
+    subst (λ (o : Option Pid). AsksAt p o old references progress new after) (sym is) (inr (answer, calls, came, noted))
+
+-- any operation ---------------------------------------------------------------------------
+
+pub performs_as : (pids : List (Option Pid)) (p : Pid) (o named : Operation) (old : ShardState) (references : List (Option Ref)) (progress : Progress) (new : ShardState) (after : List (Option Ref)) → o ≡ named → Performs pids p named old references progress new after → Performs pids p o old references progress new after
+performs_as pids p o named old references progress new after is h = subst (λ (x : Operation). Performs pids p x old references progress new after) (sym is) h
+
+-- an operation that is no spawn
+pub acts_plain : (o : Operation) (i : ℕ) (a b : Acting) (t u : Table) (old new : ShardState) → ((process : ℕ) (linked : Bool) → o ≢ Spawn process linked) → Plays t.pids o a old b new → u ≡ set_acting i b t → Acts o i a t old u new
+acts_plain (Send to kind num who) i a b t u old new plain plays is = (b, plays, is)
+acts_plain (Receive pattern) i a b t u old new plain plays is = (b, plays, is)
+acts_plain (Check pattern) i a b t u old new plain plays is = (b, plays, is)
+acts_plain (Link to) i a b t u old new plain plays is = (b, plays, is)
+acts_plain (Unlink to) i a b t u old new plain plays is = (b, plays, is)
+acts_plain (Monitor to tag) i a b t u old new plain plays is = (b, plays, is)
+acts_plain (Demonitor tag flush) i a b t u old new plain plays is = (b, plays, is)
+acts_plain (Alive to tag) i a b t u old new plain plays is = (b, plays, is)
+acts_plain (Trap on) i a b t u old new plain plays is = (b, plays, is)
+acts_plain (Exit reason) i a b t u old new plain plays is = (b, plays, is)
+acts_plain (SendExit to reason) i a b t u old new plain plays is = (b, plays, is)
+acts_plain (Spawn process linked) i a b t u old new plain plays is = absurd (plain process linked refl)
+acts_plain Pass i a b t u old new plain plays is = (b, plays, is)
+
+-- tables ------------------------------------------------------------------------------------
+
+abbrev pub table_of : List Plan → List (Option Pid) → List Actor → Table
+table_of plans pids actors = record { plans = plans; pids = pids; actors = map acting actors }
+
+pub set_actor : (plans : List Plan) (pids : List (Option Pid)) (actors : List Actor) (i : ℕ) (a : Actor) → table_of plans pids (set actors i a) ≡ set_acting i (acting a) (table_of plans pids actors)
+set_actor plans pids actors i a = ap (λ (xs : List Acting). record { plans = plans; pids = pids; actors = xs }) (map-set acting actors i a)
+
+pub acting_within : (actors : List Actor) (i : ℕ) → i < length actors → i < length (map acting actors)
+acting_within actors i lt = rw (length-map actors acting) lt
+
+pub acting_at : (actors : List Actor) (i : ℕ) (a : Actor) → i < length actors → a ≡ get_or actors i a → get_or (map acting actors) i (acting a) ≡ acting a
+acting_at actors i a lt is = get_or-map acting actors i a (acting a) lt ∙ ap acting (sym is)
+
+-- the element at an index is one
+pub same_at : {X : Type 0} (xs : List X) (i : ℕ) (x y : X) → i < length xs → x ≡ get_or xs i x → y ≡ get_or xs i y → x ≡ y
+same_at xs i x y lt ex ey = ex ∙ get_or_default xs i x y lt ∙ sym ey
+
+-- a child is listed beside the same processes
+pub with_child_same : (process : ℕ) (answer : Result Pid Fault) (plans : List Plan) (pids : List (Option Pid)) (xs ys : List Actor) → xs ≡ ys → with_child process answer (table_of plans pids xs) ≡ with_child process answer (table_of plans pids ys)
+with_child_same process answer plans pids xs ys e = ap (λ (zs : List Actor). with_child process answer (table_of plans pids zs)) e
+
+pub some_at : (xs : List Acting) (i : ℕ) → i < length xs → (a : Acting) × (get_or xs i a ≡ a)
+some_at [] i lt = absurd (omega (arith, lt))
+some_at (x ∷ xs) zero lt = (x, refl)
+some_at (x ∷ xs) (suc i) lt = some_at xs i (omega (arith, lt))
+
+-- those that stood there before a child was listed
+pub child_behind : (process : ℕ) (answer : Result Pid Fault) (t : Table) (i : ℕ) (d : Acting) → i < length t.actors → get_or (with_child process answer t).actors i d ≡ get_or t.actors i d
+child_behind process (Ok p) t i d lt = get_or_append_left t.actors (newborn t.plans process p ∷ []) d i lt
+child_behind process (Err fault) t i d lt = refl
+
+-- a step --------------------------------------------------------------------------------------
+
+pub each_acts_then : (i : ℕ) (t between u : Table) (old mid new : ShardState) → EachActs i t old between mid → ActsAt i between mid u new → EachActs (i + 1) t old u new
+each_acts_then i t between u old mid new each one = subst (λ n. EachActs n t old u new) (sym (add-one i)) (between, mid, each, one)
+
+living_case : (test : Pid → Bool) (a : Actor) (actors : List Actor) (b : Bool) → test a.pid ≡ b → map acting (filter (λ (x : Actor). test x.pid) actors) ≡ filter (λ (x : Acting). test x.pid) (map acting actors) → map acting (filter (λ (x : Actor). test x.pid) (a ∷ actors)) ≡ filter (λ (x : Acting). test x.pid) (map acting (a ∷ actors))
+living_case test a actors true e rest = rw e (ap (λ (xs : List Acting). acting a ∷ xs) rest)
+living_case test a actors false e rest = rw e rest
+
+pub living_actors : (test : Pid → Bool) (actors : List Actor) → map acting (filter (λ (x : Actor). test x.pid) actors) ≡ filter (λ (x : Acting). test x.pid) (map acting actors)
+living_actors test [] = refl
+living_actors test (a ∷ actors) = living_case test a actors (test a.pid) refl (living_actors test actors)
+
+pub living_count : (test : Pid → Bool) (actors : List Actor) → length (filter (λ (x : Acting). test x.pid) (map acting actors)) ≡ length (filter test (map pid_of actors))
+living_count test actors =
+    ap length (sym (living_actors test actors))
+    ∙ length-map (filter (λ (x : Actor). test x.pid) actors) acting
+    ∙ sym (length-map (filter (λ (x : Actor). test x.pid) actors) pid_of)
+    ∙ ap length (kept_pids test actors)

@@ -1,0 +1,255 @@
+-- What an operation of a process does, and what a step does: the operations of the processes, one after the other.
+use Rattle.std.specs.Prelude.{◌≡◌, ◌⊎◌, ℕ, ℤ, zero, suc, ◌+◌, ◌-◌, ◌^◌, ◌<◌, Bool, true, false, cond, is_some, List, [], ◌∷◌, ◌++◌, length, map, min, slice_index_or, slice_set, Option, Some, None, Result, Ok, Err}
+use Rattle.std.specs.Bool.{then_some}
+use Rattle.std.specs.List.{filter}
+use Rattle.std.specs.Option.{option_map}
+use Rattle.pt_signal.specs.declared.item.Body.{Body}
+use Rattle.pt_signal.specs.declared.ids.Ref.{Ref}
+use Rattle.pt_signal.specs.declared.item.Item.{Item}
+use Rattle.pt_signal.specs.declared.item.Pick.{Pick}
+use Rattle.pt_signal.specs.declared.pid.Pid.{Pid}
+use Rattle.pt_signal.specs.declared.reason.Reason.{Reason}
+use Rattle.pt_signal.specs.declared.reason.Reason.TheVariants.{Normal}
+use Rattle.pt_signal.specs.declared.signal.Signal.{Signal}
+use Rattle.pt_events.specs.declared.event.Event.{Event}
+use Rattle.pt_events.specs.declared.event.Event.TheVariants.{Said, Flag, Left}
+use Rattle.pt_shard.specs.declared.fault.Fault.{Fault}
+use Rattle.pt_shard.specs.Calls.{Calls, Monitors, BearsChild, link_event, unlink_event, take_event, first_match, demonitor_event, new_ref}
+use Rattle.pt_shard.specs.Known.{knows}
+use Rattle.pt_shard.specs.ShardState.{ShardState, lives, state_in}
+use Rattle.pt_script.specs.Plans.{Plan}
+use Rattle.pt_script.specs.declared.values.Operation.{Operation}
+use Rattle.pt_script.specs.declared.values.Operation.TheVariants.{Send, Receive, Check, Link, Unlink, Monitor, Demonitor, Alive, Trap, Exit, Signal as SendExit, Spawn, Pass}
+use Rattle.pt_script.specs.declared.values.Pattern.{Pattern}
+use Rattle.pt_script.specs.declared.values.Pattern.TheVariants.{Any, Kind, From, ExitOf, DownOf, AliveOf}
+use Rattle.pt_runner.specs.declared.calls.Progress.{Progress}
+use Rattle.pt_runner.specs.declared.calls.Progress.TheVariants.{Done, Stays, Ends}
+use Rattle.pt_runner.specs.declared.runner.Actor.{Actor}
+use Rattle.pt_runner.specs.declared.runner.Runner.{Runner}
+use Rattle.pt_runner.specs.Stepping.{came_of}
+
+-- a runner's table ----------------------------------------------------------------------
+
+-- a process of the script that was born on the desk
+pub record Acting : Type 0 where
+  pub pid : Pid
+  -- its number in the script
+  pub process : ℕ
+  -- whether trapping exits is its next operation, before those of its list
+  pub begins : Bool
+  -- how many operations of its list are behind it
+  pub done : ℕ
+  -- what its monitors and asks got, by tag
+  pub references : List (Option Ref)
+
+pub record Table : Type 0 where
+  -- what the processes of the script do, by number
+  pub plans : List Plan
+  -- their pids, as far as operations here may name them
+  pub pids : List (Option Pid)
+  -- those that were born here, in order of birth
+  pub actors : List Acting
+
+abbrev pub acting : Actor → Acting
+acting a = record { pid = a.pid; process = a.process; begins = a.begins; done = a.done; references = a.references.items }
+
+abbrev pub table : Runner → Table
+table r = record { plans = r.script.now.processes; pids = r.pids.items; actors = map acting r.actors.items }
+
+abbrev pub plan_at : List Plan → ℕ → Plan
+plan_at plans process = slice_index_or plans process (record { trap = false; operations = [] })
+
+-- a process that is born now: with `trap` it begins by trapping exits
+abbrev pub newborn : List Plan → ℕ → Pid → Acting
+newborn plans process p = record { pid = p; process = process; begins = (plan_at plans process).trap; done = 0; references = [] }
+
+-- the next operation: behind the last one of the list the process exits
+abbrev pub next_of : List Plan → Acting → Operation
+next_of plans a = cond a.begins (Trap true) (slice_index_or (plan_at plans a.process).operations a.done (Exit Normal))
+
+-- its next operation is behind it; the count stays at the greatest number, past every list
+abbrev pub advanced : Acting → Acting
+advanced a = cond a.begins (record a { begins = false }) (record a { done = min (a.done + 1) (2 ^ 64 - 1) })
+
+-- what an operation names -----------------------------------------------------------------
+
+-- the pid of the process of this number
+abbrev pub pid_of : List (Option Pid) → ℕ → Option Pid
+pid_of pids process = slice_index_or pids process None
+
+abbrev pub if_known : ShardState → Option Pid → Option Pid
+if_known d None = None
+if_known d (Some p) = then_some (knows d p) p
+
+-- that of a target: none where the desk does not know it
+abbrev pub target_of : ShardState → List (Option Pid) → ℕ → Option Pid
+target_of d pids process = if_known d (pid_of pids process)
+
+abbrev pub pid_if : List (Option Pid) → Option ℕ → Option Pid
+pid_if pids None = None
+pid_if pids (Some process) = pid_of pids process
+
+-- the reference of this tag
+abbrev pub reference_of : List (Option Ref) → ℕ → Option Ref
+reference_of references tag = slice_index_or references tag None
+
+abbrev pub pick_of : List (Option Pid) → List (Option Ref) → Pattern → Option Pick
+pick_of pids references Any = Some Pick.Any
+pick_of pids references (Kind kind) = Some (Pick.Kind kind)
+pick_of pids references (From process) = option_map Pick.From (pid_of pids process)
+pick_of pids references (ExitOf process) = option_map Pick.ExitOf (pid_of pids process)
+pick_of pids references (DownOf tag) = option_map Pick.DownOf (reference_of references tag)
+pick_of pids references (AliveOf tag) = option_map Pick.AliveOf (reference_of references tag)
+
+-- what an operation does ------------------------------------------------------------------
+
+-- it is passed over
+abbrev pub IsPassed : ShardState → Progress → ShardState → Type 0
+IsPassed old progress new = (progress ≡ Done) × (new ≡ old)
+
+-- it is a call of p, and its answer says what comes of it
+abbrev pub IsCall : {A : Type 0} → Pid → Option Event → A → ShardState → Progress → ShardState → Type 0
+IsCall {A} p event a old progress new = (answer : Result A Fault) × Calls p event a old answer new × (progress ≡ came_of answer)
+
+-- a call on a target, passed over without one
+abbrev pub CallsAt : Option Pid → Pid → (Pid → Option Event) → ShardState → Progress → ShardState → Type 0
+CallsAt None p event old progress new = IsPassed old progress new
+CallsAt (Some t) p event old progress new = IsCall p (event t) (tt {0}) old progress new
+
+abbrev pub Sends : List (Option Pid) → Pid → ℕ → ℕ → ℤ → Option ℕ → ShardState → Progress → ShardState → Type 0
+Sends pids p to kind num who old progress new =
+    CallsAt (target_of old pids to) p (λ t. Some (Said p t (Signal.Message (record { kind = kind; num = num; who = pid_if pids who })))) old progress new
+
+-- what comes of a receive, where `without` does so when no item fits
+abbrev pub taken_of : Progress → Result (Option Item) Fault → Progress
+taken_of without (Ok None) = without
+taken_of without answer = came_of answer
+
+abbrev pub Takes : Option Pick → Pid → Progress → ShardState → Progress → ShardState → Type 0
+Takes None p without old progress new = IsPassed old progress new
+Takes (Some k) p without old progress new =
+    (answer : Result (Option Item) Fault) × Calls p (take_event old p k) (first_match old p k) old answer new
+    × (progress ≡ taken_of without answer)
+
+abbrev pub Demonitors : Option Ref → Pid → Bool → ShardState → Progress → ShardState → Type 0
+Demonitors None p flush old progress new = IsPassed old progress new
+Demonitors (Some m) p flush old progress new = IsCall p (demonitor_event old p m flush) (is_some (demonitor_event old p m flush)) old progress new
+
+-- the reference that an operation with a tag got
+abbrev pub got : Result Ref Fault → List (Option Ref)
+got (Ok reference) = Some reference ∷ []
+got (Err _) = []
+
+abbrev pub HasNoRoom : ShardState → List (Option Ref) → Progress → ShardState → List (Option Ref) → Type 0
+HasNoRoom old references progress new after = (progress ≡ Stays) × (new ≡ old) × (after ≡ references)
+
+-- the tag of what was passed over has no reference
+abbrev pub HasNoTarget : ShardState → List (Option Ref) → Progress → ShardState → List (Option Ref) → Type 0
+HasNoTarget old references progress new after = IsPassed old progress new × (after ≡ references ++ None ∷ [])
+
+-- a monitor; without memory for its tag it is tried again
+abbrev pub MonitorsAt : Pid → Option Pid → ShardState → List (Option Ref) → Progress → ShardState → List (Option Ref) → Type 0
+MonitorsAt p None old references progress new after =
+    HasNoRoom old references progress new after ⊎ HasNoTarget old references progress new after
+MonitorsAt p (Some t) old references progress new after =
+    HasNoRoom old references progress new after
+    ⊎ ((answer : Result Ref Fault) × Monitors p t old answer new × (progress ≡ came_of answer) × (after ≡ references ++ got answer))
+
+-- an ask, likewise
+abbrev pub AsksAt : Pid → Option Pid → ShardState → List (Option Ref) → Progress → ShardState → List (Option Ref) → Type 0
+AsksAt p None old references progress new after =
+    HasNoRoom old references progress new after ⊎ HasNoTarget old references progress new after
+AsksAt p (Some t) old references progress new after =
+    HasNoRoom old references progress new after
+    ⊎ ((answer : Result Ref Fault) × Calls p (Some (Said p t (Signal.AliveAsk (new_ref old)))) (new_ref old) old answer new
+    × (progress ≡ came_of answer) × (after ≡ references ++ got answer))
+
+-- An operation of p that bears nobody: what it does to the desk, what comes of it, and the references of p behind it.
+abbrev pub Performs : List (Option Pid) → Pid → Operation → ShardState → List (Option Ref) → Progress → ShardState → List (Option Ref) → Type 0
+Performs pids p (Send to kind num who) old references progress new after =
+    Sends pids p to kind num who old progress new × (after ≡ references)
+Performs pids p (Receive pattern) old references progress new after = Takes (pick_of pids references pattern) p Stays old progress new × (after ≡ references)
+Performs pids p (Check pattern) old references progress new after = Takes (pick_of pids references pattern) p Done old progress new × (after ≡ references)
+Performs pids p (Link to) old references progress new after = CallsAt (target_of old pids to) p (link_event old p) old progress new × (after ≡ references)
+Performs pids p (Unlink to) old references progress new after = CallsAt (target_of old pids to) p (unlink_event old p) old progress new × (after ≡ references)
+Performs pids p (Monitor to tag) old references progress new after =
+    MonitorsAt p (target_of old pids to) old references progress new after
+Performs pids p (Demonitor tag flush) old references progress new after = Demonitors (reference_of references tag) p flush old progress new × (after ≡ references)
+Performs pids p (Alive to tag) old references progress new after =
+    AsksAt p (target_of old pids to) old references progress new after
+Performs pids p (Trap on) old references progress new after = IsCall p (Some (Flag p on)) (state_in old p).traps old progress new × (after ≡ references)
+Performs pids p (Exit reason) old references progress new after = IsCall p (Some (Left p reason)) (tt {0}) old progress new × (after ≡ references)
+Performs pids p (SendExit to reason) old references progress new after =
+    CallsAt (target_of old pids to) p (λ t. Some (Said p t (Signal.Exit reason))) old progress new × (after ≡ references)
+Performs pids p (Spawn process linked) old references progress new after = ⊥
+Performs pids p Pass old references progress new after = IsPassed old progress new × (after ≡ references)
+
+-- How a process goes on behind its operation: the next one comes, or it is tried again, or the process ends by the
+-- refusal. An end that is refused in its turn leaves the operation to be tried again.
+abbrev pub GoesBehind : Progress → Acting → ShardState → Acting → ShardState → Type 0
+GoesBehind Done a old b new = (b ≡ advanced a) × (new ≡ old)
+GoesBehind Stays a old b new = (b ≡ a) × (new ≡ old)
+GoesBehind (Ends reason) a old b new = (b ≡ a) × ((answer : Result (Unit {0}) Fault) × Calls a.pid (Some (Left a.pid reason)) (tt {0}) old answer new)
+
+-- A process does an operation that bears nobody.
+pub record Plays (pids : List (Option Pid)) (operation : Operation) (a : Acting) (old : ShardState) (b : Acting) (new : ShardState) : Type 0 where
+  pub progress : Progress
+  pub references : List (Option Ref)
+  pub between : ShardState
+  pub performs : Performs pids a.pid operation old a.references progress between references
+  pub behind : GoesBehind progress (record a { references = references }) between b new
+
+-- what an operation does to the table ----------------------------------------------------------
+
+abbrev pub set_acting : ℕ → Acting → Table → Table
+set_acting i b t = record t { actors = slice_set t.actors i b }
+
+-- the child that was born stands last, and its number has its pid
+abbrev pub with_child : ℕ → Result Pid Fault → Table → Table
+with_child process (Ok p) t = record t { pids = slice_set t.pids process (Some p); actors = t.actors ++ newborn t.plans process p ∷ [] }
+with_child process (Err _) t = t
+
+-- the process a, at place i, bears a child
+pub record Spawns (process : ℕ) (linked : Bool) (i : ℕ) (a : Acting) (t : Table) (old : ShardState) (u : Table) (new : ShardState) : Type 0 where
+  pub answer : Result Pid Fault
+  pub between : ShardState
+  pub b : Acting
+  pub bears : BearsChild a.pid linked old answer between
+  pub behind : GoesBehind (came_of answer) a between b new
+  pub table : u ≡ set_acting i b (with_child process answer t)
+
+-- without memory to list the child, nothing is done
+abbrev pub TriesSpawn : ℕ → Bool → ℕ → Acting → Table → ShardState → Table → ShardState → Type 0
+TriesSpawn process linked i a t old u new = ((u ≡ t) × (new ≡ old)) ⊎ Spawns process linked i a t old u new
+
+abbrev pub SpawnsAt : ℕ → Bool → ℕ → Table → ShardState → Table → ShardState → Type 0
+SpawnsAt process linked i t old u new = (a : Acting) × (slice_index_or t.actors i a ≡ a) × TriesSpawn process linked i a t old u new
+
+-- the process a, at place i, does the operation
+abbrev pub Acts : Operation → ℕ → Acting → Table → ShardState → Table → ShardState → Type 0
+Acts (Spawn process linked) i a t old u new = TriesSpawn process linked i a t old u new
+Acts operation i a t old u new = (b : Acting) × Plays t.pids operation a old b new × (u ≡ set_acting i b t)
+
+-- the process at place i does its next operation
+pub record ActsAt (i : ℕ) (t : Table) (old : ShardState) (u : Table) (new : ShardState) : Type 0 where
+  pub within : i < length t.actors
+  pub a : Acting
+  pub is : slice_index_or t.actors i a ≡ a
+  pub acts : Acts (next_of t.plans a) i a t old u new
+
+-- a step --------------------------------------------------------------------------------------
+
+-- so do the first of the table, one after the other
+abbrev pub EachActs : ℕ → Table → ShardState → Table → ShardState → Type 0
+EachActs zero t old u new = (u ≡ t) × (new ≡ old)
+EachActs (suc count) t old u new =
+    (before : Table) × (between : ShardState) × EachActs count t old before between × ActsAt count before between u new
+
+-- without those that have ended
+abbrev pub living : ShardState → Table → Table
+living d t = record t { actors = filter (λ (a : Acting). lives d a.pid) t.actors }
+
+-- Those that have ended are struck off. Then each of the others does its next operation, in order of birth; one that is
+-- born by that stands behind them, and has its first operation in the next step.
+abbrev pub EachDoesNext : Table → ShardState → Table → ShardState → Type 0
+EachDoesNext t old u new = EachActs (length (living old t).actors) (living old t) old u new
