@@ -12,3 +12,10 @@ pub mod ReasonFacts
 pub mod Standing
 pub mod Numbering
 pub mod Writing
+pub mod SightFacts
+pub mod ReadBack
+pub mod ReadBackScripts
+pub mod ReadValues
+pub mod SeesSteps
+pub mod SeesLists
+pub mod SeesScripts

@@ -30,7 +30,7 @@ use Rattle.pt_script.proofs.SoundLists.{PartFits, list_from_fits, sum_cons}
 
 -- settings -----------------------------------------------------------------------
 
-abbrev Between : ℕ → ℕ → ℕ → Type 0
+abbrev pub Between : ℕ → ℕ → ℕ → Type 0
 Between least most n = (least ≤ n) × (n ≤ most)
 
 abbrev checked : ℕ → ℕ → ℕ → Result ℕ Fault
@@ -39,7 +39,7 @@ checked least most n = if nat_le least n && nat_le n most then Ok n else Err Bou
 in_range : (least most n : ℕ) → IfOk (checked least most n) (Between least most)
 in_range least most n = grind arith
 
-whole_in : (least most : ℕ) (d : Data) → IfOk (whole least most d) (Between least most)
+pub whole_in : (least most : ℕ) (d : Data) → IfOk (whole least most d) (Between least most)
 whole_in least most (number (unsigned n)) = in_range least most n
 whole_in least most (number (negative z)) = tt
 whole_in least most (number (float x)) = tt
@@ -49,7 +49,7 @@ whole_in least most (string s) = tt
 whole_in least most (array ds) = tt
 whole_in least most (object ms) = tt
 
-needed_in : (least most : ℕ) (m : Option Data) → IfOk (required (whole least most) m) (Between least most)
+pub needed_in : (least most : ℕ) (m : Option Data) → IfOk (required (whole least most) m) (Between least most)
 needed_in least most m = required_ok (Between least most) (whole least most) m (whole_in least most)
 
 given_in : (missing least most : ℕ) (m : Option Data) → Between least most missing → IfOk (optional missing (whole least most) m) (Between least most)
@@ -58,7 +58,7 @@ given_in missing least most m h = optional_ok (Between least most) missing (whol
 ranges : (format desks slots top lane budget : ℕ) → Between 1 2 format → Between 1 64 desks → Between 1 65536 slots → Between 1 4294967295 top → Between 1 65536 lane → Between 1 65536 budget → InRange (record { format = format; desks = desks; slots = slots; top_version = top; lane = lane; budget = budget })
 ranges format desks slots top lane budget a b c d e f = record { format = a; desks = b; slots = c; top_version = d; lane = e; budget = f }
 
-settings_in : (d : Data) → IfOk (settings d) InRange
+pub settings_in : (d : Data) → IfOk (settings d) InRange
 unfolding settings
 settings_in d =
     skip InRange (known (codes "format" ∷ codes "desks" ∷ codes "slots" ∷ codes "top" ∷ codes "lane" ∷ codes "budget" ∷ codes "processes" ∷ []) d) (λ u. (required (whole 1 2) (get (codes "format") d) >>= λ format. (required (whole 1 64) (get (codes "desks") d) >>= λ desks. (optional 1024 (whole 1 65536) (get (codes "slots") d) >>= λ slots. (optional 4294967295 (whole 1 4294967295) (get (codes "top") d) >>= λ top. (optional 64 (whole 1 65536) (get (codes "lane") d) >>= λ lane. (optional 16 (whole 1 65536) (get (codes "budget") d) >>= λ budget. Ok (record { format = format; desks = desks; slots = slots; top_version = top; lane = lane; budget = budget })))))))) (λ u.
@@ -153,7 +153,7 @@ none_fits s = record { tops = λ n all. All-nil (TopFits n s.desks); names = λ 
 
 -- lists --------------------------------------------------------------------------
 
-imply : {A E : Type 0} (P Q : A → Type 0) (r : Result A E) → IfOk r P → ((x : A) → P x → Q x) → IfOk r Q
+pub imply : {A E : Type 0} (P Q : A → Type 0) (r : Result A E) → IfOk r P → ((x : A) → P x → Q x) → IfOk r Q
 imply P Q (Ok x) h f = f x h
 imply P Q (Err e) h f = tt
 
@@ -162,18 +162,18 @@ every P (Ok x) h = h
 every P (Err e) h = tt
 
 -- what the list of one process adds
-record AddFits (names : Naming) (before : Lists) (p : Pending) (more : Lists) : Type 0 where
+pub record AddFits (names : Naming) (before : Lists) (p : Pending) (more : Lists) : Type 0 where
   fits : (n : ℕ) → ((q : List ℕ) → IsBelow n (names q)) → length more.processes ≤ n → PlansFit n before.processes → PlansFit n more.processes
-  longer : length more.processes ≡ length before.processes + begun_in 63 p.value
+  pub longer : length more.processes ≡ length before.processes + begun_in 63 p.value
   grown : length before.processes < length more.processes
-  few : length more.processes ≤ 4096
+  pub few : length more.processes ≤ 4096
   seen : before.seen ≡ operations_of before.processes → more.seen ≡ operations_of more.processes
   short : before.seen ≤ 65536 → more.seen ≤ 65536
 
 few_low : (n : ℕ) → few n ≡ Ok tt → n < 4096
 few_low n h = grind arith
 
-begun_of : (d : Data) (ops : List Data) → required list (get (codes "ops") d) ≡ Ok ops → begun_in 63 d ≡ 1 + spawned_by (begun_in 62) ops
+pub begun_of : (d : Data) (ops : List Data) → required list (get (codes "ops") d) ≡ Ok ops → begun_in 63 d ≡ 1 + spawned_by (begun_in 62) ops
 unfolding begun_in
 begun_of d ops h = rw h refl
 
@@ -196,7 +196,7 @@ added format names before p ops part low is h =
       short = λ small. (h 0).short small;
     }
 
-next_list_fits : (format : ℕ) (names : Naming) (before : Lists) (p : Pending) → IfOk (next_list format names before p) (AddFits names before p)
+pub next_list_fits : (format : ℕ) (names : Naming) (before : Lists) (p : Pending) → IfOk (next_list format names before p) (AddFits names before p)
 unfolding next_list
 next_list_fits format names before p =
     let size : ℕ = length before.processes in
@@ -264,7 +264,7 @@ script_sound d =
     bind (HeadsFit s) IsSound (each (next_head s) no_heads ds) (of_all s) (heads_fit s range.desks.0 no_heads ds (none_fits s)) (λ all heads.
     bind (AllFit all.names no_lists all.unread) IsSound (each (next_list s.format all.names) no_lists all.unread) (of_rest s all) (lists_fit s.format all.names no_lists all.unread) (λ rest lists. whole_sound s all rest range heads lists))))
 
-script_ok : (d : Data) (s : Settings) (ds : List Data) (all : Heads) (rest : Lists) → settings d ≡ Ok s → required list (get (codes "processes") d) ≡ Ok ds → each (next_head s) no_heads ds ≡ Ok all → each (next_list s.format all.names) no_lists all.unread ≡ Ok rest → script d ≡ Ok (record { settings = s; tops = all.tops; processes = rest.processes })
+pub script_ok : (d : Data) (s : Settings) (ds : List Data) (all : Heads) (rest : Lists) → settings d ≡ Ok s → required list (get (codes "processes") d) ≡ Ok ds → each (next_head s) no_heads ds ≡ Ok all → each (next_list s.format all.names) no_lists all.unread ≡ Ok rest → script d ≡ Ok (record { settings = s; tops = all.tops; processes = rest.processes })
 unfolding script
 script_ok d s ds all rest said given heads lists = rw (said, given, heads, lists) refl
 

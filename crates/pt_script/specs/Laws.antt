@@ -1,5 +1,6 @@
 -- The laws of scripts.
-use Rattle.std.specs.Prelude.{◌≡◌, ℕ, List, Some, Result, Ok, Err}
+use Rattle.std.specs.Prelude.{◌≡◌, ◌≤◌, ℕ, List, length, true, Some, Result, Ok, Err}
+use Rattle.std.specs.Str.{is_utf8}
 use Rattle.serde_json.specs.Data.{Data}
 use Rattle.serde_json.specs.Read.{read}
 use Rattle.pt_signal.specs.declared.reason.Reason.{Reason}
@@ -14,9 +15,11 @@ use Rattle.pt_script.specs.Steps.{each}
 use Rattle.pt_script.specs.Scopes.{Scope}
 use Rattle.pt_script.specs.Lists.{simple}
 use Rattle.pt_script.specs.Operations.{reason_of}
-use Rattle.pt_script.specs.Scripts.{Heads, next_head, no_heads, reading}
+use Rattle.pt_script.specs.Scripts.{Heads, next_head, no_heads, script, reading}
 use Rattle.pt_script.specs.Sound.{IsSound}
+use Rattle.pt_script.specs.Sights.{IsWellFormed}
 use Rattle.pt_script.specs.Writing.{Called, written, CanSay, scope_behind}
+use Rattle.pt_script.specs.WritingScripts.{script_written}
 use Rattle.pt_script.specs.Standing.{HasPlace, IsNumbered, AreNamesOf, processes_of}
 
 -- whatever bytes are accepted, their script is sound
@@ -42,3 +45,11 @@ NamesArePlaces = (s : Settings) (ds : List Data) (heads : Heads) → each (next_
 -- an operation that was written is read back, and with the scope behind it
 abbrev pub OperationsReadBack : Type 0
 OperationsReadBack = (s : Scope) (c : Called) (o : Operation) → CanSay s c o → simple s (written c o) ≡ Ok (o, scope_behind s c o)
+
+-- a script that is well formed is read back from what is written of it, and from each text of that value
+abbrev pub ScriptsReadBack : Type 0
+ScriptsReadBack = (w : Whole) → IsWellFormed w → (script (script_written w) ≡ Ok w) × ((bytes : List ℕ) → length bytes ≤ 1048576 → is_utf8 bytes ≡ true → read bytes ≡ Some (script_written w) → reading bytes ≡ Ok w)
+
+-- and every script that is accepted is well formed, so that it is read back from what is written of it
+abbrev pub AcceptedReadBack : Type 0
+AcceptedReadBack = (bytes : List ℕ) (w : Whole) → reading bytes ≡ Ok w → IsWellFormed w × (script (script_written w) ≡ Ok w)

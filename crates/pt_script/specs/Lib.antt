@@ -9,4 +9,6 @@ pub mod Scripts
 pub mod Sound
 pub mod Standing
 pub mod Writing
+pub mod Sights
+pub mod WritingScripts
 pub mod Laws

@@ -1,6 +1,6 @@
 //! The laws of scripts: each is the contract of a function that does nothing.
 
-ghost use Rattle.pt_script.specs.Laws.{AcceptedAreSound, ReasonsAsPrinted, FaultsHavePlaces, NumbersArePlaces, NamesArePlaces, OperationsReadBack};
+ghost use Rattle.pt_script.specs.Laws.{AcceptedAreSound, ReasonsAsPrinted, FaultsHavePlaces, NumbersArePlaces, NamesArePlaces, OperationsReadBack, ScriptsReadBack, AcceptedReadBack};
 
 /// In every script that is accepted, each number of a process is below the number of processes, each tag was made
 /// by an earlier operation of its list, each desk is one of the node's, the settings are in their ranges, and there
@@ -36,4 +36,17 @@ pub fn names_are_places()
 /// ranges and with processes and tags by names that are theirs in the scope.
 pub fn operations_read_back()
     ensures { OperationsReadBack }
+{}
+
+/// Every script that is well formed is read back from the value that is written of it, and from each text of that value
+/// of at most 1,048,576 bytes: processes numbered in the order in which they begin, however deep their spawns nest,
+/// each operation naming what is in sight where it stands, and the limits kept.
+pub fn scripts_read_back()
+    ensures { ScriptsReadBack }
+{}
+
+/// Every script that is accepted is well formed, and is read back from the value that is written of it: to be well
+/// formed asks no more than the format does.
+pub fn accepted_scripts_read_back()
+    ensures { AcceptedReadBack }
 {}
