@@ -3,3 +3,4 @@ pub mod Wholes
 pub mod Fresh
 pub mod GoingOn
 pub mod StillDesks
+pub mod Rounding

@@ -11,7 +11,7 @@ use Rattle.pt_signal.specs.declared.letter.Letter.{Letter}
 use Rattle.pt_shard.specs.declared.config.Config.{Config}
 use Rattle.pt_shard.specs.ShardState.{ShardState}
 use Rattle.pt_desk.specs.DeskState.{DeskState, place}
-use Rattle.pt_node.specs.Desks.{AreDesks, AreDesksOf, IsStill, desk_kept}
+use Rattle.pt_node.specs.Desks.{AreDesks, IsStill, desk_kept}
 
 abbrev settings : DeskState → Config
 settings d = d.shard.config

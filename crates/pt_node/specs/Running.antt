@@ -1,5 +1,5 @@
 -- What workers do with the desks, and what stays of these.
-use Rattle.std.specs.Prelude.{◌≡◌, ℕ, zero, suc, ◌<◌, ◌⊎◌, Bool, true, false, List, length, slice_index_or}
+use Rattle.std.specs.Prelude.{◌≡◌, ℕ, zero, suc, ◌<◌, ◌⊎◌, Bool, true, false, not, MatchBool, List, length, replicate, slice_index_or, slice_set}
 use Rattle.pt_desk.specs.DeskState.{DeskState, GoesOn}
 use Rattle.pt_desk.specs.Turns.{Turns}
 use Rattle.pt_desk.specs.declared.turned.Turned.{Turned}
@@ -32,3 +32,38 @@ abbrev pub AllWork : {W : Type 0} → (ℕ → ℕ → Bool → Type 0) → ℕ 
 AllWork {W} lets turns budget old new =
     (d : ℕ) (x : DeskState × W) → d < length old
     → Works (lets (slice_index_or old d x).0.shard.number) turns budget (slice_index_or old d x) (slice_index_or new d x)
+
+-- desks with their work, and whether the worker at each place has ended
+abbrev pub Workers : Type 0 → Type 0
+Workers W = List (DeskState × W) × List Bool
+
+-- the worker at place d takes the turn of that number, which its gate lets begin; or its gate does not, and it has ended
+pub record TakesOrEnds {W : Type 0} (lets : ℕ → ℕ → Bool → Type 0) (budget turn d : ℕ) (old new : Workers W) : Type 0 where
+  pub pair : DeskState × W
+  pub begins : Bool
+  pub gate : lets (slice_index_or old.0 d pair).0.shard.number turn begins
+  pub takes : MatchBool begins (TakesTurn budget (slice_index_or old.0 d pair) pair) (pair ≡ slice_index_or old.0 d pair)
+  pub desks : new.0 ≡ slice_set old.0 d pair
+  pub ended : new.1 ≡ slice_set old.1 d (not begins)
+
+-- so the worker at place d, unless it has ended: then nothing happens
+abbrev pub HasTurn : {W : Type 0} → (ℕ → ℕ → Bool → Type 0) → ℕ → ℕ → ℕ → Workers W → Workers W → Type 0
+HasTurn lets budget turn d old new = MatchBool (slice_index_or old.1 d false) (new ≡ old) (TakesOrEnds lets budget turn d old new)
+
+-- a round: the turn of that number of the first n workers, from desk 0 upwards
+abbrev pub Round : {W : Type 0} → (ℕ → ℕ → Bool → Type 0) → ℕ → ℕ → ℕ → Workers W → Workers W → Type 0
+Round lets budget turn zero old new = new ≡ old
+Round {W} lets budget turn (suc d) old new = (mid : Workers W) × Round lets budget turn d old mid × HasTurn lets budget turn d mid new
+
+-- so many rounds of n workers, one after the other, that of turn 0 first
+abbrev pub Rounds : {W : Type 0} → (ℕ → ℕ → Bool → Type 0) → ℕ → ℕ → ℕ → Workers W → Workers W → Type 0
+Rounds lets budget n zero old new = new ≡ old
+Rounds {W} lets budget n (suc turn) old new = (mid : Workers W) × Rounds lets budget n turn old mid × Round lets budget turn n mid new
+
+-- all rounds of all workers, of whom none has ended at first. A node has 64 desks at most
+abbrev pub InRounds : {W : Type 0} → (ℕ → ℕ → Bool → Type 0) → ℕ → ℕ → List (DeskState × W) → List (DeskState × W) → Type 0
+InRounds lets turns budget old new = (ended : List Bool) × Rounds lets budget (length old) turns (old, replicate 64 false) (new, ended)
+
+-- the first n workers have ended
+abbrev pub HaveEnded : ℕ → List Bool → Type 0
+HaveEnded n ended = (d : ℕ) → d < n → slice_index_or ended d false ≡ true

@@ -1,9 +1,9 @@
 //! Workers, each with a desk of a node.
 
-ghost use Rattle.std.specs.Prelude.{◌≡◌, ℕ, ◌<◌, Bool, MatchBool, map, vec_len};
+ghost use Rattle.std.specs.Prelude.{◌≡◌, ℕ, ◌<◌, ◌≤◌, Bool, false, MatchBool, length, map};
 ghost use Rattle.pt_desk.specs.DeskState.{GoesOn};
 ghost use Rattle.pt_node.specs.Desks.{AreDesks};
-ghost use Rattle.pt_node.specs.Running.{AllGoOn, AllWork, TakesTurn, Works};
+ghost use Rattle.pt_node.specs.Running.{AllGoOn, AllWork, HasTurn, HaveEnded, InRounds, Round, TakesTurn, Works};
 
 use pt_desk::Desk;
 use std::thread;
@@ -85,9 +85,11 @@ pub fn run<R: Threads + Sync, G: Gate + Sync, W: Work + Send>(
 }
 
 /// The same turns on the calling thread, in rounds: each round is one turn of every worker that has not ended, from
-/// desk 0 upwards. It is meant for the desks of a node, so for 64 at most.
+/// desk 0 upwards.
 ///
-/// Each desk that comes back is the one at its place in the list handed in, gone on, as with [`run`].
+/// Each desk that comes back is the one at its place in the list handed in, gone on, and each worker takes the turns
+/// that [`run`] lets it take. A list of more than 64 desks is not of one node: its workers take all their turns one
+/// after another.
 pub fn run_single<G: Gate, W: Work>(
     desks: Vec<(Desk, W)>,
     turns: u64,
@@ -95,56 +97,85 @@ pub fn run_single<G: Gate, W: Work>(
     gate: &G,
 ) -> Ran<W>
     ensures each { AllGoOn desks.items result.desks.items }
+    ensures turns { AllWork (G.lets gate.now) turns budget desks.items result.desks.items }
+    ensures rounds { length desks.items ≤ 64 → InRounds (G.lets gate.now) turns budget desks.items result.desks.items }
     ensures desks { AreDesks (map (λ p. p.0) desks.items) → AreDesks (map (λ p. p.0) result.desks.items) }
 {
     let mut desks = desks;
-    let mut ended = 0;
-    for turn in 0..turns {
-        ended = one_round(&mut desks, ended, turn, budget, gate);
-        if ended.count_ones() as usize == desks.len() {
-            return Ran { desks };
-        }
+    if desks.len() > 64 {
+        one_by_one(&mut desks, turns, budget, gate);
+        return Ran { desks };
     }
+    all_rounds(&mut desks, turns, budget, gate);
     Ran { desks }
 }
 
-/// A turn of every worker that has not ended. The bit of a desk's number is set once its worker has ended.
-fn one_round<G: Gate, W: Work>(
-    desks: &mut Vec<(Desk, W)>,
-    ended: u64,
-    turn: u64,
-    budget: u32,
-    gate: &G,
-) -> u64
-    ensures { AllGoOn desks.old.items desks.new.items }
+/// All rounds, or those until every worker has ended.
+fn all_rounds<G: Gate, W: Work>(desks: &mut Vec<(Desk, W)>, turns: u64, budget: u32, gate: &G)
+    requires { length desks.old.items ≤ 64 }
+    ensures each { AllGoOn desks.old.items desks.new.items }
+    ensures turns { AllWork (G.lets gate.now) turns budget desks.old.items desks.new.items }
+    ensures rounds { InRounds (G.lets gate.now) turns budget desks.old.items desks.new.items }
 {
-    let mut ended = ended;
-    for d in 0..desks.len() {
-        ended = turn_at(desks, d, ended, turn, budget, gate);
+    let mut ended = [false; 64];
+    for turn in 0..turns {
+        if !one_round(desks, &mut ended, turn, budget, gate) {
+            return;
+        }
     }
-    ended
 }
 
-/// A turn of the worker of desk d, if it has not ended, and who has ended then.
-fn turn_at<G: Gate, W: Work>(
+/// A turn of every worker that has not ended, and whether one of them goes on.
+fn one_round<G: Gate, W: Work>(
     desks: &mut Vec<(Desk, W)>,
-    d: usize,
-    ended: u64,
+    ended: &mut [bool; 64],
     turn: u64,
     budget: u32,
     gate: &G,
-) -> u64
-    requires { d < vec_len desks.old }
-    ensures { AllGoOn desks.old.items desks.new.items }
+) -> bool
+    requires { length desks.old.items ≤ 64 }
+    ensures each { AllGoOn desks.old.items desks.new.items }
+    ensures round { Round (G.lets gate.now) budget turn (length desks.old.items) (desks.old.items, ended.old) (desks.new.items, ended.new) }
+    ensures none { result ≡ false → HaveEnded (length desks.old.items) ended.new }
 {
-    let bit = 1u64.wrapping_shl((d % 64) as u32);
-    if ended & bit != 0 {
-        return ended;
+    let mut goes_on = false;
+    for d in 0..desks.len() {
+        turn_at(desks, ended, d, turn, budget, gate);
+        if !ended[d] {
+            goes_on = true;
+        }
     }
-    if one_turn(&mut desks[d], turn, budget, gate) {
-        return ended;
+    goes_on
+}
+
+/// A turn of the worker of desk d, if it has not ended.
+fn turn_at<G: Gate, W: Work>(
+    desks: &mut Vec<(Desk, W)>,
+    ended: &mut [bool; 64],
+    d: usize,
+    turn: u64,
+    budget: u32,
+    gate: &G,
+)
+    requires desk { d < length desks.old.items }
+    requires few { length desks.old.items ≤ 64 }
+    ensures each { AllGoOn desks.old.items desks.new.items }
+    ensures turn { HasTurn (G.lets gate.now) budget turn d (desks.old.items, ended.old) (desks.new.items, ended.new) }
+{
+    if ended[d] {
+        return;
     }
-    ended | bit
+    ended[d] = !one_turn(&mut desks[d], turn, budget, gate);
+}
+
+/// All turns of each worker, one worker after another.
+fn one_by_one<G: Gate, W: Work>(desks: &mut Vec<(Desk, W)>, turns: u64, budget: u32, gate: &G)
+    ensures each { AllGoOn desks.old.items desks.new.items }
+    ensures turns { AllWork (G.lets gate.now) turns budget desks.old.items desks.new.items }
+{
+    for d in 0..desks.len() {
+        work_turns(&mut desks[d], turns, budget, gate);
+    }
 }
 
 /// The workers, each on a thread of its own as far as threads can be made.

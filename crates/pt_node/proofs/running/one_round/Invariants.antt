@@ -1,5 +1,10 @@
-use Rattle.pt_node.specs.Running.{AllGoOn}
+use Rattle.std.proofs.Common.{◌≡◌, false}
+use Rattle.pt_node.specs.Running.{AllGoOn, HaveEnded, Round}
 use Rattle.pt_node.proofs.running.one_round.Given as goal
 
 abbrev pub invariant-loop-d : goal.invariant-loop-d
-invariant-loop-d g l = AllGoOn l.initial.desks.items l.desks.items
+invariant-loop-d g l = record {
+  each : AllGoOn l.initial.desks.items l.desks.items;
+  round : Round (g.G.Gate.lets l.gate) l.budget l.turn l.d (l.initial.desks.items, l.initial.ended) (l.desks.items, l.ended);
+  none : l.goes_on ≡ false → HaveEnded l.d l.ended;
+}

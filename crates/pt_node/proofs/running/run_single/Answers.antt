@@ -1,14 +1,15 @@
-use Rattle.pt_node.proofs.GoingOn.{all_go_on_then, still_desks}
+use Rattle.std.proofs.Common.{arith}
+use Rattle.pt_node.proofs.GoingOn.{still_desks}
 use Rattle.pt_node.proofs.running.run_single.Goals as goal
 
-pub loop-turn-preserved : goal.loop-turn-preserved
-loop-turn-preserved g c = all_go_on_then _ _ _ c.loop-turn.invariant c.one_round-ended.ensures
+pub returns-then-len-gt64-clause-desks : goal.returns-then-len-gt64-clause-desks
+returns-then-len-gt64-clause-desks g c = still_desks _ _ c.one_by_one.ensures.each
 
 pub returns-clause-desks : goal.returns-clause-desks
-returns-clause-desks g c = still_desks _ _ c.loop-turn.invariant
+returns-clause-desks g c = still_desks _ _ c.all_rounds.ensures.each
 
-pub returns-then-ended-len-clause-each : goal.returns-then-ended-len-clause-each
-returns-then-ended-len-clause-each g c = all_go_on_then _ _ _ c.loop-turn.invariant c.one_round-ended.ensures
+pub returns-then-len-gt64-clause-rounds : goal.returns-then-len-gt64-clause-rounds
+returns-then-len-gt64-clause-rounds g c few = absurd (omega (arith, few, c.if-len-gt64.true, c.len.ensures, c.args.desks.ok.0))
 
-pub returns-then-ended-len-clause-desks : goal.returns-then-ended-len-clause-desks
-returns-then-ended-len-clause-desks g c = still_desks _ _ (all_go_on_then _ _ _ c.loop-turn.invariant c.one_round-ended.ensures)
+pub all_rounds-requires : goal.all_rounds-requires
+all_rounds-requires g c = omega (arith, c.if-len-gt64.false, c.len.ensures, c.args.desks.ok.0)

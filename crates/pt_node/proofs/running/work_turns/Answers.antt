@@ -1,4 +1,4 @@
-use Rattle.std.proofs.Common.{◌≡◌, ℕ, ◌+◌, ◌∙◌, add-one, Bool, true, false, MatchBool, inr, sym, subst, ap}
+use Rattle.std.proofs.Common.{◌≡◌, add-one, true, false, MatchBool, inr, sym, subst}
 use Rattle.pt_desk.proofs.Turning.{goes_on_then}
 use Rattle.pt_node.specs.Running.{TakesTurns, TakesTurn}
 use Rattle.pt_node.proofs.running.work_turns.Goals as goal
