@@ -1,5 +1,5 @@
 -- What operations do, and what a step does.
-use Rattle.std.proofs.Common.{◌≡◌, ◌≢◌, inl, inr, ℕ, zero, suc, ◌+◌, ◌<◌, List, [], ◌∷◌, ◌++◌, Bool, true, false, cond, length, length-append, map, get_or, set, Option, Some, None, Result, Ok, Err, refl, ap, sym, subst, ◌∙◌, add-one, arith}
+use Rattle.std.proofs.Common.{◌≡◌, ◌≢◌, inl, inr, ℕ, zero, suc, ◌+◌, ◌<◌, List, [], ◌∷◌, ◌++◌, Bool, true, false, length, map, get_or, set, Option, Some, None, Result, Ok, Err, refl, ap, sym, subst, ◌∙◌, add-one, arith}
 use Rattle.std.specs.Prelude.{is_some}
 use Rattle.std.specs.List.{filter}
 use Rattle.std.proofs.lemmas.List.{map-set, get_or-map, get_or_append_left, get_or_default, length-map}
@@ -16,12 +16,12 @@ use Rattle.pt_events.specs.declared.event.Event.TheVariants.{Said}
 use Rattle.pt_shard.specs.declared.fault.Fault.{Fault}
 use Rattle.pt_shard.specs.Calls.{Calls, Monitors, take_event, first_match, demonitor_event, new_ref}
 use Rattle.pt_runner.specs.Stepping.{came_of}
-use Rattle.pt_runner.specs.declared.calls.Progress.TheVariants.{Done, Stays, Ends}
-use Rattle.pt_shard.specs.ShardState.{ShardState, lives}
+use Rattle.pt_runner.specs.declared.calls.Progress.TheVariants.{Done, Stays}
+use Rattle.pt_shard.specs.ShardState.{ShardState}
 use Rattle.pt_runner.specs.declared.calls.Progress.{Progress}
 use Rattle.pt_runner.specs.declared.runner.Actor.{Actor}
 use Rattle.pt_runner.proofs.Stepping.{pid_of, kept_pids}
-use Rattle.pt_runner.specs.Acting.{CallsAt, Takes, taken_of, Demonitors, MonitorsAt, AsksAt, got, Performs, Acting, Table, acting, set_acting, with_child, newborn, GoesBehind, Plays, Acts, ActsAt, EachActs}
+use Rattle.pt_runner.specs.Acting.{CallsAt, Takes, taken_of, Demonitors, MonitorsAt, AsksAt, got, Performs, Acting, Table, acting, set_acting, with_child, newborn, Plays, Acts, ActsAt, EachActs}
 
 -- calls on a target ------------------------------------------------------------------------
 

@@ -1,27 +1,25 @@
 -- What the calls of a process leave.
-use Rattle.std.proofs.Common.{◌≡◌, ◌⊎◌, ⊎_elim, inl, inr, List, [], ◌∷◌, Bool, true, false, cond, Option, Some, None, Result, Ok, Err, refl, ap, sym, subst, ◌∙◌}
+use Rattle.std.proofs.Common.{◌≡◌, ◌⊎◌, inl, inr, [], ◌∷◌, Bool, true, false, cond, Option, Some, None, Result, Ok, Err, refl, sym, subst, ◌∙◌}
 use Rattle.std.specs.Option.{option_map}
 use Rattle.pt_signal.specs.declared.pid.Pid.{Pid}
 use Rattle.pt_signal.specs.declared.ids.Ids.{Ids}
 use Rattle.pt_signal.specs.declared.ids.Ref.{Ref}
-use Rattle.pt_signal.specs.declared.ids.LinkId.{LinkId}
 use Rattle.pt_signal.specs.declared.item.Item.{Item}
 use Rattle.pt_signal.specs.declared.item.Pick.{Pick}
 use Rattle.pt_signal.specs.declared.item.Pick.TheVariants.{DownOf}
-use Rattle.pt_signal.specs.declared.signal.Signal.{Signal}
-use Rattle.pt_signal.specs.declared.signal.Signal.TheVariants.{Link, Unlink, Monitor, Demonitor}
+use Rattle.pt_signal.specs.declared.signal.Signal.TheVariants.{Link, Unlink, Monitor}
 use Rattle.pt_events.specs.declared.event.Event.{Event}
 use Rattle.pt_events.specs.declared.event.Event.TheVariants.{Born, Said, Took}
 use Rattle.pt_shard.specs.declared.fault.Fault.{Fault}
 use Rattle.pt_shard.specs.declared.fault.Fault.TheVariants.{Full, Memory, Worn, Gone, Myself}
 use Rattle.pt_shard.specs.ShardState.{ShardState, lives, after}
-use Rattle.pt_shard.specs.Calls.{Calls, Monitors, Bears, BearsChild, link_event, unlink_event, take_event, first_match, demonitor_event, demonitor_at, held_by, new_link, new_ref, birth_link, if_asked}
-use Rattle.pt_desk.specs.DeskState.{DeskState, GoesOn, place}
+use Rattle.pt_shard.specs.Calls.{Calls, Monitors, BearsChild, link_event, unlink_event, take_event, first_match, demonitor_event, demonitor_at, held_by, new_link, new_ref, birth_link, if_asked}
+use Rattle.pt_desk.specs.DeskState.{DeskState, GoesOn}
 use Rattle.pt_desk.proofs.Turning.{extends}
 use Rattle.pt_runner.specs.declared.calls.Progress.{Progress}
 use Rattle.pt_runner.specs.declared.calls.Progress.TheVariants.{Done, Stays}
 use Rattle.pt_runner.specs.Acting.{taken_of}
-use Rattle.pt_runner.specs.Stepping.{author, child_of, Does, DoesOne, came_of, Leaves, Concludes, born_by}
+use Rattle.pt_runner.specs.Stepping.{author, child_of, DoesOne, came_of, Leaves, Concludes, born_by}
 
 pub stays : (d : DeskState) → GoesOn d d
 stays d = record { shard = extends d.shard; place = refl }

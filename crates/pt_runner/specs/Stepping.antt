@@ -6,7 +6,7 @@ use Rattle.pt_signal.specs.declared.reason.Reason.TheVariants.{Other}
 use Rattle.pt_events.specs.declared.event.Event.{Event}
 use Rattle.pt_events.specs.declared.event.Event.TheVariants.{Born, Said, Came, Took, Flag, Left}
 use Rattle.pt_shard.specs.declared.fault.Fault.{Fault}
-use Rattle.pt_shard.specs.declared.fault.Fault.TheVariants.{Full, Memory, Worn, Gone, Myself}
+use Rattle.pt_shard.specs.declared.fault.Fault.TheVariants.{Full, Myself}
 use Rattle.pt_shard.specs.ShardState.{ShardState, lives, after}
 use Rattle.pt_runner.specs.declared.calls.Progress.{Progress}
 use Rattle.pt_runner.specs.declared.calls.Progress.TheVariants.{Done, Stays, Ends}

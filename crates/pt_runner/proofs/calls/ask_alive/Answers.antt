@@ -1,4 +1,4 @@
-use Rattle.std.proofs.Common.{[], ◌∷◌, ◌++◌, None, refl, sym, ap, ◌∙◌}
+use Rattle.std.proofs.Common.{[], ◌∷◌, ◌++◌, None, sym, ap, ◌∙◌}
 use Rattle.pt_runner.specs.Acting.{got}
 use Rattle.pt_runner.proofs.Acting.{ask_no_room, ask_no_target, ask_at}
 use Rattle.pt_runner.proofs.calls.ask_alive.Goals as goal

@@ -1,4 +1,4 @@
-use Rattle.std.proofs.Common.{[], ◌∷◌, ◌++◌, None, refl, sym, ap, ◌∙◌}
+use Rattle.std.proofs.Common.{[], ◌∷◌, ◌++◌, None, sym, ap, ◌∙◌}
 use Rattle.pt_runner.specs.Acting.{got}
 use Rattle.pt_runner.proofs.Acting.{no_room, no_target, monitor_at}
 use Rattle.pt_runner.proofs.calls.monitor.Goals as goal

@@ -1,4 +1,4 @@
-use Rattle.std.proofs.Common.{◌≡◌, ◌≤◌, ◌+◌, vec_len, length}
+use Rattle.std.proofs.Common.{◌≡◌, vec_len, length}
 use Rattle.std.specs.Vec.{vec_capacity}
 use Rattle.pt_runner.specs.Starting.{config_of}
 use Rattle.pt_runner.proofs.Starting.{Begun}
