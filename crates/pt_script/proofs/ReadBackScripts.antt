@@ -1,6 +1,6 @@
 -- A script that was written is read back.
-use Rattle.std.proofs.Common.{◌≡◌, ℕ, zero, suc, ◌+◌, ◌-◌, ◌<◌, ◌≤◌, ◌^◌, List, [], ◌∷◌, ◌++◌, map, min, Bool, true, false, cond, length, length-append, get_or, Option, Some, None, Result, Ok, Err, refl, ap, sym, subst, ◌∙◌, arith, append_assoc, append-nil}
-use Rattle.std.specs.Prelude.{IfOk, codes, decimal, if◌then◌else◌, nat_le, nat_lt, ◌&&◌, ◌||◌, ◌==◌, count_by}
+use Rattle.std.proofs.Common.{◌≡◌, ℕ, ◌+◌, ◌-◌, ◌<◌, ◌≤◌, List, [], ◌∷◌, ◌++◌, map, Bool, true, false, cond, length, length-append, get_or, Some, None, Result, Ok, refl, ap, sym, subst, ◌∙◌, arith, append_assoc, append-nil}
+use Rattle.std.specs.Prelude.{codes, if◌then◌else◌, nat_le, nat_lt, ◌&&◌, ◌||◌, ◌==◌, count_by}
 use Rattle.std.specs.Map.{update}
 use Rattle.std.specs.Str.{bytes_eq, is_utf8}
 use Rattle.std.proofs.lemmas.Bool.Decides.{Decides-eqb}
@@ -8,7 +8,6 @@ use Rattle.std.proofs.lemmas.List.Sums.{sum_by-append}
 use Rattle.serde_json.specs.Data.{Data}
 use Rattle.serde_json.specs.Find.{get}
 use Rattle.serde_json.specs.Read.{read}
-use Rattle.pt_script.specs.declared.fault.Fault.{Fault}
 use Rattle.pt_script.specs.declared.fault.ScriptError.{ScriptError}
 use Rattle.pt_script.specs.declared.values.Settings.{Settings}
 use Rattle.pt_script.specs.declared.values.Top.{Top}
@@ -16,10 +15,10 @@ use Rattle.pt_script.specs.Plans.{Plan, Whole}
 use Rattle.pt_script.specs.Steps.{◌>>=◌, each}
 use Rattle.pt_script.specs.Members.{required, list}
 use Rattle.pt_script.specs.Scopes.{Naming, Scope}
-use Rattle.pt_script.specs.Lists.{Part, placed, at_process, fresh, list_from}
-use Rattle.pt_script.specs.Scripts.{Heads, Head, Pending, Lists, settings, head, with_head, next_head, no_heads, next_list, no_lists, few, number_behind, begun_in, spawned_by, script, reading}
+use Rattle.pt_script.specs.Lists.{Part, fresh, list_from}
+use Rattle.pt_script.specs.Scripts.{Heads, Head, Pending, Lists, settings, head, with_head, next_head, no_heads, next_list, no_lists, few, begun_in, spawned_by, script, reading}
 use Rattle.pt_script.specs.Sound.{InRange, operations_of}
-use Rattle.pt_script.specs.Sights.{Sight, among, first_sight, BeginsIn, TopsBegin, number_of, IsWellFormed}
+use Rattle.pt_script.specs.Sights.{among, first_sight, BeginsIn, TopsBegin, number_of, IsWellFormed}
 use Rattle.pt_script.specs.WritingScripts.{process_name, no_plan, plan_of, list_written, top_written, script_written}
 use Rattle.pt_script.proofs.SightFacts.{Named, named_more, found_not, own_name, Agrees}
 use Rattle.pt_script.proofs.SoundLists.{PartFits, list_from_fits, sum_cons}

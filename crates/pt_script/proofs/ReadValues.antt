@@ -1,5 +1,5 @@
 -- Values that were read from a text: their numbers have 64 bits.
-use Rattle.std.proofs.Common.{◌≡◌, ℕ, zero, suc, ◌-◌, ◌<◌, ◌≤◌, ◌^◌, ℤ, pos, negsuc, List, [], ◌∷◌, Bool, true, false, Option, Some, None, option_map, option_and_then, Result, Ok, Err, Ordering, Less, Equal, Greater, refl, sym, subst, arith}
+use Rattle.std.proofs.Common.{◌≡◌, ℕ, zero, suc, ◌<◌, ◌≤◌, ◌^◌, pos, List, [], ◌∷◌, Bool, true, false, Option, Some, None, option_map, option_and_then, Result, Ok, Err, Ordering, Less, Equal, Greater, refl, arith}
 use Rattle.std.specs.Prelude.{IfOk, slice_index, drop, if◌then◌else◌, nat_lt, nat_le, ◌&&◌, ◌==◌}
 use Rattle.std.specs.Float.{binary64, float_is_finite}
 use Rattle.std.specs.Ordering.{match_ordering, nat_cmp}

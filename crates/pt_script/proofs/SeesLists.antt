@@ -1,5 +1,5 @@
 -- What lists say is in sight, and what their spawns begin stands behind one another.
-use Rattle.std.proofs.Common.{◌≡◌, ℕ, zero, suc, ◌+◌, ◌<◌, ◌≤◌, List, [], ◌∷◌, ◌++◌, Bool, true, false, length, Option, Some, None, Result, Ok, Err, refl, ap, sym, ◌∙◌, arith}
+use Rattle.std.proofs.Common.{◌≡◌, ℕ, zero, suc, ◌+◌, ◌<◌, List, [], ◌∷◌, ◌++◌, Bool, true, false, length, Option, Some, Result, Ok, refl, ap, arith}
 use Rattle.std.specs.Prelude.{IfOk, codes, if◌then◌else◌}
 use Rattle.std.specs.Str.{bytes_eq}
 use Rattle.serde_json.specs.Data.{Data}
@@ -9,14 +9,13 @@ use Rattle.pt_script.specs.declared.fault.Place.{Place}
 use Rattle.pt_script.specs.declared.fault.ScriptError.{ScriptError}
 use Rattle.pt_script.specs.declared.values.Operation.{Operation}
 use Rattle.pt_script.specs.declared.values.Operation.TheVariants as operation
-use Rattle.pt_script.specs.Plans.{Plan}
 use Rattle.pt_script.specs.Steps.{◌>>=◌}
 use Rattle.pt_script.specs.Operations.{Spawning, is_spawn, spawn}
 use Rattle.pt_script.specs.Scopes.{Scope}
 use Rattle.pt_script.specs.Lists.{Part, Step, Reader, placed, at_operation, fresh, with_child, limits, spawned, simple, one_at, list_with, no_list, list_from}
 use Rattle.pt_script.specs.Sights.{Sight, CanDo, sight_behind, first_sight, Begins, StepBegins, ListBegins, NoneBegins, BeginsIn}
 use Rattle.pt_script.proofs.ListFacts.{limits_levels}
-use Rattle.pt_script.proofs.SoundSteps.{bind, skip, where_ok, either, placed_ok}
+use Rattle.pt_script.proofs.SoundSteps.{bind, where_ok, either, placed_ok}
 use Rattle.pt_script.proofs.SoundLists.{ListIs, spawn_list}
 use Rattle.pt_script.proofs.ReadValues.{IsRead, AllRead, list_at_read}
 use Rattle.pt_script.proofs.SeesSteps.{IsIn, ScopeSees, in_here, in_later, Goes, simple_goes}

@@ -1,6 +1,6 @@
 -- Every script that is accepted is well formed, and so it is read back.
-use Rattle.std.proofs.Common.{◌≡◌, ℕ, zero, suc, ◌+◌, ◌-◌, ◌<◌, ◌≤◌, List, [], ◌∷◌, ◌++◌, map, min, Bool, true, false, cond, length, length-append, Option, Some, None, Result, Ok, Err, refl, ap, sym, subst, ◌∙◌, arith, append_assoc, append-nil}
-use Rattle.std.specs.Prelude.{IfOk, codes, if◌then◌else◌, nat_le, nat_lt, ◌==◌, count_by}
+use Rattle.std.proofs.Common.{◌≡◌, ℕ, ◌+◌, ◌-◌, ◌<◌, ◌≤◌, List, [], ◌∷◌, ◌++◌, map, Bool, true, false, cond, length, length-append, Option, Some, None, Result, Ok, Err, refl, ap, sym, subst, ◌∙◌, arith, append_assoc, append-nil}
+use Rattle.std.specs.Prelude.{IfOk, codes, if◌then◌else◌, nat_lt, ◌==◌, count_by}
 use Rattle.std.specs.Str.{bytes_eq, is_utf8}
 use Rattle.std.proofs.lemmas.Bool.Decides.{Decides-eqb}
 use Rattle.std.proofs.lemmas.List.Sums.{sum_by-append}
@@ -21,7 +21,7 @@ use Rattle.pt_script.specs.Scopes.{Naming, Scope}
 use Rattle.pt_script.specs.Lists.{Part, placed, at_script, at_process, fresh, list_from}
 use Rattle.pt_script.specs.Scripts.{Heads, Head, Pending, Lists, settings, head, with_head, next_head, no_heads, next_list, no_lists, few, room, number_behind, begun_in, script, script_of, reading}
 use Rattle.pt_script.specs.Sound.{InRange, IsSound}
-use Rattle.pt_script.specs.Sights.{Sight, among, first_sight, BeginsIn, TopsBegin, number_of, IsWellFormed}
+use Rattle.pt_script.specs.Sights.{Sight, first_sight, BeginsIn, TopsBegin, number_of, IsWellFormed}
 use Rattle.pt_script.specs.WritingScripts.{script_written}
 use Rattle.pt_script.proofs.SoundSteps.{bind, skip, either, placed_ok}
 use Rattle.pt_script.proofs.SoundLists.{sum_cons}

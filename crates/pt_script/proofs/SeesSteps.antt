@@ -1,6 +1,6 @@
 -- What single operations say is in sight.
-use Rattle.std.proofs.Common.{◌≡◌, ℕ, ◌+◌, ◌<◌, ◌≤◌, ◌^◌, ℤ, pos, negsuc, List, [], ◌∷◌, Bool, true, false, drop, take, Option, Some, None, Result, Ok, Err, refl, ap, sym, subst, ◌∙◌, arith}
-use Rattle.std.specs.Prelude.{IfOk, codes, ok_or, if◌then◌else◌, nat_le, nat_lt, ◌&&◌, ◌||◌, ◌==◌}
+use Rattle.std.proofs.Common.{◌≡◌, ℕ, ◌+◌, ◌<◌, ◌≤◌, ◌^◌, List, [], ◌∷◌, Bool, true, false, drop, take, Option, Some, None, Result, Ok, Err, refl, ap, sym, subst, ◌∙◌, arith}
+use Rattle.std.specs.Prelude.{IfOk, codes, ok_or, if◌then◌else◌, nat_lt, ◌&&◌, ◌||◌, ◌==◌}
 use Rattle.std.specs.Str.{bytes_eq}
 use Rattle.std.specs.Str.Parse.{digits_value}
 use Rattle.std.proofs.lemmas.Bool.Decides.{Decides-eqb}
@@ -11,7 +11,6 @@ use Rattle.pt_signal.specs.declared.reason.Reason.TheVariants.{Normal, Kill, Kil
 use Rattle.pt_script.specs.declared.fault.Fault.{Fault}
 use Rattle.pt_script.specs.declared.fault.Fault.TheVariants.{Name, Field, Bounds}
 use Rattle.pt_script.specs.declared.values.Operation.{Operation}
-use Rattle.pt_script.specs.declared.values.Pattern.{Pattern}
 use Rattle.pt_script.specs.declared.values.Operation.TheVariants as operation
 use Rattle.pt_script.specs.declared.values.Pattern.TheVariants as pattern
 use Rattle.pt_script.specs.Steps.{◌>>=◌}

@@ -12,11 +12,11 @@ use Rattle.pt_script.specs.declared.values.Pattern.{Pattern}
 use Rattle.pt_script.specs.declared.values.Pattern.TheVariants as pattern
 use Rattle.pt_script.specs.declared.values.Operation.{Operation}
 use Rattle.pt_script.specs.declared.values.Operation.TheVariants as operation
-use Rattle.pt_script.specs.Scopes.{Naming, Scope, can_ask, process_in, tag_in, or_else, is_name, is_own_name, begins_well, is_letter, is_digit, is_name_byte}
+use Rattle.pt_script.specs.Scopes.{Naming, Scope, can_ask, process_in, or_else, is_name, is_own_name, begins_well, is_letter, is_digit, is_name_byte}
 use Rattle.pt_script.specs.Lists.{fresh, with_child, with_monitor, with_ask}
 use Rattle.pt_script.specs.Sights.{Sight, among, is_parent, sees, SeesIfAny, SeesAllOf, CanDo, sight_behind, first_sight}
-use Rattle.pt_script.specs.Writing.{Called, IsCalled, IsCalledIfAny, CanPick, IsNewTag, CanSay, scope_behind}
-use Rattle.pt_script.specs.WritingScripts.{process_name, tag_name, name_by, calls}
+use Rattle.pt_script.specs.Writing.{IsCalled, IsCalledIfAny, CanPick, IsNewTag, CanSay, scope_behind}
+use Rattle.pt_script.specs.WritingScripts.{process_name, tag_name, calls}
 use Rattle.pt_script.proofs.NumberFacts.{own}
 
 -- names --------------------------------------------------------------------------

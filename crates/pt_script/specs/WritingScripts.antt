@@ -1,5 +1,5 @@
 -- How a script is written as a value: a process is called `n` and its number, a tag `t` and its number.
-use Rattle.std.specs.Prelude.{ℕ, zero, suc, List, [], ◌∷◌, ◌++◌, codes, decimal, map, slice_index_or, Bool, false, ◌==◌, if◌then◌else◌, Option, Some, None}
+use Rattle.std.specs.Prelude.{ℕ, zero, suc, List, [], ◌++◌, codes, decimal, map, slice_index_or, Bool, false, ◌==◌, if◌then◌else◌, Option, Some, None}
 use Rattle.serde_json.specs.Data.{Data, unsigned, boolean, number, string, array, object, no_members}
 use Rattle.serde_json.specs.View.{items_of}
 use Rattle.pt_script.specs.declared.values.Top.{Top}
