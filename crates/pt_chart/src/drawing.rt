@@ -1,32 +1,32 @@
 //! The chart, from its background to its foreground.
 
-use crate::actor::Actor;
+use crate::layout::{Arrow, Layout, lay_out};
 use crate::page::Page;
-use crate::story::{Arrow, Story};
 use crate::strokes::{EXIT, LINK, MESSAGE, MONITOR, QUESTION, Stroke, stroke_of};
 use pt_events::{Event, Stamped};
-use pt_signal::{Pid, Signal};
+use pt_signal::{Pid, Reason, Signal};
 use std::alloc::{AllocError, Global};
 use std::fmt::Display;
 
-/// The history as a message sequence chart: a column a process in order of birth, a row an event in order.
+/// The history as a message sequence chart: what its [`lay_out`] says, drawn.
 pub fn chart(alloc: Global, events: &[Stamped]) -> Result<String, AllocError> {
-    let story = Story::of(alloc, events)?;
+    let layout = lay_out(alloc, events)?;
     let mut drawing = Drawing {
         alloc,
         page: Page {
             longest: longest(alloc, events)?,
-            columns: story.actors.len(),
-            rows: events.len(),
+            beside: beside(alloc, events)?,
+            columns: layout.columns.len(),
+            rows: layout.rows,
         },
         text: String::new(alloc),
     };
     drawing.head()?;
     drawing.lines(events)?;
-    drawing.columns(&story)?;
-    drawing.arrows(&story)?;
-    drawing.marks(events, &story)?;
-    drawing.ends(&story)?;
+    drawing.columns(&layout)?;
+    drawing.arrows(&layout)?;
+    drawing.marks(events, &layout)?;
+    drawing.ends(&layout)?;
     drawing.text.push_str("</svg>\n")?;
     Ok(drawing.text)
 }
@@ -36,6 +36,20 @@ fn longest(alloc: Global, events: &[Stamped]) -> Result<usize, AllocError> {
     let mut longest = 0;
     for stamped in events {
         longest = format!(in alloc; "{stamped}")?.len().max(longest);
+    }
+    Ok(longest)
+}
+
+/// How many characters the longest label has that stands right of the last column: what a process sends to itself, or
+/// why it ends.
+fn beside(alloc: Global, events: &[Stamped]) -> Result<usize, AllocError> {
+    let mut longest = "other:4294967295".len();
+    for stamped in events {
+        if let Event::Said(from, to, signal) = stamped.event {
+            if from == to {
+                longest = format!(in alloc; "{signal}")?.len().max(longest);
+            }
+        }
     }
     Ok(longest)
 }
@@ -92,12 +106,15 @@ impl Drawing {
 
     /// A line an event.
     fn lines(&mut self, events: &[Stamped]) -> Result<(), AllocError> {
-        let width = self.page.width();
+        let (gutter, width) = (self.page.gutter(), self.page.width());
         let mut row = 0usize;
         for stamped in events {
             let y = self.page.y(row);
             let base = y.saturating_add(4);
-            writeln!(self.text, "<path class=\"row\" d=\"M0 {y}H{width}\"/>")?;
+            writeln!(
+                self.text,
+                "<path class=\"row\" d=\"M{gutter} {y}H{width}\"/>"
+            )?;
             write!(self.text, "<text class=\"event\" x=\"12\" y=\"{base}\">")?;
             self.escaped(*stamped)?;
             self.text.push_str("</text>\n")?;
@@ -107,27 +124,24 @@ impl Drawing {
     }
 
     /// The head and the line of each process.
-    fn columns(&mut self, story: &Story) -> Result<(), AllocError> {
+    fn columns(&mut self, layout: &Layout) -> Result<(), AllocError> {
         let bottom = self.page.end().saturating_add(48);
-        let mut column = 0usize;
-        for actor in &story.actors {
-            let x = self.page.x(column);
-            self.name(x, 22, actor.pid)?;
-            self.name(x, bottom, actor.pid)?;
-            let from = match actor.born {
-                Some(row) => self.page.y(row),
-                None => 30,
-            };
-            let to = match actor.ended {
-                Some((row, _)) => self.page.y(row),
-                None => self.page.end(),
-            };
-            let end = self.page.end();
+        let end = self.page.end();
+        for k in 0..layout.columns.len() {
+            let column = &layout.columns[k];
+            let x = self.page.x(k);
+            self.name(x, 22, column.pid)?;
+            self.name(x, bottom, column.pid)?;
             writeln!(self.text, "<path class=\"before\" d=\"M{x} 30V{end}\"/>")?;
-            if actor.born.is_some() {
-                writeln!(self.text, "<path class=\"life\" d=\"M{x} {from}V{to}\"/>")?;
-            }
-            column = column.saturating_add(1);
+            let Some(born) = column.born else {
+                continue;
+            };
+            let from = self.page.y(born);
+            let to = match column.ended {
+                Some((row, _)) => self.page.y(row),
+                None => end,
+            };
+            writeln!(self.text, "<path class=\"life\" d=\"M{x} {from}V{to}\"/>")?;
         }
         Ok(())
     }
@@ -138,26 +152,30 @@ impl Drawing {
         self.text.push_str("</text>\n")
     }
 
-    fn arrows(&mut self, story: &Story) -> Result<(), AllocError> {
-        for arrow in &story.arrows {
-            self.arrow(arrow)?;
+    fn arrows(&mut self, layout: &Layout) -> Result<(), AllocError> {
+        for column in 0..layout.columns.len() {
+            self.arrows_from(column, layout.columns[column].arrows.as_slice())?;
         }
         Ok(())
     }
 
-    fn arrow(&mut self, arrow: &Arrow) -> Result<(), AllocError> {
+    fn arrows_from(&mut self, column: usize, arrows: &[Arrow]) -> Result<(), AllocError> {
+        for arrow in arrows {
+            self.arrow(column, arrow)?;
+        }
+        Ok(())
+    }
+
+    fn arrow(&mut self, column: usize, arrow: &Arrow) -> Result<(), AllocError> {
         let class = stroke_of(&arrow.signal).class;
-        let from = self.page.x(arrow.from);
+        let from = self.page.x(column);
         let sent = self.page.y(arrow.sent);
-        let (to, came, head) = match arrow.came {
-            Some(row) => (self.page.x(arrow.to), self.page.y(row), "came"),
-            None => (
-                self.page.x(arrow.to),
-                self.page.end().saturating_add(18),
-                "sent",
-            ),
+        let to = self.page.x(arrow.to);
+        let (came, head) = match arrow.came {
+            Some(row) => (self.page.y(row), "came"),
+            None => (self.page.end().saturating_add(18), "sent"),
         };
-        if arrow.from == arrow.to {
+        if column == arrow.to {
             let side = from.saturating_add(44);
             writeln!(
                 self.text,
@@ -172,45 +190,49 @@ impl Drawing {
     }
 
     /// The mark of each event.
-    fn marks(&mut self, events: &[Stamped], story: &Story) -> Result<(), AllocError> {
+    fn marks(&mut self, events: &[Stamped], layout: &Layout) -> Result<(), AllocError> {
         let mut row = 0usize;
         for stamped in events {
-            self.mark(row, stamped.event, story)?;
+            self.mark(row, stamped.event, layout)?;
             row = row.saturating_add(1);
         }
         Ok(())
     }
 
-    fn mark(&mut self, row: usize, event: Event, story: &Story) -> Result<(), AllocError> {
+    fn mark(&mut self, row: usize, event: Event, layout: &Layout) -> Result<(), AllocError> {
         let y = self.page.y(row);
         match event {
             Event::Born(pid, parent, link) => {
                 if let Some(parent) = parent {
                     let class = if link.is_some() { "link" } else { "before" };
-                    let (from, to) = (self.column(story, parent), self.column(story, pid));
+                    let (from, to) = (self.column(layout, parent), self.column(layout, pid));
                     writeln!(
                         self.text,
                         "<path class=\"{class}\" d=\"M{from} {y}H{to}\"/>"
                     )?;
                 }
-                self.birth(self.column(story, pid), y, pid)
+                self.birth(self.column(layout, pid), y, pid)
             }
             Event::Said(from, to, signal) => {
-                self.label(self.column(story, from), self.column(story, to), y, signal)
+                let (from, to) = (self.column(layout, from), self.column(layout, to));
+                self.label(from, to, y, signal)
             }
             Event::Came(_, _, _) => Ok(()),
             Event::Took(pid, _, _) => {
-                let x = self.column(story, pid);
+                let x = self.column(layout, pid);
                 writeln!(self.text, "<circle cx=\"{x}\" cy=\"{y}\" r=\"4\"/>")
             }
-            Event::Flag(pid, on) => self.flag(self.column(story, pid), y, on),
+            Event::Flag(pid, on) => self.flag(self.column(layout, pid), y, on),
             Event::Left(_, _) => Ok(()),
         }
     }
 
     /// The middle of the column of a process.
-    fn column(&self, story: &Story, pid: Pid) -> u64 {
-        self.page.x(story.column(pid))
+    fn column(&self, layout: &Layout, pid: Pid) -> u64 {
+        match layout.columns.iter().position(|column| column.pid == pid) {
+            Some(k) => self.page.x(k),
+            None => self.page.x(layout.columns.len()),
+        }
     }
 
     fn birth(&mut self, x: u64, y: u64, pid: Pid) -> Result<(), AllocError> {
@@ -233,7 +255,12 @@ impl Drawing {
         };
         write!(
             self.text,
-            "<text class=\"label {class}-label\" x=\"{x}\" y=\"{base}\" text-anchor=\"{anchor}\">"
+            "<text class=\"label halo\" x=\"{x}\" y=\"{base}\" text-anchor=\"{anchor}\">"
+        )?;
+        self.escaped(signal)?;
+        write!(
+            self.text,
+            "</text><text class=\"label {class}-label\" x=\"{x}\" y=\"{base}\" text-anchor=\"{anchor}\">"
         )?;
         self.escaped(signal)?;
         self.text.push_str("</text>\n")
@@ -254,18 +281,16 @@ impl Drawing {
     }
 
     /// A cross where a process ends, with the reason.
-    fn ends(&mut self, story: &Story) -> Result<(), AllocError> {
-        let mut column = 0usize;
-        for actor in &story.actors {
-            let x = self.page.x(column);
-            self.end(x, actor)?;
-            column = column.saturating_add(1);
+    fn ends(&mut self, layout: &Layout) -> Result<(), AllocError> {
+        for k in 0..layout.columns.len() {
+            let x = self.page.x(k);
+            self.end(x, layout.columns[k].ended)?;
         }
         Ok(())
     }
 
-    fn end(&mut self, x: u64, actor: &Actor) -> Result<(), AllocError> {
-        let Some((row, reason)) = actor.ended else {
+    fn end(&mut self, x: u64, ended: Option<(usize, Reason)>) -> Result<(), AllocError> {
+        let Some((row, reason)) = ended else {
             return Ok(());
         };
         let y = self.page.y(row);
@@ -298,4 +323,4 @@ impl Drawing {
 }
 
 const STYLE: &str =
-    "<style type=\"text/css\">text{font-family:monospace;font-size:11px} .event{fill:#333} .name{text-anchor:middle;font-weight:bold} .label{font-size:10px} .row{stroke:#eee} .before{stroke:#bbb;stroke-dasharray:2 3;fill:none} .life{stroke:#555;stroke-width:1.5} .born{fill:#fff;stroke:#555} .end{stroke:#b00020;stroke-width:2}</style>\n";
+    "<style type=\"text/css\">text{font-family:monospace;font-size:11px} .event{fill:#333} .name{text-anchor:middle;font-weight:bold} .label{font-size:10px} .halo{fill:#fff;stroke:#fff;stroke-width:2} .row{stroke:#eee} .before{stroke:#bbb;stroke-dasharray:2 3;fill:none} .life{stroke:#555;stroke-width:1.5} .born{fill:#fff;stroke:#555} .end{stroke:#b00020;stroke-width:2}</style>\n";

@@ -7,24 +7,28 @@
 //!
 //! # What is drawn
 //!
-//! Each process is a column, in order of birth, and each event a row, in the order of the history; the event's line
-//! stands at its left. An arrow goes from the row in which a letter was sent to the row in which it came. A letter that
-//! did not come has an open arrow. Messages, exits, links, monitors and questions each have a stroke of their own. A box
-//! is a birth, a dot is an item taken, a square a change of `trap_exit`, and a cross an end with its reason.
+//! Each process that is named is a column, in order of first appearance, and each event a row, in the order of the
+//! history; the event's line stands at its left. An arrow goes from the row in which a letter was sent to the row in
+//! which it came. A letter that did not come has an open arrow. Messages, exits, links, monitors and questions each have
+//! a stroke of their own. A box is a birth, a dot is an item taken, a square a change of `trap_exit`, and a cross an end
+//! with its reason. [`lay_out`] says where each of these stands, and its contract that it stands there rightly; the text
+//! is printed from it.
 //!
 //! # From the history alone
 //!
 //! What an end sends and whom a signal ends stands in no event, so the processes are followed through the history:
 //! each is a [`Process`](pt_process::Process), which says the one and the other. Letters from one process to another
-//! come in the order in which they were sent, so a receipt ends the oldest arrow on its way between the two.
+//! come in the order in which they were sent, so the nth receipt between two ends the nth arrow between them. The work
+//! grows with the events times the processes: a chart is for some thousands of events.
 #![tactic(auto)]
 
-mod actor;
 mod drawing;
+mod follower;
+mod layout;
 mod page;
-mod story;
 mod strokes;
 #[cfg(test)]
 mod tests;
 
 pub use drawing::chart;
+pub use layout::{Arrow, Column, Layout, Sending, lay_out};

@@ -1,0 +1,5 @@
+pub mod Tracing
+pub mod Arrows
+pub mod Rows
+pub mod Receipts
+pub mod Answering

@@ -1,0 +1,38 @@
+-- Lists that are one longer.
+use Rattle.std.proofs.Common.{◌≡◌, ℕ, ◌+◌, ◌<◌, List, [], ◌∷◌, ◌++◌, map, length, take, get_or, Some, ap, sym, ◌∙◌, append_assoc, arith}
+use Rattle.std.specs.Prelude.{slice_get}
+use Rattle.std.proofs.lemmas.List.{take_more, map-append}
+use Rattle.std.proofs.lemmas.List.Sums.{fold_more}
+use Rattle.std.proofs.lemmas.Option.{slice_get_within, get_or_from_slice_get}
+use Rattle.pt_signal.specs.declared.pid.Pid.{Pid}
+use Rattle.pt_signal.specs.Process.{Sent}
+use Rattle.pt_events.specs.declared.event.Stamped.{Stamped}
+use Rattle.pt_events.specs.History.{Past}
+use Rattle.pt_chart.specs.declared.layout.Column.{Column}
+use Rattle.pt_chart.specs.declared.layout.Sending.{Sending}
+use Rattle.pt_chart.specs.Chart.{everyone, joined, named, past_of, in_row}
+
+-- one more is paid
+pub paid : (row : ℕ) (start before after : List Sending) (owed : List Sent) (i : ℕ) (l : Sent) → before ≡ start ++ map (in_row row) (take i owed) → slice_get owed i ≡ Some l
+    → after ≡ before ++ in_row row l ∷ [] → after ≡ start ++ map (in_row row) (take (i + 1) owed)
+paid row start before after owed i l b g a =
+    let f : Sent → Sending = in_row row in
+    a ∙ ap (λ z. z ++ f l ∷ []) b ∙ append_assoc start (map f (take i owed)) (f l ∷ [])
+    ∙ ap (λ z. start ++ z) (sym (ap (map f) (take_more owed i l (slice_get_within owed i l g))
+    ∙ map-append f (take i owed) (get_or owed i l ∷ [])
+    ∙ ap (λ y. map f (take i owed) ++ f y ∷ []) (get_or_from_slice_get owed i l l g)))
+
+pub everyone_more : (events : List Stamped) (i : ℕ) (d : Stamped) → i < length events → everyone (take (i + 1) events) ≡ joined (everyone (take i events)) (named (get_or events i d).event)
+everyone_more events i d h = fold_more (λ ps s. joined ps (named s.event)) [] events i d h
+
+pub past_more : (events : List Stamped) (i : ℕ) (d : Stamped) → i < length events → past_of (take (i + 1) events) ≡ (get_or events i d).event ∷ past_of (take i events)
+past_more events i d h = fold_more (λ (past : Past) s. s.event ∷ past) [] events i d h
+
+pub past_rows : (events : List Stamped) (i : ℕ) (d : Stamped) → i < length events → length (past_of (take i events)) ≡ i → length (past_of (take (i + 1) events)) ≡ i + 1
+past_rows events i d h rows = ap length (past_more events i d h) ∙ omega (arith, rows)
+
+-- one more column stands
+pub stands_next : (ps : List Pid) (k : ℕ) (d : Pid) (before after : List Column) (c : Column) → k < length ps → c.pid ≡ get_or ps k d → map (λ (x : Column). x.pid) before ≡ take k ps
+    → after ≡ before ++ c ∷ [] → map (λ (x : Column). x.pid) after ≡ take (k + 1) ps
+stands_next ps k d before after c h is made pushed =
+    ap (map (λ (x : Column). x.pid)) pushed ∙ map-append (λ (x : Column). x.pid) before (c ∷ []) ∙ ap (λ z. z ++ c.pid ∷ []) made ∙ ap (λ z. take k ps ++ z ∷ []) is ∙ sym (take_more ps k d h)

@@ -1,0 +1,118 @@
+-- What a chart of a history shows. A history stands here oldest first; rows and columns are numbered from 0.
+use Rattle.std.specs.Prelude.{◌≡◌, ℕ, ◌+◌, Bool, true, false, cond, ◌&&◌, List, [], ◌∷◌, ◌++◌, length, map, fold, position, unwrap_or, count_by, slice_get, Option, Some, None, All, ⊤}
+use Rattle.std.specs.List.{list_any}
+use Rattle.pt_signal.specs.declared.pid.Pid.{Pid}
+use Rattle.pt_signal.specs.declared.reason.Reason.{Reason}
+use Rattle.pt_signal.specs.Values.{same_pid}
+use Rattle.pt_signal.specs.Process.{Sent}
+use Rattle.pt_events.specs.declared.event.Event.{Event}
+use Rattle.pt_events.specs.declared.event.Event.TheVariants.{Born, Said, Came, Took, Flag, Left}
+use Rattle.pt_events.specs.declared.event.Stamped.{Stamped}
+use Rattle.pt_events.specs.History.{Past, Phase, living, ended, life, touches, sent_by}
+use Rattle.pt_chart.specs.declared.layout.Sending.{Sending}
+use Rattle.pt_chart.specs.declared.layout.Arrow.{Arrow}
+use Rattle.pt_chart.specs.declared.layout.Column.{Column}
+use Rattle.pt_chart.specs.declared.layout.Layout.{Layout}
+use Rattle.pt_chart.specs.Following.{followed, OpensAnew}
+
+-- columns -------------------------------------------------------------------------------------------
+
+-- whom an event names
+abbrev pub named : Event → List Pid
+named (Born p None link) = p ∷ []
+named (Born p (Some q) link) = q ∷ p ∷ []
+named (Said a b x) = a ∷ b ∷ []
+named (Came a b x) = a ∷ b ∷ []
+named (Took p k i) = p ∷ []
+named (Flag p on) = p ∷ []
+named (Left p r) = p ∷ []
+
+-- one more stands behind the others, unless it is among them
+abbrev pub join : List Pid → Pid → List Pid
+join ps p = cond (list_any (same_pid p) ps) ps (ps ++ p ∷ [])
+
+abbrev pub joined : List Pid → List Pid → List Pid
+joined ps qs = fold join ps qs
+
+-- each that is named, once, in order of first appearance
+abbrev pub everyone : List Stamped → List Pid
+everyone events = fold (λ ps s. joined ps (named s.event)) [] events
+
+-- the column of a process
+abbrev pub place : List Pid → Pid → ℕ
+place ps p = unwrap_or (position (same_pid p) ps) (length ps)
+
+abbrev pub is_birth : Pid → Event → Bool
+is_birth p (Born q parent link) = same_pid p q
+is_birth p _ = false
+
+-- what a process sends, and its end -------------------------------------------------------------------
+
+-- the same history, the newest event first, as the model has it
+abbrev pub past_of : List Stamped → Past
+past_of events = fold (λ past s. s.event ∷ past) [] events
+
+abbrev pub in_row : ℕ → Sent → Sending
+in_row row l = record { row = row; to = l.to; signal = l.signal }
+
+-- what p sends, in order, and in which rows
+abbrev pub sent_of : Past → Pid → List Sending
+sent_of [] p = []
+sent_of (e ∷ past) p = sent_of past p ++ map (in_row (length past)) (cond (touches p e) (sent_by [] past e) [])
+
+abbrev pub end_between : Phase → Phase → ℕ → Option (ℕ × Reason) → Option (ℕ × Reason)
+end_between (living s) (ended r t) row before = Some (row, r)
+end_between f g row before = before
+
+-- the row in which p ends, and the reason
+abbrev pub end_of : Past → Pid → Option (ℕ × Reason)
+end_of [] p = None
+end_of (e ∷ past) p = end_between (life [] past p) (life [] (e ∷ past) p) (length past) (end_of past p)
+
+-- p opens no monitor under a reference that it has open, as in every legal history
+abbrev pub MonitorsAnew : Past → Pid → Type 0
+MonitorsAnew [] p = ⊤
+MonitorsAnew (e ∷ past) p = OpensAnew e (followed p (life [] past p)) × MonitorsAnew past p
+
+-- arrows --------------------------------------------------------------------------------------------
+
+abbrev pub is_receipt : Pid → Pid → Event → Bool
+is_receipt a b (Came c d x) = same_pid a c && same_pid b d
+is_receipt a b _ = false
+
+-- the rows in which a letter came to b from a, in order, where the first event is in this row
+abbrev pub receipts_from : ℕ → Pid → Pid → List Stamped → List ℕ
+receipts_from row a b [] = []
+receipts_from row a b (s ∷ events) = cond (is_receipt a b s.event) (row ∷ receipts_from (row + 1) a b events) (receipts_from (row + 1) a b events)
+
+abbrev pub receipts : Pid → Pid → List Stamped → List ℕ
+receipts a b events = receipts_from 0 a b events
+
+-- how many of these letters went there
+abbrev pub sent_to : Pid → List Sending → ℕ
+sent_to q sent = count_by (λ l. same_pid q l.to) sent
+
+-- the letter that a sends after the earlier ones: the nth to a process is the nth that comes there
+abbrev pub arrow : List Stamped → List Pid → Pid → List Sending → Sending → Arrow
+arrow events ps a earlier l = record {
+  to = place ps l.to;
+  signal = l.signal;
+  sent = l.row;
+  came = slice_get (receipts a l.to events) (sent_to l.to earlier);
+}
+
+abbrev pub arrows : List Stamped → List Pid → Pid → List Sending → List Sending → List Arrow
+arrows events ps a earlier [] = []
+arrows events ps a earlier (l ∷ later) = arrow events ps a earlier l ∷ arrows events ps a (earlier ++ l ∷ []) later
+
+-- the whole -------------------------------------------------------------------------------------------
+
+pub record IsColumn (events : List Stamped) (c : Column) : Type 0 where
+  pub born : c.born ≡ position (λ s. is_birth c.pid s.event) events
+  pub ended : MonitorsAnew (past_of events) c.pid → c.ended ≡ end_of (past_of events) c.pid
+  pub arrows : MonitorsAnew (past_of events) c.pid → c.arrows.items ≡ arrows events (everyone events) c.pid [] (sent_of (past_of events) c.pid)
+
+pub record IsLayout (events : List Stamped) (l : Layout) : Type 0 where
+  pub pids : map (λ c. c.pid) l.columns.items ≡ everyone events
+  pub columns : All (λ c. IsColumn events c) l.columns.items
+  pub rows : l.rows ≡ length events

@@ -1,0 +1,4 @@
+pub mod Chart
+pub mod Following
+pub mod Page
+pub mod Replying

@@ -1,0 +1,248 @@
+//! A process that is followed through a history: what it sends, and when it ends.
+
+ghost use Rattle.std.specs.Prelude.{◌≡◌, ◌++◌, map, Some, None, IfOk, OnOk};
+ghost use Rattle.pt_signal.specs.Values.{fits, without_first};
+ghost use Rattle.pt_signal.specs.Process.{say, handle};
+ghost use Rattle.pt_events.specs.History.{unborn, linked};
+ghost use Rattle.pt_chart.specs.Chart.{in_row};
+ghost use Rattle.pt_chart.specs.Following.{followed, seen, sends, ends, OpensAnew, IsAnew, gets, got_sent, got_end, left_sent, left_end, begins, changes};
+ghost use Rattle.pt_chart.specs.Replying.{Replies};
+
+use crate::layout::Sending;
+use pt_events::Event;
+use pt_process::{Estate, Outcome, Process};
+use pt_signal::{LinkId, Pick, Pid, Reason, Signal};
+use std::alloc::{AllocError, Global};
+use std::marker::Model;
+
+/// A process that is followed through a history.
+#[derive(Drop)]
+pub(crate) struct Follower {
+    me: Pid,
+    born: bool,
+    /// What it is, while it is alive.
+    process: Option<Process>,
+}
+
+impl Model for Follower {
+    ghost use Rattle.std.specs.Prelude.{◌≡◌, IfSome};
+    ghost use Rattle.std.specs.Option.{option_map};
+    ghost use Rattle.pt_chart.specs.Following.{Followed};
+
+    ghost Value = { Followed };
+
+    ghost view = { λ f. record { me = f.me; born = f.born; state = option_map (λ p. p.state) f.process } };
+
+    ghost invariant = { λ f. IfSome f.process (λ p. p.me ≡ f.me) };
+}
+
+impl Follower {
+    /// One that is not born yet.
+    pub fn new(me: Pid) -> Follower
+        ensures { result ≡ followed me unborn }
+    {
+        Follower {
+            me,
+            born: false,
+            process: None,
+        }
+    }
+
+    /// The event of a row happens. What it sends by that joins what it has sent; the answer is the reason with which
+    /// it ends, if it does.
+    pub fn see(
+        &mut self,
+        alloc: Global,
+        row: usize,
+        event: Event,
+        sent: &mut Vec<Sending>,
+    ) -> Result<Option<Reason>, AllocError>
+        ensures state { OpensAnew event self.old → OnOk result (self.new ≡ seen event self.old) }
+        ensures sent { OnOk result (sent.new.items ≡ sent.old.items ++ map (in_row row) (sends event self.old)) }
+        ensures ending { IfOk result (λ reason. reason ≡ ends event self.old) }
+    {
+        match event {
+            Event::Born(pid, parent, link) => {
+                if pid == self.me {
+                    self.begin(alloc, parent, link)?;
+                } else if parent == Some(self.me) {
+                    self.join(pid, link)?;
+                }
+                Ok(None)
+            }
+            Event::Said(from, to, signal) if from == self.me => {
+                self.say(to, signal)?;
+                sent.push(Sending { row, to, signal })?;
+                Ok(None)
+            }
+            Event::Came(from, to, signal) if to == self.me => self.hear(row, from, signal, sent),
+            Event::Took(pid, pick, _) if pid == self.me => {
+                self.take(pick);
+                Ok(None)
+            }
+            Event::Flag(pid, on) if pid == self.me => {
+                self.trap(on);
+                Ok(None)
+            }
+            Event::Left(pid, reason) if pid == self.me => self.leave(row, reason, sent),
+            _ => Ok(None),
+        }
+    }
+
+    fn begin(
+        &mut self,
+        alloc: Global,
+        parent: Option<Pid>,
+        link: Option<LinkId>,
+    ) -> Result<(), AllocError>
+        ensures { OnOk result (self.new ≡ begins parent link self.old) }
+    {
+        if self.born {
+            return Ok(());
+        }
+        let mut process = Process::new(alloc, self.me);
+        if let (Some(parent), Some(link)) = (parent, link) {
+            process.add_link(parent, link)?;
+        }
+        self.born = true;
+        self.process = Some(process);
+        Ok(())
+    }
+
+    /// It holds a link with its child.
+    fn join(&mut self, child: Pid, link: Option<LinkId>) -> Result<(), AllocError>
+        ensures { OnOk result (self.new ≡ changes (linked (Some child) link) self.old) }
+    {
+        let Some(process) = &mut self.process else {
+            return Ok(());
+        };
+        match link {
+            Some(link) => process.add_link(child, link),
+            None => Ok(()),
+        }
+    }
+
+    fn say(&mut self, to: Pid, signal: Signal) -> Result<(), AllocError>
+        ensures { IsAnew signal self.old.state → OnOk result (self.new ≡ changes (λ s. say s to signal) self.old) }
+    {
+        let Some(process) = &mut self.process else {
+            return Ok(());
+        };
+        match signal {
+            Signal::Link(_) | Signal::Unlink(_) => {
+                let _ = process.accept(to, signal)?;
+            }
+            Signal::Monitor(monitor) => process.add_monitor(monitor, to)?,
+            Signal::Demonitor(monitor) => {
+                let _ = process.cut_monitor(monitor);
+            }
+            _ => {}
+        }
+        Ok(())
+    }
+
+    fn take(&mut self, pick: Pick)
+        ensures { self.new ≡ changes (λ s. record s { waiting = without_first (fits pick) s.waiting }) self.old }
+    {
+        if let Some(process) = &mut self.process {
+            let _ = process.take(pick);
+        }
+    }
+
+    fn trap(&mut self, on: bool)
+        ensures { self.new ≡ changes (λ s. record s { traps = on }) self.old }
+    {
+        if let Some(process) = &mut self.process {
+            let _ = process.set_trap(on);
+        }
+    }
+
+    /// A signal comes to it.
+    fn hear(
+        &mut self,
+        row: usize,
+        from: Pid,
+        signal: Signal,
+        sent: &mut Vec<Sending>,
+    ) -> Result<Option<Reason>, AllocError>
+        ensures state { OnOk result (self.new ≡ record self.old { state = gets self.old.me from signal self.old.state }) }
+        ensures sent { OnOk result (sent.new.items ≡ sent.old.items ++ map (in_row row) (got_sent self.old.me from signal self.old.state)) }
+        ensures ending { IfOk result (λ reason. reason ≡ got_end self.old.me from signal self.old.state) }
+    {
+        let Some(process) = &mut self.process else {
+            if let Some(answer) = signal.answer_of_dead() {
+                sent.push(Sending {
+                    row,
+                    to: from,
+                    signal: answer,
+                })?;
+            }
+            return Ok(None);
+        };
+        match take_in(process, from, signal)? {
+            Reply::End(reason) => self.leave(row, reason, sent),
+            Reply::Answer(signal) => {
+                sent.push(Sending {
+                    row,
+                    to: from,
+                    signal,
+                })?;
+                Ok(None)
+            }
+            Reply::Silence => Ok(None),
+        }
+    }
+
+    /// It ends, if it is alive, and sends what it owes.
+    fn leave(
+        &mut self,
+        row: usize,
+        reason: Reason,
+        sent: &mut Vec<Sending>,
+    ) -> Result<Option<Reason>, AllocError>
+        ensures state { OnOk result (self.new ≡ record self.old { state = None }) }
+        ensures sent { OnOk result (sent.new.items ≡ sent.old.items ++ map (in_row row) (left_sent self.old.me reason self.old.state)) }
+        ensures ending { IfOk result (λ ending. ending ≡ left_end reason self.old.state) }
+    {
+        let Some(process) = self.process.take() else {
+            return Ok(None);
+        };
+        pay(row, &process.estate(reason), sent)?;
+        Ok(Some(reason))
+    }
+}
+
+/// What a signal that comes makes a live process do.
+#[derive(Clone, Copy)]
+enum Reply {
+    /// Nothing that others see.
+    Silence,
+    /// It sends this back.
+    Answer(Signal),
+    /// It ends.
+    End(Reason),
+}
+
+/// A signal comes to a live process.
+fn take_in(process: &mut Process, from: Pid, signal: Signal) -> Result<Reply, AllocError>
+    ensures me { process.new.me ≡ process.old.me }
+    ensures state { OnOk result (process.new.state ≡ (handle process.old.me process.old.state from signal).state) }
+    ensures reply { IfOk result (λ reply. Replies process.old.me from (handle process.old.me process.old.state from signal) reply) }
+{
+    match process.accept(from, signal)? {
+        Outcome::Ends(reason) => Ok(Reply::End(reason)),
+        Outcome::Asked(question) => Ok(Reply::Answer(Signal::AliveSay(question, true))),
+        Outcome::Queued | Outcome::Changed | Outcome::Dropped => Ok(Reply::Silence),
+    }
+}
+
+/// What is owed is sent.
+fn pay(row: usize, estate: &Estate, sent: &mut Vec<Sending>) -> Result<(), AllocError>
+    ensures { OnOk result (sent.new.items ≡ sent.old.items ++ map (in_row row) estate.now.owed) }
+{
+    for i in 0..estate.len() {
+        let (to, signal) = estate.owed(i);
+        sent.push(Sending { row, to, signal })?;
+    }
+    Ok(())
+}

@@ -1,0 +1,256 @@
+//! Where the parts of a chart stand: its columns, its rows and the arrows between them, as numbers.
+
+ghost use Rattle.std.specs.Prelude.{◌≡◌, [], IfOk, OnOk, position, slice_get};
+ghost use Rattle.std.specs.List.{list_any};
+ghost use Rattle.pt_signal.specs.Values.{same_pid};
+ghost use Rattle.pt_chart.specs.Chart.{IsLayout, IsColumn, everyone, join, joined, named, place, receipts, is_receipt, is_birth, arrow, arrows};
+ghost use Rattle.pt_chart.specs.Following.{noted};
+
+use crate::follower::Follower;
+use pt_events::{Event, Stamped};
+use pt_signal::{Pid, Reason, Signal};
+use std::alloc::{AllocError, Global};
+
+/// A letter that a process sends.
+#[derive(Clone, Copy, Debug, PartialEq, Eq)]
+pub struct Sending {
+    /// The row in which it is sent.
+    pub row: usize,
+    pub to: Pid,
+    pub signal: Signal,
+}
+
+/// An arrow that goes out from a column.
+#[derive(Clone, Copy, Debug, PartialEq, Eq)]
+pub struct Arrow {
+    /// The column of the receiver.
+    pub to: usize,
+    pub signal: Signal,
+    /// The row in which the letter is sent.
+    pub sent: usize,
+    /// The row in which it came, if it did.
+    pub came: Option<usize>,
+}
+
+/// A process of the history.
+#[derive(Drop)]
+pub struct Column {
+    pub pid: Pid,
+    /// The row of its birth, if it is born.
+    pub born: Option<usize>,
+    /// The row of its end, if it ends, and the reason.
+    pub ended: Option<(usize, Reason)>,
+    /// The arrows that go out from it, in order of sending.
+    pub arrows: Vec<Arrow>,
+}
+
+/// The columns and rows of a chart.
+#[derive(Drop)]
+pub struct Layout {
+    pub columns: Vec<Column>,
+    pub rows: usize,
+}
+
+/// Lays a history out.
+///
+/// Each process that is named is a column, in order of first appearance, and each event a row, in the order of the
+/// history. An arrow goes from the row in which a letter is sent to the row in which it came: of two processes, the
+/// nth letter from the one to the other is the nth that comes.
+pub fn lay_out(alloc: Global, events: &[Stamped]) -> Result<Layout, AllocError>
+    ensures { IfOk result (λ l. IsLayout events.now l) }
+{
+    let named = pids_of(alloc, events)?;
+    let pids = named.as_slice();
+    let mut columns = Vec::with_capacity(alloc, pids.len())?;
+    for place in 0..pids.len() {
+        let column = column_of(alloc, events, pids, pids[place])?;
+        columns.push_reserved(column);
+    }
+    Ok(Layout {
+        columns,
+        rows: events.len(),
+    })
+}
+
+/// Whom the history names, in order of first appearance.
+fn pids_of(alloc: Global, events: &[Stamped]) -> Result<Vec<Pid>, AllocError>
+    ensures { IfOk result (λ v. v.items ≡ everyone events.now) }
+{
+    let mut pids = Vec::new(alloc);
+    for stamped in events {
+        name(&mut pids, stamped.event)?;
+    }
+    Ok(pids)
+}
+
+/// Those whom an event names join the others.
+fn name(pids: &mut Vec<Pid>, event: Event) -> Result<(), AllocError>
+    ensures { OnOk result (pids.new.items ≡ joined pids.old.items (named event)) }
+{
+    match event {
+        Event::Born(pid, Some(parent), _) => {
+            join(pids, parent)?;
+            join(pids, pid)
+        }
+        Event::Said(from, to, _) | Event::Came(from, to, _) => {
+            join(pids, from)?;
+            join(pids, to)
+        }
+        Event::Born(pid, None, _)
+        | Event::Took(pid, _, _)
+        | Event::Flag(pid, _)
+        | Event::Left(pid, _) => join(pids, pid),
+    }
+}
+
+fn join(pids: &mut Vec<Pid>, pid: Pid) -> Result<(), AllocError>
+    ensures { OnOk result (pids.new.items ≡ join pids.old.items pid) }
+{
+    if is_among(pids, pid) {
+        return Ok(());
+    }
+    pids.push(pid)?;
+    Ok(())
+}
+
+fn is_among(pids: &[Pid], pid: Pid) -> bool
+    ensures { result ≡ list_any (same_pid pid) pids.now }
+{
+    pids.iter().any(|other| pid == *other)
+}
+
+/// Follows one process through the history.
+fn column_of(
+    alloc: Global,
+    events: &[Stamped],
+    pids: &[Pid],
+    pid: Pid,
+) -> Result<Column, AllocError>
+    ensures pid { IfOk result (λ c. c.pid ≡ pid) }
+    ensures column { pids.now ≡ everyone events.now → IfOk result (λ c. IsColumn events.now c) }
+{
+    let mut follower = Follower::new(pid);
+    let mut sent = Vec::new(alloc);
+    let mut ended = None;
+    for row in 0..events.len() {
+        let reason = follower.see(alloc, row, events[row].event, &mut sent)?;
+        ended = noted(row, reason, ended);
+    }
+    let arrows = arrows_of(alloc, events, pids, pid, sent.as_slice())?;
+    let born = birth_row(events, pid);
+    Ok(Column {
+        pid,
+        born,
+        ended,
+        arrows,
+    })
+}
+
+fn birth_row(events: &[Stamped], pid: Pid) -> Option<usize>
+    ensures { result ≡ position (λ s. is_birth pid s.event) events.now }
+{
+    events
+        .iter()
+        .position(|stamped| is_birth(pid, stamped.event))
+}
+
+/// The end so far, if this row has none.
+fn noted(
+    row: usize,
+    reason: Option<Reason>,
+    before: Option<(usize, Reason)>,
+) -> Option<(usize, Reason)>
+    ensures { result ≡ noted row reason before }
+{
+    match reason {
+        Some(reason) => Some((row, reason)),
+        None => before,
+    }
+}
+
+fn is_birth(pid: Pid, event: Event) -> bool
+    ensures { result ≡ is_birth pid event }
+{
+    match event {
+        Event::Born(born, _, _) => pid == born,
+        _ => false,
+    }
+}
+
+/// The arrows of the letters that a process sent.
+fn arrows_of(
+    alloc: Global,
+    events: &[Stamped],
+    pids: &[Pid],
+    from: Pid,
+    sent: &[Sending],
+) -> Result<Vec<Arrow>, AllocError>
+    ensures { IfOk result (λ v. v.items ≡ arrows events.now pids.now from [] sent.now) }
+{
+    let mut arrows = Vec::with_capacity(alloc, sent.len())?;
+    for k in 0..sent.len() {
+        arrows.push_reserved(arrow_of(events, pids, from, &sent[..k], sent[k]));
+    }
+    Ok(arrows)
+}
+
+/// The arrow of a letter, where these were sent before it.
+fn arrow_of(
+    events: &[Stamped],
+    pids: &[Pid],
+    from: Pid,
+    earlier: &[Sending],
+    sending: Sending,
+) -> Arrow
+    ensures { result ≡ arrow events.now pids.now from earlier.now sending }
+{
+    let before = earlier
+        .iter()
+        .filter(|other| sending.to == other.to)
+        .count();
+    Arrow {
+        to: place(pids, sending.to),
+        signal: sending.signal,
+        sent: sending.row,
+        came: receipt(events, from, sending.to, before),
+    }
+}
+
+/// The column of a process; behind all if it has none.
+pub(crate) fn place(pids: &[Pid], pid: Pid) -> usize
+    ensures { result ≡ place pids.now pid }
+{
+    position_of(pids, pid).unwrap_or(pids.len())
+}
+
+fn position_of(pids: &[Pid], pid: Pid) -> Option<usize>
+    ensures { result ≡ position (same_pid pid) pids.now }
+{
+    pids.iter().position(|other| pid == *other)
+}
+
+/// The row of the nth letter that came from the one to the other.
+fn receipt(events: &[Stamped], from: Pid, to: Pid, n: usize) -> Option<usize>
+    ensures { result ≡ slice_get (receipts from to events.now) n }
+{
+    let mut left = n;
+    for row in 0..events.len() {
+        if !is_receipt(from, to, events[row].event) {
+            continue;
+        }
+        if left == 0 {
+            return Some(row);
+        }
+        left -= 1;
+    }
+    None
+}
+
+fn is_receipt(from: Pid, to: Pid, event: Event) -> bool
+    ensures { result ≡ is_receipt from to event }
+{
+    match event {
+        Event::Came(sender, receiver, _) => from == sender && to == receiver,
+        _ => false,
+    }
+}
