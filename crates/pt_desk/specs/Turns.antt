@@ -1,5 +1,6 @@
 -- What a turn does: first it posts, then it handles.
 use Rattle.std.specs.Prelude.{◌≡◌, ℕ, ◌-◌, ◌^◌, ◌<◌, ◌≤◌, ◌⊎◌, Bool, true, false, List, [], ◌∷◌, length, max, min, Option, Some, None, Result, Ok, Err}
+use Rattle.pt_events.specs.declared.event.TheConstants.{MAX_STAMP}
 use Rattle.pt_signal.specs.declared.letter.Letter.{Letter}
 use Rattle.pt_carrier.specs.Ends.{Collects, IsFirst, ShowNone}
 use Rattle.pt_shard.specs.ShardState.{handled}
@@ -41,13 +42,13 @@ handled_held l d = record d { shard = handled l (holding None d.shard) }
 pub record HandlesNext (l : Letter) (old new : DeskState) : Type 0 where
   pub fetched : DeskState
   pub fetches : Fetches l old fetched
-  pub within : max fetched.shard.clock l.stamp < 2 ^ 62
+  pub within : max fetched.shard.clock l.stamp < MAX_STAMP
   pub after : new ≡ handled_held l fetched
 
 -- the next letter is in the hold and stays there: its stamp would pass the limit of clocks, or there was no memory
 abbrev pub Stays : Stop → DeskState → DeskState → Type 0
-Stays Worn old new = (l : Letter) × Fetches l old new × (2 ^ 62 ≤ max new.shard.clock l.stamp)
-Stays Memory old new = (l : Letter) × Fetches l old new × (max new.shard.clock l.stamp < 2 ^ 62)
+Stays Worn old new = (l : Letter) × Fetches l old new × (MAX_STAMP ≤ max new.shard.clock l.stamp)
+Stays Memory old new = (l : Letter) × Fetches l old new × (max new.shard.clock l.stamp < MAX_STAMP)
 
 -- one more letter is handled, or there is none, or it is refused
 abbrev pub Handles : DeskState → Result Bool Stop → DeskState → Type 0

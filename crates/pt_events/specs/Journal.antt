@@ -1,5 +1,5 @@
 -- Journals: one desk's stamped events, the newest first; lanes between desks; the merge.
-use Rattle.std.specs.Prelude.{◌≡◌, ℕ, ◌<◌, ◌≤◌, ◌^◌, pred, Bool, true, false, cond, ◌==◌, ◌&&◌, ◌⊎◌, Option, Some, None, List, [], ◌∷◌, ◌++◌, map, filter, ⊤}
+use Rattle.std.specs.Prelude.{◌≡◌, ℕ, ◌<◌, ◌≤◌, pred, Bool, true, false, cond, ◌==◌, ◌&&◌, ◌⊎◌, Option, Some, None, List, [], ◌∷◌, ◌++◌, map, filter, ⊤}
 use Rattle.pt_signal.specs.declared.pid.Pid.{Pid}
 use Rattle.pt_signal.specs.declared.ids.LinkId.{LinkId}
 use Rattle.pt_signal.specs.declared.signal.Signal.TheVariants.{Link, Monitor, AliveAsk}
@@ -9,6 +9,7 @@ use Rattle.pt_events.specs.declared.event.Stamped.{Stamped}
 use Rattle.pt_signal.specs.declared.letter.Letter.{Letter}
 use Rattle.pt_signal.specs.Process.{Sent, sent}
 use Rattle.pt_events.specs.History.{Past, Start, is_unborn, is_ended, life, sent_by, May}
+use Rattle.pt_events.specs.declared.event.TheConstants.{MAX_STAMP}
 
 abbrev pub events : List Stamped → Past
 events journal = map (λ s. s.event) journal
@@ -67,7 +68,7 @@ module _ (start : Start) where
   pub record IsNext (low top d : ℕ) (journal : List Stamped) (s : Stamped) : Type 0 where
     pub here : s.desk ≡ d
     pub later : clock low journal < s.stamp
-    pub within : s.stamp ≤ 2 ^ 62
+    pub within : s.stamp ≤ MAX_STAMP
     pub home : IsHome d s.event
     pub may : MayHere (events journal) s.event
     pub new_at : IsNewAt d s.stamp s.event

@@ -13,5 +13,5 @@
 mod event;
 mod journal;
 
-pub use event::{Event, Stamped};
+pub use event::{Event, MAX_STAMP, Stamped};
 pub use journal::Journal;

@@ -4,6 +4,7 @@ use Rattle.pt_signal.specs.declared.letter.Letter.{Letter}
 use Rattle.pt_events.specs.declared.event.Stamped.{Stamped}
 use Rattle.pt_events.specs.History.{sent_by}
 use Rattle.pt_events.specs.Journal.{events, letter, clock}
+use Rattle.pt_events.specs.declared.event.TheConstants.{MAX_STAMP}
 use Rattle.pt_laws.specs.Load.{below, load_by_desk}
 use Rattle.pt_laws.specs.LoadLaws.{AllCame}
 use Rattle.pt_shard.specs.declared.stop.Stop.{Stop}
@@ -33,7 +34,7 @@ pub record Receives (d e : ℕ) (l : Letter) (old new : GatheredState) : Type 0 
   pub first : over_in old.shards old.lanes d e ≡ l ∷ drop 1 (over_in old.shards old.lanes d e)
   pub from : l.from.shard ≡ d
   pub to : l.to.shard ≡ e
-  pub within : max (clock old.config.start (journals old e)) l.stamp < 2 ^ 62
+  pub within : max (clock old.config.start (journals old e)) l.stamp < MAX_STAMP
   pub journal : (k : ℕ) → k < length old.shards → journals new k ≡ cond (k == e) (receipt old.config.start e l (journals old e) ∷ journals old k) (journals old k)
   pub left : (i k : ℕ) → i < length old.shards → k < length old.shards
       → over_in new.shards new.lanes i k ≡ cond ((i == d) && (k == e)) (drop 1 (over_in old.shards old.lanes i k)) (over_in old.shards old.lanes i k)
@@ -41,8 +42,8 @@ pub record Receives (d e : ℕ) (l : Letter) (old new : GatheredState) : Type 0 
 
 -- a refusal: the stamp of the receipt would pass the limit, or else there was no memory for it
 abbrev pub IsRefused : Stop → ℕ → Letter → GatheredState → Type 0
-IsRefused Worn e l g = 2 ^ 62 ≤ max (clock g.config.start (journals g e)) l.stamp
-IsRefused Memory e l g = max (clock g.config.start (journals g e)) l.stamp < 2 ^ 62
+IsRefused Worn e l g = MAX_STAMP ≤ max (clock g.config.start (journals g e)) l.stamp
+IsRefused Memory e l g = max (clock g.config.start (journals g e)) l.stamp < MAX_STAMP
 
 -- the answer of one step
 abbrev pub Steps : ℕ → ℕ → GatheredState → Result Bool Stop → GatheredState → Type 0

@@ -1,5 +1,6 @@
 //! The desks of a node without their lanes, and the letters left over.
 
+ghost use Rattle.pt_carrier.specs.declared.ends.TheConstants.{MAX_DESKS};
 ghost use Rattle.std.specs.Prelude.{◌≡◌, ◌*◌, ◌<◌, ◌≤◌, ◌-◌, ◌^◌, ◌++◌, min, [], length, map, reverse, drop, slice_get, IfOk, OnOk, IfSome, IfNone};
 ghost use Rattle.pt_events.specs.Journal.{IsMerge};
 ghost use Rattle.pt_laws.specs.Laws.{LegalWithLeftOver};
@@ -106,7 +107,7 @@ impl Gathered {
     /// How many desks the node has.
     pub fn desks(&self) -> u8
         ensures count { result ≡ length self.now.shards }
-        ensures few { length self.now.shards ≤ 64 }
+        ensures few { length self.now.shards ≤ MAX_DESKS }
         ensures gathered { IsGathered self.now }
     {
         self.config.desks

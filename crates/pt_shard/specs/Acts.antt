@@ -1,5 +1,5 @@
 -- What a process does with the ledger of its desk. No public clause cites this module.
-use Rattle.std.specs.Prelude.{◌≡◌, ℕ, ◌+◌, ◌^◌, ◌<◌, ◌≤◌, ◌||◌, max, Bool, cond, List, [], ◌∷◌, map, Option, Some, None, is_some, Result, Ok, Err, ⊤}
+use Rattle.std.specs.Prelude.{◌≡◌, ℕ, ◌+◌, ◌<◌, ◌≤◌, ◌||◌, max, Bool, cond, List, [], ◌∷◌, map, Option, Some, None, is_some, Result, Ok, Err, ⊤}
 use Rattle.std.specs.Bool.{then_some}
 use Rattle.std.specs.List.{find}
 use Rattle.std.specs.Map.{lookup}
@@ -15,6 +15,7 @@ use Rattle.pt_signal.specs.Process.{ProcessState, held, say, sent, handle}
 use Rattle.pt_events.specs.declared.event.Event.{Event}
 use Rattle.pt_events.specs.declared.event.Event.TheVariants.{Said, Took, Flag}
 use Rattle.pt_events.specs.Journal.{letter}
+use Rattle.pt_events.specs.declared.event.TheConstants.{MAX_STAMP}
 use Rattle.pt_process.specs.Resident.{Resident}
 use Rattle.pt_process.specs.Peers.{peers}
 use Rattle.pt_shard.specs.declared.fault.Fault.{Fault}
@@ -78,9 +79,9 @@ abbrev pub Acts : {A : Type 0} → Option Event → A → Resident → LedgerSta
 Acts None answer r l (Ok a) r' l' = (a ≡ answer) × IsStill r l r' l'
 Acts None answer r l (Err f) r' l' = ⊥
 Acts (Some e) answer r l (Ok a) r' l' =
-    (l.book.clock < 2 ^ 62) × (a ≡ answer) × (r'.me ≡ r.me) × (r'.state ≡ done e r.state) × (l'.book ≡ wrote (l.book.clock + 1) e (posted (l.book.clock + 1) e) l.book)
-Acts (Some e) answer r l (Err fault.Worn) r' l' = (2 ^ 62 ≤ l.book.clock) × IsStill r l r' l'
-Acts (Some e) answer r l (Err fault.Memory) r' l' = (l.book.clock < 2 ^ 62) × IsStill r l r' l'
+    (l.book.clock < MAX_STAMP) × (a ≡ answer) × (r'.me ≡ r.me) × (r'.state ≡ done e r.state) × (l'.book ≡ wrote (l.book.clock + 1) e (posted (l.book.clock + 1) e) l.book)
+Acts (Some e) answer r l (Err fault.Worn) r' l' = (MAX_STAMP ≤ l.book.clock) × IsStill r l r' l'
+Acts (Some e) answer r l (Err fault.Memory) r' l' = (l.book.clock < MAX_STAMP) × IsStill r l r' l'
 Acts (Some e) answer r l (Err fault.Gone) r' l' = ⊥
 Acts (Some e) answer r l (Err fault.Full) r' l' = ⊥
 Acts (Some e) answer r l (Err fault.Myself) r' l' = ⊥
@@ -93,28 +94,28 @@ HasRoomIf (Some i) r = 0 < r.room
 -- there is room for a birth, with the link that is asked for
 abbrev pub PreparesBirth : Bool → Resident → LedgerState → Result (Option LinkId) Fault → Resident → LedgerState → Type 0
 PreparesBirth linked r l (Ok link) r' l' =
-    (l.book.clock < 2 ^ 62) × (link ≡ then_some linked (link_after l.book)) × IsStill r l r' l' × (0 < l'.room) × HasRoomIf link r'
-PreparesBirth linked r l (Err fault.Worn) r' l' = (2 ^ 62 ≤ l.book.clock) × IsStill r l r' l'
-PreparesBirth linked r l (Err fault.Memory) r' l' = (l.book.clock < 2 ^ 62) × IsStill r l r' l'
+    (l.book.clock < MAX_STAMP) × (link ≡ then_some linked (link_after l.book)) × IsStill r l r' l' × (0 < l'.room) × HasRoomIf link r'
+PreparesBirth linked r l (Err fault.Worn) r' l' = (MAX_STAMP ≤ l.book.clock) × IsStill r l r' l'
+PreparesBirth linked r l (Err fault.Memory) r' l' = (l.book.clock < MAX_STAMP) × IsStill r l r' l'
 PreparesBirth linked r l (Err fault.Gone) r' l' = ⊥
 PreparesBirth linked r l (Err fault.Full) r' l' = ⊥
 PreparesBirth linked r l (Err fault.Myself) r' l' = ⊥
 
 -- a letter could not be handled
 abbrev pub IsStopped : Letter → Stop → Resident → LedgerState → Resident → LedgerState → Type 0
-IsStopped x Worn r l r' l' = (2 ^ 62 ≤ max l.book.clock x.stamp) × IsStill r l r' l'
-IsStopped x Memory r l r' l' = (max l.book.clock x.stamp < 2 ^ 62) × IsStill r l r' l'
+IsStopped x Worn r l r' l' = (MAX_STAMP ≤ max l.book.clock x.stamp) × IsStill r l r' l'
+IsStopped x Memory r l r' l' = (max l.book.clock x.stamp < MAX_STAMP) × IsStill r l r' l'
 
 -- the letter did to it what its signal does, and its answer is sent
 abbrev pub TakesIn : Letter → Resident → LedgerState → Result (Unit {0}) Stop → Resident → LedgerState → Type 0
 TakesIn x r l (Ok _) r' l' =
-    (max l.book.clock x.stamp < 2 ^ 62) × (r'.me ≡ r.me) × (r'.state ≡ (handle r.me r.state x.from x.signal).state)
+    (max l.book.clock x.stamp < MAX_STAMP) × (r'.me ≡ r.me) × (r'.state ≡ (handle r.me r.state x.from x.signal).state)
     × (l'.book ≡ wrote (max l.book.clock x.stamp + 1) (came x) (map (letter (max l.book.clock x.stamp + 1)) (map (sent x.to x.from) (option_to_list (living_back x.signal)))) l.book)
 TakesIn x r l (Err s) r' l' = IsStopped x s r l r' l'
 
 -- the letter did to it what its signal does, and what it owed before finds room
 abbrev pub PreparesEnding : Letter → Resident → LedgerState → Result (Unit {0}) Stop → Resident → LedgerState → Type 0
 PreparesEnding x r l (Ok _) r' l' =
-    (max l.book.clock x.stamp < 2 ^ 62) × (r'.me ≡ r.me) × (r'.state ≡ (handle r.me r.state x.from x.signal).state)
+    (max l.book.clock x.stamp < MAX_STAMP) × (r'.me ≡ r.me) × (r'.state ≡ (handle r.me r.state x.from x.signal).state)
     × (l'.book ≡ l.book) × (0 < l'.room) × HasRoomToAll (peers r.state) l'
 PreparesEnding x r l (Err s) r' l' = IsStopped x s r l r' l'

@@ -1,5 +1,5 @@
 -- What each call of a desk answers, and what it leaves.
-use Rattle.std.specs.Prelude.{◌≡◌, ◌+◌, ◌^◌, ◌<◌, ◌≤◌, Bool, true, false, cond, ◌||◌, is_some, Option, Some, None, IsSome, Result, Ok, Err}
+use Rattle.std.specs.Prelude.{◌≡◌, ◌+◌, ◌<◌, ◌≤◌, Bool, true, false, cond, ◌||◌, is_some, Option, Some, None, IsSome, Result, Ok, Err}
 use Rattle.std.specs.Bool.{then_some}
 use Rattle.std.specs.List.{find}
 use Rattle.std.specs.Map.{lookup}
@@ -15,16 +15,17 @@ use Rattle.pt_signal.specs.declared.item.Pick.{Pick}
 use Rattle.pt_signal.specs.declared.signal.Signal.TheVariants.{Link, Unlink, Monitor, Demonitor}
 use Rattle.pt_events.specs.declared.event.Event.{Event}
 use Rattle.pt_events.specs.declared.event.Event.TheVariants.{Born, Said, Took}
+use Rattle.pt_events.specs.declared.event.TheConstants.{MAX_STAMP}
 use Rattle.pt_shard.specs.declared.fault.Fault.{Fault}
 use Rattle.pt_shard.specs.declared.fault.Fault.TheVariants.{Full, Memory, Worn, Gone, Myself}
 use Rattle.pt_shard.specs.ShardState.{ShardState, lives, state_in, after}
 
 -- one more event can be stamped
 abbrev pub CanWrite : ShardState → Type 0
-CanWrite d = d.clock < 2 ^ 62
+CanWrite d = d.clock < MAX_STAMP
 
 abbrev pub IsWorn : ShardState → Type 0
-IsWorn d = 2 ^ 62 ≤ d.clock
+IsWorn d = MAX_STAMP ≤ d.clock
 
 abbrev pub CanWriteIf : Option Event → ShardState → Type 0
 CanWriteIf None d = Unit {0}

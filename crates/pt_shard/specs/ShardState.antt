@@ -1,5 +1,5 @@
 -- A desk without its lanes as its callers see it, and what an event makes of it.
-use Rattle.std.specs.Prelude.{◌≡◌, ℕ, ◌+◌, ◌^◌, ◌<◌, ◌≤◌, ◌==◌, Bool, false, cond, List, [], ◌∷◌, map, max, Option, Some, None, is_some, Result, Ok, Err, slice_index_or}
+use Rattle.std.specs.Prelude.{◌≡◌, ℕ, ◌+◌, ◌<◌, ◌≤◌, ◌==◌, Bool, false, cond, List, [], ◌∷◌, map, max, Option, Some, None, is_some, Result, Ok, Err, slice_index_or}
 use Rattle.pt_signal.specs.declared.pid.Pid.{Pid}
 use Rattle.pt_signal.specs.declared.letter.Letter.{Letter}
 use Rattle.pt_signal.specs.declared.signal.Signal.{Signal}
@@ -9,6 +9,7 @@ use Rattle.pt_events.specs.declared.event.Event.TheVariants.{Came, Left}
 use Rattle.pt_events.specs.declared.event.Stamped.{Stamped}
 use Rattle.pt_events.specs.History.{Past, Phase, Start, living, life, is_living, state_of, sent_by}
 use Rattle.pt_events.specs.Journal.{events, letter}
+use Rattle.pt_events.specs.declared.event.TheConstants.{MAX_STAMP}
 pub use Rattle.pt_carrier.specs.Ends.{one_more}
 pub use Rattle.pt_shard.specs.Boxes.{put_out}
 use Rattle.pt_shard.specs.declared.config.Config.{Config}
@@ -97,6 +98,6 @@ handled l d = written (max d.clock l.stamp + 1) (came l) d
 
 -- the letter is handled, and the answer is who ended by it; a refusal changes nothing
 abbrev pub Handles : Letter → ShardState → Result (Option Pid) Stop → ShardState → Type 0
-Handles l old (Ok ended) new = (max old.clock l.stamp < 2 ^ 62) × (new ≡ handled l old) × (ended ≡ ended_by old (came l))
-Handles l old (Err Worn) new = (2 ^ 62 ≤ max old.clock l.stamp) × (new ≡ old)
-Handles l old (Err Memory) new = (max old.clock l.stamp < 2 ^ 62) × (new ≡ old)
+Handles l old (Ok ended) new = (max old.clock l.stamp < MAX_STAMP) × (new ≡ handled l old) × (ended ≡ ended_by old (came l))
+Handles l old (Err Worn) new = (MAX_STAMP ≤ max old.clock l.stamp) × (new ≡ old)
+Handles l old (Err Memory) new = (max old.clock l.stamp < MAX_STAMP) × (new ≡ old)

@@ -4,13 +4,11 @@ ghost use Rattle.std.specs.Bool.{MatchBool};
 ghost use Rattle.pt_shard.specs.Opening.{IsInRange};
 
 pub use pt_carrier::{MAX_CAPACITY as MAX_LANE, MAX_DESKS};
+pub use pt_events::MAX_STAMP;
 use thiserror::Error;
 
 /// The most slots of a desk.
 pub const MAX_SLOTS: u32 = 65_536;
-
-/// The greatest stamp, at which a clock is worn: 2^62.
-pub const MAX_STAMP: u64 = 4_611_686_018_427_387_904;
 
 /// The settings of a node.
 #[derive(Clone, Copy, Debug, PartialEq, Eq)]

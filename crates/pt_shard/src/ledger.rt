@@ -8,6 +8,7 @@ ghost use Rattle.pt_events.specs.Journal.{letter};
 ghost use Rattle.pt_events.specs.Journal.{letter as stamp_letter};
 ghost use Rattle.std.specs.Option.{option_to_list};
 ghost use Rattle.pt_shard.specs.ShardState.{came};
+ghost use Rattle.pt_carrier.specs.declared.ends.TheConstants.{MAX_DESKS};
 ghost use Rattle.pt_carrier.specs.Ends.{one_more};
 ghost use Rattle.pt_shard.specs.LedgerState.{Book, wrote, Prepares, HasNoNeed, HasRoomAt, HasRoomFor, HasRoomToAll, is_of};
 ghost use Rattle.pt_process.specs.Peers.{peers};
@@ -15,10 +16,9 @@ ghost use Rattle.pt_shard.specs.LettersState.{LettersState};
 ghost use Rattle.pt_shard.specs.Outbox.{count_held};
 ghost use Rattle.pt_shard.specs.Sound.{Every};
 
-use crate::config::MAX_STAMP;
 use crate::letters::Letters;
 use crate::stop::Stop;
-use pt_events::{Event, Journal, Stamped};
+use pt_events::{Event, Journal, MAX_STAMP, Stamped};
 use pt_process::{Estate, Process};
 use pt_signal::{Letter, LinkId, Pid, Ref, Signal};
 use std::alloc::{AllocError, Global};
@@ -69,7 +69,7 @@ fn no_letters(alloc: Global, desks: u8) -> Result<Vec<Letters>, AllocError>
 
 /// Makes room for what a process would owe at its end, in the boxes of those that it would go to.
 fn reserve_owed(outbox: &mut Vec<Letters>, process: &mut Process) -> Result<(), AllocError>
-    requires few { length outbox.old.items ≤ 64 }
+    requires few { length outbox.old.items ≤ MAX_DESKS }
     requires near { Every (λ q. q.shard < length outbox.old.items) (peers process.old.state) }
     ensures letters { map (λ (b : LettersState). b.letters) outbox.new.items ≡ map (λ (b : LettersState). b.letters) outbox.old.items }
     ensures me { process.new.me ≡ process.old.me }
@@ -115,14 +115,14 @@ impl Ledger {
     /// Whether no event can be stamped above `floor`.
     #[inline(always)]
     pub fn is_worn(&self, floor: u64) -> bool
-        ensures { result ≡ nat_le (2 ^ 62) (max self.now.book.clock floor) }
+        ensures { result ≡ nat_le MAX_STAMP (max self.now.book.clock floor) }
     {
         self.clock.max(floor) >= MAX_STAMP
     }
 
     /// The reference that the next event makes.
     pub fn next_ref(&self) -> Ref
-        requires { self.now.book.clock < 2 ^ 62 }
+        requires { self.now.book.clock < MAX_STAMP }
         ensures { result ≡ record { desk = self.now.book.desk; number = self.now.book.clock + 1 } }
     {
         Ref {
@@ -133,7 +133,7 @@ impl Ledger {
 
     /// The id of a link that the next event makes.
     pub fn next_link(&self) -> LinkId
-        requires { self.now.book.clock < 2 ^ 62 }
+        requires { self.now.book.clock < MAX_STAMP }
         ensures { result ≡ record { desk = self.now.book.desk; number = self.now.book.clock + 1 } }
     {
         let Ref { desk, number } = self.next_ref();
@@ -178,7 +178,7 @@ impl Ledger {
 
     /// Makes room for an event that is stamped above `floor`, and for what a process would owe at its end.
     pub fn prepare_end(&mut self, floor: u64, process: &mut Process) -> Result<(), Stop>
-        requires few { length self.old.book.outbox ≤ 64 }
+        requires few { length self.old.book.outbox ≤ MAX_DESKS }
         requires near { Every (λ q. q.shard < length self.old.book.outbox) (peers process.old.state) }
         ensures does { Prepares floor (HasRoomToAll (peers process.old.state)) self.old result self.new }
         ensures me { process.new.me ≡ process.old.me }
@@ -196,7 +196,7 @@ impl Ledger {
     #[tactic(auto, using(crate::proofs::Ledgers::newer_above))]
     #[inline(always)]
     pub fn write(&mut self, floor: u64, event: Event) -> u64
-        requires can { max self.old.book.clock floor < 2 ^ 62 }
+        requires can { max self.old.book.clock floor < MAX_STAMP }
         requires room { 0 < self.old.room }
         ensures stamp { result ≡ max self.old.book.clock floor + 1 }
         ensures book { self.new.book ≡ wrote (max self.old.book.clock floor + 1) event [] self.old.book }
@@ -223,7 +223,7 @@ impl Ledger {
     /// Writes that a process says a signal, and sends it, for both of which there is room.
     #[inline(always)]
     pub fn say(&mut self, from: Pid, to: Pid, signal: Signal)
-        requires can { max self.old.book.clock 0 < 2 ^ 62 }
+        requires can { max self.old.book.clock 0 < MAX_STAMP }
         requires room { 0 < self.old.room }
         requires to { to.shard < length self.old.book.outbox }
         requires letter { HasRoomAt to.shard self.old }
@@ -241,7 +241,7 @@ impl Ledger {
     /// Writes that a letter came, and sends what goes back, if anything, for both of which there is room.
     #[inline(always)]
     pub fn receive(&mut self, letter: &Letter, back: Option<Signal>)
-        requires can { max self.old.book.clock letter.now.stamp < 2 ^ 62 }
+        requires can { max self.old.book.clock letter.now.stamp < MAX_STAMP }
         requires room { 0 < self.old.room }
         requires from { letter.now.from.shard < length self.old.book.outbox }
         requires letter { HasRoomFor back letter.now.from.shard self.old }
@@ -262,7 +262,7 @@ impl Ledger {
     /// Writes the event that ends a process, stamped above `floor` too, and sends what the process owes, for all of
     /// which there is room.
     pub fn close(&mut self, floor: u64, event: Event, from: Pid, estate: &Estate)
-        requires can { max self.old.book.clock floor < 2 ^ 62 }
+        requires can { max self.old.book.clock floor < MAX_STAMP }
         requires room { 0 < self.old.room }
         requires from { estate.now.from ≡ from }
         requires to { Every (λ l. l.to.shard < length self.old.book.outbox) estate.now.owed }

@@ -8,6 +8,7 @@ ghost use Rattle.pt_slots.specs.Calls.{IsEmpty, Inserted};
 ghost use Rattle.pt_events.specs.History.{linked};
 ghost use Rattle.std.specs.Borrow.{sem};
 ghost use Rattle.std.specs.Option.{option_copied_mut};
+ghost use Rattle.pt_shard.specs.declared.config.TheConstants.{MAX_SLOTS};
 ghost use Rattle.pt_shard.specs.Residents.{living_at, seen, in_place, resident_at, vacant_at, Changes, Ends, HasRoomFor};
 
 use pt_process::{Estate, Process};
@@ -51,7 +52,7 @@ impl Residents {
         slots: u32,
         top_version: u32,
     ) -> Result<Residents, AllocError>
-        requires { (0 < slots) × (slots ≤ 65536) × (0 < top_version) }
+        requires { (0 < slots) × (slots ≤ MAX_SLOTS) × (0 < top_version) }
         ensures desk { IfOk result (λ r. r.desk ≡ desk) }
         ensures empty { IfOk result (λ r. IsEmpty slots top_version r.table) }
     {

@@ -4,6 +4,7 @@ ghost use Rattle.std.specs.Prelude.{◌≡◌, true, ◌<◌, ◌≤◌, ◌^◌
 ghost use Rattle.std.specs.Option.{option_copied};
 ghost use Rattle.pt_signal.specs.declared.signal.Signal.{Signal};
 ghost use Rattle.pt_events.specs.declared.event.Event.{Event};
+ghost use Rattle.pt_carrier.specs.declared.ends.TheConstants.{MAX_DESKS};
 ghost use Rattle.pt_shard.specs.ShardState.{lives, state_in, box, Handles};
 ghost use Rattle.pt_shard.specs.Opening.{IsInRange, fresh};
 ghost use Rattle.pt_shard.specs.Known.{knows};
@@ -617,7 +618,7 @@ fn take_in(process: &mut Process, ledger: &mut Ledger, letter: &Letter) -> Resul
 /// Takes a letter to a process that ends by it, with room for what it then owes.
 #[inline(never)]
 fn prepare_ending(process: &mut Process, ledger: &mut Ledger, letter: &Letter) -> Result<(), Stop>
-    requires few { length ledger.old.book.outbox ≤ 64 }
+    requires few { length ledger.old.book.outbox ≤ MAX_DESKS }
     requires near { Every (λ q. q.shard < length ledger.old.book.outbox) (peers process.old.state) }
     ensures { PreparesEnding letter.now process.old ledger.old result process.new ledger.new }
 {
