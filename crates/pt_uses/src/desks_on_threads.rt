@@ -1,17 +1,13 @@
-//! Desks on threads: each desk has a worker on a thread of its own, and afterwards the node is gathered.
-//!
-//! Take it where several processors share the processes. What a worker does in each of its turns is a `Work`; the
-//! desk's own turn follows by itself. Here a process on each desk sends one message a turn to the process on the next.
-//! Whatever the threads did, what is gathered keeps the headline: nothing lost, doubled or reordered between two.
+//! Desks on threads: each desk has a worker, and afterwards the node is gathered. What a worker does in each of its
+//! turns is a `Work`; the desk's own turn follows by itself. Here each desk's process sends to that of the next desk.
 
-ghost use Rattle.std.specs.Prelude.{IfOk};
+ghost use Rattle.std.specs.Prelude.{◌≡◌, IfOk, vec_len};
 ghost use Rattle.pt_gathered.specs.Lawful.{KeepsHeadline};
 ghost use Rattle.pt_node.specs.Desks.{AreDesks};
 
 use crate::RecipeError;
-use crate::staffing::{dismiss, staff};
 use crate::steps::{gathered, tell};
-use pt_node::{Config, Desk, Fault, FreeGate, Gathered, Pid, Ran, Work, open, run};
+use pt_node::{Config, Desk, FreeGate, Gathered, Pid, Ran, Work, assign, open, release, run};
 use std::alloc::Global;
 use std::thread::Threads;
 
@@ -42,47 +38,42 @@ pub fn ring<R: Threads + Sync>(
     ensures { IfOk result (λ g. KeepsHeadline g) }
 {
     let mut desks = open(alloc, config)?;
-    let born = spawn_each(&mut desks);
-    let Ok(mut pairs) = Vec::with_capacity(alloc, desks.len()) else {
-        let _node = gathered(alloc, desks)?;
-        return Err(RecipeError::Memory);
-    };
-    let count = config.desks;
-    staff(&mut desks, &mut pairs, |number| first_sender(number, count));
-    let Ran { desks: mut pairs } = run(rt, pairs, turns, 16, &FreeGate);
-    dismiss(&mut pairs, &mut desks);
-    pairs.destroy_empty();
-    let node = gathered(alloc, desks)?;
-    born?;
-    Ok(node)
+    let sent = send_round(rt, alloc, &mut desks, turns);
+    let node = gathered(alloc, desks);
+    sent.and(node)
 }
 
-/// The first process of a desk, which sends to the first one of the next desk.
-fn first_sender(shard: u8, desks: u8) -> Sender {
-    let next = shard.wrapping_add(1);
-    let me = Pid {
-        shard,
-        slot: 0,
-        version: 1,
-    };
-    Sender {
-        me,
-        to: Pid {
-            shard: if next == desks { 0 } else { next },
-            ..me
-        },
-        sent: 0,
-    }
-}
-
-/// A process on each desk.
-#[tactic(auto, using(pt_node::proofs::StillDesks::still_desks))]
-fn spawn_each(desks: &mut Vec<Desk>) -> Result<(), Fault>
+/// The desks with their senders, on threads.
+fn send_round<R: Threads + Sync>(
+    rt: &R,
+    alloc: Global,
+    desks: &mut Vec<Desk>,
+    turns: u64,
+) -> Result<(), RecipeError>
     requires { AreDesks desks.old.items }
     ensures { AreDesks desks.new.items }
 {
-    for d in 0..desks.len() {
-        let _first = desks[d].spawn()?;
-    }
+    let mut senders = senders(alloc, desks)?;
+    let mut pairs = Vec::with_capacity(alloc, desks.len())?;
+    assign(desks, &mut senders, &mut pairs);
+    let Ran { desks: mut pairs } = run(rt, pairs, turns, 16, &FreeGate);
+    release(&mut pairs, desks, &mut senders);
+    pairs.destroy_empty();
     Ok(())
+}
+
+/// A process on each desk, which sends to the one on the next.
+fn senders(alloc: Global, desks: &mut Vec<Desk>) -> Result<Vec<Sender>, RecipeError>
+    requires { AreDesks desks.old.items }
+    ensures node { AreDesks desks.new.items }
+    ensures count { IfOk result (λ s. vec_len s ≡ vec_len desks.new) }
+{
+    let mut senders = Vec::with_capacity(alloc, desks.len())?;
+    for d in 0..desks.len() {
+        let me = desks[d].spawn()?;
+        let mut to = me;
+        to.shard = u8::try_from((d + 1) % desks.len()).unwrap_or(0);
+        senders.push_reserved(Sender { me, to, sent: 0 });
+    }
+    Ok(senders)
 }

@@ -7,7 +7,6 @@
 //! | [`strategy`] | whom it starts again: one for one, or one for all |
 //! | [`game`] | a loop of ticks, with what belongs to each process in a map by its pid |
 //! | [`desks_on_threads`] | a desk a thread, and what is gathered of them |
-//! | [`staffing`] | the desks with their work, as `run` takes them, and back |
 //! | [`payloads`] | what does not fit into a message, kept beside the table and named by its number |
 //!
 //! What a recipe does to a desk keeps it a desk of its node (`IsStill`), so that [`gather`](pt_node::gather) takes it;
@@ -18,7 +17,6 @@ pub mod desks_on_threads;
 mod error;
 pub mod game;
 pub mod payloads;
-pub mod staffing;
 pub mod steps;
 pub mod strategy;
 pub mod supervisor;

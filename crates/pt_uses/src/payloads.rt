@@ -12,7 +12,8 @@ ghost use Rattle.pt_shard.specs.Known.{knows};
 ghost use Rattle.pt_node.specs.Desks.{IsStill};
 ghost use Rattle.pt_uses.specs.Journals.{newest};
 
-use pt_node::{Body, Desk, Fault, Item, Pick, Pid};
+use crate::steps::tell;
+use pt_node::{Desk, Fault, Item, Pick, Pid};
 use slab::Slab;
 use std::alloc::{AllocError, Global};
 
@@ -52,12 +53,7 @@ impl Texts {
             let _ = self.kept.try_remove(key);
             return Err(Fault::Memory);
         };
-        let body = Body {
-            kind: TEXT,
-            num,
-            who: None,
-        };
-        if let Err(fault) = desk.send(from, to, body) {
+        if let Err(fault) = tell(desk, from, to, TEXT, num) {
             let _ = self.kept.try_remove(key);
             return Err(fault);
         }

@@ -1,4 +1,4 @@
-//! Steps that the recipes share: a message, the oldest item of a mailbox, an end, and the desks gathered.
+//! Steps that the recipes share: a message, the oldest end that a mailbox tells of, an end, and the desks gathered.
 
 ghost use Rattle.std.specs.Prelude.{◌≡◌, true, Some, None, IfOk, OnOk};
 ghost use Rattle.pt_signal.specs.declared.signal.Signal.{Signal};
@@ -30,8 +30,18 @@ pub fn tell(desk: &mut Desk, from: Pid, to: Pid, kind: u32, num: i64) -> Result<
     Ok(())
 }
 
-/// Takes the oldest item out of the mailbox of p, if one waits.
-pub fn next_item(desk: &mut Desk, p: Pid) -> Result<Option<Item>, Fault>
+/// Takes the oldest item out of the mailbox of p; whose end it tells of, if of one.
+pub fn next_exit(desk: &mut Desk, p: Pid) -> Result<Option<Pid>, Fault>
+    ensures births { births desk.new.shard.journal ≡ births desk.old.shard.journal }
+    ensures still { IsStill desk.old desk.new }
+{
+    match next_item(desk, p)? {
+        Some(Item::Exit(from, _reason)) => Ok(Some(from)),
+        _ => Ok(None),
+    }
+}
+
+fn next_item(desk: &mut Desk, p: Pid) -> Result<Option<Item>, Fault>
     ensures births { births desk.new.shard.journal ≡ births desk.old.shard.journal }
     ensures still { IsStill desk.old desk.new }
 {

@@ -94,10 +94,10 @@ fn fails(desk: &mut Desk, p: Pid) -> Result<(), Fail>
     Ok(())
 }
 
-fn two_children(alloc: Global, desk: &mut Desk, strategy: Strategy) -> Result<Supervisor, Fail>
+fn two_children(alloc: Global, desk: &mut Desk) -> Result<Supervisor, Fail>
     ensures { IsStill desk.old desk.new }
 {
-    let mut supervisor = Supervisor::new(alloc, desk, strategy, 1)?;
+    let mut supervisor = Supervisor::new(alloc, desk, 1)?;
     let _first = supervisor.start(desk)?;
     let _second = supervisor.start(desk)?;
     Ok(supervisor)
@@ -106,10 +106,16 @@ fn two_children(alloc: Global, desk: &mut Desk, strategy: Strategy) -> Result<Su
 fn one_for_one<R: Abort>(rt: &R, alloc: Global, desk: &mut Desk) -> Result<(), Fail>
     ensures { IsStill desk.old desk.new }
 {
-    let mut supervisor = two_children(alloc, desk, Strategy::OneForOne)?;
-    assert_eq!(rt; supervisor.tend(desk)?, Tended::Nothing);
+    let mut supervisor = two_children(alloc, desk)?;
+    assert_eq!(rt;
+        supervisor.tend(desk, Strategy::OneForOne)?,
+        Tended::Nothing
+    );
     fails(desk, at(1, 1))?;
-    assert_eq!(rt; supervisor.tend(desk)?, Tended::Restarted);
+    assert_eq!(rt;
+        supervisor.tend(desk, Strategy::OneForOne)?,
+        Tended::Restarted
+    );
     assert_eq!(rt;
         supervisor.children.as_slice(),
         [at(1, 2), at(2, 1)].as_slice()
@@ -123,7 +129,7 @@ fn gives_up<R: Abort>(rt: &R, desk: &mut Desk, supervisor: Supervisor) -> Result
 {
     let mut supervisor = supervisor;
     fails(desk, at(2, 1))?;
-    assert_eq!(rt; supervisor.tend(desk)?, Tended::GaveUp);
+    assert_eq!(rt; supervisor.tend(desk, Strategy::OneForOne)?, Tended::GaveUp);
     assert!(rt; !desk.alive_here(supervisor.pid));
     assert!(rt; desk.alive_here(at(1, 2)));
     let _ = desk.turn(16);
@@ -134,18 +140,23 @@ fn gives_up<R: Abort>(rt: &R, desk: &mut Desk, supervisor: Supervisor) -> Result
 fn one_for_all<R: Abort>(rt: &R, alloc: Global, desk: &mut Desk) -> Result<(), Fail>
     ensures { IsStill desk.old desk.new }
 {
-    let mut supervisor = two_children(alloc, desk, Strategy::OneForAll)?;
+    let mut supervisor = two_children(alloc, desk)?;
     fails(desk, at(1, 1))?;
-    assert_eq!(rt; supervisor.tend(desk)?, Tended::Restarted);
+    assert_eq!(rt;
+        supervisor.tend(desk, Strategy::OneForAll)?,
+        Tended::Restarted
+    );
     assert_eq!(rt;
         supervisor.children.as_slice(),
         [at(1, 2), at(3, 1)].as_slice()
     );
     let _ = desk.turn(16);
     assert!(rt; !desk.alive_here(at(2, 1)));
-    assert_eq!(rt; supervisor.tend(desk)?, Tended::Nothing);
-    supervisor.forgive();
-    assert_eq!(rt; supervisor.restarts, 0);
+    assert_eq!(rt;
+        supervisor.tend(desk, Strategy::OneForAll)?,
+        Tended::Nothing
+    );
+    assert_eq!(rt; supervisor.left, 0);
     Ok(())
 }
 
@@ -158,10 +169,10 @@ fn duel<R: Abort>(rt: &R, alloc: Global, desk: &mut Desk) -> Result<(), Fail>
     tell(desk, orc, elf, HIT, 2)?;
     tell(desk, orc, elf, HIT, 4)?;
     game.tick(desk)?;
-    assert_eq!(rt; game.monsters.get(&elf).map(|m| m.health), Some(5));
+    assert_eq!(rt; game.health.get(&elf).copied(), Some(5));
     game.tick(desk)?;
-    assert_eq!(rt; game.monsters.get(&elf).map(|m| m.health), Some(-1));
-    assert_eq!(rt; game.monsters.get(&orc).map(|m| m.health), Some(10));
+    assert_eq!(rt; game.health.get(&elf).copied(), Some(-1));
+    assert_eq!(rt; game.health.get(&orc).copied(), Some(10));
     assert!(rt; !desk.alive_here(elf));
     game.tick(desk)?;
     Ok(())

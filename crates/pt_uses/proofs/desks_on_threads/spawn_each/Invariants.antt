@@ -1,9 +1,0 @@
-use Rattle.std.proofs.Common.{◌≡◌, vec_len}
-use Rattle.pt_node.specs.Desks.{AreDesks}
-use Rattle.pt_uses.proofs.desks_on_threads.spawn_each.Given as goal
-
-abbrev pub invariant-loop-d : goal.invariant-loop-d
-invariant-loop-d l = record {
-  node : AreDesks l.desks.items;
-  count : vec_len l.desks ≡ vec_len l.initial.desks;
-}
