@@ -1,7 +1,7 @@
 //! The calls of a desk, with their answers as text, and looks at a desk and at what was gathered. Their texts are
 //! promised by no clause: they are compared when a test runs.
 
-ghost use Rattle.pt_rows.specs.Rows.{IsStill};
+ghost use Rattle.pt_node.specs.Desks.{IsStill};
 
 use crate::play::Call;
 use pt_history::{State, replay};

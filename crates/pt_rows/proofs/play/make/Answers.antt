@@ -1,5 +1,5 @@
 use Rattle.std.proofs.Common.{◌≡◌, ◌<◌, length, arith, sym, subst}
-use Rattle.pt_rows.proofs.Rows.{still_desks}
+use Rattle.pt_node.proofs.StillDesks.{still_desks}
 use Rattle.pt_rows.proofs.play.make.Goals as goal
 
 pub place_of-d-requires : goal.place_of-d-requires
