@@ -1,7 +1,6 @@
 //! A script is run.
 
-ghost use Rattle.std.specs.Prelude.{◌≡◌, ◌≤◌, List, length, map, vec_len, [], IfOk, IfErr};
-ghost use Rattle.std.specs.Vec.{vec_capacity};
+ghost use Rattle.std.specs.Prelude.{◌≡◌, List, length, map, vec_len, IfOk, IfErr};
 ghost use Rattle.pt_signal.specs.declared.pid.Pid.{Pid};
 ghost use Rattle.pt_node.specs.Desks.{AreDesks, AreDesksOf};
 ghost use Rattle.pt_node.specs.Running.{AllGoOn};
@@ -10,7 +9,7 @@ ghost use Rattle.pt_report.specs.Reports.{IsNodeOf};
 ghost use Rattle.pt_report.specs.Status.{IsOfNode};
 
 use crate::fault::ReportFault;
-use pt_node::{Desk, FreeGate, Gathered, Ran, gather, open, run, run_single};
+use pt_node::{Desk, FreeGate, Gathered, Ran, assign, gather, open, release, run, run_single};
 use pt_options::{Mode, Options};
 use pt_runner::{Runner, config};
 use pt_script::Script;
@@ -57,13 +56,15 @@ fn run_desks<R: Threads + Sync>(
     ensures fault { IfErr result IsOfNode }
 {
     let mut desks = desks;
+    let mut runners = runners;
     let Ok(mut pairs) = Vec::with_capacity(alloc, desks.len()) else {
         abandon(alloc, desks);
         return Err(ReportFault::Memory);
     };
-    pair(&mut desks, runners, &mut pairs);
-    let ran = run_pairs(rt, options, script.settings().budget, pairs);
-    part(ran, &mut desks);
+    assign(&mut desks, &mut runners, &mut pairs);
+    let Ran { desks: mut pairs } = run_pairs(rt, options, script.settings().budget, pairs);
+    release(&mut pairs, &mut desks, &mut runners);
+    pairs.destroy_empty();
     match gather(alloc, desks) {
         Ok(gathered) => Ok(gathered),
         Err(back) => {
@@ -87,32 +88,6 @@ fn run_pairs<'a, R: Threads + Sync>(
         Mode::Single => run_single(pairs, options.turns, budget, &FreeGate),
         Mode::Many => run(rt, pairs, options.turns, budget, &FreeGate),
     }
-}
-
-/// Gives each desk its runner, in order. The list of the desks keeps its room.
-fn pair<'a>(desks: &mut Vec<Desk>, runners: Vec<Runner<'a>>, pairs: &mut Vec<(Desk, Runner<'a>)>)
-    requires runners { vec_len runners ≡ vec_len desks.old }
-    requires pairs { (pairs.old.items ≡ []) × (vec_len desks.old ≤ vec_capacity pairs.old) }
-    ensures desks { (desks.new.items ≡ []) × (vec_capacity desks.new ≡ vec_capacity desks.old) }
-    ensures pairs { map (λ p. p.0) pairs.new.items ≡ desks.old.items }
-{
-    let mut runners = runners;
-    while desks.len() > 0 {
-        pairs.push_reserved((desks.remove(0), runners.remove(0)));
-    }
-}
-
-/// Takes the desks from their runners, in order.
-fn part(ran: Ran<Runner<'_>>, desks: &mut Vec<Desk>)
-    requires { (desks.old.items ≡ []) × (vec_len ran.desks ≤ vec_capacity desks.old) }
-    ensures { desks.new.items ≡ map (λ p. p.0) ran.entry.desks.items }
-{
-    let Ran { desks: mut pairs } = ran;
-    while pairs.len() > 0 {
-        let (desk, _runner) = pairs.remove(0);
-        desks.push_reserved(desk);
-    }
-    pairs.destroy_empty();
 }
 
 /// Gives up the desks of a node.

@@ -1,11 +1,10 @@
 //! Scripts that are run on one thread. What they print is compared when the tests run.
 
-ghost use Rattle.std.specs.Prelude.{◌≡◌, ◌≤◌, map, vec_len, []};
-ghost use Rattle.std.specs.Vec.{vec_capacity};
+ghost use Rattle.std.specs.Prelude.{◌≡◌, vec_len};
 ghost use Rattle.pt_node.specs.Desks.{AreDesks};
 
 use super::*;
-use pt_node::{Desk, FreeGate, Gathered, Ran, gather, open, run_single};
+use pt_node::{Desk, FreeGate, Gathered, Ran, assign, gather, open, release, run_single};
 use pt_script::Script;
 use std::alloc::Global;
 use std::process::Abort;
@@ -35,12 +34,15 @@ fn run_desks<R: Abort>(
     requires runners { vec_len runners ≡ vec_len desks }
 {
     let mut desks = desks;
+    let mut runners = runners;
     let Ok(mut pairs) = Vec::with_capacity(alloc, desks.len()) else {
         panic!(rt; "no memory for the pairs");
     };
-    pair(&mut desks, runners, &mut pairs);
-    let ran = run_single(pairs, turns, script.settings().budget, &FreeGate);
-    part(ran, &mut desks);
+    assign(&mut desks, &mut runners, &mut pairs);
+    let budget = script.settings().budget;
+    let Ran { desks: mut pairs } = run_single(pairs, turns, budget, &FreeGate);
+    release(&mut pairs, &mut desks, &mut runners);
+    pairs.destroy_empty();
     match gather(alloc, desks) {
         Ok(gathered) => gathered,
         Err(back) => {
@@ -48,32 +50,6 @@ fn run_desks<R: Abort>(
             panic!(rt; "the desks come back");
         }
     }
-}
-
-/// Gives each desk its runner, in order. The list of the desks keeps its room.
-fn pair<'a>(desks: &mut Vec<Desk>, runners: Vec<Runner<'a>>, pairs: &mut Vec<(Desk, Runner<'a>)>)
-    requires runners { vec_len runners ≡ vec_len desks.old }
-    requires pairs { (pairs.old.items ≡ []) × (vec_len desks.old ≤ vec_capacity pairs.old) }
-    ensures desks { (desks.new.items ≡ []) × (vec_capacity desks.new ≡ vec_capacity desks.old) }
-    ensures pairs { map (λ p. p.0) pairs.new.items ≡ desks.old.items }
-{
-    let mut runners = runners;
-    while desks.len() > 0 && runners.len() > 0 {
-        pairs.push_reserved((desks.remove(0), runners.remove(0)));
-    }
-}
-
-/// Takes the desks from their runners, in order.
-fn part(ran: Ran<Runner<'_>>, desks: &mut Vec<Desk>)
-    requires { (desks.old.items ≡ []) × (vec_len ran.desks ≤ vec_capacity desks.old) }
-    ensures { desks.new.items ≡ map (λ p. p.0) ran.entry.desks.items }
-{
-    let Ran { desks: mut pairs } = ran;
-    while pairs.len() > 0 {
-        let (desk, _runner) = pairs.remove(0);
-        desks.push_reserved(desk);
-    }
-    pairs.destroy_empty();
 }
 
 /// The history of a script that is run for so many turns, each event with a line feed behind it.
