@@ -10,12 +10,7 @@
 set -euo pipefail
 
 here=$(cd "$(dirname "$0")" && pwd)
-root=$(dirname "$here")
-rt=${RT:-rt}
-work=$(mktemp -d)
-trap 'rm -rf "$work"' EXIT
-
-tar -C "$root" --exclude=out --exclude=must-fail -cf - HANDLES crates.txt crates | tar -C "$work" -xf -
+source "$here/../.ci/copy"
 
 # Compiles a program and runs it: 0 where it is as its line says.
 try() {

@@ -11,12 +11,7 @@ set -euo pipefail
 shopt -s nullglob
 
 here=$(cd "$(dirname "$0")" && pwd)
-root=$(dirname "$here")
-rt=${RT:-rt}
-work=$(mktemp -d)
-trap 'rm -rf "$work"' EXIT
-
-tar -C "$root" --exclude=out --exclude=must-fail -cf - HANDLES crates.txt crates | tar -C "$work" -xf -
+source "$here/../.ci/copy"
 mkdir "$work/cases" "$work/said"
 
 compared=0

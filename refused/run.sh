@@ -11,12 +11,7 @@
 set -euo pipefail
 
 here=$(cd "$(dirname "$0")" && pwd)
-root=$(dirname "$here")
-rt=${RT:-rt}
-work=$(mktemp -d)
-trap 'rm -rf "$work"' EXIT
-
-tar -C "$root" --exclude=out --exclude=must-fail -cf - HANDLES crates.txt crates | tar -C "$work" -xf -
+source "$here/../.ci/copy"
 mkdir -p "$work/crates/pt_refused/src" "$work/cases"
 cp "$here/calls.rt.txt" "$work/crates/pt_refused/src/main.rt"
 echo "pt_refused: pt_node" >>"$work/crates.txt"
