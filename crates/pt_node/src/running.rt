@@ -1,6 +1,7 @@
 //! Workers, each with a desk of a node.
 
 ghost use Rattle.std.specs.Prelude.{◌≡◌, ℕ, ◌<◌, ◌≤◌, Bool, false, MatchBool, length, map};
+ghost use Rattle.pt_carrier.specs.declared.ends.TheConstants.{MAX_DESKS};
 ghost use Rattle.pt_desk.specs.DeskState.{GoesOn};
 ghost use Rattle.pt_node.specs.Desks.{AreDesks};
 ghost use Rattle.pt_node.specs.Running.{AllGoOn, AllWork, HasTurn, HaveEnded, InRounds, Round, TakesTurn, Works};
@@ -98,7 +99,7 @@ pub fn run_single<G: Gate, W: Work>(
 ) -> Ran<W>
     ensures each { AllGoOn desks.items result.desks.items }
     ensures turns { AllWork (G.lets gate.now) turns budget desks.items result.desks.items }
-    ensures rounds { length desks.items ≤ 64 → InRounds (G.lets gate.now) turns budget desks.items result.desks.items }
+    ensures rounds { length desks.items ≤ MAX_DESKS → InRounds (G.lets gate.now) turns budget desks.items result.desks.items }
     ensures desks { AreDesks (map (λ p. p.0) desks.items) → AreDesks (map (λ p. p.0) result.desks.items) }
 {
     let mut desks = desks;
@@ -112,7 +113,7 @@ pub fn run_single<G: Gate, W: Work>(
 
 /// All rounds, or those until every worker has ended.
 fn all_rounds<G: Gate, W: Work>(desks: &mut Vec<(Desk, W)>, turns: u64, budget: u32, gate: &G)
-    requires { length desks.old.items ≤ 64 }
+    requires { length desks.old.items ≤ MAX_DESKS }
     ensures each { AllGoOn desks.old.items desks.new.items }
     ensures turns { AllWork (G.lets gate.now) turns budget desks.old.items desks.new.items }
     ensures rounds { InRounds (G.lets gate.now) turns budget desks.old.items desks.new.items }
@@ -133,7 +134,7 @@ fn one_round<G: Gate, W: Work>(
     budget: u32,
     gate: &G,
 ) -> bool
-    requires { length desks.old.items ≤ 64 }
+    requires { length desks.old.items ≤ MAX_DESKS }
     ensures each { AllGoOn desks.old.items desks.new.items }
     ensures round { Round (G.lets gate.now) budget turn (length desks.old.items) (desks.old.items, ended.old) (desks.new.items, ended.new) }
     ensures none { result ≡ false → HaveEnded (length desks.old.items) ended.new }
@@ -158,7 +159,7 @@ fn turn_at<G: Gate, W: Work>(
     gate: &G,
 )
     requires desk { d < length desks.old.items }
-    requires few { length desks.old.items ≤ 64 }
+    requires few { length desks.old.items ≤ MAX_DESKS }
     ensures each { AllGoOn desks.old.items desks.new.items }
     ensures turn { HasTurn (G.lets gate.now) budget turn d (desks.old.items, ended.old) (desks.new.items, ended.new) }
 {
