@@ -4,7 +4,8 @@ use Rattle.std.proofs.lemmas.List.{append-nil}
 use Rattle.std.proofs.lemmas.Bool.{both_ways}
 use mathlib.Core.List.{IsPrefix}
 use Rattle.pt_signal.specs.declared.letter.Letter.{Letter}
-use Rattle.pt_carrier.specs.Ends.{InEnds, one_more, Collects, Shows, ShowNone, IsFirst}
+use Rattle.pt_carrier.specs.Ends.{InEnds, one_more, Collects, Shows, ShowNone, IsFirst, IsFront}
+use Rattle.pt_carrier.proofs.Taking.{front_is}
 
 pub IsPrefix-nil : {X : Type 0} (xs ys : List X) → IsPrefix xs ys → ys ≡ [] → xs ≡ []
 IsPrefix-nil [] ys h e = refl
@@ -19,6 +20,11 @@ IsPrefix-is xs ys e = ([], append-nil xs ∙ e)
 
 pub IsPrefix-trans : {X : Type 0} (xs ys zs : List X) → IsPrefix xs ys → IsPrefix ys zs → IsPrefix xs zs
 IsPrefix-trans xs ys zs h k = (h.0 ++ k.0, sym (append_assoc xs h.0 k.0) ∙ ap (λ l. l ++ k.0) h.1 ∙ k.1)
+
+-- the letter that was looked at in its lane is the one that is then taken
+pub front_taken : (old new : InEnds) (k : ℕ) (front letter : Letter) → IsFront old k front → Collects old new k letter → front ≡ letter
+front_taken old new k front letter is takes =
+    front_is front letter (letter ∷ get_or new.known k []) (get_or new.known k []) (IsPrefix-trans (front ∷ []) (get_or old.known k []) (letter ∷ get_or new.known k []) is.oldest takes.oldest) refl
 
 -- a look that found desk k's lane to be the first to show a letter, and then the taking of that letter
 module _ (old mid new : InEnds) (k : ℕ) (letter : Letter)

@@ -85,3 +85,9 @@ ShowNone old new low high = (k : ℕ) → low ≤ k → k < high → (slice_inde
 pub record IsFirst (old new : InEnds) (k : ℕ) : Type 0 where
   pub above : old.cursor ≤ k → ShowNone old new old.cursor k
   pub around : k < old.cursor → ShowNone old new old.cursor (length old.place.rings) × ShowNone old new 0 k
+
+-- the letter is the oldest that is known to wait in the lane from desk k, and names the two desks of that lane
+pub record IsFront (ends : InEnds) (k : ℕ) (letter : Letter) : Type 0 where
+  pub oldest : IsPrefix (letter ∷ []) (slice_index_or ends.known k [])
+  pub from_there : letter.from.shard ≡ k
+  pub to_here : letter.to.shard ≡ ends.place.number

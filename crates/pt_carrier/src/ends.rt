@@ -2,7 +2,7 @@
 
 ghost use Rattle.std.specs.Prelude.{◌≡◌, ◌≢◌, ℕ, ◌⊎◌, ◌+◌, ◌*◌, ◌-◌, ◌%◌, ◌^◌, ◌<◌, ◌≤◌, min, length, [], IsOk, OnOk, IfErr, IfSome, IfNone, slice_index_or};
 ghost use Rattle.pt_carrier.specs.declared.ends.TheConstants.{MAX_DESKS};
-ghost use Rattle.pt_carrier.specs.Ends.{OutEnds, InEnds, out_ends, in_ends, GoOutFrom, ComeInTo, one_more, IsFull, LooksAt, Collects, Shows, ShowNone, IsFirst};
+ghost use Rattle.pt_carrier.specs.Ends.{OutEnds, InEnds, out_ends, in_ends, GoOutFrom, ComeInTo, one_more, IsFull, LooksAt, Collects, Shows, ShowNone, IsFirst, IsFront};
 ghost use Rattle.pt_carrier.specs.Node.{lists};
 ghost use Rattle.pt_carrier.specs.Reunion.{out_kept, in_kept, Meets, IsWhole, HasRoom, room_at};
 
@@ -151,7 +151,8 @@ impl Ins {
     ///
     /// The lanes are looked at from the cursor upwards and round. The first that shows a letter gives its oldest,
     /// and the cursor goes to the desk after that one; it begins at desk 0. The answer is `None` only where this end
-    /// knows no letter of any lane, and the cursor then stays. Takes no memory and waits for nobody.
+    /// knows no letter of any lane, and the cursor then stays. Takes no memory and waits for nobody. It is `next_from`
+    /// and then `take`; with `front` between them a caller has the letter by reference, before it is moved.
     #[inline(always)]
     pub fn collect(&mut self) -> Option<(u8, Letter)>
         ensures place { self.new.place ≡ self.old.place }
@@ -159,16 +160,20 @@ impl Ins {
         ensures first { IfSome result (λ r. IsFirst self.old self.new r.0) }
         ensures none { IfNone result ((self.new.collected ≡ self.old.collected) × (self.new.cursor ≡ self.old.cursor) × ShowNone self.old self.new 0 (length self.old.place.rings)) }
     {
-        let Some(d) = self.first() else {
+        let Some(d) = self.next_from() else {
             return None;
         };
         let letter = self.take(d);
         Some((d, letter))
     }
 
-    /// The first desk from the cursor upwards and round whose lane shows a letter.
+    /// The desk from whose lane the next letter is to be collected: the first from the cursor upwards and round whose
+    /// lane shows one.
+    ///
+    /// Nothing is collected, and the cursor stays. The answer is `None` only where this end knows no letter of any
+    /// lane.
     #[inline(always)]
-    fn first(&mut self) -> Option<u8>
+    pub fn next_from(&mut self) -> Option<u8>
         ensures same { (self.new.place ≡ self.old.place) × (self.new.cursor ≡ self.old.cursor) × (self.new.collected ≡ self.old.collected) }
         ensures some { IfSome result (λ d. Shows self.old self.new d × IsFirst self.old self.new d) }
         ensures none { IfNone result (ShowNone self.old self.new 0 (length self.old.place.rings)) }
@@ -198,16 +203,41 @@ impl Ins {
         None
     }
 
-    /// Collects the oldest letter that is known to wait in the lane from desk `d`.
+    /// The oldest letter that is known to wait in the lane from desk `from`, in its place.
+    ///
+    /// It is the one that `take` gives. The answer is `None` only where it does not name the two desks of its lane.
+    /// Every letter that was posted names them, but the end that receives cannot see that; so a caller has to go on
+    /// by `front_addressed`.
     #[inline(always)]
-    fn take(&mut self, d: u8) -> Letter
-        requires { (d < length self.old.place.rings) × (0 < length (slice_index_or self.old.known d [])) }
-        ensures collects { Collects self.old self.new d result }
-        ensures place { self.new.place ≡ self.old.place }
-        ensures others { (k : ℕ) → k ≢ d → slice_index_or self.new.known k [] ≡ slice_index_or self.old.known k [] }
+    pub fn front(&self, from: u8) -> Option<&Letter>
+        requires { (from < length self.now.place.rings) × (0 < length (slice_index_or self.now.known from [])) }
+        ensures { IfSome result (λ letter. IsFront self.now from letter.now) }
     {
-        let letter = self.lanes[usize::from(d)].take_known();
-        self.cursor = next_desk(d, self.lanes.len());
+        self.lanes[usize::from(from)].front()
+    }
+
+    /// The same as a copy, with the two desks of its lane written into it.
+    #[cold]
+    #[inline(never)]
+    pub fn front_addressed(&self, from: u8) -> Letter
+        requires { (from < length self.now.place.rings) × (0 < length (slice_index_or self.now.known from [])) }
+        ensures { IsFront self.now from result }
+    {
+        self.lanes[usize::from(from)].front_addressed()
+    }
+
+    /// Collects the oldest letter that is known to wait in the lane from desk `from`.
+    ///
+    /// The cursor goes to the desk after that one.
+    #[inline(always)]
+    pub fn take(&mut self, from: u8) -> Letter
+        requires { (from < length self.old.place.rings) × (0 < length (slice_index_or self.old.known from [])) }
+        ensures collects { Collects self.old self.new from result }
+        ensures place { self.new.place ≡ self.old.place }
+        ensures others { (k : ℕ) → k ≢ from → slice_index_or self.new.known k [] ≡ slice_index_or self.old.known k [] }
+    {
+        let letter = self.lanes[usize::from(from)].take_known();
+        self.cursor = next_desk(from, self.lanes.len());
         letter
     }
 

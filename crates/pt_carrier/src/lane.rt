@@ -1,6 +1,6 @@
 //! One lane: a ring with an end that sends and an end that receives.
 
-ghost use Rattle.std.specs.Prelude.{◌≡◌, ◌↔◌, ◌+◌, ◌-◌, ◌^◌, ◌<◌, ◌≤◌, min, vec_len, length, map, [], ◌∷◌, ◌++◌, IsTrue, IfOk};
+ghost use Rattle.std.specs.Prelude.{◌≡◌, ◌↔◌, ◌+◌, ◌-◌, ◌^◌, ◌<◌, ◌≤◌, min, vec_len, length, map, [], ◌∷◌, ◌++◌, IsTrue, IfOk, IfSome};
 ghost use Rattle.std.specs.Bool.{OnTrue, OnFalse};
 ghost use mathlib.Core.List.{IsPrefix};
 ghost use Rattle.std.specs.Vec.{vec_capacity};
@@ -106,6 +106,32 @@ impl InLane {
         ensures { result ≡ length self.now.known }
     {
         self.ring.cached_slots()
+    }
+
+    /// The oldest letter that is known to wait, in its place, if it names the desks of this lane.
+    #[inline(always)]
+    pub(crate) fn front(&self) -> Option<&Letter>
+        requires { 0 < length self.now.known }
+        ensures { IfSome result (λ letter. IsPrefix (letter.now ∷ []) self.now.known × (letter.now.from.shard ≡ self.now.from) × (letter.now.to.shard ≡ self.now.to)) }
+    {
+        let front = self.ring.peek_known();
+        if front.from.shard != self.from || front.to.shard != self.to {
+            return None;
+        }
+        Some(front)
+    }
+
+    /// The same as a copy, with the desks of this lane written into it.
+    #[cold]
+    #[inline(never)]
+    pub(crate) fn front_addressed(&self) -> Letter
+        requires { 0 < length self.now.known }
+        ensures { IsPrefix (result ∷ []) self.now.known × (result.from.shard ≡ self.now.from) × (result.to.shard ≡ self.now.to) }
+    {
+        let mut letter = *self.ring.peek_known();
+        letter.from.shard = self.from;
+        letter.to.shard = self.to;
+        letter
     }
 
     /// Takes the oldest letter that is known to wait. It names the desks of this lane.
