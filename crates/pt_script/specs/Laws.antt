@@ -9,6 +9,7 @@ use Rattle.pt_script.specs.declared.fault.Fault.{Fault}
 use Rattle.pt_script.specs.declared.fault.Place.{Place}
 use Rattle.pt_script.specs.declared.fault.ScriptError.TheVariants.{Refused}
 use Rattle.pt_script.specs.declared.values.Settings.{Settings}
+use Rattle.pt_script.specs.declared.limits.TheConstants.{MAX_BYTES}
 use Rattle.pt_script.specs.Plans.{Whole}
 use Rattle.pt_script.specs.declared.values.Operation.{Operation}
 use Rattle.pt_script.specs.Steps.{each}
@@ -48,7 +49,7 @@ OperationsReadBack = (s : Scope) (c : Called) (o : Operation) → CanSay s c o �
 
 -- a script that is well formed is read back from what is written of it, and from each text of that value
 abbrev pub ScriptsReadBack : Type 0
-ScriptsReadBack = (w : Whole) → IsWellFormed w → (script (script_written w) ≡ Ok w) × ((bytes : List ℕ) → length bytes ≤ 1048576 → is_utf8 bytes ≡ true → read bytes ≡ Some (script_written w) → reading bytes ≡ Ok w)
+ScriptsReadBack = (w : Whole) → IsWellFormed w → (script (script_written w) ≡ Ok w) × ((bytes : List ℕ) → length bytes ≤ MAX_BYTES → is_utf8 bytes ≡ true → read bytes ≡ Some (script_written w) → reading bytes ≡ Ok w)
 
 -- and every script that is accepted is well formed, so that it is read back from what is written of it
 abbrev pub AcceptedReadBack : Type 0

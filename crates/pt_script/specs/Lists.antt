@@ -12,6 +12,7 @@ use Rattle.pt_script.specs.declared.fault.ScriptError.{ScriptError}
 use Rattle.pt_script.specs.declared.fault.ScriptError.TheVariants.{Refused, Memory}
 use Rattle.pt_script.specs.declared.values.Operation.{Operation}
 use Rattle.pt_script.specs.declared.values.Operation.TheVariants as operation
+use Rattle.pt_script.specs.declared.limits.TheConstants.{MAX_OPERATIONS, MAX_PROCESSES}
 use Rattle.pt_script.specs.Plans.{Plan}
 use Rattle.pt_script.specs.Steps.{◌>>=◌}
 use Rattle.pt_script.specs.Members.{required, text}
@@ -66,11 +67,11 @@ with_monitor s tag = record s { monitors = λ q. update bytes_eq s.monitors tag 
 abbrev pub with_ask : Scope → List ℕ → Scope
 with_ask s tag = record s { asks = λ q. update bytes_eq s.asks tag (Some s.made) q; made = s.made + 1 }
 
--- processes above 4,095, operations above 65,535, spawns inside eight others
+-- a process more than a script may have, an operation more, a spawn inside too many others
 abbrev pub limits : Bool → Place → ℕ → ℕ → ℕ → Result (Unit {0}) ScriptError
 limits spawns place levels next seen =
-    if spawns && nat_le 4096 next then Err (Refused Bounds (at_process next))
-    else (if nat_le 65536 seen then Err (Refused Bounds place)
+    if spawns && nat_le MAX_PROCESSES next then Err (Refused Bounds (at_process next))
+    else (if nat_le MAX_OPERATIONS seen then Err (Refused Bounds place)
     else (if spawns && nat_le levels 0 then Err (Refused Bounds place) else Ok tt))
 
 -- a spawn; its operations are read one level further in

@@ -5,6 +5,7 @@ use Rattle.std.specs.Str.{bytes_eq}
 use Rattle.std.specs.HashMap.{get_by}
 use Rattle.pt_script.specs.declared.names.Names.{Names}
 use Rattle.pt_script.specs.declared.operation.Scope.{Scope as Surroundings}
+use Rattle.pt_script.specs.declared.limits.TheConstants.{MAX_NAME}
 
 -- what stands for what, by name
 abbrev pub Naming : Type 0
@@ -64,9 +65,9 @@ is_name_byte b = is_letter b || is_digit b || (b == 95)
 unfoldable pub begins_well : List ℕ → Bool
 begins_well name = is_letter (slice_index name 0) && list_all is_name_byte name
 
--- 1 to 32 of them
+-- as many of them as a name has
 abbrev pub is_name : List ℕ → Bool
-is_name name = if nat_lt 0 (length name) && nat_le (length name) 32 then begins_well name else false
+is_name name = if nat_lt 0 (length name) && nat_le (length name) MAX_NAME then begins_well name else false
 
 -- a name that a process may be given
 abbrev pub is_own_name : List ℕ → Bool

@@ -12,6 +12,7 @@ use Rattle.pt_script.specs.declared.fault.ScriptError.{ScriptError}
 use Rattle.pt_script.specs.declared.fault.ScriptError.TheVariants.{Refused, Memory}
 use Rattle.pt_script.specs.declared.values.Settings.{Settings}
 use Rattle.pt_script.specs.declared.values.Top.{Top}
+use Rattle.pt_script.specs.declared.limits.TheConstants.{DEFAULT_BUDGET, DEFAULT_LANE, DEFAULT_SLOTS, MAX_BUDGET, MAX_BYTES, MAX_DEPTH, MAX_DESKS, MAX_FORMAT, MAX_LANE, MAX_NESTING, MAX_PROCESSES, MAX_SLOTS}
 use Rattle.pt_script.specs.Plans.{Plan, Whole}
 use Rattle.pt_script.specs.Steps.{◌>>=◌, each}
 use Rattle.pt_script.specs.Members.{known, whole, flag, list, required, optional}
@@ -25,12 +26,12 @@ use Rattle.pt_script.specs.Lists.{Part, Refuses, placed, at_script, at_process, 
 unfoldable pub settings : Data → Result Settings Fault
 settings d = do
   _ ← known (codes "format" ∷ codes "desks" ∷ codes "slots" ∷ codes "top" ∷ codes "lane" ∷ codes "budget" ∷ codes "processes" ∷ []) d
-  format ← required (whole 1 2) (get (codes "format") d)
-  desks ← required (whole 1 64) (get (codes "desks") d)
-  slots ← optional 1024 (whole 1 65536) (get (codes "slots") d)
+  format ← required (whole 1 MAX_FORMAT) (get (codes "format") d)
+  desks ← required (whole 1 MAX_DESKS) (get (codes "desks") d)
+  slots ← optional DEFAULT_SLOTS (whole 1 MAX_SLOTS) (get (codes "slots") d)
   top ← optional 4294967295 (whole 1 4294967295) (get (codes "top") d)
-  lane ← optional 64 (whole 1 65536) (get (codes "lane") d)
-  budget ← optional 16 (whole 1 65536) (get (codes "budget") d)
+  lane ← optional DEFAULT_LANE (whole 1 MAX_LANE) (get (codes "lane") d)
+  budget ← optional DEFAULT_BUDGET (whole 1 MAX_BUDGET) (get (codes "budget") d)
   Ok (record { format = format; desks = desks; slots = slots; top_version = top; lane = lane; budget = budget })
 
 -- the list of a member that is one, whatever else is wrong
@@ -42,8 +43,8 @@ loose (Err e) = []
 abbrev pub spawned_by : (Data → ℕ) → List Data → ℕ
 spawned_by begins ds = sum_by (λ d. if is_spawn d then begins d else 0) ds
 
--- How many processes a process and the spawns in it begin, whatever is wrong in them, down to so many levels. A text
--- nests at most 63 of them.
+-- How many processes a process and the spawns in it begin, whatever is wrong in them, down to so many levels. No text
+-- nests more than `MAX_NESTING` of them.
 unfoldable pub begun_in : ℕ → Data → ℕ
 begun_in zero d = 1
 begun_in (suc levels) d = 1 + spawned_by (λ op. begun_in levels op) (loose (required list (get (codes "ops") d)))
@@ -94,11 +95,11 @@ with_head before h d = record {
   names = λ q. update bytes_eq before.names h.name (Some before.next) q;
   tops = before.tops ++ record { process = before.next; desk = h.desk } ∷ [];
   unread = before.unread ++ record { trap = h.trap; value = d } ∷ [];
-  next = number_behind before.next (begun_in 63 d);
+  next = number_behind before.next (begun_in MAX_NESTING d);
 }
 
 abbrev pub few : ℕ → Result (Unit {0}) ScriptError
-few number = if nat_le 4096 number then Err (Refused Bounds (at_process number)) else Ok tt
+few number = if nat_le MAX_PROCESSES number then Err (Refused Bounds (at_process number)) else Ok tt
 
 unfoldable pub next_head : Settings → Heads → Data → Result Heads ScriptError
 next_head s before d = do
@@ -119,7 +120,7 @@ unfoldable pub next_list : ℕ → Naming → Lists → Pending → Result Lists
 next_list format names before h = do
   _ ← few (length before.processes)
   ops ← placed (at_process (length before.processes)) (required list (get (codes "ops") h.value))
-  part ← list_at 8 (fresh format (length before.processes) None names) (length before.processes + 1) before.seen ops
+  part ← list_at MAX_DEPTH (fresh format (length before.processes) None names) (length before.processes + 1) before.seen ops
   Ok (record { processes = before.processes ++ record { trap = h.trap; operations = part.operations } ∷ part.inside; seen = part.seen })
 
 -- what a value says as a script, or the first fault in it
@@ -137,7 +138,7 @@ script_of (Some d) = script d
 
 -- what bytes say as a script: their number first, then their syntax, then the rest
 unfoldable pub reading : List ℕ → Result Whole ScriptError
-reading bytes = if nat_lt 1048576 (length bytes) then Err (Refused Bounds at_script)
+reading bytes = if nat_lt MAX_BYTES (length bytes) then Err (Refused Bounds at_script)
     else (if is_utf8 bytes then script_of (read bytes) else Err (Refused Syntax at_script))
 
 -- what was returned is what the bytes say, where there was memory

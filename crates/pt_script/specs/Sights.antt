@@ -8,6 +8,7 @@ use Rattle.pt_script.specs.declared.values.Pattern.TheVariants as pattern
 use Rattle.pt_script.specs.declared.values.Operation.{Operation}
 use Rattle.pt_script.specs.declared.values.Operation.TheVariants as operation
 use Rattle.pt_script.specs.Plans.{Plan, Whole}
+use Rattle.pt_script.specs.declared.limits.TheConstants.{MAX_DEPTH, MAX_OPERATIONS, MAX_PROCESSES}
 use Rattle.pt_script.specs.Sound.{InRange, operations_of}
 use Rattle.pt_script.specs.Writing.{FitsReason, FitsSigned}
 
@@ -108,7 +109,7 @@ BeginsIn (suc levels) v next os plans = ListBegins (λ u n qs ps. BeginsIn level
 -- the processes that a script begins with, each with those that begin in it
 abbrev pub TopsBegin : Settings → List ℕ → ℕ → List Top → List Plan → Type 0
 TopsBegin s tops next [] plans = plans ≡ []
-TopsBegin s tops next (t ∷ ts) plans = (first : Plan) × (inside : List Plan) × (others : List Plan) × (plans ≡ first ∷ inside ++ others) × (t.process ≡ next) × (t.desk < s.desks) × BeginsIn 8 (first_sight s.format next None tops) (next + 1) first.operations inside × TopsBegin s tops (next + 1 + length inside) ts others
+TopsBegin s tops next (t ∷ ts) plans = (first : Plan) × (inside : List Plan) × (others : List Plan) × (plans ≡ first ∷ inside ++ others) × (t.process ≡ next) × (t.desk < s.desks) × BeginsIn MAX_DEPTH (first_sight s.format next None tops) (next + 1) first.operations inside × TopsBegin s tops (next + 1 + length inside) ts others
 
 abbrev pub number_of : Top → ℕ
 number_of t = t.process
@@ -118,5 +119,5 @@ pub record IsWellFormed (w : Whole) : Type 0 where
   pub begins : TopsBegin w.settings (map number_of w.tops) 0 w.tops w.processes
   -- no desk begins with more processes than it has slots
   pub room : (desk : ℕ) → count_by (λ t. t.desk == desk) w.tops ≤ w.settings.slots
-  pub processes : length w.processes ≤ 4096
-  pub operations : operations_of w.processes ≤ 65536
+  pub processes : length w.processes ≤ MAX_PROCESSES
+  pub operations : operations_of w.processes ≤ MAX_OPERATIONS

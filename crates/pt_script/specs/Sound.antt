@@ -8,6 +8,7 @@ use Rattle.pt_script.specs.declared.values.Pattern.TheVariants.{From, ExitOf, Do
 use Rattle.pt_script.specs.declared.values.Operation.{Operation}
 use Rattle.pt_script.specs.declared.values.Operation.TheVariants.{Send, Receive, Check, Link, Unlink, Monitor, Demonitor, Alive, Signal, Spawn}
 use Rattle.pt_script.specs.Plans.{Plan, Whole}
+use Rattle.pt_script.specs.declared.limits.TheConstants.{MAX_BUDGET, MAX_DESKS, MAX_FORMAT, MAX_LANE, MAX_OPERATIONS, MAX_PROCESSES, MAX_SLOTS}
 
 abbrev pub IsBelow : ℕ → Option ℕ → Type 0
 IsBelow n None = Unit {0}
@@ -53,12 +54,12 @@ abbrev pub TopFits : ℕ → ℕ → Top → Type 0
 TopFits n desks t = (t.process < n) × (t.desk < desks)
 
 pub record InRange (s : Settings) : Type 0 where
-  pub format : (1 ≤ s.format) × (s.format ≤ 2)
-  pub desks : (1 ≤ s.desks) × (s.desks ≤ 64)
-  pub slots : (1 ≤ s.slots) × (s.slots ≤ 65536)
+  pub format : (1 ≤ s.format) × (s.format ≤ MAX_FORMAT)
+  pub desks : (1 ≤ s.desks) × (s.desks ≤ MAX_DESKS)
+  pub slots : (1 ≤ s.slots) × (s.slots ≤ MAX_SLOTS)
   pub top_version : (1 ≤ s.top_version) × (s.top_version ≤ 4294967295)
-  pub lane : (1 ≤ s.lane) × (s.lane ≤ 65536)
-  pub budget : (1 ≤ s.budget) × (s.budget ≤ 65536)
+  pub lane : (1 ≤ s.lane) × (s.lane ≤ MAX_LANE)
+  pub budget : (1 ≤ s.budget) × (s.budget ≤ MAX_BUDGET)
 
 abbrev pub operations_of : List Plan → ℕ
 operations_of plans = sum_by (λ p. length p.operations) plans
@@ -67,5 +68,5 @@ pub record IsSound (w : Whole) : Type 0 where
   pub settings : InRange w.settings
   pub tops : All (TopFits (length w.processes) w.settings.desks) w.tops
   pub lists : PlansFit (length w.processes) w.processes
-  pub processes : length w.processes ≤ 4096
-  pub operations : operations_of w.processes ≤ 65536
+  pub processes : length w.processes ≤ MAX_PROCESSES
+  pub operations : operations_of w.processes ≤ MAX_OPERATIONS

@@ -6,6 +6,7 @@ use Rattle.pt_script.specs.declared.fault.Place.{Place}
 use Rattle.pt_script.specs.declared.values.Operation.{Operation}
 use Rattle.pt_script.specs.declared.values.Operation.TheVariants.{Spawn}
 use Rattle.pt_script.specs.declared.values.Top.{Top}
+use Rattle.pt_script.specs.declared.limits.TheConstants.{MAX_NESTING}
 use Rattle.pt_script.specs.Plans.{Plan, Whole}
 use Rattle.pt_script.specs.Members.{required, list}
 use Rattle.pt_script.specs.Operations.{is_spawn}
@@ -29,9 +30,9 @@ processes_in (suc levels) d = d ∷ spawns_in (λ op. processes_in levels op) (o
 
 abbrev pub processes_of : List Data → List Data
 processes_of [] = []
-processes_of (d ∷ ds) = processes_in 63 d ++ processes_of ds
+processes_of (d ∷ ds) = processes_in MAX_NESTING d ++ processes_of ds
 
--- the processes of a script, in the order in which they begin, whatever is wrong in them; a text nests at most 63 of them
+-- the processes of a script, in the order in which they begin, whatever is wrong in them; no text nests more of them
 abbrev pub all_processes : Data → List Data
 all_processes d = processes_of (loose (required list (get (codes "processes") d)))
 

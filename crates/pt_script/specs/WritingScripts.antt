@@ -5,6 +5,7 @@ use Rattle.serde_json.specs.View.{items_of}
 use Rattle.pt_script.specs.declared.values.Top.{Top}
 use Rattle.pt_script.specs.declared.values.Operation.{Operation}
 use Rattle.pt_script.specs.declared.values.Operation.TheVariants.{Spawn}
+use Rattle.pt_script.specs.declared.limits.TheConstants.{MAX_DEPTH}
 use Rattle.pt_script.specs.Plans.{Plan, Whole}
 use Rattle.pt_script.specs.Sights.{is_parent}
 use Rattle.pt_script.specs.Writing.{Called, with, written}
@@ -44,7 +45,7 @@ list_written (suc levels) all parent own = map (operation_written (λ n. list_wr
 
 -- a process that the script begins with
 abbrev pub top_written : List Plan → Top → Data
-top_written all t = object (with (codes "desk") (number (unsigned t.desk)) (with (codes "name") (string (process_name t.process)) (with (codes "ops") (array (items_of (list_written 9 all None t.process))) (with (codes "trap") (boolean (plan_of all t.process).trap) no_members))))
+top_written all t = object (with (codes "desk") (number (unsigned t.desk)) (with (codes "name") (string (process_name t.process)) (with (codes "ops") (array (items_of (list_written (suc MAX_DEPTH) all None t.process))) (with (codes "trap") (boolean (plan_of all t.process).trap) no_members))))
 
 abbrev pub script_written : Whole → Data
 script_written w = object (with (codes "budget") (number (unsigned w.settings.budget)) (with (codes "desks") (number (unsigned w.settings.desks)) (with (codes "format") (number (unsigned w.settings.format)) (with (codes "lane") (number (unsigned w.settings.lane)) (with (codes "processes") (array (items_of (map (top_written w.processes) w.tops))) (with (codes "slots") (number (unsigned w.settings.slots)) (with (codes "top") (number (unsigned w.settings.top_version)) no_members)))))))

@@ -1,7 +1,9 @@
 //! The processes that a script begins with, counted by their desks.
 
 ghost use Rattle.std.specs.Prelude.{◌≡◌, ◌<◌, ◌==◌, [], ◌∷◌, ◌++◌, count_by, OnOk};
+ghost use Rattle.pt_script.specs.declared.limits.TheConstants.{MAX_DESKS, MAX_SLOTS};
 
+use crate::limits::MAX_DESKS;
 use crate::values::Top;
 use std::alloc::{AllocError, Global};
 use std::marker::Model;
@@ -10,18 +12,19 @@ use std::marker::Model;
 #[derive(Drop)]
 pub struct Crowd {
     tops: Vec<Top>,
-    counts: [u32; 64],
+    counts: [u32; MAX_DESKS],
 }
 
 impl Model for Crowd {
     ghost use Rattle.std.specs.Prelude.{◌≡◌, ◌<◌, ◌==◌, ℕ, List, count_by, slice_index};
     ghost use Rattle.pt_script.specs.declared.values.Top.{Top};
+    ghost use Rattle.pt_script.specs.declared.limits.TheConstants.{MAX_DESKS};
 
     ghost Value = { List Top };
 
     ghost view = { λ c. c.tops.items };
 
-    ghost invariant = { λ c. (k : ℕ) → k < 64 → slice_index c.counts k ≡ count_by (λ t. t.desk == k) c.tops.items };
+    ghost invariant = { λ c. (k : ℕ) → k < MAX_DESKS → slice_index c.counts k ≡ count_by (λ t. t.desk == k) c.tops.items };
 }
 
 impl Crowd {
@@ -31,13 +34,13 @@ impl Crowd {
     {
         Crowd {
             tops: Vec::new(alloc),
-            counts: [0; 64],
+            counts: [0; MAX_DESKS],
         }
     }
 
     /// How many processes the desk has.
     pub fn count(&self, desk: u8) -> u32
-        requires { desk < 64 }
+        requires { desk < MAX_DESKS }
         ensures { result ≡ count_by (λ t. t.desk == desk) self.now }
     {
         self.counts[desk as usize]
@@ -45,8 +48,8 @@ impl Crowd {
 
     /// One process more.
     pub fn push(&mut self, top: Top) -> Result<(), AllocError>
-        requires desk { top.desk < 64 }
-        requires room { count_by (λ t. t.desk == top.desk) self.old < 65536 }
+        requires desk { top.desk < MAX_DESKS }
+        requires room { count_by (λ t. t.desk == top.desk) self.old < MAX_SLOTS }
         ensures { OnOk result (self.new ≡ self.old ++ top ∷ []) }
     {
         self.tops.push(top)?;

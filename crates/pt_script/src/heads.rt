@@ -9,19 +9,18 @@ ghost use Rattle.pt_script.specs.Lists.{at_process};
 ghost use Rattle.pt_script.specs.Scopes.{naming};
 ghost use Rattle.pt_script.specs.Scripts as spec;
 ghost use Rattle.pt_script.specs.Steps.{Gives, each};
+ghost use Rattle.pt_script.specs.declared.limits.TheConstants.{MAX_DESKS, MAX_SLOTS};
 
 use crate::crowd::Crowd;
 use crate::fault::{Fault, ScriptError};
-use crate::lists::{MOST_PROCESSES, at_process};
+use crate::limits::{MAX_NESTING, MAX_PROCESSES};
+use crate::lists::at_process;
 use crate::members::{flag_or_false, known, list, text, whole_at};
 use crate::names::{Names, is_own_name};
 use crate::operation::is_spawn;
 use crate::values::{Settings, Top};
 use serde_json::Value;
 use std::alloc::{AllocError, Global};
-
-/// How deep spawns can nest in a text.
-const LEVELS: u32 = 63;
 
 /// A fault of the process with this number.
 pub fn of_process(fault: Fault, process: u32) -> ScriptError
@@ -118,7 +117,7 @@ impl<'a> Heads<'a> {
 
     /// Refuses a process more than the desk has slots.
     fn room(&self, settings: &Settings, desk: u8) -> Result<(), Fault>
-        requires { desk < 64 }
+        requires { desk < MAX_DESKS }
         ensures room { result ≡ spec.room settings.now self.now.tops desk }
         ensures left { OnOk result (count_by (λ t. t.desk == desk) self.now.tops < settings.now.slots) }
     {
@@ -131,9 +130,9 @@ impl<'a> Heads<'a> {
 
     #[tactic(auto, unfolding(crate::specs::Scripts::head))]
     fn head<'b>(&self, settings: &Settings, value: &'b Value) -> Result<Head<'b>, Fault>
-        requires { (1 ≤ settings.now.desks) × (settings.now.desks ≤ 64) }
+        requires { (1 ≤ settings.now.desks) × (settings.now.desks ≤ MAX_DESKS) }
         ensures head { Gives (λ h. record { name = h.name.now; desk = h.desk; trap = h.trap }) result (spec.head settings.now (spec.heads_view self.now) (view value.now)) }
-        ensures desk { IfOk result (λ h. h.desk < 64) }
+        ensures desk { IfOk result (λ h. h.desk < MAX_DESKS) }
         ensures room { IfOk result (λ h. count_by (λ t. t.desk == h.desk) self.now.tops < settings.now.slots) }
     {
         known(value, &["name", "desk", "trap", "ops"])?;
@@ -145,8 +144,8 @@ impl<'a> Heads<'a> {
     }
 
     fn add(&mut self, head: Head<'a>, value: &'a Value) -> Result<(), AllocError>
-        requires desk { head.desk < 64 }
-        requires room { count_by (λ t. t.desk == head.desk) self.old.tops < 65536 }
+        requires desk { head.desk < MAX_DESKS }
+        requires room { count_by (λ t. t.desk == head.desk) self.old.tops < MAX_SLOTS }
         ensures { OnOk result (spec.heads_view self.new ≡ spec.with_head (spec.heads_view self.old) (record { name = head.entry.name.now; desk = head.entry.desk; trap = head.entry.trap }) (view value.now)) }
     {
         let next = self.next;
@@ -159,18 +158,18 @@ impl<'a> Heads<'a> {
             process: next,
             desk: head.desk,
         })?;
-        self.next = next.saturating_add(begun(value, LEVELS));
+        self.next = next.saturating_add(begun(value, MAX_NESTING));
         Ok(())
     }
 
     #[tactic(auto, unfolding(crate::specs::Scripts::next_head))]
     fn read(&mut self, settings: &Settings, value: &'a Value) -> Result<(), ScriptError>
-        requires desks { (1 ≤ settings.now.desks) × (settings.now.desks ≤ 64) }
-        requires slots { settings.now.slots ≤ 65536 }
+        requires desks { (1 ≤ settings.now.desks) × (settings.now.desks ≤ MAX_DESKS) }
+        requires slots { settings.now.slots ≤ MAX_SLOTS }
         ensures { spec.Becomes (spec.heads_view self.new) result (spec.next_head settings.now (spec.heads_view self.old) (view value.now)) }
     {
         let number = self.next;
-        if MOST_PROCESSES <= number as usize {
+        if MAX_PROCESSES <= number as usize {
             return Err(of_process(Fault::Bounds, number));
         }
         let head = self
@@ -186,8 +185,8 @@ impl<'a> Heads<'a> {
         settings: &Settings,
         values: &'a [Value],
     ) -> Result<Heads<'a>, ScriptError>
-        requires desks { (1 ≤ settings.now.desks) × (settings.now.desks ≤ 64) }
-        requires slots { settings.now.slots ≤ 65536 }
+        requires desks { (1 ≤ settings.now.desks) × (settings.now.desks ≤ MAX_DESKS) }
+        requires slots { settings.now.slots ≤ MAX_SLOTS }
         ensures { spec.ReadsHeads result (each (spec.next_head settings.now) spec.no_heads (map view values.now)) }
     {
         let mut heads = Heads::new(alloc);

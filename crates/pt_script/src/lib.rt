@@ -11,6 +11,7 @@ mod draft;
 mod fault;
 mod heads;
 pub mod laws;
+pub mod limits;
 mod lists;
 mod members;
 mod names;

@@ -4,18 +4,17 @@ ghost use Rattle.std.specs.Prelude.{◌≡◌, ◌≤◌, ◌<◌, ◌+◌, map,
 ghost use Rattle.serde_json.specs.View.{view};
 ghost use Rattle.pt_script.specs.Lists as spec;
 ghost use Rattle.pt_script.specs.Scopes.{scope_view, naming};
+ghost use Rattle.pt_script.specs.declared.limits.TheConstants.{MAX_OPERATIONS, MAX_PROCESSES};
 
 use crate::draft::Draft;
 use crate::fault::{Fault, Place, ScriptError};
+use crate::limits::{MAX_OPERATIONS, MAX_PROCESSES};
 use crate::names::Names;
 use crate::operation::{Scope, is_spawn, op_of, plain, spawned_by, tagged};
 use crate::script::Process;
 use crate::values::Operation;
 use serde_json::Value;
 use std::alloc::Global;
-
-/// How many processes a script has at most.
-pub const MOST_PROCESSES: usize = 4096;
 
 /// The place of a process.
 pub fn at_process(process: u32) -> Place
@@ -40,13 +39,13 @@ fn at_operation(process: u32, op: u32) -> Place
 fn limits(spawns: bool, place: Place, levels: u32, next: u32, seen: u32) -> Result<(), ScriptError>
     ensures { result ≡ spec.limits spawns place levels next seen }
 {
-    if spawns && 4096 <= next {
+    if spawns && MAX_PROCESSES <= next as usize {
         return Err(ScriptError::Refused {
             fault: Fault::Bounds,
             place: at_process(next),
         });
     }
-    if 65_536 <= seen || (spawns && levels == 0) {
+    if MAX_OPERATIONS <= seen || (spawns && levels == 0) {
         return Err(ScriptError::Refused {
             fault: Fault::Bounds,
             place,
@@ -67,7 +66,7 @@ pub fn read_process<'a>(
     trap: bool,
     list: &'a [Value],
 ) -> Result<(), ScriptError>
-    requires { vec_len draft.old.processes < 4096 }
+    requires { vec_len draft.old.processes < MAX_PROCESSES }
     ensures seen { OnOk result (draft.old.seen ≤ draft.new.seen) }
     ensures read { spec.ReadsProcess trap draft.old.processes.items draft.new.processes.items draft.new.seen result (spec.list_at levels (spec.fresh format (vec_len draft.old.processes) parent (naming tops.now)) (vec_len draft.old.processes + 1) draft.old.seen (map view list.now)) }
 {
@@ -145,7 +144,7 @@ fn read_spawn<'a>(
     place: Place,
     value: &'a Value,
 ) -> Result<Operation, ScriptError>
-    requires { vec_len draft.old.processes < 4096 }
+    requires { vec_len draft.old.processes < MAX_PROCESSES }
     ensures read { spec.ReadsStep draft.old.processes.items draft.new.processes.items draft.new.seen (scope_view scope.new) result (spec.spawned (λ t n k es. spec.list_from levels 0 t n k es) place (scope_view scope.old) (vec_len draft.old.processes) draft.old.seen (view value.now)) }
     ensures seen { OnOk result (draft.old.seen ≤ draft.new.seen) }
     ensures made { OnOk result (scope.new.made ≡ scope.old.made) }
@@ -175,7 +174,7 @@ fn read_simple<'a>(
     place: Place,
     value: &'a Value,
 ) -> Result<Operation, ScriptError>
-    requires { scope.old.made < 65536 }
+    requires { scope.old.made < MAX_OPERATIONS }
     ensures read { spec.ReadsSimple place (scope_view scope.new) result (spec.simple (scope_view scope.old) (view value.now)) }
     ensures made { OnOk result (scope.new.made ≤ scope.old.made + 1) }
 {

@@ -6,6 +6,7 @@ ghost use Rattle.std.specs.List.{list_all};
 ghost use Rattle.std.specs.Map.{update};
 ghost use Rattle.pt_script.specs.Scopes as spec;
 
+use crate::limits::MAX_NAME;
 use std::alloc::{AllocError, Global};
 use std::collections::HashMap;
 
@@ -46,7 +47,7 @@ pub fn is_name(text: &str) -> bool
     ensures { result ≡ spec.is_name text.now }
 {
     let bytes = text.as_bytes();
-    if 0 < bytes.len() && bytes.len() <= 32 {
+    if 0 < bytes.len() && bytes.len() <= MAX_NAME {
         begins_well(bytes)
     } else {
         false

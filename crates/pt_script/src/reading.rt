@@ -7,22 +7,22 @@ ghost use Rattle.pt_script.specs.Lists.{at_script};
 ghost use Rattle.pt_script.specs.Scopes.{naming};
 ghost use Rattle.pt_script.specs.Scripts as spec;
 ghost use Rattle.pt_script.specs.Steps.{each};
+ghost use Rattle.pt_script.specs.declared.limits.TheConstants.{MAX_DESKS, MAX_SLOTS};
 
 use crate::draft::Draft;
 use crate::fault::{Fault, Place, ScriptError};
 use crate::heads::{Heads, Pending, of_process};
-use crate::lists::{MOST_PROCESSES, read_process};
+use crate::limits::{
+    DEFAULT_BUDGET, DEFAULT_LANE, DEFAULT_SLOTS, MAX_BUDGET, MAX_BYTES, MAX_DEPTH, MAX_DESKS,
+    MAX_FORMAT, MAX_LANE, MAX_PROCESSES, MAX_SLOTS,
+};
+use crate::lists::read_process;
 use crate::members::{known, list, whole_at, whole_or};
 use crate::names::Names;
 use crate::script::{Process, Script};
 use crate::values::Settings;
 use serde_json::Value;
 use std::alloc::Global;
-
-/// How many bytes a script's text has at most.
-const MOST_BYTES: usize = 1_048_576;
-/// How many spawns stand around an operation at most.
-const DEEPEST: u32 = 8;
 
 /// A fault of the script as a whole.
 fn of_script(fault: Fault) -> ScriptError
@@ -38,8 +38,8 @@ fn of_script(fault: Fault) -> ScriptError
 #[tactic(auto, unfolding(crate::specs::Scripts::settings))]
 fn settings_of(value: &Value) -> Result<Settings, Fault>
     ensures value { result ≡ spec.settings (view value.now) }
-    ensures desks { IfOk result (λ s. (1 ≤ s.desks) × (s.desks ≤ 64)) }
-    ensures slots { IfOk result (λ s. s.slots ≤ 65536) }
+    ensures desks { IfOk result (λ s. (1 ≤ s.desks) × (s.desks ≤ MAX_DESKS)) }
+    ensures slots { IfOk result (λ s. s.slots ≤ MAX_SLOTS) }
 {
     known(
         value,
@@ -53,12 +53,12 @@ fn settings_of(value: &Value) -> Result<Settings, Fault>
             "processes",
         ],
     )?;
-    let format = whole_at(value.get("format"), 1, 2)? as u8;
-    let desks = whole_at(value.get("desks"), 1, 64)? as u8;
-    let slots = whole_or(value.get("slots"), 1024, 1, 65_536)? as u32;
+    let format = whole_at(value.get("format"), 1, MAX_FORMAT)? as u8;
+    let desks = whole_at(value.get("desks"), 1, MAX_DESKS as u64)? as u8;
+    let slots = whole_or(value.get("slots"), DEFAULT_SLOTS, 1, MAX_SLOTS)? as u32;
     let top_version = whole_or(value.get("top"), 4_294_967_295, 1, 4_294_967_295)? as u32;
-    let lane = whole_or(value.get("lane"), 64, 1, 65_536)? as u32;
-    let budget = whole_or(value.get("budget"), 16, 1, 65_536)? as u32;
+    let lane = whole_or(value.get("lane"), DEFAULT_LANE, 1, MAX_LANE)? as u32;
+    let budget = whole_or(value.get("budget"), DEFAULT_BUDGET, 1, MAX_BUDGET)? as u32;
     Ok(Settings {
         format,
         desks,
@@ -81,7 +81,7 @@ fn read_pending<'a>(
     ensures { spec.Becomes (record { processes = draft.new.processes.items; seen = draft.new.seen }) result (spec.next_list format (naming names.now) (record { processes = draft.old.processes.items; seen = draft.old.seen }) (record { trap = pending.entry.trap; value = view pending.entry.value.now })) }
 {
     let next = draft.processes.len();
-    if MOST_PROCESSES <= next {
+    if MAX_PROCESSES <= next {
         return Err(of_process(Fault::Bounds, next as u32));
     }
     let number = next as u32;
@@ -92,7 +92,7 @@ fn read_pending<'a>(
         names,
         format,
         None,
-        DEEPEST,
+        MAX_DEPTH,
         pending.trap,
         ops,
     )
@@ -138,7 +138,7 @@ impl Script {
     pub fn from_bytes(alloc: Global, bytes: &[u8]) -> Result<Script, ScriptError>
         ensures { spec.Reads result (spec.reading bytes.now) }
     {
-        if MOST_BYTES < bytes.len() {
+        if MAX_BYTES < bytes.len() {
             return Err(of_script(Fault::Bounds));
         }
         match Value::from_slice(alloc, bytes) {

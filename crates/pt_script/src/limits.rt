@@ -1,0 +1,46 @@
+//! The limits of the format, and what stands where a setting is missing.
+//!
+//! Reading a script takes no node, so the limits of a node's settings are the format's own here: where they equal those
+//! of a node, which `pt_runner::config` proves that they fit, they repeat them.
+
+/// The most bytes of a script's text.
+pub const MAX_BYTES: usize = 1_048_576;
+
+/// The last format.
+pub const MAX_FORMAT: u64 = 2;
+
+/// The most desks of a script's node.
+pub const MAX_DESKS: usize = 64;
+
+/// The most slots of a desk.
+pub const MAX_SLOTS: u64 = 65_536;
+
+/// How many slots a desk has where a script does not say it.
+pub const DEFAULT_SLOTS: u64 = 1024;
+
+/// The most letters that a lane holds.
+pub const MAX_LANE: u64 = 65_536;
+
+/// How many letters a lane holds where a script does not say it.
+pub const DEFAULT_LANE: u64 = 64;
+
+/// The most letters that a turn handles.
+pub const MAX_BUDGET: u64 = 65_536;
+
+/// How many letters a turn handles where a script does not say it.
+pub const DEFAULT_BUDGET: u64 = 16;
+
+/// The most processes of a script.
+pub const MAX_PROCESSES: usize = 4096;
+
+/// The most operations of all processes of a script.
+pub const MAX_OPERATIONS: u32 = 65_536;
+
+/// The most spawns around an operation.
+pub const MAX_DEPTH: u32 = 8;
+
+/// The most spawns around a value, in whatever text is JSON: no text nests deeper.
+pub const MAX_NESTING: u32 = 63;
+
+/// The most bytes of a name or a tag.
+pub const MAX_NAME: usize = 32;
