@@ -3,3 +3,4 @@ pub mod Arrows
 pub mod Rows
 pub mod Receipts
 pub mod Answering
+pub mod Legal

@@ -13,7 +13,7 @@ use Rattle.pt_events.specs.History as history
 use Rattle.pt_events.specs.History.{Past, Phase, unborn, living, ended, life, after, touches, sent_by, linked, is_the, newborn, while_living, live_or_end, leaves, got_sends, left_sends}
 use Rattle.pt_events.specs.declared.event.Stamped.{Stamped}
 use Rattle.pt_chart.specs.declared.layout.Sending.{Sending}
-use Rattle.pt_chart.specs.Following.{Followed, followed, live_state, lives_on, gets, begins, changes, seen, sends, ends, got_sent, got_end, left_sent, left_end, OpensAnew, noted}
+use Rattle.pt_chart.specs.Following.{Followed, followed, live_state, lives_on, gets, begins, changes, seen, sends, ends, got_sent, left_sent, OpensAnew, noted}
 use Rattle.pt_chart.specs.Chart.{sent_of, end_of, end_between, in_row, past_of, MonitorsAnew}
 use Rattle.pt_chart.proofs.Rows.{past_more}
 

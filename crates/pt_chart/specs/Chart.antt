@@ -1,5 +1,5 @@
 -- What a chart of a history shows. A history stands here oldest first; rows and columns are numbered from 0.
-use Rattle.std.specs.Prelude.{◌≡◌, ℕ, ◌+◌, Bool, true, false, cond, ◌&&◌, List, [], ◌∷◌, ◌++◌, length, map, fold, position, unwrap_or, count_by, slice_get, Option, Some, None, All, ⊤}
+use Rattle.std.specs.Prelude.{◌≡◌, ℕ, ◌+◌, Bool, false, cond, ◌&&◌, List, [], ◌∷◌, ◌++◌, length, map, fold, position, unwrap_or, count_by, slice_get, reverse, Option, Some, None, All, ⊤}
 use Rattle.std.specs.List.{list_any}
 use Rattle.pt_signal.specs.declared.pid.Pid.{Pid}
 use Rattle.pt_signal.specs.declared.reason.Reason.{Reason}
@@ -8,7 +8,8 @@ use Rattle.pt_signal.specs.Process.{Sent}
 use Rattle.pt_events.specs.declared.event.Event.{Event}
 use Rattle.pt_events.specs.declared.event.Event.TheVariants.{Born, Said, Came, Took, Flag, Left}
 use Rattle.pt_events.specs.declared.event.Stamped.{Stamped}
-use Rattle.pt_events.specs.History.{Past, Phase, living, ended, life, touches, sent_by}
+use Rattle.pt_events.specs.History.{Past, Phase, living, ended, life, touches, sent_by, IsLegal}
+use Rattle.pt_events.specs.Journal.{events}
 use Rattle.pt_chart.specs.declared.layout.Sending.{Sending}
 use Rattle.pt_chart.specs.declared.layout.Arrow.{Arrow}
 use Rattle.pt_chart.specs.declared.layout.Column.{Column}
@@ -69,6 +70,10 @@ abbrev pub end_of : Past → Pid → Option (ℕ × Reason)
 end_of [] p = None
 end_of (e ∷ past) p = end_between (life [] past p) (life [] (e ∷ past) p) (length past) (end_of past p)
 
+-- the history is legal, as that of every gathered node
+abbrev pub IsLegalHistory : List Stamped → Type 0
+IsLegalHistory history = IsLegal [] (events (reverse history))
+
 -- p opens no monitor under a reference that it has open, as in every legal history
 abbrev pub MonitorsAnew : Past → Pid → Type 0
 MonitorsAnew [] p = ⊤
@@ -107,10 +112,14 @@ arrows events ps a earlier (l ∷ later) = arrow events ps a earlier l ∷ arrow
 
 -- the whole -------------------------------------------------------------------------------------------
 
+-- its end and its arrows are those of the history
+pub record ShowsLife (events : List Stamped) (c : Column) : Type 0 where
+  pub ended : c.ended ≡ end_of (past_of events) c.pid
+  pub arrows : c.arrows.items ≡ arrows events (everyone events) c.pid [] (sent_of (past_of events) c.pid)
+
 pub record IsColumn (events : List Stamped) (c : Column) : Type 0 where
   pub born : c.born ≡ position (λ s. is_birth c.pid s.event) events
-  pub ended : MonitorsAnew (past_of events) c.pid → c.ended ≡ end_of (past_of events) c.pid
-  pub arrows : MonitorsAnew (past_of events) c.pid → c.arrows.items ≡ arrows events (everyone events) c.pid [] (sent_of (past_of events) c.pid)
+  pub shows : MonitorsAnew (past_of events) c.pid → ShowsLife events c
 
 pub record IsLayout (events : List Stamped) (l : Layout) : Type 0 where
   pub pids : map (λ c. c.pid) l.columns.items ≡ everyone events

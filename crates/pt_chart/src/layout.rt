@@ -1,9 +1,9 @@
 //! Where the parts of a chart stand: its columns, its rows and the arrows between them, as numbers.
 
-ghost use Rattle.std.specs.Prelude.{◌≡◌, [], IfOk, OnOk, position, slice_get};
+ghost use Rattle.std.specs.Prelude.{◌≡◌, [], All, IfOk, OnOk, position, slice_get};
 ghost use Rattle.std.specs.List.{list_any};
 ghost use Rattle.pt_signal.specs.Values.{same_pid};
-ghost use Rattle.pt_chart.specs.Chart.{IsLayout, IsColumn, everyone, join, joined, named, place, receipts, is_receipt, is_birth, arrow, arrows};
+ghost use Rattle.pt_chart.specs.Chart.{IsLayout, IsColumn, IsLegalHistory, ShowsLife, everyone, join, joined, named, place, receipts, is_receipt, is_birth, arrow, arrows};
 ghost use Rattle.pt_chart.specs.Following.{noted};
 
 use crate::follower::Follower;
@@ -56,8 +56,12 @@ pub struct Layout {
 /// Each process that is named is a column, in order of first appearance, and each event a row, in the order of the
 /// history. An arrow goes from the row in which a letter is sent to the row in which it came: of two processes, the
 /// nth letter from the one to the other is the nth that comes.
+///
+/// In a legal history, as the one of a gathered node is, every end and every arrow stands so. In any other one those of
+/// a process do that opens no monitor under a reference that it has open.
 pub fn lay_out(alloc: Global, events: &[Stamped]) -> Result<Layout, AllocError>
-    ensures { IfOk result (λ l. IsLayout events.now l) }
+    ensures layout { IfOk result (λ l. IsLayout events.now l) }
+    ensures legal { IsLegalHistory events.now → IfOk result (λ l. All (λ c. ShowsLife events.now c) l.columns.items) }
 {
     let named = pids_of(alloc, events)?;
     let pids = named.as_slice();

@@ -26,8 +26,10 @@ returns-clause-column c =
     subst (λ es. Traces (past_of es) c.args.pid c.loop-row.follower c.loop-row.sent.items c.loop-row.ended) all (c.loop-row.invariant.traces (subst (λ es. MonitorsAnew (past_of es) c.args.pid) (sym all) anew)) in
     λ same. record {
       born = c.birth_row-born.ensures;
-      ended = λ anew. (traced anew).end;
-      arrows = λ anew.
-          c.in_ok-arrows.ensures ∙ ap (λ ps. arrows events ps c.args.pid [] c.as_slice.result.now) same
-          ∙ ap (arrows events (everyone events) c.args.pid []) (c.as_slice.ensures.value ∙ (traced anew).sent);
+      shows = λ anew. record {
+        ended = (traced anew).end;
+        arrows =
+            c.in_ok-arrows.ensures ∙ ap (λ ps. arrows events ps c.args.pid [] c.as_slice.result.now) same
+            ∙ ap (arrows events (everyone events) c.args.pid []) (c.as_slice.ensures.value ∙ (traced anew).sent);
+      };
     }

@@ -6,6 +6,7 @@ use Rattle.pt_signal.specs.declared.pid.Pid.{Pid}
 use Rattle.pt_chart.specs.declared.layout.Column.{Column}
 use Rattle.pt_chart.specs.Chart.{IsColumn}
 use Rattle.pt_chart.proofs.Rows.{stands_next}
+use Rattle.pt_chart.proofs.Legal.{lives_shown}
 use Rattle.pt_chart.proofs.layout.lay_out.Goals as goal
 
 abbrev nobody : Pid
@@ -24,9 +25,12 @@ loop-place-preserved c = record {
   room = search rules;
 }
 
-pub returns : goal.returns
-returns c = record {
+pub returns-clause-layout : goal.returns-clause-layout
+returns-clause-layout c = record {
   pids = c.loop-place.invariant.pids ∙ take_all c.loop-place.place c.as_slice-pids.result.now (omega arith) ∙ c.as_slice-pids.ensures.value ∙ c.in_ok-named.ensures;
   columns = c.loop-place.invariant.columns;
   rows = search rules;
 }
+
+pub returns-clause-legal : goal.returns-clause-legal
+returns-clause-legal c = λ legal. lives_shown c.args.events.now c.loop-place.columns.items legal c.loop-place.invariant.columns
