@@ -1,13 +1,15 @@
 -- Births one after the other.
-use Rattle.std.proofs.Common.{◌≡◌, ◌≢◌, ⊎_elim, ℕ, zero, suc, ◌+◌, ◌<◌, List, [], ◌∷◌, ◌++◌, Bool, true, false, cond, length, length-append, map, get_or, set, take, None, Result, Ok, Err, refl, ap, sym, subst, ◌∙◌, append-nil, arith}
-use Rattle.std.specs.Prelude.{◌==◌, reverse, Vec}
+use Rattle.std.proofs.Common.{◌≡◌, ◌≢◌, ⊎_elim, ℕ, zero, suc, ◌+◌, ◌<◌, List, [], ◌∷◌, ◌++◌, Bool, true, false, cond, length, length-append, map, get_or, set, take, Option, Some, None, Result, Ok, Err, refl, ap, sym, subst, ◌∙◌, append-nil, arith}
+use Rattle.std.specs.Prelude.{◌==◌, ◌≤◌, filter, fold, reverse, Vec}
 use Rattle.pt_script.specs.Sound.{IsSound, TopFits}
-use Rattle.pt_script.specs.Plans.{Whole}
+use Rattle.pt_script.specs.Plans.{Plan, Whole}
 use Rattle.std.specs.List.{All}
 use Rattle.std.proofs.lemmas.Bool.{cases_eq, eqb-true, eq-eqb}
-use Rattle.std.proofs.lemmas.List.{take_more, get_or-map, map-append, reverse-append, get_or-set_same, get_or-set_other, length-set, get_or_default}
+use Rattle.std.proofs.lemmas.List.{take_more, take_all, get_or-map, map-append, reverse-append, get_or-set_same, get_or-set_other, length-set, get_or_default}
 use Rattle.std.proofs.lemmas.List.Elements.{filter-append, All-head, All-tail}
-use Rattle.pt_carrier.proofs.Lists.{map-set_same, each_push}
+use Rattle.std.proofs.lemmas.List.Sums.{fold-append}
+use Rattle.std.proofs.lemmas.Slice.Zip.{length-zip, get_or-zip}
+use Rattle.pt_carrier.proofs.Lists.{map-set_same}
 use Rattle.pt_signal.specs.declared.pid.Pid.{Pid}
 use Rattle.pt_events.specs.declared.event.Event.{Event}
 use Rattle.pt_shard.specs.declared.config.Config.{Config}
@@ -19,9 +21,10 @@ use Rattle.pt_desk.specs.DeskState.{DeskState, GoesOn, place}
 use Rattle.pt_node.specs.Desks.{AreDesksOf}
 use Rattle.pt_node.specs.Opening.{AreFresh}
 use Rattle.pt_script.specs.declared.values.Top.{Top}
+use Rattle.pt_runner.specs.declared.runner.Actor.{Actor}
 use Rattle.pt_runner.specs.declared.runner.Runner.{Runner}
-use Rattle.pt_runner.specs.Stepping.{processes_of}
-use Rattle.pt_runner.specs.Starting.{on, birth, config_of, Begins, AreRunners, Bears as BearsAll}
+use Rattle.pt_runner.specs.Acting.{Acting, acting, table, newborn}
+use Rattle.pt_runner.specs.Starting.{on, birth, config_of, Begins, IsRunnerOf, named, put_pid, numbered, starter, starters, is_on, Bears as BearsAll}
 
 -- the desks of a node -----------------------------------------------------------------
 
@@ -159,13 +162,86 @@ not_born old new Myself b = absurd b
 
 -- runners --------------------------------------------------------------------------------------
 
-pub runners_none : (born : List Pid) → AreRunners born 0 []
-runners_none born = record { counted = refl; each = λ d r l. absurd (omega (arith, l)) }
+-- the top t and the pid p stand at this place of their lists
+pub record AreAt (w : Whole) (born : List Pid) (i : ℕ) (t : Top) (p : Pid) : Type 0 where
+  pub few : i < length w.tops
+  pub within : i < length born
+  pub top : t ≡ get_or w.tops i t
+  pub pid : p ≡ get_or born i p
 
-pub runners_more : (born : List Pid) (n : ℕ) (rs : List Runner) (r : Runner) → AreRunners born n rs → processes_of r ≡ on n born → AreRunners born (n + 1) (rs ++ r ∷ [])
-runners_more born n rs r are is = record {
-  counted = length-append rs (r ∷ []) ∙ ap (λ k. k + 1) are.counted;
-  each = λ d s l. each_push (λ k (t : Runner). processes_of t ≡ on k born) rs r s n are.counted (λ k m. are.each k s m) is d l;
+pub are_at : (w : Whole) (born : List Pid) (tops : List Top) (i : ℕ) (none : Top) (nobody : Pid) → tops ≡ w.tops → length born ≤ length w.tops → i < length born → AreAt w born i (get_or tops i none) (get_or born i nobody)
+are_at w born tops i none nobody same enough within =
+    let few : i < length w.tops = omega (arith, enough, within) in
+    record {
+      few = few;
+      within = within;
+      top = ap (λ (ts : List Top). get_or ts i none) same ∙ sym (get_or_default w.tops i (get_or tops i none) none few);
+      pid = sym (get_or_default born i (get_or born i nobody) nobody within);
+    }
+
+-- one more of the list, with its pid
+named_more : (w : Whole) (born : List Pid) (i : ℕ) (t : Top) (p : Pid) → AreAt w born i t p → take (i + 1) (named w born) ≡ take i (named w born) ++ (t, p) ∷ []
+named_more w born i t p here =
+    take_more (named w born) i (t, p) (omega (arith, length-zip w.tops born, here.few, here.within))
+    ∙ ap (λ (one : Top × Pid). take i (named w born) ++ one ∷ [])
+    (get_or-zip w.tops born i (t, p) here.few here.within ∙ ap (λ (u : Top). (u, get_or born i p)) (sym here.top) ∙ ap (λ (q : Pid). (t, q)) (sym here.pid))
+
+pub named_all : (w : Whole) (born : List Pid) (i : ℕ) → length born ≤ i → take i (named w born) ≡ named w born
+named_all w born i all = take_all i (named w born) (omega (arith, length-zip w.tops born, all))
+
+-- its number gets its pid
+pub numbered_more : (w : Whole) (born : List Pid) (i : ℕ) (t : Top) (p : Pid) (start pids : List (Option Pid)) → AreAt w born i t p
+    → pids ≡ fold put_pid start (take i (named w born)) → set pids t.process (Some p) ≡ fold put_pid start (take (i + 1) (named w born))
+numbered_more w born i t p start pids here so_far =
+    ap (λ (all : List (Option Pid)). set all t.process (Some p)) so_far
+    ∙ sym (fold-append put_pid start (take i (named w born)) ((t, p) ∷ []))
+    ∙ ap (fold put_pid start) (sym (named_more w born i t p here))
+
+-- where it is of the desk, it is a starter there
+one_starter : (plans : List Plan) (d : ℕ) (one : Top × Pid) (b : Bool) → (one.1.shard == d) ≡ b → starters plans d (one ∷ []) ≡ cond b (starter plans one ∷ []) []
+one_starter plans d one true h = rw h refl
+one_starter plans d one false h = rw h refl
+
+starters_more : (plans : List Plan) (d : ℕ) (ones : List (Top × Pid)) (one : Top × Pid) → starters plans d (ones ++ one ∷ []) ≡ starters plans d ones ++ starters plans d (one ∷ [])
+starters_more plans d ones one = ap (map (starter plans)) (filter-append (is_on d) ones (one ∷ [])) ∙ map-append (starter plans) (filter (is_on d) ones) (filter (is_on d) (one ∷ []))
+
+-- the actors are those of the first i of the list that are of desk d
+pub record Listed (w : Whole) (born : List Pid) (d i : ℕ) (actors : List Actor) : Type 0 where
+  pub processes : map (λ (a : Actor). a.pid) actors ≡ on d (take i born)
+  pub starters : map acting actors ≡ starters w.processes d (take i (named w born))
+
+module _ (w : Whole) (born : List Pid) (d i : ℕ) (t : Top) (p : Pid) (actors : List Actor) (here : AreAt w born i t p) (listed : Listed w born d i actors) where
+  ons : (b : Bool) → (p.shard == d) ≡ b → on d (take (i + 1) born) ≡ on d (take i born) ++ cond b (p ∷ []) []
+  ons b h = ap (on d) (take_more born i p here.within ∙ ap (λ (q : Pid). take i born ++ q ∷ []) (sym here.pid)) ∙ on_more d (take i born) p b h
+
+  lists : (b : Bool) → (p.shard == d) ≡ b → starters w.processes d (take (i + 1) (named w born)) ≡ starters w.processes d (take i (named w born)) ++ cond b (starter w.processes (t, p) ∷ []) []
+  lists b h =
+      ap (starters w.processes d) (named_more w born i t p here) ∙ starters_more w.processes d (take i (named w born)) (t, p)
+      ∙ ap (λ (xs : List Acting). starters w.processes d (take i (named w born)) ++ xs) (one_starter w.processes d (t, p) b h)
+
+  pub listed_here : (a : Actor) → p.shard ≡ d → a.pid ≡ p → acting a ≡ newborn w.processes t.process p → Listed w born d (i + 1) (actors ++ a ∷ [])
+  listed_here a same pid new = record {
+    processes = map-append (λ (x : Actor). x.pid) actors (a ∷ []) ∙ ap (λ (ps : List Pid). ps ++ a.pid ∷ []) listed.processes ∙ ap (λ (q : Pid). on d (take i born) ++ q ∷ []) pid ∙ sym (ons true (eq-eqb p.shard d same));
+    starters = map-append acting actors (a ∷ []) ∙ ap (λ (xs : List Acting). xs ++ acting a ∷ []) listed.starters ∙ ap (λ (x : Acting). starters w.processes d (take i (named w born)) ++ x ∷ []) new ∙ sym (lists true (eq-eqb p.shard d same));
+  }
+
+  pub listed_beside : p.shard ≢ d → Listed w born d (i + 1) actors
+  listed_beside apart =
+      let no : (p.shard == d) ≡ false = unequal p.shard d apart (p.shard == d) refl in
+      record {
+        processes = listed.processes ∙ sym (ons false no ∙ append-nil (on d (take i born)));
+        starters = listed.starters ∙ sym (lists false no ∙ append-nil (starters w.processes d (take i (named w born))));
+      }
+
+-- the runner that has all that were listed
+pub runner_made : (w : Whole) (born : List Pid) (d i : ℕ) (actors : List Actor) (pids : List (Option Pid)) (r : Runner) → length born ≤ i → Listed w born d i actors → pids ≡ numbered w born
+    → r.script.now ≡ w → r.actors.items ≡ actors → table r ≡ record { plans = w.processes; pids = pids; actors = map acting actors } → IsRunnerOf w born d r
+runner_made w born d i actors pids r all listed numbers script is made = record {
+  script = script;
+  processes = ap (map (λ (a : Actor). a.pid)) is ∙ listed.processes ∙ ap (on d) (take_all i born all);
+  table =
+      made ∙ ap (λ (ps : List (Option Pid)). record { plans = w.processes; pids = ps; actors = map acting actors }) numbers
+      ∙ ap (λ (xs : List Acting). record { plans = w.processes; pids = numbered w born; actors = xs }) (listed.starters ∙ ap (starters w.processes d) (named_all w born i all));
 }
 
 -- a refusal leaves those that were born before

@@ -1,6 +1,6 @@
 -- How the work of a script begins.
-use Rattle.std.specs.Prelude.{◌≡◌, ℕ, ◌<◌, ◌≤◌, ◌==◌, List, length, map, reverse, take, slice_index_or, None, Result, Ok, Err, Vec}
-use Rattle.std.specs.List.{filter}
+use Rattle.std.specs.Prelude.{◌≡◌, ℕ, ◌<◌, ◌≤◌, ◌==◌, Bool, List, length, map, fold, reverse, replicate, take, slice_index_or, slice_set, Option, Some, None, Result, Ok, Err, Vec}
+use Rattle.std.specs.List.{filter, zip}
 use Rattle.pt_signal.specs.declared.pid.Pid.{Pid}
 use Rattle.pt_events.specs.declared.event.Event.{Event}
 use Rattle.pt_events.specs.declared.event.Event.TheVariants.{Born}
@@ -8,9 +8,11 @@ use Rattle.pt_shard.specs.declared.config.Config.{Config}
 use Rattle.pt_shard.specs.declared.fault.Fault.{Fault}
 use Rattle.pt_shard.specs.ShardState.{past}
 use Rattle.pt_desk.specs.DeskState.{DeskState}
+use Rattle.pt_script.specs.Plans.{Plan, Whole}
 use Rattle.pt_script.specs.declared.values.Settings.{Settings}
 use Rattle.pt_script.specs.declared.values.Top.{Top}
 use Rattle.pt_runner.specs.declared.runner.Runner.{Runner}
+use Rattle.pt_runner.specs.Acting.{Acting, table, newborn}
 use Rattle.pt_runner.specs.Stepping.{processes_of}
 
 -- the settings of a script's node: its clocks begin at 0
@@ -32,16 +34,43 @@ pub record Begins (tops : List Top) (count : ℕ) (born : List Pid) (desks : Lis
   pub placed : map (λ (p : Pid). p.shard) born ≡ map (λ (t : Top). t.desk) (take count tops)
   pub pasts : (d : ℕ) (x : DeskState) → d < length desks → past (slice_index_or desks d x).shard ≡ reverse (map birth (on d born))
 
--- a runner for each of so many desks, which has those that are of its desk
-pub record AreRunners (born : List Pid) (desks : ℕ) (runners : List Runner) : Type 0 where
-  pub counted : length runners ≡ desks
-  pub each : (d : ℕ) (r : Runner) → d < desks → processes_of (slice_index_or runners d r) ≡ on d born
+-- the processes of the script's list, each with its pid
+abbrev pub named : Whole → List Pid → List (Top × Pid)
+named w born = zip w.tops born
 
--- all of them are born, and each desk's runner has those that are of it; where a birth is refused, those before it stay
-abbrev pub Starts : {A : Type 0} → List Top → List DeskState → Result (Vec Runner A) Fault → Type 0
-Starts tops desks (Ok runners) =
-    (born : List Pid) × Begins tops (length tops) born desks × AreRunners born (length desks) runners.items
-Starts tops desks (Err fault) = (count : ℕ) × (born : List Pid) × Begins tops count born desks
+-- the pids by the numbers of their processes: those of the list have one, and no other process has
+abbrev pub put_pid : List (Option Pid) → Top × Pid → List (Option Pid)
+put_pid pids one = slice_set pids one.0.process (Some one.1)
+
+abbrev pub numbered : Whole → List Pid → List (Option Pid)
+numbered w born = fold put_pid (replicate (length w.processes) None) (named w born)
+
+-- those of desk d, in order of birth: each is at its first operation and has no reference
+abbrev pub starter : List Plan → Top × Pid → Acting
+starter plans one = newborn plans one.0.process one.1
+
+abbrev pub is_on : ℕ → Top × Pid → Bool
+is_on d one = one.1.shard == d
+
+abbrev pub starters : List Plan → ℕ → List (Top × Pid) → List Acting
+starters plans d ones = map (starter plans) (filter (is_on d) ones)
+
+-- the runner of desk d, when these are born
+pub record IsRunnerOf (w : Whole) (born : List Pid) (d : ℕ) (r : Runner) : Type 0 where
+  pub script : r.script.now ≡ w
+  pub processes : processes_of r ≡ on d born
+  pub table : table r ≡ record { plans = w.processes; pids = numbered w born; actors = starters w.processes d (named w born) }
+
+-- one runner a desk, in their order
+pub record AreRunners (w : Whole) (born : List Pid) (desks : ℕ) (runners : List Runner) : Type 0 where
+  pub counted : length runners ≡ desks
+  pub each : (d : ℕ) (r : Runner) → d < desks → IsRunnerOf w born d (slice_index_or runners d r)
+
+-- all of them are born, and each desk has its runner; where a birth is refused, those before it stay
+abbrev pub Starts : {A : Type 0} → Whole → List DeskState → Result (Vec Runner A) Fault → Type 0
+Starts w desks (Ok runners) =
+    (born : List Pid) × Begins w.tops (length w.tops) born desks × AreRunners w born (length desks) runners.items
+Starts w desks (Err fault) = (count : ℕ) × (born : List Pid) × Begins w.tops count born desks
 
 -- the births alone
 abbrev pub Bears : {A : Type 0} → List Top → List DeskState → Result (Vec Pid A) Fault → Type 0

@@ -105,7 +105,7 @@ impl Actor {
 }
 
 /// The process of this number has this pid.
-fn put_pid(pids: &mut Vec<Option<Pid>>, process: u32, pid: Pid)
+pub(crate) fn put_pid(pids: &mut Vec<Option<Pid>>, process: u32, pid: Pid)
     ensures { pids.new.items ≡ slice_set pids.old.items process (Some pid) }
 {
     let place = process as usize;
@@ -134,6 +134,7 @@ impl<'a> Runner<'a> {
         actors: Vec<Actor>,
     ) -> Runner<'a>
         ensures actors { result.actors ≡ actors }
+        ensures script { result.script.now ≡ script.now }
         ensures table { table result ≡ record { plans = script.now.processes; pids = pids.items; actors = map acting actors.items } }
     {
         Runner {

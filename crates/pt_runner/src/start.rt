@@ -4,10 +4,9 @@ ghost use Rattle.std.specs.Prelude.{◌≡◌, ◌≤◌, IfOk, length, vec_len}
 ghost use Rattle.pt_shard.specs.Opening.{IsInRange};
 ghost use Rattle.pt_node.specs.Desks.{AreDesksOf};
 ghost use Rattle.pt_node.specs.Opening.{AreFresh};
-ghost use Rattle.pt_runner.specs.Starting.{Starts, Bears, AreRunners, config_of, on};
-ghost use Rattle.pt_runner.specs.Stepping.{processes_of};
+ghost use Rattle.pt_runner.specs.Starting.{Starts, Bears, AreRunners, IsRunnerOf, config_of, numbered};
 
-use crate::runner::{Actor, Runner};
+use crate::runner::{Actor, Runner, put_pid};
 use pt_node::{Config, Desk, Fault, Pid};
 use pt_script::Script;
 use std::alloc::{AllocError, Global};
@@ -28,7 +27,10 @@ pub fn config(script: &Script) -> Config
 }
 
 impl<'a> Runner<'a> {
-    /// Lets the processes that the script begins with be born, in its order, and gives one runner a desk.
+    /// Lets the processes that the script begins with be born, in its order, and gives one runner a desk, in their order.
+    ///
+    /// A runner has the processes that were born on its desk, in that order, each at the first operation of its list and
+    /// with no reference yet, and it knows the pids of all that were born.
     ///
     /// The desks are those that `open` gave for the script's [`config`], in order. A birth may be refused by its desk,
     /// and there may be no memory for the runners: the processes that were born before stay.
@@ -40,7 +42,7 @@ impl<'a> Runner<'a> {
         requires { AreFresh (config_of script.now.settings) desks.old }
         ensures desks { AreDesksOf (config_of script.now.settings) desks.new }
         ensures count { IfOk result (λ runners. vec_len runners ≡ length desks.new) }
-        ensures starts { Starts script.now.tops desks.new result }
+        ensures starts { Starts script.now desks.new result }
     {
         let born = bear(alloc, script, desks)?;
         let runners = runners_of(alloc, script, born.as_slice(), desks.len())?;
@@ -71,24 +73,26 @@ fn runners_of<'a>(
     desks: usize,
 ) -> Result<Vec<Runner<'a>>, AllocError>
     requires { length born.now ≤ length script.now.tops }
-    ensures runners { IfOk result (λ runners. AreRunners born.now desks runners.items) }
+    ensures runners { IfOk result (λ runners. AreRunners script.now born.now desks runners.items) }
     ensures count { IfOk result (λ runners. vec_len runners ≡ desks) }
 {
     let pids = pids_of(alloc, script, born)?;
     let mut runners = Vec::with_capacity(alloc, desks)?;
     for desk in 0..desks {
-        runners.push(runner_of(alloc, script, desk, born, &pids)?)?;
+        runners.push(runner_of(alloc, script, desk, born, pids.as_slice())?)?;
     }
     Ok(runners)
 }
 
 /// The pids by the numbers of their processes.
-fn pids_of(alloc: Global, script: &Script, born: &[Pid]) -> Result<Vec<Option<Pid>>, AllocError> {
+fn pids_of(alloc: Global, script: &Script, born: &[Pid]) -> Result<Vec<Option<Pid>>, AllocError>
+    requires { length born.now ≤ length script.now.tops }
+    ensures { IfOk result (λ pids. pids.items ≡ numbered script.now born.now) }
+{
+    let tops = script.tops();
     let mut pids = vec![in alloc; None; script.processes().len()]?;
-    for (top, pid) in script.tops().iter().zip(born) {
-        if let Some(place) = pids.get_mut(top.process as usize) {
-            *place = Some(*pid);
-        }
+    for (index, pid) in born.iter().enumerate() {
+        put_pid(&mut pids, tops[index].process, *pid);
     }
     Ok(pids)
 }
@@ -99,10 +103,11 @@ fn runner_of<'a>(
     script: &'a Script,
     desk: usize,
     born: &[Pid],
-    pids: &Vec<Option<Pid>>,
+    pids: &[Option<Pid>],
 ) -> Result<Runner<'a>, AllocError>
-    requires { length born.now ≤ length script.now.tops }
-    ensures { IfOk result (λ r. processes_of r ≡ on desk born.now) }
+    requires born { length born.now ≤ length script.now.tops }
+    requires pids { pids.now ≡ numbered script.now born.now }
+    ensures { IfOk result (λ r. IsRunnerOf script.now born.now desk r) }
 {
     let tops = script.tops();
     let mut actors = Vec::new(alloc);
@@ -111,5 +116,5 @@ fn runner_of<'a>(
             actors.push(Actor::new(alloc, script, *pid, tops[index].process))?;
         }
     }
-    Ok(Runner::new(alloc, script, pids.clone()?, actors))
+    Ok(Runner::new(alloc, script, Vec::from_slice(alloc, pids)?, actors))
 }
