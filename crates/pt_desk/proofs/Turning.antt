@@ -1,5 +1,8 @@
 -- What a turn does with the letters that it finds.
-use Rattle.std.proofs.Common.{◌≡◌, ℕ, ◌^◌, ◌<◌, inl, inr, List, [], ◌∷◌, ◌++◌, length, max, Option, Some, None, Err, refl, sym, ap, ◌∙◌, subst, append_assoc}
+use Rattle.std.proofs.Common.{◌≡◌, ℕ, ◌^◌, ◌<◌, inl, inr, true, false, List, [], ◌∷◌, ◌++◌, length, max, Option, Some, None, Result, Err, refl, sym, ap, ◌∙◌, subst, append_assoc}
+use Rattle.std.specs.Prelude.{is_some}
+use Rattle.std.proofs.lemmas.Bool.{both_ways}
+use Rattle.pt_signal.specs.declared.pid.Pid.{Pid}
 use Rattle.pt_signal.specs.declared.letter.Letter.{Letter}
 use Rattle.pt_carrier.specs.Ends.{OutEnds, InEnds, Collects, IsFirst}
 use Rattle.pt_shard.specs.declared.stop.Stop.{Stop}
@@ -9,7 +12,8 @@ use Rattle.pt_shard.specs.Outbox.{holding}
 use Rattle.pt_shard.specs.Extends.{Extends}
 use Rattle.pt_desk.specs.DeskState.{DeskState, GoesOn, IsAccounted, place}
 use Rattle.pt_desk.specs.Posting.{Posts}
-use Rattle.pt_desk.specs.Turns.{TakesIn, Fetches, FindsNone, HandlesNext, HandlesAll, Stays, EndsWith, handled_held}
+use Rattle.pt_desk.specs.Turns.{TakesIn, Fetches, FindsNone, HandlesNext, HandlesAll, Stays, EndsWith, HandlesFront, handled_held}
+use Rattle.pt_carrier.proofs.Collecting.{front_taken}
 use Rattle.pt_desk.proofs.Accounts.{accounted_handled, accounted_taken}
 use Rattle.pt_desk.proofs.Posted.{of_parts}
 
@@ -31,13 +35,24 @@ refused : (l : Letter) (s s' : ShardState) (stop : Stop) → ShardHandles l s (E
 refused l s s' Memory h = h.1
 refused l s s' Worn h = h.1
 
+pub is_free : (hold : Option Letter) → is_some hold ≡ false → hold ≡ None
+is_free None h = refl
+is_free (Some l) h = absurd (both_ways true h refl)
+
+-- what was done with the letter in front of a lane was done with the one that is then taken out of it
+pub front_handled : (k : ℕ) (i i' : InEnds) (l : Letter) (s s' : ShardState) (r : Result (Option Pid) Stop) → HandlesFront k i s r s' → Collects i i' k l → ShardHandles l s r s'
+front_handled k i i' l s s' r h takes = subst (λ l. ShardHandles l s r s') (front_taken i i' k h.0 l h.1 takes) h.2
+
+pub front_refused : (k : ℕ) (i : InEnds) (s s' : ShardState) (stop : Stop) → HandlesFront k i s (Err stop) s' → s' ≡ s
+front_refused k i s s' stop h = refused h.0 s s' stop h.2
+
 -- a letter is collected while the hold is free
 module _ (s : ShardState) (o : OutEnds) (i i' : InEnds) (k : ℕ) (l : Letter) (free : s.hold ≡ None) (takes : Collects i i' k l) (place_is : i'.place ≡ i.place) where
   from_is : k ≡ l.from.shard
   from_is = sym takes.from_there
 
-  is_free : s ≡ holding None s
-  is_free = ap (λ h. holding h s) free
+  unheld : s ≡ holding None s
+  unheld = ap (λ h. holding h s) free
 
   module _ (first : IsFirst i i' k) where
     pub taken_in : TakesIn l (of_parts s o i) (of_parts (holding (Some l) s) o i')
@@ -55,8 +70,14 @@ module _ (s : ShardState) (o : OutEnds) (i i' : InEnds) (k : ℕ) (l : Letter) (
       fetched = of_parts (holding (Some l) s) o i';
       fetches = inr taken_in;
       within = within;
-      after = ap (λ (z : ShardState). of_parts z o i') (handles ∙ ap (handled l) is_free);
+      after = ap (λ (z : ShardState). of_parts z o i') (handles ∙ ap (handled l) unheld);
     }
+
+    pub stays_collected : (s1 s2 : ShardState) (stop : Stop) → ShardHandles l s (Err stop) s1 → s2 ≡ holding (Some l) s1 → Stays stop (of_parts s o i) (of_parts s2 o i')
+    stays_collected s1 s2 Worn refuses keeps =
+        subst (λ z. Stays Worn (of_parts s o i) (of_parts z o i')) (sym (keeps ∙ ap (holding (Some l)) (refused l s s1 Worn refuses))) (l, inr taken_in, refuses.0)
+    stays_collected s1 s2 Memory refuses keeps =
+        subst (λ z. Stays Memory (of_parts s o i) (of_parts z o i')) (sym (keeps ∙ ap (holding (Some l)) (refused l s s1 Memory refuses))) (l, inr taken_in, refuses.0)
 
   taken_accounted : IsAccounted s o i → IsAccounted (holding (Some l) s) o i'
   taken_accounted acc = accounted_taken s o i acc i' l free (subst (λ k. Collects i i' k l) from_is takes) place_is
@@ -66,7 +87,7 @@ module _ (s : ShardState) (o : OutEnds) (i i' : InEnds) (k : ℕ) (l : Letter) (
 
   pub collected_accounted : (s1 : ShardState) → length s.outbox ≡ s.config.desks → IsAccounted s o i → s1 ≡ handled l s → IsAccounted s1 o i'
   collected_accounted s1 boxes acc handles =
-      subst (λ z. IsAccounted z o i') (sym (handles ∙ ap (handled l) is_free))
+      subst (λ z. IsAccounted z o i') (sym (handles ∙ ap (handled l) unheld))
       (accounted_handled (holding (Some l) s) o i' boxes (taken_accounted acc) l refl)
 
 -- it is the same desk, later ------------------------------------------------------------------

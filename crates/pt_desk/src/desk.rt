@@ -1,6 +1,6 @@
 //! A desk of a node.
 
-ghost use Rattle.std.specs.Prelude.{◌≡◌, ◌<◌, ◌+◌, ◌-◌, ◌^◌, ◌++◌, ℕ, min, true, Some, None, IfOk, cond, is_some};
+ghost use Rattle.std.specs.Prelude.{◌≡◌, ◌<◌, ◌+◌, ◌-◌, ◌^◌, ◌++◌, ℕ, [], length, min, true, Some, None, IfOk, cond, is_some, slice_index_or};
 ghost use Rattle.std.specs.Option.{option_copied};
 ghost use Rattle.pt_signal.specs.declared.signal.Signal.{Signal};
 ghost use Rattle.pt_events.specs.declared.event.Event.{Event};
@@ -12,7 +12,7 @@ ghost use Rattle.pt_shard.specs.Fit.{IsFit};
 ghost use Rattle.pt_shard.specs.Calls.{Calls, Monitors, Bears, BearsChild, link_event, unlink_event, first_match, take_event, demonitor_event, held_by, new_ref};
 ghost use Rattle.pt_desk.specs.DeskState.{IsDesk, IsAccounted, HasSameEnds, GoesOn, posted_to, waits_for, collected_from, held_from};
 ghost use Rattle.pt_desk.specs.Posting.{PostsOne, PostsTo, PostsSome, Posts, total};
-ghost use Rattle.pt_desk.specs.Turns.{Handles, Turns};
+ghost use Rattle.pt_desk.specs.Turns.{Handles, HandlesFront, HoldsFront, Turns};
 
 use crate::turned::Turned;
 use pt_carrier::{Ins, Outs};
@@ -391,20 +391,68 @@ impl Desk {
     fn handle(&mut self) -> Result<bool, Stop>
         ensures { Handles self.old result self.new }
     {
-        if let Some(letter) = self.shard.held() {
-            self.shard.handle(letter)?;
-            let _ = self.shard.take_hold();
-            return Ok(true);
+        if self.shard.holds() {
+            return self.handle_held();
         }
-        let Some((_from, letter)) = self.ins.collect() else {
+        let Some(from) = self.ins.next_from() else {
             return Ok(false);
         };
-        match self.shard.handle(letter) {
-            Ok(_ended) => Ok(true),
+        match handle_front(&mut self.shard, &self.ins, from) {
+            Ok(_ended) => {
+                let _ = self.ins.take(from);
+                Ok(true)
+            }
             Err(stop) => {
-                self.shard.put_hold(letter);
+                hold_front(&mut self.shard, &mut self.ins, from);
                 Err(stop)
             }
         }
     }
+
+    /// Handles the letter in the hold, and says that there was one.
+    #[cold]
+    #[inline(never)]
+    fn handle_held(&mut self) -> Result<bool, Stop>
+        requires { is_some self.old.shard.hold ≡ true }
+        ensures { Handles self.old result self.new }
+    {
+        let Some(letter) = self.shard.held() else {
+            unreachable!();
+        };
+        self.shard.handle(letter)?;
+        let _ = self.shard.take_hold();
+        Ok(true)
+    }
+}
+
+/// Handles the oldest letter that is known to wait in the lane from desk `from`, and leaves it there: to move it out
+/// first would cost as much as all else that a turn does with it.
+#[inline(always)]
+fn handle_front(shard: &mut Shard, ins: &Ins, from: u8) -> Result<Option<Pid>, Stop>
+    requires shows { (from < length ins.now.place.rings) × (0 < length (slice_index_or ins.now.known from [])) }
+    requires here { ins.now.place.number ≡ shard.old.number }
+    requires near { from < shard.old.config.desks }
+    ensures does { HandlesFront from ins.now shard.old result shard.new }
+    ensures fit { IsFit shard.new }
+{
+    match ins.front(from) {
+        Some(letter) => shard.handle_in_place(letter),
+        None => shard.handle(ins.front_addressed(from)),
+    }
+}
+
+/// Takes the oldest letter that is known to wait in the lane from desk `from` into the hold. It is not inlined, since
+/// a turn would then clear the place of the letter each time.
+#[cold]
+#[inline(never)]
+fn hold_front(shard: &mut Shard, ins: &mut Ins, from: u8)
+    requires shows { (from < length ins.old.place.rings) × (0 < length (slice_index_or ins.old.known from [])) }
+    requires here { ins.old.place.number ≡ shard.old.number }
+    requires near { from < shard.old.config.desks }
+    requires empty { shard.old.hold ≡ None }
+    ensures holds { HoldsFront from ins.old shard.old ins.new shard.new }
+    ensures fit { IsFit shard.new }
+{
+    let letter = ins.take(from);
+    shard.put_hold(letter);
 }

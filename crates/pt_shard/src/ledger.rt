@@ -1,6 +1,6 @@
 //! The clock, the journal and the letters of a desk.
 
-ghost use Rattle.std.specs.Prelude.{◌≡◌, ℕ, ◌+◌, ◌-◌, ◌<◌, ◌≤◌, ◌^◌, [], ◌∷◌, max, min, nat_le, length, map, drop, replicate, slice_get, slice_index_or, slice_set, sum_by, count_by, None, IfOk, OnOk};
+ghost use Rattle.std.specs.Prelude.{◌≡◌, ℕ, ◌+◌, ◌-◌, ◌<◌, ◌≤◌, ◌^◌, [], ◌∷◌, max, min, nat_le, length, map, drop, replicate, slice_get, slice_index_or, slice_set, sum_by, count_by, None, IfOk, OnOk, is_some};
 ghost use Rattle.pt_signal.specs.declared.signal.Signal.{Signal};
 ghost use Rattle.pt_signal.specs.Process.{sent};
 ghost use Rattle.pt_events.specs.declared.event.Event.{Event};
@@ -314,6 +314,13 @@ impl Ledger {
         ensures { result ≡ self.now.book.hold }
     {
         self.hold
+    }
+
+    #[inline(always)]
+    pub fn holds(&self) -> bool
+        ensures { result ≡ is_some self.now.book.hold }
+    {
+        self.hold.is_some()
     }
 
     pub fn take_hold(&mut self) -> Option<Letter>

@@ -380,7 +380,6 @@ impl Shard {
     ///
     /// Stopped as `Worn` where the stamp of the receipt would pass the limit of clocks, else as `Memory`; the desk
     /// is then as it was.
-    #[inline(never)]
     pub fn handle(&mut self, letter: Letter) -> Result<Option<Pid>, Stop>
         requires here { letter.to.shard ≡ self.old.number }
         requires near { letter.from.shard < self.old.config.desks }
@@ -388,17 +387,29 @@ impl Shard {
         ensures extends { Extends self.old self.new }
         ensures fit { IsFit self.new }
     {
+        self.handle_in_place(&letter)
+    }
+
+    /// The same of a letter that stays where it is, as in its lane: a letter is large to move.
+    #[inline(never)]
+    pub fn handle_in_place(&mut self, letter: &Letter) -> Result<Option<Pid>, Stop>
+        requires here { letter.now.to.shard ≡ self.old.number }
+        requires near { letter.now.from.shard < self.old.config.desks }
+        ensures does { Handles letter.now self.old result self.new }
+        ensures extends { Extends self.old self.new }
+        ensures fit { IsFit self.new }
+    {
         let Some(process) = self.house.find_mut(letter.to) else {
             let back = letter.signal.answer_of_dead();
             self.ledger.prepare_back(letter.stamp, back, letter.from)?;
-            self.ledger.receive(&letter, back);
+            self.ledger.receive(letter, back);
             return Ok(None);
         };
         let Some(reason) = process.would_end(letter.from, &letter.signal) else {
-            take_in(process, &mut self.ledger, &letter)?;
+            take_in(process, &mut self.ledger, letter)?;
             return Ok(None);
         };
-        prepare_ending(process, &mut self.ledger, &letter)?;
+        prepare_ending(process, &mut self.ledger, letter)?;
         let estate = self.house.end(letter.to, reason);
         let event = Event::Came(letter.from, letter.to, letter.signal);
         self.ledger.close(letter.stamp, event, letter.to, &estate);
@@ -447,6 +458,14 @@ impl Shard {
         ensures { result ≡ self.now.hold }
     {
         self.ledger.held()
+    }
+
+    /// Whether there is a letter that was collected and is not yet handled.
+    #[inline(always)]
+    pub fn holds(&self) -> bool
+        ensures { result ≡ is_some self.now.hold }
+    {
+        self.ledger.holds()
     }
 
     /// Takes out the letter that was collected and is not yet handled.
