@@ -51,6 +51,7 @@ impl Mailbox {
     }
 
     /// Adds an item at the end.
+    #[inline(always)]
     pub fn push(&mut self, item: Item) -> Result<(), AllocError>
         ensures ok { OnOk result (self.new ≡ self.old ++ item ∷ []) }
         ensures err { OnErr result (self.new ≡ self.old) }

@@ -138,9 +138,12 @@ impl Process {
     /// Memory is refused only where a list would grow, and nothing has changed then. Where it answers `Ends`, the
     /// process is still as the signal left it, and `estate` tells what it owes. Where it answers `Asked`, the sender
     /// asks whether the process is alive, and `Signal::AliveSay` of that reference and `true` is to go back to it.
+    #[inline(always)]
     pub fn accept(&mut self, from: Pid, signal: Signal) -> Result<Outcome, AllocError>
         ensures { Accepts self.old (handle self.old.me self.old.state from signal) result self.new }
     {
+        // Only the ways that queue an item are inlined: a message is then written into the mailbox from where it stands.
+        // Where the others are inlined too, it is first copied in pieces, and to load those again costs more than all else.
         match signal {
             Signal::Message(body) => self.queue(Item::User(from, body)),
             Signal::Link(id) => self.enter(from, id),
@@ -294,6 +297,7 @@ impl Process {
         }
     }
 
+    #[inline(always)]
     fn queue(&mut self, item: Item) -> Result<Outcome, AllocError>
         ensures { Accepts self.old (queued item self.old.state) result self.new }
     {
@@ -301,6 +305,7 @@ impl Process {
         Ok(Outcome::Queued)
     }
 
+    #[inline(never)]
     fn enter(&mut self, from: Pid, id: LinkId) -> Result<Outcome, AllocError>
         ensures { Accepts self.old (handle self.old.me self.old.state from (Signal.Link id)) result self.new }
     {
@@ -320,6 +325,7 @@ impl Process {
         }
     }
 
+    #[inline(never)]
     fn cut(&mut self, from: Pid, named: Ids) -> Outcome
         ensures { Accepts {E = ⊥} self.old (handle self.old.me self.old.state from (Signal.Unlink named)) (Ok result) self.new }
     {
@@ -375,6 +381,7 @@ impl Process {
         }
     }
 
+    #[inline(never)]
     fn exit_signal(&mut self, from: Pid, reason: Reason) -> Result<Outcome, AllocError>
         ensures { Accepts self.old (handle self.old.me self.old.state from (Signal.Exit reason)) result self.new }
     {
@@ -385,6 +392,7 @@ impl Process {
         }
     }
 
+    #[inline(never)]
     fn link_exit(&mut self, from: Pid, ids: Ids, reason: Reason) -> Result<Outcome, AllocError>
         ensures { Accepts self.old (handle self.old.me self.old.state from (Signal.LinkExit ids reason)) result self.new }
     {
@@ -418,6 +426,7 @@ impl Process {
         }
     }
 
+    #[inline(never)]
     fn keep(&mut self, from: Pid, monitor: Ref) -> Result<Outcome, AllocError>
         ensures { Accepts self.old (handle self.old.me self.old.state from (Signal.Monitor monitor)) result self.new }
     {
@@ -428,6 +437,7 @@ impl Process {
         Ok(Outcome::Changed)
     }
 
+    #[inline(never)]
     fn forget(&mut self, from: Pid, monitor: Ref) -> Outcome
         ensures { Accepts {E = ⊥} self.old (handle self.old.me self.old.state from (Signal.Demonitor monitor)) (Ok result) self.new }
     {
@@ -462,6 +472,7 @@ impl Process {
         self.kept.remove(&(monitor, watcher));
     }
 
+    #[inline(never)]
     fn down(&mut self, from: Pid, monitor: Ref, reason: Reason) -> Result<Outcome, AllocError>
         ensures { Accepts self.old (handle self.old.me self.old.state from (Signal.Down monitor reason)) result self.new }
     {
