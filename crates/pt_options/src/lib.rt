@@ -4,13 +4,17 @@
 //! pt_run [FILE] [--threads single|many] [--turns N] [--print summary|history|chart]
 //! ```
 //!
-//! [`options`] reads the words. `FILE` is the script; without it, and for `-`, the script is read from standard input.
+//! [`options`] reads the words, and [`laws`] says what it makes of some. `FILE` is the script; without it, and for `-`, the
+//! script is read from standard input.
 #![tactic(auto)]
 
-ghost use Rattle.std.specs.Prelude.{◌≤◌, IfOk};
+ghost use Rattle.std.specs.Prelude.{◌≡◌, ◌≤◌, IfOk, map, option_map, string_bytes};
+ghost use Rattle.clap.specs.Words.{app_of, found_of, rows_of};
+ghost use Rattle.pt_options.specs.Choosing as spec;
 ghost use Rattle.pt_options.specs.declared.choices.TheConstants.{MOST_TURNS};
 
 mod choices;
+pub mod laws;
 #[cfg(test)]
 mod tests;
 
@@ -25,10 +29,13 @@ static SHOWS: [&str; 3] = ["summary", "history", "chart"];
 
 /// Reads the words of the command line, the program's name first: the file, if one is named, and what is asked for.
 ///
-/// Refused where `clap` refuses the words, where they ask for help, and where there is no memory, which the
-/// [kind](clap::Error::kind) of the error tells. What is not named has its default: one thread, 100 turns, the history.
+/// What the words are is `clap`'s to say, by its definitions of matches and faults, of the one command that this crate
+/// makes: on Ok they are no fault, and what they ask for is read of their matches; else the
+/// [kind](clap::Error::kind) of the error is that of their fault, or tells that there was no memory. What is not named
+/// has its default: one thread, 100 turns, the history.
 pub fn options(alloc: Global, words: Vec<String>) -> Result<(Option<String>, Options), clap::Error>
-    ensures { IfOk result (λ r. r.1.turns ≤ MOST_TURNS) }
+    ensures words { spec.Answers (map string_bytes words.items) result }
+    ensures turns { IfOk result (λ r. r.1.turns ≤ MOST_TURNS) }
 {
     options_of(alloc, words.as_slice())
 }
@@ -37,18 +44,18 @@ fn options_of<'a>(
     alloc: Global,
     words: &'a [String],
 ) -> Result<(Option<String>, Options), clap::Error>
-    ensures { IfOk result (λ r. r.1.turns ≤ MOST_TURNS) }
+    ensures words { spec.Answers (map string_bytes words.now) result }
+    ensures turns { IfOk result (λ r. r.1.turns ≤ MOST_TURNS) }
 {
     let matches = command(alloc)?.try_get_matches_from(words)?;
-    let file = match matches.get_str("FILE") {
-        Some(file) => Some(String::from_str(alloc, file)?),
-        None => None,
-    };
+    let file = file_of(alloc, &matches)?;
     Ok((file, chosen(&matches)))
 }
 
 /// The command with its arguments and the help on each.
-fn command<'a>(alloc: Global) -> Result<Command<'a>, AllocError> {
+fn command<'a>(alloc: Global) -> Result<Command<'a>, AllocError>
+    ensures { IfOk result (λ c. spec.IsCommand (app_of c)) }
+{
     let file = Arg::new(alloc, "FILE").help(
         "The script; standard input where none is named, and for -",
     );
@@ -76,23 +83,55 @@ fn command<'a>(alloc: Global) -> Result<Command<'a>, AllocError> {
         .arg(print)
 }
 
-/// What the words ask for.
+/// The file that was found in the words.
+fn file_of(alloc: Global, matches: &ArgMatches<'_>) -> Result<Option<String>, AllocError>
+    ensures { IfOk result (λ f. option_map string_bytes f ≡ spec.file_of (rows_of (found_of matches.now))) }
+{
+    match matches.get_str("FILE") {
+        Some(file) => Ok(Some(String::from_str(alloc, file)?)),
+        None => Ok(None),
+    }
+}
+
+/// What was found in the words, as options.
 fn chosen(matches: &ArgMatches<'_>) -> Options
-    ensures { result.turns ≤ MOST_TURNS }
+    ensures chosen { result ≡ spec.chosen_of (rows_of (found_of matches.now)) }
+    ensures turns { result.turns ≤ MOST_TURNS }
 {
     Options {
-        threads: match matches.get_str("threads") {
-            Some("many") => Mode::Many,
-            _ => Mode::Single,
-        },
-        turns: match matches.get_one::<u64>("turns") {
-            Some(turns) => turns.min(MOST_TURNS),
-            None => 100,
-        },
-        print: match matches.get_str("print") {
-            Some("summary") => Show::Summary,
-            Some("chart") => Show::Chart,
-            _ => Show::History,
-        },
+        threads: mode_of(matches.get_str("threads")),
+        turns: turns_of(matches.get_one::<u64>("turns")),
+        print: show_of(matches.get_str("print")),
+    }
+}
+
+/// How the desks are run, by its word; one thread without one.
+fn mode_of(word: Option<&str>) -> Mode
+    ensures { result ≡ spec.mode_of (option_map (λ t. t.now) word.entry) }
+{
+    match word {
+        Some("many") => Mode::Many,
+        _ => Mode::Single,
+    }
+}
+
+/// How many turns, by their number; 100 without one.
+fn turns_of(number: Option<u64>) -> u64
+    ensures { result ≡ spec.turns_of number }
+{
+    match number {
+        Some(turns) => turns.min(MOST_TURNS),
+        None => 100,
+    }
+}
+
+/// What is printed, by its word; the history without one.
+fn show_of(word: Option<&str>) -> Show
+    ensures { result ≡ spec.show_of (option_map (λ t. t.now) word.entry) }
+{
+    match word {
+        Some("summary") => Show::Summary,
+        Some("chart") => Show::Chart,
+        _ => Show::History,
     }
 }

@@ -1,0 +1,166 @@
+-- The command at words that are written out.
+use Rattle.std.proofs.Common.{◌≡◌, ◌∙◌, ℕ, List, [], ◌∷◌, ◌++◌, true, false, map, Option, Some, None, refl, ap, ap₂, sym, subst, ◌^◌, arith}
+use Rattle.std.proofs.lemmas.Slice.Eq.{bytes_eq-Decides}
+use Rattle.std.specs.Str.{bytes_eq}
+use Rattle.std.specs.Prelude.{codes, ◌≢◌}
+use Rattle.std.specs.Borrow.{Bor}
+use Rattle.std.specs.Str.Parse.{digits_value, without_leading_plus}
+use Rattle.clap.specs.Words.{App, Text, fault_of, is_simple, is_simple_and_free, matches_of}
+use Rattle.clap.specs.Lexer.{strip_byte}
+use Rattle.clap.specs.Faults.{defaults_fault, step_fault, walk_fault, word_fault}
+use Rattle.clap.specs.Kinds.{Kinds, or_else}
+use Rattle.clap.specs.Simple.{Shape, built}
+use Rattle.clap.specs.Walk.{Held, Rule, Step, Walk, after_step, idle, nothing_held, value, walk_from, walked, word_met}
+use Rattle.clap.specs.ValueTests.{is_unsigned_in}
+use Rattle.clap.specs.declared.builder.value_parser.ValueParser.TheVariants.{Unsigned}
+use Rattle.clap.specs.declared.error.kind.ErrorKind.TheVariants.{DisplayHelp, InvalidValue, ValueValidation}
+use Rattle.clap.proofs.OnLiterals.{clap_on_literals}
+use Rattle.clap.proofs.ValueTestLemmas.{accepts-Accepts, Accepts-accepts}
+use Rattle.pt_options.specs.Choosing.{Words, IsCommand, chosen_of, command_with, file_of, number_of, turns_of}
+use Rattle.pt_options.specs.Laws.{AskFor, DefaultsStand, FilesAreNamed, TurnsAreTold, WrongTurnsAreRefused, ModesAreTold, WrongModesAreRefused, PrintsAreTold, WrongPrintsAreRefused, HelpIsAsked, defaults}
+use Rattle.pt_options.proofs.Reading.{false_unless}
+use Rattle.pt_options.specs.declared.choices.Mode.TheVariants.{Many}
+use Rattle.pt_options.specs.declared.choices.Show.TheVariants.{Summary, Chart}
+use Rattle.pt_options.specs.declared.choices.Options.{Options}
+use Rattle.pt_options.specs.declared.choices.TheConstants.{MOST_TURNS}
+
+-- a text at a place in memory
+abbrev at : ℕ × ℕ → Text → Bor Text
+at place text = record { ref_ptr = place; now = text }
+
+abbrev modes_at : ℕ × ℕ → ℕ × ℕ → ℕ × ℕ → Words
+modes_at a b c = record { ref_ptr = a; now = at b (codes "single") ∷ at c (codes "many") ∷ [] }
+
+abbrev shows_at : ℕ × ℕ → ℕ × ℕ → ℕ × ℕ → ℕ × ℕ → Words
+shows_at a b c d = record { ref_ptr = a; now = at b (codes "summary") ∷ at c (codes "history") ∷ at d (codes "chart") ∷ [] }
+
+abbrev head_of : Text → List Text → Text
+head_of none [] = none
+head_of none (t ∷ ts) = t
+
+abbrev tail_of : List Text → List Text
+tail_of [] = []
+tail_of (t ∷ ts) = ts
+
+-- a list of texts, text by text
+two : (P : List (Bor Text) → Type 0) (xs : List (Bor Text)) (t u : Text) → map (λ s. s.now) xs ≡ t ∷ u ∷ [] → ((b c : ℕ × ℕ) → P (at b t ∷ at c u ∷ [])) → P xs
+two P [] t u e each = cc
+two P (x ∷ []) t u e each = cc
+two P (x ∷ y ∷ []) t u e each =
+    subst (λ (v : Text). P (at x.ref_ptr v ∷ y ∷ [])) (sym (ap (head_of []) e))
+    (subst (λ (v : Text). P (at x.ref_ptr t ∷ at y.ref_ptr v ∷ [])) (sym (ap (λ vs. head_of [] (tail_of vs)) e)) (each x.ref_ptr y.ref_ptr))
+two P (x ∷ y ∷ z ∷ zs) t u e each = cc
+
+three : (P : List (Bor Text) → Type 0) (xs : List (Bor Text)) (t u w : Text) → map (λ s. s.now) xs ≡ t ∷ u ∷ w ∷ [] → ((b c d : ℕ × ℕ) → P (at b t ∷ at c u ∷ at d w ∷ [])) → P xs
+three P [] t u w e each = cc
+three P (x ∷ xs) t u w e each =
+    subst (λ (v : Text). P (at x.ref_ptr v ∷ xs)) (sym (ap (head_of []) e))
+    (two (λ ys. P (at x.ref_ptr t ∷ ys)) xs u w (ap tail_of e) (each x.ref_ptr))
+
+-- what holds of the command wherever its words stand holds of it
+of_command : (P : App → Type 0) → ((a b c d e f g : ℕ × ℕ) → P (command_with (modes_at a b c) (shows_at d e f g))) → (a : App) → IsCommand a → P a
+of_command P each a is =
+    subst P (sym is.4)
+    (two (λ xs. P (command_with (record { ref_ptr = is.0.ref_ptr; now = xs }) is.1)) is.0.now (codes "single") (codes "many") is.2 (λ b c.
+    three (λ xs. P (command_with (modes_at is.0.ref_ptr b c) (record { ref_ptr = is.1.ref_ptr; now = xs }))) is.1.now (codes "summary") (codes "history") (codes "chart") is.3 (λ e f g. each is.0.ref_ptr b c is.1.ref_ptr e f g)))
+
+-- the three facts of words that are no fault
+abbrev Asks : List Text → Option Text → Options → App → Type 0
+Asks words file options a = (name : Text) → (fault_of a (name ∷ words) ≡ []) × (file_of (matches_of a (name ∷ words)) ≡ file) × (chosen_of (matches_of a (name ∷ words)) ≡ options)
+
+pub no_words : DefaultsStand
+unfolding clap_on_literals
+no_words = of_command (Asks [] None defaults) (λ a b c d e f g name. (refl, refl, refl))
+
+hyphen_named : AskFor (codes "-" ∷ []) (Some (codes "-")) defaults
+unfolding clap_on_literals
+hyphen_named = of_command (Asks (codes "-" ∷ []) (Some (codes "-")) defaults) (λ a b c d e f g name. (refl, refl, refl))
+
+not_dashes : (file : Text) → strip_byte 45 file ≡ None → bytes_eq file (45 ∷ 45 ∷ []) ≡ false
+not_dashes file plain = false_unless _ (λ e. let is : file ≡ 45 ∷ 45 ∷ [] = (bytes_eq-Decides file (45 ∷ 45 ∷ [])).0 e in let bad : Some (45 ∷ []) ≡ None = sym (ap (strip_byte 45) is) ∙ plain in cc)
+
+-- a word that no hyphen begins is neither a flag nor a fault
+plain_met : (c : List Rule) (h : Held) (file : Text) → strip_byte 45 file ≡ None → word_met c [] false idle 1 file h ≡ (h, value)
+plain_met c h file plain = rw (not_dashes file plain, plain) (rw plain refl)
+
+plain_passes : (s : Shape) (h : Held) (file : Text) → strip_byte 45 file ≡ None → word_fault s [] false idle file h ≡ []
+plain_passes s h file plain = rw (not_dashes file plain, plain) (rw plain refl)
+
+-- the walk behind the file
+abbrev behind : Text → Walk
+behind file = record { held = record { rows = []; pending = Some (codes "FILE", file ∷ []); skip = 0 }; waiting = idle; position = 2; is_trailing = false; stopped = None }
+
+file_walked : (modes shows : Words) (file : Text) → strip_byte 45 file ≡ None → walked (built (command_with modes shows)).top.rules [] (walk_from nothing_held) file ≡ behind file
+unfolding walked
+file_walked modes shows file plain = ap (λ (m : Held × Step). after_step (built (command_with modes shows)).top.rules file (walk_from nothing_held) m.0 m.1) (plain_met (built (command_with modes shows)).top.rules nothing_held file plain)
+
+file_passes : (modes shows : Words) (file : Text) → strip_byte 45 file ≡ None → walk_fault (built (command_with modes shows)).top [] (walk_from nothing_held) (file ∷ []) ≡ []
+unfolding walk_fault
+file_passes modes shows file plain =
+    let top = (built (command_with modes shows)).top in
+    ap₂ (λ (f : Kinds) (m : Held × Step). or_else (or_else f (step_fault top 1 m.0 m.1)) []) (plain_passes top nothing_held file plain) (plain_met top.rules nothing_held file plain)
+
+pub file_named : FilesAreNamed
+unfolding defaults_fault
+file_named = (
+  hyphen_named,
+  λ file plain. of_command (Asks (file ∷ []) (Some file) defaults) (λ a b c d e f g name. (
+    rw (file_passes (modes_at a b c) (shows_at d e f g) file plain, file_walked (modes_at a b c) (shows_at d e f g) file plain) refl,
+    rw (file_walked (modes_at a b c) (shows_at d e f g) file plain) refl,
+    rw (file_walked (modes_at a b c) (shows_at d e f g) file plain) refl,
+  )),
+)
+
+-- a number in its range is the number that is taken
+taken : (t : Text) → is_unsigned_in 0 MOST_TURNS t ≡ true → turns_of (number_of t) ≡ digits_value 10 (without_leading_plus t)
+taken t ok =
+    let h = accepts-Accepts false (Unsigned 0 MOST_TURNS) t ok in
+    let is : is_unsigned_in 0 (2 ^ 64) t ≡ true = Accepts-accepts false (Unsigned 0 (2 ^ 64)) t (h.0, h.1, omega arith, omega (arith, h.1)) in
+    rw is (omega (arith, h.3))
+
+pub turns_told : TurnsAreTold
+unfolding clap_on_literals
+turns_told t ok = of_command (Asks ((codes "--turns=" ++ t) ∷ []) None (record defaults { turns = digits_value 10 (without_leading_plus t) })) (λ a b c d e f g name. (rw ok refl, refl, ap (λ (n : ℕ). record defaults { turns = n }) (taken t ok)))
+
+pub turns_refused : WrongTurnsAreRefused
+unfolding clap_on_literals
+turns_refused t bad = of_command (λ x. (name : Text) → fault_of x (name ∷ (codes "--turns=" ++ t) ∷ []) ≡ ValueValidation ∷ []) (λ a b c d e f g name. rw bad refl)
+
+pub modes_told : ModesAreTold
+unfolding clap_on_literals
+modes_told = (
+  of_command (Asks (codes "--threads=single" ∷ []) None defaults) (λ a b c d e f g name. (refl, refl, refl)),
+  of_command (Asks (codes "--threads=many" ∷ []) None (record defaults { threads = Many })) (λ a b c d e f g name. (refl, refl, refl)),
+)
+
+another : (w t : Text) → t ≢ w → bytes_eq w t ≡ false
+another w t other = false_unless _ (λ e. other (sym ((bytes_eq-Decides w t).0 e)))
+
+pub modes_refused : WrongModesAreRefused
+unfolding clap_on_literals
+modes_refused t single many = of_command (λ x. (name : Text) → fault_of x (name ∷ (codes "--threads=" ++ t) ∷ []) ≡ InvalidValue ∷ []) (λ a b c d e f g name. rw (another (codes "single") t single, another (codes "many") t many) refl)
+
+pub prints_told : PrintsAreTold
+unfolding clap_on_literals
+prints_told = (
+  of_command (Asks (codes "--print=summary" ∷ []) None (record defaults { print = Summary })) (λ a b c d e f g name. (refl, refl, refl)),
+  of_command (Asks (codes "--print=history" ∷ []) None defaults) (λ a b c d e f g name. (refl, refl, refl)),
+  of_command (Asks (codes "--print=chart" ∷ []) None (record defaults { print = Chart })) (λ a b c d e f g name. (refl, refl, refl)),
+)
+
+pub prints_refused : WrongPrintsAreRefused
+unfolding clap_on_literals
+prints_refused t summary history chart = of_command (λ x. (name : Text) → fault_of x (name ∷ (codes "--print=" ++ t) ∷ []) ≡ InvalidValue ∷ []) (λ a b c d e f g name. rw (another (codes "summary") t summary, another (codes "history") t history, another (codes "chart") t chart) refl)
+
+pub help_asked : HelpIsAsked
+unfolding clap_on_literals
+help_asked = (
+  of_command (λ x. (name : Text) → fault_of x (name ∷ codes "--help" ∷ []) ≡ DisplayHelp ∷ []) (λ a b c d e f g name. refl),
+  of_command (λ x. (name : Text) → fault_of x (name ∷ codes "-h" ∷ []) ≡ DisplayHelp ∷ []) (λ a b c d e f g name. refl),
+)
+
+pub simple_and_free : (a : App) → IsCommand a → is_simple_and_free a ≡ true
+simple_and_free = of_command (λ a. is_simple_and_free a ≡ true) (λ a b c d e f g. refl)
+
+pub simple : (a : App) → IsCommand a → is_simple a ≡ true
+simple = of_command (λ a. is_simple a ≡ true) (λ a b c d e f g. refl)

@@ -1,0 +1,51 @@
+-- What the command line makes of words that are written out, and of one text that may be any.
+use Rattle.std.specs.Prelude.{◌≡◌, ◌≢◌, List, [], ◌∷◌, ◌++◌, codes, true, false, Option, Some, None}
+use Rattle.std.specs.Str.Parse.{digits_value, without_leading_plus}
+use Rattle.clap.specs.Words.{App, Text, fault_of, matches_of}
+use Rattle.clap.specs.Lexer.{strip_byte}
+use Rattle.clap.specs.ValueTests.{is_unsigned_in}
+use Rattle.clap.specs.declared.error.kind.ErrorKind.{ErrorKind}
+use Rattle.clap.specs.declared.error.kind.ErrorKind.TheVariants.{DisplayHelp, InvalidValue, ValueValidation}
+use Rattle.pt_options.specs.Choosing.{IsCommand, chosen_of, file_of}
+use Rattle.pt_options.specs.declared.choices.Mode.TheVariants.{Single, Many}
+use Rattle.pt_options.specs.declared.choices.Options.{Options}
+use Rattle.pt_options.specs.declared.choices.Show.TheVariants.{Summary, History, Chart}
+use Rattle.pt_options.specs.declared.choices.TheConstants.{MOST_TURNS}
+
+abbrev pub defaults : Options
+defaults = record { threads = Single; turns = 100; print = History }
+
+-- the words, behind the program's name, are no fault, and ask for this
+abbrev pub AskFor : List Text → Option Text → Options → Type 0
+AskFor words file options = (a : App) → IsCommand a → (name : Text) → (fault_of a (name ∷ words) ≡ []) × (file_of (matches_of a (name ∷ words)) ≡ file) × (chosen_of (matches_of a (name ∷ words)) ≡ options)
+
+-- they are refused, with this kind of error alone
+abbrev pub FailWith : List Text → ErrorKind → Type 0
+FailWith words kind = (a : App) → IsCommand a → (name : Text) → fault_of a (name ∷ words) ≡ kind ∷ []
+
+abbrev pub DefaultsStand : Type 0
+DefaultsStand = AskFor [] None defaults
+
+abbrev pub FilesAreNamed : Type 0
+FilesAreNamed = AskFor (codes "-" ∷ []) (Some (codes "-")) defaults × ((file : Text) → strip_byte 45 file ≡ None → AskFor (file ∷ []) (Some file) defaults)
+
+abbrev pub TurnsAreTold : Type 0
+TurnsAreTold = (t : Text) → is_unsigned_in 0 MOST_TURNS t ≡ true → AskFor ((codes "--turns=" ++ t) ∷ []) None (record defaults { turns = digits_value 10 (without_leading_plus t) })
+
+abbrev pub WrongTurnsAreRefused : Type 0
+WrongTurnsAreRefused = (t : Text) → is_unsigned_in 0 MOST_TURNS t ≡ false → FailWith ((codes "--turns=" ++ t) ∷ []) ValueValidation
+
+abbrev pub ModesAreTold : Type 0
+ModesAreTold = AskFor (codes "--threads=single" ∷ []) None defaults × AskFor (codes "--threads=many" ∷ []) None (record defaults { threads = Many })
+
+abbrev pub WrongModesAreRefused : Type 0
+WrongModesAreRefused = (t : Text) → t ≢ codes "single" → t ≢ codes "many" → FailWith ((codes "--threads=" ++ t) ∷ []) InvalidValue
+
+abbrev pub PrintsAreTold : Type 0
+PrintsAreTold = AskFor (codes "--print=summary" ∷ []) None (record defaults { print = Summary }) × AskFor (codes "--print=history" ∷ []) None defaults × AskFor (codes "--print=chart" ∷ []) None (record defaults { print = Chart })
+
+abbrev pub WrongPrintsAreRefused : Type 0
+WrongPrintsAreRefused = (t : Text) → t ≢ codes "summary" → t ≢ codes "history" → t ≢ codes "chart" → FailWith ((codes "--print=" ++ t) ∷ []) InvalidValue
+
+abbrev pub HelpIsAsked : Type 0
+HelpIsAsked = FailWith (codes "--help" ∷ []) DisplayHelp × FailWith (codes "-h" ∷ []) DisplayHelp
