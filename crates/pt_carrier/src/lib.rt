@@ -54,8 +54,6 @@ mod ends;
 mod lane;
 mod opening;
 mod reunion;
-#[cfg(test)]
-mod tests;
 
 pub use ends::{Ins, MAX_DESKS, Outs, PostCause, Refused};
 pub use opening::{MAX_CAPACITY, open};

@@ -27,8 +27,6 @@ mod follower;
 mod layout;
 mod page;
 mod strokes;
-#[cfg(test)]
-mod tests;
 
 pub use drawing::chart;
 pub use layout::{Arrow, Column, Layout, Sending, lay_out};

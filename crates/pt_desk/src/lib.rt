@@ -60,8 +60,6 @@
 #![tactic(auto)]
 
 mod desk;
-#[cfg(test)]
-mod tests;
 mod turned;
 
 pub use desk::Desk;

@@ -47,9 +47,6 @@
 //! logarithm of the number of journals. `replay` takes time that grows with the square of the number of events.
 #![tactic(auto)]
 
-#[cfg(test)]
-mod tests;
-
 pub use pt_events::{Event, Journal, Stamped};
 pub use pt_judge::{Cause, State, replay};
 pub use pt_laws::{laws, links};

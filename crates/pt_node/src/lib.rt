@@ -36,10 +36,6 @@ mod making;
 mod opening;
 mod pairs;
 mod running;
-#[cfg(test)]
-mod tests;
-#[cfg(test)]
-mod worker_tests;
 
 pub use gathering::{DesksBack, gather};
 pub use opening::open;

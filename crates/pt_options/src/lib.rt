@@ -15,8 +15,6 @@ ghost use Rattle.pt_options.specs.declared.choices.TheConstants.{MOST_TURNS};
 
 mod choices;
 pub mod laws;
-#[cfg(test)]
-mod tests;
 
 pub use choices::{MOST_TURNS, Mode, Options, Show};
 use clap::builder::ValueParser;

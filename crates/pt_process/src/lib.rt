@@ -49,8 +49,6 @@ mod many;
 mod outcome;
 mod process;
 mod rows;
-#[cfg(test)]
-mod tests;
 mod verdict;
 
 pub use entries::Entries;

@@ -33,8 +33,6 @@ mod history;
 mod reporting;
 mod running;
 mod summary;
-#[cfg(test)]
-mod tests;
 mod totals;
 
 pub use fault::ReportFault;

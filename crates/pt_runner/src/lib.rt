@@ -32,8 +32,6 @@
 mod calls;
 mod runner;
 mod start;
-#[cfg(test)]
-mod tests;
 
 pub use runner::Runner;
 pub use start::config;

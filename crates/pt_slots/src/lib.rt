@@ -375,6 +375,3 @@ impl<T> Slots<T> {
         self.get(key).is_some()
     }
 }
-
-#[cfg(test)]
-mod tests;

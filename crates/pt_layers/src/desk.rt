@@ -1,0 +1,187 @@
+//! `pt_desk`: two desks and the letters between them. What the calls answer is compared when the tests run.
+
+ghost use Rattle.std.specs.Prelude.{◌≡◌, ◌≤◌, ◌∷◌, []};
+ghost use Rattle.pt_carrier.specs.Node.{IsNode};
+ghost use Rattle.pt_shard.specs.Opening.{IsInRange};
+ghost use Rattle.pt_desk.specs.DeskState.{place};
+
+use pt_carrier::{open, reunite};
+use pt_desk::Desk;
+use pt_shard::{Config, Fault, Shard};
+use pt_signal::{Body, Item, Pick, Pid, Reason};
+use std::alloc::Global;
+use std::process::Abort;
+
+fn config(lane: u32) -> Config
+    requires { (1 ≤ lane) × (lane ≤ 65536) }
+    ensures range { IsInRange result }
+    ensures desks { result.desks ≡ 2 }
+{
+    Config {
+        desks: 2,
+        slots: 8,
+        top_version: u32::MAX,
+        lane,
+        start: 0,
+    }
+}
+
+/// The two desks of a node on which nothing has happened.
+fn two_desks(rt: &impl Abort, alloc: Global, lane: u32) -> (Desk, Desk)
+    requires { (1 ≤ lane) × (lane ≤ 65536) }
+    ensures { IsNode (place result.0 ∷ place result.1 ∷ []) }
+{
+    let config = config(lane);
+    let left = Shard::new(alloc, config, 0).expect(rt, "memory");
+    let right = Shard::new(alloc, config, 1).expect(rt, "memory");
+    let mut ends = open(alloc, 2, lane).expect(rt, "memory");
+    let (outs, ins) = ends.remove(0);
+    let left = Desk::whole(left, outs, ins);
+    let (outs, ins) = ends.remove(0);
+    let right = Desk::whole(right, outs, ins);
+    ends.destroy_empty();
+    (left, right)
+}
+
+/// Spends the two desks, with the letters that are left over.
+fn spend(rt: &impl Abort, alloc: Global, left: Desk, right: Desk)
+    requires { IsNode (place left ∷ place right ∷ []) }
+{
+    let mut ends = Vec::with_capacity(alloc, 2).expect(rt, "memory");
+    let (_, outs, ins) = left.apart();
+    ends.push_reserved((outs, ins));
+    let (_, outs, ins) = right.apart();
+    ends.push_reserved((outs, ins));
+    match reunite(alloc, ends) {
+        Ok(_left_over) => {}
+        Err(back) => back.abandon(),
+    }
+}
+
+fn message(kind: u32, num: i64) -> Body {
+    Body {
+        kind,
+        num,
+        who: None,
+    }
+}
+
+fn send(desk: &mut Desk, from: Pid, to: Pid, kind: u32, num: i64) -> Result<(), Fault>
+    ensures { place desk.new ≡ place desk.old }
+{
+    if !desk.knows(to) {
+        return Err(Fault::Full);
+    }
+    desk.send(from, to, message(kind, num))
+}
+
+/// What a turn posted and handled, where nothing stopped it.
+fn turn(desk: &mut Desk, budget: u32) -> Option<(u64, u64)>
+    ensures { place desk.new ≡ place desk.old }
+{
+    let turned = desk.turn(budget);
+    match turned.stopped {
+        None => Some((turned.posted, turned.handled)),
+        Some(_) => None,
+    }
+}
+
+/// The kind and number of the first message that fits.
+fn receive(desk: &mut Desk, p: Pid, pick: Pick) -> Option<(u32, i64)>
+    ensures { place desk.new ≡ place desk.old }
+{
+    match desk.receive(p, pick) {
+        Ok(Some(Item::User(_, body))) => Some((body.kind, body.num)),
+        _ => None,
+    }
+}
+
+#[test]
+fn a_turn_posts_and_then_handles(rt: HostRuntime) {
+    let (mut left, mut right) = two_desks(&rt, rt.alloc(), 8);
+    let a = left.spawn().expect(&rt, "memory");
+    let b = right.spawn().expect(&rt, "memory");
+    assert_eq!(rt; send(&mut left, a, b, 1, 10), Ok(()));
+    assert_eq!(rt; send(&mut left, a, b, 1, 20), Ok(()));
+    assert_eq!(rt; send(&mut left, a, a, 2, 30), Ok(()));
+    assert_eq!(rt; left.pending(), 3);
+    assert_eq!(rt; turn(&mut left, 16), Some((3, 1)));
+    assert_eq!(rt; left.pending(), 0);
+    assert_eq!(rt; turn(&mut right, 1), Some((0, 1)));
+    assert_eq!(rt; turn(&mut right, 16), Some((0, 1)));
+    assert_eq!(rt; right.clock(), 4);
+    assert_eq!(rt; receive(&mut right, b, Pick::Any), Some((1, 10)));
+    assert_eq!(rt; receive(&mut right, b, Pick::Any), Some((1, 20)));
+    assert_eq!(rt; receive(&mut left, a, Pick::Any), Some((2, 30)));
+    spend(&rt, rt.alloc(), left, right);
+}
+
+#[test]
+fn a_narrow_lane_keeps_the_order(rt: HostRuntime) {
+    let (mut left, mut right) = two_desks(&rt, rt.alloc(), 1);
+    let a = left.spawn().expect(&rt, "memory");
+    let b = right.spawn().expect(&rt, "memory");
+    assert_eq!(rt; send(&mut left, a, b, 1, 10), Ok(()));
+    assert_eq!(rt; send(&mut left, a, b, 1, 20), Ok(()));
+    assert_eq!(rt; turn(&mut left, 16), Some((1, 0)));
+    assert_eq!(rt; left.pending(), 1);
+    assert_eq!(rt; turn(&mut left, 16), Some((0, 0)));
+    assert_eq!(rt; turn(&mut right, 0), Some((0, 0)));
+    assert_eq!(rt; turn(&mut right, 16), Some((0, 1)));
+    assert_eq!(rt; turn(&mut left, 16), Some((1, 0)));
+    assert_eq!(rt; turn(&mut right, 16), Some((0, 1)));
+    assert_eq!(rt; receive(&mut right, b, Pick::Any), Some((1, 10)));
+    assert_eq!(rt; receive(&mut right, b, Pick::Any), Some((1, 20)));
+    spend(&rt, rt.alloc(), left, right);
+}
+
+/// Two processes of the desk meet: each call that may be refused for memory, and what it answers.
+fn is_each_call_done(desk: &mut Desk) -> Result<bool, Fault>
+    ensures { place desk.new ≡ place desk.old }
+{
+    let a = desk.spawn()?;
+    let b = desk.spawn_child(a, false)?;
+    if !desk.knows(a) {
+        return Ok(false);
+    }
+    desk.link(b, a)?;
+    let linked = turn(desk, 16) == Some((1, 1)) && desk.linked(a, b).is_some();
+    if !desk.knows(a) {
+        return Ok(false);
+    }
+    desk.unlink(b, a)?;
+    let cut = turn(desk, 16) == Some((1, 1)) && desk.linked(a, b).is_none();
+    if !desk.knows(a) {
+        return Ok(false);
+    }
+    let watch = desk.monitor(b, a)?;
+    let watched = desk.demonitor(b, watch, true)?;
+    let before = desk.trap(a, true)?;
+    if !desk.knows(a) {
+        return Ok(false);
+    }
+    desk.exit_signal(b, a, Reason::Shutdown)?;
+    if !desk.knows(a) {
+        return Ok(false);
+    }
+    let question = desk.ask_alive(b, a)?;
+    let told = turn(desk, 16) == Some((4, 4)) && turn(desk, 16) == Some((1, 1));
+    let item = desk.receive(a, Pick::ExitOf(b))?;
+    let answer = desk.receive(b, Pick::AliveOf(question))?;
+    desk.exit(a, Reason::Normal)?;
+    let all = linked
+        && cut
+        && watched
+        && !before
+        && told
+        && answer.is_some()
+        && !desk.alive_here(a);
+    Ok(all && item == Some(Item::Exit(b, Reason::Shutdown)))
+}
+
+#[test]
+fn each_call_answers(rt: HostRuntime) {
+    let (mut left, right) = two_desks(&rt, rt.alloc(), 8);
+    assert_eq!(rt; is_each_call_done(&mut left), Ok(true));
+    spend(&rt, rt.alloc(), left, right);
+}

@@ -1,0 +1,223 @@
+//! `pt_process`: processes and their lists, of few entries and of many.
+
+use pt_process::{Entries, Estate, Outcome, Process};
+use pt_signal::{Body, Ids, Item, LinkId, Pick, Pid, Reason, Ref, Signal};
+use std::alloc::Global;
+use std::test::Fail;
+
+fn pid(slot: u32) -> Pid {
+    Pid {
+        shard: 0,
+        slot,
+        version: 1,
+    }
+}
+
+fn link(number: u64) -> LinkId {
+    LinkId { desk: 0, number }
+}
+
+fn monitor(number: u64) -> Ref {
+    Ref { desk: 0, number }
+}
+
+fn message(kind: u32) -> Body {
+    Body {
+        kind,
+        num: 0,
+        who: None,
+    }
+}
+
+/// The helpers promise nothing, so that a test is proved fast; what they answer shows when it runs.
+fn process(alloc: Global) -> Process {
+    Process::new(alloc, pid(0))
+}
+
+fn does(process: &mut Process, from: u32, signal: Signal, outcome: Outcome) -> bool {
+    match process.accept(pid(from), signal) {
+        Ok(answer) => answer == outcome,
+        Err(_) => false,
+    }
+}
+
+fn takes(process: &mut Process, pick: Pick, kind: u32) -> bool {
+    process.take(pick) == Some(Item::User(pid(9), message(kind)))
+}
+
+fn watches(process: &mut Process, number: u64, target: u32) -> bool {
+    process.add_monitor(monitor(number), pid(target)).is_ok()
+}
+
+fn estate(process: Process) -> Estate {
+    process.estate(Reason::Shutdown)
+}
+
+fn owes(estate: &Estate, i: usize, to: u32, signal: Signal) -> bool {
+    i < estate.len() && estate.owed(i) == (pid(to), signal)
+}
+
+#[test]
+fn entries_stand_in_order_of_entry(rt: HostRuntime) -> Result<(), Fail> {
+    let mut entries: Entries<u32, u32> = Entries::new(rt.alloc());
+    entries.insert(1, 10)?;
+    entries.insert(2, 20)?;
+    entries.insert(3, 30)?;
+    assert_eq!(rt; entries.remove(&1), Some(10));
+    entries.insert(1, 40)?;
+    entries.insert(2, 50)?;
+    assert_eq!(rt; entries.get(&3), Some(30));
+    let rows = entries.into_rows();
+    assert_eq!(rt; rows.len(), 3);
+    assert_eq!(rt; rows.at(0), (2, 50));
+    assert_eq!(rt; rows.at(1), (3, 30));
+    assert_eq!(rt; rows.at(2), (1, 40));
+    Ok(())
+}
+
+#[test]
+fn more_than_eight_entries_stand_in_order_of_entry(rt: HostRuntime) -> Result<(), Fail> {
+    let mut entries: Entries<u32, u32> = Entries::new(rt.alloc());
+    for key in 1..=10 {
+        entries.insert(key, key + 100)?;
+    }
+    assert_eq!(rt; entries.remove(&3), Some(103));
+    assert_eq!(rt; entries.remove(&10), Some(110));
+    assert_eq!(rt; entries.get(&3), None);
+    entries.insert(7, 207)?;
+    // A key that left a gap goes last.
+    entries.insert(3, 203)?;
+    assert_eq!(rt; entries.get(&3), Some(203));
+    assert_eq!(rt; entries.len(), 9);
+    let rows = entries.into_rows();
+    assert_eq!(rt; rows.len(), 9);
+    assert_eq!(rt; rows.at(0), (1, 101));
+    assert_eq!(rt; rows.at(2), (4, 104));
+    assert_eq!(rt; rows.at(5), (7, 207));
+    assert_eq!(rt; rows.at(8), (3, 203));
+    Ok(())
+}
+
+#[test]
+fn entries_are_found_once_gaps_are_closed(rt: HostRuntime) -> Result<(), Fail> {
+    let mut entries: Entries<u32, u32> = Entries::new(rt.alloc());
+    for key in 1..=12 {
+        entries.insert(key, key + 10)?;
+    }
+    for key in [2, 1, 4, 6, 8, 7, 10] {
+        entries.remove(&key);
+    }
+    entries.insert(2, 22)?;
+    assert_eq!(rt; entries.remove(&3), Some(13));
+    assert_eq!(rt; entries.get(&5), Some(15));
+    let rows = entries.into_rows();
+    assert_eq!(rt; rows.len(), 5);
+    assert_eq!(rt; rows.at(0), (5, 15));
+    assert_eq!(rt; rows.at(3), (12, 22));
+    assert_eq!(rt; rows.at(4), (2, 22));
+    Ok(())
+}
+
+#[test]
+fn a_live_process_is_asked_and_hears(rt: HostRuntime) {
+    let mut process = process(rt.alloc());
+    assert!(rt;
+        does(
+            &mut process,
+            1,
+            Signal::AliveAsk(monitor(3)),
+            Outcome::Asked(monitor(3))
+        )
+    );
+    assert!(rt;
+        does(
+            &mut process,
+            2,
+            Signal::AliveSay(monitor(5), false),
+            Outcome::Queued
+        )
+    );
+    assert!(rt; process.take(Pick::AliveOf(monitor(3))).is_none());
+    assert!(rt;
+        process.take(Pick::AliveOf(monitor(5))) == Some(Item::Alive(monitor(5), pid(2), false))
+    );
+}
+
+#[test]
+fn a_mailbox_is_drained_in_order(rt: HostRuntime) {
+    let mut process = process(rt.alloc());
+    for kind in [1, 2, 3, 2] {
+        assert!(rt;
+            does(
+                &mut process,
+                9,
+                Signal::Message(message(kind)),
+                Outcome::Queued
+            )
+        );
+    }
+    assert!(rt; takes(&mut process, Pick::Kind(2), 2));
+    assert!(rt; takes(&mut process, Pick::Any, 1));
+    assert!(rt; takes(&mut process, Pick::From(pid(9)), 3));
+    assert!(rt; takes(&mut process, Pick::Any, 2));
+}
+
+#[test]
+fn an_entry_of_two_drops_a_third_link(rt: HostRuntime) {
+    let mut process = process(rt.alloc());
+    assert!(rt; does(&mut process, 1, Signal::Link(link(4)), Outcome::Changed));
+    assert!(rt; does(&mut process, 1, Signal::Link(link(6)), Outcome::Changed));
+    assert!(rt; does(&mut process, 1, Signal::Link(link(8)), Outcome::Dropped));
+}
+
+#[test]
+fn a_watch_is_kept_once(rt: HostRuntime) {
+    let mut process = process(rt.alloc());
+    assert!(rt;
+        does(
+            &mut process,
+            1,
+            Signal::Monitor(monitor(3)),
+            Outcome::Changed
+        )
+    );
+    assert!(rt;
+        does(
+            &mut process,
+            1,
+            Signal::Monitor(monitor(3)),
+            Outcome::Dropped
+        )
+    );
+    assert!(rt;
+        does(
+            &mut process,
+            1,
+            Signal::Demonitor(monitor(3)),
+            Outcome::Changed
+        )
+    );
+}
+
+#[test]
+fn an_end_owes_in_order(rt: HostRuntime) {
+    let mut process = process(rt.alloc());
+    assert!(rt; watches(&mut process, 1, 5));
+    assert!(rt;
+        does(
+            &mut process,
+            6,
+            Signal::Monitor(monitor(7)),
+            Outcome::Changed
+        )
+    );
+    assert!(rt; does(&mut process, 2, Signal::Link(link(2)), Outcome::Changed));
+    let estate = estate(process);
+    let ids = Ids {
+        one: link(2),
+        two: None,
+    };
+    assert!(rt; owes(&estate, 0, 2, Signal::LinkExit(ids, Reason::Shutdown)));
+    assert!(rt; owes(&estate, 1, 6, Signal::Down(monitor(7), Reason::Shutdown)));
+    assert!(rt; owes(&estate, 2, 5, Signal::Demonitor(monitor(1))));
+}
