@@ -1,42 +1,46 @@
-use Rattle.std.proofs.Common.{◌<◌, Ok, Err, sym, ap, ◌∙◌, subst, arith}
-use Rattle.pt_carrier.specs.Ends.{Place}
+use Rattle.std.proofs.Common.{◌≡◌, ◌<◌, Ok, Err, sym, ap, ◌∙◌, subst, arith}
+use Rattle.pt_carrier.specs.Ends.{Place, Collects}
 use Rattle.pt_carrier.proofs.Collecting.{collects, is_first}
-use Rattle.pt_shard.specs.ShardState.{ShardState}
+use Rattle.pt_shard.specs.ShardState.{ShardState, Handles as ShardHandles}
 use Rattle.pt_desk.specs.Turns.{HandlesNext, Stays}
 use Rattle.pt_desk.proofs.Turning.{is_free, front_handled, front_refused, next_collected, collected_accounted, refused_accounted, stays_collected}
 use Rattle.pt_desk.proofs.Posted.{of_parts}
 use Rattle.pt_desk.proofs.desk.Desk.handle.Goals as goal
 
+-- the letter is refused: the shard is what it was
+same_shard : (c : goal.After-hold_front-arg-in-Err-1) → c.handle_front.new.shard ≡ c.self.inside.shard
+same_shard c = front_refused c.in-Some.from c.next_from.new.self c.self.inside.shard c.handle_front.new.shard c.in-Err.stop c.in-Err.ensures.does
+
 pub hold_front-requires-clause-empty : goal.hold_front-requires-clause-empty
-hold_front-requires-clause-empty c =
-    let i = c.self.inside in
-    ap (λ (s : ShardState). s.hold) (front_refused c.in-Some.from c.next_from.new.self i.shard c.handle_front.new.shard c.in-Err.stop c.in-Err.ensures.does)
-    ∙ is_free i.shard.hold (sym c.if-holds.ensures)
+hold_front-requires-clause-empty c = ap (λ (s : ShardState). s.hold) (same_shard c) ∙ is_free c.self.inside.shard.hold (sym c.if-holds.ensures)
 
 pub hold_front-requires-clause-here : goal.hold_front-requires-clause-here
 hold_front-requires-clause-here c =
-    let i = c.self.inside in
-    ap (λ (p : Place). p.number) c.in-Some.ensures.same.0 ∙ c.self.invariant.accounts.in_number
-    ∙ ap (λ (s : ShardState). s.number) (sym (front_refused c.in-Some.from c.next_from.new.self i.shard c.handle_front.new.shard c.in-Err.stop c.in-Err.ensures.does))
+    ap (λ (p : Place). p.number) c.in-Some.ensures.same.0 ∙ c.self.invariant.accounts.in_number ∙ ap (λ (s : ShardState). s.number) (sym (same_shard c))
 
 pub hold_front-requires-clause-near : goal.hold_front-requires-clause-near
 hold_front-requires-clause-near c =
-    let i = c.self.inside in
-    subst (λ (s : ShardState). c.in-Some.from < s.config.desks)
-    (sym (front_refused c.in-Some.from c.next_from.new.self i.shard c.handle_front.new.shard c.in-Err.stop c.in-Err.ensures.does))
-    (omega (arith, c.in-Some.ensures.some.0.0, c.self.invariant.accounts.in_desks))
+    subst (λ (s : ShardState). c.in-Some.from < s.config.desks) (sym (same_shard c)) (omega (arith, c.in-Some.ensures.some.0.0, c.self.invariant.accounts.in_desks))
+
+-- the letter is handled, and taken out of its lane
+taken : (c : goal.After-take) → Collects c.self.inside.ins c.take.new.self c.in-Some.from c.take.result
+taken c =
+    let found = c.in-Some.ensures in
+    let takes = c.take.ensures in
+    collects c.self.inside.ins c.next_from.new.self c.take.new.self c.in-Some.from c.take.result found.same.0 found.same.2 found.some.0 takes.collects takes.others
+
+done : (c : goal.After-take) → ShardHandles c.take.result c.self.inside.shard (Ok c.in-Ok._ended) c.handle_front.new.shard
+done c =
+    front_handled c.in-Some.from c.next_from.new.self c.take.new.self c.take.result c.self.inside.shard c.handle_front.new.shard (Ok c.in-Ok._ended)
+    c.in-Ok.ensures.does c.take.ensures.collects
 
 pub invariant_of-self-in-Ok : goal.invariant_of-self-in-Ok
 invariant_of-self-in-Ok c =
     let i = c.self.inside in
-    let found = c.in-Some.ensures in
-    let takes = c.take.ensures in
-    let does = front_handled c.in-Some.from c.next_from.new.self c.take.new.self c.take.result i.shard c.handle_front.new.shard (Ok c.in-Ok._ended) c.in-Ok.ensures.does takes.collects in
     record {
       fit = c.in-Ok.ensures.fit;
-      accounts = collected_accounted i.shard i.outs i.ins c.take.new.self c.in-Some.from c.take.result (is_free i.shard.hold (sym c.if-holds.ensures))
-          (collects i.ins c.next_from.new.self c.take.new.self c.in-Some.from c.take.result found.same.0 found.same.2 found.some.0 takes.collects takes.others)
-          (takes.place ∙ found.same.0) c.handle_front.new.shard c.self.invariant.fit.boxes c.self.invariant.accounts does.1;
+      accounts = collected_accounted i.shard i.outs i.ins c.take.new.self c.in-Some.from c.take.result (is_free i.shard.hold (sym c.if-holds.ensures)) (taken c)
+          (c.take.ensures.place ∙ c.in-Some.ensures.same.0) c.handle_front.new.shard c.self.invariant.fit.boxes c.self.invariant.accounts (done c).1;
     }
 
 pub returns-in-Ok : goal.returns-in-Ok
@@ -44,27 +48,34 @@ returns-in-Ok c =
     let i = c.self.inside in
     let found = c.in-Some.ensures in
     let takes = c.take.ensures in
-    let does = front_handled c.in-Some.from c.next_from.new.self c.take.new.self c.take.result i.shard c.handle_front.new.shard (Ok c.in-Ok._ended) c.in-Ok.ensures.does takes.collects in (
+    let first = is_first i.ins c.next_from.new.self c.take.new.self c.in-Some.from c.take.result found.same.0 found.same.2 found.some.0 takes.collects takes.others found.some.1 in (
       c.take.result,
       subst (λ d. HandlesNext c.take.result d (of_parts c.handle_front.new.shard i.outs c.take.new.self)) c.self.view_is
-          (next_collected i.shard i.outs i.ins c.take.new.self c.in-Some.from c.take.result (is_free i.shard.hold (sym c.if-holds.ensures))
-          (collects i.ins c.next_from.new.self c.take.new.self c.in-Some.from c.take.result found.same.0 found.same.2 found.some.0 takes.collects takes.others)
-          (takes.place ∙ found.same.0)
-          (is_first i.ins c.next_from.new.self c.take.new.self c.in-Some.from c.take.result found.same.0 found.same.2 found.some.0 takes.collects takes.others found.some.1)
-          c.handle_front.new.shard does.0 does.1),
+          (next_collected i.shard i.outs i.ins c.take.new.self c.in-Some.from c.take.result (is_free i.shard.hold (sym c.if-holds.ensures)) (taken c)
+          (takes.place ∙ found.same.0) first c.handle_front.new.shard (done c).0 (done c).1),
     )
+
+-- the letter is refused, and taken out of its lane into the hold
+held : (c : goal.After-hold_front) → Collects c.self.inside.ins c.hold_front.new.ins c.in-Some.from c.hold_front.ensures.holds.letter
+held c =
+    let found = c.in-Some.ensures in
+    let takes = c.hold_front.ensures.holds in
+    collects c.self.inside.ins c.next_from.new.self c.hold_front.new.ins c.in-Some.from takes.letter found.same.0 found.same.2 found.some.0 takes.collects takes.others
+
+stopped : (c : goal.After-hold_front) → ShardHandles c.hold_front.ensures.holds.letter c.self.inside.shard (Err c.in-Err.stop) c.handle_front.new.shard
+stopped c =
+    let takes = c.hold_front.ensures.holds in
+    front_handled c.in-Some.from c.next_from.new.self c.hold_front.new.ins takes.letter c.self.inside.shard c.handle_front.new.shard (Err c.in-Err.stop)
+    c.in-Err.ensures.does takes.collects
 
 pub invariant_of-self-in-Err : goal.invariant_of-self-in-Err
 invariant_of-self-in-Err c =
     let i = c.self.inside in
-    let found = c.in-Some.ensures in
     let takes = c.hold_front.ensures.holds in
-    let does = front_handled c.in-Some.from c.next_from.new.self c.hold_front.new.ins takes.letter i.shard c.handle_front.new.shard (Err c.in-Err.stop) c.in-Err.ensures.does takes.collects in
     record {
       fit = c.hold_front.ensures.fit;
-      accounts = refused_accounted i.shard i.outs i.ins c.hold_front.new.ins c.in-Some.from takes.letter (is_free i.shard.hold (sym c.if-holds.ensures))
-          (collects i.ins c.next_from.new.self c.hold_front.new.ins c.in-Some.from takes.letter found.same.0 found.same.2 found.some.0 takes.collects takes.others)
-          (takes.place ∙ found.same.0) c.handle_front.new.shard c.hold_front.new.shard c.in-Err.stop c.self.invariant.accounts does takes.held;
+      accounts = refused_accounted i.shard i.outs i.ins c.hold_front.new.ins c.in-Some.from takes.letter (is_free i.shard.hold (sym c.if-holds.ensures)) (held c)
+          (takes.place ∙ c.in-Some.ensures.same.0) c.handle_front.new.shard c.hold_front.new.shard c.in-Err.stop c.self.invariant.accounts (stopped c) takes.held;
     }
 
 pub returns-in-Err : goal.returns-in-Err
@@ -72,10 +83,7 @@ returns-in-Err c =
     let i = c.self.inside in
     let found = c.in-Some.ensures in
     let takes = c.hold_front.ensures.holds in
-    let does = front_handled c.in-Some.from c.next_from.new.self c.hold_front.new.ins takes.letter i.shard c.handle_front.new.shard (Err c.in-Err.stop) c.in-Err.ensures.does takes.collects in
+    let first = is_first i.ins c.next_from.new.self c.hold_front.new.ins c.in-Some.from takes.letter found.same.0 found.same.2 found.some.0 takes.collects takes.others found.some.1 in
     subst (λ d. Stays c.in-Err.stop d (of_parts c.hold_front.new.shard i.outs c.hold_front.new.ins)) c.self.view_is
-    (stays_collected i.shard i.outs i.ins c.hold_front.new.ins c.in-Some.from takes.letter (is_free i.shard.hold (sym c.if-holds.ensures))
-    (collects i.ins c.next_from.new.self c.hold_front.new.ins c.in-Some.from takes.letter found.same.0 found.same.2 found.some.0 takes.collects takes.others)
-    (takes.place ∙ found.same.0)
-    (is_first i.ins c.next_from.new.self c.hold_front.new.ins c.in-Some.from takes.letter found.same.0 found.same.2 found.some.0 takes.collects takes.others found.some.1)
-    c.handle_front.new.shard c.hold_front.new.shard c.in-Err.stop does takes.held)
+    (stays_collected i.shard i.outs i.ins c.hold_front.new.ins c.in-Some.from takes.letter (is_free i.shard.hold (sym c.if-holds.ensures)) (held c)
+    (takes.place ∙ found.same.0) first c.handle_front.new.shard c.hold_front.new.shard c.in-Err.stop (stopped c) takes.held)
