@@ -12,12 +12,6 @@ front_or l (x ∷ xs) = x
 pub front_is : (front x : Letter) (ys xs : List Letter) → IsPrefix (front ∷ []) ys → ys ≡ x ∷ xs → front ≡ x
 front_is front x ys xs h e = ap (front_or front) (h.1 ∙ e)
 
-pub front_from : (front x : Letter) (ys xs : List Letter) (n : ℕ) → IsPrefix (front ∷ []) ys → ys ≡ x ∷ xs → front.from.shard ≡ n → x.from.shard ≡ n
-front_from front x ys xs n h e s = sym (ap (λ (l : Letter). l.from.shard) (front_is front x ys xs h e)) ∙ s
-
-pub front_to : (front x : Letter) (ys xs : List Letter) (n : ℕ) → IsPrefix (front ∷ []) ys → ys ≡ x ∷ xs → front.to.shard ≡ n → x.to.shard ≡ n
-front_to front x ys xs n h e s = sym (ap (λ (l : Letter). l.to.shard) (front_is front x ys xs h e)) ∙ s
-
 -- a letter that names the desks of its lane is what the lane shows of it
 named : (from to : ℕ) (l : Letter) → l.from.shard ≡ from → l.to.shard ≡ to → on_lane from to l ≡ l
 named from to l f t = λ i. record l { from = record l.from { shard = sym f i }; to = record l.to { shard = sym t i } }

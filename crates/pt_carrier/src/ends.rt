@@ -1,6 +1,7 @@
 //! The ends of one desk.
 
 ghost use Rattle.std.specs.Prelude.{◌≡◌, ◌≢◌, ℕ, ◌⊎◌, ◌+◌, ◌*◌, ◌-◌, ◌%◌, ◌^◌, ◌<◌, ◌≤◌, min, length, [], IsOk, OnOk, IfErr, IfSome, IfNone, slice_index_or};
+ghost use Rattle.pt_signal.specs.declared.letter.Letter.{Letter};
 ghost use Rattle.pt_carrier.specs.declared.ends.TheConstants.{MAX_DESKS};
 ghost use Rattle.pt_carrier.specs.Ends.{OutEnds, InEnds, out_ends, in_ends, GoOutFrom, ComeInTo, one_more, IsFull, LooksAt, Collects, Shows, ShowNone, IsFirst, IsFront};
 ghost use Rattle.pt_carrier.specs.Node.{lists};
@@ -236,9 +237,26 @@ impl Ins {
         ensures place { self.new.place ≡ self.old.place }
         ensures others { (k : ℕ) → k ≢ from → slice_index_or self.new.known k [] ≡ slice_index_or self.old.known k [] }
     {
-        let letter = self.lanes[usize::from(from)].take_known();
-        self.cursor = next_desk(from, self.lanes.len());
+        let letter = match self.front(from) {
+            Some(front) => *front,
+            None => self.front_addressed(from),
+        };
+        self.pass(from);
         letter
+    }
+
+    /// Lets the oldest letter that is known to wait in the lane from desk `from` go, as `take` does, but moves nothing.
+    ///
+    /// It is for a caller that is done with what `front` showed: to move a letter out costs as much as to handle it.
+    #[inline(always)]
+    pub fn pass(&mut self, from: u8)
+        requires { (from < length self.old.place.rings) × (0 < length (slice_index_or self.old.known from [])) }
+        ensures collects { (letter : Letter) × Collects self.old self.new from letter }
+        ensures place { self.new.place ≡ self.old.place }
+        ensures others { (k : ℕ) → k ≢ from → slice_index_or self.new.known k [] ≡ slice_index_or self.old.known k [] }
+    {
+        self.lanes[usize::from(from)].pass();
+        self.cursor = next_desk(from, self.lanes.len());
     }
 
     /// How many letters were collected from desk `from`, staying at `u64::MAX` once it is reached.

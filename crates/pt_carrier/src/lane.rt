@@ -5,6 +5,7 @@ ghost use Rattle.std.specs.Bool.{OnTrue, OnFalse};
 ghost use mathlib.Core.List.{IsPrefix};
 ghost use Rattle.std.specs.Vec.{vec_capacity};
 ghost use Rattle.rtrb.specs.Ring.{sent, known_free, producer_capacity, received, known_items};
+ghost use Rattle.pt_signal.specs.declared.letter.Letter.{Letter};
 ghost use Rattle.pt_carrier.specs.Lanes.{Sending, Receiving, sending_ring, receiving_ring, on_lane, new_sending, new_receiving};
 
 use pt_signal::Letter;
@@ -134,44 +135,15 @@ impl InLane {
         letter
     }
 
-    /// Takes the oldest letter that is known to wait. It names the desks of this lane.
-    ///
-    /// The letter is looked at in its place, so that it is moved once and whole.
+    /// Lets the oldest letter that is known to wait go. It is not moved out of its place.
     #[inline(always)]
-    #[tactic(auto, using(crate::proofs::Taking::front_from, crate::proofs::Taking::front_to))]
-    pub(crate) fn take_known(&mut self) -> Letter
+    pub(crate) fn pass(&mut self)
         requires { 0 < length self.old.known }
         ensures same { (self.new.ring ≡ self.old.ring) × (self.new.from ≡ self.old.from) × (self.new.to ≡ self.old.to) }
-        ensures taken { self.old.known ≡ result ∷ self.new.known }
-        ensures collected { self.new.collected ≡ self.old.collected ++ result ∷ [] }
-        ensures shards { (result.from.shard ≡ self.old.from) × (result.to.shard ≡ self.old.to) }
+        ensures passed { (letter : Letter) × (self.old.known ≡ letter ∷ self.new.known) × (self.new.collected ≡ self.old.collected ++ letter ∷ []) × (letter.from.shard ≡ self.old.from) × (letter.to.shard ≡ self.old.to) }
     {
-        let front = self.ring.peek_known();
-        if front.from.shard != self.from || front.to.shard != self.to {
-            return self.take_addressed();
-        }
-        let letter = self.ring.pop_known();
+        let _ = self.ring.pop_known();
         self.count = self.count.saturating_add(1);
-        letter
-    }
-
-    /// The same, with the desks of this lane written into the letter. One that was posted names them, so this is never
-    /// called; but the end that receives cannot see that. To write the two numbers each time would move each letter in
-    /// pieces.
-    #[cold]
-    #[inline(never)]
-    fn take_addressed(&mut self) -> Letter
-        requires { 0 < length self.old.known }
-        ensures same { (self.new.ring ≡ self.old.ring) × (self.new.from ≡ self.old.from) × (self.new.to ≡ self.old.to) }
-        ensures taken { self.old.known ≡ result ∷ self.new.known }
-        ensures collected { self.new.collected ≡ self.old.collected ++ result ∷ [] }
-        ensures shards { (result.from.shard ≡ self.old.from) × (result.to.shard ≡ self.old.to) }
-    {
-        let mut oldest = self.ring.pop_known();
-        self.count = self.count.saturating_add(1);
-        oldest.from.shard = self.from;
-        oldest.to.shard = self.to;
-        oldest
     }
 
     /// Moves the letters that are known to wait to the end of the list, which has room for them.
@@ -180,7 +152,8 @@ impl InLane {
         ensures { list.new.items ≡ list.old.items ++ self.old.known }
     {
         for _k in 0..self.known() {
-            list.push_reserved(self.take_known());
+            list.push_reserved(self.front_addressed());
+            self.pass();
         }
     }
 }
