@@ -9,11 +9,7 @@ use Rattle.std.proofs.lemmas.Option.{slice_get_past}
 use Rattle.std.proofs.lemmas.List.Folds.{find_at}
 use Rattle.std.proofs.lemmas.List.Sums.{prefix_len-le-length}
 use Rattle.pt_signal.specs.Values.{without_first}
-use Rattle.pt_process.specs.Places.{IsFirst}
-
-abbrev pub IsFirstPlace : {X : Type 0} → (X → Bool) → List X → Option ℕ → Type 0
-IsFirstPlace test items None = (find test items ≡ None) × (without_first test items ≡ items)
-IsFirstPlace test items (Some k) = (k < length items) × (find test items ≡ slice_get items k) × (remove items k ≡ without_first test items)
+use Rattle.pt_process.specs.Places.{IsFirst, IsFirstPlace}
 
 module _ {X : Type 0} where
   spun : (front : List X) (z : X) (back : List X) (all : List X) → all ≡ front ++ z ∷ []

@@ -60,7 +60,8 @@ impl Mailbox {
         Ok(())
     }
 
-    fn position(&self, pick: Pick) -> Option<usize>
+    /// The place of the first item that fits.
+    pub fn position(&self, pick: Pick) -> Option<usize>
         ensures { result ≡ position (fits pick) self.now }
     {
         let waiting = self.as_slice();
@@ -122,13 +123,17 @@ fn close_gap(items: &mut Vec<Item>, head: &mut usize)
 {
     let waiting = items.len() - *head;
     if *head > waiting {
-        bring_forward(items, *head);
+        if waiting > 0 {
+            bring_forward(items, *head);
+        }
         items.truncate(waiting);
         *head = 0;
     }
 }
 
-/// Copies what stands from the head on to the front, in one block: `copy_within` goes item by item.
+/// Copies what stands from the head on to the front, in one block: `copy_within` goes item by item. Most takes leave an
+/// empty mailbox, for which there is nothing to copy.
+#[inline(never)]
 fn bring_forward(items: &mut [Item], head: usize)
     requires within { head ≤ length items.old }
     requires apart { length items.old - head ≤ head }

@@ -6,7 +6,7 @@ ghost use Rattle.std.specs.Map.{lookup, remove_entry};
 ghost use Rattle.pt_signal.specs.Values.{fits, same_pid, same_ref, without_first};
 ghost use Rattle.pt_signal.specs.Process.{fresh, held, holds_any, same_watch, cut, handle, queued, obey, verdict, say, estate};
 ghost use Rattle.pt_process.specs.Outcome.{Accepts, has_two, ruled};
-ghost use Rattle.pt_process.specs.Places.{IsFirst};
+ghost use Rattle.pt_process.specs.Places.{IsFirst, IsFirstPlace};
 ghost use Rattle.pt_process.specs.Peers.{peers};
 
 use crate::{Entries, Estate, ExitSignal, Mailbox, Outcome, Verdict};
@@ -177,6 +177,13 @@ impl Process {
         ensures { IsFirst (fits pick) self.now.state.waiting result }
     {
         self.waiting.first(pick)
+    }
+
+    /// The place of the first item that fits, among those that wait; `take_at` takes it.
+    pub fn place(&self, pick: Pick) -> Option<usize>
+        ensures { IsFirstPlace (fits pick) self.now.state.waiting result }
+    {
+        self.waiting.position(pick)
     }
 
     /// Takes the item at a place; the others stay, in order.

@@ -595,11 +595,11 @@ fn take(
 ) -> Result<Option<Item>, Fault>
     ensures { Acts (taking p pick process.old.state) (find (fits pick) process.old.state.waiting) process.old ledger.old result process.new ledger.new }
 {
-    let Some((place, item)) = process.first(pick) else {
+    let Some(place) = process.place(pick) else {
         return Ok(None);
     };
     ledger.prepare(0)?;
-    process.take_at(place);
+    let item = process.take_at(place);
     ledger.write(0, Event::Took(p, pick, item));
     Ok(Some(item))
 }
