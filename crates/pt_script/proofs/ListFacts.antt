@@ -1,5 +1,5 @@
 -- A list is read one operation after the other.
-use Rattle.std.proofs.Common.{◌≡◌, ℕ, zero, suc, true, false, Some, ◌+◌, ◌-◌, List, [], ◌∷◌, ◌++◌, length, Result, Ok, Err, refl, ap, sym, ◌∙◌, append_assoc, append-nil, ◌<◌, ◌≤◌, get_or, drop, arith}
+use Rattle.std.proofs.Common.{◌≡◌, ℕ, zero, suc, true, false, ◌+◌, ◌-◌, List, [], ◌∷◌, ◌++◌, length, Result, Ok, Err, refl, ap, sym, ◌∙◌, append_assoc, append-nil, ◌<◌, ◌≤◌, get_or, drop, arith}
 use Rattle.std.proofs.lemmas.List.{drop_more, drop_all}
 use Rattle.serde_json.specs.Data.{Data}
 use Rattle.pt_script.specs.declared.fault.ScriptError.{ScriptError}
@@ -11,7 +11,7 @@ use Rattle.pt_script.specs.declared.fault.Place.{Place}
 use Rattle.pt_script.specs.declared.fault.ScriptError.TheVariants.{Refused, Memory}
 use Rattle.pt_script.specs.Operations.{is_spawn}
 use Rattle.pt_script.specs.Plans.{Plan}
-use Rattle.pt_script.specs.Lists.{Part, Step, list_at, list_from, list_with, step_at, one_at, limits, placed, at_operation, fresh, simple, spawned, Refuses, ReadsSimple, ReadsStep}
+use Rattle.pt_script.specs.Lists.{Part, Step, list_from, list_with, step_at, one_at, limits, placed, at_operation, simple, spawned, Refuses, ReadsSimple, ReadsStep}
 
 -- what was read before, and then what read gives
 abbrev pub behind : List Operation → List Plan → Result Part ScriptError → Result Part ScriptError

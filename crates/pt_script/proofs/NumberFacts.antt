@@ -1,6 +1,5 @@
 -- The number in a reason's text.
-use Rattle.std.proofs.Common.{◌≡◌, ℕ, ◌+◌, ◌<◌, ◌≤◌, ◌^◌, List, [], ◌∷◌, ◌++◌, Bool, true, false, length, take, drop, Result, Ok, Err, refl, ap, sym, ◌∙◌, arith, rules}
-use Rattle.std.specs.Prelude.{codes}
+use Rattle.std.proofs.Common.{◌≡◌, ℕ, ◌<◌, ◌≤◌, ◌^◌, List, ◌++◌, Bool, true, false, length, take, drop, Result, Ok, Err, refl, ap, sym, ◌∙◌, arith, rules}
 use Rattle.std.specs.List.{list_all}
 use Rattle.std.specs.Result.{OkIff}
 use Rattle.std.specs.Str.{bytes_eq}
@@ -9,7 +8,6 @@ use Rattle.std.specs.Str.Pattern.{LacksTextAt}
 use Rattle.std.proofs.lemmas.List.{take-append-drop}
 use Rattle.std.proofs.lemmas.Slice.Eq.{bytes_eq-Decides}
 use Rattle.std.proofs.lemmas.Str.Parse.{IsNumeralModel, numerals_by_value, parse_digits}
-use Rattle.pt_script.specs.declared.fault.Fault.{Fault}
 use Rattle.pt_script.specs.declared.fault.Fault.TheVariants.{Bounds}
 use Rattle.pt_script.specs.Operations.{is_decimal, number}
 use Rattle.pt_script.specs.Scopes.{is_digit}

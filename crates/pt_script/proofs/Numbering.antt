@@ -1,10 +1,8 @@
 -- Scripts as a whole: the place of a fault is in the text, and numbers are places.
-use Rattle.std.proofs.Common.{◌≡◌, ℕ, zero, suc, ◌+◌, ◌-◌, ◌<◌, ◌≤◌, List, [], ◌∷◌, ◌++◌, Bool, true, false, length, length-append, get_or, map, min, Option, Some, None, Result, Ok, Err, refl, ap, sym, subst, ◌∙◌, arith, append_assoc, append-nil}
-use Rattle.std.specs.Prelude.{IfOk, codes, is_some, if◌then◌else◌, nat_le, nat_lt, sum_by}
-use Rattle.std.specs.Map.{update}
+use Rattle.std.proofs.Common.{◌≡◌, ℕ, zero, suc, ◌+◌, ◌-◌, ◌<◌, List, [], ◌∷◌, ◌++◌, Bool, true, false, length, length-append, get_or, map, min, Option, Some, None, Result, Ok, Err, refl, ap, sym, subst, ◌∙◌, arith, append_assoc, append-nil}
+use Rattle.std.specs.Prelude.{IfOk, codes, is_some, if◌then◌else◌, nat_le, nat_lt}
 use Rattle.std.specs.Str.{bytes_eq, is_utf8}
 use Rattle.std.proofs.lemmas.Slice.Eq.{bytes_eq-Decides}
-use Rattle.std.proofs.lemmas.List.{get_or-append_right}
 use Rattle.serde_json.specs.Data.{Data, null, boolean, number, string, array, object}
 use Rattle.serde_json.specs.Find.{get}
 use Rattle.serde_json.specs.Read.{read}
@@ -21,8 +19,8 @@ use Rattle.pt_script.specs.Members.{known, whole, required, optional, list, flag
 use Rattle.pt_script.specs.Operations.{is_spawn, new_name}
 use Rattle.pt_script.specs.Scopes.{Naming, Scope, is_own_name}
 use Rattle.pt_script.specs.Lists.{Part, placed, at_script, at_process, fresh, list_from}
-use Rattle.pt_script.specs.Scripts.{Heads, Head, Pending, Lists, settings, head, with_head, next_head, no_heads, next_list, no_lists, few, room, number_behind, begun_in, spawned_by, loose, script, script_of, reading}
-use Rattle.pt_script.specs.Standing.{ops_of, spawns_in, processes_in, processes_of, all_processes, Stands, IsAmong, HasPlace, AreOperationsOf, ArePlansOf, AreTopsOf, AreNamesOf, IsNumbered}
+use Rattle.pt_script.specs.Scripts.{Heads, Head, Pending, Lists, settings, head, with_head, next_head, no_heads, next_list, no_lists, few, room, begun_in, spawned_by, loose, script, script_of, reading}
+use Rattle.pt_script.specs.Standing.{ops_of, spawns_in, processes_in, processes_of, all_processes, Stands, HasPlace, AreOperationsOf, ArePlansOf, AreTopsOf, AreNamesOf, IsNumbered}
 use Rattle.pt_script.proofs.SoundSteps.{bind, skip, where_ok, either}
 use Rattle.pt_script.proofs.SoundLists.{sum_cons}
 use Rattle.pt_script.proofs.Standing.{Told, told, told_placed, In, StandFrom, front, behind, own_all, plans_append, plans_length, PartOf, list_from_of}

@@ -1,5 +1,5 @@
 -- What bytes say, where they are a value's text and where they are none.
-use Rattle.std.proofs.Common.{◌≡◌, ℕ, ◌≤◌, List, Bool, true, false, length, Option, Some, None, Result, Ok, Err, refl, ap, sym, ◌∙◌, arith}
+use Rattle.std.proofs.Common.{◌≡◌, ℕ, ◌≤◌, List, Bool, true, false, length, Some, None, Err, refl, arith}
 use Rattle.std.specs.Prelude.{nat_lt}
 use Rattle.std.specs.Str.{IsUtf8, is_utf8}
 use Rattle.std.proofs.lemmas.Str.{IsUtf8-from_is_utf8, is_utf8-from_IsUtf8}
@@ -8,7 +8,7 @@ use Rattle.serde_json.specs.Read.{read}
 use Rattle.pt_script.specs.declared.fault.Fault.TheVariants.{Syntax}
 use Rattle.pt_script.specs.declared.fault.ScriptError.TheVariants.{Refused}
 use Rattle.pt_script.specs.Lists.{at_script}
-use Rattle.pt_script.specs.Scripts.{reading, script, script_of}
+use Rattle.pt_script.specs.Scripts.{reading, script}
 
 not_long : (bytes : List ℕ) → length bytes ≤ 1048576 → nat_lt 1048576 (length bytes) ≡ false
 not_long bytes short = grind arith

@@ -1,7 +1,6 @@
 -- A reason is read from the text that it is printed as.
-use Rattle.std.proofs.Common.{◌≡◌, ℕ, ◌+◌, ◌<◌, ◌≤◌, ◌^◌, List, [], ◌∷◌, ◌++◌, Bool, true, false, length, get_or, take, drop, Result, Ok, Err, refl, ap, sym, ◌∙◌, arith}
+use Rattle.std.proofs.Common.{◌≡◌, ℕ, ◌<◌, ◌^◌, List, ◌++◌, Bool, true, false, length, get_or, take, drop, Result, Ok, Err, refl, ap, sym, ◌∙◌, arith}
 use Rattle.std.specs.Prelude.{IfOk, codes, decimal, if◌then◌else◌, nat_lt}
-use Rattle.std.specs.List.{list_all}
 use Rattle.std.specs.Str.{bytes_eq}
 use Rattle.std.specs.Str.Parse.{digits_value}
 use Rattle.std.proofs.lemmas.List.{take-append-drop}
@@ -14,7 +13,6 @@ use Rattle.pt_script.specs.declared.fault.Fault.{Fault}
 use Rattle.pt_script.specs.declared.fault.Fault.TheVariants.{Field, Bounds}
 use Rattle.pt_script.specs.Steps.{◌>>=◌}
 use Rattle.pt_script.specs.Operations.{is_decimal, number, other_reason, reason_of}
-use Rattle.pt_script.specs.Scopes.{is_digit}
 use Rattle.pt_script.proofs.NumberFacts.{own, all_digits, not_empty}
 use Rattle.pt_script.proofs.SoundSteps.{bind}
 

@@ -1,15 +1,12 @@
 -- What lists say fits their scope, begins as many processes as were counted before, and keeps the limits.
-use Rattle.std.proofs.Common.{◌≡◌, ℕ, zero, suc, ◌+◌, ◌<◌, ◌≤◌, List, [], ◌∷◌, ◌++◌, Bool, true, false, length, length-append, Option, Some, None, Result, Ok, Err, refl, ap, sym, ◌∙◌, arith}
-use Rattle.std.specs.Prelude.{IfOk, codes, if◌then◌else◌, nat_le, sum_by}
-use Rattle.std.specs.List.{All}
+use Rattle.std.proofs.Common.{◌≡◌, ℕ, zero, suc, ◌+◌, ◌<◌, ◌≤◌, List, [], ◌∷◌, ◌++◌, Bool, true, false, length, length-append, Some, Ok, refl, ap, sym, arith}
+use Rattle.std.specs.Prelude.{IfOk, codes, if◌then◌else◌, sum_by}
 use Rattle.std.specs.Str.{bytes_eq}
 use Rattle.std.proofs.lemmas.List.Elements.{All-nil, All-cons, All-append}
 use Rattle.std.proofs.lemmas.List.Sums.{sum_by-append}
 use Rattle.serde_json.specs.Data.{Data}
 use Rattle.serde_json.specs.Find.{get}
-use Rattle.pt_script.specs.declared.fault.Fault.{Fault}
 use Rattle.pt_script.specs.declared.fault.Place.{Place}
-use Rattle.pt_script.specs.declared.fault.ScriptError.{ScriptError}
 use Rattle.pt_script.specs.declared.values.Operation.{Operation}
 use Rattle.pt_script.specs.declared.values.Operation.TheVariants as operation
 use Rattle.pt_script.specs.Plans.{Plan}
@@ -19,7 +16,7 @@ use Rattle.pt_script.specs.Operations.{Spawning, is_spawn, spawn, new_name}
 use Rattle.pt_script.specs.Scopes.{Scope, process_in}
 use Rattle.pt_script.specs.Scripts.{begun_in, spawned_by, loose}
 use Rattle.pt_script.specs.Lists.{Part, Step, Reader, placed, at_operation, fresh, with_child, limits, spawned, simple, one_at, list_with, no_list, list_from}
-use Rattle.pt_script.specs.Sound.{IsBelow, Fits, ListFits, PlansFit, tags_made, operations_of}
+use Rattle.pt_script.specs.Sound.{IsBelow, ListFits, PlansFit, tags_made, operations_of}
 use Rattle.pt_script.proofs.ListFacts.{limits_levels}
 use Rattle.pt_script.proofs.SoundSteps.{bind, skip, where_ok, under, either, placed_ok, ScopeFits, Goes, simple_goes}
 

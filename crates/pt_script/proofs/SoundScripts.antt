@@ -1,31 +1,27 @@
 -- Every script that is accepted is sound.
-use Rattle.std.proofs.Common.{◌≡◌, ℕ, zero, suc, ◌+◌, ◌-◌, ◌<◌, ◌≤◌, List, [], ◌∷◌, ◌++◌, Bool, true, false, length, length-append, Option, Some, None, Result, Ok, Err, refl, ap, sym, ◌∙◌, arith}
-use Rattle.std.specs.Prelude.{IfOk, codes, if◌then◌else◌, nat_le, nat_lt, ◌&&◌, ◌==◌}
+use Rattle.std.proofs.Common.{◌≡◌, ℕ, ◌+◌, ◌-◌, ◌<◌, ◌≤◌, List, [], ◌∷◌, ◌++◌, false, length, length-append, Option, Some, None, Result, Ok, Err, refl, ap, sym, ◌∙◌, arith}
+use Rattle.std.specs.Prelude.{IfOk, codes, if◌then◌else◌, nat_le, nat_lt, ◌&&◌}
 use Rattle.std.specs.List.{All}
-use Rattle.std.specs.Map.{update}
 use Rattle.std.specs.Str.{bytes_eq, is_utf8}
 use Rattle.std.proofs.lemmas.List.Elements.{All-nil, All-cons, All-append, All-head, All-tail}
 use Rattle.std.proofs.lemmas.List.Sums.{sum_by-append}
-use Rattle.serde_json.specs.Data.{Data, Num, unsigned, negative, float, null, boolean, number, string, array, object}
+use Rattle.serde_json.specs.Data.{Data, unsigned, negative, float, null, boolean, number, string, array, object}
 use Rattle.serde_json.specs.Find.{get}
 use Rattle.pt_script.specs.declared.fault.Fault.{Fault}
 use Rattle.pt_script.specs.declared.fault.Fault.TheVariants.{Syntax, Bounds}
-use Rattle.pt_script.specs.declared.fault.Place.{Place}
 use Rattle.pt_script.specs.declared.fault.ScriptError.{ScriptError}
 use Rattle.pt_script.specs.declared.fault.ScriptError.TheVariants.{Refused}
 use Rattle.serde_json.specs.Read.{read}
-use Rattle.pt_script.specs.declared.values.Operation.{Operation}
 use Rattle.pt_script.specs.declared.values.Settings.{Settings}
-use Rattle.pt_script.specs.declared.values.Top.{Top}
 use Rattle.pt_script.specs.Plans.{Plan, Whole}
 use Rattle.pt_script.specs.Steps.{◌>>=◌, each}
 use Rattle.pt_script.specs.Members.{known, whole, required, optional, list, flag}
 use Rattle.pt_script.specs.Operations.{new_name}
 use Rattle.pt_script.specs.Scopes.{Naming, Scope}
 use Rattle.pt_script.specs.Lists.{Part, placed, at_script, at_process, fresh, list_from}
-use Rattle.pt_script.specs.Scripts.{Heads, Head, Pending, Lists, settings, head, with_head, next_head, no_heads, next_list, no_lists, few, room, number_behind, begun_in, spawned_by, loose, script, script_of, reading}
+use Rattle.pt_script.specs.Scripts.{Heads, Head, Pending, Lists, settings, head, with_head, next_head, no_heads, next_list, no_lists, few, room, number_behind, begun_in, spawned_by, script, script_of, reading}
 use Rattle.pt_script.specs.Sound.{IsBelow, TopFits, ListFits, PlansFit, InRange, IsSound, operations_of}
-use Rattle.pt_script.proofs.SoundSteps.{bind, skip, where_ok, under, either, placed_ok, required_ok, optional_ok, ScopeFits}
+use Rattle.pt_script.proofs.SoundSteps.{bind, skip, where_ok, either, placed_ok, required_ok, optional_ok}
 use Rattle.pt_script.proofs.SoundLists.{PartFits, list_from_fits, sum_cons}
 
 -- settings -----------------------------------------------------------------------

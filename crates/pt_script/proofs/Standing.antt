@@ -1,12 +1,12 @@
 -- The place of a fault is in the text, and numbers are places.
-use Rattle.std.proofs.Common.{◌≡◌, ℕ, zero, suc, ◌+◌, ◌-◌, ◌<◌, ◌≤◌, List, [], ◌∷◌, ◌++◌, Bool, true, false, length, length-append, get_or, Option, Some, None, Result, Ok, Err, refl, ap, sym, subst, ◌∙◌, arith, append_assoc, append-nil}
-use Rattle.std.specs.Prelude.{IfOk, codes, if◌then◌else◌, nat_le, nat_lt, ◌&&◌, sum_by, min}
-use Rattle.std.specs.Str.{bytes_eq, is_utf8}
-use Rattle.serde_json.specs.Data.{Data, null, string}
+use Rattle.std.proofs.Common.{◌≡◌, ℕ, zero, suc, ◌+◌, ◌<◌, List, [], ◌∷◌, ◌++◌, Bool, true, false, length, get_or, Some, Result, Ok, Err, refl, ap, sym, subst, ◌∙◌, arith}
+use Rattle.std.specs.Prelude.{IfOk, codes, if◌then◌else◌, nat_le, ◌&&◌}
+use Rattle.std.specs.Str.{bytes_eq}
+use Rattle.serde_json.specs.Data.{Data, null}
 use Rattle.serde_json.specs.Find.{get}
 use Rattle.serde_json.specs.Read.{read}
 use Rattle.pt_script.specs.declared.fault.Fault.{Fault}
-use Rattle.pt_script.specs.declared.fault.Fault.TheVariants.{Syntax, Bounds}
+use Rattle.pt_script.specs.declared.fault.Fault.TheVariants.{Bounds}
 use Rattle.pt_script.specs.declared.fault.Place.{Place}
 use Rattle.pt_script.specs.declared.fault.ScriptError.{ScriptError}
 use Rattle.pt_script.specs.declared.fault.ScriptError.TheVariants.{Refused, Memory}
@@ -14,14 +14,14 @@ use Rattle.pt_script.specs.declared.values.Operation.{Operation}
 use Rattle.pt_script.specs.declared.values.Operation.TheVariants as operation
 use Rattle.pt_script.specs.Plans.{Plan}
 use Rattle.pt_script.specs.Steps.{◌>>=◌}
-use Rattle.pt_script.specs.Members.{required, list, text}
+use Rattle.pt_script.specs.Members.{required, text}
 use Rattle.pt_script.specs.Operations.{Spawning, is_spawn, spawn, tagged, plain}
 use Rattle.pt_script.specs.Scopes.{Scope, can_ask}
-use Rattle.pt_script.specs.Lists.{Part, Step, Reader, placed, at_script, at_process, at_operation, fresh, with_child, with_monitor, with_ask, limits, spawned, simple, named, one_at, list_with, no_list, list_from}
-use Rattle.pt_script.specs.Scripts.{loose, begun_in, spawned_by}
-use Rattle.pt_script.specs.Standing.{ops_of, spawns_in, processes_in, Stands, IsAmong, SpawnsAt, IsOperationOf, AreOperationsOf, ArePlansOf}
+use Rattle.pt_script.specs.Lists.{Part, Step, Reader, placed, at_process, at_operation, fresh, with_child, with_monitor, with_ask, limits, spawned, simple, named, one_at, list_with, no_list, list_from}
+use Rattle.pt_script.specs.Scripts.{loose}
+use Rattle.pt_script.specs.Standing.{ops_of, spawns_in, processes_in, Stands, IsAmong, IsOperationOf, AreOperationsOf, ArePlansOf}
 use Rattle.pt_script.proofs.ListFacts.{limits_levels}
-use Rattle.pt_script.proofs.SoundSteps.{bind, skip, where_ok, either}
+use Rattle.pt_script.proofs.SoundSteps.{skip, either}
 use Rattle.pt_script.proofs.SoundLists.{spawn_list, ListIs}
 
 -- what is read, or else the place of its fault

@@ -1,5 +1,5 @@
 -- What the readers of single operations give, in the words of the specs.
-use Rattle.std.proofs.Common.{◌≡◌, ℕ, ◌+◌, List, [], ◌∷◌, Bool, true, false, Option, Some, Result, Ok, Err, refl, ap, sym, ◌∙◌}
+use Rattle.std.proofs.Common.{◌≡◌, ℕ, ◌+◌, List, ◌∷◌, true, false, Some, Ok, refl}
 use Rattle.std.specs.Prelude.{codes}
 use Rattle.std.specs.Map.{update}
 use Rattle.std.specs.Str.{bytes_eq}
@@ -8,9 +8,8 @@ use Rattle.serde_json.specs.Find.{get}
 use Rattle.pt_script.specs.declared.fault.Place.{Place}
 use Rattle.pt_script.specs.declared.values.Operation.TheVariants as operation
 use Rattle.pt_script.specs.Members.{required, text}
-use Rattle.pt_script.specs.Operations.{Spawning, tagged, plain, spawn}
+use Rattle.pt_script.specs.Operations.{Spawning, tagged, spawn}
 use Rattle.pt_script.specs.Scopes.{Naming, Scope, can_ask}
-use Rattle.pt_script.specs.Steps.{◌>>=◌}
 use Rattle.pt_script.specs.Lists.{Part, Reader, fresh, simple, spawned}
 
 pub simple_monitor : (s : Scope) (d : Data) (op name : List ℕ) (to : ℕ) (ms : Naming) → required text (get (codes "op") d) ≡ Ok op → bytes_eq op (codes "monitor") ≡ true → tagged s d ≡ Ok (to, name) → ms ≡ (λ q. update bytes_eq s.monitors name (Some s.made) q) → simple s d ≡ Ok (operation.Monitor to s.made, record s { monitors = ms; made = s.made + 1 })

@@ -1,27 +1,25 @@
 -- An operation that was written is read back.
-use Rattle.std.proofs.Common.{◌≡◌, ℕ, zero, suc, ◌+◌, ◌<◌, ◌≤◌, ◌^◌, ℤ, pos, negsuc, List, [], ◌∷◌, ◌++◌, Bool, true, false, length, get_or, take, drop, Option, Some, None, Result, Ok, Err, refl, ap, sym, ◌∙◌, arith}
-use Rattle.std.specs.Prelude.{codes, decimal, ok_or, is_some, if◌then◌else◌, nat_lt, nat_le, ◌&&◌}
+use Rattle.std.proofs.Common.{◌≡◌, ℕ, zero, suc, ◌<◌, ◌^◌, ℤ, pos, negsuc, List, Bool, true, false, length, get_or, Some, None, Ok, refl, ap, sym, arith}
+use Rattle.std.specs.Prelude.{codes, decimal, ok_or, nat_lt}
 use Rattle.std.specs.List.{list_all}
-use Rattle.std.specs.Str.{bytes_eq}
 use Rattle.std.specs.Str.Parse.{digits_value}
 use Rattle.std.proofs.lemmas.Fmt.{digits_decimal, digits_value-decimal, decimal_nonempty, first_decimal, decimal_digit}
-use Rattle.serde_json.specs.Data.{Data, unsigned, negative, number, string, object, no_members}
+use Rattle.serde_json.specs.Data.{Data, unsigned, number, string, object, no_members}
 use Rattle.serde_json.specs.Find.{of_integer}
 use Rattle.pt_signal.specs.declared.reason.Reason.{Reason}
 use Rattle.pt_signal.specs.declared.reason.Reason.TheVariants.{Normal, Kill, Killed, Noproc, Shutdown, Other}
 use Rattle.pt_signal.specs.Text.{reason_text}
-use Rattle.pt_script.specs.declared.fault.Fault.{Fault}
-use Rattle.pt_script.specs.declared.fault.Fault.TheVariants.{Name, Field, Bounds}
+use Rattle.pt_script.specs.declared.fault.Fault.TheVariants.{Name}
 use Rattle.pt_script.specs.declared.values.Pattern.{Pattern}
 use Rattle.pt_script.specs.declared.values.Pattern.TheVariants as pattern
 use Rattle.pt_script.specs.declared.values.Operation.{Operation}
 use Rattle.pt_script.specs.declared.values.Operation.TheVariants as operation
 use Rattle.pt_script.specs.Steps.{◌>>=◌}
-use Rattle.pt_script.specs.Members.{known, whole, signed}
-use Rattle.pt_script.specs.Operations.{is_decimal, number as numeral, reason_of, process, new_tag, pick, pick_members, one_pick, kind, tagged, plain, send, receive, check, link, unlink, demonitor, trap, exit, signal, pass}
-use Rattle.pt_script.specs.Scopes.{Scope, can_ask, process_in, tag_in, is_name, is_digit}
-use Rattle.pt_script.specs.Lists.{simple, named, with_monitor, with_ask}
-use Rattle.pt_script.specs.Writing.{Called, with, written, pick_written, who_written, IsCalled, IsCalledIfAny, CanPick, FitsReason, FitsSigned, IsNewTag, CanSay, scope_behind}
+use Rattle.pt_script.specs.Members.{known, signed}
+use Rattle.pt_script.specs.Operations.{is_decimal, number as numeral, reason_of, process, new_tag, pick, pick_members, kind, tagged, plain, send, receive, check, link, unlink, demonitor, trap, exit, signal, pass}
+use Rattle.pt_script.specs.Scopes.{Scope, can_ask, is_digit}
+use Rattle.pt_script.specs.Lists.{simple, with_monitor, with_ask}
+use Rattle.pt_script.specs.Writing.{Called, with, written, IsCalled, CanPick, FitsReason, FitsSigned, IsNewTag, CanSay, scope_behind}
 use Rattle.pt_script.proofs.NumberFacts.{own}
 
 -- parts --------------------------------------------------------------------------

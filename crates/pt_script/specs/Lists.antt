@@ -16,7 +16,7 @@ use Rattle.pt_script.specs.declared.limits.TheConstants.{MAX_OPERATIONS, MAX_PRO
 use Rattle.pt_script.specs.Plans.{Plan}
 use Rattle.pt_script.specs.Steps.{◌>>=◌}
 use Rattle.pt_script.specs.Members.{required, text}
-use Rattle.pt_script.specs.Operations.{Spawning, is_spawn, plain, tagged, spawn}
+use Rattle.pt_script.specs.Operations.{is_spawn, plain, tagged, spawn}
 use Rattle.pt_script.specs.Scopes.{Naming, Scope, can_ask}
 
 abbrev pub at_script : Place

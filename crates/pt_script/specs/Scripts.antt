@@ -1,5 +1,5 @@
 -- A script as a whole: its settings, the heads of its processes, their lists.
-use Rattle.std.specs.Prelude.{◌≡◌, ℕ, zero, suc, ◌+◌, ◌-◌, ◌^◌, min, List, [], ◌∷◌, ◌++◌, codes, length, map, Bool, true, false, nat_le, nat_lt, ◌==◌, if◌then◌else◌, Option, Some, None, count_by, sum_by, Result, Ok, Err, Vec}
+use Rattle.std.specs.Prelude.{◌≡◌, ℕ, zero, suc, ◌+◌, ◌-◌, min, List, [], ◌∷◌, ◌++◌, codes, length, map, Bool, false, nat_le, nat_lt, ◌==◌, if◌then◌else◌, Option, Some, None, count_by, sum_by, Result, Ok, Err, Vec}
 use Rattle.std.specs.declared.alloc.Global.{Global}
 use Rattle.std.specs.Map.{update}
 use Rattle.std.specs.Str.{bytes_eq, is_utf8}
@@ -7,9 +7,9 @@ use Rattle.serde_json.specs.Data.{Data}
 use Rattle.serde_json.specs.Find.{get}
 use Rattle.serde_json.specs.Read.{read}
 use Rattle.pt_script.specs.declared.fault.Fault.{Fault}
-use Rattle.pt_script.specs.declared.fault.Fault.TheVariants.{Syntax, Field, Bounds}
+use Rattle.pt_script.specs.declared.fault.Fault.TheVariants.{Syntax, Bounds}
 use Rattle.pt_script.specs.declared.fault.ScriptError.{ScriptError}
-use Rattle.pt_script.specs.declared.fault.ScriptError.TheVariants.{Refused, Memory}
+use Rattle.pt_script.specs.declared.fault.ScriptError.TheVariants.{Refused}
 use Rattle.pt_script.specs.declared.values.Settings.{Settings}
 use Rattle.pt_script.specs.declared.values.Top.{Top}
 use Rattle.pt_script.specs.declared.limits.TheConstants.{DEFAULT_BUDGET, DEFAULT_LANE, DEFAULT_SLOTS, MAX_BUDGET, MAX_BYTES, MAX_DEPTH, MAX_DESKS, MAX_FORMAT, MAX_LANE, MAX_NESTING, MAX_PROCESSES, MAX_SLOTS}
@@ -21,7 +21,7 @@ use Rattle.pt_script.specs.Scopes.{Naming, naming}
 use Rattle.serde_json.specs.View.{view}
 use Rattle.pt_script.specs.declared.heads.Heads.{Heads as HeadsRead}
 use Rattle.pt_script.specs.declared.heads.Pending.{Pending as Unread}
-use Rattle.pt_script.specs.Lists.{Part, Refuses, placed, at_script, at_process, fresh, list_at}
+use Rattle.pt_script.specs.Lists.{Refuses, placed, at_script, at_process, fresh, list_at}
 
 unfoldable pub settings : Data → Result Settings Fault
 settings d = do

@@ -1,5 +1,5 @@
 -- How an operation is written as a value.
-use Rattle.std.specs.Prelude.{◌≡◌, ℕ, ◌+◌, ◌^◌, ◌<◌, ℤ, pos, negsuc, Bool, true, List, codes, Option, Some, None, ⊤}
+use Rattle.std.specs.Prelude.{◌≡◌, ℕ, ◌^◌, ◌<◌, ℤ, pos, negsuc, true, List, codes, Option, Some, None, ⊤}
 use Rattle.serde_json.specs.Data.{Data, unsigned, boolean, number, string, object, Members, no_members, member}
 use Rattle.serde_json.specs.Find.{of_integer}
 use Rattle.pt_signal.specs.declared.reason.Reason.{Reason}
@@ -9,7 +9,7 @@ use Rattle.pt_script.specs.declared.values.Pattern.{Pattern}
 use Rattle.pt_script.specs.declared.values.Pattern.TheVariants as pattern
 use Rattle.pt_script.specs.declared.values.Operation.{Operation}
 use Rattle.pt_script.specs.declared.values.Operation.TheVariants as operation
-use Rattle.pt_script.specs.Scopes.{Naming, Scope, can_ask, process_in, tag_in, is_name}
+use Rattle.pt_script.specs.Scopes.{Scope, can_ask, process_in, tag_in, is_name}
 use Rattle.pt_script.specs.Lists.{with_monitor, with_ask}
 
 -- what processes and tags are called, by their numbers

@@ -1,4 +1,4 @@
-use Rattle.std.proofs.Common.{◌≡◌, ℕ, ◌+◌, ◌-◌, ◌<◌, Ok, Err, List, length, map, ap, sym, ◌∙◌, arith, get_or}
+use Rattle.std.proofs.Common.{◌≡◌, ◌-◌, ◌<◌, Ok, length, map, ap, sym, ◌∙◌, arith}
 use Rattle.std.specs.Prelude.{codes, min}
 use Rattle.std.proofs.lemmas.List.{get_or-map, length-map}
 use Rattle.serde_json.specs.Find.{get}

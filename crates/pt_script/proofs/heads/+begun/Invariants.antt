@@ -1,4 +1,4 @@
-use Rattle.std.proofs.Common.{◌≡◌, ℕ, ◌+◌, ◌*◌, map, take}
+use Rattle.std.proofs.Common.{◌≡◌, ◌+◌, ◌*◌, map, take}
 use Rattle.std.specs.Prelude.{min}
 use Rattle.serde_json.specs.View.{view}
 use Rattle.pt_script.specs.Scripts.{begun_in, spawned_by}

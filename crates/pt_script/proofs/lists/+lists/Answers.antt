@@ -1,4 +1,4 @@
-use Rattle.std.proofs.Common.{◌≡◌, ℕ, ◌+◌, ◌<◌, List, ◌++◌, ◌∙◌, sym, ap, arith, Ok, rules, length, length-append, append_assoc, refl, [], ◌∷◌, ◌≤◌, get_or, set, map, vec_len}
+use Rattle.std.proofs.Common.{◌≡◌, ◌+◌, ◌<◌, ◌++◌, ◌∙◌, sym, ap, arith, Ok, rules, length, length-append, append_assoc, refl, [], ◌∷◌, set, map, vec_len}
 use Rattle.std.proofs.lemmas.Grind.{common_steps}
 use Rattle.pt_script.specs.Lists.{fresh, list_from}
 use Rattle.pt_script.specs.Operations.{Spawning, spawn}
@@ -8,7 +8,7 @@ use Rattle.std.proofs.lemmas.List.{get_or-map, length-map}
 use Rattle.std.proofs.lemmas.Result.{err_from_is_err_and}
 use Rattle.serde_json.specs.View.{view}
 use Rattle.pt_script.specs.Scopes.{Scope, scope_view, naming}
-use Rattle.pt_script.proofs.ListFacts.{behind_next, refuses_behind, behind_end, refuses_from, refuses_after, simple_reads, step_at-limits, step_at-simple, step_at-spawn_below}
+use Rattle.pt_script.proofs.ListFacts.{behind_next, refuses_behind, behind_end, refuses_from, simple_reads, step_at-limits, step_at-simple, step_at-spawn_below}
 use Rattle.pt_script.proofs.lists.+lists.Goals as goal
 
 pub read_list-returns-in_err-operation-clause-read : goal.read_list-returns-in_err-operation-clause-read

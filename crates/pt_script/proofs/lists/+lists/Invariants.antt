@@ -1,4 +1,4 @@
-use Rattle.std.proofs.Common.{◌≡◌, ℕ, ◌+◌, ◌*◌, ◌≤◌, List, ◌++◌, map, drop, vec_len}
+use Rattle.std.proofs.Common.{◌≡◌, ◌+◌, ◌*◌, ◌≤◌, List, ◌++◌, map, drop, vec_len}
 use Rattle.serde_json.specs.View.{view}
 use Rattle.pt_script.specs.Plans.{Plan}
 use Rattle.pt_script.specs.Lists.{list_at, list_from}
