@@ -1,5 +1,5 @@
 -- What a process does with the ledger of its desk. No public clause cites this module.
-use Rattle.std.specs.Prelude.{◌≡◌, ℕ, ◌+◌, ◌<◌, ◌≤◌, ◌||◌, max, Bool, cond, List, [], ◌∷◌, map, Option, Some, None, is_some, Result, Ok, Err, ⊤}
+use Rattle.std.specs.Prelude.{◌≡◌, ℕ, ◌+◌, ◌<◌, ◌≤◌, ◌||◌, max, Bool, cond, List, [], ◌∷◌, length, map, Option, Some, None, is_some, Result, Ok, Err, ⊤}
 use Rattle.std.specs.Bool.{then_some}
 use Rattle.std.specs.List.{find}
 use Rattle.std.specs.Map.{lookup}
@@ -9,6 +9,8 @@ use Rattle.pt_signal.specs.declared.ids.LinkId.{LinkId}
 use Rattle.pt_signal.specs.declared.ids.Ref.{Ref}
 use Rattle.pt_signal.specs.declared.item.Pick.{Pick}
 use Rattle.pt_signal.specs.declared.letter.Letter.{Letter}
+use Rattle.pt_signal.specs.declared.reason.Reason.{Reason}
+use Rattle.pt_signal.specs.declared.signal.Signal.{Signal}
 use Rattle.pt_signal.specs.declared.signal.Signal.TheVariants.{Link, Unlink, Demonitor}
 use Rattle.pt_signal.specs.Values.{fits, same_pid, same_ref, without_first}
 use Rattle.pt_signal.specs.Process.{ProcessState, held, say, sent, handle}
@@ -16,7 +18,7 @@ use Rattle.pt_events.specs.declared.event.Event.{Event}
 use Rattle.pt_events.specs.declared.event.Event.TheVariants.{Said, Took, Flag}
 use Rattle.pt_events.specs.Journal.{letter}
 use Rattle.pt_events.specs.declared.event.TheConstants.{MAX_STAMP}
-use Rattle.pt_process.specs.Resident.{Resident}
+use Rattle.pt_process.specs.Resident.{Resident, Owing}
 use Rattle.pt_process.specs.Peers.{peers}
 use Rattle.pt_shard.specs.declared.fault.Fault.{Fault}
 use Rattle.pt_shard.specs.declared.fault.Fault.TheVariants as fault
@@ -26,6 +28,8 @@ use Rattle.pt_shard.specs.ShardState.{came}
 use Rattle.pt_shard.specs.Backs.{living_back}
 use Rattle.pt_shard.specs.Calls.{if_asked}
 use Rattle.pt_shard.specs.LedgerState.{Book, LedgerState, wrote, HasRoomToAll}
+use Rattle.pt_shard.specs.Residents.{ResidentsState, Ends}
+use Rattle.pt_shard.specs.Sound.{Every}
 
 -- what an event of its own makes of a process
 abbrev pub done : Event → ProcessState → ProcessState
@@ -113,9 +117,29 @@ TakesIn x r l (Ok _) r' l' =
     × (l'.book ≡ wrote (max l.book.clock x.stamp + 1) (came x) (map (letter (max l.book.clock x.stamp + 1)) (map (sent x.to x.from) (option_to_list (living_back x.signal)))) l.book)
 TakesIn x r l (Err s) r' l' = IsStopped x s r l r' l'
 
+-- that goes back, if anything, from where the letter came to
+abbrev pub GivesBack : Letter → Option Signal → LedgerState → Result (Unit {0}) Stop → LedgerState → Type 0
+GivesBack x back l (Ok _) l' =
+    (max l.book.clock x.stamp < MAX_STAMP)
+    × (l'.book ≡ wrote (max l.book.clock x.stamp + 1) (came x) (map (letter (max l.book.clock x.stamp + 1)) (map (sent x.to x.from) (option_to_list back))) l.book)
+GivesBack x back l (Err Worn) l' = (MAX_STAMP ≤ max l.book.clock x.stamp) × (l'.book ≡ l.book)
+GivesBack x back l (Err Memory) l' = (max l.book.clock x.stamp < MAX_STAMP) × (l'.book ≡ l.book)
+
 -- the letter did to it what its signal does, and what it owed before finds room
 abbrev pub PreparesEnding : Letter → Resident → LedgerState → Result (Unit {0}) Stop → Resident → LedgerState → Type 0
 PreparesEnding x r l (Ok _) r' l' =
     (max l.book.clock x.stamp < MAX_STAMP) × (r'.me ≡ r.me) × (r'.state ≡ (handle r.me r.state x.from x.signal).state)
     × (l'.book ≡ l.book) × (0 < l'.room) × HasRoomToAll (peers r.state) l'
 PreparesEnding x r l (Err s) r' l' = IsStopped x s r l r' l'
+
+-- whatever the process p is found to owe at its end with this reason comes from it, and finds room
+abbrev pub IsReadyToEnd : Pid → Reason → ResidentsState → LedgerState → Type 0
+IsReadyToEnd p reason house l =
+    (after : ResidentsState) (owing : Owing) → after.desk ≡ house.desk → Ends p reason owing house.table after.table
+    → (owing.from ≡ p) × Every (λ x. x.to.shard < length l.book.outbox) owing.owed × HasRoomToAll (map (λ x. x.to) owing.owed) l
+
+-- the receiver ended by the letter with this reason, and what it owed is sent
+abbrev pub EndsBy : Letter → Reason → ResidentsState → LedgerState → ResidentsState → LedgerState → Type 0
+EndsBy x reason house l house' l' =
+    (owing : Owing) × (house'.desk ≡ house.desk) × Ends x.to reason owing house.table house'.table
+    × (l'.book ≡ wrote (max l.book.clock x.stamp + 1) (came x) (map (letter (max l.book.clock x.stamp + 1)) owing.owed) l.book)

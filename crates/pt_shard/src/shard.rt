@@ -1,6 +1,6 @@
 //! A desk without its lanes.
 
-ghost use Rattle.std.specs.Prelude.{◌≡◌, true, ◌<◌, ◌≤◌, ◌^◌, ◌-◌, min, drop, length, slice_get, Some, None, IfSome, IfOk, OnOk, cond, is_some};
+ghost use Rattle.std.specs.Prelude.{◌≡◌, true, ◌<◌, ◌≤◌, ◌^◌, ◌-◌, min, max, drop, length, slice_get, Some, None, IfSome, IsSome, IfOk, OnOk, cond, is_some};
 ghost use Rattle.std.specs.Option.{option_copied};
 ghost use Rattle.pt_signal.specs.declared.signal.Signal.{Signal};
 ghost use Rattle.pt_events.specs.declared.event.Event.{Event};
@@ -13,13 +13,15 @@ ghost use Rattle.pt_shard.specs.Fit.{IsFit};
 ghost use Rattle.pt_shard.specs.Outbox.{sent_on, holding, count_pending};
 ghost use Rattle.pt_shard.specs.Calls.{Calls, Monitors, Bears, BearsChild, link_event, unlink_event, first_match, take_event, demonitor_event, held_by, new_ref};
 ghost use Rattle.pt_shard.specs.Plain.{IsPlain};
-ghost use Rattle.pt_shard.specs.Backs.{living_back};
+ghost use Rattle.pt_signal.specs.Process.{answer_of_dead};
 ghost use Rattle.std.specs.List.{find};
 ghost use Rattle.std.specs.Map.{lookup};
 ghost use Rattle.pt_signal.specs.Values.{fits, same_ref};
 ghost use Rattle.pt_process.specs.Peers.{peers};
 ghost use Rattle.pt_shard.specs.Sound.{Every};
-ghost use Rattle.pt_shard.specs.Acts.{Acts, PreparesBirth, TakesIn, PreparesEnding, taking, linking, unlinking, giving_up, ref_after};
+ghost use Rattle.pt_shard.specs.Residents.{in_place};
+ghost use Rattle.pt_events.specs.declared.event.TheConstants.{MAX_STAMP};
+ghost use Rattle.pt_shard.specs.Acts.{Acts, PreparesBirth, TakesIn, GivesBack, PreparesEnding, IsReadyToEnd, EndsBy, taking, linking, unlinking, giving_up, ref_after};
 
 use crate::config::Config;
 use crate::fault::Fault;
@@ -400,9 +402,7 @@ impl Shard {
         ensures fit { IsFit self.new }
     {
         let Some(process) = self.house.find_mut(letter.to) else {
-            let back = letter.signal.answer_of_dead();
-            self.ledger.prepare_back(letter.stamp, back, letter.from)?;
-            self.ledger.receive(letter, back);
+            bounce(&mut self.ledger, letter)?;
             return Ok(None);
         };
         let Some(reason) = process.would_end(letter.from, &letter.signal) else {
@@ -410,9 +410,7 @@ impl Shard {
             return Ok(None);
         };
         prepare_ending(process, &mut self.ledger, letter)?;
-        let estate = self.house.end(letter.to, reason);
-        let event = Event::Came(letter.from, letter.to, letter.signal);
-        self.ledger.close(letter.stamp, event, letter.to, &estate);
+        end_by(&mut self.house, &mut self.ledger, letter, reason);
         Ok(Some(letter.to))
     }
 
@@ -627,9 +625,43 @@ fn take_in(process: &mut Process, ledger: &mut Ledger, letter: &Letter) -> Resul
     requires { letter.now.from.shard < length ledger.old.book.outbox }
     ensures { TakesIn letter.now process.old ledger.old result process.new ledger.new }
 {
-    let back = answer_of_living(letter.signal);
-    ledger.prepare_back(letter.stamp, back, letter.from)?;
+    if let Signal::AliveAsk(question) = letter.signal {
+        return answer(ledger, letter, question);
+    }
+    ledger.prepare(letter.stamp)?;
     process.accept(letter.from, letter.signal)?;
+    let event = Event::Came(letter.from, letter.to, letter.signal);
+    ledger.write(letter.stamp, event);
+    Ok(())
+}
+
+/// Answers for a live process that it is. The question changes nothing of the process.
+#[inline(never)]
+fn answer(ledger: &mut Ledger, letter: &Letter, question: Ref) -> Result<(), Stop>
+    requires { letter.now.from.shard < length ledger.old.book.outbox }
+    ensures { GivesBack letter.now (Some (Signal.AliveSay question true)) ledger.old result ledger.new }
+{
+    give_back(ledger, letter, Some(Signal::AliveSay(question, true)))
+}
+
+/// Sends what goes back where a letter comes to a process that is not alive.
+///
+/// It is not inlined, nor is `answer`, since each letter that is taken in would then clear places for the signal that
+/// goes back.
+#[inline(never)]
+fn bounce(ledger: &mut Ledger, letter: &Letter) -> Result<(), Stop>
+    requires { letter.now.from.shard < length ledger.old.book.outbox }
+    ensures { GivesBack letter.now (answer_of_dead letter.now.signal) ledger.old result ledger.new }
+{
+    give_back(ledger, letter, letter.signal.answer_of_dead())
+}
+
+/// Writes that a letter came, and sends what goes back, if anything.
+fn give_back(ledger: &mut Ledger, letter: &Letter, back: Option<Signal>) -> Result<(), Stop>
+    requires { letter.now.from.shard < length ledger.old.book.outbox }
+    ensures { GivesBack letter.now back ledger.old result ledger.new }
+{
+    ledger.prepare_back(letter.stamp, back, letter.from)?;
     ledger.receive(letter, back);
     Ok(())
 }
@@ -646,12 +678,16 @@ fn prepare_ending(process: &mut Process, ledger: &mut Ledger, letter: &Letter) -
     Ok(())
 }
 
-/// How a live process answers a signal, if it does.
-fn answer_of_living(signal: Signal) -> Option<Signal>
-    ensures { result ≡ living_back signal }
+/// Ends a process by a letter that was prepared, and sends what it owes.
+#[inline(never)]
+fn end_by(house: &mut Residents, ledger: &mut Ledger, letter: &Letter, reason: Reason)
+    requires lives { IsSome (in_place house.old.table letter.now.to) }
+    requires can { max ledger.old.book.clock letter.now.stamp < MAX_STAMP }
+    requires room { 0 < ledger.old.room }
+    requires owes { IsReadyToEnd letter.now.to reason house.old ledger.old }
+    ensures { EndsBy letter.now reason house.old ledger.old house.new ledger.new }
 {
-    match signal {
-        Signal::AliveAsk(question) => Some(Signal::AliveSay(question, true)),
-        _ => None,
-    }
+    let estate = house.end(letter.to, reason);
+    let event = Event::Came(letter.from, letter.to, letter.signal);
+    ledger.close(letter.stamp, event, letter.to, &estate);
 }

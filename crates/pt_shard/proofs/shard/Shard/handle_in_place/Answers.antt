@@ -18,24 +18,37 @@ use Rattle.pt_shard.proofs.Bearing.{Unchanged, unchanged, same_table}
 use Rattle.pt_shard.proofs.Receiving.{receipt_stamp, bounced, ended_outcome, owed_near, owed_counted, owing_from, still_in_mid, nobody_ends, who_ends, receipt_book}
 use Rattle.pt_shard.proofs.shard.Shard.handle_in_place.Goals as goal
 
-did_bounce : (c : goal.After-receive) → Outcome (parts_of c.self.inside.config c.self.inside.ledger.book c.self.inside.house) (parts_of c.self.inside.config c.receive.new.self.book c.self.inside.house) (receipt_stamp (parts_of c.self.inside.config c.self.inside.ledger.book c.self.inside.house) c.args.letter.now) (came c.args.letter.now)
-did_bounce c =
-    bounced (parts_of c.self.inside.config c.self.inside.ledger.book c.self.inside.house) c.self.invariant c.args.letter.now (c.requires.here ∙ sym (ap (λ (d : ShardState). d.number) c.self.view_is)) (subst (λ (d : ShardState). c.args.letter.now.from.shard < d.config.desks) (sym c.self.view_is) c.requires.near) c.in_ok-prepare_back.ensures.1 c.receive.new.self.book c.self.inside.house refl refl (nobody c.self.inside.house.desk c.self.inside.house.table c.args.letter.now.to c.in_default.ensures.value)
-    (receipt_book (parts_of c.self.inside.config c.self.inside.ledger.book c.self.inside.house) c.args.letter.now c.prepare_back.new.self.book c.receive.new.self.book c.answer_of_dead-back.result c.in_ok-prepare_back.ensures.0 c.receive.ensures
-    ∙ ap (λ (o : Option Signal). wrote (receipt_stamp (parts_of c.self.inside.config c.self.inside.ledger.book c.self.inside.house) c.args.letter.now) (came c.args.letter.now) (map (letter (receipt_stamp (parts_of c.self.inside.config c.self.inside.ledger.book c.self.inside.house) c.args.letter.now)) (map (sent c.args.letter.now.to c.args.letter.now.from) (option_to_list o))) c.self.inside.ledger.book) c.answer_of_dead-back.ensures)
-
 pub invariant_of-self-in_default : goal.invariant_of-self-in_default
-invariant_of-self-in_default c = (did_bounce c).whole
+invariant_of-self-in_default c =
+    let one : Outcome (parts_of c.self.inside.config c.self.inside.ledger.book c.self.inside.house) (parts_of c.self.inside.config c.bounce.new.ledger.book c.self.inside.house) (receipt_stamp (parts_of c.self.inside.config c.self.inside.ledger.book c.self.inside.house) c.args.letter.now) (came c.args.letter.now) = (
+    bounced (parts_of c.self.inside.config c.self.inside.ledger.book c.self.inside.house) c.self.invariant c.args.letter.now (c.requires.here ∙ sym (ap (λ (d : ShardState). d.number) c.self.view_is)) (subst (λ (d : ShardState). c.args.letter.now.from.shard < d.config.desks) (sym c.self.view_is) c.requires.near) c.in_ok-bounce.ensures.0 c.bounce.new.ledger.book c.self.inside.house refl refl (nobody c.self.inside.house.desk c.self.inside.house.table c.args.letter.now.to c.in_default.ensures.value)
+    c.in_ok-bounce.ensures.1
+    ) in
+    one.whole
 
 pub returns-in_default-clause-does : goal.returns-in_default-clause-does
 returns-in_default-clause-does c =
-    subst (λ d. Handles c.args.letter.now d (Ok (None)) (shard_of (parts_of c.self.inside.config c.receive.new.self.book c.self.inside.house))) c.self.view_is (c.in_ok-prepare_back.ensures.1, (did_bounce c).is, nobody_ends (parts_of c.self.inside.config c.self.inside.ledger.book c.self.inside.house) c.self.invariant c.args.letter.now (nobody c.self.inside.house.desk c.self.inside.house.table c.args.letter.now.to c.in_default.ensures.value))
+    let one : Outcome (parts_of c.self.inside.config c.self.inside.ledger.book c.self.inside.house) (parts_of c.self.inside.config c.bounce.new.ledger.book c.self.inside.house) (receipt_stamp (parts_of c.self.inside.config c.self.inside.ledger.book c.self.inside.house) c.args.letter.now) (came c.args.letter.now) = (
+    bounced (parts_of c.self.inside.config c.self.inside.ledger.book c.self.inside.house) c.self.invariant c.args.letter.now (c.requires.here ∙ sym (ap (λ (d : ShardState). d.number) c.self.view_is)) (subst (λ (d : ShardState). c.args.letter.now.from.shard < d.config.desks) (sym c.self.view_is) c.requires.near) c.in_ok-bounce.ensures.0 c.bounce.new.ledger.book c.self.inside.house refl refl (nobody c.self.inside.house.desk c.self.inside.house.table c.args.letter.now.to c.in_default.ensures.value)
+    c.in_ok-bounce.ensures.1
+    ) in
+    subst (λ d. Handles c.args.letter.now d (Ok (None)) (shard_of (parts_of c.self.inside.config c.bounce.new.ledger.book c.self.inside.house))) c.self.view_is (c.in_ok-bounce.ensures.0, one.is, nobody_ends (parts_of c.self.inside.config c.self.inside.ledger.book c.self.inside.house) c.self.invariant c.args.letter.now (nobody c.self.inside.house.desk c.self.inside.house.table c.args.letter.now.to c.in_default.ensures.value))
 
 pub returns-in_default-clause-extends : goal.returns-in_default-clause-extends
-returns-in_default-clause-extends c = subst (λ d. Extends d (shard_of (parts_of c.self.inside.config c.receive.new.self.book c.self.inside.house))) c.self.view_is (did_bounce c).extends
+returns-in_default-clause-extends c =
+    let one : Outcome (parts_of c.self.inside.config c.self.inside.ledger.book c.self.inside.house) (parts_of c.self.inside.config c.bounce.new.ledger.book c.self.inside.house) (receipt_stamp (parts_of c.self.inside.config c.self.inside.ledger.book c.self.inside.house) c.args.letter.now) (came c.args.letter.now) = (
+    bounced (parts_of c.self.inside.config c.self.inside.ledger.book c.self.inside.house) c.self.invariant c.args.letter.now (c.requires.here ∙ sym (ap (λ (d : ShardState). d.number) c.self.view_is)) (subst (λ (d : ShardState). c.args.letter.now.from.shard < d.config.desks) (sym c.self.view_is) c.requires.near) c.in_ok-bounce.ensures.0 c.bounce.new.ledger.book c.self.inside.house refl refl (nobody c.self.inside.house.desk c.self.inside.house.table c.args.letter.now.to c.in_default.ensures.value)
+    c.in_ok-bounce.ensures.1
+    ) in
+    subst (λ d. Extends d (shard_of (parts_of c.self.inside.config c.bounce.new.ledger.book c.self.inside.house))) c.self.view_is one.extends
 
 pub returns-in_default-clause-fit : goal.returns-in_default-clause-fit
-returns-in_default-clause-fit c = (did_bounce c).fit
+returns-in_default-clause-fit c =
+    let one : Outcome (parts_of c.self.inside.config c.self.inside.ledger.book c.self.inside.house) (parts_of c.self.inside.config c.bounce.new.ledger.book c.self.inside.house) (receipt_stamp (parts_of c.self.inside.config c.self.inside.ledger.book c.self.inside.house) c.args.letter.now) (came c.args.letter.now) = (
+    bounced (parts_of c.self.inside.config c.self.inside.ledger.book c.self.inside.house) c.self.invariant c.args.letter.now (c.requires.here ∙ sym (ap (λ (d : ShardState). d.number) c.self.view_is)) (subst (λ (d : ShardState). c.args.letter.now.from.shard < d.config.desks) (sym c.self.view_is) c.requires.near) c.in_ok-bounce.ensures.0 c.bounce.new.ledger.book c.self.inside.house refl refl (nobody c.self.inside.house.desk c.self.inside.house.table c.args.letter.now.to c.in_default.ensures.value)
+    c.in_ok-bounce.ensures.1
+    ) in
+    one.fit
 
 refused_living : (c : goal.After-from_residual-in_err-take_in) → Unchanged (parts_of c.self.inside.config c.self.inside.ledger.book c.self.inside.house) (parts_of c.self.inside.config c.take_in.new.ledger.book (with_process c.self.inside.house c.args.letter.now.to c.take_in.new.process))
 refused_living c = stopped (parts_of c.self.inside.config c.self.inside.ledger.book c.self.inside.house) c.self.invariant c.args.letter.now c.in-Some.process.now c.in-Some.ensures.value (c.requires.here ∙ sym (ap (λ (d : ShardState). d.number) c.self.view_is)) (subst (λ (d : ShardState). c.args.letter.now.from.shard < d.config.desks) (sym c.self.view_is) c.requires.near) c.self.inside.ledger refl c.take_in.new.process c.take_in.new.ledger c.in_err-take_in.field-0.0 c.in_err-take_in.ensures
@@ -93,51 +106,49 @@ returns-in_err-prepare_ending-clause-does c =
     (stops (parts_of c.self.inside.config c.self.inside.ledger.book c.self.inside.house) c.self.invariant c.args.letter.now c.in-Some.process.now c.in-Some.ensures.value (c.requires.here ∙ sym (ap (λ (d : ShardState). d.number) c.self.view_is)) (subst (λ (d : ShardState). c.args.letter.now.from.shard < d.config.desks) (sym c.self.view_is) c.requires.near) c.self.inside.ledger refl c.prepare_ending.new.process c.prepare_ending.new.ledger c.in_err-prepare_ending.field-0.0 c.in_err-prepare_ending.ensures
     c.from_residual-in_err-prepare_ending.result c.from_residual-in_err-prepare_ending.ensures)
 
-pub end-estate-requires : goal.end-estate-requires
-end-estate-requires c = still_in_mid (parts_of c.self.inside.config c.self.inside.ledger.book c.self.inside.house) c.self.invariant c.args.letter.now (acting (parts_of c.self.inside.config c.self.inside.ledger.book c.self.inside.house) c.self.invariant c.args.letter.now.to c.in-Some.process.now c.in-Some.ensures.value) (with_process c.self.inside.house c.args.letter.now.to c.prepare_ending.new.process)
+pub end_by-requires-clause-lives : goal.end_by-requires-clause-lives
+end_by-requires-clause-lives c = still_in_mid (parts_of c.self.inside.config c.self.inside.ledger.book c.self.inside.house) c.self.invariant c.args.letter.now (acting (parts_of c.self.inside.config c.self.inside.ledger.book c.self.inside.house) c.self.invariant c.args.letter.now.to c.in-Some.process.now c.in-Some.ensures.value) (with_process c.self.inside.house c.args.letter.now.to c.prepare_ending.new.process)
     (after_letter (parts_of c.self.inside.config c.self.inside.ledger.book c.self.inside.house) c.self.invariant c.args.letter.now c.in-Some.process.now c.in-Some.ensures.value (c.requires.here ∙ sym (ap (λ (d : ShardState). d.number) c.self.view_is)) (subst (λ (d : ShardState). c.args.letter.now.from.shard < d.config.desks) (sym c.self.view_is) c.requires.near) c.self.inside.ledger refl c.prepare_ending.new.process c.prepare_ending.new.ledger c.in_ok-prepare_ending.ensures.1 c.in_ok-prepare_ending.ensures.2)
 
-pub close-requires-clause-from : goal.close-requires-clause-from
-close-requires-clause-from c = owing_from (parts_of c.self.inside.config c.self.inside.ledger.book c.self.inside.house) c.self.invariant c.args.letter.now (c.requires.here ∙ sym (ap (λ (d : ShardState). d.number) c.self.view_is)) (subst (λ (d : ShardState). c.args.letter.now.from.shard < d.config.desks) (sym c.self.view_is) c.requires.near) c.in_ok-prepare_ending.ensures.0 (acting (parts_of c.self.inside.config c.self.inside.ledger.book c.self.inside.house) c.self.invariant c.args.letter.now.to c.in-Some.process.now c.in-Some.ensures.value) c.in-Some-would_end.reason (sym c.in-Some-would_end.ensures) (with_process c.self.inside.house c.args.letter.now.to c.prepare_ending.new.process) c.end-estate.new.self refl c.end-estate.ensures.desk (after_letter (parts_of c.self.inside.config c.self.inside.ledger.book c.self.inside.house) c.self.invariant c.args.letter.now c.in-Some.process.now c.in-Some.ensures.value (c.requires.here ∙ sym (ap (λ (d : ShardState). d.number) c.self.view_is)) (subst (λ (d : ShardState). c.args.letter.now.from.shard < d.config.desks) (sym c.self.view_is) c.requires.near) c.self.inside.ledger refl c.prepare_ending.new.process c.prepare_ending.new.ledger c.in_ok-prepare_ending.ensures.1 c.in_ok-prepare_ending.ensures.2) c.end-estate.result c.end-estate.ensures.ends
-
-pub close-requires-clause-to : goal.close-requires-clause-to
-close-requires-clause-to c = subst (λ (b : Book). Every (λ l. l.to.shard < length b.outbox) c.end-estate.result.owed) (sym c.in_ok-prepare_ending.ensures.3) (owed_near (parts_of c.self.inside.config c.self.inside.ledger.book c.self.inside.house) c.self.invariant c.args.letter.now (c.requires.here ∙ sym (ap (λ (d : ShardState). d.number) c.self.view_is)) (subst (λ (d : ShardState). c.args.letter.now.from.shard < d.config.desks) (sym c.self.view_is) c.requires.near) c.in_ok-prepare_ending.ensures.0 (acting (parts_of c.self.inside.config c.self.inside.ledger.book c.self.inside.house) c.self.invariant c.args.letter.now.to c.in-Some.process.now c.in-Some.ensures.value) c.in-Some-would_end.reason (sym c.in-Some-would_end.ensures) (with_process c.self.inside.house c.args.letter.now.to c.prepare_ending.new.process) c.end-estate.new.self refl c.end-estate.ensures.desk (after_letter (parts_of c.self.inside.config c.self.inside.ledger.book c.self.inside.house) c.self.invariant c.args.letter.now c.in-Some.process.now c.in-Some.ensures.value (c.requires.here ∙ sym (ap (λ (d : ShardState). d.number) c.self.view_is)) (subst (λ (d : ShardState). c.args.letter.now.from.shard < d.config.desks) (sym c.self.view_is) c.requires.near) c.self.inside.ledger refl c.prepare_ending.new.process c.prepare_ending.new.ledger c.in_ok-prepare_ending.ensures.1 c.in_ok-prepare_ending.ensures.2) c.end-estate.result c.end-estate.ensures.ends)
-
-pub close-requires-clause-letters : goal.close-requires-clause-letters
-close-requires-clause-letters c = λ e within.
-    let room = c.in_ok-prepare_ending.ensures.5 e within in
-    let fewer = owed_counted (parts_of c.self.inside.config c.self.inside.ledger.book c.self.inside.house) c.self.invariant c.args.letter.now (c.requires.here ∙ sym (ap (λ (d : ShardState). d.number) c.self.view_is)) (subst (λ (d : ShardState). c.args.letter.now.from.shard < d.config.desks) (sym c.self.view_is) c.requires.near) c.in_ok-prepare_ending.ensures.0 (acting (parts_of c.self.inside.config c.self.inside.ledger.book c.self.inside.house) c.self.invariant c.args.letter.now.to c.in-Some.process.now c.in-Some.ensures.value) c.in-Some-would_end.reason (sym c.in-Some-would_end.ensures) (with_process c.self.inside.house c.args.letter.now.to c.prepare_ending.new.process) c.end-estate.new.self refl c.end-estate.ensures.desk (after_letter (parts_of c.self.inside.config c.self.inside.ledger.book c.self.inside.house) c.self.invariant c.args.letter.now c.in-Some.process.now c.in-Some.ensures.value (c.requires.here ∙ sym (ap (λ (d : ShardState). d.number) c.self.view_is)) (subst (λ (d : ShardState). c.args.letter.now.from.shard < d.config.desks) (sym c.self.view_is) c.requires.near) c.self.inside.ledger refl c.prepare_ending.new.process c.prepare_ending.new.ledger c.in_ok-prepare_ending.ensures.1 c.in_ok-prepare_ending.ensures.2) c.end-estate.result c.end-estate.ensures.ends (is_of e) in
-    omega (arith, room, fewer)
+pub end_by-requires-clause-owes : goal.end_by-requires-clause-owes
+end_by-requires-clause-owes c after owing desk ends = (
+  owing_from (parts_of c.self.inside.config c.self.inside.ledger.book c.self.inside.house) c.self.invariant c.args.letter.now (c.requires.here ∙ sym (ap (λ (d : ShardState). d.number) c.self.view_is)) (subst (λ (d : ShardState). c.args.letter.now.from.shard < d.config.desks) (sym c.self.view_is) c.requires.near) c.in_ok-prepare_ending.ensures.0 (acting (parts_of c.self.inside.config c.self.inside.ledger.book c.self.inside.house) c.self.invariant c.args.letter.now.to c.in-Some.process.now c.in-Some.ensures.value) c.in-Some-would_end.reason (sym c.in-Some-would_end.ensures) (with_process c.self.inside.house c.args.letter.now.to c.prepare_ending.new.process) after refl desk (after_letter (parts_of c.self.inside.config c.self.inside.ledger.book c.self.inside.house) c.self.invariant c.args.letter.now c.in-Some.process.now c.in-Some.ensures.value (c.requires.here ∙ sym (ap (λ (d : ShardState). d.number) c.self.view_is)) (subst (λ (d : ShardState). c.args.letter.now.from.shard < d.config.desks) (sym c.self.view_is) c.requires.near) c.self.inside.ledger refl c.prepare_ending.new.process c.prepare_ending.new.ledger c.in_ok-prepare_ending.ensures.1 c.in_ok-prepare_ending.ensures.2) owing ends,
+  subst (λ (b : Book). Every (λ l. l.to.shard < length b.outbox) owing.owed) (sym c.in_ok-prepare_ending.ensures.3) (owed_near (parts_of c.self.inside.config c.self.inside.ledger.book c.self.inside.house) c.self.invariant c.args.letter.now (c.requires.here ∙ sym (ap (λ (d : ShardState). d.number) c.self.view_is)) (subst (λ (d : ShardState). c.args.letter.now.from.shard < d.config.desks) (sym c.self.view_is) c.requires.near) c.in_ok-prepare_ending.ensures.0 (acting (parts_of c.self.inside.config c.self.inside.ledger.book c.self.inside.house) c.self.invariant c.args.letter.now.to c.in-Some.process.now c.in-Some.ensures.value) c.in-Some-would_end.reason (sym c.in-Some-would_end.ensures) (with_process c.self.inside.house c.args.letter.now.to c.prepare_ending.new.process) after refl desk (after_letter (parts_of c.self.inside.config c.self.inside.ledger.book c.self.inside.house) c.self.invariant c.args.letter.now c.in-Some.process.now c.in-Some.ensures.value (c.requires.here ∙ sym (ap (λ (d : ShardState). d.number) c.self.view_is)) (subst (λ (d : ShardState). c.args.letter.now.from.shard < d.config.desks) (sym c.self.view_is) c.requires.near) c.self.inside.ledger refl c.prepare_ending.new.process c.prepare_ending.new.ledger c.in_ok-prepare_ending.ensures.1 c.in_ok-prepare_ending.ensures.2) owing ends),
+  λ e within.
+      let room = c.in_ok-prepare_ending.ensures.5 e within in
+      let fewer = owed_counted (parts_of c.self.inside.config c.self.inside.ledger.book c.self.inside.house) c.self.invariant c.args.letter.now (c.requires.here ∙ sym (ap (λ (d : ShardState). d.number) c.self.view_is)) (subst (λ (d : ShardState). c.args.letter.now.from.shard < d.config.desks) (sym c.self.view_is) c.requires.near) c.in_ok-prepare_ending.ensures.0 (acting (parts_of c.self.inside.config c.self.inside.ledger.book c.self.inside.house) c.self.invariant c.args.letter.now.to c.in-Some.process.now c.in-Some.ensures.value) c.in-Some-would_end.reason (sym c.in-Some-would_end.ensures) (with_process c.self.inside.house c.args.letter.now.to c.prepare_ending.new.process) after refl desk (after_letter (parts_of c.self.inside.config c.self.inside.ledger.book c.self.inside.house) c.self.invariant c.args.letter.now c.in-Some.process.now c.in-Some.ensures.value (c.requires.here ∙ sym (ap (λ (d : ShardState). d.number) c.self.view_is)) (subst (λ (d : ShardState). c.args.letter.now.from.shard < d.config.desks) (sym c.self.view_is) c.requires.near) c.self.inside.ledger refl c.prepare_ending.new.process c.prepare_ending.new.ledger c.in_ok-prepare_ending.ensures.1 c.in_ok-prepare_ending.ensures.2) owing ends (is_of e) in
+      omega (arith, room, fewer),
+)
 
 pub invariant_of-self-2 : goal.invariant_of-self-2
 invariant_of-self-2 c =
-    let one : Outcome (parts_of c.self.inside.config c.self.inside.ledger.book c.self.inside.house) (parts_of c.self.inside.config c.close.new.self.book c.end-estate.new.self) (receipt_stamp (parts_of c.self.inside.config c.self.inside.ledger.book c.self.inside.house) c.args.letter.now) (came c.args.letter.now) = (
-    ended_outcome (parts_of c.self.inside.config c.self.inside.ledger.book c.self.inside.house) c.self.invariant c.args.letter.now (c.requires.here ∙ sym (ap (λ (d : ShardState). d.number) c.self.view_is)) (subst (λ (d : ShardState). c.args.letter.now.from.shard < d.config.desks) (sym c.self.view_is) c.requires.near) c.in_ok-prepare_ending.ensures.0 (acting (parts_of c.self.inside.config c.self.inside.ledger.book c.self.inside.house) c.self.invariant c.args.letter.now.to c.in-Some.process.now c.in-Some.ensures.value) c.in-Some-would_end.reason (sym c.in-Some-would_end.ensures) (with_process c.self.inside.house c.args.letter.now.to c.prepare_ending.new.process) c.end-estate.new.self refl c.end-estate.ensures.desk (after_letter (parts_of c.self.inside.config c.self.inside.ledger.book c.self.inside.house) c.self.invariant c.args.letter.now c.in-Some.process.now c.in-Some.ensures.value (c.requires.here ∙ sym (ap (λ (d : ShardState). d.number) c.self.view_is)) (subst (λ (d : ShardState). c.args.letter.now.from.shard < d.config.desks) (sym c.self.view_is) c.requires.near) c.self.inside.ledger refl c.prepare_ending.new.process c.prepare_ending.new.ledger c.in_ok-prepare_ending.ensures.1 c.in_ok-prepare_ending.ensures.2) c.end-estate.result c.end-estate.ensures.ends c.close.new.self.book
-    (subst (λ (b : Book). c.close.new.self.book ≡ wrote (max b.clock c.args.letter.now.stamp + 1) (came c.args.letter.now) (map (letter (max b.clock c.args.letter.now.stamp + 1)) c.end-estate.result.owed) b) c.in_ok-prepare_ending.ensures.3 c.close.ensures)
+    let one : Outcome (parts_of c.self.inside.config c.self.inside.ledger.book c.self.inside.house) (parts_of c.self.inside.config c.end_by.new.ledger.book c.end_by.new.house) (receipt_stamp (parts_of c.self.inside.config c.self.inside.ledger.book c.self.inside.house) c.args.letter.now) (came c.args.letter.now) = (
+    ended_outcome (parts_of c.self.inside.config c.self.inside.ledger.book c.self.inside.house) c.self.invariant c.args.letter.now (c.requires.here ∙ sym (ap (λ (d : ShardState). d.number) c.self.view_is)) (subst (λ (d : ShardState). c.args.letter.now.from.shard < d.config.desks) (sym c.self.view_is) c.requires.near) c.in_ok-prepare_ending.ensures.0 (acting (parts_of c.self.inside.config c.self.inside.ledger.book c.self.inside.house) c.self.invariant c.args.letter.now.to c.in-Some.process.now c.in-Some.ensures.value) c.in-Some-would_end.reason (sym c.in-Some-would_end.ensures) (with_process c.self.inside.house c.args.letter.now.to c.prepare_ending.new.process) c.end_by.new.house refl c.end_by.ensures.1 (after_letter (parts_of c.self.inside.config c.self.inside.ledger.book c.self.inside.house) c.self.invariant c.args.letter.now c.in-Some.process.now c.in-Some.ensures.value (c.requires.here ∙ sym (ap (λ (d : ShardState). d.number) c.self.view_is)) (subst (λ (d : ShardState). c.args.letter.now.from.shard < d.config.desks) (sym c.self.view_is) c.requires.near) c.self.inside.ledger refl c.prepare_ending.new.process c.prepare_ending.new.ledger c.in_ok-prepare_ending.ensures.1 c.in_ok-prepare_ending.ensures.2) c.end_by.ensures.0 c.end_by.ensures.2 c.end_by.new.ledger.book
+    (subst (λ (b : Book). c.end_by.new.ledger.book ≡ wrote (max b.clock c.args.letter.now.stamp + 1) (came c.args.letter.now) (map (letter (max b.clock c.args.letter.now.stamp + 1)) c.end_by.ensures.0.owed) b) c.in_ok-prepare_ending.ensures.3 c.end_by.ensures.3)
     ) in
     one.whole
 
 pub returns-clause-does : goal.returns-clause-does
 returns-clause-does c =
-    let one : Outcome (parts_of c.self.inside.config c.self.inside.ledger.book c.self.inside.house) (parts_of c.self.inside.config c.close.new.self.book c.end-estate.new.self) (receipt_stamp (parts_of c.self.inside.config c.self.inside.ledger.book c.self.inside.house) c.args.letter.now) (came c.args.letter.now) = (
-    ended_outcome (parts_of c.self.inside.config c.self.inside.ledger.book c.self.inside.house) c.self.invariant c.args.letter.now (c.requires.here ∙ sym (ap (λ (d : ShardState). d.number) c.self.view_is)) (subst (λ (d : ShardState). c.args.letter.now.from.shard < d.config.desks) (sym c.self.view_is) c.requires.near) c.in_ok-prepare_ending.ensures.0 (acting (parts_of c.self.inside.config c.self.inside.ledger.book c.self.inside.house) c.self.invariant c.args.letter.now.to c.in-Some.process.now c.in-Some.ensures.value) c.in-Some-would_end.reason (sym c.in-Some-would_end.ensures) (with_process c.self.inside.house c.args.letter.now.to c.prepare_ending.new.process) c.end-estate.new.self refl c.end-estate.ensures.desk (after_letter (parts_of c.self.inside.config c.self.inside.ledger.book c.self.inside.house) c.self.invariant c.args.letter.now c.in-Some.process.now c.in-Some.ensures.value (c.requires.here ∙ sym (ap (λ (d : ShardState). d.number) c.self.view_is)) (subst (λ (d : ShardState). c.args.letter.now.from.shard < d.config.desks) (sym c.self.view_is) c.requires.near) c.self.inside.ledger refl c.prepare_ending.new.process c.prepare_ending.new.ledger c.in_ok-prepare_ending.ensures.1 c.in_ok-prepare_ending.ensures.2) c.end-estate.result c.end-estate.ensures.ends c.close.new.self.book
-    (subst (λ (b : Book). c.close.new.self.book ≡ wrote (max b.clock c.args.letter.now.stamp + 1) (came c.args.letter.now) (map (letter (max b.clock c.args.letter.now.stamp + 1)) c.end-estate.result.owed) b) c.in_ok-prepare_ending.ensures.3 c.close.ensures)
+    let one : Outcome (parts_of c.self.inside.config c.self.inside.ledger.book c.self.inside.house) (parts_of c.self.inside.config c.end_by.new.ledger.book c.end_by.new.house) (receipt_stamp (parts_of c.self.inside.config c.self.inside.ledger.book c.self.inside.house) c.args.letter.now) (came c.args.letter.now) = (
+    ended_outcome (parts_of c.self.inside.config c.self.inside.ledger.book c.self.inside.house) c.self.invariant c.args.letter.now (c.requires.here ∙ sym (ap (λ (d : ShardState). d.number) c.self.view_is)) (subst (λ (d : ShardState). c.args.letter.now.from.shard < d.config.desks) (sym c.self.view_is) c.requires.near) c.in_ok-prepare_ending.ensures.0 (acting (parts_of c.self.inside.config c.self.inside.ledger.book c.self.inside.house) c.self.invariant c.args.letter.now.to c.in-Some.process.now c.in-Some.ensures.value) c.in-Some-would_end.reason (sym c.in-Some-would_end.ensures) (with_process c.self.inside.house c.args.letter.now.to c.prepare_ending.new.process) c.end_by.new.house refl c.end_by.ensures.1 (after_letter (parts_of c.self.inside.config c.self.inside.ledger.book c.self.inside.house) c.self.invariant c.args.letter.now c.in-Some.process.now c.in-Some.ensures.value (c.requires.here ∙ sym (ap (λ (d : ShardState). d.number) c.self.view_is)) (subst (λ (d : ShardState). c.args.letter.now.from.shard < d.config.desks) (sym c.self.view_is) c.requires.near) c.self.inside.ledger refl c.prepare_ending.new.process c.prepare_ending.new.ledger c.in_ok-prepare_ending.ensures.1 c.in_ok-prepare_ending.ensures.2) c.end_by.ensures.0 c.end_by.ensures.2 c.end_by.new.ledger.book
+    (subst (λ (b : Book). c.end_by.new.ledger.book ≡ wrote (max b.clock c.args.letter.now.stamp + 1) (came c.args.letter.now) (map (letter (max b.clock c.args.letter.now.stamp + 1)) c.end_by.ensures.0.owed) b) c.in_ok-prepare_ending.ensures.3 c.end_by.ensures.3)
     ) in
-    subst (λ d. Handles c.args.letter.now d (Ok (Some c.args.letter.now.to)) (shard_of (parts_of c.self.inside.config c.close.new.self.book c.end-estate.new.self))) c.self.view_is
+    subst (λ d. Handles c.args.letter.now d (Ok (Some c.args.letter.now.to)) (shard_of (parts_of c.self.inside.config c.end_by.new.ledger.book c.end_by.new.house))) c.self.view_is
     (c.in_ok-prepare_ending.ensures.0, one.is, who_ends (parts_of c.self.inside.config c.self.inside.ledger.book c.self.inside.house) c.self.invariant c.args.letter.now (acting (parts_of c.self.inside.config c.self.inside.ledger.book c.self.inside.house) c.self.invariant c.args.letter.now.to c.in-Some.process.now c.in-Some.ensures.value) (Some c.in-Some-would_end.reason) (sym c.in-Some-would_end.ensures))
 
 pub returns-clause-extends : goal.returns-clause-extends
 returns-clause-extends c =
-    let one : Outcome (parts_of c.self.inside.config c.self.inside.ledger.book c.self.inside.house) (parts_of c.self.inside.config c.close.new.self.book c.end-estate.new.self) (receipt_stamp (parts_of c.self.inside.config c.self.inside.ledger.book c.self.inside.house) c.args.letter.now) (came c.args.letter.now) = (
-    ended_outcome (parts_of c.self.inside.config c.self.inside.ledger.book c.self.inside.house) c.self.invariant c.args.letter.now (c.requires.here ∙ sym (ap (λ (d : ShardState). d.number) c.self.view_is)) (subst (λ (d : ShardState). c.args.letter.now.from.shard < d.config.desks) (sym c.self.view_is) c.requires.near) c.in_ok-prepare_ending.ensures.0 (acting (parts_of c.self.inside.config c.self.inside.ledger.book c.self.inside.house) c.self.invariant c.args.letter.now.to c.in-Some.process.now c.in-Some.ensures.value) c.in-Some-would_end.reason (sym c.in-Some-would_end.ensures) (with_process c.self.inside.house c.args.letter.now.to c.prepare_ending.new.process) c.end-estate.new.self refl c.end-estate.ensures.desk (after_letter (parts_of c.self.inside.config c.self.inside.ledger.book c.self.inside.house) c.self.invariant c.args.letter.now c.in-Some.process.now c.in-Some.ensures.value (c.requires.here ∙ sym (ap (λ (d : ShardState). d.number) c.self.view_is)) (subst (λ (d : ShardState). c.args.letter.now.from.shard < d.config.desks) (sym c.self.view_is) c.requires.near) c.self.inside.ledger refl c.prepare_ending.new.process c.prepare_ending.new.ledger c.in_ok-prepare_ending.ensures.1 c.in_ok-prepare_ending.ensures.2) c.end-estate.result c.end-estate.ensures.ends c.close.new.self.book
-    (subst (λ (b : Book). c.close.new.self.book ≡ wrote (max b.clock c.args.letter.now.stamp + 1) (came c.args.letter.now) (map (letter (max b.clock c.args.letter.now.stamp + 1)) c.end-estate.result.owed) b) c.in_ok-prepare_ending.ensures.3 c.close.ensures)
+    let one : Outcome (parts_of c.self.inside.config c.self.inside.ledger.book c.self.inside.house) (parts_of c.self.inside.config c.end_by.new.ledger.book c.end_by.new.house) (receipt_stamp (parts_of c.self.inside.config c.self.inside.ledger.book c.self.inside.house) c.args.letter.now) (came c.args.letter.now) = (
+    ended_outcome (parts_of c.self.inside.config c.self.inside.ledger.book c.self.inside.house) c.self.invariant c.args.letter.now (c.requires.here ∙ sym (ap (λ (d : ShardState). d.number) c.self.view_is)) (subst (λ (d : ShardState). c.args.letter.now.from.shard < d.config.desks) (sym c.self.view_is) c.requires.near) c.in_ok-prepare_ending.ensures.0 (acting (parts_of c.self.inside.config c.self.inside.ledger.book c.self.inside.house) c.self.invariant c.args.letter.now.to c.in-Some.process.now c.in-Some.ensures.value) c.in-Some-would_end.reason (sym c.in-Some-would_end.ensures) (with_process c.self.inside.house c.args.letter.now.to c.prepare_ending.new.process) c.end_by.new.house refl c.end_by.ensures.1 (after_letter (parts_of c.self.inside.config c.self.inside.ledger.book c.self.inside.house) c.self.invariant c.args.letter.now c.in-Some.process.now c.in-Some.ensures.value (c.requires.here ∙ sym (ap (λ (d : ShardState). d.number) c.self.view_is)) (subst (λ (d : ShardState). c.args.letter.now.from.shard < d.config.desks) (sym c.self.view_is) c.requires.near) c.self.inside.ledger refl c.prepare_ending.new.process c.prepare_ending.new.ledger c.in_ok-prepare_ending.ensures.1 c.in_ok-prepare_ending.ensures.2) c.end_by.ensures.0 c.end_by.ensures.2 c.end_by.new.ledger.book
+    (subst (λ (b : Book). c.end_by.new.ledger.book ≡ wrote (max b.clock c.args.letter.now.stamp + 1) (came c.args.letter.now) (map (letter (max b.clock c.args.letter.now.stamp + 1)) c.end_by.ensures.0.owed) b) c.in_ok-prepare_ending.ensures.3 c.end_by.ensures.3)
     ) in
-    subst (λ d. Extends d (shard_of (parts_of c.self.inside.config c.close.new.self.book c.end-estate.new.self))) c.self.view_is one.extends
+    subst (λ d. Extends d (shard_of (parts_of c.self.inside.config c.end_by.new.ledger.book c.end_by.new.house))) c.self.view_is one.extends
 
 pub returns-clause-fit : goal.returns-clause-fit
 returns-clause-fit c =
-    let one : Outcome (parts_of c.self.inside.config c.self.inside.ledger.book c.self.inside.house) (parts_of c.self.inside.config c.close.new.self.book c.end-estate.new.self) (receipt_stamp (parts_of c.self.inside.config c.self.inside.ledger.book c.self.inside.house) c.args.letter.now) (came c.args.letter.now) = (
-    ended_outcome (parts_of c.self.inside.config c.self.inside.ledger.book c.self.inside.house) c.self.invariant c.args.letter.now (c.requires.here ∙ sym (ap (λ (d : ShardState). d.number) c.self.view_is)) (subst (λ (d : ShardState). c.args.letter.now.from.shard < d.config.desks) (sym c.self.view_is) c.requires.near) c.in_ok-prepare_ending.ensures.0 (acting (parts_of c.self.inside.config c.self.inside.ledger.book c.self.inside.house) c.self.invariant c.args.letter.now.to c.in-Some.process.now c.in-Some.ensures.value) c.in-Some-would_end.reason (sym c.in-Some-would_end.ensures) (with_process c.self.inside.house c.args.letter.now.to c.prepare_ending.new.process) c.end-estate.new.self refl c.end-estate.ensures.desk (after_letter (parts_of c.self.inside.config c.self.inside.ledger.book c.self.inside.house) c.self.invariant c.args.letter.now c.in-Some.process.now c.in-Some.ensures.value (c.requires.here ∙ sym (ap (λ (d : ShardState). d.number) c.self.view_is)) (subst (λ (d : ShardState). c.args.letter.now.from.shard < d.config.desks) (sym c.self.view_is) c.requires.near) c.self.inside.ledger refl c.prepare_ending.new.process c.prepare_ending.new.ledger c.in_ok-prepare_ending.ensures.1 c.in_ok-prepare_ending.ensures.2) c.end-estate.result c.end-estate.ensures.ends c.close.new.self.book
-    (subst (λ (b : Book). c.close.new.self.book ≡ wrote (max b.clock c.args.letter.now.stamp + 1) (came c.args.letter.now) (map (letter (max b.clock c.args.letter.now.stamp + 1)) c.end-estate.result.owed) b) c.in_ok-prepare_ending.ensures.3 c.close.ensures)
+    let one : Outcome (parts_of c.self.inside.config c.self.inside.ledger.book c.self.inside.house) (parts_of c.self.inside.config c.end_by.new.ledger.book c.end_by.new.house) (receipt_stamp (parts_of c.self.inside.config c.self.inside.ledger.book c.self.inside.house) c.args.letter.now) (came c.args.letter.now) = (
+    ended_outcome (parts_of c.self.inside.config c.self.inside.ledger.book c.self.inside.house) c.self.invariant c.args.letter.now (c.requires.here ∙ sym (ap (λ (d : ShardState). d.number) c.self.view_is)) (subst (λ (d : ShardState). c.args.letter.now.from.shard < d.config.desks) (sym c.self.view_is) c.requires.near) c.in_ok-prepare_ending.ensures.0 (acting (parts_of c.self.inside.config c.self.inside.ledger.book c.self.inside.house) c.self.invariant c.args.letter.now.to c.in-Some.process.now c.in-Some.ensures.value) c.in-Some-would_end.reason (sym c.in-Some-would_end.ensures) (with_process c.self.inside.house c.args.letter.now.to c.prepare_ending.new.process) c.end_by.new.house refl c.end_by.ensures.1 (after_letter (parts_of c.self.inside.config c.self.inside.ledger.book c.self.inside.house) c.self.invariant c.args.letter.now c.in-Some.process.now c.in-Some.ensures.value (c.requires.here ∙ sym (ap (λ (d : ShardState). d.number) c.self.view_is)) (subst (λ (d : ShardState). c.args.letter.now.from.shard < d.config.desks) (sym c.self.view_is) c.requires.near) c.self.inside.ledger refl c.prepare_ending.new.process c.prepare_ending.new.ledger c.in_ok-prepare_ending.ensures.1 c.in_ok-prepare_ending.ensures.2) c.end_by.ensures.0 c.end_by.ensures.2 c.end_by.new.ledger.book
+    (subst (λ (b : Book). c.end_by.new.ledger.book ≡ wrote (max b.clock c.args.letter.now.stamp + 1) (came c.args.letter.now) (map (letter (max b.clock c.args.letter.now.stamp + 1)) c.end_by.ensures.0.owed) b) c.in_ok-prepare_ending.ensures.3 c.end_by.ensures.3)
     ) in
     one.fit
