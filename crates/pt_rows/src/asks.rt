@@ -2,14 +2,14 @@
 
 use crate::known::{A, B, settings};
 use crate::play::Call::*;
-use crate::play::play;
+use crate::play::{Step, play};
 use pt_node::{Pick, Reason, Ref};
 use std::test::Fail;
 
 #[test]
 fn a_question_to_a_process_that_ended_is_answered_by_no(rt: HostRuntime) -> Result<(), Fail> {
-    let question = Ref { desk: 0, number: 4 };
-    let steps = [
+    const QUESTION: Ref = Ref { desk: 0, number: 4 };
+    const STEPS: &[Step] = &[
         (Spawn, "<0.0.1>"),
         (Spawn, "<0.1.1>"),
         (ExitSignal(A, B, Reason::Kill), "ok"),
@@ -21,14 +21,14 @@ fn a_question_to_a_process_that_ended_is_answered_by_no(rt: HostRuntime) -> Resu
         (Turn(16), "posted 1 handled 1"),
         (Clock, "7"),
         (Waiting(A), "alive #0.4 <0.1.1> no;"),
-        (Receive(A, Pick::AliveOf(question)), "alive #0.4 <0.1.1> no"),
+        (Receive(A, Pick::AliveOf(QUESTION)), "alive #0.4 <0.1.1> no"),
     ];
-    play(&rt, rt.alloc(), settings(8), &steps)
+    play(&rt, rt.alloc(), settings(8), STEPS)
 }
 
 #[test]
 fn a_question_to_a_live_process_is_answered_by_yes(rt: HostRuntime) -> Result<(), Fail> {
-    let steps = [
+    const STEPS: &[Step] = &[
         (Spawn, "<0.0.1>"),
         (Spawn, "<0.1.1>"),
         (AskAlive(A, B), "#0.3"),
@@ -38,12 +38,12 @@ fn a_question_to_a_live_process_is_answered_by_yes(rt: HostRuntime) -> Result<()
         (Clock, "5"),
         (Waiting(A), "alive #0.3 <0.1.1> yes;"),
     ];
-    play(&rt, rt.alloc(), settings(8), &steps)
+    play(&rt, rt.alloc(), settings(8), STEPS)
 }
 
 #[test]
 fn a_process_may_ask_of_itself(rt: HostRuntime) -> Result<(), Fail> {
-    let steps = [
+    const STEPS: &[Step] = &[
         (Spawn, "<0.0.1>"),
         (AskAlive(A, A), "#0.2"),
         (Turn(16), "posted 1 handled 1"),
@@ -52,5 +52,5 @@ fn a_process_may_ask_of_itself(rt: HostRuntime) -> Result<(), Fail> {
         (Exit(A, Reason::Normal), "ok"),
         (AskAlive(A, A), "Gone"),
     ];
-    play(&rt, rt.alloc(), settings(8), &steps)
+    play(&rt, rt.alloc(), settings(8), STEPS)
 }

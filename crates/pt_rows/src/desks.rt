@@ -13,7 +13,7 @@ use std::test::Fail;
 
 #[test]
 fn crossing_links_and_unlinks_leave_both_ends_equal(rt: HostRuntime) -> Result<(), Fail> {
-    let steps = [
+    const STEPS: &[Step] = &[
         (Spawn, "<0.0.1>"),
         (SpawnOn(1), "<1.0.1>"),
         (Link(A, A1), "ok"),
@@ -36,12 +36,12 @@ fn crossing_links_and_unlinks_leave_both_ends_equal(rt: HostRuntime) -> Result<(
         (Pending(0), "0"),
         (Pending(1), "0"),
     ];
-    play(&rt, rt.alloc(), two_desks(8), &steps)
+    play(&rt, rt.alloc(), two_desks(8), STEPS)
 }
 
 #[test]
 fn a_killed_process_is_heard_after_its_messages(rt: HostRuntime) -> Result<(), Fail> {
-    let steps = [
+    const STEPS: &[Step] = &[
         (Spawn, "<0.0.1>"),
         (SpawnOn(1), "<1.0.1>"),
         (Trap(A, true), "false"),
@@ -75,23 +75,23 @@ fn a_killed_process_is_heard_after_its_messages(rt: HostRuntime) -> Result<(), F
             "user <1.0.1> 1 1;user <1.0.1> 1 2;user <1.0.1> 1 3;exit <1.0.1> killed;",
         ),
     ];
-    play(&rt, rt.alloc(), two_desks(1), &steps)
+    play(&rt, rt.alloc(), two_desks(1), STEPS)
 }
 
 #[test]
 fn a_pid_never_issued_on_another_desk_answers_by_noproc(rt: HostRuntime) -> Result<(), Fail> {
-    let nobody = Pid {
+    const NOBODY: Pid = Pid {
         shard: 1,
         slot: 3,
         version: 1,
     };
-    let steps = [
+    const STEPS: &[Step] = &[
         (Spawn, "<0.0.1>"),
-        (KnowsOn(0, nobody), "true"),
+        (KnowsOn(0, NOBODY), "true"),
         (KnowsOn(0, Pid { version: 9, ..A }), "false"),
         (KnowsOn(0, Pid { shard: 2, ..A }), "false"),
         (Trap(A, true), "false"),
-        (Link(A, nobody), "ok"),
+        (Link(A, NOBODY), "ok"),
         (ClockOf(0), "3"),
         (TurnOf(0, 16), "posted 1 handled 0"),
         (TurnOf(1, 16), "posted 0 handled 1"),
@@ -101,7 +101,7 @@ fn a_pid_never_issued_on_another_desk_answers_by_noproc(rt: HostRuntime) -> Resu
         (ClockOf(0), "5"),
         (Waiting(A), "exit <1.3.1> noproc;"),
     ];
-    play(&rt, rt.alloc(), two_desks(8), &steps)
+    play(&rt, rt.alloc(), two_desks(8), STEPS)
 }
 
 #[test]
@@ -110,8 +110,8 @@ fn a_desk_knows_no_pid_out_of_the_ranges(rt: HostRuntime) -> Result<(), Fail> {
         top_version: 2,
         ..two_desks(8)
     };
-    let unmade = Ref { desk: 5, number: 7 };
-    let steps = [
+    const UNMADE: Ref = Ref { desk: 5, number: 7 };
+    const STEPS: &[Step] = &[
         (KnowsOn(0, Pid { shard: 2, ..A }), "false"),
         (KnowsOn(0, Pid { slot: 8, ..A1 }), "false"),
         (KnowsOn(0, Pid { version: 0, ..A1 }), "false"),
@@ -119,16 +119,16 @@ fn a_desk_knows_no_pid_out_of_the_ranges(rt: HostRuntime) -> Result<(), Fail> {
         (KnowsOn(0, A), "false"),
         (Receive(Pid { version: 2, ..A }, Pick::Any), "Gone"),
         (Spawn, "<0.0.1>"),
-        (Flush(A, unmade), "false"),
-        (Receive(A, Pick::DownOf(unmade)), "none"),
+        (Flush(A, UNMADE), "false"),
+        (Receive(A, Pick::DownOf(UNMADE)), "none"),
         (Events, "1"),
     ];
-    play(&rt, rt.alloc(), narrow, &steps)
+    play(&rt, rt.alloc(), narrow, STEPS)
 }
 
 #[test]
 fn a_letter_that_comes_before_the_birth_enters_no_mailbox(rt: HostRuntime) -> Result<(), Fail> {
-    let steps = [
+    const STEPS: &[Step] = &[
         (Spawn, "<0.0.1>"),
         (Send(A, A1, 1, 1), "ok"),
         (ClockOf(0), "2"),
@@ -145,7 +145,7 @@ fn a_letter_that_comes_before_the_birth_enters_no_mailbox(rt: HostRuntime) -> Re
         (ClockOf(1), "5"),
         (Waiting(A1), "user <0.0.1> 1 2;"),
     ];
-    play(&rt, rt.alloc(), two_desks(8), &steps)
+    play(&rt, rt.alloc(), two_desks(8), STEPS)
 }
 
 #[test]
@@ -154,24 +154,24 @@ fn lanes_are_looked_at_in_turn(rt: HostRuntime) -> Result<(), Fail> {
         desks: 3,
         ..settings(8)
     };
-    let receiver = Pid { shard: 2, ..A };
-    let steps = [
+    const RECEIVER: Pid = Pid { shard: 2, ..A };
+    const STEPS: &[Step] = &[
         (Spawn, "<0.0.1>"),
         (SpawnOn(1), "<1.0.1>"),
         (SpawnOn(2), "<2.0.1>"),
-        (Send(A, receiver, 1, 1), "ok"),
-        (Send(A, receiver, 1, 2), "ok"),
-        (Send(A1, receiver, 2, 1), "ok"),
-        (Send(A1, receiver, 2, 2), "ok"),
+        (Send(A, RECEIVER, 1, 1), "ok"),
+        (Send(A, RECEIVER, 1, 2), "ok"),
+        (Send(A1, RECEIVER, 2, 1), "ok"),
+        (Send(A1, RECEIVER, 2, 2), "ok"),
         (TurnOf(0, 16), "posted 2 handled 0"),
         (TurnOf(1, 16), "posted 2 handled 0"),
         (TurnOf(2, 16), "posted 0 handled 4"),
         (
-            Waiting(receiver),
+            Waiting(RECEIVER),
             "user <0.0.1> 1 1;user <1.0.1> 2 1;user <0.0.1> 1 2;user <1.0.1> 2 2;",
         ),
     ];
-    play(&rt, rt.alloc(), three, &steps)
+    play(&rt, rt.alloc(), three, STEPS)
 }
 
 /// Three messages from one desk to another.
@@ -229,19 +229,19 @@ fn play_fifty(rt: &impl Abort, alloc: Global, desks: &mut Vec<Desk>) -> Result<(
     requires { AreDesks desks.old.items }
     ensures { AreDesks desks.new.items }
 {
-    let births = [
+    const BIRTHS: &[Step] = &[
         (Spawn, "<0.0.1>"),
         (SpawnOn(1), "<1.0.1>"),
         (SpawnOn(1), "<1.1.1>"),
     ];
-    run(rt, alloc, desks, &births)?;
+    run(rt, alloc, desks, BIRTHS)?;
     let want = send_fifty(alloc, desks)?;
-    let first = [
+    const FIRST: &[Step] = &[
         (TurnOf(0, 16), "posted 1 handled 0"),
         (TurnOf(1, 16), "posted 1 handled 2"),
         (Pending(0), "49"),
     ];
-    run(rt, alloc, desks, &first)?;
+    run(rt, alloc, desks, FIRST)?;
     take_turns(alloc, desks)?;
     let got = make(alloc, desks, Waiting(B1))?;
     assert_eq!(rt; got.as_str(), want.as_str());

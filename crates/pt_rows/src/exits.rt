@@ -2,13 +2,13 @@
 
 use crate::known::{A, B, C, D, E, settings};
 use crate::play::Call::*;
-use crate::play::play;
+use crate::play::{Step, play};
 use pt_node::Reason;
 use std::test::Fail;
 
 #[test]
 fn a_trap_stops_a_cascade(rt: HostRuntime) -> Result<(), Fail> {
-    let steps = [
+    const STEPS: &[Step] = &[
         (Spawn, "<0.0.1>"),
         (Spawn, "<0.1.1>"),
         (Spawn, "<0.2.1>"),
@@ -40,12 +40,12 @@ fn a_trap_stops_a_cascade(rt: HostRuntime) -> Result<(), Fail> {
         (Alive(D), "true"),
         (Alive(E), "true"),
     ];
-    play(&rt, rt.alloc(), settings(8), &steps)
+    play(&rt, rt.alloc(), settings(8), STEPS)
 }
 
 #[test]
 fn a_kill_is_not_trapped_and_goes_on_as_killed(rt: HostRuntime) -> Result<(), Fail> {
-    let steps = [
+    const STEPS: &[Step] = &[
         (Spawn, "<0.0.1>"),
         (Spawn, "<0.1.1>"),
         (Spawn, "<0.2.1>"),
@@ -77,12 +77,12 @@ fn a_kill_is_not_trapped_and_goes_on_as_killed(rt: HostRuntime) -> Result<(), Fa
         (Alive(E), "false"),
         (Ended(E), "kill"),
     ];
-    play(&rt, rt.alloc(), settings(8), &steps)
+    play(&rt, rt.alloc(), settings(8), STEPS)
 }
 
 #[test]
 fn a_normal_exit_signal_ends_only_its_own_sender(rt: HostRuntime) -> Result<(), Fail> {
-    let steps = [
+    const STEPS: &[Step] = &[
         (Spawn, "<0.0.1>"),
         (Spawn, "<0.1.1>"),
         (ExitSignal(A, B, Reason::Normal), "ok"),
@@ -94,12 +94,12 @@ fn a_normal_exit_signal_ends_only_its_own_sender(rt: HostRuntime) -> Result<(), 
         (Ended(B), "normal"),
         (Ended(A), "none"),
     ];
-    play(&rt, rt.alloc(), settings(8), &steps)
+    play(&rt, rt.alloc(), settings(8), STEPS)
 }
 
 #[test]
 fn a_linked_normal_exit_takes_the_link_alone(rt: HostRuntime) -> Result<(), Fail> {
-    let steps = [
+    const STEPS: &[Step] = &[
         (Spawn, "<0.0.1>"),
         (Spawn, "<0.1.1>"),
         (Link(A, B), "ok"),
@@ -112,12 +112,12 @@ fn a_linked_normal_exit_takes_the_link_alone(rt: HostRuntime) -> Result<(), Fail
         (Linked(A, B), "none"),
         (Waiting(A), ""),
     ];
-    play(&rt, rt.alloc(), settings(8), &steps)
+    play(&rt, rt.alloc(), settings(8), STEPS)
 }
 
 #[test]
 fn trap_answers_the_flag_before(rt: HostRuntime) -> Result<(), Fail> {
-    let steps = [
+    const STEPS: &[Step] = &[
         (Spawn, "<0.0.1>"),
         (Trap(A, true), "false"),
         (Trap(A, false), "true"),
@@ -127,5 +127,5 @@ fn trap_answers_the_flag_before(rt: HostRuntime) -> Result<(), Fail> {
         (Event(4), "4@0 flag <0.0.1> off"),
         (Events, "4"),
     ];
-    play(&rt, rt.alloc(), settings(8), &steps)
+    play(&rt, rt.alloc(), settings(8), STEPS)
 }

@@ -2,7 +2,7 @@
 
 use crate::known::{A, settings};
 use crate::play::Call::*;
-use crate::play::play;
+use crate::play::{Step, play};
 use pt_node::{Config, OpenError, Pick, Pid, gather, open};
 use pt_shard::MAX_STAMP;
 use std::test::Fail;
@@ -27,7 +27,7 @@ fn a_clock_at_its_limit_refuses_what_has_an_event(rt: HostRuntime) -> Result<(),
         start: MAX_STAMP - 1,
         ..settings(8)
     };
-    let steps = [
+    const STEPS: &[Step] = &[
         (Spawn, "<0.0.1>"),
         (Clock, "4611686018427387904"),
         (Send(A, A, 1, 0), "Worn"),
@@ -35,7 +35,7 @@ fn a_clock_at_its_limit_refuses_what_has_an_event(rt: HostRuntime) -> Result<(),
         (Receive(A, Pick::Any), "none"),
         (Events, "1"),
     ];
-    play(&rt, rt.alloc(), late, &steps)
+    play(&rt, rt.alloc(), late, STEPS)
 }
 
 #[test]
@@ -44,7 +44,7 @@ fn a_turn_stops_at_the_limit_of_the_clock(rt: HostRuntime) -> Result<(), Fail> {
         start: MAX_STAMP - 2,
         ..settings(8)
     };
-    let steps = [
+    const STEPS: &[Step] = &[
         (Spawn, "<0.0.1>"),
         (Send(A, A, 1, 0), "ok"),
         (Clock, "4611686018427387904"),
@@ -54,7 +54,7 @@ fn a_turn_stops_at_the_limit_of_the_clock(rt: HostRuntime) -> Result<(), Fail> {
         (Waiting(A), ""),
         (Events, "2"),
     ];
-    play(&rt, rt.alloc(), late, &steps)
+    play(&rt, rt.alloc(), late, STEPS)
 }
 
 #[test]
@@ -63,7 +63,7 @@ fn a_worn_clock_is_told_before_a_full_desk(rt: HostRuntime) -> Result<(), Fail> 
         start: MAX_STAMP - 1,
         ..settings(1)
     };
-    let steps = [
+    const STEPS: &[Step] = &[
         (Spawn, "<0.0.1>"),
         (Vacant, "none"),
         (Spawn, "Worn"),
@@ -71,7 +71,7 @@ fn a_worn_clock_is_told_before_a_full_desk(rt: HostRuntime) -> Result<(), Fail> 
         (Child(NEXT), "Gone"),
         (Events, "1"),
     ];
-    play(&rt, rt.alloc(), late, &steps)
+    play(&rt, rt.alloc(), late, STEPS)
 }
 
 #[test]
@@ -118,7 +118,7 @@ fn a_desk_knows_only_pids_that_it_may_have_issued(rt: HostRuntime) -> Result<(),
         top_version: 2,
         ..settings(8)
     };
-    let steps = [
+    const STEPS: &[Step] = &[
         (Knows(ABROAD), "false"),
         (Knows(Pid { slot: 8, ..A }), "false"),
         (Knows(Pid { version: 0, ..A }), "false"),
@@ -129,17 +129,17 @@ fn a_desk_knows_only_pids_that_it_may_have_issued(rt: HostRuntime) -> Result<(),
         (Knows(NEXT), "false"),
         (Send(A, NEXT, 1, 0), "unknown"),
     ];
-    play(&rt, rt.alloc(), two_versions, &steps)
+    play(&rt, rt.alloc(), two_versions, STEPS)
 }
 
 #[test]
 fn a_pid_never_issued_is_gone(rt: HostRuntime) -> Result<(), Fail> {
-    let steps = [
+    const STEPS: &[Step] = &[
         (Spawn, "<0.0.1>"),
         (Receive(NEXT, Pick::Any), "Gone"),
         (Receive(ABROAD, Pick::Any), "Gone"),
         (Alive(NEXT), "false"),
         (Alive(ABROAD), "false"),
     ];
-    play(&rt, rt.alloc(), settings(8), &steps)
+    play(&rt, rt.alloc(), settings(8), STEPS)
 }

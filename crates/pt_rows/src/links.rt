@@ -2,13 +2,13 @@
 
 use crate::known::{A, B, C, settings};
 use crate::play::Call::*;
-use crate::play::play;
+use crate::play::{Step, play};
 use pt_node::{Pick, Reason};
 use std::test::Fail;
 
 #[test]
 fn a_link_to_oneself_or_made_twice_has_no_event(rt: HostRuntime) -> Result<(), Fail> {
-    let steps = [
+    const STEPS: &[Step] = &[
         (Spawn, "<0.0.1>"),
         (Spawn, "<0.1.1>"),
         (Link(A, A), "ok"),
@@ -19,12 +19,12 @@ fn a_link_to_oneself_or_made_twice_has_no_event(rt: HostRuntime) -> Result<(), F
         (Events, "3"),
         (Turn(16), "posted 1 handled 1"),
     ];
-    play(&rt, rt.alloc(), settings(8), &steps)
+    play(&rt, rt.alloc(), settings(8), STEPS)
 }
 
 #[test]
 fn a_link_to_a_dead_process_comes_back_as_noproc(rt: HostRuntime) -> Result<(), Fail> {
-    let steps = [
+    const STEPS: &[Step] = &[
         (Spawn, "<0.0.1>"),
         (Spawn, "<0.1.1>"),
         (Exit(B, Reason::Normal), "ok"),
@@ -39,12 +39,12 @@ fn a_link_to_a_dead_process_comes_back_as_noproc(rt: HostRuntime) -> Result<(), 
         (Linked(A, B), "none"),
         (Receive(A, Pick::ExitOf(B)), "exit <0.1.1> noproc"),
     ];
-    play(&rt, rt.alloc(), settings(8), &steps)
+    play(&rt, rt.alloc(), settings(8), STEPS)
 }
 
 #[test]
 fn unlink_takes_both_ids_of_crossing_links_back(rt: HostRuntime) -> Result<(), Fail> {
-    let steps = [
+    const STEPS: &[Step] = &[
         (Spawn, "<0.0.1>"),
         (Spawn, "<0.1.1>"),
         (Link(A, B), "ok"),
@@ -63,12 +63,12 @@ fn unlink_takes_both_ids_of_crossing_links_back(rt: HostRuntime) -> Result<(), F
         (Unlink(A, B), "ok"),
         (Clock, "8"),
     ];
-    play(&rt, rt.alloc(), settings(8), &steps)
+    play(&rt, rt.alloc(), settings(8), STEPS)
 }
 
 #[test]
 fn a_linked_child_ends_with_its_parent(rt: HostRuntime) -> Result<(), Fail> {
-    let steps = [
+    const STEPS: &[Step] = &[
         (Spawn, "<0.0.1>"),
         (LinkedChild(A), "<0.1.1>"),
         (Event(2), "2@0 born <0.1.1> by <0.0.1> link ~0.2"),
@@ -87,12 +87,12 @@ fn a_linked_child_ends_with_its_parent(rt: HostRuntime) -> Result<(), Fail> {
         (Ended(B), "shutdown"),
         (Child(A), "Gone"),
     ];
-    play(&rt, rt.alloc(), settings(8), &steps)
+    play(&rt, rt.alloc(), settings(8), STEPS)
 }
 
 #[test]
 fn a_late_bounce_finds_the_whole_entry_taken(rt: HostRuntime) -> Result<(), Fail> {
-    let steps = [
+    const STEPS: &[Step] = &[
         (Spawn, "<0.0.1>"),
         (Spawn, "<0.1.1>"),
         (Trap(A, true), "false"),
@@ -120,12 +120,12 @@ fn a_late_bounce_finds_the_whole_entry_taken(rt: HostRuntime) -> Result<(), Fail
         (Events, "10"),
         (Waiting(A), "exit <0.1.1> shutdown;"),
     ];
-    play(&rt, rt.alloc(), settings(8), &steps)
+    play(&rt, rt.alloc(), settings(8), STEPS)
 }
 
 #[test]
 fn an_exit_that_comes_after_unlink_is_dropped(rt: HostRuntime) -> Result<(), Fail> {
-    let steps = [
+    const STEPS: &[Step] = &[
         (Spawn, "<0.0.1>"),
         (Spawn, "<0.1.1>"),
         (Link(A, B), "ok"),
@@ -139,12 +139,12 @@ fn an_exit_that_comes_after_unlink_is_dropped(rt: HostRuntime) -> Result<(), Fai
         (Alive(A), "true"),
         (Turn(16), "posted 0 handled 0"),
     ];
-    play(&rt, rt.alloc(), settings(8), &steps)
+    play(&rt, rt.alloc(), settings(8), STEPS)
 }
 
 #[test]
 fn unlink_leaves_the_links_with_others(rt: HostRuntime) -> Result<(), Fail> {
-    let steps = [
+    const STEPS: &[Step] = &[
         (Spawn, "<0.0.1>"),
         (Spawn, "<0.1.1>"),
         (Spawn, "<0.2.1>"),
@@ -171,12 +171,12 @@ fn unlink_leaves_the_links_with_others(rt: HostRuntime) -> Result<(), Fail> {
         (Alive(B), "false"),
         (Alive(C), "false"),
     ];
-    play(&rt, rt.alloc(), settings(8), &steps)
+    play(&rt, rt.alloc(), settings(8), STEPS)
 }
 
 #[test]
 fn an_end_by_a_link_owes_its_sender_nothing(rt: HostRuntime) -> Result<(), Fail> {
-    let steps = [
+    const STEPS: &[Step] = &[
         (Spawn, "<0.0.1>"),
         (Spawn, "<0.1.1>"),
         (Link(B, A), "ok"),
@@ -203,12 +203,12 @@ fn an_end_by_a_link_owes_its_sender_nothing(rt: HostRuntime) -> Result<(), Fail>
         (Turn(16), "posted 0 handled 0"),
         (Events, "9"),
     ];
-    play(&rt, rt.alloc(), settings(8), &steps)
+    play(&rt, rt.alloc(), settings(8), STEPS)
 }
 
 #[test]
 fn an_exit_of_an_old_link_leaves_a_new_one(rt: HostRuntime) -> Result<(), Fail> {
-    let steps = [
+    const STEPS: &[Step] = &[
         (Spawn, "<0.0.1>"),
         (Spawn, "<0.1.1>"),
         (Link(A, B), "ok"),
@@ -236,5 +236,5 @@ fn an_exit_of_an_old_link_leaves_a_new_one(rt: HostRuntime) -> Result<(), Fail> 
         (Events, "11"),
         (Ended(A), "noproc"),
     ];
-    play(&rt, rt.alloc(), settings(8), &steps)
+    play(&rt, rt.alloc(), settings(8), STEPS)
 }

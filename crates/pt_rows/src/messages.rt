@@ -2,13 +2,13 @@
 
 use crate::known::{A, B, settings};
 use crate::play::Call::*;
-use crate::play::play;
+use crate::play::{Step, play};
 use pt_node::{Config, Pick, Reason};
 use std::test::Fail;
 
 #[test]
 fn two_processes_exchange_a_message_each(rt: HostRuntime) -> Result<(), Fail> {
-    let steps = [
+    const STEPS: &[Step] = &[
         (Spawn, "<0.0.1>"),
         (Spawn, "<0.1.1>"),
         (Send(A, B, 1, 7), "ok"),
@@ -23,12 +23,12 @@ fn two_processes_exchange_a_message_each(rt: HostRuntime) -> Result<(), Fail> {
         (Number, "0"),
         (Events, "10"),
     ];
-    play(&rt, rt.alloc(), settings(8), &steps)
+    play(&rt, rt.alloc(), settings(8), STEPS)
 }
 
 #[test]
 fn receive_takes_the_first_item_that_fits(rt: HostRuntime) -> Result<(), Fail> {
-    let steps = [
+    const STEPS: &[Step] = &[
         (Spawn, "<0.0.1>"),
         (Spawn, "<0.1.1>"),
         (Send(A, B, 1, 10), "ok"),
@@ -47,12 +47,12 @@ fn receive_takes_the_first_item_that_fits(rt: HostRuntime) -> Result<(), Fail> {
         (Event(12), "12@0 took <0.1.1> any = user <0.0.1> 1 10"),
         (Events, "12"),
     ];
-    play(&rt, rt.alloc(), settings(8), &steps)
+    play(&rt, rt.alloc(), settings(8), STEPS)
 }
 
 #[test]
 fn receive_without_a_match_changes_nothing(rt: HostRuntime) -> Result<(), Fail> {
-    let steps = [
+    const STEPS: &[Step] = &[
         (Spawn, "<0.0.1>"),
         (Spawn, "<0.1.1>"),
         (Send(A, B, 1, 10), "ok"),
@@ -67,12 +67,12 @@ fn receive_without_a_match_changes_nothing(rt: HostRuntime) -> Result<(), Fail> 
         (Waiting(B), "user <0.0.1> 2 20;user <0.0.1> 1 30;"),
         (Events, "12"),
     ];
-    play(&rt, rt.alloc(), settings(8), &steps)
+    play(&rt, rt.alloc(), settings(8), STEPS)
 }
 
 #[test]
 fn receive_from_a_sender_passes_over_the_others(rt: HostRuntime) -> Result<(), Fail> {
-    let steps = [
+    const STEPS: &[Step] = &[
         (Spawn, "<0.0.1>"),
         (Spawn, "<0.1.1>"),
         (Send(A, B, 1, 1), "ok"),
@@ -82,12 +82,12 @@ fn receive_from_a_sender_passes_over_the_others(rt: HostRuntime) -> Result<(), F
         (Receive(B, Pick::From(B)), "user <0.1.1> 1 2"),
         (Waiting(B), "user <0.0.1> 1 1;user <0.1.1> 1 3;"),
     ];
-    play(&rt, rt.alloc(), settings(8), &steps)
+    play(&rt, rt.alloc(), settings(8), STEPS)
 }
 
 #[test]
 fn a_turn_handles_no_more_than_its_budget(rt: HostRuntime) -> Result<(), Fail> {
-    let steps = [
+    const STEPS: &[Step] = &[
         (Spawn, "<0.0.1>"),
         (Spawn, "<0.1.1>"),
         (Send(A, B, 1, 0), "ok"),
@@ -98,12 +98,12 @@ fn a_turn_handles_no_more_than_its_budget(rt: HostRuntime) -> Result<(), Fail> {
         (Turn(3), "posted 0 handled 1"),
         (Clock, "10"),
     ];
-    play(&rt, rt.alloc(), settings(8), &steps)
+    play(&rt, rt.alloc(), settings(8), STEPS)
 }
 
 #[test]
 fn a_turn_without_a_budget_posts_all_the_same(rt: HostRuntime) -> Result<(), Fail> {
-    let steps = [
+    const STEPS: &[Step] = &[
         (Spawn, "<0.0.1>"),
         (Spawn, "<0.1.1>"),
         (Send(A, B, 1, 0), "ok"),
@@ -120,7 +120,7 @@ fn a_turn_without_a_budget_posts_all_the_same(rt: HostRuntime) -> Result<(), Fai
         (Turn(3), "posted 0 handled 1"),
         (Clock, "10"),
     ];
-    play(&rt, rt.alloc(), settings(8), &steps)
+    play(&rt, rt.alloc(), settings(8), STEPS)
 }
 
 #[test]
@@ -129,7 +129,7 @@ fn a_turn_posts_no_more_than_the_lane_holds(rt: HostRuntime) -> Result<(), Fail>
         lane: 2,
         ..settings(8)
     };
-    let steps = [
+    const STEPS: &[Step] = &[
         (Spawn, "<0.0.1>"),
         (Spawn, "<0.1.1>"),
         (Send(A, B, 1, 0), "ok"),
@@ -143,5 +143,5 @@ fn a_turn_posts_no_more_than_the_lane_holds(rt: HostRuntime) -> Result<(), Fail>
         ),
         (Clock, "8"),
     ];
-    play(&rt, rt.alloc(), narrow, &steps)
+    play(&rt, rt.alloc(), narrow, STEPS)
 }

@@ -2,31 +2,31 @@
 
 use crate::known::{A, B, C, settings};
 use crate::play::Call::*;
-use crate::play::play;
+use crate::play::{Step, play};
 use pt_node::{Pick, Reason, Ref};
 use std::test::Fail;
 
 #[test]
 fn a_down_is_received_by_its_reference(rt: HostRuntime) -> Result<(), Fail> {
-    let watch = Ref { desk: 0, number: 3 };
-    let other = Ref { desk: 0, number: 4 };
-    let steps = [
+    const WATCH: Ref = Ref { desk: 0, number: 3 };
+    const OTHER: Ref = Ref { desk: 0, number: 4 };
+    const STEPS: &[Step] = &[
         (Spawn, "<0.0.1>"),
         (Spawn, "<0.1.1>"),
         (Monitor(A, B), "#0.3"),
         (Turn(16), "posted 1 handled 1"),
         (Exit(B, Reason::Other(7)), "ok"),
         (Turn(16), "posted 1 handled 1"),
-        (Receive(A, Pick::DownOf(other)), "none"),
-        (Receive(A, Pick::DownOf(watch)), "down #0.3 <0.1.1> other:7"),
+        (Receive(A, Pick::DownOf(OTHER)), "none"),
+        (Receive(A, Pick::DownOf(WATCH)), "down #0.3 <0.1.1> other:7"),
         (Clock, "7"),
     ];
-    play(&rt, rt.alloc(), settings(8), &steps)
+    play(&rt, rt.alloc(), settings(8), STEPS)
 }
 
 #[test]
 fn a_monitor_of_a_dead_process_is_answered_noproc(rt: HostRuntime) -> Result<(), Fail> {
-    let steps = [
+    const STEPS: &[Step] = &[
         (Spawn, "<0.0.1>"),
         (Spawn, "<0.1.1>"),
         (Exit(B, Reason::Shutdown), "ok"),
@@ -37,19 +37,19 @@ fn a_monitor_of_a_dead_process_is_answered_noproc(rt: HostRuntime) -> Result<(),
         (Receive(A, Pick::Any), "down #0.4 <0.1.1> noproc"),
         (Receive(A, Pick::Any), "none"),
     ];
-    play(&rt, rt.alloc(), settings(8), &steps)
+    play(&rt, rt.alloc(), settings(8), STEPS)
 }
 
 #[test]
 fn each_monitor_has_its_own_down(rt: HostRuntime) -> Result<(), Fail> {
-    let first = Ref { desk: 0, number: 3 };
-    let steps = [
+    const FIRST: Ref = Ref { desk: 0, number: 3 };
+    const STEPS: &[Step] = &[
         (Spawn, "<0.0.1>"),
         (Spawn, "<0.1.1>"),
         (Monitor(A, B), "#0.3"),
         (Monitor(A, B), "#0.4"),
         (Turn(16), "posted 2 handled 2"),
-        (Demonitor(A, first), "true"),
+        (Demonitor(A, FIRST), "true"),
         (Clock, "7"),
         (Exit(B, Reason::Other(9)), "ok"),
         (Clock, "8"),
@@ -57,13 +57,13 @@ fn each_monitor_has_its_own_down(rt: HostRuntime) -> Result<(), Fail> {
         (Clock, "11"),
         (Waiting(A), "down #0.4 <0.1.1> other:9;"),
     ];
-    play(&rt, rt.alloc(), settings(8), &steps)
+    play(&rt, rt.alloc(), settings(8), STEPS)
 }
 
 #[test]
 fn demonitor_with_flush_takes_a_waiting_down(rt: HostRuntime) -> Result<(), Fail> {
-    let watch = Ref { desk: 0, number: 3 };
-    let steps = [
+    const WATCH: Ref = Ref { desk: 0, number: 3 };
+    const STEPS: &[Step] = &[
         (Spawn, "<0.0.1>"),
         (Spawn, "<0.1.1>"),
         (Monitor(A, B), "#0.3"),
@@ -72,24 +72,24 @@ fn demonitor_with_flush_takes_a_waiting_down(rt: HostRuntime) -> Result<(), Fail
         (Clock, "5"),
         (Turn(16), "posted 1 handled 1"),
         (Clock, "6"),
-        (Demonitor(A, watch), "false"),
+        (Demonitor(A, WATCH), "false"),
         (Clock, "6"),
-        (Flush(A, watch), "true"),
+        (Flush(A, WATCH), "true"),
         (
             Event(7),
             "7@0 took <0.0.1> down-of #0.3 = down #0.3 <0.1.1> normal",
         ),
         (Events, "7"),
         (Waiting(A), ""),
-        (Flush(A, watch), "false"),
+        (Flush(A, WATCH), "false"),
         (Clock, "7"),
     ];
-    play(&rt, rt.alloc(), settings(8), &steps)
+    play(&rt, rt.alloc(), settings(8), STEPS)
 }
 
 #[test]
 fn an_end_pays_its_links_then_its_watchers_then_its_monitors(rt: HostRuntime) -> Result<(), Fail> {
-    let steps = [
+    const STEPS: &[Step] = &[
         (Spawn, "<0.0.1>"),
         (Spawn, "<0.1.1>"),
         (Spawn, "<0.2.1>"),
@@ -116,29 +116,29 @@ fn an_end_pays_its_links_then_its_watchers_then_its_monitors(rt: HostRuntime) ->
         (Events, "14"),
         (Turn(16), "posted 0 handled 0"),
     ];
-    play(&rt, rt.alloc(), settings(8), &steps)
+    play(&rt, rt.alloc(), settings(8), STEPS)
 }
 
 #[test]
 fn a_process_cannot_monitor_itself(rt: HostRuntime) -> Result<(), Fail> {
-    let steps = [
+    const STEPS: &[Step] = &[
         (Spawn, "<0.0.1>"),
         (Monitor(A, A), "Myself"),
         (Clock, "1"),
         (Exit(A, Reason::Normal), "ok"),
         (Monitor(A, A), "Gone"),
     ];
-    play(&rt, rt.alloc(), settings(8), &steps)
+    play(&rt, rt.alloc(), settings(8), STEPS)
 }
 
 #[test]
 fn a_reference_of_another_desk_has_no_down_here(rt: HostRuntime) -> Result<(), Fail> {
-    let foreign = Ref { desk: 5, number: 7 };
-    let steps = [
+    const FOREIGN: Ref = Ref { desk: 5, number: 7 };
+    const STEPS: &[Step] = &[
         (Spawn, "<0.0.1>"),
-        (Flush(A, foreign), "false"),
-        (Receive(A, Pick::DownOf(foreign)), "none"),
+        (Flush(A, FOREIGN), "false"),
+        (Receive(A, Pick::DownOf(FOREIGN)), "none"),
         (Events, "1"),
     ];
-    play(&rt, rt.alloc(), settings(8), &steps)
+    play(&rt, rt.alloc(), settings(8), STEPS)
 }

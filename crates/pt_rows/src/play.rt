@@ -11,7 +11,7 @@ use std::test::Fail;
 
 /// A call of a desk, or a look at it. A call is made on the desk of its process; where none is named, or the node has
 /// no such desk, on desk 0.
-#[derive(Clone, Copy, Debug)]
+#[derive(Clone, Copy)]
 pub enum Call {
     Spawn,
     /// A birth on a desk.
@@ -122,7 +122,7 @@ pub fn run(
 {
     for (number, (call, want)) in steps.iter().enumerate() {
         let got = make(alloc, desks, *call)?;
-        assert_eq!(rt; got.as_str(), *want, "step {number}, {call:?}");
+        assert_eq!(rt; got.as_str(), *want, "step {number}");
     }
     Ok(())
 }

@@ -89,7 +89,7 @@ fn account(alloc: Global, account: Option<Account>) -> Result<String, AllocError
 
 #[test]
 fn an_end_that_goes_down_its_links_is_told(rt: HostRuntime) -> Result<(), Fail> {
-    let told = [
+    const TOLD: &[Told] = &[
         (Ask::Pids, "<0.0.1> <0.1.1> <0.2.1> <0.3.1> <0.4.1> "),
         (Ask::Account(A), "ended other:7 arrived 0 taken 0 waiting 0"),
         (Ask::Account(B), "ended other:7 arrived 0 taken 0 waiting 0"),
@@ -106,45 +106,45 @@ fn an_end_that_goes_down_its_links_is_told(rt: HostRuntime) -> Result<(), Fail> 
         (Ask::LinkedTo(D, E), "~0.9"),
         (Ask::LinkedTo(C, E), "none"),
     ];
-    play_quiet(&rt, rt.alloc(), settings(8), &CHAIN, 1, 2, &told)
+    play_quiet(&rt, rt.alloc(), settings(8), &CHAIN, 1, 2, TOLD)
 }
 
 #[test]
 fn crossing_unlinks_leave_one_link_at_both_ends(rt: HostRuntime) -> Result<(), Fail> {
-    let told = [
+    const TOLD: &[Told] = &[
         (Ask::Pids, "<0.0.1> <1.0.1> "),
         (Ask::LinkedTo(A, A1), "~0.4"),
         (Ask::LinkedTo(A1, A), "~0.4"),
         (Ask::LinkedTo(A, A), "none"),
     ];
-    play_quiet(&rt, rt.alloc(), two_desks(8), &CROSSING, 3, 3, &told)
+    play_quiet(&rt, rt.alloc(), two_desks(8), &CROSSING, 3, 3, TOLD)
 }
 
 #[test]
 fn a_linked_child_and_its_parent_hold_one_link(rt: HostRuntime) -> Result<(), Fail> {
-    let steps = [
+    const STEPS: &[Step] = &[
         (Spawn, "<0.0.1>"),
         (LinkedChild(A), "<0.1.1>"),
         (Child(A), "<0.2.1>"),
         (Exit(B, Reason::Normal), "ok"),
     ];
-    let told = [
+    const TOLD: &[Told] = &[
         (Ask::LinkedTo(A, B), "none"),
         (Ask::LinkedTo(B, A), "~0.2"),
         (Ask::LinkedTo(C, A), "none"),
         (Ask::Account(A), "alive arrived 0 taken 0 waiting 0"),
         (Ask::Account(B), "ended normal arrived 0 taken 0 waiting 0"),
     ];
-    let born = [(Ask::LinkedTo(A, B), "~0.2"), (Ask::LinkedTo(B, A), "~0.2")];
-    play_quiet(&rt, rt.alloc(), settings(8), &steps[..3], 0, 0, &born)?;
-    play_quiet(&rt, rt.alloc(), settings(8), &steps, 1, 1, &told)
+    const BORN: &[Told] = &[(Ask::LinkedTo(A, B), "~0.2"), (Ask::LinkedTo(B, A), "~0.2")];
+    play_quiet(&rt, rt.alloc(), settings(8), &STEPS[..3], 0, 0, BORN)?;
+    play_quiet(&rt, rt.alloc(), settings(8), STEPS, 1, 1, TOLD)
 }
 
 #[test]
 fn a_watch_stands_at_both_ends_of_a_live_pair(rt: HostRuntime) -> Result<(), Fail> {
-    let first = Ref { desk: 0, number: 4 };
-    let second = Ref { desk: 0, number: 5 };
-    let steps = [
+    const FIRST: Ref = Ref { desk: 0, number: 4 };
+    const SECOND: Ref = Ref { desk: 0, number: 5 };
+    const STEPS: &[Step] = &[
         (Spawn, "<0.0.1>"),
         (Spawn, "<0.1.1>"),
         (Spawn, "<0.2.1>"),
@@ -153,33 +153,33 @@ fn a_watch_stands_at_both_ends_of_a_live_pair(rt: HostRuntime) -> Result<(), Fai
         (Turn(16), "posted 2 handled 2"),
         (Exit(C, Reason::Shutdown), "ok"),
     ];
-    let live = [
-        (Ask::Kept(B, first), "true"),
-        (Ask::Kept(B, second), "true"),
-        (Ask::Watching(A, first), "true"),
-        (Ask::Watching(C, second), "true"),
-        (Ask::Watching(A, second), "false"),
-        (Ask::Watching(B, first), "false"),
-        (Ask::Kept(A, first), "false"),
+    const LIVE: &[Told] = &[
+        (Ask::Kept(B, FIRST), "true"),
+        (Ask::Kept(B, SECOND), "true"),
+        (Ask::Watching(A, FIRST), "true"),
+        (Ask::Watching(C, SECOND), "true"),
+        (Ask::Watching(A, SECOND), "false"),
+        (Ask::Watching(B, FIRST), "false"),
+        (Ask::Kept(A, FIRST), "false"),
     ];
-    let ended = [
-        (Ask::Kept(B, first), "true"),
-        (Ask::Watching(A, first), "true"),
-        (Ask::Kept(B, second), "false"),
-        (Ask::Watching(C, second), "false"),
+    const ENDED: &[Told] = &[
+        (Ask::Kept(B, FIRST), "true"),
+        (Ask::Watching(A, FIRST), "true"),
+        (Ask::Kept(B, SECOND), "false"),
+        (Ask::Watching(C, SECOND), "false"),
         (
             Ask::Account(C),
             "ended shutdown arrived 0 taken 0 waiting 0",
         ),
     ];
-    play_quiet(&rt, rt.alloc(), settings(8), &steps[..6], 0, 0, &live)?;
-    play_quiet(&rt, rt.alloc(), settings(8), &steps, 1, 1, &ended)
+    play_quiet(&rt, rt.alloc(), settings(8), &STEPS[..6], 0, 0, LIVE)?;
+    play_quiet(&rt, rt.alloc(), settings(8), STEPS, 1, 1, ENDED)
 }
 
 #[test]
 fn an_ended_target_keeps_its_last_watches(rt: HostRuntime) -> Result<(), Fail> {
-    let watch = Ref { desk: 0, number: 2 };
-    let steps = [
+    const WATCH: Ref = Ref { desk: 0, number: 2 };
+    const STEPS: &[Step] = &[
         (Spawn, "<0.0.1>"),
         (SpawnOn(1), "<1.0.1>"),
         (Monitor(A, A1), "#0.2"),
@@ -187,21 +187,21 @@ fn an_ended_target_keeps_its_last_watches(rt: HostRuntime) -> Result<(), Fail> {
         (TurnOf(1, 16), "posted 0 handled 1"),
         (Exit(A1, Reason::Other(9)), "ok"),
     ];
-    let told = [
-        (Ask::Kept(A1, watch), "true"),
-        (Ask::Watching(A, watch), "false"),
+    const TOLD: &[Told] = &[
+        (Ask::Kept(A1, WATCH), "true"),
+        (Ask::Watching(A, WATCH), "false"),
         (Ask::Account(A), "alive arrived 1 taken 0 waiting 1"),
         (
             Ask::Account(A1),
             "ended other:9 arrived 0 taken 0 waiting 0",
         ),
     ];
-    play_quiet(&rt, rt.alloc(), two_desks(8), &steps, 1, 1, &told)
+    play_quiet(&rt, rt.alloc(), two_desks(8), STEPS, 1, 1, TOLD)
 }
 
 #[test]
 fn what_was_taken_and_what_was_left_is_counted(rt: HostRuntime) -> Result<(), Fail> {
-    let steps = [
+    const STEPS: &[Step] = &[
         (Spawn, "<0.0.1>"),
         (Spawn, "<0.1.1>"),
         (Send(A, B, 1, 10), "ok"),
@@ -214,18 +214,18 @@ fn what_was_taken_and_what_was_left_is_counted(rt: HostRuntime) -> Result<(), Fa
         (Exit(B, Reason::Normal), "ok"),
         (Send(A, B, 1, 50), "ok"),
     ];
-    let live = [(Ask::Account(B), "alive arrived 4 taken 2 waiting 2")];
-    let ended = [
+    const LIVE: &[Told] = &[(Ask::Account(B), "alive arrived 4 taken 2 waiting 2")];
+    const ENDED: &[Told] = &[
         (Ask::Account(A), "alive arrived 0 taken 0 waiting 0"),
         (Ask::Account(B), "ended normal arrived 4 taken 2 waiting 2"),
     ];
-    play_quiet(&rt, rt.alloc(), settings(8), &steps[..9], 0, 0, &live)?;
-    play_quiet(&rt, rt.alloc(), settings(8), &steps, 1, 1, &ended)
+    play_quiet(&rt, rt.alloc(), settings(8), &STEPS[..9], 0, 0, LIVE)?;
+    play_quiet(&rt, rt.alloc(), settings(8), STEPS, 1, 1, ENDED)
 }
 
 #[test]
 fn pids_stand_by_desk_slot_and_version(rt: HostRuntime) -> Result<(), Fail> {
-    let steps = [
+    const STEPS: &[Step] = &[
         (SpawnOn(1), "<1.0.1>"),
         (Spawn, "<0.0.1>"),
         (Spawn, "<0.1.1>"),
@@ -234,33 +234,33 @@ fn pids_stand_by_desk_slot_and_version(rt: HostRuntime) -> Result<(), Fail> {
         (Exit(A1, Reason::Shutdown), "ok"),
         (SpawnOn(1), "<1.0.2>"),
     ];
-    let second = Pid { version: 2, ..A };
-    let told = [
+    const SECOND: Pid = Pid { version: 2, ..A };
+    const TOLD: &[Told] = &[
         (Ask::Pids, "<0.0.1> <0.0.2> <0.1.1> <1.0.1> <1.0.2> "),
         (Ask::Account(A), "ended normal arrived 0 taken 0 waiting 0"),
-        (Ask::Account(second), "alive arrived 0 taken 0 waiting 0"),
+        (Ask::Account(SECOND), "alive arrived 0 taken 0 waiting 0"),
         (
             Ask::Account(A1),
             "ended shutdown arrived 0 taken 0 waiting 0",
         ),
     ];
-    play_quiet(&rt, rt.alloc(), two_desks(8), &steps, 0, 0, &told)
+    play_quiet(&rt, rt.alloc(), two_desks(8), STEPS, 0, 0, TOLD)
 }
 
 #[test]
 fn a_pid_that_was_never_born_has_no_account(rt: HostRuntime) -> Result<(), Fail> {
-    let watch = Ref { desk: 0, number: 1 };
-    let told = [
+    const WATCH: Ref = Ref { desk: 0, number: 1 };
+    const TOLD: &[Told] = &[
         (Ask::Account(A), "alive arrived 0 taken 0 waiting 0"),
         (Ask::Account(Pid { version: 0, ..A }), "none"),
         (Ask::Account(Pid { version: 2, ..A }), "none"),
         (Ask::Account(B), "none"),
         (Ask::Account(A1), "none"),
         (Ask::LinkedTo(B, A), "none"),
-        (Ask::Kept(A1, watch), "false"),
-        (Ask::Watching(B, watch), "false"),
+        (Ask::Kept(A1, WATCH), "false"),
+        (Ask::Watching(B, WATCH), "false"),
     ];
-    let nobody = [(Ask::Pids, ""), (Ask::Account(A), "none")];
+    const NOBODY: &[Told] = &[(Ask::Pids, ""), (Ask::Account(A), "none")];
     play_quiet(
         &rt,
         rt.alloc(),
@@ -268,7 +268,7 @@ fn a_pid_that_was_never_born_has_no_account(rt: HostRuntime) -> Result<(), Fail>
         &[(Spawn, "<0.0.1>")],
         0,
         0,
-        &told,
+        TOLD,
     )?;
-    play_quiet(&rt, rt.alloc(), settings(8), &[], 0, 0, &nobody)
+    play_quiet(&rt, rt.alloc(), settings(8), &[], 0, 0, NOBODY)
 }

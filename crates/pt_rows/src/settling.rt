@@ -49,9 +49,9 @@ fn cut_off(
 }
 
 fn compare(rt: &impl Abort, alloc: Global, settled: &Settled, looks: &[Step]) -> Result<(), Fail> {
-    for (call, want) in looks {
+    for (number, (call, want)) in looks.iter().enumerate() {
         let got = look_after(alloc, settled, *call)?;
-        assert_eq!(rt; got.as_str(), *want, "{call:?}");
+        assert_eq!(rt; got.as_str(), *want, "look {number}");
     }
     Ok(())
 }
@@ -133,12 +133,12 @@ fn an_end_goes_down_its_links_when_the_node_settles(rt: HostRuntime) -> Result<(
 
 #[test]
 fn a_chain_that_is_cut_off_settles_to_its_end(rt: HostRuntime) -> Result<(), Fail> {
-    let turns = [
+    const TURNS: &[Step] = &[
         (Turn(16), "posted 1 handled 1"),
         (Turn(16), "posted 1 handled 1"),
         (Turn(16), "posted 0 handled 0"),
     ];
-    cut_off(&rt, rt.alloc(), settings(8), &CHAIN, &turns, &CHAIN_ENDED)
+    cut_off(&rt, rt.alloc(), settings(8), &CHAIN, TURNS, &CHAIN_ENDED)
 }
 
 /// A link that both ends take back at once, and that one of them makes anew.
@@ -170,17 +170,17 @@ fn crossing_unlinks_settle_to_equal_ends(rt: HostRuntime) -> Result<(), Fail> {
 
 #[test]
 fn crossing_unlinks_that_are_cut_off_settle_to_equal_ends(rt: HostRuntime) -> Result<(), Fail> {
-    let turns = [
+    const TURNS: &[Step] = &[
         (TurnOf(0, 16), "posted 2 handled 0"),
         (TurnOf(1, 16), "posted 1 handled 2"),
         (TurnOf(0, 16), "posted 0 handled 1"),
     ];
-    cut_off(&rt, rt.alloc(), two_desks(8), &CROSSING, &turns, &CROSSED)
+    cut_off(&rt, rt.alloc(), two_desks(8), &CROSSING, TURNS, &CROSSED)
 }
 
 #[test]
 fn a_kill_that_is_cut_off_is_heard_after_the_messages(rt: HostRuntime) -> Result<(), Fail> {
-    let steps = [
+    const STEPS: &[Step] = &[
         (Spawn, "<0.0.1>"),
         (SpawnOn(1), "<1.0.1>"),
         (Trap(A, true), "false"),
@@ -192,7 +192,7 @@ fn a_kill_that_is_cut_off_is_heard_after_the_messages(rt: HostRuntime) -> Result
         (Send(A1, A, 1, 3), "ok"),
         (ExitSignal(A, A1, Reason::Kill), "ok"),
     ];
-    let turns = [
+    const TURNS: &[Step] = &[
         (TurnOf(0, 16), "posted 1 handled 0"),
         (TurnOf(1, 16), "posted 1 handled 1"),
         (TurnOf(0, 16), "posted 0 handled 1"),
@@ -203,7 +203,7 @@ fn a_kill_that_is_cut_off_is_heard_after_the_messages(rt: HostRuntime) -> Result
         (TurnOf(1, 16), "posted 1 handled 0"),
         (TurnOf(0, 16), "posted 0 handled 1"),
     ];
-    let looks = [
+    const LOOKS: &[Step] = &[
         (Ended(A1), "killed"),
         (EventOf(0, 6), "6@0 came <1.0.1> -> <0.0.1> message 1 1"),
         (EventOf(0, 7), "7@0 came <1.0.1> -> <0.0.1> message 1 2"),
@@ -217,13 +217,13 @@ fn a_kill_that_is_cut_off_is_heard_after_the_messages(rt: HostRuntime) -> Result
             "user <1.0.1> 1 1;user <1.0.1> 1 2;user <1.0.1> 1 3;exit <1.0.1> killed;",
         ),
     ];
-    cut_off(&rt, rt.alloc(), two_desks(1), &steps, &turns, &looks)
+    cut_off(&rt, rt.alloc(), two_desks(1), STEPS, TURNS, LOOKS)
 }
 
 #[test]
 fn letters_settle_by_receiving_desk_then_by_sending_desk(rt: HostRuntime) -> Result<(), Fail> {
-    let nobody = Pid { slot: 3, ..A };
-    let steps = [
+    const NOBODY: Pid = Pid { slot: 3, ..A };
+    const STEPS: &[Step] = &[
         (Spawn, "<0.0.1>"),
         (SpawnOn(1), "<1.0.1>"),
         (SpawnOn(1), "<1.1.1>"),
@@ -231,9 +231,9 @@ fn letters_settle_by_receiving_desk_then_by_sending_desk(rt: HostRuntime) -> Res
         (Send(A, B1, 1, 2), "ok"),
         (Send(A1, B1, 2, 1), "ok"),
         (Trap(A1, true), "false"),
-        (Link(A1, nobody), "ok"),
+        (Link(A1, NOBODY), "ok"),
     ];
-    let looks = [
+    const LOOKS: &[Step] = &[
         (EventOf(0, 6), "6@0 came <1.0.1> -> <0.3.1> link ~1.5"),
         (EventOf(1, 6), "6@1 came <0.0.1> -> <1.1.1> message 1 1"),
         (EventOf(1, 7), "7@1 came <0.0.1> -> <1.1.1> message 1 2"),
@@ -244,17 +244,17 @@ fn letters_settle_by_receiving_desk_then_by_sending_desk(rt: HostRuntime) -> Res
         (EventOf(1, 9), "9@1 came <1.0.1> -> <1.1.1> message 2 1"),
         (Waiting(A1), "exit <0.3.1> noproc;"),
     ];
-    play_settled(&rt, rt.alloc(), two_desks(8), &steps, 4, 5, &looks)
+    play_settled(&rt, rt.alloc(), two_desks(8), STEPS, 4, 5, LOOKS)
 }
 
 #[test]
 fn a_question_is_answered_when_the_node_settles(rt: HostRuntime) -> Result<(), Fail> {
-    let steps = [
+    const STEPS: &[Step] = &[
         (Spawn, "<0.0.1>"),
         (SpawnOn(1), "<1.0.1>"),
         (AskAlive(A, A1), "#0.2"),
     ];
-    let looks = [
+    const LOOKS: &[Step] = &[
         (EventOf(1, 3), "3@1 came <0.0.1> -> <1.0.1> alive-ask #0.2"),
         (
             EventOf(0, 4),
@@ -262,7 +262,7 @@ fn a_question_is_answered_when_the_node_settles(rt: HostRuntime) -> Result<(), F
         ),
         (Waiting(A), "alive #0.2 <1.0.1> yes;"),
     ];
-    play_settled(&rt, rt.alloc(), two_desks(8), &steps, 1, 2, &looks)
+    play_settled(&rt, rt.alloc(), two_desks(8), STEPS, 1, 2, LOOKS)
 }
 
 #[test]
@@ -287,12 +287,12 @@ fn run_turns(rt: &impl Abort, alloc: Global, desks: &mut Vec<Desk>, turns: u32) 
     requires { AreDesks desks.old.items }
     ensures { AreDesks desks.new.items }
 {
-    let births = [
+    const BIRTHS: &[Step] = &[
         (Spawn, "<0.0.1>"),
         (SpawnOn(1), "<1.0.1>"),
         (SpawnOn(1), "<1.1.1>"),
     ];
-    run(rt, alloc, desks, &births)?;
+    run(rt, alloc, desks, BIRTHS)?;
     let _ = send_fifty(alloc, desks)?;
     for turn in 0..turns {
         let desk = if turn % 2 == 0 { 0 } else { 1 };

@@ -2,7 +2,7 @@
 
 use crate::known::{A, B, C, D, settings};
 use crate::play::Call::*;
-use crate::play::play;
+use crate::play::{Step, play};
 use pt_node::{Config, Pick, Pid, Reason};
 use std::test::Fail;
 
@@ -12,26 +12,26 @@ fn a_slot_at_its_top_version_is_retired(rt: HostRuntime) -> Result<(), Fail> {
         top_version: 2,
         ..settings(1)
     };
-    let second = Pid { version: 2, ..A };
-    let steps = [
+    const SECOND: Pid = Pid { version: 2, ..A };
+    const STEPS: &[Step] = &[
         (Spawn, "<0.0.1>"),
         (Spawn, "Full"),
         (Exit(A, Reason::Normal), "ok"),
         (Spawn, "<0.0.2>"),
-        (Exit(second, Reason::Normal), "ok"),
+        (Exit(SECOND, Reason::Normal), "ok"),
         (Spawn, "Full"),
         (Alive(A), "false"),
-        (Alive(second), "false"),
+        (Alive(SECOND), "false"),
         (Vacant, "none"),
         (Clock, "4"),
     ];
-    play(&rt, rt.alloc(), one_slot, &steps)
+    play(&rt, rt.alloc(), one_slot, STEPS)
 }
 
 #[test]
 fn a_used_again_slot_gets_no_letter_for_its_old_pid(rt: HostRuntime) -> Result<(), Fail> {
-    let second = Pid { version: 2, ..B };
-    let steps = [
+    const SECOND: Pid = Pid { version: 2, ..B };
+    const STEPS: &[Step] = &[
         (Spawn, "<0.0.1>"),
         (Spawn, "<0.1.1>"),
         (Exit(B, Reason::Normal), "ok"),
@@ -43,12 +43,12 @@ fn a_used_again_slot_gets_no_letter_for_its_old_pid(rt: HostRuntime) -> Result<(
         (Clock, "5"),
         (Turn(16), "posted 1 handled 1"),
         (Clock, "6"),
-        (Receive(second, Pick::Any), "none"),
+        (Receive(SECOND, Pick::Any), "none"),
         (Receive(B, Pick::Any), "Gone"),
         (Waiting(B), "none"),
-        (Waiting(second), ""),
+        (Waiting(SECOND), ""),
     ];
-    play(&rt, rt.alloc(), settings(2), &steps)
+    play(&rt, rt.alloc(), settings(2), STEPS)
 }
 
 #[test]
@@ -57,7 +57,7 @@ fn four_slots_with_two_versions_give_eight_pids(rt: HostRuntime) -> Result<(), F
         top_version: 2,
         ..settings(4)
     };
-    let steps = [
+    const STEPS: &[Step] = &[
         (Spawn, "<0.0.1>"),
         (Exit(A, Reason::Normal), "ok"),
         (Spawn, "<0.0.2>"),
@@ -78,17 +78,17 @@ fn four_slots_with_two_versions_give_eight_pids(rt: HostRuntime) -> Result<(), F
         (Spawn, "Full"),
         (Stamps, "1 2 3 4 5 6 7 8 9 10 11 12 13 14 15 16 "),
     ];
-    play(&rt, rt.alloc(), config, &steps)
+    play(&rt, rt.alloc(), config, STEPS)
 }
 
 #[test]
 fn a_child_is_born_by_its_parent(rt: HostRuntime) -> Result<(), Fail> {
-    let steps = [
+    const STEPS: &[Step] = &[
         (Spawn, "<0.0.1>"),
         (Child(A), "<0.1.1>"),
         (Event(2), "2@0 born <0.1.1> by <0.0.1>"),
         (Events, "2"),
         (Linked(A, B), "none"),
     ];
-    play(&rt, rt.alloc(), settings(8), &steps)
+    play(&rt, rt.alloc(), settings(8), STEPS)
 }
