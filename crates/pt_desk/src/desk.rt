@@ -399,7 +399,7 @@ impl Desk {
         };
         match handle_front(&mut self.shard, &self.ins, from) {
             Ok(_ended) => {
-                let _ = self.ins.take(from);
+                self.ins.pass(from);
                 Ok(true)
             }
             Err(stop) => {

@@ -22,37 +22,37 @@ pub hold_front-requires-clause-near : goal.hold_front-requires-clause-near
 hold_front-requires-clause-near c =
     subst (λ (s : ShardState). c.in-Some.from < s.config.desks) (sym (same_shard c)) (omega (arith, c.in-Some.ensures.some.0.0, c.self.invariant.accounts.in_desks))
 
--- the letter is handled, and taken out of its lane
-taken : (c : goal.After-take) → Collects c.self.inside.ins c.take.new.self c.in-Some.from c.take.result
+-- the letter is handled, and goes from its lane
+taken : (c : goal.After-pass) → Collects c.self.inside.ins c.pass.new.self c.in-Some.from c.pass.ensures.collects.0
 taken c =
     let found = c.in-Some.ensures in
-    let takes = c.take.ensures in
-    collects c.self.inside.ins c.next_from.new.self c.take.new.self c.in-Some.from c.take.result found.same.0 found.same.2 found.some.0 takes.collects takes.others
+    let passes = c.pass.ensures in
+    collects c.self.inside.ins c.next_from.new.self c.pass.new.self c.in-Some.from c.pass.ensures.collects.0 found.same.0 found.same.2 found.some.0 passes.collects.1 passes.others
 
-done : (c : goal.After-take) → ShardHandles c.take.result c.self.inside.shard (Ok c.in-Ok._ended) c.handle_front.new.shard
+done : (c : goal.After-pass) → ShardHandles c.pass.ensures.collects.0 c.self.inside.shard (Ok c.in-Ok._ended) c.handle_front.new.shard
 done c =
-    front_handled c.in-Some.from c.next_from.new.self c.take.new.self c.take.result c.self.inside.shard c.handle_front.new.shard (Ok c.in-Ok._ended)
-    c.in-Ok.ensures.does c.take.ensures.collects
+    front_handled c.in-Some.from c.next_from.new.self c.pass.new.self c.pass.ensures.collects.0 c.self.inside.shard c.handle_front.new.shard (Ok c.in-Ok._ended)
+    c.in-Ok.ensures.does c.pass.ensures.collects.1
 
 pub invariant_of-self-in-Ok : goal.invariant_of-self-in-Ok
 invariant_of-self-in-Ok c =
     let i = c.self.inside in
     record {
       fit = c.in-Ok.ensures.fit;
-      accounts = collected_accounted i.shard i.outs i.ins c.take.new.self c.in-Some.from c.take.result (is_free i.shard.hold (sym c.if-holds.ensures)) (taken c)
-          (c.take.ensures.place ∙ c.in-Some.ensures.same.0) c.handle_front.new.shard c.self.invariant.fit.boxes c.self.invariant.accounts (done c).1;
+      accounts = collected_accounted i.shard i.outs i.ins c.pass.new.self c.in-Some.from c.pass.ensures.collects.0 (is_free i.shard.hold (sym c.if-holds.ensures)) (taken c)
+          (c.pass.ensures.place ∙ c.in-Some.ensures.same.0) c.handle_front.new.shard c.self.invariant.fit.boxes c.self.invariant.accounts (done c).1;
     }
 
 pub returns-in-Ok : goal.returns-in-Ok
 returns-in-Ok c =
     let i = c.self.inside in
     let found = c.in-Some.ensures in
-    let takes = c.take.ensures in
-    let first = is_first i.ins c.next_from.new.self c.take.new.self c.in-Some.from c.take.result found.same.0 found.same.2 found.some.0 takes.collects takes.others found.some.1 in (
-      c.take.result,
-      subst (λ d. HandlesNext c.take.result d (of_parts c.handle_front.new.shard i.outs c.take.new.self)) c.self.view_is
-          (next_collected i.shard i.outs i.ins c.take.new.self c.in-Some.from c.take.result (is_free i.shard.hold (sym c.if-holds.ensures)) (taken c)
-          (takes.place ∙ found.same.0) first c.handle_front.new.shard (done c).0 (done c).1),
+    let passes = c.pass.ensures in
+    let first = is_first i.ins c.next_from.new.self c.pass.new.self c.in-Some.from c.pass.ensures.collects.0 found.same.0 found.same.2 found.some.0 passes.collects.1 passes.others found.some.1 in (
+      c.pass.ensures.collects.0,
+      subst (λ d. HandlesNext c.pass.ensures.collects.0 d (of_parts c.handle_front.new.shard i.outs c.pass.new.self)) c.self.view_is
+          (next_collected i.shard i.outs i.ins c.pass.new.self c.in-Some.from c.pass.ensures.collects.0 (is_free i.shard.hold (sym c.if-holds.ensures)) (taken c)
+          (passes.place ∙ found.same.0) first c.handle_front.new.shard (done c).0 (done c).1),
     )
 
 -- the letter is refused, and taken out of its lane into the hold

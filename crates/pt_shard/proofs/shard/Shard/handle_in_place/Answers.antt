@@ -1,21 +1,16 @@
-use Rattle.std.proofs.Common.{◌≡◌, ◌+◌, ◌<◌, ◌^◌, max, length, map, Ok, Some, None, sym, ap, ◌∙◌, refl, subst, arith}
-use Rattle.std.specs.Option.{option_to_list}
-use Rattle.std.specs.Prelude.{Option}
-use Rattle.pt_signal.specs.declared.signal.Signal.{Signal}
-use Rattle.pt_signal.specs.Process.{sent}
+use Rattle.std.proofs.Common.{◌≡◌, ◌+◌, ◌<◌, max, length, map, Ok, Some, None, sym, ap, ◌∙◌, refl, subst, arith}
 use Rattle.pt_events.specs.Journal.{letter}
 use Rattle.pt_shard.specs.ShardState.{ShardState, Handles, came}
-use Rattle.pt_shard.specs.LedgerState.{Book, HasRoomFor, wrote, is_of}
+use Rattle.pt_shard.specs.LedgerState.{Book, wrote, is_of}
 use Rattle.pt_shard.specs.Residents.{with_process}
 use Rattle.pt_shard.specs.Extends.{Extends}
 use Rattle.pt_shard.specs.Sound.{Every}
 use Rattle.pt_shard.specs.Whole.{parts_of, shard_of}
 use Rattle.pt_shard.proofs.Acting.{Outcome}
 use Rattle.pt_shard.proofs.Lent.{nobody}
-use Rattle.pt_shard.proofs.Acted.{acting, stopped, stops, took_in, after_letter, near_peers, few_boxes}
-use Rattle.pt_shard.proofs.Outcomes.{same_book}
-use Rattle.pt_shard.proofs.Bearing.{Unchanged, unchanged, same_table}
-use Rattle.pt_shard.proofs.Receiving.{receipt_stamp, bounced, ended_outcome, owed_near, owed_counted, owing_from, still_in_mid, nobody_ends, who_ends, receipt_book}
+use Rattle.pt_shard.proofs.Acted.{acting, stopped, stops, took_in, after_letter, near_peers}
+use Rattle.pt_shard.proofs.Bearing.{Unchanged}
+use Rattle.pt_shard.proofs.Receiving.{receipt_stamp, bounced, ended_outcome, owed_near, owed_counted, owing_from, still_in_mid, nobody_ends, who_ends}
 use Rattle.pt_shard.proofs.shard.Shard.handle_in_place.Goals as goal
 
 pub invariant_of-self-in_default : goal.invariant_of-self-in_default
