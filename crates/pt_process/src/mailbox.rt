@@ -56,7 +56,11 @@ impl Mailbox {
         ensures ok { OnOk result (self.new ≡ self.old ++ item ∷ []) }
         ensures err { OnErr result (self.new ≡ self.old) }
     {
-        self.items.push(item)?;
+        if self.items.len() == self.items.capacity() {
+            self.items.reserve(1)?;
+        }
+        // So the item is written where it stays. `Vec::push` is a call, for which it is put together in a place of its own.
+        self.items.push_reserved(item);
         Ok(())
     }
 
