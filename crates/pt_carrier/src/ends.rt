@@ -207,8 +207,8 @@ impl Ins {
     /// The oldest letter that is known to wait in the lane from desk `from`, in its place.
     ///
     /// It is the one that `take` gives. The answer is `None` only where it does not name the two desks of its lane.
-    /// Every letter that was posted names them, but the end that receives cannot see that; so a caller has to go on
-    /// by `front_addressed`.
+    /// Every letter that was posted names them, but the end that receives cannot see that, and no clause says when;
+    /// so a caller has to go on by `front_addressed`.
     #[inline(always)]
     pub fn front(&self, from: u8) -> Option<&Letter>
         requires { (from < length self.now.place.rings) × (0 < length (slice_index_or self.now.known from [])) }

@@ -40,8 +40,8 @@
 //! is moved whole, once into its ring and once out of it. `reunite` looks at each lane once and moves each left-over
 //! letter once.
 //!
-//! Who wants a letter only to read it takes [`Ins::next_from`], [`Ins::front`] and [`Ins::take`] in place of `collect`:
-//! the letter is then read in its ring, and where what `take` gives is not used, it is not moved out.
+//! Who wants a letter only to read it takes [`Ins::next_from`], [`Ins::front`] and [`Ins::pass`] in place of `collect`:
+//! the letter is then read in its ring, and goes from there without being moved out.
 //!
 //! # For proofs above
 //!

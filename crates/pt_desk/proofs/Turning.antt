@@ -12,7 +12,8 @@ use Rattle.pt_shard.specs.Outbox.{holding}
 use Rattle.pt_shard.specs.Extends.{Extends}
 use Rattle.pt_desk.specs.DeskState.{DeskState, GoesOn, IsAccounted, place}
 use Rattle.pt_desk.specs.Posting.{Posts}
-use Rattle.pt_desk.specs.Turns.{TakesIn, Fetches, FindsNone, HandlesNext, HandlesAll, Stays, EndsWith, HandlesFront, handled_held}
+use Rattle.pt_desk.specs.Turns.{TakesIn, Fetches, FindsNone, HandlesNext, HandlesAll, Stays, EndsWith, handled_held}
+use Rattle.pt_desk.specs.InPlace.{HandlesFront}
 use Rattle.pt_carrier.proofs.Collecting.{front_taken}
 use Rattle.pt_desk.proofs.Accounts.{accounted_handled, accounted_taken}
 use Rattle.pt_desk.proofs.Posted.{of_parts}

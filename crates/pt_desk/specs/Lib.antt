@@ -1,3 +1,4 @@
 pub mod DeskState
+pub mod InPlace
 pub mod Posting
 pub mod Turns

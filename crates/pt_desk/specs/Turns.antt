@@ -1,10 +1,9 @@
 -- What a turn does: first it posts, then it handles.
-use Rattle.std.specs.Prelude.{◌≡◌, ◌≢◌, ℕ, ◌-◌, ◌^◌, ◌<◌, ◌≤◌, ◌⊎◌, Bool, true, false, List, [], ◌∷◌, length, max, min, Option, Some, None, Result, Ok, Err, slice_index_or}
+use Rattle.std.specs.Prelude.{◌≡◌, ℕ, ◌-◌, ◌^◌, ◌<◌, ◌≤◌, ◌⊎◌, Bool, true, false, List, [], ◌∷◌, length, max, min, Option, Some, None, Result, Ok, Err}
 use Rattle.pt_events.specs.declared.event.TheConstants.{MAX_STAMP}
 use Rattle.pt_signal.specs.declared.letter.Letter.{Letter}
-use Rattle.pt_signal.specs.declared.pid.Pid.{Pid}
-use Rattle.pt_carrier.specs.Ends.{InEnds, Collects, IsFirst, IsFront, ShowNone}
-use Rattle.pt_shard.specs.ShardState.{ShardState, handled, Handles as HandlesLetter}
+use Rattle.pt_carrier.specs.Ends.{Collects, IsFirst, ShowNone}
+use Rattle.pt_shard.specs.ShardState.{handled}
 use Rattle.pt_shard.specs.Outbox.{holding}
 use Rattle.pt_shard.specs.declared.stop.Stop.{Stop}
 use Rattle.pt_shard.specs.declared.stop.Stop.TheVariants.{Memory, Worn}
@@ -50,18 +49,6 @@ pub record HandlesNext (l : Letter) (old new : DeskState) : Type 0 where
 abbrev pub Stays : Stop → DeskState → DeskState → Type 0
 Stays Worn old new = (l : Letter) × Fetches l old new × (MAX_STAMP ≤ max new.shard.clock l.stamp)
 Stays Memory old new = (l : Letter) × Fetches l old new × (max new.shard.clock l.stamp < MAX_STAMP)
-
--- the oldest letter that is known to wait in the lane from desk k is handled, or refused, and stays there
-abbrev pub HandlesFront : ℕ → InEnds → ShardState → Result (Option Pid) Stop → ShardState → Type 0
-HandlesFront k ins old result new = (l : Letter) × IsFront ins k l × HandlesLetter l old result new
-
--- it is taken out of its lane into the hold, and what is known of the other lanes stays
-pub record HoldsFront (k : ℕ) (ins : InEnds) (old : ShardState) (ins_new : InEnds) (new : ShardState) : Type 0 where
-  pub letter : Letter
-  pub collects : Collects ins ins_new k letter
-  pub held : new ≡ holding (Some letter) old
-  pub place : ins_new.place ≡ ins.place
-  pub others : (j : ℕ) → j ≢ k → slice_index_or ins_new.known j [] ≡ slice_index_or ins.known j []
 
 -- one more letter is handled, or there is none, or it is refused
 abbrev pub Handles : DeskState → Result Bool Stop → DeskState → Type 0

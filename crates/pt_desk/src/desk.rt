@@ -12,7 +12,8 @@ ghost use Rattle.pt_shard.specs.Fit.{IsFit};
 ghost use Rattle.pt_shard.specs.Calls.{Calls, Monitors, Bears, BearsChild, link_event, unlink_event, first_match, take_event, demonitor_event, held_by, new_ref};
 ghost use Rattle.pt_desk.specs.DeskState.{IsDesk, IsAccounted, HasSameEnds, GoesOn, posted_to, waits_for, collected_from, held_from};
 ghost use Rattle.pt_desk.specs.Posting.{PostsOne, PostsTo, PostsSome, Posts, total};
-ghost use Rattle.pt_desk.specs.Turns.{Handles, HandlesFront, HoldsFront, Turns};
+ghost use Rattle.pt_desk.specs.InPlace.{HandlesFront, HoldsFront};
+ghost use Rattle.pt_desk.specs.Turns.{Handles, Turns};
 
 use crate::turned::Turned;
 use pt_carrier::{Ins, Outs};
