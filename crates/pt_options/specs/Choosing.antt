@@ -1,12 +1,13 @@
 -- What the words of the command line ask for: the command, as `clap` sees it, and what is read of its matches. How
 -- words give matches, and which kind of error a refusal has, are `clap`'s `matches_of` and `fault_of`.
-use Rattle.std.specs.Prelude.{◌≡◌, ◌⊎◌, ℕ, ◌^◌, List, [], ◌∷◌, codes, map, min, if◌then◌else◌, Option, Some, None, option_map, option_and_then, Result, Ok, Err, String, string_bytes}
+use Rattle.std.specs.Prelude.{◌≡◌, ◌⊎◌, ℕ, ◌^◌, List, [], ◌∷◌, codes, map, min, if◌then◌else◌, false, Option, Some, None, option_map, option_and_then, Result, Ok, Err, String, string_bytes}
 use Rattle.std.specs.Borrow.{Bor}
 use Rattle.std.specs.Option.{option_map_or}
 use Rattle.std.specs.Str.{bytes_eq}
 use Rattle.std.specs.Str.Parse.{digits_value, without_leading_plus}
 use Rattle.std.specs.declared.alloc.Global.{Global}
-use Rattle.clap.specs.Words.{App, Row, Rule, Text, IsAmong, fault_of, first_of, kind_of, matches_of, new_app, new_rule, one_of, with_rule}
+use Rattle.clap.specs.Words.{App, Row, Rule, Text, IsAmong, fault_of, first_of, kind_of, matches_of, new_app, new_rule, one_of, rule_of, with_rule}
+use Rattle.clap.specs.declared.builder.arg.Arg.{Arg}
 use Rattle.clap.specs.ValueTests.{is_unsigned_in}
 use Rattle.clap.specs.declared.builder.value_parser.ValueParser.TheVariants.{Names, Unsigned}
 use Rattle.clap.specs.declared.error.Error.{Error}
@@ -22,14 +23,22 @@ use Rattle.pt_options.specs.declared.choices.TheConstants.{MOST_TURNS}
 abbrev pub Words : Type 0
 Words = Bor (List (Bor Text))
 
+-- an option that takes one of some words
+abbrev pub choice_rule : Text → Words → Text → Rule
+choice_rule name words default = record (new_rule name) { long = Some name; parser = Some (Names words); defaults = default ∷ [] }
+
 abbrev pub threads_rule : Words → Rule
-threads_rule modes = record (new_rule (codes "threads")) { long = Some (codes "threads"); parser = Some (Names modes); defaults = codes "single" ∷ [] }
+threads_rule modes = choice_rule (codes "threads") modes (codes "single")
 
 abbrev pub turns_rule : Rule
 turns_rule = record (new_rule (codes "turns")) { long = Some (codes "turns"); value_names = 1; parser = Some (Unsigned 0 MOST_TURNS); defaults = codes "100" ∷ [] }
 
 abbrev pub print_rule : Words → Rule
-print_rule shows = record (new_rule (codes "print")) { long = Some (codes "print"); parser = Some (Names shows); defaults = codes "history" ∷ [] }
+print_rule shows = choice_rule (codes "print") shows (codes "history")
+
+-- an argument that is used as this rule says, in this command alone
+abbrev pub IsArgument : Rule → Arg → Type 0
+IsArgument rule arg = (rule_of arg ≡ rule) × (arg.global ≡ false)
 
 abbrev pub command_with : Words → Words → App
 command_with modes shows = with_rule (with_rule (with_rule (with_rule (new_app (codes "pt_run")) (new_rule (codes "FILE"))) (threads_rule modes)) turns_rule) (print_rule shows)

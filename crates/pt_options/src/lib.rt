@@ -8,8 +8,8 @@
 //! script is read from standard input.
 #![tactic(auto)]
 
-ghost use Rattle.std.specs.Prelude.{◌≡◌, ◌≤◌, IfOk, map, option_map, string_bytes};
-ghost use Rattle.clap.specs.Words.{app_of, found_of, rows_of};
+ghost use Rattle.std.specs.Prelude.{◌≡◌, ◌≤◌, IfOk, codes, map, option_map, string_bytes};
+ghost use Rattle.clap.specs.Words.{app_of, found_of, new_rule, rows_of};
 ghost use Rattle.pt_options.specs.Choosing as spec;
 ghost use Rattle.pt_options.specs.declared.choices.TheConstants.{MOST_TURNS};
 
@@ -54,31 +54,60 @@ fn options_of<'a>(
 fn command<'a>(alloc: Global) -> Result<Command<'a>, AllocError>
     ensures { IfOk result (λ c. spec.IsCommand (app_of c)) }
 {
-    let file = Arg::new(alloc, "FILE").help(
-        "The script; standard input where none is named, and for -",
-    );
-    let threads = Arg::new(alloc, "threads")
-        .long("threads")
-        .value_parser(MODES.as_slice())
-        .default_value("single")
-        .help("Run all desks on one thread in rounds, or each on a thread of its own");
-    let turns = Arg::new(alloc, "turns")
+    Command::new(alloc, "pt_run")
+        .about("Runs a script of processes and prints what happened")
+        .arg(file(alloc))?
+        .arg(choice(
+            alloc,
+            "threads",
+            MODES.as_slice(),
+            "single",
+            "Run all desks on one thread in rounds, or each on a thread of its own",
+        ))?
+        .arg(turns(alloc))?
+        .arg(choice(
+            alloc,
+            "print",
+            SHOWS.as_slice(),
+            "history",
+            "Print what became of each process, every event, or the events as an SVG chart",
+        ))
+}
+
+/// The name of the script.
+fn file<'a>(alloc: Global) -> Arg<'a>
+    ensures { spec.IsArgument (new_rule (codes "FILE")) result }
+{
+    Arg::new(alloc, "FILE").help("The script; standard input where none is named, and for -")
+}
+
+/// An option that takes one of these words, the default without it.
+fn choice<'a>(
+    alloc: Global,
+    name: &'a str,
+    words: &'a [&'a str],
+    default: &'a str,
+    help: &'a str,
+) -> Arg<'a>
+    ensures { spec.IsArgument (spec.choice_rule name.now words.entry default.now) result }
+{
+    Arg::new(alloc, name)
+        .long(name)
+        .value_parser(words)
+        .default_value(default)
+        .help(help)
+}
+
+/// How many turns.
+fn turns<'a>(alloc: Global) -> Arg<'a>
+    ensures { spec.IsArgument spec.turns_rule result }
+{
+    Arg::new(alloc, "turns")
         .long("turns")
         .value_name("N")
         .value_parser(ValueParser::unsigned(0, MOST_TURNS))
         .default_value("100")
-        .help("How many turns each desk takes, from 0 to 1000000");
-    let print = Arg::new(alloc, "print")
-        .long("print")
-        .value_parser(SHOWS.as_slice())
-        .default_value("history")
-        .help("Print what became of each process, every event, or the events as an SVG chart");
-    Command::new(alloc, "pt_run")
-        .about("Runs a script of processes and prints what happened")
-        .arg(file)?
-        .arg(threads)?
-        .arg(turns)?
-        .arg(print)
+        .help("How many turns each desk takes, from 0 to 1000000")
 }
 
 /// The file that was found in the words.
