@@ -12,7 +12,8 @@ use Rattle.pt_signal.specs.declared.letter.Letter.{Letter}
 use Rattle.pt_signal.specs.declared.ids.Ids.{Ids}
 use Rattle.pt_signal.specs.declared.ids.LinkId.{LinkId}
 use Rattle.pt_signal.specs.declared.ids.Ref.{Ref}
-use Rattle.pt_signal.specs.declared.signal.Signal.TheVariants.{Link, Unlink, Monitor, Demonitor}
+use Rattle.pt_signal.specs.declared.signal.Signal.{Signal}
+use Rattle.pt_signal.specs.declared.signal.Signal.TheVariants.{Link, Unlink, Monitor, Demonitor, AliveAsk}
 use Rattle.pt_signal.specs.Values.{fits, same_pid, same_ref}
 use Rattle.pt_signal.specs.Process.{held, handle, fresh}
 use Rattle.pt_events.specs.declared.event.Event.{Event}
@@ -32,7 +33,7 @@ use Rattle.pt_shard.specs.declared.fault.Fault.TheVariants as fault
 use Rattle.pt_shard.specs.declared.stop.Stop.{Stop}
 use Rattle.pt_shard.specs.declared.stop.Stop.TheVariants.{Memory, Worn}
 use Rattle.std.specs.Result.{IsErr, IsErrAnd}
-use Rattle.pt_shard.specs.ShardState.{ShardState, Handles, came, state_in}
+use Rattle.pt_shard.specs.ShardState.{ShardState, Handles, came, past, state_in}
 use Rattle.pt_shard.specs.Known.{knows}
 use Rattle.pt_shard.specs.Calls.{Calls, BearsChild, new_link, new_ref, link_event, unlink_event, take_event, first_match, demonitor_event, demonitor_at, if_asked}
 use Rattle.pt_shard.specs.Extends.{Extends}
@@ -40,9 +41,10 @@ use Rattle.pt_shard.specs.Fit.{IsFit}
 use Rattle.pt_shard.specs.LedgerState.{Book, LedgerState, wrote}
 use Rattle.pt_shard.specs.Residents.{ResidentsState, living_at, with_process, in_place, pid_at, vacant_at, Changes, Ends, IsSameTable, HasRoomFor}
 use Rattle.pt_shard.specs.Whole.{Parts, parts_of, shard_of, IsWhole}
-use Rattle.pt_shard.specs.Acts.{Acts, IsStill, PreparesBirth, IsStopped, TakesIn, done, posted, link_after, ref_after, taking, linking, unlinking, giving_up, giving_up_at}
-use Rattle.pt_shard.proofs.Acting.{Outcome, Found, own_book, alive, lives_here, is_there, said_to, said_known, set_flag, took_item, link_now, link_new, ref_now, ref_new, not_open_yet, open_target, peers_near}
-use Rattle.pt_shard.proofs.Bearing.{Unchanged, unchanged, BirthOutcome, adopts, child_outcome, room_stays, parent_is_there}
+use Rattle.pt_shard.specs.Plain.{IsPlain}
+use Rattle.pt_shard.specs.Acts.{Acts, Tells, IsStill, PreparesBirth, IsStopped, TakesIn, done, posted, link_after, ref_after, taking, linking, unlinking, giving_up, giving_up_at}
+use Rattle.pt_shard.proofs.Acting.{Outcome, Found, own_book, alive, lives_here, is_there, said_to, said_known, plain_may, plain_new, plain_changes, left_alone, set_flag, took_item, link_now, link_new, ref_now, ref_new, not_open_yet, open_target, peers_near}
+use Rattle.pt_shard.proofs.Bearing.{Unchanged, unchanged, same_table, BirthOutcome, adopts, child_outcome, room_stays, parent_is_there}
 use Rattle.pt_shard.proofs.Receiving.{receipt_stamp, receipt_book, taken_in, living_back_is}
 use Rattle.pt_shard.proofs.Lent.{there, given_back, unharmed, roomy, ends_after}
 
@@ -215,6 +217,45 @@ module _ (a : Parts) (whole : IsWhole a) (p : Pid) (was : Resident) (found : Som
         = giving_up_is (shard_of a) p m flush (lookup (same_ref m) (state_in (shard_of a) p).watching) ∙ ap (λ f. giving_up p m flush (state_of f)) (lives_here a whole p acting) in
         called (giving_up p m flush was.state) (demonitor_event (shard_of a) p m flush) (is_some (giving_up p m flush was.state)) (is_some (demonitor_event (shard_of a) p m flush)) r
         event (ap is_some event) (giving_up_law m flush) h
+
+-- an event that changes nothing in its process
+module _ (a : Parts) (whole : IsWhole a) (p : Pid) (found : Found a p) (ledger : LedgerState) (is : ledger.book ≡ a.book) (ledger' : LedgerState) where
+  abbrev pub told_with : Book → Parts
+  told_with book = parts_of a.config book a.house
+
+  module _ {A : Type 0} (answer : A) (e : Event) where
+    untold : (r : Result A Fault) → ledger'.book ≡ ledger.book → Calls p (Some e) answer (shard_of a) r (shard_of a) → Acted A a (told_with ledger'.book) p (Some e) answer r
+    untold r same calls =
+        let u = unchanged a whole ledger'.book a.house (same ∙ is) refl (same_table a.house.table) in
+        record { whole = u.whole; fit = u.fit; extends = u.extends; does = subst (λ d. Calls p (Some e) answer (shard_of a) r d) (sym u.is) calls }
+
+    told : (a.book.clock < 2 ^ 62 → (book : Book) → book ≡ wrote (a.book.clock + 1) e (posted (a.book.clock + 1) e) a.book → Outcome a (told_with book) (a.book.clock + 1) e)
+        → (r : Result A Fault) → Tells e answer ledger r ledger' → Acted A a (told_with ledger'.book) p (Some e) answer r
+    told law (Ok x) h =
+        let can : a.book.clock < 2 ^ 62 = subst (λ (b : Book). b.clock < 2 ^ 62) is h.0 in
+        let o = law can ledger'.book (h.2 ∙ ap (λ (b : Book). wrote (b.clock + 1) e (posted (b.clock + 1) e) b) is) in
+        record { whole = o.whole; fit = o.fit; extends = o.extends; does = (alive a whole p found, can, h.1, o.is) }
+    told law (Err fault.Worn) h = untold (Err fault.Worn) h.1 (alive a whole p found, refl, subst (λ (b : Book). 2 ^ 62 ≤ b.clock) is h.0, refl)
+    told law (Err fault.Memory) h = untold (Err fault.Memory) h.1 (alive a whole p found, refl, subst (λ (b : Book). b.clock < 2 ^ 62) is h.0, refl)
+    told law (Err fault.Gone) h = absurd h
+    told law (Err fault.Full) h = absurd h
+    told law (Err fault.Myself) h = absurd h
+
+  pub said : (to : Pid) (x : Signal) → knows (shard_of a) to ≡ true → IsPlain x → (r : Result (Unit {0}) Fault) → Tells (Said p to x) (tt {0}) ledger r ledger'
+      → Acted (Unit {0}) a (told_with ledger'.book) p (Some (Said p to x)) (tt {0}) r
+  said to x known plain r h =
+      told (tt {0}) (Said p to x)
+      (λ can book wrote. said_known a whole p found can book a.house refl to x known (plain_may (past (shard_of a)) found.s p to x plain) (plain_new a.house.desk (a.book.clock + 1) p to x plain) wrote (plain_changes p to x a.house.table plain))
+      r h
+
+  pub asked_alive : (t : Pid) → knows (shard_of a) t ≡ true → (r : Result Ref Fault) → Tells (Said p t (AliveAsk (ref_after ledger.book))) (ref_after ledger.book) ledger r ledger'
+      → Acted Ref a (told_with ledger'.book) p (Some (Said p t (AliveAsk (new_ref (shard_of a))))) (new_ref (shard_of a)) r
+  asked_alive t known r h =
+      let m = new_ref (shard_of a) in
+      let now : ref_after ledger.book ≡ m = ap ref_after is ∙ ref_now a whole a.book refl (ref_after a.book) refl in
+      told m (Said p t (AliveAsk m))
+      (λ can book wrote. said_known a whole p found can book a.house refl t (AliveAsk m) known (ref_new a whole m refl) (refl, refl) wrote (left_alone p a.house.table))
+      r (subst (λ j. Tells (Said p t (AliveAsk j)) j ledger r ledger') now h)
 
 -- a letter to a live process
 module _ (a : Parts) (whole : IsWhole a) (l : Letter) (was : Resident) (found : Some was ≡ living_at a.house.desk a.house.table l.to)

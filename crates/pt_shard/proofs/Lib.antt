@@ -14,3 +14,4 @@ mod Outcomes
 mod Bearing
 mod Standing
 mod Acted
+mod Taken

@@ -90,6 +90,15 @@ Acts (Some e) answer r l (Err fault.Gone) r' l' = ⊥
 Acts (Some e) answer r l (Err fault.Full) r' l' = ⊥
 Acts (Some e) answer r l (Err fault.Myself) r' l' = ⊥
 
+-- that event, which changes nothing in its process, was written, and it answers so
+abbrev pub Tells : {A : Type 0} → Event → A → LedgerState → Result A Fault → LedgerState → Type 0
+Tells e answer l (Ok a) l' = (l.book.clock < MAX_STAMP) × (a ≡ answer) × (l'.book ≡ wrote (l.book.clock + 1) e (posted (l.book.clock + 1) e) l.book)
+Tells e answer l (Err fault.Worn) l' = (MAX_STAMP ≤ l.book.clock) × (l'.book ≡ l.book)
+Tells e answer l (Err fault.Memory) l' = (l.book.clock < MAX_STAMP) × (l'.book ≡ l.book)
+Tells e answer l (Err fault.Gone) l' = ⊥
+Tells e answer l (Err fault.Full) l' = ⊥
+Tells e answer l (Err fault.Myself) l' = ⊥
+
 -- the process takes one more link without memory, where there is one
 abbrev pub HasRoomIf : Option LinkId → Resident → Type 0
 HasRoomIf None r = ⊤

@@ -21,7 +21,7 @@ ghost use Rattle.pt_process.specs.Peers.{peers};
 ghost use Rattle.pt_shard.specs.Sound.{Every};
 ghost use Rattle.pt_shard.specs.Residents.{in_place};
 ghost use Rattle.pt_events.specs.declared.event.TheConstants.{MAX_STAMP};
-ghost use Rattle.pt_shard.specs.Acts.{Acts, PreparesBirth, TakesIn, GivesBack, PreparesEnding, IsReadyToEnd, EndsBy, taking, linking, unlinking, giving_up, ref_after};
+ghost use Rattle.pt_shard.specs.Acts.{Acts, Tells, PreparesBirth, TakesIn, GivesBack, PreparesEnding, IsReadyToEnd, EndsBy, taking, linking, unlinking, giving_up, ref_after};
 
 use crate::config::Config;
 use crate::fault::Fault;
@@ -299,10 +299,7 @@ impl Shard {
         let Some(_process) = self.house.find(p) else {
             return Err(Fault::Gone);
         };
-        self.ledger.prepare_letter(0, t)?;
-        let question = self.ledger.next_ref();
-        self.ledger.say(p, t, Signal::AliveAsk(question));
-        Ok(question)
+        ask(&mut self.ledger, p, t)
     }
 
     /// Ends p with this reason: Erlang's `exit/1`, section Process Termination.
@@ -500,10 +497,30 @@ impl Shard {
         let Some(_process) = self.house.find(from) else {
             return Err(Fault::Gone);
         };
-        self.ledger.prepare_letter(0, to)?;
-        self.ledger.say(from, to, signal);
-        Ok(())
+        tell(&mut self.ledger, from, to, signal)
     }
+}
+
+/// Writes down that a process says a signal, which changes nothing in it, and sends it.
+#[inline(always)]
+fn tell(ledger: &mut Ledger, from: Pid, to: Pid, signal: Signal) -> Result<(), Fault>
+    requires { to.shard < length ledger.old.book.outbox }
+    ensures { Tells (Event.Said from to signal) tt ledger.old result ledger.new }
+{
+    ledger.prepare_letter(0, to)?;
+    ledger.say(from, to, signal);
+    Ok(())
+}
+
+/// Writes down that a process asks whether another is alive, sends the question, and answers its reference.
+fn ask(ledger: &mut Ledger, p: Pid, t: Pid) -> Result<Ref, Fault>
+    requires { t.shard < length ledger.old.book.outbox }
+    ensures { Tells (Event.Said p t (Signal.AliveAsk (ref_after ledger.old.book))) (ref_after ledger.old.book) ledger.old result ledger.new }
+{
+    ledger.prepare_letter(0, t)?;
+    let question = ledger.next_ref();
+    ledger.say(p, t, Signal::AliveAsk(question));
+    Ok(question)
 }
 
 /// Sets the flag of a process, writes it down, and answers what it was.

@@ -1,38 +1,35 @@
-use Rattle.std.proofs.Common.{◌≡◌, ◌+◌, ◌<◌, ◌^◌, true, Ok, Some, [], ◌∷◌, sym, ap, refl, subst, arith}
-use Rattle.pt_signal.specs.Process.{sent}
-use Rattle.pt_events.specs.declared.event.Event.TheVariants.{Said}
-use Rattle.pt_events.specs.Journal.{letter}
-use Rattle.pt_signal.specs.declared.signal.Signal.TheVariants.{AliveAsk}
+use Rattle.std.proofs.Common.{◌≡◌, true, Some, refl, sym, subst}
 use Rattle.pt_signal.specs.declared.ids.Ref.{Ref}
+use Rattle.pt_signal.specs.declared.signal.Signal.TheVariants.{AliveAsk}
+use Rattle.pt_events.specs.declared.event.Event.TheVariants.{Said}
 use Rattle.pt_shard.specs.Known.{knows}
 use Rattle.pt_shard.specs.Calls.{Calls, new_ref}
 use Rattle.pt_shard.specs.Extends.{Extends}
-use Rattle.pt_shard.specs.Whole.{parts_of, shard_of}
-use Rattle.pt_shard.proofs.Acting.{Outcome, Found, own_book, alive, said_known, ref_now, ref_new, left_alone}
-use Rattle.pt_shard.proofs.Outcomes.{did}
+use Rattle.pt_shard.specs.Whole.{Parts, parts_of, shard_of}
+use Rattle.pt_shard.proofs.Acting.{Found}
+use Rattle.pt_shard.proofs.Acted.{Acted, asked_alive}
 use Rattle.pt_shard.proofs.shard.Shard.ask_alive.Goals as goal
 
--- the process that acts
-abbrev found : (c : goal.After-say) → Found (parts_of c.self.inside.config c.self.inside.ledger.book c.self.inside.house) c.args.p
-found c = record { me = c.in-Some._process.now.me; s = c.in-Some._process.now.state; there = c.in-Some.ensures }
+-- the desk before
+abbrev old : (c : goal.After-ask) → Parts
+old c = parts_of c.self.inside.config c.self.inside.ledger.book c.self.inside.house
 
-left : (c : goal.After-say) → Outcome (parts_of c.self.inside.config c.self.inside.ledger.book c.self.inside.house) (parts_of c.self.inside.config c.say.new.self.book c.self.inside.house) (c.self.inside.ledger.book.clock + 1) (Said c.args.p c.args.t (AliveAsk c.next_ref-question.result))
-left c =
-    let can : c.self.inside.ledger.book.clock < 2 ^ 62 = (let k = c.in_ok-prepare_letter.ensures.1 in omega arith) in
-    let is = (ref_now (parts_of c.self.inside.config c.self.inside.ledger.book c.self.inside.house) c.self.invariant c.prepare_letter.new.self.book c.in_ok-prepare_letter.ensures.0 c.next_ref-question.result c.next_ref-question.ensures) in
-    said_known (parts_of c.self.inside.config c.self.inside.ledger.book c.self.inside.house) c.self.invariant c.args.p (found c) can c.say.new.self.book c.self.inside.house refl c.args.t (AliveAsk c.next_ref-question.result) (subst (λ d. knows d c.args.t ≡ true) (sym c.self.view_is) c.requires) (ref_new (parts_of c.self.inside.config c.self.inside.ledger.book c.self.inside.house) c.self.invariant c.next_ref-question.result is) (ap (λ (j : Ref). j.desk) is, ap (λ (j : Ref). j.number) is) (own_book (Said c.args.p c.args.t (AliveAsk c.next_ref-question.result)) (λ n. letter n (sent c.args.p c.args.t (AliveAsk c.next_ref-question.result)) ∷ []) c.prepare_letter.new.self.book c.self.inside.ledger.book c.say.new.self.book c.in_ok-prepare_letter.ensures.0 c.say.ensures) (left_alone c.args.p c.self.inside.house.table)
+-- what was asked, whatever came of it
+one : (c : goal.After-ask) → Acted Ref (old c) (parts_of c.self.inside.config c.ask.new.ledger.book c.self.inside.house) c.args.p (Some (Said c.args.p c.args.t (AliveAsk (new_ref (shard_of (old c)))))) (new_ref (shard_of (old c))) c.ask.result
+one c =
+    let found : Found (old c) c.args.p = record { me = c.in-Some._process.now.me; s = c.in-Some._process.now.state; there = c.in-Some.ensures } in
+    asked_alive (old c) c.self.invariant c.args.p found c.self.inside.ledger refl c.ask.new.ledger
+    c.args.t (subst (λ d. knows d c.args.t ≡ true) (sym c.self.view_is) c.requires) c.ask.result c.ask.ensures
 
-pub invariant_of-self-2 : goal.invariant_of-self-2
-invariant_of-self-2 c = (left c).whole
+pub invariant_of-self : goal.invariant_of-self
+invariant_of-self c = (one c).whole
 
 pub returns-clause-does : goal.returns-clause-does
 returns-clause-does c =
-    let can : c.self.inside.ledger.book.clock < 2 ^ 62 = (let k = c.in_ok-prepare_letter.ensures.1 in omega arith) in
-    let is = (ref_now (parts_of c.self.inside.config c.self.inside.ledger.book c.self.inside.house) c.self.invariant c.prepare_letter.new.self.book c.in_ok-prepare_letter.ensures.0 c.next_ref-question.result c.next_ref-question.ensures) in
-    subst (λ d. Calls c.args.p (Some (Said c.args.p c.args.t (AliveAsk (new_ref d)))) (new_ref d) d (Ok c.next_ref-question.result) (shard_of (parts_of c.self.inside.config c.say.new.self.book c.self.inside.house))) c.self.view_is (did c.args.p (Some (Said c.args.p c.args.t (AliveAsk (new_ref (shard_of (parts_of c.self.inside.config c.self.inside.ledger.book c.self.inside.house)))))) (new_ref (shard_of (parts_of c.self.inside.config c.self.inside.ledger.book c.self.inside.house))) (shard_of (parts_of c.self.inside.config c.self.inside.ledger.book c.self.inside.house)) (shard_of (parts_of c.self.inside.config c.say.new.self.book c.self.inside.house)) (Said c.args.p c.args.t (AliveAsk c.next_ref-question.result)) c.next_ref-question.result (alive (parts_of c.self.inside.config c.self.inside.ledger.book c.self.inside.house) c.self.invariant c.args.p (found c)) (ap (λ j. Some (Said c.args.p c.args.t (AliveAsk j))) (sym is)) (sym is) can (left c).is)
+    subst (λ d. Calls c.args.p (Some (Said c.args.p c.args.t (AliveAsk (new_ref d)))) (new_ref d) d c.ask.result (shard_of (parts_of c.self.inside.config c.ask.new.ledger.book c.self.inside.house))) c.self.view_is (one c).does
 
 pub returns-clause-extends : goal.returns-clause-extends
-returns-clause-extends c = subst (λ d. Extends d (shard_of (parts_of c.self.inside.config c.say.new.self.book c.self.inside.house))) c.self.view_is (left c).extends
+returns-clause-extends c = subst (λ d. Extends d (shard_of (parts_of c.self.inside.config c.ask.new.ledger.book c.self.inside.house))) c.self.view_is (one c).extends
 
 pub returns-clause-fit : goal.returns-clause-fit
-returns-clause-fit c = (left c).fit
+returns-clause-fit c = (one c).fit

@@ -1,0 +1,22 @@
+use Rattle.std.proofs.Common.{◌<◌, ◌^◌, [], ap, ◌∙◌, arith}
+use Rattle.pt_events.specs.declared.event.Event.TheVariants.{Took}
+use Rattle.pt_process.specs.Resident.{Resident}
+use Rattle.pt_shard.proofs.Acting.{own_book}
+use Rattle.pt_shard.proofs.Taken.{none_taken, one_taken, not_taken}
+use Rattle.pt_shard.proofs.shard.take.Goals as goal
+
+pub returns-in_default : goal.returns-in_default
+returns-in_default c = none_taken c.args.p c.args.pick c.args.process.now c.args.ledger.now c.args.ledger.now c.in_default.ensures.0
+
+pub returns-in_err-prepare : goal.returns-in_err-prepare
+returns-in_err-prepare c =
+    not_taken c.args.p c.args.pick c.args.process.now c.args.ledger.now c.prepare.new.self c.in-Some.place c.in-Some.ensures.0 c.in-Some.ensures.1 c.in_err-prepare.field-0.0 c.in_err-prepare.ensures.does c.from_residual.result c.from_residual.ensures
+
+pub returns : goal.returns
+returns c =
+    let can : c.args.ledger.now.book.clock < 2 ^ 62 = (let n = c.in_ok-prepare.ensures.does.1 in omega arith) in
+    one_taken c.args.p c.args.pick c.args.process.now c.args.ledger.now c.write.new.self c.take_at-item.result c.take_at-item.new.self
+    (c.in-Some.ensures.1 ∙ c.take_at-item.ensures.item) can
+    (ap (λ (r : Resident). r.me) c.take_at-item.ensures.rest)
+    (ap (λ (r : Resident). r.state) c.take_at-item.ensures.rest ∙ ap (λ items. record c.args.process.now.state { waiting = items }) c.in-Some.ensures.2)
+    (own_book (Took c.args.p c.args.pick c.take_at-item.result) (λ n. []) c.prepare.new.self.book c.args.ledger.now.book c.write.new.self.book c.in_ok-prepare.ensures.does.0 c.write.ensures.book)
