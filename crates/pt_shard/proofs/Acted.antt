@@ -17,7 +17,7 @@ use Rattle.pt_signal.specs.declared.signal.Signal.TheVariants.{Link, Unlink, Mon
 use Rattle.pt_signal.specs.Values.{fits, same_pid, same_ref}
 use Rattle.pt_signal.specs.Process.{held, handle, fresh}
 use Rattle.pt_events.specs.declared.event.Event.{Event}
-use Rattle.pt_events.specs.declared.event.Event.TheVariants.{Born, Said, Took, Flag}
+use Rattle.pt_events.specs.declared.event.Event.TheVariants.{Born, Said, Took, Flag, Left}
 use Rattle.pt_events.specs.History.{state_of, linked as linked_to}
 use Rattle.pt_signal.specs.declared.reason.Reason.{Reason}
 use Rattle.pt_events.specs.Journal.{letter}
@@ -38,12 +38,14 @@ use Rattle.pt_shard.specs.Known.{knows}
 use Rattle.pt_shard.specs.Calls.{Calls, BearsChild, new_link, new_ref, link_event, unlink_event, take_event, first_match, demonitor_event, demonitor_at, if_asked}
 use Rattle.pt_shard.specs.Extends.{Extends}
 use Rattle.pt_shard.specs.Fit.{IsFit}
-use Rattle.pt_shard.specs.LedgerState.{Book, LedgerState, wrote}
+use Rattle.pt_shard.specs.Faults.{fault_of}
+use Rattle.pt_shard.specs.LedgerState.{Book, LedgerState, HasRoomToAll, Prepares, wrote}
 use Rattle.pt_shard.specs.Residents.{ResidentsState, living_at, with_process, in_place, pid_at, vacant_at, Changes, Ends, IsSameTable, HasRoomFor}
 use Rattle.pt_shard.specs.Whole.{Parts, parts_of, shard_of, IsWhole}
 use Rattle.pt_shard.specs.Plain.{IsPlain}
 use Rattle.pt_shard.specs.Acts.{Acts, Tells, IsStill, PreparesBirth, IsStopped, TakesIn, done, posted, link_after, ref_after, taking, linking, unlinking, giving_up, giving_up_at}
-use Rattle.pt_shard.proofs.Acting.{Outcome, Found, own_book, alive, lives_here, is_there, said_to, said_known, plain_may, plain_new, plain_changes, left_alone, set_flag, took_item, link_now, link_new, ref_now, ref_new, not_open_yet, open_target, peers_near}
+use Rattle.pt_shard.proofs.Acting.{Outcome, Found, own_book, alive, lives_here, is_there, said_to, said_known, plain_may, plain_new, plain_changes, left_alone, set_flag, took_item, link_now, link_new, ref_now, ref_new, not_open_yet, open_target, peers_near, left_by, left_from, left_near, left_peers}
+use Rattle.pt_shard.proofs.Outcomes.{not_prepared, same_book}
 use Rattle.pt_shard.proofs.Bearing.{Unchanged, unchanged, same_table, BirthOutcome, adopts, child_outcome, room_stays, parent_is_there}
 use Rattle.pt_shard.proofs.Receiving.{receipt_stamp, receipt_book, taken_in, living_back_is}
 use Rattle.pt_shard.proofs.Lent.{there, given_back, unharmed, roomy, ends_after}
@@ -311,6 +313,39 @@ module _ (a : Parts) (whole : IsWhole a) (p : Pid) (was : Resident) (found : Som
     -- and then taken out
     pub ends_too : (r : Reason) (owing : Owing) (last : ResidentsState) → Ends p r owing (with_process a.house p now).table last.table → Ends p r owing a.house.table last.table
     ends_too r owing last ends = ends_after p r owing a.house.table (with_process a.house p now).table last.table same_after ends
+
+    -- what it owed then finds room
+    pub owing_fits : (r : Reason) (owing : Owing) (last : ResidentsState) → Ends p r owing (with_process a.house p now).table last.table → (ledger : LedgerState) → ledger.book ≡ a.book → HasRoomToAll (peers was.state) ledger
+        → (owing.from ≡ p) × Every (λ l. l.to.shard < length ledger.book.outbox) owing.owed × HasRoomToAll (map (λ l. l.to) owing.owed) ledger
+    owing_fits r owing last ends ledger is room =
+        let f = acting a whole p was found in
+        let e = ends_too r owing last ends in
+        (
+          left_from a whole p f r owing last.table e,
+          subst (λ (b : Book). Every (λ l. l.to.shard < length b.outbox) owing.owed) (sym is) (left_near a whole p f r owing last.table e),
+          subst (λ qs. HasRoomToAll qs ledger) (sym (left_peers a whole p f r owing last.table e)) room,
+        )
+
+    pub exited : (r : Reason) (owing : Owing) (last : ResidentsState) → last.desk ≡ a.house.desk → Ends p r owing (with_process a.house p now).table last.table
+        → a.book.clock < 2 ^ 62 → (prepared book : Book) → prepared ≡ a.book → book ≡ wrote (max prepared.clock 0 + 1) (Left p r) (map (letter (max prepared.clock 0 + 1)) owing.owed) prepared
+        → Acted (Unit {0}) a (parts_of a.config book last) p (Some (Left p r)) (tt {0}) (Ok (tt {0}))
+    exited r owing last desk ends can prepared book same is =
+        let f = acting a whole p was found in
+        let o = left_by a whole p f can book last desk r owing (ends_too r owing last ends) (own_book (Left p r) (λ n. map (letter n) owing.owed) prepared a.book book same is) in
+        record { whole = o.whole; fit = o.fit; extends = o.extends; does = (alive a whole p f, can, refl, o.is) }
+
+    -- or there was no room for it
+    pub not_exited : (reason : Reason) (HasRoom : LedgerState → Type 0) (ledger ledger' : LedgerState) → ledger.book ≡ a.book → (s : Stop) → Prepares 0 HasRoom ledger (Err s) ledger'
+        → (r : Result (Unit {0}) Fault) → IsErr r × IsErrAnd r (λ f. f ≡ fault_of s) → Acted (Unit {0}) a (left_with a whole p was found ledger'.book now) p (Some (Left p reason)) (tt {0}) r
+    not_exited reason HasRoom ledger ledger' is s h r err =
+        let u = kept_still a whole p was found ledger'.book now me state (same_book 0 HasRoom ledger ledger' s h ∙ is) in
+        let new = shard_of (left_with a whole p was found ledger'.book now) in
+        record {
+          whole = u.whole;
+          fit = u.fit;
+          extends = u.extends;
+          does = not_prepared p (Some (Left p reason)) (tt {0}) (shard_of a) new (Left p reason) ledger ledger' s HasRoom (sym (ap (λ (b : Book). b.clock) is)) h (alive a whole p (acting a whole p was found)) refl u.is r err;
+        }
 
 -- the key of the pid that is vacant
 vacant_key : (desk : ℕ) (o : Option Key) → IsSome (option_map (pid_at desk) o) → IsSome o
