@@ -1,8 +1,9 @@
 //! A process that is followed through a history: what it sends, and when it ends.
 
-ghost use Rattle.std.specs.Prelude.{◌≡◌, ◌++◌, map, Some, None, IfOk, OnOk};
-ghost use Rattle.pt_signal.specs.Values.{fits, without_first};
+ghost use Rattle.std.specs.Prelude.{◌≡◌, ◌++◌, cond, map, Some, None, IfOk, OnOk};
+ghost use Rattle.pt_signal.specs.Values.{same_pid, fits, without_first};
 ghost use Rattle.pt_signal.specs.Process.{say, handle};
+ghost use Rattle.pt_events.specs.declared.event.Event.TheVariants.{Born, Said, Came, Flag, Left};
 ghost use Rattle.pt_events.specs.History.{unborn, linked};
 ghost use Rattle.pt_chart.specs.Chart.{in_row};
 ghost use Rattle.pt_chart.specs.Following.{followed, seen, sends, ends, OpensAnew, IsAnew, gets, got_sent, got_end, left_sent, left_end, begins, changes};
@@ -63,30 +64,112 @@ impl Follower {
     {
         match event {
             Event::Born(pid, parent, link) => {
-                if pid == self.me {
-                    self.begin(alloc, parent, link)?;
-                } else if parent == Some(self.me) {
-                    self.join(pid, link)?;
-                }
+                self.see_birth(alloc, pid, parent, link)?;
                 Ok(None)
             }
-            Event::Said(from, to, signal) if from == self.me => {
-                self.say(to, signal)?;
-                sent.push(Sending { row, to, signal })?;
+            Event::Said(from, to, signal) => {
+                self.see_sending(row, from, to, signal, sent)?;
                 Ok(None)
             }
-            Event::Came(from, to, signal) if to == self.me => self.hear(row, from, signal, sent),
-            Event::Took(pid, pick, _) if pid == self.me => {
-                self.take(pick);
+            Event::Came(from, to, signal) => self.see_receipt(row, from, to, signal, sent),
+            Event::Took(pid, pick, _) => {
+                self.see_taking(pid, pick);
                 Ok(None)
             }
-            Event::Flag(pid, on) if pid == self.me => {
-                self.trap(on);
+            Event::Flag(pid, on) => {
+                self.see_flag(pid, on);
                 Ok(None)
             }
-            Event::Left(pid, reason) if pid == self.me => self.leave(row, reason, sent),
-            _ => Ok(None),
+            Event::Left(pid, reason) => self.see_end(row, pid, reason, sent),
         }
+    }
+
+    fn see_birth(
+        &mut self,
+        alloc: Global,
+        pid: Pid,
+        parent: Option<Pid>,
+        link: Option<LinkId>,
+    ) -> Result<(), AllocError>
+        ensures { OnOk result (self.new ≡ seen (Born pid parent link) self.old) }
+    {
+        if pid == self.me {
+            return self.begin(alloc, parent, link);
+        }
+        if parent == Some(self.me) {
+            return self.join(pid, link);
+        }
+        Ok(())
+    }
+
+    fn see_sending(
+        &mut self,
+        row: usize,
+        from: Pid,
+        to: Pid,
+        signal: Signal,
+        sent: &mut Vec<Sending>,
+    ) -> Result<(), AllocError>
+        ensures state { OpensAnew (Said from to signal) self.old → OnOk result (self.new ≡ seen (Said from to signal) self.old) }
+        ensures sent { OnOk result (sent.new.items ≡ sent.old.items ++ map (in_row row) (sends (Said from to signal) self.old)) }
+    {
+        if from != self.me {
+            return Ok(());
+        }
+        self.say(to, signal)?;
+        sent.push(Sending { row, to, signal })?;
+        Ok(())
+    }
+
+    fn see_receipt(
+        &mut self,
+        row: usize,
+        from: Pid,
+        to: Pid,
+        signal: Signal,
+        sent: &mut Vec<Sending>,
+    ) -> Result<Option<Reason>, AllocError>
+        ensures state { OnOk result (self.new ≡ seen (Came from to signal) self.old) }
+        ensures sent { OnOk result (sent.new.items ≡ sent.old.items ++ map (in_row row) (sends (Came from to signal) self.old)) }
+        ensures ending { IfOk result (λ reason. reason ≡ ends (Came from to signal) self.old) }
+    {
+        if to != self.me {
+            return Ok(None);
+        }
+        self.hear(row, from, signal, sent)
+    }
+
+    fn see_taking(&mut self, pid: Pid, pick: Pick)
+        ensures { self.new ≡ cond (same_pid self.old.me pid) (changes (λ s. record s { waiting = without_first (fits pick) s.waiting }) self.old) self.old }
+    {
+        if pid == self.me {
+            self.take(pick);
+        }
+    }
+
+    fn see_flag(&mut self, pid: Pid, on: bool)
+        ensures { self.new ≡ seen (Flag pid on) self.old }
+    {
+        if pid == self.me {
+            self.trap(on);
+        }
+    }
+
+    fn see_end(
+        &mut self,
+        row: usize,
+        pid: Pid,
+        reason: Reason,
+        sent: &mut Vec<Sending>,
+    ) -> Result<Option<Reason>, AllocError>
+        ensures state { OnOk result (self.new ≡ seen (Left pid reason) self.old) }
+        ensures sent { OnOk result (sent.new.items ≡ sent.old.items ++ map (in_row row) (sends (Left pid reason) self.old)) }
+        ensures ending { IfOk result (λ ending. ending ≡ ends (Left pid reason) self.old) }
+    {
+        if pid != self.me {
+            return Ok(None);
+        }
+        self.leave(row, reason, sent)
     }
 
     fn begin(
