@@ -58,13 +58,25 @@ fn told(history: &[Stamped], made: u64) -> Done {
         born: 0,
     };
     for stamped in history {
-        match stamped.event {
-            Event::Said(_, _, Signal::Message(_)) => told.sent = told.sent.saturating_add(1),
-            Event::Born(_, _, _) => told.born = told.born.saturating_add(1),
-            _ => {}
-        }
+        told.sent = told
+            .sent
+            .saturating_add(u64::from(is_message(&stamped.event)));
+        told.born = told
+            .born
+            .saturating_add(u64::from(is_birth(&stamped.event)));
     }
     told
+}
+
+fn is_message(event: &Event) -> bool {
+    match event {
+        Event::Said(_, _, signal) => matches!(signal, Signal::Message(_)),
+        _ => false,
+    }
+}
+
+fn is_birth(event: &Event) -> bool {
+    matches!(event, Event::Born(_, _, _))
 }
 
 /// The state that a history leads to, which the judge has to let pass.
