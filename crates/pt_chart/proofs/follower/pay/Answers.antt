@@ -1,6 +1,10 @@
+use Rattle.std.proofs.Common.{rules}
 use Rattle.pt_signal.specs.Process.{sent}
 use Rattle.pt_chart.proofs.Rows.{paid}
 use Rattle.pt_chart.proofs.follower.pay.Goals as goal
+
+pub loop-i-init : goal.loop-i-init
+loop-i-init c = search rules
 
 pub loop-i-preserved : goal.loop-i-preserved
 loop-i-preserved c =
