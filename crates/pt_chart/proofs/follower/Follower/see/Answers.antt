@@ -1,10 +1,11 @@
+use Rattle.std.proofs.Common.{rules}
 use Rattle.pt_chart.proofs.follower.Follower.see.Goals as goal
 
 pub returns-in-Left-clause-state : goal.returns-in-Left-clause-state
-returns-in-Left-clause-state c = λ _. rw c.in-Left.is c.see_end.ensures.state
+returns-in-Left-clause-state c = search rules
 
 pub returns-in-Left-clause-sent : goal.returns-in-Left-clause-sent
-returns-in-Left-clause-sent c = rw c.in-Left.is c.see_end.ensures.sent
+returns-in-Left-clause-sent c = search rules
 
 pub returns-in-Left-clause-ending : goal.returns-in-Left-clause-ending
-returns-in-Left-clause-ending c = rw c.in-Left.is c.see_end.ensures.ending
+returns-in-Left-clause-ending c = search rules
