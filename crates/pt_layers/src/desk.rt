@@ -8,7 +8,7 @@ ghost use Rattle.pt_desk.specs.DeskState.{place};
 use pt_carrier::{open, reunite};
 use pt_desk::Desk;
 use pt_shard::{Config, Fault, Shard};
-use pt_signal::{Body, Item, Pick, Pid, Reason};
+use pt_signal::{Body, Item, Pick, Pid, Reason, Ref};
 use std::alloc::Global;
 use std::process::Abort;
 
@@ -135,12 +135,10 @@ fn a_narrow_lane_keeps_the_order(rt: HostRuntime) {
     spend(&rt, rt.alloc(), left, right);
 }
 
-/// Two processes of the desk meet: each call that may be refused for memory, and what it answers.
-fn is_each_call_done(desk: &mut Desk) -> Result<bool, Fault>
+/// The second process links the first, and takes the link back.
+fn is_linked_and_cut(desk: &mut Desk, a: Pid, b: Pid) -> Result<bool, Fault>
     ensures { place desk.new ≡ place desk.old }
 {
-    let a = desk.spawn()?;
-    let b = desk.spawn_child(a, false)?;
     if !desk.knows(a) {
         return Ok(false);
     }
@@ -151,32 +149,62 @@ fn is_each_call_done(desk: &mut Desk) -> Result<bool, Fault>
     }
     desk.unlink(b, a)?;
     let cut = turn(desk, 16) == Some((1, 1)) && desk.linked(a, b).is_none();
+    Ok(linked && cut)
+}
+
+/// It watches the first, and gives the monitor up.
+fn is_watched(desk: &mut Desk, a: Pid, b: Pid) -> Result<bool, Fault>
+    ensures { place desk.new ≡ place desk.old }
+{
     if !desk.knows(a) {
         return Ok(false);
     }
     let watch = desk.monitor(b, a)?;
-    let watched = desk.demonitor(b, watch, true)?;
+    desk.demonitor(b, watch, true)
+}
+
+/// The first traps exits, and the second sends it one and asks whether it is alive; after the turns the reference of
+/// the question.
+fn asked(desk: &mut Desk, a: Pid, b: Pid) -> Result<Option<Ref>, Fault>
+    ensures { place desk.new ≡ place desk.old }
+{
     let before = desk.trap(a, true)?;
-    if !desk.knows(a) {
-        return Ok(false);
+    if before || !desk.knows(a) {
+        return Ok(None);
     }
     desk.exit_signal(b, a, Reason::Shutdown)?;
     if !desk.knows(a) {
-        return Ok(false);
+        return Ok(None);
     }
     let question = desk.ask_alive(b, a)?;
     let told = turn(desk, 16) == Some((4, 4)) && turn(desk, 16) == Some((1, 1));
+    Ok(if told { Some(question) } else { None })
+}
+
+/// Both take what came to them, and the first ends.
+fn is_answered(desk: &mut Desk, a: Pid, b: Pid, question: Ref) -> Result<bool, Fault>
+    ensures { place desk.new ≡ place desk.old }
+{
     let item = desk.receive(a, Pick::ExitOf(b))?;
     let answer = desk.receive(b, Pick::AliveOf(question))?;
     desk.exit(a, Reason::Normal)?;
-    let all = linked
-        && cut
-        && watched
-        && !before
-        && told
-        && answer.is_some()
-        && !desk.alive_here(a);
-    Ok(all && item == Some(Item::Exit(b, Reason::Shutdown)))
+    let came = item == Some(Item::Exit(b, Reason::Shutdown)) && answer.is_some();
+    Ok(came && !desk.alive_here(a))
+}
+
+/// Two processes of the desk meet: each call that may be refused for memory, and what it answers.
+fn is_each_call_done(desk: &mut Desk) -> Result<bool, Fault>
+    ensures { place desk.new ≡ place desk.old }
+{
+    let a = desk.spawn()?;
+    let b = desk.spawn_child(a, false)?;
+    if !is_linked_and_cut(desk, a, b)? || !is_watched(desk, a, b)? {
+        return Ok(false);
+    }
+    match asked(desk, a, b)? {
+        Some(question) => is_answered(desk, a, b, question),
+        None => Ok(false),
+    }
 }
 
 #[test]

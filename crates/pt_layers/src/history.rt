@@ -6,281 +6,297 @@ use std::alloc::{AllocError, Global};
 use std::process::Abort;
 use std::test::Fail;
 
-fn pid(slot: u32) -> Pid {
-    Pid {
-        shard: 0,
-        slot,
-        version: 1,
-    }
-}
+/// The first processes of desk 0.
+const A: Pid = Pid {
+    shard: 0,
+    slot: 0,
+    version: 1,
+};
 
-fn link(number: u64) -> LinkId {
-    LinkId { desk: 0, number }
-}
+const B: Pid = Pid { slot: 1, ..A };
 
-fn monitor(number: u64) -> Ref {
-    Ref { desk: 0, number }
-}
+const C: Pid = Pid { slot: 2, ..A };
 
-fn body(kind: u32, num: i64) -> Body {
-    Body {
-        kind,
-        num,
-        who: None,
-    }
-}
+const D: Pid = Pid { slot: 3, ..A };
 
-fn born(slot: u32) -> Event {
-    Event::Born(pid(slot), None, None)
-}
+const E: Pid = Pid { slot: 4, ..A };
 
-fn stop(alloc: Global, events: &[Event]) -> Option<(u64, Cause)> {
-    match replay(alloc, events) {
-        Ok(_) => None,
-        Err(stop) => Some(stop),
-    }
-}
+const BORN_A: Event = Event::Born(A, None, None);
+
+const BORN_B: Event = Event::Born(B, None, None);
+
+/// What the third event makes, and what it does not.
+const THIRD: Ref = Ref { desk: 0, number: 3 };
+
+const LINK: LinkId = LinkId { desk: 0, number: 3 };
+
+const OTHER_LINK: LinkId = LinkId { desk: 0, number: 4 };
+
+const ONE: Body = Body {
+    kind: 1,
+    num: 7,
+    who: None,
+};
+
+const TWO: Body = Body {
+    kind: 2,
+    num: 8,
+    who: None,
+};
+
+/// Two processes that exchange a message each, and end.
+const PING_PONG: &[Event] = &[
+    BORN_A,
+    BORN_B,
+    Event::Said(A, B, Signal::Message(ONE)),
+    Event::Came(A, B, Signal::Message(ONE)),
+    Event::Took(B, Pick::Kind(1), Item::User(A, ONE)),
+    Event::Said(B, A, Signal::Message(TWO)),
+    Event::Came(B, A, Signal::Message(TWO)),
+    Event::Took(A, Pick::Kind(2), Item::User(B, TWO)),
+    Event::Left(B, Reason::Normal),
+    Event::Left(A, Reason::Normal),
+];
+
+/// Events, and where the judge stops at them and why, if it does.
+type Judged = (&'static [Event], Option<(u64, Cause)>);
 
 fn legal(rt: &impl Abort, alloc: Global, events: &[Event]) -> State {
     replay(alloc, events).ok().expect(rt, "legal")
 }
 
-fn ping_pong() -> [Event; 10] {
-    let (ping, pong) = (pid(0), pid(1));
-    let one = Signal::Message(body(1, 7));
-    let two = Signal::Message(body(2, 8));
-    [
-        born(0),
-        born(1),
-        Event::Said(ping, pong, one),
-        Event::Came(ping, pong, one),
-        Event::Took(pong, Pick::Kind(1), Item::User(ping, body(1, 7))),
-        Event::Said(pong, ping, two),
-        Event::Came(pong, ping, two),
-        Event::Took(ping, Pick::Kind(2), Item::User(pong, body(2, 8))),
-        Event::Left(pong, Reason::Normal),
-        Event::Left(ping, Reason::Normal),
-    ]
+fn compare(rt: &impl Abort, alloc: Global, cases: &[Judged]) {
+    for (number, (events, stop)) in cases.iter().enumerate() {
+        assert_eq!(rt; replay(alloc, events).err(), *stop, "case {number}");
+    }
 }
 
 #[test]
 fn no_event(rt: HostRuntime) {
     let state = legal(&rt, rt.alloc(), &[]);
     assert_eq!(rt; state.in_flight(), 0);
-    assert!(rt; !state.alive(pid(0)));
+    assert!(rt; !state.alive(A));
 }
 
 #[test]
 fn ten_lines(rt: HostRuntime) {
-    let state = legal(&rt, rt.alloc(), &ping_pong());
+    let state = legal(&rt, rt.alloc(), PING_PONG);
     assert_eq!(rt; state.in_flight(), 0);
-    assert!(rt; !state.alive(pid(0)));
-    assert!(rt; !state.alive(pid(1)));
-    assert_eq!(rt; state.ended(pid(1)), Some(Reason::Normal));
-    assert!(rt; state.waiting(pid(1)).is_none());
+    assert!(rt; !state.alive(A));
+    assert!(rt; !state.alive(B));
+    assert_eq!(rt; state.ended(B), Some(Reason::Normal));
+    assert!(rt; state.waiting(B).is_none());
 }
 
 #[test]
 fn causes(rt: HostRuntime) {
-    let alloc = rt.alloc();
-    let a = pid(0);
-    let message = Signal::Message(body(1, 1));
-    let took = Event::Took(a, Pick::Any, Item::User(a, body(1, 1)));
-    let own_link = Event::Said(a, a, Signal::Link(link(2)));
-    assert_eq!(rt;
-        stop(alloc, &[born(0), born(0)]),
-        Some((1, Cause::BornTwice))
-    );
-    assert_eq!(rt;
-        stop(alloc, &[Event::Said(a, a, message)]),
-        Some((0, Cause::NotAlive))
-    );
-    assert_eq!(rt;
-        stop(alloc, &[born(0), Event::Came(a, a, message)]),
-        Some((1, Cause::NotFront))
-    );
-    assert_eq!(rt;
-        stop(alloc, &[born(0), took]),
-        Some((1, Cause::NotFirstMatch))
-    );
-    assert_eq!(rt;
-        stop(alloc, &[born(0), own_link]),
-        Some((1, Cause::Unlawful))
-    );
+    const TO_ITSELF: Event = Event::Said(A, A, Signal::Message(ONE));
+    const CAME: Event = Event::Came(A, A, Signal::Message(ONE));
+    const TOOK: Event = Event::Took(A, Pick::Any, Item::User(A, ONE));
+    const OWN_LINK: Event = Event::Said(A, A, Signal::Link(LINK));
+    const CASES: &[Judged] = &[
+        (&[BORN_A, BORN_A], Some((1, Cause::BornTwice))),
+        (&[TO_ITSELF], Some((0, Cause::NotAlive))),
+        (&[BORN_A, CAME], Some((1, Cause::NotFront))),
+        (&[BORN_A, TOOK], Some((1, Cause::NotFirstMatch))),
+        (&[BORN_A, OWN_LINK], Some((1, Cause::Unlawful))),
+    ];
+    compare(&rt, rt.alloc(), CASES);
 }
 
 #[test]
 fn unlawful(rt: HostRuntime) {
-    let alloc = rt.alloc();
-    let (a, b) = (pid(0), pid(1));
-    let linked = Event::Said(a, b, Signal::Link(link(3)));
-    let other_ids = Event::Said(a, b, Signal::Unlink(Ids::of(link(4))));
-    let watched = Event::Said(a, b, Signal::Monitor(monitor(3)));
-    let not_its_own = Event::Said(b, a, Signal::Demonitor(monitor(3)));
-    let never_said = Event::Said(a, b, Signal::LinkExit(Ids::of(link(3)), Reason::Normal));
-    assert_eq!(rt;
-        stop(alloc, &[born(0), born(1), linked, other_ids]),
-        Some((3, Cause::Unlawful))
+    const LINKED: Event = Event::Said(A, B, Signal::Link(LINK));
+    const OTHER_IDS: Event = Event::Said(
+        A,
+        B,
+        Signal::Unlink(Ids {
+            one: OTHER_LINK,
+            two: None,
+        }),
     );
-    assert_eq!(rt;
-        stop(alloc, &[born(0), born(1), watched, not_its_own]),
-        Some((3, Cause::Unlawful))
+    const WATCHED: Event = Event::Said(A, B, Signal::Monitor(THIRD));
+    const NOT_ITS_OWN: Event = Event::Said(B, A, Signal::Demonitor(THIRD));
+    const NEVER_SAID: Event = Event::Said(
+        A,
+        B,
+        Signal::LinkExit(
+            Ids {
+                one: LINK,
+                two: None,
+            },
+            Reason::Normal,
+        ),
     );
-    assert_eq!(rt;
-        stop(alloc, &[born(0), born(1), linked, never_said]),
-        Some((3, Cause::Unlawful))
-    );
-    let linked_twice = Event::Born(b, Some(a), Some(link(3)));
-    assert_eq!(rt;
-        stop(alloc, &[born(0), linked, linked_twice]),
-        Some((2, Cause::Unlawful))
-    );
+    const LINKED_TWICE: Event = Event::Born(B, Some(A), Some(LINK));
+    const CASES: &[Judged] = &[
+        (
+            &[BORN_A, BORN_B, LINKED, OTHER_IDS],
+            Some((3, Cause::Unlawful)),
+        ),
+        (
+            &[BORN_A, BORN_B, WATCHED, NOT_ITS_OWN],
+            Some((3, Cause::Unlawful)),
+        ),
+        (
+            &[BORN_A, BORN_B, LINKED, NEVER_SAID],
+            Some((3, Cause::Unlawful)),
+        ),
+        (&[BORN_A, LINKED, LINKED_TWICE], Some((2, Cause::Unlawful))),
+    ];
+    compare(&rt, rt.alloc(), CASES);
 }
 
+const A_B: LinkId = LinkId { desk: 0, number: 6 };
+
+const B_C: LinkId = LinkId { desk: 0, number: 7 };
+
+const C_D: LinkId = LinkId { desk: 0, number: 8 };
+
+const D_E: LinkId = LinkId { desk: 0, number: 9 };
+
 /// Five processes in a row of links, of which the middle one traps, and the first ends.
-fn cascade() -> [Event; 17] {
-    let said = |from, to, number| Event::Said(pid(from), pid(to), Signal::Link(link(number)));
-    let came = |from, to, number| Event::Came(pid(from), pid(to), Signal::Link(link(number)));
-    let ended = |from, to, number| {
-        let exit = Signal::LinkExit(Ids::of(link(number)), Reason::Other(7));
-        Event::Came(pid(from), pid(to), exit)
-    };
-    [
-        born(0),
-        born(1),
-        born(2),
-        born(3),
-        born(4),
-        said(0, 1, 6),
-        said(1, 2, 7),
-        said(2, 3, 8),
-        said(3, 4, 9),
-        Event::Flag(pid(2), true),
-        came(0, 1, 6),
-        came(1, 2, 7),
-        came(2, 3, 8),
-        came(3, 4, 9),
-        Event::Left(pid(0), Reason::Other(7)),
-        ended(0, 1, 6),
-        ended(1, 2, 7),
-    ]
-}
+const CASCADE: &[Event] = &[
+    BORN_A,
+    BORN_B,
+    Event::Born(C, None, None),
+    Event::Born(D, None, None),
+    Event::Born(E, None, None),
+    Event::Said(A, B, Signal::Link(A_B)),
+    Event::Said(B, C, Signal::Link(B_C)),
+    Event::Said(C, D, Signal::Link(C_D)),
+    Event::Said(D, E, Signal::Link(D_E)),
+    Event::Flag(C, true),
+    Event::Came(A, B, Signal::Link(A_B)),
+    Event::Came(B, C, Signal::Link(B_C)),
+    Event::Came(C, D, Signal::Link(C_D)),
+    Event::Came(D, E, Signal::Link(D_E)),
+    Event::Left(A, Reason::Other(7)),
+    Event::Came(
+        A,
+        B,
+        Signal::LinkExit(
+            Ids {
+                one: A_B,
+                two: None,
+            },
+            Reason::Other(7),
+        ),
+    ),
+    Event::Came(
+        B,
+        C,
+        Signal::LinkExit(
+            Ids {
+                one: B_C,
+                two: None,
+            },
+            Reason::Other(7),
+        ),
+    ),
+];
 
 #[test]
 fn cascades(rt: HostRuntime) {
-    let state = legal(&rt, rt.alloc(), &cascade());
+    let state = legal(&rt, rt.alloc(), CASCADE);
     assert_eq!(rt; state.in_flight(), 0);
-    assert_eq!(rt; state.ended(pid(1)), Some(Reason::Other(7)));
-    assert!(rt; state.alive(pid(2)));
-    assert!(rt; state.traps(pid(2)));
-    assert!(rt; !state.traps(pid(3)));
-    let waiting = state.waiting(pid(2)).expect(&rt, "alive");
-    assert_eq!(rt; waiting, [Item::Exit(pid(1), Reason::Other(7))].as_slice());
-    assert_eq!(rt; state.linked(pid(2), pid(1)), None);
-    assert_eq!(rt; state.linked(pid(2), pid(3)), Some(Ids::of(link(8))));
-    assert_eq!(rt; state.linked(pid(0), pid(1)), Some(Ids::of(link(6))));
+    assert_eq!(rt; state.ended(B), Some(Reason::Other(7)));
+    assert!(rt; state.alive(C));
+    assert!(rt; state.traps(C));
+    assert!(rt; !state.traps(D));
+    let waiting = state.waiting(C).expect(&rt, "alive");
+    assert_eq!(rt; waiting, [Item::Exit(B, Reason::Other(7))].as_slice());
+    assert_eq!(rt; state.linked(C, B), None);
+    assert_eq!(rt; state.linked(C, D), Some(Ids::of(C_D)));
+    assert_eq!(rt; state.linked(A, B), Some(Ids::of(A_B)));
 }
+
+/// The second process is watched by the first, and ends.
+const WATCHED: &[Event] = &[
+    BORN_A,
+    BORN_B,
+    Event::Said(A, B, Signal::Monitor(THIRD)),
+    Event::Came(A, B, Signal::Monitor(THIRD)),
+    Event::Left(B, Reason::Shutdown),
+    Event::Came(B, A, Signal::Down(THIRD, Reason::Shutdown)),
+];
 
 #[test]
 fn watches(rt: HostRuntime) {
-    let (a, b) = (pid(0), pid(1));
-    let watch = Signal::Monitor(monitor(3));
-    let open = [
-        born(0),
-        born(1),
-        Event::Said(a, b, watch),
-        Event::Came(a, b, watch),
-    ];
-    let state = legal(&rt, rt.alloc(), &open);
-    assert!(rt; state.watching(a, monitor(3)));
-    assert!(rt; !state.watching(b, monitor(3)));
-    assert!(rt; state.kept(b, monitor(3)));
-    assert!(rt; !state.kept(a, monitor(3)));
-    let ended = [
-        born(0),
-        born(1),
-        Event::Said(a, b, watch),
-        Event::Came(a, b, watch),
-        Event::Left(b, Reason::Shutdown),
-        Event::Came(b, a, Signal::Down(monitor(3), Reason::Shutdown)),
-    ];
-    let state = legal(&rt, rt.alloc(), &ended);
-    assert!(rt; !state.watching(a, monitor(3)));
-    assert!(rt; state.kept(b, monitor(3)));
+    let state = legal(&rt, rt.alloc(), &WATCHED[..4]);
+    assert!(rt; state.watching(A, THIRD));
+    assert!(rt; !state.watching(B, THIRD));
+    assert!(rt; state.kept(B, THIRD));
+    assert!(rt; !state.kept(A, THIRD));
+    let state = legal(&rt, rt.alloc(), WATCHED);
+    assert!(rt; !state.watching(A, THIRD));
+    assert!(rt; state.kept(B, THIRD));
     assert_eq!(rt;
-        state.waiting(a).expect(&rt, "alive"),
-        [Item::Down(monitor(3), b, Reason::Shutdown)].as_slice()
+        state.waiting(A).expect(&rt, "alive"),
+        [Item::Down(THIRD, B, Reason::Shutdown)].as_slice()
     );
 }
 
-/// The second process is asked whether it is alive after it was sent `kill`; its answer, as the last event has it.
-fn asked_after_kill(alive: bool) -> [Event; 7] {
-    let (a, b) = (pid(0), pid(1));
-    let kill = Signal::Exit(Reason::Kill);
-    let ask = Signal::AliveAsk(monitor(4));
-    [
-        born(0),
-        born(1),
-        Event::Said(a, b, kill),
-        Event::Said(a, b, ask),
-        Event::Came(a, b, kill),
-        Event::Came(a, b, ask),
-        Event::Came(b, a, Signal::AliveSay(monitor(4), alive)),
-    ]
-}
+/// The second process is asked whether it is alive after it was sent `kill`.
+const ASK: Ref = Ref { desk: 0, number: 4 };
+
+const SAID_KILL: Event = Event::Said(A, B, Signal::Exit(Reason::Kill));
+
+const SAID_ASK: Event = Event::Said(A, B, Signal::AliveAsk(ASK));
+
+const CAME_KILL: Event = Event::Came(A, B, Signal::Exit(Reason::Kill));
+
+const CAME_ASK: Event = Event::Came(A, B, Signal::AliveAsk(ASK));
 
 #[test]
 fn asks_the_dead(rt: HostRuntime) {
-    let (a, b) = (pid(0), pid(1));
-    let state = legal(&rt, rt.alloc(), &asked_after_kill(false));
+    const NO: Event = Event::Came(B, A, Signal::AliveSay(ASK, false));
+    const YES: Event = Event::Came(B, A, Signal::AliveSay(ASK, true));
+    const TOLD: &[Event] = &[BORN_A, BORN_B, SAID_KILL, SAID_ASK, CAME_KILL, CAME_ASK, NO];
+    const FALSELY: &[Judged] = &[(
+        &[
+            BORN_A, BORN_B, SAID_KILL, SAID_ASK, CAME_KILL, CAME_ASK, YES,
+        ],
+        Some((6, Cause::NotFront)),
+    )];
+    let state = legal(&rt, rt.alloc(), TOLD);
     assert_eq!(rt; state.in_flight(), 0);
-    assert_eq!(rt; state.ended(b), Some(Reason::Killed));
+    assert_eq!(rt; state.ended(B), Some(Reason::Killed));
     assert_eq!(rt;
-        state.waiting(a).expect(&rt, "alive"),
-        [Item::Alive(monitor(4), b, false)].as_slice()
+        state.waiting(A).expect(&rt, "alive"),
+        [Item::Alive(ASK, B, false)].as_slice()
     );
-    assert_eq!(rt;
-        stop(rt.alloc(), &asked_after_kill(true)),
-        Some((6, Cause::NotFront))
-    );
+    compare(&rt, rt.alloc(), FALSELY);
 }
 
 #[test]
 fn asks_the_living(rt: HostRuntime) {
-    let (a, b) = (pid(0), pid(1));
-    let ask = Signal::AliveAsk(monitor(3));
-    let yes = Item::Alive(monitor(3), b, true);
-    let asked = [
-        born(0),
-        born(1),
-        Event::Said(a, b, ask),
-        Event::Came(a, b, ask),
-        Event::Came(b, a, Signal::AliveSay(monitor(3), true)),
-        Event::Took(a, Pick::AliveOf(monitor(3)), yes),
+    const ASKED: &[Event] = &[
+        BORN_A,
+        BORN_B,
+        Event::Said(A, B, Signal::AliveAsk(THIRD)),
+        Event::Came(A, B, Signal::AliveAsk(THIRD)),
+        Event::Came(B, A, Signal::AliveSay(THIRD, true)),
+        Event::Took(A, Pick::AliveOf(THIRD), Item::Alive(THIRD, B, true)),
     ];
-    let state = legal(&rt, rt.alloc(), &asked);
+    let state = legal(&rt, rt.alloc(), ASKED);
     assert_eq!(rt; state.in_flight(), 0);
-    assert!(rt; state.waiting(a).expect(&rt, "alive").is_empty());
+    assert!(rt; state.waiting(A).expect(&rt, "alive").is_empty());
 }
 
 #[test]
 fn asks_unlawfully(rt: HostRuntime) {
-    let alloc = rt.alloc();
-    let (a, b) = (pid(0), pid(1));
-    let watched = Event::Said(a, b, Signal::Monitor(monitor(3)));
-    let asked = Event::Said(a, b, Signal::AliveAsk(monitor(3)));
-    let own = Event::Said(a, a, Signal::AliveAsk(monitor(3)));
-    let told = Event::Said(a, b, Signal::AliveSay(monitor(3), true));
-    assert_eq!(rt;
-        stop(alloc, &[born(0), watched, asked]),
-        Some((2, Cause::Unlawful))
-    );
-    assert_eq!(rt;
-        stop(alloc, &[born(0), asked, watched]),
-        Some((2, Cause::Unlawful))
-    );
-    assert_eq!(rt; stop(alloc, &[born(0), told]), Some((1, Cause::Unlawful)));
-    assert_eq!(rt; stop(alloc, &[born(0), own]), None);
+    const WATCH: Event = Event::Said(A, B, Signal::Monitor(THIRD));
+    const ASKED: Event = Event::Said(A, B, Signal::AliveAsk(THIRD));
+    const OWN: Event = Event::Said(A, A, Signal::AliveAsk(THIRD));
+    const SAID: Event = Event::Said(A, B, Signal::AliveSay(THIRD, true));
+    const CASES: &[Judged] = &[
+        (&[BORN_A, WATCH, ASKED], Some((2, Cause::Unlawful))),
+        (&[BORN_A, ASKED, WATCH], Some((2, Cause::Unlawful))),
+        (&[BORN_A, SAID], Some((1, Cause::Unlawful))),
+        (&[BORN_A, OWN], None),
+    ];
+    compare(&rt, rt.alloc(), CASES);
 }
 
 fn at(stamp: u64, desk: u8) -> Stamped {
