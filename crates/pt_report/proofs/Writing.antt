@@ -1,5 +1,6 @@
 -- What a writer holds after one write and another.
-use Rattle.std.proofs.Common.{◌≡◌, ℕ, List, ◌++◌, Option, Some, None, append_assoc, ap, ◌∙◌}
+use Rattle.std.proofs.Common.{ℕ, List, ◌++◌, Option, Some, None, Result, Ok, Err, append_assoc, ap, ◌∙◌}
+use Rattle.std.specs.Prelude.{OnOk}
 use Rattle.std.specs.Io.KnownBytes.{Appends, Keeps}
 
 pub appends_then : (a b c : Option (List ℕ)) (x y : List ℕ) → Appends a b x → Appends b c y → Appends a c (x ++ y)
@@ -13,3 +14,8 @@ appends_keeps None b c x h k = tt
 appends_keeps (Some s) None c x h k = absurd h
 appends_keeps (Some s) (Some t) None x h k = absurd k
 appends_keeps (Some s) (Some t) (Some u) x h k = k ∙ h
+
+-- what holds at all holds where a call went well
+pub on_ok : {T E P : Type 0} (r : Result T E) → P → OnOk r P
+on_ok (Ok x) p = p
+on_ok (Err e) p = tt

@@ -31,7 +31,6 @@ pub fn print_chart<W: Write>(
 }
 
 /// Writes a text, and passes on what the writer holds back.
-#[tactic(auto, using(crate::proofs::Writing::appends_then, crate::proofs::Writing::appends_keeps))]
 fn write_text<W: Write>(out: &mut W, text: &str) -> io::Result<()>
     ensures { OnOk result (Appends (W.contents out.old) (W.contents out.new) text.now) }
 {

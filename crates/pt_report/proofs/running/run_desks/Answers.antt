@@ -1,4 +1,5 @@
-use Rattle.std.proofs.Common.{sym, subst}
+use Rattle.std.proofs.Common.{List, sym, subst}
+use Rattle.pt_desk.specs.DeskState.{DeskState}
 use Rattle.pt_node.specs.Desks.{AreDesks, AreDesksOf}
 use Rattle.pt_runner.specs.Starting.{config_of}
 use Rattle.pt_report.proofs.Settings.{same_settings, counted, went_on}
@@ -7,7 +8,7 @@ use Rattle.pt_report.proofs.running.run_desks.Goals as goal
 pub gather-requires : goal.gather-requires
 gather-requires g c =
     let config = config_of c.args.script.now.settings in
-    subst AreDesks (sym c.release.ensures.desks) (c.run_pairs-pairs.ensures.desks (config, subst (AreDesksOf config) (sym c.assign.ensures.desks) c.requires.node))
+    subst AreDesks (sym {A = List DeskState} c.release.ensures.desks) (c.run_pairs-pairs.ensures.desks (config, subst (AreDesksOf config) (sym c.assign.ensures.desks) c.requires.node))
 
 pub returns-in-Ok-gather-clause-node : goal.returns-in-Ok-gather-clause-node
 returns-in-Ok-gather-clause-node g c =
