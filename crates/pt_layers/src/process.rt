@@ -3,6 +3,7 @@
 use pt_process::{Entries, Estate, Outcome, Process};
 use pt_signal::{Body, Ids, Item, LinkId, Pick, Pid, Reason, Ref, Signal};
 use std::alloc::Global;
+use std::process::Abort;
 use std::test::Fail;
 
 fn pid(slot: u32) -> Pid {
@@ -57,6 +58,21 @@ fn owes(estate: &Estate, i: usize, to: u32, signal: Signal) -> bool {
     i < estate.len() && estate.owed(i) == (pid(to), signal)
 }
 
+/// As many entries stand as this, and these at their places.
+fn stand(
+    rt: &impl Abort,
+    entries: Entries<u32, u32>,
+    count: usize,
+    wanted: &[(usize, (u32, u32))],
+) {
+    let rows = entries.into_rows();
+    assert_eq!(rt; rows.len(), count);
+    for (place, row) in wanted {
+        assert!(rt; *place < rows.len());
+        assert_eq!(rt; rows.at(*place), *row);
+    }
+}
+
 #[test]
 fn entries_stand_in_order_of_entry(rt: HostRuntime) -> Result<(), Fail> {
     let mut entries: Entries<u32, u32> = Entries::new(rt.alloc());
@@ -67,16 +83,18 @@ fn entries_stand_in_order_of_entry(rt: HostRuntime) -> Result<(), Fail> {
     entries.insert(1, 40)?;
     entries.insert(2, 50)?;
     assert_eq!(rt; entries.get(&3), Some(30));
-    let rows = entries.into_rows();
-    assert_eq!(rt; rows.len(), 3);
-    assert_eq!(rt; rows.at(0), (2, 50));
-    assert_eq!(rt; rows.at(1), (3, 30));
-    assert_eq!(rt; rows.at(2), (1, 40));
+    stand(&rt, entries, 3, &[(0, (2, 50)), (1, (3, 30)), (2, (1, 40))]);
     Ok(())
 }
 
 #[test]
 fn more_than_eight_entries_stand_in_order_of_entry(rt: HostRuntime) -> Result<(), Fail> {
+    const WANTED: &[(usize, (u32, u32))] = &[
+        (0, (1, 101)),
+        (2, (4, 104)),
+        (5, (7, 207)),
+        (8, (3, 203)),
+    ];
     let mut entries: Entries<u32, u32> = Entries::new(rt.alloc());
     for key in 1..=10 {
         entries.insert(key, key + 100)?;
@@ -89,12 +107,7 @@ fn more_than_eight_entries_stand_in_order_of_entry(rt: HostRuntime) -> Result<()
     entries.insert(3, 203)?;
     assert_eq!(rt; entries.get(&3), Some(203));
     assert_eq!(rt; entries.len(), 9);
-    let rows = entries.into_rows();
-    assert_eq!(rt; rows.len(), 9);
-    assert_eq!(rt; rows.at(0), (1, 101));
-    assert_eq!(rt; rows.at(2), (4, 104));
-    assert_eq!(rt; rows.at(5), (7, 207));
-    assert_eq!(rt; rows.at(8), (3, 203));
+    stand(&rt, entries, 9, WANTED);
     Ok(())
 }
 
@@ -110,11 +123,12 @@ fn entries_are_found_once_gaps_are_closed(rt: HostRuntime) -> Result<(), Fail> {
     entries.insert(2, 22)?;
     assert_eq!(rt; entries.remove(&3), Some(13));
     assert_eq!(rt; entries.get(&5), Some(15));
-    let rows = entries.into_rows();
-    assert_eq!(rt; rows.len(), 5);
-    assert_eq!(rt; rows.at(0), (5, 15));
-    assert_eq!(rt; rows.at(3), (12, 22));
-    assert_eq!(rt; rows.at(4), (2, 22));
+    stand(
+        &rt,
+        entries,
+        5,
+        &[(0, (5, 15)), (3, (12, 22)), (4, (2, 22))],
+    );
     Ok(())
 }
 

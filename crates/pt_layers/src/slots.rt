@@ -1,29 +1,42 @@
 //! `pt_slots`: slots that are filled, emptied and retired, and why a value is refused.
 
 use pt_slots::{InsertError, Key, Slots};
+use std::alloc::Global;
+use std::process::Abort;
 use std::test::Fail;
 
 fn key(slot: u32, version: u32) -> Key {
     Key { slot, version }
 }
 
+fn inserts(
+    rt: &impl Abort,
+    slots: &mut Slots<u32>,
+    value: u32,
+    wanted: Result<Key, InsertError<u32>>,
+) {
+    assert_eq!(rt; slots.insert(value), wanted);
+}
+
+fn removes(rt: &impl Abort, slots: &mut Slots<u32>, key: Key, wanted: Option<u32>) {
+    assert_eq!(rt; slots.remove(key), wanted);
+}
+
 #[test]
 fn one_slot_of_two_versions(rt: HostRuntime) -> Result<(), Fail> {
     let mut slots = Slots::new(rt.alloc(), 1, 2)?;
     assert_eq!(rt; slots.next(), Some(key(0, 1)));
-    assert_eq!(rt; slots.insert(7), Ok(key(0, 1)));
+    inserts(&rt, &mut slots, 7, Ok(key(0, 1)));
     assert_eq!(rt; slots.next(), None);
-    assert_eq!(rt; slots.insert(8), Err(InsertError::Full(8)));
-    assert_eq!(rt; slots.remove(key(0, 1)), Some(7));
-    assert_eq!(rt; slots.remove(key(0, 1)), None);
-    assert_eq!(rt; slots.insert(9), Ok(key(0, 2)));
+    inserts(&rt, &mut slots, 8, Err(InsertError::Full(8)));
+    removes(&rt, &mut slots, key(0, 1), Some(7));
+    removes(&rt, &mut slots, key(0, 1), None);
+    inserts(&rt, &mut slots, 9, Ok(key(0, 2)));
     assert_eq!(rt; slots.get(key(0, 1)).copied(), None);
-    assert_eq!(rt; slots.remove(key(0, 2)), Some(9));
-    assert_eq!(rt; slots.retired(), 1);
-    assert_eq!(rt; slots.issued(0), 2);
-    assert_eq!(rt; slots.len(), 0);
+    removes(&rt, &mut slots, key(0, 2), Some(9));
+    assert_eq!(rt; (slots.retired(), slots.issued(0), slots.len()), (1, 2, 0));
     assert_eq!(rt; slots.next(), None);
-    assert_eq!(rt; slots.insert(5), Err(InsertError::Full(5)));
+    inserts(&rt, &mut slots, 5, Err(InsertError::Full(5)));
     Ok(())
 }
 
@@ -43,37 +56,49 @@ fn refusals_say_why(rt: HostRuntime) -> Result<(), Fail> {
     Ok(())
 }
 
+fn enters(rt: &impl Abort, alloc: Global, slots: &mut Slots<String>, name: &str) -> Key {
+    let name = name.to_string(alloc).expect(rt, "memory");
+    slots.insert(name).ok().expect(rt, "memory")
+}
+
+/// A value is lent to be changed.
+fn grows(rt: &impl Abort, slots: &mut Slots<String>, key: Key, more: &str) {
+    let name = slots.get_mut(key).expect(rt, "a value");
+    name.push_str(more).expect(rt, "memory");
+}
+
+fn is_gone(slots: &mut Slots<String>, key: Key) -> bool {
+    !slots.contains(key)
+        && slots.get(key).is_none()
+        && slots.get_mut(key).is_none()
+        && slots.remove(key).is_none()
+}
+
 #[test]
 fn slots_are_used_again(rt: HostRuntime) -> Result<(), Fail> {
     let alloc = rt.alloc();
     let mut slots = Slots::new(alloc, 3, 2)?;
-    let ann = slots.insert(format!(in alloc; "Ann")?)?;
-    let bob = slots.insert(format!(in alloc; "Bob")?)?;
-    let eve = slots.insert(format!(in alloc; "Eve")?)?;
+    let ann = enters(&rt, alloc, &mut slots, "Ann");
+    let bob = enters(&rt, alloc, &mut slots, "Bob");
+    let eve = enters(&rt, alloc, &mut slots, "Eve");
     assert_eq!(rt; (ann, bob, eve), (key(0, 1), key(1, 1), key(2, 1)));
     assert!(rt; ann < bob && bob < eve);
-    if let Some(name) = slots.get_mut(eve) {
-        name.push_str("lyn")?;
-    }
+    grows(&rt, &mut slots, eve, "lyn");
     assert_eq!(rt; slots.get(eve).map(|name| name.as_str()), Some("Evelyn"));
 
     slots.remove(bob);
-    assert_eq!(rt; slots.len(), 2);
-    assert_eq!(rt; slots.next(), Some(key(1, 2)));
-    let zoe = slots.insert(format!(in alloc; "Zoe")?)?;
+    assert_eq!(rt; (slots.len(), slots.next()), (2, Some(key(1, 2))));
+    let zoe = enters(&rt, alloc, &mut slots, "Zoe");
     assert_eq!(rt; zoe, key(1, 2));
-    assert!(rt; bob < zoe);
-    assert!(rt; slots.contains(zoe));
-    assert!(rt; !slots.contains(bob));
-    assert!(rt; slots.get(bob).is_none());
-    assert!(rt; slots.get_mut(bob).is_none());
-    assert!(rt; slots.remove(bob).is_none());
+    assert!(rt; bob < zoe && slots.contains(zoe));
+    assert!(rt; is_gone(&mut slots, bob));
 
     slots.remove(ann);
     slots.remove(zoe);
-    assert_eq!(rt; slots.retired(), 1);
-    assert_eq!(rt; slots.issued(1), 2);
-    assert_eq!(rt; slots.issued(3), 0);
+    assert_eq!(rt;
+        (slots.retired(), slots.issued(1), slots.issued(3)),
+        (1, 2, 0)
+    );
     assert_eq!(rt; slots.next(), Some(key(0, 2)));
     assert!(rt; !slots.contains(key(3, 0)));
     Ok(())
