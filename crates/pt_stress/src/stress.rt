@@ -5,7 +5,7 @@ use crate::crowd::Crowd;
 use crate::node::{gathered, opened, staffed};
 use crate::pace::Pace;
 use pt_history::{State, replay};
-use pt_node::{Event, Gathered, Signal, Stamped, run};
+use pt_node::{Event, Gathered, Quiet, Signal, Stamped, run};
 use std::alloc::{AllocError, Global};
 use std::process::Abort;
 use std::test::Fail;
@@ -58,25 +58,13 @@ fn told(history: &[Stamped], made: u64) -> Done {
         born: 0,
     };
     for stamped in history {
-        told.sent = told
-            .sent
-            .saturating_add(u64::from(is_message(&stamped.event)));
-        told.born = told
-            .born
-            .saturating_add(u64::from(is_birth(&stamped.event)));
+        match stamped.event {
+            Event::Said(_, _, Signal::Message(_)) => told.sent = told.sent.saturating_add(1),
+            Event::Born(_, _, _) => told.born = told.born.saturating_add(1),
+            _ => {}
+        }
     }
     told
-}
-
-fn is_message(event: &Event) -> bool {
-    match event {
-        Event::Said(_, _, signal) => matches!(signal, Signal::Message(_)),
-        _ => false,
-    }
-}
-
-fn is_birth(event: &Event) -> bool {
-    matches!(event, Event::Born(_, _, _))
 }
 
 /// The state that a history leads to, which the judge has to let pass.
@@ -91,24 +79,41 @@ fn judged(rt: &impl Abort, alloc: Global, history: &[Stamped]) -> Result<State, 
     }
 }
 
-/// A node whose crowd has run, which settles: the judge lets its history pass before and after.
-fn settles(rt: &impl Abort, alloc: Global, node: Gathered, done: Done) -> Result<(), Fail> {
+/// The history of a node whose crowd has run, which the judge lets pass: how many events it has, and how many letters
+/// are left over.
+fn ended(rt: &impl Abort, alloc: Global, node: &Gathered, done: Done) -> Result<(u64, u64), Fail> {
     let history = node.history()?;
     assert_eq!(rt; told(history.as_slice(), done.made), done);
     let left = node.left_over()?.len() as u64;
     assert!(rt; left > 0);
     assert_eq!(rt; judged(rt, alloc, history.as_slice())?.in_flight(), left);
+    Ok((history.len() as u64, left))
+}
+
+/// Its history when it has settled, which the judge lets pass too.
+fn settled(
+    rt: &impl Abort,
+    alloc: Global,
+    quiet: &Quiet,
+    events: u64,
+    left: u64,
+) -> Result<(), Fail> {
+    assert!(rt; quiet.handled() >= left);
+    let history = quiet.history()?;
+    assert_eq!(rt;
+        history.len() as u64,
+        events.saturating_add(quiet.handled())
+    );
+    assert_eq!(rt; judged(rt, alloc, history.as_slice())?.in_flight(), 0);
+    Ok(())
+}
+
+fn settles(rt: &impl Abort, alloc: Global, node: Gathered, done: Done) -> Result<(), Fail> {
+    let (events, left) = ended(rt, alloc, &node, done)?;
     let Ok(quiet) = node.settle() else {
         return Err(AllocError)?;
     };
-    assert!(rt; quiet.handled() >= left);
-    let settled = quiet.history()?;
-    assert_eq!(rt;
-        settled.len() as u64,
-        (history.len() as u64).saturating_add(quiet.handled())
-    );
-    assert_eq!(rt; judged(rt, alloc, settled.as_slice())?.in_flight(), 0);
-    Ok(())
+    settled(rt, alloc, &quiet, events, left)
 }
 
 /// A node runs on 8 threads, is gathered and settles.
