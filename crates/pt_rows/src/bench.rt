@@ -5,7 +5,9 @@ ghost use Rattle.pt_node.specs.Desks.{IsStill};
 
 use crate::play::Call;
 use pt_history::{State, replay};
-use pt_node::{Body, Desk, Event, Fault, Gathered, Item, Pick, Pid, Reason, Ref, Stamped, Turned};
+use pt_node::{
+    Body, Desk, Event, Fault, Gathered, Item, Pick, Pid, Quiet, Reason, Ref, Stamped, Turned,
+};
 use std::alloc::{AllocError, Global};
 use std::fmt::Display;
 use std::process::Abort;
@@ -249,17 +251,26 @@ pub struct Settled {
 /// Settles. The judge of histories has to let the history pass before and after, and then nothing is in flight.
 pub fn settle(rt: &impl Abort, alloc: Global, gathered: Gathered) -> Result<Settled, Fail> {
     assert!(rt; judged(alloc, &gathered)?.is_some());
-    let Ok(quiet) = gathered.settle() else {
-        return Err(AllocError)?;
-    };
-    let handled = quiet.handled();
+    let quiet = quiet_of(gathered)?;
+    settled_of(rt, alloc, &quiet)
+}
+
+/// The node when it has settled.
+pub fn quiet_of(gathered: Gathered) -> Result<Quiet, AllocError> {
+    match gathered.settle() {
+        Ok(quiet) => Ok(quiet),
+        Err(_) => Err(AllocError),
+    }
+}
+
+fn settled_of(rt: &impl Abort, alloc: Global, quiet: &Quiet) -> Result<Settled, Fail> {
     let history = quiet.history()?;
     let Some(state) = state_after(alloc, history.as_slice())? else {
         panic!(rt; "the quiet history is unlawful");
     };
     assert_eq!(rt; state.in_flight(), 0);
     Ok(Settled {
-        handled,
+        handled: quiet.handled(),
         history,
         state,
     })

@@ -1,5 +1,6 @@
 //! What a settled node tells of its processes.
 
+use crate::bench::quiet_of;
 use crate::known::{A, A1, B, C, D, E, settings, two_desks};
 use crate::play::Call::*;
 use crate::play::{Step, play_on};
@@ -35,12 +36,14 @@ fn play_quiet(
 ) -> Result<(), Fail> {
     let gathered = play_on(rt, alloc, config, steps, &[])?;
     assert_eq!(rt; gathered.left_over()?.len(), left);
-    let Ok(quiet) = gathered.settle() else {
-        return Err(AllocError)?;
-    };
+    let quiet = quiet_of(gathered)?;
     assert_eq!(rt; quiet.handled(), handled);
+    compare(rt, alloc, &quiet, told)
+}
+
+fn compare(rt: &impl Abort, alloc: Global, quiet: &Quiet, told: &[Told]) -> Result<(), Fail> {
     for (ask, want) in told {
-        let got = answer(alloc, &quiet, *ask)?;
+        let got = answer(alloc, quiet, *ask)?;
         assert_eq!(rt; got.as_str(), *want, "{ask:?}");
     }
     Ok(())

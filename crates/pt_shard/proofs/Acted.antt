@@ -319,8 +319,7 @@ module _ (a : Parts) (whole : IsWhole a) (p : Pid) (was : Resident) (found : Som
         → (owing.from ≡ p) × Every (λ l. l.to.shard < length ledger.book.outbox) owing.owed × HasRoomToAll (map (λ l. l.to) owing.owed) ledger
     owing_fits r owing last ends ledger is room =
         let f = acting a whole p was found in
-        let e = ends_too r owing last ends in
-        (
+        let e = ends_too r owing last ends in (
           left_from a whole p f r owing last.table e,
           subst (λ (b : Book). Every (λ l. l.to.shard < length b.outbox) owing.owed) (sym is) (left_near a whole p f r owing last.table e),
           subst (λ qs. HasRoomToAll qs ledger) (sym (left_peers a whole p f r owing last.table e)) room,
