@@ -96,23 +96,44 @@ fn receive(desk: &mut Desk, p: Pid, pick: Pick) -> Option<(u32, i64)>
     }
 }
 
+/// A message is sent.
+fn sends(rt: &impl Abort, desk: &mut Desk, from: Pid, to: Pid, kind: u32, num: i64)
+    ensures { place desk.new ≡ place desk.old }
+{
+    assert_eq!(rt; send(desk, from, to, kind, num), Ok(()));
+}
+
+/// A turn posts so many letters and handles so many.
+fn turns(rt: &impl Abort, desk: &mut Desk, budget: u32, posted: u64, handled: u64)
+    ensures { place desk.new ≡ place desk.old }
+{
+    assert_eq!(rt; turn(desk, budget), Some((posted, handled)));
+}
+
+/// The oldest item is that message.
+fn takes(rt: &impl Abort, desk: &mut Desk, p: Pid, kind: u32, num: i64)
+    ensures { place desk.new ≡ place desk.old }
+{
+    assert_eq!(rt; receive(desk, p, Pick::Any), Some((kind, num)));
+}
+
 #[test]
 fn a_turn_posts_and_then_handles(rt: HostRuntime) {
     let (mut left, mut right) = two_desks(&rt, rt.alloc(), 8);
     let a = left.spawn().expect(&rt, "memory");
     let b = right.spawn().expect(&rt, "memory");
-    assert_eq!(rt; send(&mut left, a, b, 1, 10), Ok(()));
-    assert_eq!(rt; send(&mut left, a, b, 1, 20), Ok(()));
-    assert_eq!(rt; send(&mut left, a, a, 2, 30), Ok(()));
+    sends(&rt, &mut left, a, b, 1, 10);
+    sends(&rt, &mut left, a, b, 1, 20);
+    sends(&rt, &mut left, a, a, 2, 30);
     assert_eq!(rt; left.pending(), 3);
-    assert_eq!(rt; turn(&mut left, 16), Some((3, 1)));
+    turns(&rt, &mut left, 16, 3, 1);
     assert_eq!(rt; left.pending(), 0);
-    assert_eq!(rt; turn(&mut right, 1), Some((0, 1)));
-    assert_eq!(rt; turn(&mut right, 16), Some((0, 1)));
+    turns(&rt, &mut right, 1, 0, 1);
+    turns(&rt, &mut right, 16, 0, 1);
     assert_eq!(rt; right.clock(), 4);
-    assert_eq!(rt; receive(&mut right, b, Pick::Any), Some((1, 10)));
-    assert_eq!(rt; receive(&mut right, b, Pick::Any), Some((1, 20)));
-    assert_eq!(rt; receive(&mut left, a, Pick::Any), Some((2, 30)));
+    takes(&rt, &mut right, b, 1, 10);
+    takes(&rt, &mut right, b, 1, 20);
+    takes(&rt, &mut left, a, 2, 30);
     spend(&rt, rt.alloc(), left, right);
 }
 
@@ -121,17 +142,17 @@ fn a_narrow_lane_keeps_the_order(rt: HostRuntime) {
     let (mut left, mut right) = two_desks(&rt, rt.alloc(), 1);
     let a = left.spawn().expect(&rt, "memory");
     let b = right.spawn().expect(&rt, "memory");
-    assert_eq!(rt; send(&mut left, a, b, 1, 10), Ok(()));
-    assert_eq!(rt; send(&mut left, a, b, 1, 20), Ok(()));
-    assert_eq!(rt; turn(&mut left, 16), Some((1, 0)));
+    sends(&rt, &mut left, a, b, 1, 10);
+    sends(&rt, &mut left, a, b, 1, 20);
+    turns(&rt, &mut left, 16, 1, 0);
     assert_eq!(rt; left.pending(), 1);
-    assert_eq!(rt; turn(&mut left, 16), Some((0, 0)));
-    assert_eq!(rt; turn(&mut right, 0), Some((0, 0)));
-    assert_eq!(rt; turn(&mut right, 16), Some((0, 1)));
-    assert_eq!(rt; turn(&mut left, 16), Some((1, 0)));
-    assert_eq!(rt; turn(&mut right, 16), Some((0, 1)));
-    assert_eq!(rt; receive(&mut right, b, Pick::Any), Some((1, 10)));
-    assert_eq!(rt; receive(&mut right, b, Pick::Any), Some((1, 20)));
+    turns(&rt, &mut left, 16, 0, 0);
+    turns(&rt, &mut right, 0, 0, 0);
+    turns(&rt, &mut right, 16, 0, 1);
+    turns(&rt, &mut left, 16, 1, 0);
+    turns(&rt, &mut right, 16, 0, 1);
+    takes(&rt, &mut right, b, 1, 10);
+    takes(&rt, &mut right, b, 1, 20);
     spend(&rt, rt.alloc(), left, right);
 }
 

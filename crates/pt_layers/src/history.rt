@@ -199,12 +199,17 @@ const CASCADE: &[Event] = &[
 #[test]
 fn cascades(rt: HostRuntime) {
     let state = legal(&rt, rt.alloc(), CASCADE);
+    look_at_cascade(&rt, &state);
+}
+
+/// The second process ended with the reason of the first; the third took it for a message.
+fn look_at_cascade(rt: &impl Abort, state: &State) {
     assert_eq!(rt; state.in_flight(), 0);
     assert_eq!(rt; state.ended(B), Some(Reason::Other(7)));
     assert!(rt; state.alive(C));
     assert!(rt; state.traps(C));
     assert!(rt; !state.traps(D));
-    let waiting = state.waiting(C).expect(&rt, "alive");
+    let waiting = state.waiting(C).expect(rt, "alive");
     assert_eq!(rt; waiting, [Item::Exit(B, Reason::Other(7))].as_slice());
     assert_eq!(rt; state.linked(C, B), None);
     assert_eq!(rt; state.linked(C, D), Some(Ids::of(C_D)));
@@ -334,29 +339,38 @@ fn order(alloc: Global, journals: &[&Journal]) -> Result<Vec<(u64, u8)>, AllocEr
     Ok(order)
 }
 
+/// Journals, and the stamps and desks of their merge.
+fn compare_merged(
+    rt: &impl Abort,
+    alloc: Global,
+    journals: &[&Journal],
+    wanted: &[(u64, u8)],
+) -> Result<(), Fail> {
+    assert_eq!(rt; order(alloc, journals)?.as_slice(), wanted);
+    Ok(())
+}
+
+fn merge_two(rt: &impl Abort, alloc: Global, one: &Journal, other: &Journal) -> Result<(), Fail> {
+    const WANTED: &[(u64, u8)] = &[(1, 0), (1, 1), (2, 0), (3, 1)];
+    compare_merged(rt, alloc, &[one, other], WANTED)?;
+    compare_merged(rt, alloc, &[other, one], WANTED)
+}
+
+fn merge_more(rt: &impl Abort, alloc: Global, one: &Journal, other: &Journal) -> Result<(), Fail> {
+    const WANTED: &[(u64, u8)] = &[(1, 0), (1, 1), (1, 3), (2, 0), (2, 3), (3, 1), (9, 3)];
+    let none = journal(rt, alloc, 2, &[])?;
+    let third = journal(rt, alloc, 3, &[1, 2, 9])?;
+    compare_merged(rt, alloc, &[&third, &none, other, one], WANTED)
+}
+
 #[test]
 fn merges(rt: HostRuntime) -> Result<(), Fail> {
     let alloc = rt.alloc();
+    compare_merged(&rt, alloc, &[], &[])?;
     let one = journal(&rt, alloc, 0, &[1, 2])?;
     let other = journal(&rt, alloc, 1, &[1, 3])?;
-    let wanted = [(1, 0), (1, 1), (2, 0), (3, 1)];
-    assert_eq!(rt;
-        order(alloc, &[&one, &other])?.as_slice(),
-        wanted.as_slice()
-    );
-    assert_eq!(rt;
-        order(alloc, &[&other, &one])?.as_slice(),
-        wanted.as_slice()
-    );
-    assert!(rt; order(alloc, &[])?.is_empty());
-    let none = journal(&rt, alloc, 2, &[])?;
-    let third = journal(&rt, alloc, 3, &[1, 2, 9])?;
-    let all = [(1, 0), (1, 1), (1, 3), (2, 0), (2, 3), (3, 1), (9, 3)];
-    assert_eq!(rt;
-        order(alloc, &[&third, &none, &other, &one])?.as_slice(),
-        all.as_slice()
-    );
-    Ok(())
+    merge_two(&rt, alloc, &one, &other)?;
+    merge_more(&rt, alloc, &one, &other)
 }
 
 #[test]

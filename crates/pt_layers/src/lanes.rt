@@ -73,6 +73,34 @@ fn collect(pairs: &mut Vec<(Outs, Ins)>, at: u8) -> Option<(u8, Letter)>
     pairs[usize::from(at)].1.collect()
 }
 
+/// A letter is posted.
+fn posts(rt: &impl Abort, pairs: &mut Vec<(Outs, Ins)>, from: u8, to: u8, num: i64)
+    requires node { IsNode (map places pairs.old.items) }
+    requires desks { (from < vec_len pairs.old) × (to < vec_len pairs.old) }
+    ensures place { map places pairs.new.items ≡ map places pairs.old.items }
+    ensures count { vec_len pairs.new ≡ vec_len pairs.old }
+{
+    assert_eq!(rt; post(pairs, from, to, num), None);
+}
+
+/// The letter with that number is collected.
+fn collects(rt: &impl Abort, pairs: &mut Vec<(Outs, Ins)>, at: u8, from: u8, num: i64)
+    requires { at < vec_len pairs.old }
+    ensures place { map places pairs.new.items ≡ map places pairs.old.items }
+    ensures count { vec_len pairs.new ≡ vec_len pairs.old }
+{
+    assert_eq!(rt; collect(pairs, at), Some((from, letter(from, at, num))));
+}
+
+/// There is no letter to collect.
+fn collects_none(rt: &impl Abort, pairs: &mut Vec<(Outs, Ins)>, at: u8)
+    requires { at < vec_len pairs.old }
+    ensures place { map places pairs.new.items ≡ map places pairs.old.items }
+    ensures count { vec_len pairs.new ≡ vec_len pairs.old }
+{
+    assert_eq!(rt; collect(pairs, at), None);
+}
+
 /// How many letters were posted in that lane, and how many collected.
 fn counts(pairs: &Vec<(Outs, Ins)>, from: u8, to: u8) -> (u64, u64)
     requires node { IsNode (map places pairs.now.items) }
@@ -122,18 +150,30 @@ fn left_over(
     (left.lanes.len(), found)
 }
 
+/// So many lanes are reunited, and these letters are left over.
+fn leaves(
+    rt: &impl Abort,
+    alloc: Global,
+    pairs: Vec<(Outs, Ins)>,
+    lanes: usize,
+    letters: &[(usize, Letter)],
+)
+    requires { IsNode (map places pairs.items) }
+{
+    let (found, left) = left_over(rt, alloc, pairs);
+    assert_eq!(rt; found, lanes);
+    assert_eq!(rt; left.as_slice(), letters);
+}
+
 #[test]
-fn a_full_lane_refuses_and_looks_again(rt: HostRuntime) -> Result<(), Fail> {
+fn a_full_lane_refuses_and_looks_again(rt: HostRuntime) {
     let mut pairs = opened(&rt, rt.alloc(), 2, 1);
-    assert_eq!(rt; post(&mut pairs, 0, 1, 1), None);
+    posts(&rt, &mut pairs, 0, 1, 1);
     assert_eq!(rt; post(&mut pairs, 0, 1, 2), Some(letter(0, 1, 2)));
-    assert_eq!(rt; collect(&mut pairs, 1), Some((0, letter(0, 1, 1))));
-    assert_eq!(rt; post(&mut pairs, 0, 1, 2), None);
+    collects(&rt, &mut pairs, 1, 0, 1);
+    posts(&rt, &mut pairs, 0, 1, 2);
     assert_eq!(rt; counts(&pairs, 0, 1), (2, 1));
-    let (lanes, left) = left_over(&rt, rt.alloc(), pairs);
-    assert_eq!(rt; lanes, 4);
-    assert_eq!(rt; left.as_slice(), [(1, letter(0, 1, 2))].as_slice());
-    Ok(())
+    leaves(&rt, rt.alloc(), pairs, 4, &[(1, letter(0, 1, 2))]);
 }
 
 #[test]
@@ -154,73 +194,60 @@ fn refusals_say_why(rt: HostRuntime) -> Result<(), Fail> {
 }
 
 #[test]
-fn the_lanes_of_two_senders_are_collected(rt: HostRuntime) -> Result<(), Fail> {
+fn the_lanes_of_two_senders_are_collected(rt: HostRuntime) {
     let mut pairs = opened(&rt, rt.alloc(), 3, 8);
-    assert_eq!(rt; post(&mut pairs, 0, 2, 1), None);
-    assert_eq!(rt; post(&mut pairs, 1, 2, 2), None);
-    assert_eq!(rt; post(&mut pairs, 1, 2, 3), None);
-    assert_eq!(rt; collect(&mut pairs, 2), Some((0, letter(0, 2, 1))));
-    assert_eq!(rt; collect(&mut pairs, 2), Some((1, letter(1, 2, 2))));
-    assert_eq!(rt; collect(&mut pairs, 2), Some((1, letter(1, 2, 3))));
-    assert_eq!(rt; collect(&mut pairs, 2), None);
-    let (lanes, left) = left_over(&rt, rt.alloc(), pairs);
-    assert_eq!(rt; lanes, 9);
-    assert!(rt; left.is_empty());
-    Ok(())
+    posts(&rt, &mut pairs, 0, 2, 1);
+    posts(&rt, &mut pairs, 1, 2, 2);
+    posts(&rt, &mut pairs, 1, 2, 3);
+    collects(&rt, &mut pairs, 2, 0, 1);
+    collects(&rt, &mut pairs, 2, 1, 2);
+    collects(&rt, &mut pairs, 2, 1, 3);
+    collects_none(&rt, &mut pairs, 2);
+    leaves(&rt, rt.alloc(), pairs, 9, &[]);
 }
 
 #[test]
-fn the_cursor_goes_on_behind_the_lane_that_gave(rt: HostRuntime) -> Result<(), Fail> {
+fn the_cursor_goes_on_behind_the_lane_that_gave(rt: HostRuntime) {
     let mut pairs = opened(&rt, rt.alloc(), 3, 8);
     for num in 1..3 {
-        assert_eq!(rt; post(&mut pairs, 0, 2, num), None);
-        assert_eq!(rt; post(&mut pairs, 1, 2, 10 + num), None);
+        posts(&rt, &mut pairs, 0, 2, num);
+        posts(&rt, &mut pairs, 1, 2, 10 + num);
     }
-    assert_eq!(rt; collect(&mut pairs, 2), Some((0, letter(0, 2, 1))));
-    assert_eq!(rt; collect(&mut pairs, 2), Some((1, letter(1, 2, 11))));
-    assert_eq!(rt; collect(&mut pairs, 2), Some((0, letter(0, 2, 2))));
-    assert_eq!(rt; collect(&mut pairs, 2), Some((1, letter(1, 2, 12))));
-    assert_eq!(rt; collect(&mut pairs, 2), None);
-    let (lanes, left) = left_over(&rt, rt.alloc(), pairs);
-    assert_eq!(rt; lanes, 9);
-    assert!(rt; left.is_empty());
-    Ok(())
+    collects(&rt, &mut pairs, 2, 0, 1);
+    collects(&rt, &mut pairs, 2, 1, 11);
+    collects(&rt, &mut pairs, 2, 0, 2);
+    collects(&rt, &mut pairs, 2, 1, 12);
+    collects_none(&rt, &mut pairs, 2);
+    leaves(&rt, rt.alloc(), pairs, 9, &[]);
 }
 
 #[test]
-fn a_lane_serves_for_long(rt: HostRuntime) -> Result<(), Fail> {
+fn a_lane_serves_for_long(rt: HostRuntime) {
     let mut pairs = opened(&rt, rt.alloc(), 2, 1);
     for round in 0..10_000 {
-        assert_eq!(rt; post(&mut pairs, 0, 1, round), None);
-        assert_eq!(rt; collect(&mut pairs, 1), Some((0, letter(0, 1, round))));
-        assert_eq!(rt; collect(&mut pairs, 1), None);
+        posts(&rt, &mut pairs, 0, 1, round);
+        collects(&rt, &mut pairs, 1, 0, round);
+        collects_none(&rt, &mut pairs, 1);
     }
-    let (lanes, left) = left_over(&rt, rt.alloc(), pairs);
-    assert_eq!(rt; lanes, 4);
-    assert!(rt; left.is_empty());
-    Ok(())
+    leaves(&rt, rt.alloc(), pairs, 4, &[]);
 }
 
-#[test]
-fn sixty_four_desks_post_to_all(rt: HostRuntime) -> Result<(), Fail> {
-    let mut pairs = opened(&rt, rt.alloc(), 64, 1);
+/// Each of 64 desks posts a letter to each, with the number of the lane.
+fn post_to_all(rt: &impl Abort, pairs: &mut Vec<(Outs, Ins)>)
+    requires node { IsNode (map places pairs.old.items) }
+    requires desks { vec_len pairs.old ≡ 64 }
+    ensures place { map places pairs.new.items ≡ map places pairs.old.items }
+    ensures count { vec_len pairs.new ≡ vec_len pairs.old }
+{
     for from in 0..64 {
         for to in 0..64 {
-            assert_eq!(rt;
-                post(&mut pairs, from, to, i64::from(from) * 64 + i64::from(to)),
-                None
-            );
+            posts(rt, pairs, from, to, i64::from(from) * 64 + i64::from(to));
         }
     }
-    for from in 0..64 {
-        assert_eq!(rt;
-            collect(&mut pairs, 0),
-            Some((from, letter(from, 0, i64::from(from) * 64)))
-        );
-    }
-    assert_eq!(rt; collect(&mut pairs, 0), None);
-    let (lanes, left) = left_over(&rt, rt.alloc(), pairs);
-    assert_eq!(rt; lanes, 4_096);
+}
+
+/// The letters that desk 0 has not collected are left over.
+fn look_at_rest(rt: &impl Abort, left: &[(usize, Letter)]) {
     assert_eq!(rt; left.len(), 4_032);
     let mut rest = left.iter();
     for from in 0..64 {
@@ -230,7 +257,19 @@ fn sixty_four_desks_post_to_all(rt: HostRuntime) -> Result<(), Fail> {
             assert_eq!(rt; rest.next(), Some(&(lane, letter(from, to, num))));
         }
     }
-    Ok(())
+}
+
+#[test]
+fn sixty_four_desks_post_to_all(rt: HostRuntime) {
+    let mut pairs = opened(&rt, rt.alloc(), 64, 1);
+    post_to_all(&rt, &mut pairs);
+    for from in 0..64 {
+        collects(&rt, &mut pairs, 0, from, i64::from(from) * 64);
+    }
+    collects_none(&rt, &mut pairs, 0);
+    let (lanes, left) = left_over(&rt, rt.alloc(), pairs);
+    assert_eq!(rt; lanes, 4_096);
+    look_at_rest(&rt, left.as_slice());
 }
 
 /// How many letters go each way between the two threads, and how often a thread tries.
@@ -298,13 +337,10 @@ fn exchange_on_threads(rt: &impl Threads, pairs: &mut [(Outs, Ins)]) -> (bool, b
 }
 
 #[test]
-fn two_threads_exchange_letters(rt: HostRuntime) -> Result<(), Fail> {
+fn two_threads_exchange_letters(rt: HostRuntime) {
     let mut pairs = opened(&rt, rt.alloc(), 2, 4);
     assert_eq!(rt; exchange_on_threads(&rt, &mut pairs), (true, true));
     assert_eq!(rt; counts(&pairs, 0, 1), (1_000, 1_000));
     assert_eq!(rt; counts(&pairs, 1, 0), (1_000, 1_000));
-    let (lanes, left) = left_over(&rt, rt.alloc(), pairs);
-    assert_eq!(rt; lanes, 4);
-    assert!(rt; left.is_empty());
-    Ok(())
+    leaves(&rt, rt.alloc(), pairs, 4, &[]);
 }

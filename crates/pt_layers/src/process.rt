@@ -4,7 +4,6 @@ use pt_process::{Entries, Estate, Outcome, Process};
 use pt_signal::{Body, Ids, Item, LinkId, Pick, Pid, Reason, Ref, Signal};
 use std::alloc::Global;
 use std::process::Abort;
-use std::test::Fail;
 
 fn pid(slot: u32) -> Pid {
     Pid {
@@ -58,6 +57,18 @@ fn owes(estate: &Estate, i: usize, to: u32, signal: Signal) -> bool {
     i < estate.len() && estate.owed(i) == (pid(to), signal)
 }
 
+fn enter(rt: &impl Abort, entries: &mut Entries<u32, u32>, key: u32, value: u32) {
+    assert!(rt; entries.insert(key, value).is_ok());
+}
+
+fn removes(rt: &impl Abort, entries: &mut Entries<u32, u32>, key: u32, wanted: Option<u32>) {
+    assert_eq!(rt; entries.remove(&key), wanted);
+}
+
+fn finds(rt: &impl Abort, entries: &Entries<u32, u32>, key: u32, wanted: Option<u32>) {
+    assert_eq!(rt; entries.get(&key), wanted);
+}
+
 /// As many entries stand as this, and these at their places.
 fn stand(
     rt: &impl Abort,
@@ -74,21 +85,20 @@ fn stand(
 }
 
 #[test]
-fn entries_stand_in_order_of_entry(rt: HostRuntime) -> Result<(), Fail> {
+fn entries_stand_in_order_of_entry(rt: HostRuntime) {
     let mut entries: Entries<u32, u32> = Entries::new(rt.alloc());
-    entries.insert(1, 10)?;
-    entries.insert(2, 20)?;
-    entries.insert(3, 30)?;
-    assert_eq!(rt; entries.remove(&1), Some(10));
-    entries.insert(1, 40)?;
-    entries.insert(2, 50)?;
-    assert_eq!(rt; entries.get(&3), Some(30));
+    enter(&rt, &mut entries, 1, 10);
+    enter(&rt, &mut entries, 2, 20);
+    enter(&rt, &mut entries, 3, 30);
+    removes(&rt, &mut entries, 1, Some(10));
+    enter(&rt, &mut entries, 1, 40);
+    enter(&rt, &mut entries, 2, 50);
+    finds(&rt, &entries, 3, Some(30));
     stand(&rt, entries, 3, &[(0, (2, 50)), (1, (3, 30)), (2, (1, 40))]);
-    Ok(())
 }
 
 #[test]
-fn more_than_eight_entries_stand_in_order_of_entry(rt: HostRuntime) -> Result<(), Fail> {
+fn more_than_eight_entries_stand_in_order_of_entry(rt: HostRuntime) {
     const WANTED: &[(usize, (u32, u32))] = &[
         (0, (1, 101)),
         (2, (4, 104)),
@@ -97,39 +107,37 @@ fn more_than_eight_entries_stand_in_order_of_entry(rt: HostRuntime) -> Result<()
     ];
     let mut entries: Entries<u32, u32> = Entries::new(rt.alloc());
     for key in 1..=10 {
-        entries.insert(key, key + 100)?;
+        enter(&rt, &mut entries, key, key + 100);
     }
-    assert_eq!(rt; entries.remove(&3), Some(103));
-    assert_eq!(rt; entries.remove(&10), Some(110));
-    assert_eq!(rt; entries.get(&3), None);
-    entries.insert(7, 207)?;
+    removes(&rt, &mut entries, 3, Some(103));
+    removes(&rt, &mut entries, 10, Some(110));
+    finds(&rt, &entries, 3, None);
+    enter(&rt, &mut entries, 7, 207);
     // A key that left a gap goes last.
-    entries.insert(3, 203)?;
-    assert_eq!(rt; entries.get(&3), Some(203));
+    enter(&rt, &mut entries, 3, 203);
+    finds(&rt, &entries, 3, Some(203));
     assert_eq!(rt; entries.len(), 9);
     stand(&rt, entries, 9, WANTED);
-    Ok(())
 }
 
 #[test]
-fn entries_are_found_once_gaps_are_closed(rt: HostRuntime) -> Result<(), Fail> {
+fn entries_are_found_once_gaps_are_closed(rt: HostRuntime) {
     let mut entries: Entries<u32, u32> = Entries::new(rt.alloc());
     for key in 1..=12 {
-        entries.insert(key, key + 10)?;
+        enter(&rt, &mut entries, key, key + 10);
     }
     for key in [2, 1, 4, 6, 8, 7, 10] {
-        entries.remove(&key);
+        removes(&rt, &mut entries, key, Some(key + 10));
     }
-    entries.insert(2, 22)?;
-    assert_eq!(rt; entries.remove(&3), Some(13));
-    assert_eq!(rt; entries.get(&5), Some(15));
+    enter(&rt, &mut entries, 2, 22);
+    removes(&rt, &mut entries, 3, Some(13));
+    finds(&rt, &entries, 5, Some(15));
     stand(
         &rt,
         entries,
         5,
         &[(0, (5, 15)), (3, (12, 22)), (4, (2, 22))],
     );
-    Ok(())
 }
 
 #[test]

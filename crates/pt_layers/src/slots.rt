@@ -56,6 +56,18 @@ fn refusals_say_why(rt: HostRuntime) -> Result<(), Fail> {
     Ok(())
 }
 
+const ANN: Key = Key {
+    slot: 0,
+    version: 1,
+};
+
+const BOB: Key = Key { slot: 1, ..ANN };
+
+const EVE: Key = Key { slot: 2, ..ANN };
+
+/// In the slot of Bob.
+const ZOE: Key = Key { version: 2, ..BOB };
+
 fn enters(rt: &impl Abort, alloc: Global, slots: &mut Slots<String>, name: &str) -> Key {
     let name = name.to_string(alloc).expect(rt, "memory");
     slots.insert(name).ok().expect(rt, "memory")
@@ -74,32 +86,42 @@ fn is_gone(slots: &mut Slots<String>, key: Key) -> bool {
         && slots.remove(key).is_none()
 }
 
-#[test]
-fn slots_are_used_again(rt: HostRuntime) -> Result<(), Fail> {
-    let alloc = rt.alloc();
-    let mut slots = Slots::new(alloc, 3, 2)?;
-    let ann = enters(&rt, alloc, &mut slots, "Ann");
-    let bob = enters(&rt, alloc, &mut slots, "Bob");
-    let eve = enters(&rt, alloc, &mut slots, "Eve");
-    assert_eq!(rt; (ann, bob, eve), (key(0, 1), key(1, 1), key(2, 1)));
-    assert!(rt; ann < bob && bob < eve);
-    grows(&rt, &mut slots, eve, "lyn");
-    assert_eq!(rt; slots.get(eve).map(|name| name.as_str()), Some("Evelyn"));
+/// Three names enter, and one of them grows.
+fn fill(rt: &impl Abort, alloc: Global, slots: &mut Slots<String>) {
+    assert_eq!(rt; enters(rt, alloc, slots, "Ann"), ANN);
+    assert_eq!(rt; enters(rt, alloc, slots, "Bob"), BOB);
+    assert_eq!(rt; enters(rt, alloc, slots, "Eve"), EVE);
+    assert!(rt; ANN < BOB && BOB < EVE);
+    grows(rt, slots, EVE, "lyn");
+    assert_eq!(rt; slots.get(EVE).map(|name| name.as_str()), Some("Evelyn"));
+}
 
-    slots.remove(bob);
-    assert_eq!(rt; (slots.len(), slots.next()), (2, Some(key(1, 2))));
-    let zoe = enters(&rt, alloc, &mut slots, "Zoe");
-    assert_eq!(rt; zoe, key(1, 2));
-    assert!(rt; bob < zoe && slots.contains(zoe));
-    assert!(rt; is_gone(&mut slots, bob));
+/// One of them goes, and another one comes into its slot.
+fn use_again(rt: &impl Abort, alloc: Global, slots: &mut Slots<String>) {
+    slots.remove(BOB);
+    assert_eq!(rt; (slots.len(), slots.next()), (2, Some(ZOE)));
+    assert_eq!(rt; enters(rt, alloc, slots, "Zoe"), ZOE);
+    assert!(rt; BOB < ZOE && slots.contains(ZOE));
+    assert!(rt; is_gone(slots, BOB));
+}
 
-    slots.remove(ann);
-    slots.remove(zoe);
+/// Two go, one of them out of a slot at its top version.
+fn retire(rt: &impl Abort, slots: &mut Slots<String>) {
+    slots.remove(ANN);
+    slots.remove(ZOE);
     assert_eq!(rt;
         (slots.retired(), slots.issued(1), slots.issued(3)),
         (1, 2, 0)
     );
     assert_eq!(rt; slots.next(), Some(key(0, 2)));
     assert!(rt; !slots.contains(key(3, 0)));
+}
+
+#[test]
+fn slots_are_used_again(rt: HostRuntime) -> Result<(), Fail> {
+    let mut slots = Slots::new(rt.alloc(), 3, 2)?;
+    fill(&rt, rt.alloc(), &mut slots);
+    use_again(&rt, rt.alloc(), &mut slots);
+    retire(&rt, &mut slots);
     Ok(())
 }
