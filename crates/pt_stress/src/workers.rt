@@ -296,25 +296,42 @@ fn two_players<R: Abort>(rt: &R, desks: &mut Vec<Desk>) -> [Pid; 2]
     [first, second]
 }
 
+/// Two desks, each with a player.
+fn opposed<'a, R: Abort>(rt: &R, alloc: Global, rally: &'a Rally) -> Vec<(Desk, Player<'a>)>
+    ensures { AreDesks (map (λ p. p.0) result.items) }
+{
+    let mut desks = two_desks(rt, alloc, 0);
+    let [p, q] = two_players(rt, &mut desks);
+    let works = [
+        Player::new(rally, p, q, true),
+        Player::new(rally, q, p, false),
+    ];
+    paired(rt, alloc, desks, works)
+}
+
+/// Both players have taken all their items, and their node tells of that.
+fn look_at_players<R: Abort>(rt: &R, alloc: Global, ran: Ran<Player<'_>>) -> Result<(), Fail>
+    requires { AreDesks (map (λ p. p.0) ran.desks.items) }
+{
+    let (node, works) = gathered_again(rt, alloc, ran);
+    for work in &works {
+        assert_eq!(rt; work.calls_left, 0);
+    }
+    assert_eq!(rt; node.history()?.len(), 62);
+    Ok(())
+}
+
 #[test]
 fn pong_threads(rt: HostRuntime) -> Result<(), Fail> {
     let rally = Rally {
         before: Meeting::new(),
         taken: [AtomicU64::new(0), AtomicU64::new(0)],
     };
-    let mut desks = two_desks(&rt, rt.alloc(), 0);
-    let [p, q] = two_players(&rt, &mut desks);
-    let works = [
-        Player::new(&rally, p, q, true),
-        Player::new(&rally, q, p, false),
-    ];
-    let pairs = paired(&rt, rt.alloc(), desks, works);
+    let pairs = opposed(&rt, rt.alloc(), &rally);
     let ran = run(&rt, pairs, 10_000_000, 16, &rally);
-    let taken = [rally.taken(0), rally.taken(1)];
-    let (node, _) = gathered_again(&rt, rt.alloc(), ran);
-    assert_eq!(rt; taken, [ROUNDS, ROUNDS]);
+    look_at_players(&rt, rt.alloc(), ran)?;
+    assert_eq!(rt; [rally.taken(0), rally.taken(1)], [ROUNDS, ROUNDS]);
     assert_eq!(rt; rally.before.seen(), 2);
-    assert_eq!(rt; node.history()?.len(), 62);
     Ok(())
 }
 

@@ -10,7 +10,7 @@ use crate::steps::{gathered, tell};
 use crate::strategy::Strategy;
 use crate::supervisor::{Supervisor, Tended};
 use crate::two_processes::two_processes;
-use pt_node::{Config, Desk, Event, OpenError, Pid, Reason, Signal, open};
+use pt_node::{Config, Desk, Event, OpenError, Pid, Reason, Signal, Stamped, open};
 use std::alloc::Global;
 use std::process::Abort;
 use std::test::Fail;
@@ -164,6 +164,13 @@ fn duel<R: Abort>(rt: &R, alloc: Global, desk: &mut Desk) -> Result<(), Fail>
     ensures { IsStill desk.old desk.new }
 {
     let mut game = Game::new(alloc);
+    fight(rt, desk, &mut game)
+}
+
+/// An orc hits an elf twice.
+fn fight<R: Abort>(rt: &R, desk: &mut Desk, game: &mut Game) -> Result<(), Fail>
+    ensures { IsStill desk.old desk.new }
+{
     let orc = game.enter(desk, 10)?;
     let elf = game.enter(desk, 5)?;
     tell(desk, orc, elf, HIT, 2)?;
@@ -224,8 +231,14 @@ fn threads_lose_no_message(rt: HostRuntime) -> Result<(), Fail> {
     let Ok(quiet) = ring(&rt, rt.alloc(), config, 20)?.settle() else {
         panic!(rt; "the node does not settle");
     };
+    assert_eq!(rt; came(&rt, quiet.history()?.as_slice()), [20, 20, 20]);
+    Ok(())
+}
+
+/// How many messages came from each of three desks, which are numbered in order.
+fn came<R: Abort>(rt: &R, history: &[Stamped]) -> [i64; 3] {
     let mut next = [0i64; 3];
-    for stamped in quiet.history()? {
+    for stamped in history {
         if let Event::Came(from, _to, Signal::Message(body)) = stamped.event {
             assert!(rt; from.shard < 3);
             let shard = usize::from(from.shard);
@@ -233,8 +246,7 @@ fn threads_lose_no_message(rt: HostRuntime) -> Result<(), Fail> {
             next[shard] = next[shard].saturating_add(1);
         }
     }
-    assert_eq!(rt; next, [20, 20, 20]);
-    Ok(())
+    next
 }
 
 #[test]
