@@ -2,23 +2,42 @@
 
 use pt_script::{Script, Settings, Top};
 use std::alloc::Global;
+use std::process::Abort;
 use std::test::Fail;
 
-/// The line of a refusal, or for each process its operations with a `;` behind each and a `|` behind all.
-fn reading_of(alloc: Global, bytes: &[u8]) -> Result<String, Fail> {
+/// The line of a text that is no JSON.
+const SYNTAX: &str = "script refused: 1 syntax, script";
+
+/// For each process of a script its operations with a `;` behind each and a `|` behind all.
+fn operations_of(alloc: Global, script: &Script) -> Result<String, Fail> {
     let mut said = String::new(alloc);
-    match Script::from_bytes(alloc, bytes) {
-        Ok(script) => {
-            for process in script.processes() {
-                for operation in process.operations() {
-                    said.push_str(&format!(in alloc; "{operation:?};")?)?;
-                }
-                said.push_str("|")?;
-            }
+    for process in script.processes() {
+        for operation in process.operations() {
+            said.push_str(&format!(in alloc; "{operation:?};")?)?;
         }
-        Err(error) => said.push_str(&format!(in alloc; "{error}")?)?,
+        said.push_str("|")?;
     }
     Ok(said)
+}
+
+/// What a text is read as: its operations, or the line of the refusal.
+fn reading_of(alloc: Global, bytes: &[u8]) -> Result<String, Fail> {
+    match Script::from_bytes(alloc, bytes) {
+        Ok(script) => operations_of(alloc, &script),
+        Err(error) => Ok(format!(in alloc; "{error}")?),
+    }
+}
+
+fn reads(rt: &impl Abort, alloc: Global, text: &str, want: &str) -> Result<(), Fail> {
+    let said = reading_of(alloc, text.as_bytes())?;
+    assert_eq!(rt; said.as_str(), want, "at {text}");
+    Ok(())
+}
+
+fn is_no_json(rt: &impl Abort, alloc: Global, bytes: &[u8]) -> Result<(), Fail> {
+    let said = reading_of(alloc, bytes)?;
+    assert_eq!(rt; said.as_str(), SYNTAX, "at {} bytes", bytes.len());
+    Ok(())
 }
 
 /// A script of one process `a` with these operations.
@@ -185,16 +204,21 @@ const WHOLE_TEXTS: &[(&str, &str)] = &[
 #[test]
 fn whole_texts(rt: HostRuntime) -> Result<(), Fail> {
     for (text, want) in WHOLE_TEXTS {
-        assert_eq!(rt;
-            reading_of(rt.alloc(), text.as_bytes())?.as_str(),
-            *want,
-            "at {text}"
-        );
+        reads(&rt, rt.alloc(), text, want)?;
     }
-    let script = Script::read(
-        rt.alloc(),
-        "{\"format\":2,\"desks\":3,\"processes\":[{\"name\":\"a\",\"desk\":2,\"trap\":true,\"ops\":[]}]}",
-    )?;
+    is_no_json(&rt, rt.alloc(), &[34, 255, 34])
+}
+
+#[test]
+fn cut_texts(rt: HostRuntime) -> Result<(), Fail> {
+    for cut in 0..PING.len() {
+        is_no_json(&rt, rt.alloc(), &PING.as_bytes()[..cut])?;
+    }
+    Ok(())
+}
+
+/// One process on desk 2 of three, and defaults.
+fn look_at_script(rt: &impl Abort, script: &Script) {
     let settings = Settings {
         format: 2,
         desks: 3,
@@ -204,29 +228,23 @@ fn whole_texts(rt: HostRuntime) -> Result<(), Fail> {
         budget: 16,
     };
     assert_eq!(rt; script.settings(), settings);
-    assert_eq!(rt;
-        script.tops(),
-        [Top {
-            process: 0,
-            desk: 2
-        }]
-        .as_slice()
-    );
+    let top = Top {
+        process: 0,
+        desk: 2,
+    };
+    assert_eq!(rt; script.tops(), [top].as_slice());
     for process in script.processes() {
         assert!(rt; process.traps());
     }
-    assert_eq!(rt;
-        reading_of(rt.alloc(), &[34, 255, 34])?.as_str(),
-        "script refused: 1 syntax, script"
-    );
-    for cut in 0..PING.len() {
-        let said = reading_of(rt.alloc(), &PING.as_bytes()[..cut])?;
-        assert_eq!(rt;
-            said.as_str(),
-            "script refused: 1 syntax, script",
-            "cut at {cut}"
-        );
-    }
+}
+
+#[test]
+fn settings_are_read(rt: HostRuntime) -> Result<(), Fail> {
+    let script = Script::read(
+        rt.alloc(),
+        "{\"format\":2,\"desks\":3,\"processes\":[{\"name\":\"a\",\"desk\":2,\"trap\":true,\"ops\":[]}]}",
+    )?;
+    look_at_script(&rt, &script);
     Ok(())
 }
 
@@ -475,11 +493,7 @@ const OPERATIONS: &[(&str, &str, &str)] = &[
 fn operations(rt: HostRuntime) -> Result<(), Fail> {
     for (format, text, want) in OPERATIONS {
         let script = with_operations(rt.alloc(), format, text)?;
-        assert_eq!(rt;
-            reading_of(rt.alloc(), script.as_bytes())?.as_str(),
-            *want,
-            "at {text}"
-        );
+        reads(&rt, rt.alloc(), script.as_str(), want)?;
     }
     Ok(())
 }
@@ -514,6 +528,13 @@ fn crowded(alloc: Global, count: u32) -> Result<String, Fail> {
     Ok(text)
 }
 
+/// So many lists, each in the one before.
+fn lists(alloc: Global, count: usize) -> Result<String, Fail> {
+    let mut text = joined(alloc, "[", count)?;
+    text.push_str(joined(alloc, "]", count)?.as_str())?;
+    Ok(text)
+}
+
 /// One process with so many `pass`.
 fn patient(alloc: Global, count: usize) -> Result<String, Fail> {
     let mut operations = String::new(alloc);
@@ -533,41 +554,62 @@ fn nested(alloc: Global, count: usize) -> Result<String, Fail> {
     with_operations(alloc, "1", operations.as_str())
 }
 
-#[test]
-fn limits(rt: HostRuntime) -> Result<(), Fail> {
-    let alloc = rt.alloc();
-    let syntax = "script refused: 1 syntax, script";
-    assert_eq!(rt;
-        refusal_of(alloc, joined(alloc, " ", 1_048_576)?.as_str())?.as_str(),
-        syntax
-    );
-    assert_eq!(rt;
-        refusal_of(alloc, joined(alloc, " ", 1_048_577)?.as_str())?.as_str(),
-        "script refused: 4 bounds, script"
-    );
-    let mut brackets = joined(alloc, "[", 200)?;
-    brackets.push_str(joined(alloc, "]", 200)?.as_str())?;
-    assert_eq!(rt; refusal_of(alloc, brackets.as_str())?.as_str(), syntax);
-    assert_eq!(rt;
-        refusal_of(alloc, crowded(alloc, 4096)?.as_str())?.as_str(),
-        ""
-    );
-    assert_eq!(rt;
-        refusal_of(alloc, crowded(alloc, 4097)?.as_str())?.as_str(),
-        "script refused: 4 bounds, process 4096"
-    );
-    assert_eq!(rt;
-        refusal_of(alloc, patient(alloc, 65_536)?.as_str())?.as_str(),
-        ""
-    );
-    assert_eq!(rt;
-        refusal_of(alloc, patient(alloc, 65_537)?.as_str())?.as_str(),
-        "script refused: 4 bounds, process 0 op 65536"
-    );
-    assert_eq!(rt; refusal_of(alloc, nested(alloc, 8)?.as_str())?.as_str(), "");
-    assert_eq!(rt;
-        refusal_of(alloc, nested(alloc, 9)?.as_str())?.as_str(),
-        "script refused: 4 bounds, process 8 op 0"
-    );
+/// Reading the text is refused with this line, and is not refused where the line is empty.
+fn compare(rt: &impl Abort, alloc: Global, text: String, line: &str) -> Result<(), Fail> {
+    assert_eq!(rt; refusal_of(alloc, text.as_str())?.as_str(), line);
     Ok(())
+}
+
+#[test]
+fn longest_text(rt: HostRuntime) -> Result<(), Fail> {
+    let alloc = rt.alloc();
+    compare(&rt, alloc, joined(alloc, " ", 1_048_576)?, SYNTAX)?;
+    compare(
+        &rt,
+        alloc,
+        joined(alloc, " ", 1_048_577)?,
+        "script refused: 4 bounds, script",
+    )
+}
+
+#[test]
+fn deep_lists(rt: HostRuntime) -> Result<(), Fail> {
+    let alloc = rt.alloc();
+    compare(&rt, alloc, lists(alloc, 200)?, SYNTAX)
+}
+
+#[test]
+fn most_processes(rt: HostRuntime) -> Result<(), Fail> {
+    let alloc = rt.alloc();
+    compare(&rt, alloc, crowded(alloc, 4096)?, "")?;
+    compare(
+        &rt,
+        alloc,
+        crowded(alloc, 4097)?,
+        "script refused: 4 bounds, process 4096",
+    )
+}
+
+#[test]
+fn most_operations(rt: HostRuntime) -> Result<(), Fail> {
+    let alloc = rt.alloc();
+    compare(&rt, alloc, patient(alloc, 65_536)?, "")?;
+    compare(
+        &rt,
+        alloc,
+        patient(alloc, 65_537)?,
+        "script refused: 4 bounds, process 0 op 65536",
+    )
+}
+
+#[test]
+fn deepest_spawns(rt: HostRuntime) -> Result<(), Fail> {
+    let alloc = rt.alloc();
+    compare(&rt, alloc, nested(alloc, 8)?, "")?;
+    compare(
+        &rt,
+        alloc,
+        nested(alloc, 9)?,
+        "script refused: 4 bounds, process 8 op 0",
+    )
 }
