@@ -16,3 +16,6 @@ returns c =
       fresh_desks c.args.config c.in-Ok.shards.items c.in-Ok-open.pairs.items c.in-Ok.ensures count c.in-Ok-open.ensures.node c.in-Ok-open.ensures.new range
           c.make_whole.new.desks.items c.make_whole.ensures.pairs c.make_whole.ensures.shards,
     )
+
+pub returns-then-not-is_in_range : goal.returns-then-not-is_in_range
+returns-then-not-is_in_range c = search rules

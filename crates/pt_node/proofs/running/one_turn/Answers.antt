@@ -1,3 +1,4 @@
+use Rattle.std.proofs.Common.{rules}
 use Rattle.pt_desk.proofs.Turning.{goes_on_then}
 use Rattle.pt_node.proofs.running.one_turn.Goals as goal
 
@@ -6,3 +7,9 @@ returns-clause-goes_on g c = goes_on_then _ _ _ c.step.ensures c.turn.ensures.go
 
 pub returns-clause-takes : goal.returns-clause-takes
 returns-clause-takes g c = record { stepped = c.step.new.desk; step = c.step.ensures; turned = c.turn.result; turn = c.turn.ensures.turns }
+
+pub returns-then-not-before-clause-lets : goal.returns-then-not-before-clause-lets
+returns-then-not-before-clause-lets g c = search rules
+
+pub returns-clause-lets : goal.returns-clause-lets
+returns-clause-lets g c = search rules

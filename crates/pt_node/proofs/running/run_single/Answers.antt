@@ -1,4 +1,4 @@
-use Rattle.std.proofs.Common.{arith}
+use Rattle.std.proofs.Common.{arith, rules}
 use Rattle.pt_node.proofs.GoingOn.{still_desks}
 use Rattle.pt_node.proofs.running.run_single.Goals as goal
 
@@ -13,3 +13,9 @@ returns-then-len-gt64-clause-rounds g c few = absurd (omega (arith, few, c.if-le
 
 pub all_rounds-requires : goal.all_rounds-requires
 all_rounds-requires g c = omega (arith, c.if-len-gt64.false, c.len.ensures, c.args.desks.ok.0)
+
+pub returns-clause-turns : goal.returns-clause-turns
+returns-clause-turns g c = search rules
+
+pub returns-clause-rounds : goal.returns-clause-rounds
+returns-clause-rounds g c = search rules

@@ -1,0 +1,5 @@
+use Rattle.std.proofs.Common.{rules}
+use Rattle.pt_process.proofs.process.Process.add_monitor.Goals as goal
+
+pub returns-clause-state : goal.returns-clause-state
+returns-clause-state c = search rules
