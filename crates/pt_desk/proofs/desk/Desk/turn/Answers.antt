@@ -1,4 +1,4 @@
-use Rattle.std.proofs.Common.{◌∷◌, Some, None, subst, Ok, inl, inr, refl, arith}
+use Rattle.std.proofs.Common.{◌∷◌, Some, None, subst, Ok, inl, inr, refl, arith, rules}
 use Rattle.pt_desk.specs.Turns.{Handles}
 use Rattle.pt_desk.proofs.Turning.{turn_goes_on}
 use Rattle.pt_desk.proofs.desk.Desk.turn.Goals as goal
@@ -27,3 +27,6 @@ returns-in-Ok-false-clause-goes_on c =
     let none = subst (λ b. Handles c.loop-letter.self (Ok b) c.handle.new.self) c.in-Ok-false.field-0-test c.in-Ok-false.ensures in
     turn_goes_on c.args.self.now c.post-posted.new.self c.loop-letter.self c.handle.new.self inv.0 None c.loop-letter.handled c.args.budget
     c.post-posted.ensures.posts inv.3 (inr (omega (arith, inv.2, c.loop-letter-test.true), none))
+
+pub returns-in-Err-clause-turns : goal.returns-in-Err-clause-turns
+returns-in-Err-clause-turns c = search rules
