@@ -20,8 +20,6 @@ pub mod payloads;
 pub mod steps;
 pub mod strategy;
 pub mod supervisor;
-#[cfg(test)]
-mod tests;
 pub mod two_processes;
 
 pub use error::RecipeError;

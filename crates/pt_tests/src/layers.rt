@@ -1,0 +1,8 @@
+//! The layers below a node, each called by itself: `pt_slots`, `pt_process`, `pt_carrier`, `pt_history` and `pt_desk`, a
+//! module a layer.
+
+mod desk;
+mod history;
+mod lanes;
+mod process;
+mod slots;

@@ -1,0 +1,268 @@
+//! Each recipe, run once and compared with what it is to leave.
+
+ghost use Rattle.pt_node.specs.Desks.{AreDesks, IsStill};
+
+use pt_node::{Config, Desk, Event, OpenError, Pid, Reason, Signal, Stamped, open};
+use pt_uses::RecipeError;
+use pt_uses::desks_on_threads::ring;
+use pt_uses::game::{Game, HIT};
+use pt_uses::payloads::Texts;
+use pt_uses::steps::{gathered, tell};
+use pt_uses::strategy::Strategy;
+use pt_uses::supervisor::{Supervisor, Tended};
+use pt_uses::two_processes::two_processes;
+use std::alloc::Global;
+use std::process::Abort;
+use std::test::Fail;
+
+const ONE_DESK: Config = Config {
+    desks: 1,
+    slots: 8,
+    top_version: u32::MAX,
+    lane: 8,
+    start: 0,
+};
+
+/// The process in a slot of desk 0, under a version.
+fn at(slot: u32, version: u32) -> Pid {
+    Pid {
+        shard: 0,
+        slot,
+        version,
+    }
+}
+
+#[test]
+fn two_processes_exchange_a_message_each(rt: HostRuntime) -> Result<(), Fail> {
+    let gathered = two_processes(rt.alloc())?;
+    let mut text = String::new(rt.alloc());
+    for event in gathered.history()? {
+        text.push_str(&event.to_string(rt.alloc())?)?;
+        text.push_str(";")?;
+    }
+    assert_eq!(rt;
+        text.as_str(),
+        "1@0 born <0.0.1>;2@0 born <0.1.1>;3@0 said <0.0.1> -> <0.1.1> message 1 7;4@0 came <0.0.1> -> <0.1.1> message 1 7;5@0 took <0.1.1> kind 1 = user <0.0.1> 1 7;6@0 said <0.1.1> -> <0.0.1> message 2 8;7@0 came <0.1.1> -> <0.0.1> message 2 8;8@0 took <0.0.1> from <0.1.1> = user <0.1.1> 2 8;"
+    );
+    Ok(())
+}
+
+/// What is played on the desk of a node.
+#[derive(Clone, Copy)]
+enum Play {
+    OneForOne,
+    OneForAll,
+    Game,
+    Texts,
+}
+
+/// Plays on a new node, and gathers it.
+fn played<R: Abort>(rt: &R, alloc: Global, play: Play) -> Result<(), Fail> {
+    let mut desks = open(alloc, ONE_DESK)?;
+    let outcome = on_first(rt, alloc, &mut desks, play);
+    let node = gathered(alloc, desks);
+    outcome?;
+    let _node = node?;
+    Ok(())
+}
+
+#[tactic(auto, using(pt_node::proofs::StillDesks::still_desks))]
+fn on_first<R: Abort>(rt: &R, alloc: Global, desks: &mut Vec<Desk>, play: Play) -> Result<(), Fail>
+    requires { AreDesks desks.old.items }
+    ensures { AreDesks desks.new.items }
+{
+    on_desk(rt, alloc, &mut desks[0], play)
+}
+
+fn on_desk<R: Abort>(rt: &R, alloc: Global, desk: &mut Desk, play: Play) -> Result<(), Fail>
+    ensures { IsStill desk.old desk.new }
+{
+    match play {
+        Play::OneForOne => one_for_one(rt, alloc, desk),
+        Play::OneForAll => one_for_all(rt, alloc, desk),
+        Play::Game => duel(rt, alloc, desk),
+        Play::Texts => greet(rt, alloc, desk),
+    }
+}
+
+/// Ends a process, and lets the news come.
+fn fails(desk: &mut Desk, p: Pid) -> Result<(), Fail>
+    ensures { IsStill desk.old desk.new }
+{
+    desk.exit(p, Reason::Other(7))?;
+    let _ = desk.turn(16);
+    Ok(())
+}
+
+fn two_children(alloc: Global, desk: &mut Desk) -> Result<Supervisor, Fail>
+    ensures { IsStill desk.old desk.new }
+{
+    let mut supervisor = Supervisor::new(alloc, desk, 1)?;
+    let _first = supervisor.start(desk)?;
+    let _second = supervisor.start(desk)?;
+    Ok(supervisor)
+}
+
+fn one_for_one<R: Abort>(rt: &R, alloc: Global, desk: &mut Desk) -> Result<(), Fail>
+    ensures { IsStill desk.old desk.new }
+{
+    let mut supervisor = two_children(alloc, desk)?;
+    assert_eq!(rt;
+        supervisor.tend(desk, Strategy::OneForOne)?,
+        Tended::Nothing
+    );
+    fails(desk, at(1, 1))?;
+    assert_eq!(rt;
+        supervisor.tend(desk, Strategy::OneForOne)?,
+        Tended::Restarted
+    );
+    assert_eq!(rt;
+        supervisor.children.as_slice(),
+        [at(1, 2), at(2, 1)].as_slice()
+    );
+    gives_up(rt, desk, supervisor)
+}
+
+/// The supervisor has restarted as often as it may, and a child fails.
+fn gives_up<R: Abort>(rt: &R, desk: &mut Desk, supervisor: Supervisor) -> Result<(), Fail>
+    ensures { IsStill desk.old desk.new }
+{
+    let mut supervisor = supervisor;
+    fails(desk, at(2, 1))?;
+    assert_eq!(rt; supervisor.tend(desk, Strategy::OneForOne)?, Tended::GaveUp);
+    assert!(rt; !desk.alive_here(supervisor.pid));
+    assert!(rt; desk.alive_here(at(1, 2)));
+    let _ = desk.turn(16);
+    assert!(rt; !desk.alive_here(at(1, 2)));
+    Ok(())
+}
+
+fn one_for_all<R: Abort>(rt: &R, alloc: Global, desk: &mut Desk) -> Result<(), Fail>
+    ensures { IsStill desk.old desk.new }
+{
+    let mut supervisor = two_children(alloc, desk)?;
+    fails(desk, at(1, 1))?;
+    assert_eq!(rt;
+        supervisor.tend(desk, Strategy::OneForAll)?,
+        Tended::Restarted
+    );
+    assert_eq!(rt;
+        supervisor.children.as_slice(),
+        [at(1, 2), at(3, 1)].as_slice()
+    );
+    let _ = desk.turn(16);
+    assert!(rt; !desk.alive_here(at(2, 1)));
+    assert_eq!(rt;
+        supervisor.tend(desk, Strategy::OneForAll)?,
+        Tended::Nothing
+    );
+    assert_eq!(rt; supervisor.left, 0);
+    Ok(())
+}
+
+fn duel<R: Abort>(rt: &R, alloc: Global, desk: &mut Desk) -> Result<(), Fail>
+    ensures { IsStill desk.old desk.new }
+{
+    let mut game = Game::new(alloc);
+    fight(rt, desk, &mut game)
+}
+
+/// An orc hits an elf twice.
+fn fight<R: Abort>(rt: &R, desk: &mut Desk, game: &mut Game) -> Result<(), Fail>
+    ensures { IsStill desk.old desk.new }
+{
+    let orc = game.enter(desk, 10)?;
+    let elf = game.enter(desk, 5)?;
+    tell(desk, orc, elf, HIT, 2)?;
+    tell(desk, orc, elf, HIT, 4)?;
+    game.tick(desk)?;
+    assert_eq!(rt; game.health.get(&elf).copied(), Some(5));
+    game.tick(desk)?;
+    assert_eq!(rt; game.health.get(&elf).copied(), Some(-1));
+    assert_eq!(rt; game.health.get(&orc).copied(), Some(10));
+    assert!(rt; !desk.alive_here(elf));
+    game.tick(desk)?;
+    Ok(())
+}
+
+fn greet<R: Abort>(rt: &R, alloc: Global, desk: &mut Desk) -> Result<(), Fail>
+    ensures { IsStill desk.old desk.new }
+{
+    let mut texts = Texts::new(alloc);
+    let ada = desk.spawn()?;
+    let bob = desk.spawn()?;
+    let _number = texts.send(desk, ada, bob, String::from_str(alloc, "hello")?)?;
+    assert!(rt; texts.receive(desk, bob)?.is_none());
+    let _ = desk.turn(16);
+    let came = texts.receive(desk, bob)?;
+    assert!(rt; came.is_some_and(|(from, text)| from == ada && text.as_str() == "hello"));
+    assert_eq!(rt; texts.kept.len(), 0);
+    Ok(())
+}
+
+#[test]
+fn a_child_is_started_again_and_past_the_limit_the_supervisor_gives_up(
+    rt: HostRuntime,
+) -> Result<(), Fail> {
+    played(&rt, rt.alloc(), Play::OneForOne)
+}
+
+#[test]
+fn all_children_are_started_again(rt: HostRuntime) -> Result<(), Fail> {
+    played(&rt, rt.alloc(), Play::OneForAll)
+}
+
+#[test]
+fn a_monster_without_health_ends(rt: HostRuntime) -> Result<(), Fail> {
+    played(&rt, rt.alloc(), Play::Game)
+}
+
+#[test]
+fn a_text_comes_with_its_message(rt: HostRuntime) -> Result<(), Fail> {
+    played(&rt, rt.alloc(), Play::Texts)
+}
+
+#[test]
+fn threads_lose_no_message(rt: HostRuntime) -> Result<(), Fail> {
+    let config = Config {
+        desks: 3,
+        ..ONE_DESK
+    };
+    let Ok(quiet) = ring(&rt, rt.alloc(), config, 20)?.settle() else {
+        panic!(rt; "the node does not settle");
+    };
+    assert_eq!(rt; came(&rt, quiet.history()?.as_slice()), [20, 20, 20]);
+    Ok(())
+}
+
+/// How many messages came from each of three desks, which are numbered in order.
+fn came<R: Abort>(rt: &R, history: &[Stamped]) -> [i64; 3] {
+    let mut next = [0i64; 3];
+    for stamped in history {
+        if let Event::Came(from, _to, Signal::Message(body)) = stamped.event {
+            assert!(rt; from.shard < 3);
+            let shard = usize::from(from.shard);
+            assert_eq!(rt; body.num, next[shard]);
+            next[shard] = next[shard].saturating_add(1);
+        }
+    }
+    next
+}
+
+#[test]
+fn a_node_without_desks_is_refused(rt: HostRuntime) -> Result<(), Fail> {
+    let config = Config {
+        desks: 0,
+        ..ONE_DESK
+    };
+    let Err(refused) = ring(&rt, rt.alloc(), config, 1) else {
+        panic!(rt; "the node opens");
+    };
+    assert_eq!(rt; refused, RecipeError::Open(OpenError::Bounds));
+    let text = refused.to_string(rt.alloc())?;
+    assert_eq!(rt;
+        text.as_str(),
+        "the node does not open: a setting is out of its range"
+    );
+    Ok(())
+}

@@ -1,0 +1,18 @@
+//! Histories worked by hand, through the public calls of a node and its desks.
+//!
+//! Each is a table: a call and its answer a line (`play`). What a helper or a test does is compared when it runs;
+//! none of them promises anything, so that they are proved fast.
+
+mod asks;
+mod bench;
+mod desks;
+mod exits;
+mod known;
+mod limits;
+mod links;
+mod messages;
+mod monitors;
+mod play;
+mod quiet;
+mod settling;
+mod slots;
