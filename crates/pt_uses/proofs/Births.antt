@@ -10,7 +10,7 @@ use Rattle.pt_shard.specs.declared.fault.Fault.{Fault}
 use Rattle.pt_shard.specs.declared.fault.Fault.TheVariants.{Full, Memory, Worn, Gone, Myself}
 use Rattle.pt_shard.specs.ShardState.{ShardState}
 use Rattle.pt_shard.specs.Calls.{Calls, after_if, take_event, first_match}
-use Rattle.pt_uses.specs.Journals.{births, newest}
+use Rattle.pt_uses.specs.Journals.{births}
 
 after_take : (p : Pid) (k : Pick) (d : ShardState) (o : Option Item) → births (after_if (option_map (Took p k) o) d).journal ≡ births d.journal
 after_take p k d None = refl
