@@ -1,7 +1,8 @@
-//! The layers below a node, each called by itself: `pt_slots`, `pt_process`, `pt_carrier`, `pt_history` and `pt_desk`, a
-//! module a layer.
+//! The layers below a node, each called by itself: `pt_slots`, `pt_process`, `pt_carrier`, `pt_directory`,
+//! `pt_history` and `pt_desk`, a module a layer.
 
 mod desk;
+mod directory;
 mod history;
 mod lanes;
 mod process;

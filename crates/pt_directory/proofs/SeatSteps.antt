@@ -1,0 +1,118 @@
+-- A table stores_death with the rule, and seats are made and joined under it.
+use Rattle.std.proofs.Common.{◌≡◌, ◌≢◌, ℕ, zero, suc, ◌+◌, ◌*◌, List, [], ◌∷◌, ◌++◌, length, set, get_or, replicate, refl, sym, ap, ◌∙◌, subst, ⊎_elim, arith, append-nil}
+use Rattle.std.proofs.lemmas.List.Elements.{filter-append}
+use Rattle.std.proofs.lemmas.List.{length-replicate}
+use mathlib.Core.Option.{some, some-ne-none, some-injective}
+use lib.ListN.{get_elem?}
+use Rattle.atomic_table.specs.Table.{Splits, Joins, opening}
+use Rattle.atomic_table.proofs.Lists.{at_set, at_snoc, at_longer}
+use Rattle.pt_directory.specs.declared.view.Shape.{Shape}
+use Rattle.pt_directory.specs.declared.view.Death.{Death}
+use Rattle.pt_directory.specs.declared.view.View.{View}
+use Rattle.pt_directory.specs.Views.{is_at, deaths_at, IsHome, fresh, up_from, joined}
+use Rattle.pt_directory.specs.Rule.{IsViewKept, IsKept, Ruled, one_home, other_homes, first_view}
+use Rattle.pt_directory.proofs.Lists.{at_append, at_behind, at_single, at_nothing, none_at, times-append, times-up_from, homes_of-set, homes_of-push}
+use Rattle.pt_directory.proofs.Loads.{set_each, two_homes}
+
+-- a seat with no ends of a desk's slots has none of one of them
+fresh_ok : (shape : Shape) (words : List ℕ) (done pending : ℕ → ℕ → List Death) (homes : List ℕ) → ((x y k : ℕ) → get_elem? homes k ≡ some x → (done x y ≡ []) × (pending x y ≡ [])) → IsViewKept shape words done pending (fresh homes)
+fresh_ok shape words done pending homes none_of = record {
+  home = λ x y h. let t = none_of x y h.0 h.1 in (sym t.0, sym t.1);
+  deaths = λ k e at. absurd (at_nothing e k at);
+  begun = λ k e at. absurd (at_nothing e k at);
+  reads = λ k r at. absurd (at_nothing r k at);
+}
+
+get_or-zeros : (n i : ℕ) → get_or {A = ℕ} (replicate n 0) i 0 ≡ 0
+get_or-zeros zero i = refl
+get_or-zeros (suc n) zero = refl
+get_or-zeros (suc n) (suc i) = get_or-zeros n i
+
+pub opens : (shape : Shape) (words : List ℕ) (n : ℕ) → words ≡ replicate n 0 → n ≡ 2 * (shape.desks * shape.slots) → Ruled shape (opening words [] (first_view shape))
+opens shape words n zeros len = record {
+  done = λ _ _. [];
+  pending = λ _ _. [];
+  sized = ap length zeros ∙ length-replicate n 0 ∙ len;
+  slots = λ x y p q. record { version = at_zero _; death = at_zero _; rises = tt; one = omega arith };
+  once = λ x. let h = times-up_from x 0 shape.desks in omega arith;
+  each = first;
+}
+  where
+    at_zero : (i : ℕ) → get_or words i 0 ≡ 0
+    at_zero i = ap (λ (l : List ℕ). get_or l i 0) zeros ∙ get_or-zeros n i
+
+    first : (i : ℕ) (v : View) → get_elem? (first_view shape ∷ []) i ≡ some v → IsViewKept shape words (λ _ _. []) (λ _ _. []) v
+    first zero v at = subst (IsViewKept shape words (λ _ _. []) (λ _ _. [])) (some-injective (first_view shape) v at) (fresh_ok shape words (λ _ _. []) (λ _ _. []) (up_from 0 shape.desks) (λ _ _ _ _. (refl, refl)))
+    first (suc i) v at = absurd (some-ne-none v (sym at))
+
+pub splits : (shape : Shape) (id h : ℕ) (hs : List ℕ) (v : View) → v ≡ fresh (h ∷ hs) → Splits (Ruled shape) id v (other_homes v) (one_home v)
+splits shape id h hs v is st k at =
+    let left : View = fresh hs in
+    let right : View = fresh (h ∷ []) in
+    let at' : get_elem? st.views id ≡ some (fresh (h ∷ hs)) = at ∙ ap some is in
+    let vok = k.each id (fresh (h ∷ hs)) at' in
+    let bare : (x y j : ℕ) → get_elem? (h ∷ hs) j ≡ some x → (k.done x y ≡ []) × (k.pending x y ≡ []) = λ x y j e. let t = vok.home x y (j, e) in (sym t.0, sym t.1) in
+    let lok : IsViewKept shape st.words k.done k.pending left = fresh_ok shape st.words k.done k.pending hs (λ x y j e. bare x y (suc j) e) in
+    let rok : IsViewKept shape st.words k.done k.pending right = fresh_ok shape st.words k.done k.pending (h ∷ []) (λ x y j e. subst (λ (z : ℕ). (k.done z y ≡ []) × (k.pending z y ≡ [])) (at_single h x j e) (bare h y 0 refl)) in
+    let both : IsKept shape st.words (set st.views id left ++ right ∷ []) = record {
+      done = k.done;
+      pending = k.pending;
+      sized = k.sized;
+      slots = k.slots;
+      once = λ x.
+          let a = homes_of-set x st.views id (fresh (h ∷ hs)) left at' in
+          let b = homes_of-push x (set st.views id left) right in
+          let c = k.once x in omega arith;
+      each = λ j u e. ⊎_elim
+          (λ (was : get_elem? (set st.views id left) j ≡ some u). set_each (IsViewKept shape st.words k.done k.pending) st.views id left (λ i z _ there. k.each i z there) lok j u was)
+          (λ (new : right ≡ u). subst (IsViewKept shape st.words k.done k.pending) new rok)
+          (at_snoc (set st.views id left) right u j e);
+    } in
+    subst (λ (z : View). IsKept shape st.words (set st.views id (other_homes z) ++ one_home z ∷ [])) (sym is) both
+
+pub joins : (shape : Shape) (id : ℕ) (v : View) (other : ℕ) (w : View) → Joins (Ruled shape) id v other w (joined v w) (fresh [])
+joins shape id v other w st k at apart there =
+    let j : View = joined v w in
+    let there' : get_elem? st.views other ≡ some w = ⊎_elim (λ (t : (other ≡ id) × (j ≡ w)). absurd (apart t.0)) (λ (t : (other ≢ id) × (get_elem? st.views other ≡ some w)). t.1) (at_set st.views id other j w there) in
+    let vok = k.each id v at in
+    let wok = k.each other w there' in
+    let not_both : (x : ℕ) → IsHome x v → IsHome x w → ⊥ = λ x. two_homes st.views id other x v w k.once at there' apart in
+    let ok : IsViewKept shape st.words k.done k.pending j = record {
+      home = λ x y h. ⊎_elim
+          (λ (mine : get_elem? v.homes h.0 ≡ some x).
+          let hv : IsHome x v = (h.0, mine) in (
+            filter-append (is_at x y) v.deaths w.deaths ∙ ap (λ l. l ++ deaths_at x y w.deaths) (vok.home x y hv).0 ∙ ap (λ l. k.done x y ++ l) (none_at w.deaths x y (λ m e e_at e_is. not_both x hv (subst (λ (z : ℕ). IsHome z w) e_is (wok.deaths m e e_at)))) ∙ append-nil (k.done x y),
+            filter-append (is_at x y) v.begun w.begun ∙ ap (λ l. l ++ deaths_at x y w.begun) (vok.home x y hv).1 ∙ ap (λ l. k.pending x y ++ l) (none_at w.begun x y (λ m e e_at e_is. not_both x hv (subst (λ (z : ℕ). IsHome z w) e_is (wok.begun m e e_at)))) ∙ append-nil (k.pending x y),
+          ))
+          (λ (t : (i : ℕ) × (get_elem? w.homes i ≡ some x) × (h.0 ≡ length v.homes + i)).
+          let hw : IsHome x w = (t.0, t.1) in (
+            filter-append (is_at x y) v.deaths w.deaths ∙ ap (λ l. l ++ deaths_at x y w.deaths) (none_at v.deaths x y (λ m e e_at e_is. not_both x (subst (λ (z : ℕ). IsHome z v) e_is (vok.deaths m e e_at)) hw)) ∙ (wok.home x y hw).0,
+            filter-append (is_at x y) v.begun w.begun ∙ ap (λ l. l ++ deaths_at x y w.begun) (none_at v.begun x y (λ m e e_at e_is. not_both x (subst (λ (z : ℕ). IsHome z v) e_is (vok.begun m e e_at)) hw)) ∙ (wok.home x y hw).1,
+          ))
+          (at_append v.homes w.homes h.0 x h.1);
+      deaths = λ m e e_at. ⊎_elim
+          (λ (mine : get_elem? v.deaths m ≡ some e). let t = vok.deaths m e mine in (t.0, at_longer v.homes w.homes t.0 e.shard t.1))
+          (λ (t : (i : ℕ) × (get_elem? w.deaths i ≡ some e) × (m ≡ length v.deaths + i)). let u = wok.deaths t.0 e t.1 in at_behind v.homes w.homes u.0 e.shard u.1)
+          (at_append v.deaths w.deaths m e e_at);
+      begun = λ m e e_at. ⊎_elim
+          (λ (mine : get_elem? v.begun m ≡ some e). let t = vok.begun m e mine in (t.0, at_longer v.homes w.homes t.0 e.shard t.1))
+          (λ (t : (i : ℕ) × (get_elem? w.begun i ≡ some e) × (m ≡ length v.begun + i)). let u = wok.begun t.0 e t.1 in at_behind v.homes w.homes u.0 e.shard u.1)
+          (at_append v.begun w.begun m e e_at);
+      reads = λ m r r_at. ⊎_elim
+          (λ (mine : get_elem? v.reads m ≡ some r). vok.reads m r mine)
+          (λ (t : (i : ℕ) × (get_elem? w.reads i ≡ some r) × (m ≡ length v.reads + i)). wok.reads t.0 r t.1)
+          (at_append v.reads w.reads m r r_at);
+    } in record {
+      done = k.done;
+      pending = k.pending;
+      sized = k.sized;
+      slots = k.slots;
+      once = λ x.
+          let a = homes_of-set x st.views id v j at in
+          let b = homes_of-set x (set st.views id j) other w (fresh []) there in
+          let c = times-append x v.homes w.homes in
+          let d = k.once x in omega arith;
+      each = set_each (IsViewKept shape st.words k.done k.pending) (set st.views id j) other (fresh [])
+          (λ i u _ e. set_each (IsViewKept shape st.words k.done k.pending) st.views id j (λ m z _ z_at. k.each m z z_at) ok i u e)
+          (fresh_ok shape st.words k.done k.pending [] (λ x y m e. absurd (at_nothing x m e)));
+    }

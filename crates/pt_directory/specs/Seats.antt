@@ -1,0 +1,98 @@
+-- What contracts see of a directory and of a seat.
+use Rattle.std.specs.Prelude.{◌≡◌, ℕ, cond, eqb, ◌<◌, ◌≤◌, List, [], ◌∷◌, ◌++◌, Option, MatchOption, All}
+use mathlib.Core.Option.{some}
+use lib.ListN.{get_elem?}
+use Rattle.atomic_table.specs.Seated.{TableId}
+use Rattle.pt_signal.specs.declared.pid.Pid.{Pid}
+use Rattle.pt_directory.specs.declared.view.Read.{Read}
+use Rattle.pt_directory.specs.declared.view.Death.{Death}
+use Rattle.pt_directory.specs.declared.view.View.{View}
+use Rattle.pt_directory.specs.Views.{new_death, new_read, deaths_at, Covers}
+
+-- which directory it is: the name is its own, whatever directories there are
+pub record DirectoryState : Type 0 where
+  pub name : TableId
+  pub desks : ℕ
+  pub slots : ℕ
+
+-- of which directory it is, whose home it is, what it read, and which deaths it told; oldest first
+pub record SeatState : Type 0 where
+  pub name : TableId
+  pub homes : List ℕ
+  pub reads : List Read
+  pub deaths : List Death
+
+-- a seat with this view
+abbrev pub seat_state : TableId → View → SeatState
+seat_state name v = record { name = name; homes = v.homes; reads = v.reads; deaths = v.deaths }
+
+-- a directory of so many desks, each with so many slots, has words for this pid
+abbrev pub IsIn : DirectoryState → Pid → Type 0
+IsIn d pid = (pid.shard < d.desks) × (pid.slot < d.slots)
+
+-- the home of this desk alone, which has neither read nor told anything
+abbrev pub new_seat : TableId → ℕ → SeatState
+new_seat name shard = record { name = name; homes = shard ∷ []; reads = []; deaths = [] }
+
+-- with one more read
+abbrev pub add_read : Read → SeatState → SeatState
+add_read r s = record { name = s.name; homes = s.homes; reads = s.reads ++ r ∷ []; deaths = s.deaths }
+
+-- with one more death told
+abbrev pub add_death : Death → SeatState → SeatState
+add_death d s = record { name = s.name; homes = s.homes; reads = s.reads; deaths = s.deaths ++ d ∷ [] }
+
+-- what two seats know together
+abbrev pub join_seats : SeatState → SeatState → SeatState
+join_seats s t = record { name = s.name; homes = s.homes ++ t.homes; reads = s.reads ++ t.reads; deaths = s.deaths ++ t.deaths }
+
+-- the death of this pid
+abbrev pub death_of : Pid → ℕ → Death
+death_of pid stamp = new_death pid.shard pid.slot pid.version stamp
+
+-- one death is begun, that of this pid
+abbrev pub IsBegun : Pid → List Death → Type 0
+IsBegun pid [] = ⊥
+IsBegun pid (d ∷ []) = (d.shard ≡ pid.shard) × (d.slot ≡ pid.slot) × (d.version ≡ pid.version)
+IsBegun pid (d ∷ e ∷ ds) = ⊥
+
+-- one read of the pid's slot is added, and the answer is its stamp; it has one exactly where the version that was
+-- found is not below the pid's
+abbrev pub Probes : Pid → SeatState → Option ℕ → SeatState → Type 0
+Probes pid old answer new =
+    (found : ℕ)
+    × (new ≡ add_read (new_read pid.shard pid.slot found answer) old)
+    × MatchOption answer (found < pid.version) (λ s. pid.version ≤ found)
+
+-- the seat has read, of the pid's slot, a version that is not below the pid's
+abbrev pub HasReadOf : Pid → SeatState → Type 0
+HasReadOf pid s = (k : ℕ) × (r : Read) × (get_elem? s.reads k ≡ some r) × (r.shard ≡ pid.shard) × (r.slot ≡ pid.slot) × (pid.version ≤ r.version)
+
+-- the seat has told, of the pid's slot, the death of a version that is not below the pid's
+abbrev pub HasToldOf : Pid → SeatState → Type 0
+HasToldOf pid s = (k : ℕ) × (d : Death) × (get_elem? s.deaths k ≡ some d) × (d.shard ≡ pid.shard) × (d.slot ≡ pid.slot) × (pid.version ≤ d.version)
+
+-- each read with a stamp, of a slot whose home the seat is: the version read has died, and neither its death nor that
+-- of an earlier version has a greater stamp
+abbrev pub IsAudited : SeatState → Type 0
+IsAudited s =
+    (k : ℕ) (r : Read) → get_elem? s.reads k ≡ some r → (j : ℕ) → get_elem? s.homes j ≡ some r.shard → 0 < r.version
+    → MatchOption r.stamp (Unit {0}) (λ t. Covers (deaths_at r.shard r.slot s.deaths) r.version t)
+
+-- those of these pids that are a desk's, with their stamps, as deaths
+abbrev pub given_deaths : ℕ → List (Pid × ℕ) → List Death
+given_deaths shard [] = []
+given_deaths shard (x ∷ xs) = cond (eqb x.0.shard shard) (death_of x.0 x.1 ∷ []) [] ++ given_deaths shard xs
+
+-- the home of this desk alone, which has told that these pids ended
+abbrev pub reopened_seat : TableId → List (Pid × ℕ) → ℕ → SeatState
+reopened_seat name given shard = record { name = name; homes = shard ∷ []; reads = []; deaths = given_deaths shard given }
+
+-- no two of these pids are of one slot
+abbrev pub OnePerSlot : List (Pid × ℕ) → Type 0
+OnePerSlot xs = (i j : ℕ) (x y : Pid × ℕ) → get_elem? xs i ≡ some x → get_elem? xs j ≡ some y → x.0.shard ≡ y.0.shard → x.0.slot ≡ y.0.slot → i ≡ j
+
+-- each of these pids has words in such a directory, a version and a stamp that are not 0, and a slot of its own
+pub record AreEnded (desks slots : ℕ) (given : List (Pid × ℕ)) : Type 0 where
+  pub each : All (λ x. (x.0.shard < desks) × (x.0.slot < slots) × (0 < x.0.version) × (0 < x.1)) given
+  pub apart : OnePerSlot given

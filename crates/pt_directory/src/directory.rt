@@ -1,0 +1,234 @@
+//! The words, and the calls over them.
+
+ghost use Rattle.std.specs.Prelude.{◌≡◌, ◌*◌, ◌<◌, [], ◌∷◌, map, replicate, None, IfOk, IsSome};
+ghost use Rattle.pt_directory.specs.Views.{new_read, deaths_at, last_version, last_stamp, IsHome, with_stamp, with_begun, finished, LastRead, up_from, fresh};
+ghost use Rattle.pt_directory.specs.Rule.{version_word, LoadsVersion};
+ghost use Rattle.pt_directory.specs.Seats.{IsIn, IsBegun, add_death, death_of, Probes, HasReadOf, HasToldOf, join_seats, IsAudited, new_seat, reopened_seat, AreEnded};
+
+use crate::rule::{
+    Audit, DirectoryRule, JoinViews, LoadDeath, LoadVersion, Numbers, SplitHome, StoreDeath,
+    StoreVersion,
+};
+use crate::seat::{Seat, TableSeat};
+use crate::view::{Shape, View};
+use atomic_table::Table;
+use pt_signal::Pid;
+use std::alloc::{AllocError, Global};
+use std::marker::{Brand, Model};
+
+/// The words, under the rule.
+type Words = Table<(), View, Shape, DirectoryRule, Global>;
+
+/// Which pids of a node have ended: two words for each slot of each desk.
+///
+/// The first is the greatest version of the slot that has ended, the second the stamp of the slot's latest death; both
+/// begin at 0. A death stores its stamp first, so who sees the version sees the stamp too, or a later one.
+#[derive(Drop)]
+pub struct Directory {
+    table: Words,
+    desks: u8,
+    slots: u32,
+}
+
+impl Model for Directory {
+    ghost use Rattle.std.specs.Prelude.{◌≡◌, ◌*◌, ◌<◌};
+    ghost use Rattle.pt_directory.specs.Seats.{DirectoryState};
+
+    ghost Value = { DirectoryState };
+
+    ghost view = { λ d. record { name = d.table.shared.table_id; desks = d.desks; slots = d.slots } };
+
+    ghost invariant = { λ d. (d.table.shared.key.desks ≡ d.desks) × (d.table.shared.key.slots ≡ d.slots) × (d.table.shared.table_id.words ≡ 2 * (d.desks * d.slots)) × (0 < d.desks) × (0 < d.slots) };
+}
+
+impl Directory {
+    /// A directory for so many desks, each with so many slots, and the seats of the desks in order.
+    ///
+    /// No pid has ended yet. There is at least one desk, and one slot. Memory is the only refusal.
+    pub fn open(alloc: Global, desks: u8, slots: u32) -> Result<(Directory, Vec<Seat>), AllocError>
+        requires desks { 0 < desks }
+        requires slots { 0 < slots }
+        ensures shape { IfOk result (λ r. (r.0.desks ≡ desks) × (r.0.slots ≡ slots)) }
+        ensures seats { IfOk result (λ r. r.1.items ≡ map (new_seat r.0.name) (up_from 0 desks)) }
+    {
+        let mut seats = Vec::with_capacity(alloc, usize::from(desks))?;
+        let (table, mut rest) = with_one_seat(alloc, desks, slots)?;
+        for _desk in 0..desks {
+            let inner = table.shared.split_seat::<SplitHome>(&mut rest);
+            seats.push_reserved(Seat { inner });
+        }
+        let directory = Directory {
+            table,
+            desks,
+            slots,
+        };
+        Ok((directory, seats))
+    }
+
+    /// A directory in which these pids have ended, each at its stamp, and the seats of the desks in order.
+    ///
+    /// Each seat has told of the pids of its desk, in the order given. Of one slot there is at most one pid, and its
+    /// version and stamp are not 0. Otherwise as [`Directory::open`].
+    pub fn reopen(
+        alloc: Global,
+        desks: u8,
+        slots: u32,
+        ended: &[(Pid, u64)],
+    ) -> Result<(Directory, Vec<Seat>), AllocError>
+        requires desks { 0 < desks }
+        requires slots { 0 < slots }
+        requires ended { AreEnded desks slots ended.now }
+        ensures shape { IfOk result (λ r. (r.0.desks ≡ desks) × (r.0.slots ≡ slots)) }
+        ensures seats { IfOk result (λ r. r.1.items ≡ map (reopened_seat r.0.name ended.now) (up_from 0 desks)) }
+    {
+        let (directory, mut seats) = Directory::open(alloc, desks, slots)?;
+        for entry in ended {
+            let (pid, stamp) = *entry;
+            let seat = &mut seats[usize::from(pid.shard)];
+            directory.ended(seat, pid, stamp);
+        }
+        Ok((directory, seats))
+    }
+
+    /// Has this pid ended? Where it is seen to, the answer is a stamp that is not below that of its death.
+    ///
+    /// It always is, where the pid is of the seat's own desk, and where the seat saw it before. The slot is one that the
+    /// directory has, and the version not 0. It takes no memory and waits for nobody.
+    pub fn probe(&self, seat: &mut Seat, pid: Pid) -> Option<u64>
+        requires seat { seat.old.name ≡ self.now.name }
+        requires pid { IsIn self.now pid × (0 < pid.version) }
+        ensures read { Probes pid seat.old result seat.new }
+        ensures again { HasReadOf pid seat.old → IsSome result }
+        ensures own { HasToldOf pid seat.old → IsSome result }
+    {
+        let version = self.load_version::<Brand>(&mut seat.inner, pid);
+        if version < u64::from(pid.version) {
+            return None;
+        }
+        Some(self.load_death(&mut seat.inner, pid, version))
+    }
+
+    /// Tells all seats that a pid of this seat's desk has ended, at this stamp.
+    ///
+    /// The desk is the seat's only home. Version and stamp are above those of the last death that it told of the slot.
+    /// It takes no memory and waits for nobody.
+    pub fn ended(&self, seat: &mut Seat, pid: Pid, stamp: u64)
+        requires seat { (seat.old.name ≡ self.now.name) × (seat.old.homes ≡ pid.shard ∷ []) }
+        requires pid { IsIn self.now pid }
+        requires version { last_version (deaths_at pid.shard pid.slot seat.old.deaths) < pid.version }
+        requires stamp { last_stamp (deaths_at pid.shard pid.slot seat.old.deaths) < stamp }
+        ensures { seat.new ≡ add_death (death_of pid stamp) seat.old }
+    {
+        self.store_death::<Brand>(&mut seat.inner, pid, stamp);
+        self.store_version(&mut seat.inner, pid);
+    }
+
+    /// The seat takes in all that another knows, at the end of its own.
+    pub fn join(&self, seat: &mut Seat, other: Seat)
+        requires { (seat.old.name ≡ self.now.name) × (other.name ≡ self.now.name) }
+        ensures { seat.new ≡ join_seats seat.old other }
+    {
+        let Seat { inner } = other;
+        self.table
+            .shared
+            .join_seat::<JoinViews>(&mut seat.inner, inner);
+    }
+
+    /// Holds the seat's reads against the deaths that it told: those of all desks, once their seats have joined.
+    ///
+    /// Each read with a stamp, of a slot whose home the seat is, was of a version that has died, and neither its death
+    /// nor that of an earlier version has a greater stamp.
+    pub fn audit(&self, seat: &mut Seat)
+        requires { seat.old.name ≡ self.now.name }
+        ensures same { seat.new ≡ seat.old }
+        ensures audited { IsAudited seat.old }
+    {
+        self.table.shared.load::<Audit>(&mut seat.inner, 0);
+    }
+
+    /// Where the version word of the pid's slot stands; its death word stands behind it.
+    fn word(&self, pid: Pid) -> usize
+        requires { IsIn self.now pid }
+        ensures { result ≡ version_word self.now.slots pid.shard pid.slot }
+    {
+        2 * (usize::from(pid.shard) * self.slots as usize + pid.slot as usize)
+    }
+
+    /// Loads the version word of the pid's slot, and adds that read.
+    fn load_version<N: Numbers>(&self, seat: &mut TableSeat, pid: Pid) -> u64
+        requires seat { seat.old.table_id ≡ self.now.name }
+        requires pid { IsIn self.now pid }
+        requires numbers { (N.shard ≡ pid.shard) × (N.slot ≡ pid.slot) }
+        ensures same { (seat.new.table_id ≡ seat.old.table_id) × (seat.new.id ≡ seat.old.id) }
+        ensures read { LoadsVersion pid.shard pid.slot seat.old.me result seat.new.me }
+    {
+        self.table
+            .shared
+            .load::<LoadVersion<N>>(seat, self.word(pid))
+    }
+
+    /// Loads the death word of the pid's slot; the stamp joins the last read, which is of that slot.
+    fn load_death(&self, seat: &mut TableSeat, pid: Pid, version: u64) -> u64
+        requires seat { seat.old.table_id ≡ self.now.name }
+        requires pid { IsIn self.now pid }
+        requires read { LastRead (new_read pid.shard pid.slot version None) seat.old.me.0.reads }
+        ensures same { (seat.new.table_id ≡ seat.old.table_id) × (seat.new.id ≡ seat.old.id) }
+        ensures stamped { seat.new.me ≡ (with_stamp result seat.old.me.0, seat.old.me.1) }
+    {
+        self.table
+            .shared
+            .load::<LoadDeath>(seat, self.word(pid) + 1)
+    }
+
+    /// Stores the stamp of a death, which is begun by it.
+    fn store_death<N: Numbers>(&self, seat: &mut TableSeat, pid: Pid, stamp: u64)
+        requires seat { seat.old.table_id ≡ self.now.name }
+        requires pid { IsIn self.now pid }
+        requires numbers { (N.shard ≡ pid.shard) × (N.slot ≡ pid.slot) × (N.version ≡ pid.version) }
+        requires home { IsHome pid.shard seat.old.me.0 × (seat.old.me.0.begun ≡ []) }
+        requires version { last_version (deaths_at pid.shard pid.slot seat.old.me.0.deaths) < pid.version }
+        requires stamp { last_stamp (deaths_at pid.shard pid.slot seat.old.me.0.deaths) < stamp }
+        ensures same { (seat.new.table_id ≡ seat.old.table_id) × (seat.new.id ≡ seat.old.id) }
+        ensures begun { seat.new.me ≡ (with_begun (death_of pid stamp) seat.old.me.0, seat.old.me.1) }
+    {
+        self.table
+            .shared
+            .store::<StoreDeath<N>>(seat, self.word(pid) + 1, stamp);
+    }
+
+    /// Stores the version of the death that was begun, which is told whole by it.
+    fn store_version(&self, seat: &mut TableSeat, pid: Pid)
+        requires seat { seat.old.table_id ≡ self.now.name }
+        requires pid { IsIn self.now pid }
+        requires begun { IsBegun pid seat.old.me.0.begun }
+        ensures same { (seat.new.table_id ≡ seat.old.table_id) × (seat.new.id ≡ seat.old.id) }
+        ensures finished { seat.new.me ≡ (finished seat.old.me.0, seat.old.me.1) }
+    {
+        self.table
+            .shared
+            .store::<StoreVersion>(seat, self.word(pid), u64::from(pid.version));
+    }
+}
+
+/// The words of so many slots, all 0, and a seat that is the home of all desks.
+fn with_one_seat(alloc: Global, desks: u8, slots: u32) -> Result<(Words, TableSeat), AllocError>
+    requires desks { 0 < desks }
+    requires slots { 0 < slots }
+    ensures key { IfOk result (λ r. (r.0.shared.key.desks ≡ desks) × (r.0.shared.key.slots ≡ slots)) }
+    ensures words { IfOk result (λ r. r.0.shared.table_id.words ≡ 2 * (desks * slots)) }
+    ensures seat { IfOk result (λ r. (r.1.table_id ≡ r.0.shared.table_id) × (r.1.me.0 ≡ fresh (up_from 0 desks))) }
+{
+    let shape = Shape {
+        desks: u64::from(desks),
+        slots: u64::from(slots),
+    };
+    let zeros = zeros(alloc, 2 * (usize::from(desks) * slots as usize))?;
+    Table::of_words(alloc, zeros.as_slice(), &shape)
+}
+
+/// So many words, all 0.
+fn zeros(alloc: Global, count: usize) -> Result<Vec<u64>, AllocError>
+    ensures { IfOk result (λ v. v.items ≡ replicate count 0) }
+{
+    vec![in alloc; 0u64; count]
+}
