@@ -12,6 +12,8 @@
 
 mod event;
 mod journal;
+mod laws;
 
 pub use event::{Event, MAX_STAMP, Stamped};
 pub use journal::Journal;
+pub use laws::limits_stand;

@@ -61,6 +61,13 @@ use thiserror::Error;
 /// The greatest number of slots.
 pub const MAX_CAPACITY: u32 = 16_777_216;
 
+/// There are at most 16,777,216 slots: the definitions cite this limit by its name alone.
+///
+/// It does nothing: the law is its contract.
+pub fn limits_stand()
+    ensures { MAX_CAPACITY ≡ 16777216 }
+{}
+
 /// The name of one value: a slot, and the version under which the slot was issued.
 ///
 /// Keys are equal by their fields, and ordered by slot, then version. A key of any numbers may be asked for.
