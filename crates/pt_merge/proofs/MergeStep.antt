@@ -6,7 +6,8 @@ use Rattle.pt_events.specs.declared.event.Stamped.{Stamped}
 use Rattle.pt_merge.specs.declared.merging.Seat.{Seat}
 use Rattle.pt_events.specs.JournalState.{IsInOrder}
 use Rattle.pt_events.specs.Journal.{of_desk, IsAfter, AllBefore, IsRising, IsMerge}
-use Rattle.pt_merge.specs.Merging.{Given, journal_of, HasNone, AreApart, AreInOrder, desk_at, past_at, events_at, taken_at, left_at, head_of, key_of, leads, IsFirst}
+use Rattle.pt_merge.specs.Merging.{Given, journal_of, HasNone, AreApart}
+use Rattle.pt_merge.specs.Race.{AreInOrder, desk_at, past_at, events_at, taken_at, left_at, head_of, key_of, leads, TakesFrom}
 use Rattle.pt_events.proofs.InOrder.{older_in_order}
 
 -- journals of different desks ---------------------------------------------------------------------
@@ -89,7 +90,7 @@ of_desk_other : (d : ℕ) (s : Stamped) (merged : List Stamped) → (s.desk ≡ 
 of_desk_other d s merged e = rw (ne_eqb s.desk d e) refl
 
 module _ (js : Given) (old new : List Seat) (merged : List Stamped) (s : Stamped) (which : ℕ) (order : AreInOrder js) (apart : AreApart js)
-    (m : IsMerging js old merged) (f : IsFirst js old new s which) where
+    (m : IsMerging js old merged) (f : TakesFrom js old new s which) where
   -- what is next of any journal follows what the merge has of it
   next_in_order : (j : ℕ) (x : Stamped) → j < length js → head_of (left_at js old j) ≡ Some x → IsInOrder (desk_at js j) (x ∷ of_desk (desk_at js j) merged)
   next_in_order j x k e =
@@ -189,7 +190,7 @@ total_falls f g (suc n) which k e h =
 abbrev pub left_total : Given → List Seat → ℕ
 left_total js seats = total (λ j. length (left_at js seats j)) (length js)
 
-pub left_falls : (js : Given) (old new : List Seat) (s : Stamped) (which : ℕ) → IsFirst js old new s which → left_total js new < left_total js old
+pub left_falls : (js : Given) (old new : List Seat) (s : Stamped) (which : ℕ) → TakesFrom js old new s which → left_total js new < left_total js old
 left_falls js old new s which f =
     let e = total_falls (λ j. length (left_at js old j)) (λ j. length (left_at js new j)) (length js) which f.within (sym (ap length f.takes)) (λ j n. ap length (f.keeps j n)) in
     omega arith

@@ -6,7 +6,8 @@ use denote.Ref.{Bor}
 use Rattle.pt_events.specs.declared.event.Stamped.{Stamped}
 use Rattle.pt_merge.specs.declared.merging.Seat.{Seat}
 use Rattle.pt_events.specs.JournalState.{JournalState}
-use Rattle.pt_merge.specs.Merging.{head_of, Given, desk_at, past_at, events_at, seat_at, winner_at, taken_at, left_at, key_of, key_at, leads, middle, IsBest, IsPlayed, alone, matched, winner_in, OnlyWinners, IsTaken, IsFirst, TakesFirst}
+use Rattle.pt_merge.specs.Merging.{Given}
+use Rattle.pt_merge.specs.Race.{head_of, desk_at, past_at, events_at, seat_at, winner_at, taken_at, left_at, key_of, key_at, leads, middle, IsBest, IsPlayed, alone, matched, winner_in, OnlyWinners, IsTaken, TakesFrom, TakesFirst}
 use Rattle.std.proofs.lemmas.Bool.Decides.{nat_tests}
 
 pub past_read : (js : Given) (j : ℕ) (x : Bor JournalState) → j < length js → x ≡ get_or js j x → x.now.past ≡ past_at js j
@@ -179,7 +180,7 @@ module _ (js : Given) (old : List Seat) (which : ℕ) (best : IsBest (key_at js 
       let e : left_at js old which ≡ [] = no_head (left_at js old which) (sym h) in
       led_by_none (left_at js old j) (subst (λ xs. leads (key_of xs) (key_at js old j) ≡ true) e (best.leads_all j (omega arith) k))
 
-  pub first_taken : (new : List Seat) (s : Stamped) → Some s ≡ head_of (left_at js old which) → IsTaken 0 (length js) which old new → IsFirst js old new s which
+  pub first_taken : (new : List Seat) (s : Stamped) → Some s ≡ head_of (left_at js old which) → IsTaken 0 (length js) which old new → TakesFrom js old new s which
   first_taken new s h t = record {
     within = best.below;
     takes = head_taken (events_at js which) (taken_at old which) s (sym h) ∙ ap (λ n. s ∷ drop n (events_at js which)) (sym t.one_more);

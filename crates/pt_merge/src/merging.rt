@@ -3,7 +3,8 @@
 ghost use Rattle.std.specs.Prelude.{◌≡◌, ℕ, ◌+◌, ◌<◌, ◌≤◌, ◌^◌, length, reverse, IfOk, OnSome};
 ghost use Rattle.pt_events.specs.Journal.{IsMerge};
 ghost use Rattle.pt_events.specs.JournalState.{IsInOrder};
-ghost use Rattle.pt_merge.specs.Merging.{AreApart, journal_of, AreInOrder, desk_at, past_at, events_at, left_at, head_of, key_at, taken_at, winner_at, winner_in, middle, leads, IsBest, IsPlayed, IsTaken, OnlyWinners, TakesFirst};
+ghost use Rattle.pt_merge.specs.Merging.{AreApart, journal_of};
+ghost use Rattle.pt_merge.specs.Race.{AreInOrder, desk_at, past_at, events_at, left_at, head_of, key_at, taken_at, winner_at, winner_in, middle, leads, IsBest, IsPlayed, IsTaken, OnlyWinners, TakesFirst};
 
 use pt_events::{Journal, Stamped};
 use std::alloc::{AllocError, Global};

@@ -2,7 +2,7 @@ use Rattle.std.proofs.Common.{◌≡◌, ◌+◌, ◌<◌, List, ap, inl, inr, s
 use Rattle.std.proofs.lemmas.List.{get_or_read}
 use Rattle.std.proofs.Common.{◌^◌}
 use Rattle.pt_merge.specs.declared.merging.Seat.{Seat}
-use Rattle.pt_merge.specs.Merging.{IsPlayed, alone, middle, key_at, winner_at, taken_at}
+use Rattle.pt_merge.specs.Race.{IsPlayed, alone, middle, key_at, winner_at, taken_at}
 use Rattle.pt_merge.proofs.Race.{apart_taken, one_half, other_half}
 use Rattle.pt_merge.proofs.merging.+advance.Goals as goal
 use Rattle.pt_merge.proofs.merging.+advance.Goals.{then-which-middle, else-which-middle}

@@ -1,5 +1,5 @@
 use Rattle.std.proofs.Common.{arith}
-use Rattle.pt_merge.specs.Merging.{alone, middle}
+use Rattle.pt_merge.specs.Race.{alone, middle}
 use Rattle.pt_merge.proofs.Race.{apart_written}
 use Rattle.pt_merge.proofs.merging.+play_all.Goals as goal
 

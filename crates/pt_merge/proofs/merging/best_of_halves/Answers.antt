@@ -1,5 +1,5 @@
 use Rattle.std.proofs.Common.{◌≡◌, sym, subst, true, false, arith}
-use Rattle.pt_merge.specs.Merging.{key_at, winner_at, leads, middle, IsBest}
+use Rattle.pt_merge.specs.Race.{key_at, winner_at, leads, middle, IsBest}
 use Rattle.pt_merge.proofs.Race.{best_played, best_one, best_other}
 use Rattle.pt_merge.proofs.merging.best_of_halves.Goals as goal
 

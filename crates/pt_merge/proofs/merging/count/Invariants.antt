@@ -1,6 +1,6 @@
 use Rattle.std.proofs.Common.{ℕ, ◌<◌}
 use Rattle.pt_events.specs.JournalState.{IsInOrder}
-use Rattle.pt_merge.specs.Merging.{desk_at, past_at}
+use Rattle.pt_merge.specs.Race.{desk_at, past_at}
 use Rattle.pt_merge.proofs.merging.count.Given as goal
 
 abbrev pub invariant-loop-which : goal.invariant-loop-which

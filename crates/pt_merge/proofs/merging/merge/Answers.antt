@@ -1,6 +1,6 @@
 use Rattle.std.proofs.Common.{sym, ap, ◌∙◌, subst, List, reverse}
 use Rattle.pt_events.specs.declared.event.Stamped.{Stamped}
-use Rattle.pt_merge.specs.Merging.{TakesFirst}
+use Rattle.pt_merge.specs.Race.{TakesFirst}
 use Rattle.pt_events.proofs.Orders.{reverse_push}
 use Rattle.pt_merge.proofs.MergeStep.{IsMerging, merging_next, merged_all, left_falls}
 use Rattle.pt_merge.proofs.merging.merge.Goals as goal

@@ -1,5 +1,6 @@
 use Rattle.std.proofs.Common.{◌≡◌, ◌<◌, length, reverse}
-use Rattle.pt_merge.specs.Merging.{AreApart, key_at, winner_at, IsPlayed}
+use Rattle.pt_merge.specs.Merging.{AreApart}
+use Rattle.pt_merge.specs.Race.{key_at, winner_at, IsPlayed}
 use Rattle.pt_merge.proofs.MergeStep.{IsMerging, left_total}
 use Rattle.pt_merge.proofs.merging.merge.Given as goal
 

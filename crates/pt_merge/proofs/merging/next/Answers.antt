@@ -1,6 +1,6 @@
 use Rattle.std.proofs.Common.{sym, ◌∙◌, subst, length, List, ap}
 use Rattle.pt_merge.specs.declared.merging.Seat.{Seat}
-use Rattle.pt_merge.specs.Merging.{TakesFirst, head_of, left_at}
+use Rattle.pt_merge.specs.Race.{TakesFirst, head_of, left_at}
 use Rattle.pt_merge.proofs.Race.{best_now, some_given, nothing_left, first_taken}
 use Rattle.pt_merge.proofs.merging.next.Goals as goal
 

@@ -2,7 +2,7 @@ use Rattle.std.proofs.Common.{subst, arith}
 use Rattle.std.proofs.lemmas.List.{get_or_read}
 use Rattle.pt_merge.specs.declared.merging.Seat.{Seat}
 use Rattle.std.proofs.Common.{List, ap}
-use Rattle.pt_merge.specs.Merging.{key_at, IsBest}
+use Rattle.pt_merge.specs.Race.{key_at, IsBest}
 use Rattle.pt_merge.proofs.Race.{match_played}
 use Rattle.pt_merge.proofs.merging.play.Goals as goal
 
