@@ -4,7 +4,7 @@ use Rattle.std.proofs.lemmas.List.{append-nil}
 use Rattle.std.proofs.lemmas.Bool.{both_ways}
 use mathlib.Core.List.{IsPrefix}
 use Rattle.pt_signal.specs.declared.letter.Letter.{Letter}
-use Rattle.pt_carrier.specs.Ends.{InEnds, one_more, Collects, Shows, ShowNone, IsFirst, IsFront}
+use Rattle.pt_carrier.specs.Ends.{InEnds, one_more, Collects, Shows, ShowNone, IsFirstFromCursor, IsFront}
 use Rattle.pt_carrier.proofs.Taking.{front_is}
 
 pub IsPrefix-nil : {X : Type 0} (xs ys : List X) → IsPrefix xs ys → ys ≡ [] → xs ≡ []
@@ -43,7 +43,7 @@ module _ (old mid new : InEnds) (k : ℕ) (letter : Letter)
   none : (low high : ℕ) → ((j : ℕ) → low ≤ j → j < high → j ≢ k) → ShowNone old mid low high → ShowNone old new low high
   none low high apart shown j l h = ((shown j l h).0, others j (apart j l h) ∙ (shown j l h).1)
 
-  pub is_first : IsFirst old mid k → IsFirst old new k
+  pub is_first : IsFirstFromCursor old mid k → IsFirstFromCursor old new k
   is_first first = record {
     above = λ h. none old.cursor k (λ j _ l e. omega arith) (first.above h);
     around = λ h. (none old.cursor (length old.place.rings) (λ j l _ e. omega arith) (first.around h).0, none 0 k (λ j _ l e. omega arith) (first.around h).1);

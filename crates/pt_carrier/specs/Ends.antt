@@ -82,7 +82,7 @@ abbrev pub ShowNone : InEnds → InEnds → ℕ → ℕ → Type 0
 ShowNone old new low high = (k : ℕ) → low ≤ k → k < high → (slice_index_or old.known k [] ≡ []) × (slice_index_or new.known k [] ≡ [])
 
 -- from the cursor upwards and round, no lane before that of desk k shows a letter
-pub record IsFirst (old new : InEnds) (k : ℕ) : Type 0 where
+pub record IsFirstFromCursor (old new : InEnds) (k : ℕ) : Type 0 where
   pub above : old.cursor ≤ k → ShowNone old new old.cursor k
   pub around : k < old.cursor → ShowNone old new old.cursor (length old.place.rings) × ShowNone old new 0 k
 

@@ -3,7 +3,7 @@
 ghost use Rattle.std.specs.Prelude.{◌≡◌, ◌≢◌, ℕ, ◌⊎◌, ◌+◌, ◌*◌, ◌-◌, ◌%◌, ◌^◌, ◌<◌, ◌≤◌, min, length, [], IsOk, OnOk, IfErr, IfSome, IfNone, slice_index_or};
 ghost use Rattle.pt_signal.specs.declared.letter.Letter.{Letter};
 ghost use Rattle.pt_carrier.specs.declared.ends.TheConstants.{MAX_DESKS};
-ghost use Rattle.pt_carrier.specs.Ends.{OutEnds, InEnds, out_ends, in_ends, GoOutFrom, ComeInTo, one_more, IsFull, LooksAt, Collects, Shows, ShowNone, IsFirst, IsFront};
+ghost use Rattle.pt_carrier.specs.Ends.{OutEnds, InEnds, out_ends, in_ends, GoOutFrom, ComeInTo, one_more, IsFull, LooksAt, Collects, Shows, ShowNone, IsFirstFromCursor, IsFront};
 ghost use Rattle.pt_carrier.specs.Node.{lists};
 ghost use Rattle.pt_carrier.specs.Reunion.{out_kept, in_kept, Meets, IsWhole, HasRoom, room_at};
 
@@ -158,7 +158,7 @@ impl Ins {
     pub fn collect(&mut self) -> Option<(u8, Letter)>
         ensures place { self.new.place ≡ self.old.place }
         ensures some { IfSome result (λ r. Collects self.old self.new r.0 r.1) }
-        ensures first { IfSome result (λ r. IsFirst self.old self.new r.0) }
+        ensures first { IfSome result (λ r. IsFirstFromCursor self.old self.new r.0) }
         ensures none { IfNone result ((self.new.collected ≡ self.old.collected) × (self.new.cursor ≡ self.old.cursor) × ShowNone self.old self.new 0 (length self.old.place.rings)) }
     {
         let Some(d) = self.next_from() else {
@@ -176,7 +176,7 @@ impl Ins {
     #[inline(always)]
     pub fn next_from(&mut self) -> Option<u8>
         ensures same { (self.new.place ≡ self.old.place) × (self.new.cursor ≡ self.old.cursor) × (self.new.collected ≡ self.old.collected) }
-        ensures some { IfSome result (λ d. Shows self.old self.new d × IsFirst self.old self.new d) }
+        ensures some { IfSome result (λ d. Shows self.old self.new d × IsFirstFromCursor self.old self.new d) }
         ensures none { IfNone result (ShowNone self.old self.new 0 (length self.old.place.rings)) }
     {
         let cursor = usize::from(self.cursor);

@@ -52,9 +52,11 @@
 
 mod ends;
 mod lane;
+mod laws;
 mod opening;
 mod reunion;
 
 pub use ends::{Ins, MAX_DESKS, Outs, PostCause, Refused};
+pub use laws::limits_stand;
 pub use opening::{MAX_CAPACITY, open};
 pub use reunion::{Cause, EndsBack, Leftovers, reunite};

@@ -4,7 +4,7 @@ use Rattle.std.specs.Prelude.{is_some}
 use Rattle.std.proofs.lemmas.Bool.{both_ways}
 use Rattle.pt_signal.specs.declared.pid.Pid.{Pid}
 use Rattle.pt_signal.specs.declared.letter.Letter.{Letter}
-use Rattle.pt_carrier.specs.Ends.{OutEnds, InEnds, Collects, IsFirst}
+use Rattle.pt_carrier.specs.Ends.{OutEnds, InEnds, Collects, IsFirstFromCursor}
 use Rattle.pt_shard.specs.declared.stop.Stop.{Stop}
 use Rattle.pt_shard.specs.declared.stop.Stop.TheVariants.{Memory, Worn}
 use Rattle.pt_shard.specs.ShardState.{ShardState, handled, Handles as ShardHandles}
@@ -55,7 +55,7 @@ module _ (s : ShardState) (o : OutEnds) (i i' : InEnds) (k : ℕ) (l : Letter) (
   unheld : s ≡ holding None s
   unheld = ap (λ h. holding h s) free
 
-  module _ (first : IsFirst i i' k) where
+  module _ (first : IsFirstFromCursor i i' k) where
     pub taken_in : TakesIn l (of_parts s o i) (of_parts (holding (Some l) s) o i')
     taken_in = record {
       free = free;
@@ -63,7 +63,7 @@ module _ (s : ShardState) (o : OutEnds) (i i' : InEnds) (k : ℕ) (l : Letter) (
       outs = refl;
       place = place_is;
       collects = subst (λ k. Collects i i' k l) from_is takes;
-      first = subst (IsFirst i i') from_is first;
+      first = subst (IsFirstFromCursor i i') from_is first;
     }
 
     pub next_collected : (s1 : ShardState) → max s.clock l.stamp < 2 ^ 62 → s1 ≡ handled l s → HandlesNext l (of_parts s o i) (of_parts s1 o i')

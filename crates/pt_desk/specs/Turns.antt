@@ -2,7 +2,7 @@
 use Rattle.std.specs.Prelude.{◌≡◌, ℕ, ◌-◌, ◌^◌, ◌<◌, ◌≤◌, ◌⊎◌, Bool, true, false, List, [], ◌∷◌, length, max, min, Option, Some, None, Result, Ok, Err}
 use Rattle.pt_events.specs.declared.event.TheConstants.{MAX_STAMP}
 use Rattle.pt_signal.specs.declared.letter.Letter.{Letter}
-use Rattle.pt_carrier.specs.Ends.{Collects, IsFirst, ShowNone}
+use Rattle.pt_carrier.specs.Ends.{Collects, IsFirstFromCursor, ShowNone}
 use Rattle.pt_shard.specs.ShardState.{handled}
 use Rattle.pt_shard.specs.Outbox.{holding}
 use Rattle.pt_shard.specs.declared.stop.Stop.{Stop}
@@ -18,7 +18,7 @@ pub record TakesIn (l : Letter) (old new : DeskState) : Type 0 where
   pub outs : new.outs ≡ old.outs
   pub place : new.ins.place ≡ old.ins.place
   pub collects : Collects old.ins new.ins l.from.shard l
-  pub first : IsFirst old.ins new.ins l.from.shard
+  pub first : IsFirstFromCursor old.ins new.ins l.from.shard
 
 -- the next letter stands in the hold: it stood there, or none did and it was collected
 abbrev pub Fetches : Letter → DeskState → DeskState → Type 0

@@ -1,6 +1,9 @@
-//! What one desk of a node knows, told of another.
+//! What one desk of a node knows, told of another, and the limit of slots, told as a number.
 
+ghost use Rattle.std.specs.Prelude.{◌≡◌};
 ghost use Rattle.pt_shard.specs.Known.{IsKnownToOthers};
+
+use crate::config::MAX_SLOTS;
 
 /// What one desk of a node knows, each other desk of it knows, but for the pids of that other desk, of which it knows
 /// those that it issued. So a pid that a birth answered may be the target of a call on every desk of the node, with no
@@ -9,4 +12,12 @@ ghost use Rattle.pt_shard.specs.Known.{IsKnownToOthers};
 /// It does nothing: the law is its contract.
 pub fn known_to_others()
     ensures { IsKnownToOthers }
+{}
+
+/// A desk has at most 65,536 slots: the definitions of a node's settings cite this limit by its name alone. The limits of
+/// desks and lanes are told by `pt_carrier`, that of stamps by `pt_events`.
+///
+/// It does nothing: the law is its contract.
+pub fn limits_stand()
+    ensures { MAX_SLOTS ≡ 65536 }
 {}

@@ -66,6 +66,6 @@ mod stop;
 
 pub use config::{Config, MAX_DESKS, MAX_LANE, MAX_SLOTS, MAX_STAMP, OpenError};
 pub use fault::Fault;
-pub use laws::known_to_others;
+pub use laws::{known_to_others, limits_stand};
 pub use shard::Shard;
 pub use stop::Stop;
