@@ -11,9 +11,9 @@ use Rattle.pt_events.specs.History.{sent_by}
 use Rattle.pt_events.specs.Journal.{letter, letters, posts, gots, Agrees}
 use Rattle.pt_carrier.specs.Ends.{OutEnds, InEnds, one_more, Collects}
 use Rattle.pt_shard.specs.ShardState.{ShardState, past, written, handled, came}
-use Rattle.pt_shard.specs.Outbox.{sent_on, holding}
+use Rattle.pt_shard.specs.Outbox.{sent_on, holding, held_from}
 use Rattle.pt_shard.specs.Fit.{IsFit}
-use Rattle.pt_desk.specs.DeskState.{IsAccounted, held_from}
+use Rattle.pt_desk.specs.DeskState.{IsAccounted}
 use Rattle.pt_events.proofs.Agreeing.{Agrees-got, Agrees-posted}
 use Rattle.pt_desk.proofs.Letters.{put_at}
 

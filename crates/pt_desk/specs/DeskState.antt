@@ -1,10 +1,11 @@
 -- A desk of a node: what it is without its lanes, and its ends of them.
-use Rattle.std.specs.Prelude.{◌≡◌, ℕ, ◌<◌, ◌==◌, cond, List, [], ◌∷◌, ◌++◌, length, slice_index_or, Option, Some, None}
+use Rattle.std.specs.Prelude.{◌≡◌, ℕ, ◌<◌, List, [], ◌++◌, length, slice_index_or}
 use Rattle.pt_signal.specs.declared.letter.Letter.{Letter}
 use Rattle.pt_events.specs.Journal.{posts, gots, Agrees}
 use Rattle.pt_carrier.specs.Ends.{Place, OutEnds, InEnds}
 use Rattle.pt_carrier.specs.Node.{places}
 use Rattle.pt_shard.specs.ShardState.{ShardState, box}
+use Rattle.pt_shard.specs.Outbox.{held_from}
 use Rattle.pt_shard.specs.Extends.{Extends}
 use Rattle.pt_shard.specs.Fit.{IsFit}
 
@@ -28,11 +29,6 @@ waits_for d e = box d.shard e
 -- what was collected from desk e, oldest first
 abbrev pub collected_from : DeskState → ℕ → List Letter
 collected_from d e = slice_index_or d.ins.collected e []
-
--- the letter in the hold, if it is from desk d
-abbrev pub held_from : ℕ → Option Letter → List Letter
-held_from d None = []
-held_from d (Some l) = cond (l.from.shard == d) (l ∷ []) []
 
 -- what the journal sent to each desk is what was posted there, then what waits to be posted;
 -- what was collected from each desk is what came from it, then the letter in the hold

@@ -5,7 +5,7 @@ use Rattle.std.proofs.lemmas.Bool.{eqb-true}
 use Rattle.std.proofs.lemmas.List.{length-append}
 use Rattle.pt_signal.specs.declared.letter.Letter.{Letter}
 use Rattle.pt_gathered.specs.declared.left_over.LeftOver.{LeftOver}
-use Rattle.pt_gathered.specs.Gathered.{held_from}
+use Rattle.pt_shard.specs.Outbox.{held_from}
 use Rattle.pt_gathered.specs.LeftOvers.{joined}
 
 pub get_front : (xs ys : List Letter) (k : ℕ) → k < length xs → slice_get (xs ++ ys) k ≡ slice_get xs k

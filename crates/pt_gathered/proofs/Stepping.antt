@@ -12,8 +12,9 @@ use Rattle.pt_shard.specs.declared.config.Config.{Config}
 use Rattle.pt_shard.specs.declared.stop.Stop.{Stop}
 use Rattle.pt_shard.specs.declared.stop.Stop.TheVariants.{Memory, Worn}
 use Rattle.pt_shard.specs.ShardState.{ShardState, put_out, handled, Handles}
+use Rattle.pt_shard.specs.Outbox.{held_from}
 use Rattle.pt_shard.specs.Fit.{IsFit}
-use Rattle.pt_gathered.specs.Gathered.{GatheredState, IsGathered, IsShardOf, journal_at, box_at, hold_at, held_from, over_in}
+use Rattle.pt_gathered.specs.Gathered.{GatheredState, IsGathered, IsShardOf, journal_at, box_at, hold_at, over_in}
 use Rattle.pt_gathered.specs.Settling.{receipt, replies, replies_to, Receives, Steps}
 use Rattle.pt_gathered.specs.Taking.{bare, AreShards, TakesOut}
 use Rattle.pt_gathered.specs.Waits.{posted_in, StepsPosted}

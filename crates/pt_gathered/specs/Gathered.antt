@@ -1,9 +1,10 @@
 -- The desks of a node without their lanes, and the letters left over.
-use Rattle.std.specs.Prelude.{◌≡◌, ℕ, ◌+◌, ◌*◌, ◌<◌, ◌==◌, nat_lt, Bool, cond, List, [], ◌∷◌, ◌++◌, length, map, slice_index_or, Option, Some, None}
+use Rattle.std.specs.Prelude.{◌≡◌, ℕ, ◌+◌, ◌*◌, ◌<◌, nat_lt, Bool, cond, List, [], ◌++◌, length, map, slice_index_or, Option, None}
 use Rattle.pt_signal.specs.declared.letter.Letter.{Letter}
 use Rattle.pt_events.specs.Journal.{Journals, posts, gots, Agrees}
 use Rattle.pt_shard.specs.declared.config.Config.{Config}
 use Rattle.pt_shard.specs.ShardState.{ShardState}
+use Rattle.pt_shard.specs.Outbox.{held_from}
 use Rattle.pt_shard.specs.Fit.{IsFit}
 
 -- the lane from desk d to desk e stands at d * desks + e
@@ -20,11 +21,6 @@ box_at shards d e = slice_index_or (slice_index_or (map (λ (s : ShardState). s.
 
 abbrev pub hold_at : List ShardState → ℕ → Option Letter
 hold_at shards e = slice_index_or (map (λ (s : ShardState). s.hold) shards) e None
-
--- the letter in the hold, if it is from desk d
-abbrev pub held_from : ℕ → Option Letter → List Letter
-held_from d None = []
-held_from d (Some l) = cond (l.from.shard == d) (l ∷ []) []
 
 -- what is left over from desk d to desk e: the letter in the hold, those in the lane, those that were not posted
 abbrev pub over_in : List ShardState → List (List Letter) → ℕ → ℕ → List Letter

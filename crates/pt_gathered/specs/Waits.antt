@@ -3,7 +3,8 @@ use Rattle.std.specs.Prelude.{◌≡◌, ℕ, ◌+◌, ◌*◌, ◌<◌, ◌≤�
 use Rattle.pt_signal.specs.declared.letter.Letter.{Letter}
 use Rattle.pt_shard.specs.declared.stop.Stop.{Stop}
 use Rattle.pt_shard.specs.ShardState.{ShardState}
-use Rattle.pt_gathered.specs.Gathered.{GatheredState, box_at, hold_at, held_from}
+use Rattle.pt_shard.specs.Outbox.{held_from}
+use Rattle.pt_gathered.specs.Gathered.{GatheredState, box_at, hold_at}
 use Rattle.pt_gathered.specs.Settling.{NothingTo}
 
 -- nothing is left over to a desk that is not marked

@@ -14,7 +14,7 @@ use Rattle.pt_laws.specs.JournalLaws.{JournalsSay}
 use Rattle.pt_laws.specs.Taken.{taken}
 use Rattle.pt_lives.specs.LifeState.{LifeState, account_of}
 use Rattle.pt_lives.specs.Table.{Tells, found}
-use Rattle.pt_lives.specs.DeskLives.{DeskTable, life_in, IsTableOf, linked_in, kept_in, watching_in}
+use Rattle.pt_lives.specs.DeskLives.{DeskTable, life_in, IsTableOf, linked_in, kept_by, watching_in}
 use Rattle.pt_lives.specs.LivesState.{Lives, AreLivesOf, account_at, account_in}
 use Rattle.pt_lives.proofs.Counted.{balance}
 
@@ -29,7 +29,7 @@ linked_told : (past : Past) (p : Pid) (o : Option LifeState) (q : Pid) → Tells
 linked_told past p None q t = rw t.0 refl
 linked_told past p (Some l) q t = ap (λ l. held (state_of l.phase).links q) t.0
 
-kept_told : (past : Past) (p : Pid) (o : Option LifeState) (m : Ref) → Tells past p o → kept_in o m ≡ list_any (λ k. same_ref m k.0) (state [] past p).kept
+kept_told : (past : Past) (p : Pid) (o : Option LifeState) (m : Ref) → Tells past p o → kept_by o m ≡ list_any (λ k. same_ref m k.0) (state [] past p).kept
 kept_told past p None m t = rw t.0 refl
 kept_told past p (Some l) m t = ap (λ l. list_any (λ k. same_ref m k.0) (state_of l.phase).kept) t.0
 
@@ -55,7 +55,7 @@ module _ (journals : Journals) (lives : Lives) (of : AreLivesOf journals lives) 
     pub node_linked : (q : Pid) → linked_in o q ≡ held (state [] (events merged) p).links q
     node_linked q = linked_told (events (journals p.shard)) p o q tells ∙ ap (λ f. held (state_of f).links q) (say [] of.desks.low of.desks.top journals merged p of.desks.local m).0
 
-    pub node_kept : (r : Ref) → kept_in o r ≡ list_any (λ k. same_ref r k.0) (state [] (events merged) p).kept
+    pub node_kept : (r : Ref) → kept_by o r ≡ list_any (λ k. same_ref r k.0) (state [] (events merged) p).kept
     node_kept r = kept_told (events (journals p.shard)) p o r tells ∙ ap (λ f. list_any (λ k. same_ref r k.0) (state_of f).kept) (say [] of.desks.low of.desks.top journals merged p of.desks.local m).0
 
     pub node_watching : (r : Ref) → watching_in o r ≡ is_some (lookup (same_ref r) (open_monitors (life [] (events merged) p)))

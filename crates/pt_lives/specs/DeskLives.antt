@@ -37,9 +37,9 @@ abbrev pub linked_in : Option LifeState → Pid → Option Ids
 linked_in None q = None
 linked_in (Some l) q = held (state_of l.phase).links q
 
-abbrev pub kept_in : Option LifeState → Ref → Bool
-kept_in None m = false
-kept_in (Some l) m = list_any (λ k. same_ref m k.0) (state_of l.phase).kept
+abbrev pub kept_by : Option LifeState → Ref → Bool
+kept_by None m = false
+kept_by (Some l) m = list_any (λ k. same_ref m k.0) (state_of l.phase).kept
 
 abbrev pub watching_in : Option LifeState → Ref → Bool
 watching_in None m = false

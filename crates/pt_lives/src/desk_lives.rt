@@ -4,7 +4,7 @@ ghost use Rattle.std.specs.Prelude.{◌≡◌, ◌+◌, ◌<◌, ◌++◌, ℕ, 
 ghost use Rattle.std.specs.Option.{option_map};
 ghost use Rattle.pt_events.specs.Journal.{events};
 ghost use Rattle.pt_lives.specs.LifeState.{account_of};
-ghost use Rattle.pt_lives.specs.DeskLives.{AreCounted, IsDeskJournal, IsTableOf, life_in, linked_in, kept_in, watching_in, pids_in};
+ghost use Rattle.pt_lives.specs.DeskLives.{AreCounted, IsDeskJournal, IsTableOf, life_in, linked_in, kept_by, watching_in, pids_in};
 ghost use Rattle.pt_lives.specs.Table.{slot_at};
 ghost use Rattle.pt_lives.specs.Steps.{Changes, KeepsLengths, Puts, Observes, MayShow, MayObserve, shown};
 
@@ -143,7 +143,7 @@ impl DeskLives {
 
     /// Whether it keeps a watch of this reference, or did just after its end.
     pub fn kept(&self, target: Pid, monitor: Ref) -> bool
-        ensures { result ≡ kept_in (life_in self.now target) monitor }
+        ensures { result ≡ kept_by (life_in self.now target) monitor }
     {
         match self.life(target) {
             Some(life) => life.kept(monitor),

@@ -1,5 +1,5 @@
 -- The accounts of desks whose lanes were brought together.
-use Rattle.std.proofs.Common.{◌≡◌, ℕ, ◌+◌, ◌*◌, ◌<◌, List, [], ◌∷◌, ◌++◌, length, map, get_or, refl, sym, ap, ◌∙◌, subst, arith, Option, Some, None}
+use Rattle.std.proofs.Common.{◌≡◌, ℕ, ◌+◌, ◌*◌, ◌<◌, List, [], ◌∷◌, ◌++◌, length, map, get_or, sym, ap, ◌∙◌, subst, arith}
 use Rattle.std.proofs.lemmas.Simd.{map-map}
 use Rattle.std.proofs.lemmas.List.{get_or-map, length-map}
 use Rattle.pt_signal.specs.declared.letter.Letter.{Letter}
@@ -8,10 +8,10 @@ use Rattle.pt_carrier.specs.Ends.{OutEnds, InEnds}
 use Rattle.pt_carrier.specs.Node.{all_posted, all_collected, entry}
 use Rattle.pt_shard.specs.declared.config.Config.{Config}
 use Rattle.pt_shard.specs.ShardState.{ShardState}
-use Rattle.pt_gathered.specs.Gathered.{GatheredState, IsGathered, IsShardOf, journal_at, box_at, hold_at, held_from, over_in}
+use Rattle.pt_shard.specs.Outbox.{held_from}
+use Rattle.pt_gathered.specs.Gathered.{GatheredState, IsGathered, IsShardOf, journal_at, box_at, hold_at, over_in}
 use Rattle.pt_events.proofs.Agreeing.{Agrees-posted}
-use Rattle.pt_desk.specs.DeskState.{DeskState, IsDesk, IsAccounted, place}
-use Rattle.pt_desk.specs.DeskState as desk
+use Rattle.pt_desk.specs.DeskState.{DeskState, IsDesk, place}
 use Rattle.pt_node.specs.Desks.{all_ends, all_shards}
 use Rattle.pt_node.specs.Gathering.{Gathers, HasJournalsOf}
 
@@ -20,10 +20,6 @@ pub lane_agrees : (sent posted box collected lane got held : List Letter) → se
 lane_agrees sent posted box collected lane got held s p a =
     subst (λ z. Agrees z got (held ++ lane ++ box)) (sym (s ∙ ap (λ z. z ++ box) p))
     (Agrees-posted (collected ++ lane) got (held ++ lane) box (Agrees-posted collected got held lane a))
-
-held_same : (d : ℕ) (o : Option Letter) → desk.held_from d o ≡ held_from d o
-held_same d None = refl
-held_same d (Some l) = refl
 
 module _ (desks : List DeskState) (g : GatheredState) (whole : (d : ℕ) (x : DeskState) → d < length desks → IsDesk (get_or desks d x)) (gathers : Gathers desks g) where
   count : length g.shards ≡ length desks
@@ -86,8 +82,7 @@ module _ (desks : List DeskState) (g : GatheredState) (whole : (d : ℕ) (x : De
       let first = (whole d x h).fit.first in
       let sent : posts [] (get_or desks d x).shard.journal e ≡ get_or (get_or desks d x).outs.posted e [] ++ get_or (get_or desks d x).shard.outbox e []
       = subst (λ b. posts b (get_or desks d x).shard.journal e ≡ get_or (get_or desks d x).outs.posted e [] ++ get_or (get_or desks d x).shard.outbox e []) first (from.posted e (omega (arith, k, desks_at d x h))) in
-      let got : Agrees (get_or (get_or desks e x).ins.collected d []) (gots (get_or desks e x).shard.journal d) (held_from d (get_or desks e x).shard.hold)
-      = subst (Agrees (get_or (get_or desks e x).ins.collected d []) (gots (get_or desks e x).shard.journal d)) (held_same d (get_or desks e x).shard.hold) (to.collected d (omega (arith, h, desks_at e x k))) in
+      let got : Agrees (get_or (get_or desks e x).ins.collected d []) (gots (get_or desks e x).shard.journal d) (held_from d (get_or desks e x).shard.hold) = to.collected d (omega (arith, h, desks_at e x k)) in
       let left = gathers.left.lanes d e (omega (arith, h, ends_count)) (omega (arith, k, ends_count)) in
       let posted : get_or (get_or desks d x).outs.posted e [] ≡ get_or (get_or desks e x).ins.collected d [] ++ get_or g.lanes (d * length g.shards + e) []
       = sym (posted_at d e x h) ∙ left ∙ ap (λ z. z ++ get_or g.lanes (d * length (all_ends desks) + e) []) (collected_at e d x k)

@@ -1,5 +1,5 @@
 -- Letters go out of the outbox, and through the hold.
-use Rattle.std.specs.Prelude.{ℕ, ◌+◌, length, drop, sum_by, Option, Some, None, slice_set}
+use Rattle.std.specs.Prelude.{ℕ, ◌+◌, ◌==◌, cond, List, [], ◌∷◌, length, drop, sum_by, Option, Some, None, slice_set}
 use Rattle.pt_signal.specs.declared.letter.Letter.{Letter}
 use Rattle.pt_shard.specs.ShardState.{ShardState, box}
 
@@ -9,6 +9,11 @@ sent_on e d = record d { outbox = slice_set d.outbox e (drop 1 (box d e)) }
 
 abbrev pub holding : Option Letter → ShardState → ShardState
 holding letter d = record d { hold = letter }
+
+-- the letter in the hold, if it is from desk d
+abbrev pub held_from : ℕ → Option Letter → List Letter
+held_from d None = []
+held_from d (Some l) = cond (l.from.shard == d) (l ∷ []) []
 
 abbrev pub count_held : Option Letter → ℕ
 count_held None = 0

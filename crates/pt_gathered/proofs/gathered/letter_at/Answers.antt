@@ -1,7 +1,8 @@
 use Rattle.std.proofs.Common.{◌≡◌, ◌+◌, ◌-◌, ◌*◌, ◌<◌, ◌≤◌, [], length, get_or, sym, ap, ◌∙◌, arith}
 use Rattle.std.specs.Prelude.{slice_get}
 use Rattle.pt_carrier.proofs.Rooms.{place_before}
-use Rattle.pt_gathered.specs.Gathered.{held_from, hold_at, box_at}
+use Rattle.pt_shard.specs.Outbox.{held_from}
+use Rattle.pt_gathered.specs.Gathered.{hold_at, box_at}
 use Rattle.pt_gathered.proofs.Stepping.{box_is, lane_is}
 use Rattle.pt_gathered.proofs.Places.{held_one, held_none, in_lane_at, in_box_at}
 use Rattle.pt_gathered.proofs.gathered.letter_at.Goals as goal

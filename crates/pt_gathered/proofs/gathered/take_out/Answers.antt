@@ -3,7 +3,8 @@ use Rattle.std.specs.Prelude.{slice_get, is_some}
 use Rattle.std.proofs.lemmas.List.{nil_from_length}
 use Rattle.pt_carrier.proofs.Rooms.{place_before}
 use Rattle.pt_shard.specs.ShardState.{ShardState}
-use Rattle.pt_gathered.specs.Gathered.{held_from, hold_at}
+use Rattle.pt_shard.specs.Outbox.{held_from}
+use Rattle.pt_gathered.specs.Gathered.{hold_at}
 use Rattle.pt_gathered.proofs.Stepping.{hold_is, lane_is, takes_hold, takes_lane, takes_box}
 use Rattle.pt_gathered.proofs.Places.{held_is, held_is_not}
 use Rattle.pt_gathered.proofs.gathered.take_out.Goals as goal
