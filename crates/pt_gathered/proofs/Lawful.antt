@@ -5,6 +5,7 @@ use Rattle.std.proofs.lemmas.List.{get_or_past, length-map}
 use Rattle.pt_signal.specs.declared.letter.Letter.{Letter}
 use Rattle.pt_events.specs.declared.event.Stamped.{Stamped}
 use Rattle.pt_events.specs.Journal.{events, content, posts, gots, Agrees, LanesAgree, IsLocal, IsMerge}
+use Rattle.pt_laws.specs.Asking.{AnswersAreTrue, QuietAnswers}
 use Rattle.pt_laws.specs.Headline.{HeadlineHolds}
 use Rattle.pt_laws.specs.Laws.{MergeLegal}
 use Rattle.pt_laws.specs.LinkLaws.{MergeLinks}
@@ -15,7 +16,7 @@ use Rattle.pt_shard.specs.ShardState.{ShardState}
 use Rattle.pt_shard.specs.Fit.{IsFit}
 use Rattle.pt_gathered.specs.Gathered.{GatheredState, IsGathered, journals, over}
 use Rattle.pt_gathered.specs.Settling.{load_of, Settles, NothingLeft}
-use Rattle.pt_gathered.specs.Lawful.{IsLegalNode, KeepsHeadline, IsQuietNode, IsBounded, LinksStand, WatchesStand}
+use Rattle.pt_gathered.specs.Lawful.{IsLegalNode, KeepsHeadline, IsQuietNode, IsBounded, LinksStand, WatchesStand, AnswersHold, QuestionsAnswered}
 use Rattle.pt_gathered.proofs.Agreeing.{local_at, at_map}
 use Rattle.pt_gathered.proofs.Overs.{over_both, over_left, over_right}
 
@@ -85,6 +86,12 @@ module _ (g : GatheredState) (whole : IsGathered g) where
   watches_stand quiet monitors watches merged w t m is =
       let q = quiet merged is in
       (λ lives said. monitors (events merged) w t m q.0 q.1 lives said, λ gone. watches (events merged) w t m q.0 q.1 gone)
+
+  pub answers_hold : MergeLegal → AnswersAreTrue → AnswersHold g
+  answers_hold legal law merged q t m x is arrived = law [] (events merged) q t m x (legal_node legal merged is).0 arrived
+
+  pub questions_answered : IsQuietNode g → QuietAnswers → QuestionsAnswered g
+  questions_answered quiet law merged q t m is lives = let k = quiet merged is in law [] (events merged) q t m k.0 k.1 lives
 
 pub is_bounded : LoadByDesk → (old new : GatheredState) → IsGathered old → Settles old new → IsBounded old new
 is_bounded law old new whole s merged m = let a = load_is old whole law merged m in let b = s.bound in omega arith

@@ -1,17 +1,19 @@
 -- What the laws of histories say of a node whose desks were gathered, and of one that was settled.
-use Rattle.std.specs.Prelude.{◌≡◌, ◌+◌, ◌≤◌, true, false, List, []}
+use Rattle.std.specs.Prelude.{◌≡◌, ◌+◌, ◌≤◌, Bool, true, false, List, [], Contains}
 use Rattle.pt_signal.specs.declared.pid.Pid.{Pid}
 use Rattle.pt_signal.specs.declared.ids.Ref.{Ref}
+use Rattle.pt_signal.specs.declared.item.Item.{Item}
 use Rattle.pt_signal.specs.Values.{same_pid}
 use Rattle.pt_events.specs.declared.event.Stamped.{Stamped}
-use Rattle.pt_events.specs.History.{IsLegal, life, alive}
+use Rattle.pt_events.specs.History.{IsLegal, life, alive, arrived}
 use Rattle.pt_events.specs.Journal.{events, LanesAgree, IsMerge}
 use Rattle.pt_laws.specs.Laws.{LegalWithLeftOver}
 use Rattle.pt_laws.specs.Load.{IsQuiet, load}
 use Rattle.pt_laws.specs.Links.{LinksAgree}
 use Rattle.pt_laws.specs.Headline.{IsHeadline}
-use Rattle.pt_laws.specs.Watch.{said_to, is_monitor, open_in, kept_in}
+use Rattle.pt_laws.specs.Watch.{count, said_to, is_monitor, open_in, kept_in}
 use Rattle.pt_laws.specs.MonitorLaws.{demonitors_and_downs}
+use Rattle.pt_laws.specs.Asking.{IsAnswer, is_question, is_answer}
 use Rattle.pt_gathered.specs.Gathered.{GatheredState, journals, over}
 use Rattle.pt_gathered.specs.Settling.{event_count}
 
@@ -47,3 +49,15 @@ WatchesStand g =
     → (alive [] (events merged) w ≡ true → said_to w t (is_monitor m) (events merged) ≡ 1
     → (demonitors_and_downs [] (events merged) w m + kept_in w t m (life [] (events merged) t) ≡ 1) × (open_in w t m (life [] (events merged) w) ≡ kept_in w t m (life [] (events merged) t)))
     × (alive [] (events merged) w ≡ false → kept_in w t m (life [] (events merged) t) ≡ 0)
+
+-- each answer that arrived is true, and all that the asker had sent before it asked came before its question did
+abbrev pub AnswersHold : GatheredState → Type 0
+AnswersHold g =
+    (merged : List Stamped) (q t : Pid) (m : Ref) (x : Bool) → IsMerge (journals g) merged
+    → Contains (arrived [] (events merged) q) (Item.Alive m t x) → IsAnswer [] (events merged) q t m x
+
+-- each question of a live process has its one answer
+abbrev pub QuestionsAnswered : GatheredState → Type 0
+QuestionsAnswered g =
+    (merged : List Stamped) (q t : Pid) (m : Ref) → IsMerge (journals g) merged → alive [] (events merged) q ≡ true
+    → count (is_answer m t) (arrived [] (events merged) q) ≡ said_to q t (is_question m) (events merged)

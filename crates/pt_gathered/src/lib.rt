@@ -29,7 +29,9 @@
 //! [`Gathered::settle`] takes the letters left over to their receivers, pass by pass, until there are none. Each
 //! journal gets receipts alone, at most as many as the load of the history before: the letters left over, the links
 //! and monitors among them twice, and each link, watch and monitor that a live process has. Then links stand at both
-//! ends or at neither, and each monitor of a live process was given up, had its one `DOWN`, or is open and kept.
+//! ends or at neither, each monitor of a live process was given up, had its one `DOWN`, or is open and kept, and each
+//! question of a live process whether another one is alive has its one answer, which is true. [`Quiet::laws`] says so
+//! of a quiet node at any time.
 //!
 //! At its end settling reads each journal once. Then [`Quiet`] tells, without memory, which processes were born, why
 //! each one ended, how many items arrived, were taken and wait, and what it is linked with, keeps and watches; of an

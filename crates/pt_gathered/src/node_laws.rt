@@ -2,7 +2,7 @@
 
 ghost use Rattle.pt_gathered.specs.Gathered.{GatheredState};
 ghost use Rattle.pt_gathered.specs.Settling.{Settles, NothingLeft};
-ghost use Rattle.pt_gathered.specs.Lawful.{LanesKeep, KeepsHeadline, IsLegalNode, IsQuietNode, IsBounded, LinksStand, WatchesStand};
+ghost use Rattle.pt_gathered.specs.Lawful.{LanesKeep, KeepsHeadline, IsLegalNode, IsQuietNode, IsBounded, LinksStand, WatchesStand, AnswersHold, QuestionsAnswered};
 
 use crate::gathered::Gathered;
 use pt_laws::{laws, links};
@@ -12,10 +12,12 @@ pub fn laws_of(gathered: &Gathered)
     ensures lanes { LanesKeep gathered.now }
     ensures headline { KeepsHeadline gathered.now }
     ensures legal { IsLegalNode gathered.now }
+    ensures answers { AnswersHold gathered.now }
     ensures bounded { (new : GatheredState) → Settles gathered.now new → IsBounded gathered.now new }
     ensures quiet { NothingLeft gathered.now → IsQuietNode gathered.now }
     ensures links { NothingLeft gathered.now → LinksStand gathered.now }
     ensures watches { NothingLeft gathered.now → WatchesStand gathered.now }
+    ensures questions { NothingLeft gathered.now → QuestionsAnswered gathered.now }
 {
     laws::headline_holds();
     laws::one_down();
@@ -23,6 +25,7 @@ pub fn laws_of(gathered: &Gathered)
     laws::load_by_desk_falls();
     laws::receipts_lower_the_load();
     laws::quiet_monitors();
+    laws::answers_are_true();
     links::merge_links();
     let _desks = gathered.desks();
 }

@@ -6,12 +6,17 @@ ghost use Rattle.std.specs.List.{list_any};
 ghost use Rattle.pt_signal.specs.Values.{same_ref};
 ghost use Rattle.pt_signal.specs.Process.{held};
 ghost use Rattle.pt_events.specs.History.{life, state, open_monitors};
-ghost use Rattle.pt_events.specs.Journal.{IsMerge};
+ghost use Rattle.pt_events.specs.Journal.{IsMerge, events};
 ghost use Rattle.pt_laws.specs.Laws.{LegalWithLeftOver};
-ghost use Rattle.pt_lives.specs.LivesState.{AreLivesOf, AreAllPids, InEveryMerge, account_in};
+ghost use Rattle.pt_laws.specs.Load.{IsQuiet};
+ghost use Rattle.pt_lives.specs.LivesState.{AreAllPids, InEveryMerge, account_in};
 ghost use Rattle.pt_gathered.specs.Gathered.{journals, over};
+ghost use Rattle.pt_gathered.specs.Quiet.{IsSettled};
+ghost use Rattle.pt_gathered.specs.Settling.{NothingLeft};
+ghost use Rattle.pt_gathered.specs.Lawful.{LanesKeep, KeepsHeadline, IsQuietNode, LinksStand, WatchesStand, AnswersHold, QuestionsAnswered};
 
 use crate::gathered::Gathered;
+use crate::node_laws::laws_of;
 use pt_events::Stamped;
 use pt_lives::{Account, Lives};
 use pt_signal::{Ids, Pid, Ref};
@@ -29,20 +34,18 @@ pub struct Quiet {
 }
 
 impl Model for Quiet {
-    ghost use Rattle.pt_gathered.specs.Gathered.{journals};
-    ghost use Rattle.pt_gathered.specs.Quiet.{QuietState};
-    ghost use Rattle.pt_lives.specs.LivesState.{AreLivesOf};
+    ghost use Rattle.pt_gathered.specs.Quiet.{QuietState, IsSettled};
 
     ghost Value = { QuietState };
 
     ghost view = { λ q. record { gathered = q.gathered; handled = q.handled } };
 
-    ghost invariant = { λ q. AreLivesOf (journals q.gathered) q.lives };
+    ghost invariant = { λ q. IsSettled q.gathered q.lives };
 }
 
 impl Quiet {
     pub(crate) fn of(gathered: Gathered, handled: u64, lives: Lives) -> Quiet
-        requires { AreLivesOf (journals gathered) lives }
+        requires { IsSettled gathered lives }
         ensures { result ≡ record { gathered = gathered; handled = handled } }
     {
         Quiet {
@@ -63,8 +66,25 @@ impl Quiet {
     pub fn history(&self) -> Result<Vec<Stamped>, AllocError>
         ensures merge { IfOk result (λ h. IsMerge (journals self.now.gathered) (reverse h.items)) }
         ensures legal { IfOk result (λ h. LegalWithLeftOver [] (reverse h.items) (over self.now.gathered)) }
+        ensures quiet { IfOk result (λ h. IsQuiet [] (events (reverse h.items))) }
     {
+        self.laws();
         self.gathered.history()
+    }
+
+    /// What the laws of histories say of a node in which nothing is on its way, for who has only the quiet node. It does
+    /// nothing.
+    pub fn laws(&self)
+        ensures nothing_left { NothingLeft self.now.gathered }
+        ensures lanes { LanesKeep self.now.gathered }
+        ensures headline { KeepsHeadline self.now.gathered }
+        ensures quiet { IsQuietNode self.now.gathered }
+        ensures links { LinksStand self.now.gathered }
+        ensures watches { WatchesStand self.now.gathered }
+        ensures answers { AnswersHold self.now.gathered }
+        ensures questions { QuestionsAnswered self.now.gathered }
+    {
+        laws_of(&self.gathered);
     }
 
     /// The pids of all processes that were ever born, each once, by shard, slot and version.

@@ -6,7 +6,7 @@ ghost use Rattle.pt_gathered.specs.Gathered.{over_in};
 ghost use Rattle.pt_gathered.specs.Settling.{Runs, Moves, Settles, NothingLeft, NothingTo, NothingBelow};
 ghost use Rattle.pt_gathered.specs.Order.{Passes, SettlingStops, Pass, PassStops, DeskComes, DeskStops, LaneComes, LaneStops};
 ghost use Rattle.pt_gathered.specs.Waits.{Waits, Marks, AreLeast, IsLeast, KeepsNone, NonePosted, posted_in};
-ghost use Rattle.pt_gathered.specs.Lawful.{LanesKeep, KeepsHeadline, IsLegalNode, IsQuietNode, IsBounded, LinksStand, WatchesStand};
+ghost use Rattle.pt_gathered.specs.Lawful.{LanesKeep, KeepsHeadline, IsLegalNode, IsQuietNode, IsBounded, LinksStand, WatchesStand, AnswersHold, QuestionsAnswered};
 
 use crate::gathered::Gathered;
 use crate::node_laws::laws_of;
@@ -47,7 +47,8 @@ impl Gathered {
     /// between the two when it is come to them, oldest first; what is sent meanwhile comes at a later place of the same
     /// pass, or in a later one. Each journal gets receipts alone, and no more of them all than the load of the history
     /// before. The merge of the journals is then legal and quiet: links stand at both ends or at neither, and each
-    /// monitor of a live process was given up, had its one `DOWN`, or is open and kept.
+    /// monitor of a live process was given up, had its one `DOWN`, or is open and kept. Each answer to the question
+    /// whether a process is alive is true, and each such question of a live process has its one answer.
     ///
     /// Once no letter is left over, each journal is read once, from its first event to its last, for what the quiet
     /// node tells of its processes.
@@ -70,6 +71,8 @@ impl Gathered {
         ensures quiet { IfOk result (λ q. IsQuietNode q.gathered) }
         ensures links { IfOk result (λ q. LinksStand q.gathered) }
         ensures watches { IfOk result (λ q. WatchesStand q.gathered) }
+        ensures answers { IfOk result (λ q. AnswersHold q.gathered) }
+        ensures questions { IfOk result (λ q. QuestionsAnswered q.gathered) }
         ensures again { NothingLeft self → IfOk result (λ q. (q.gathered ≡ self) × (q.handled ≡ 0)) }
         ensures refused { IfErr result (λ u. Settles self u.gathered) }
         ensures refused_order { IfErr result (λ u. SettlingStops (length self.shards) u.fault self u.gathered) }
@@ -77,6 +80,7 @@ impl Gathered {
         ensures refused_lanes { IfErr result (λ u. LanesKeep u.gathered) }
         ensures refused_headline { IfErr result (λ u. KeepsHeadline u.gathered) }
         ensures refused_legal { IfErr result (λ u. IsLegalNode u.gathered) }
+        ensures refused_answers { IfErr result (λ u. AnswersHold u.gathered) }
         ensures refused_again { NothingLeft self → IfErr result (λ u. (u.gathered ≡ self) × (u.fault ≡ Memory)) }
     {
         laws_of(&self);

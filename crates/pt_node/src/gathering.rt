@@ -4,7 +4,7 @@ ghost use Rattle.std.specs.Prelude.{◌≡◌, ◌≤◌, [], map, IfOk, IfErr, 
 ghost use Rattle.std.specs.Vec.{vec_capacity};
 ghost use Rattle.pt_carrier.specs.Node.{lists};
 ghost use Rattle.pt_carrier.specs.declared.reunion.Cause.{Cause};
-ghost use Rattle.pt_gathered.specs.Lawful.{LanesKeep, KeepsHeadline, IsLegalNode};
+ghost use Rattle.pt_gathered.specs.Lawful.{LanesKeep, KeepsHeadline, IsLegalNode, AnswersHold};
 ghost use Rattle.pt_node.specs.Desks.{AreDesks, desk_kept};
 ghost use Rattle.pt_node.specs.Gathering.{Gathers, HasJournalsOf};
 
@@ -74,7 +74,8 @@ impl DesksBack {
 /// came there, one for one and in order, and then what is left over. So whatever was called on the desks, in whatever
 /// order and by whatever threads: each mailbox's messages from one sender are that sender's messages to it, in order
 /// and each once, from the mailbox's birth to its exit or the letters left over; nothing enters after the exit; taken
-/// and waiting items together are the arrivals; each monitor gives at most one `DOWN` and none after its demonitor.
+/// and waiting items together are the arrivals; each monitor gives at most one `DOWN` and none after its demonitor;
+/// each answer to the question whether a process is alive is true, and all that the asker had sent it before came first.
 ///
 /// Where memory is refused all desks come back as they were, in order; only what the ends of a lane know of each
 /// other may be more, which no call tells. It waits for nobody.
@@ -85,6 +86,7 @@ pub fn gather(alloc: Global, desks: Vec<Desk>) -> Result<Gathered, DesksBack>
     ensures lanes { IfOk result (λ g. LanesKeep g) }
     ensures headline { IfOk result (λ g. KeepsHeadline g) }
     ensures legal { IfOk result (λ g. IsLegalNode g) }
+    ensures answers { IfOk result (λ g. AnswersHold g) }
     ensures back { IfErr result (λ b. map desk_kept b ≡ map desk_kept desks.items) }
 {
     look(desks.as_slice());

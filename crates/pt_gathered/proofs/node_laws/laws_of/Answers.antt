@@ -1,4 +1,4 @@
-use Rattle.pt_gathered.proofs.Lawful.{lanes_agree, keeps_headline, legal_node, is_bounded, quiet_node, links_stand, watches_stand}
+use Rattle.pt_gathered.proofs.Lawful.{lanes_agree, keeps_headline, legal_node, is_bounded, quiet_node, links_stand, watches_stand, answers_hold, questions_answered}
 use Rattle.pt_gathered.proofs.node_laws.laws_of.Goals as goal
 
 pub returns-clause-lanes : goal.returns-clause-lanes
@@ -25,3 +25,11 @@ pub returns-clause-watches : goal.returns-clause-watches
 returns-clause-watches c none =
     let whole = c.desks-desks.ensures.gathered in
     watches_stand c.args.gathered.now whole (quiet_node c.args.gathered.now whole c.merge_is_legal.ensures c.receipts_lower_the_load.ensures.empty none) c.quiet_monitors.ensures.monitors c.quiet_monitors.ensures.watches
+
+pub returns-clause-answers : goal.returns-clause-answers
+returns-clause-answers c = answers_hold c.args.gathered.now c.desks-desks.ensures.gathered c.merge_is_legal.ensures c.answers_are_true.ensures.told
+
+pub returns-clause-questions : goal.returns-clause-questions
+returns-clause-questions c none =
+    let whole = c.desks-desks.ensures.gathered in
+    questions_answered c.args.gathered.now whole (quiet_node c.args.gathered.now whole c.merge_is_legal.ensures c.receipts_lower_the_load.ensures.empty none) c.answers_are_true.ensures.once

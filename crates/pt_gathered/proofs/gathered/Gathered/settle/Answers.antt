@@ -1,8 +1,9 @@
-use Rattle.std.proofs.Common.{◌+◌, length, refl, ap, ◌∙◌, subst, arith, inl, inr, le_refl}
+use Rattle.std.proofs.Common.{◌+◌, length, refl, sym, ap, ◌∙◌, subst, arith, inl, inr, le_refl}
 use Rattle.std.specs.Prelude.{⊤}
 use Rattle.std.specs.Bool.{MatchBool}
 use Rattle.pt_gathered.specs.Settling.{NothingLeft}
 use Rattle.pt_gathered.specs.Order.{Pass, PassStops, PassesStop}
+use Rattle.pt_gathered.specs.Lawful.{AnswersHold, QuestionsAnswered}
 use Rattle.pt_gathered.specs.Quiet.{QuietState}
 use Rattle.pt_gathered.proofs.Settled.{runs_same, runs_along, settles_along, done_after}
 use Rattle.pt_gathered.proofs.Ordering.{more_in_turn, waits_at_first}
@@ -68,8 +69,21 @@ returns-in-Err-lives-clause-refused_again c none =
     let inv = c.loop-more.invariant in
     ((nothing_new c.args.self c.loop-more.gathered c.loop-more.handled none inv.order inv.runs).0, refl)
 
+pub of-requires : goal.of-requires
+of-requires c =
+    let nothing : NothingLeft c.loop-more.gathered = subst (λ b. MatchBool b ⊤ (NothingLeft c.loop-more.gathered)) c.loop-more-test.false c.loop-more.invariant.done in
+    record { nothing_left = nothing; lives_are = c.in-Ok-lives.ensures }
+
 pub returns-in-Ok-lives-clause-again : goal.returns-in-Ok-lives-clause-again
 returns-in-Ok-lives-clause-again c none =
     let inv = c.loop-more.invariant in
     let same = nothing_new c.args.self c.loop-more.gathered c.loop-more.handled none inv.order inv.runs in
     (ap (λ (q : QuietState). q.gathered) c.of.ensures ∙ same.0, ap (λ (q : QuietState). q.handled) c.of.ensures ∙ same.1)
+
+pub returns-in-Ok-lives-clause-answers : goal.returns-in-Ok-lives-clause-answers
+returns-in-Ok-lives-clause-answers c = subst (λ (q : QuietState). AnswersHold q.gathered) (sym c.of.ensures) c.laws_of-2.ensures.answers
+
+pub returns-in-Ok-lives-clause-questions : goal.returns-in-Ok-lives-clause-questions
+returns-in-Ok-lives-clause-questions c =
+    let nothing : NothingLeft c.loop-more.gathered = subst (λ b. MatchBool b ⊤ (NothingLeft c.loop-more.gathered)) c.loop-more-test.false c.loop-more.invariant.done in
+    subst (λ (q : QuietState). QuestionsAnswered q.gathered) (sym c.of.ensures) (c.laws_of-2.ensures.questions nothing)

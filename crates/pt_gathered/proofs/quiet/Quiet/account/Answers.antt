@@ -7,4 +7,4 @@ use Rattle.pt_gathered.proofs.quiet.Quiet.account.Goals as goal
 pub returns : goal.returns
 returns c =
     subst (λ (q : QuietState). InEveryMerge (journals q.gathered) (λ past. c.account.result ≡ account_in past c.args.pid)) c.self.view_is
-    (c.account.ensures (journals c.self.inside.gathered) c.self.invariant)
+    (c.account.ensures (journals c.self.inside.gathered) c.self.invariant.lives_are)

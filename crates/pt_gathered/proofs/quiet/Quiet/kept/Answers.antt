@@ -10,4 +10,4 @@ use Rattle.pt_gathered.proofs.quiet.Quiet.kept.Goals as goal
 pub returns : goal.returns
 returns c =
     subst (λ (q : QuietState). InEveryMerge (journals q.gathered) (λ past. c.kept.result ≡ list_any (λ k. same_ref c.args.monitor k.0) (state [] past c.args.target).kept)) c.self.view_is
-    (c.kept.ensures (journals c.self.inside.gathered) c.self.invariant)
+    (c.kept.ensures (journals c.self.inside.gathered) c.self.invariant.lives_are)

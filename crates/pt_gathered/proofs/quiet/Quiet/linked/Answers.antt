@@ -9,4 +9,4 @@ use Rattle.pt_gathered.proofs.quiet.Quiet.linked.Goals as goal
 pub returns : goal.returns
 returns c =
     subst (λ (q : QuietState). InEveryMerge (journals q.gathered) (λ past. c.linked.result ≡ held (state [] past c.args.pid).links c.args.peer)) c.self.view_is
-    (c.linked.ensures (journals c.self.inside.gathered) c.self.invariant)
+    (c.linked.ensures (journals c.self.inside.gathered) c.self.invariant.lives_are)

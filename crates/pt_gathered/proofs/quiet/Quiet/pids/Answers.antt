@@ -7,4 +7,4 @@ use Rattle.pt_gathered.proofs.quiet.Quiet.pids.Goals as goal
 pub returns : goal.returns
 returns c =
     subst (λ (q : QuietState). InEveryMerge (journals q.gathered) (λ past. AreAllPids past c.pids.result.now)) c.self.view_is
-    (c.pids.ensures (journals c.self.inside.gathered) c.self.invariant)
+    (c.pids.ensures (journals c.self.inside.gathered) c.self.invariant.lives_are)

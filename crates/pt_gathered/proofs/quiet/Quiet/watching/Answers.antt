@@ -10,4 +10,4 @@ use Rattle.pt_gathered.proofs.quiet.Quiet.watching.Goals as goal
 pub returns : goal.returns
 returns c =
     subst (λ (q : QuietState). InEveryMerge (journals q.gathered) (λ past. c.watching.result ≡ is_some (lookup (same_ref c.args.monitor) (open_monitors (life [] past c.args.watcher))))) c.self.view_is
-    (c.watching.ensures (journals c.self.inside.gathered) c.self.invariant)
+    (c.watching.ensures (journals c.self.inside.gathered) c.self.invariant.lives_are)
