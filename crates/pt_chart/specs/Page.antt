@@ -1,4 +1,4 @@
--- Where things stand on the page, in pixels.
+-- Where things stand on the page, in pixels. No public clause cites this module.
 use Rattle.std.specs.Prelude.{ℕ, ◌+◌, ◌-◌, ◌*◌, ◌^◌, min}
 use Rattle.pt_chart.specs.declared.page.Page.{Page}
 

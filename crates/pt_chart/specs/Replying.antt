@@ -1,4 +1,4 @@
--- What a signal that comes makes a live process do, as others see it.
+-- What a signal that comes makes a live process do, as others see it. No public clause cites this module.
 use Rattle.std.specs.Prelude.{◌≡◌, [], ◌∷◌, Some, None}
 use Rattle.pt_signal.specs.declared.pid.Pid.{Pid}
 use Rattle.pt_signal.specs.Process.{Handled, sent}

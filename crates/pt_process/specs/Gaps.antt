@@ -1,4 +1,4 @@
--- Entries in order of entry, some of which have gone and left a gap. No public clause cites this module.
+-- Entries in order of entry, some of which have gone and left a gap.
 use Rattle.std.specs.Prelude.{◌≡◌, ℕ, ◌*◌, ◌≤◌, ◌^◌, Bool, List, [], ◌∷◌, ◌++◌, length, Option, Some, None}
 use Rattle.std.specs.Option.{option_map, option_flatten}
 use Rattle.std.specs.List.{IsDistinct, filter_map}

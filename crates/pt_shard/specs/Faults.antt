@@ -1,4 +1,4 @@
--- A refusal to write an event, as a call's answer. No public clause cites this module.
+-- A refusal to write an event, as a call's answer.
 use Rattle.pt_shard.specs.declared.stop.Stop.{Stop}
 use Rattle.pt_shard.specs.declared.stop.Stop.TheVariants.{Memory as StopMemory, Worn as StopWorn}
 use Rattle.pt_shard.specs.declared.fault.Fault.{Fault}
