@@ -1,6 +1,35 @@
 //! The laws of scripts: each is the contract of a function that does nothing.
 
+ghost use Rattle.std.specs.Prelude.{◌≡◌};
 ghost use Rattle.pt_script.specs.Laws.{AcceptedAreSound, ReasonsAsPrinted, FaultsHavePlaces, NumbersArePlaces, NamesArePlaces, OperationsReadBack, ScriptsReadBack, AcceptedReadBack};
+
+use crate::limits::{
+    DEFAULT_BUDGET, DEFAULT_LANE, DEFAULT_SLOTS, MAX_BUDGET, MAX_BYTES, MAX_DEPTH, MAX_DESKS,
+    MAX_FORMAT, MAX_LANE, MAX_NAME, MAX_NESTING, MAX_OPERATIONS, MAX_PROCESSES, MAX_SLOTS,
+};
+
+/// The limits of formats 1 and 2, as numbers: the format's definition cites them by their names alone.
+pub fn limits_stand()
+    ensures format { MAX_FORMAT ≡ 2 }
+    ensures desks { MAX_DESKS ≡ 64 }
+    ensures slots { MAX_SLOTS ≡ 65536 }
+    ensures lane { MAX_LANE ≡ 65536 }
+    ensures budget { MAX_BUDGET ≡ 65536 }
+    ensures bytes { MAX_BYTES ≡ 1048576 }
+    ensures processes { MAX_PROCESSES ≡ 4096 }
+    ensures operations { MAX_OPERATIONS ≡ 65536 }
+    ensures depth { MAX_DEPTH ≡ 8 }
+    ensures nesting { MAX_NESTING ≡ 63 }
+    ensures name { MAX_NAME ≡ 32 }
+{}
+
+/// What stands where a script of either format does not say it: 1,024 slots, lanes of 64 letters, and turns of 16. The
+/// default of the top version, 4,294,967,295, stands as a number in the format's definition.
+pub fn defaults_stand()
+    ensures slots { DEFAULT_SLOTS ≡ 1024 }
+    ensures lane { DEFAULT_LANE ≡ 64 }
+    ensures budget { DEFAULT_BUDGET ≡ 16 }
+{}
 
 /// In every script that is accepted, each number of a process is below the number of processes, each tag was made
 /// by an earlier operation of its list, each desk is one of the node's, the settings are in their ranges, and there
