@@ -1,1 +1,3 @@
-pub mod Births
+pub mod Calling
+pub mod Doings
+pub mod Retained

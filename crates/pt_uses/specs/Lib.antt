@@ -1,1 +1,6 @@
-pub mod Journals
+pub mod Doing
+pub mod Exchanges
+pub mod Games
+pub mod Payloads
+pub mod Supervision
+pub mod Telling

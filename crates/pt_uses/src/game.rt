@@ -3,19 +3,19 @@
 //! Take it where a process has a state of its own. A desk keeps mailboxes and links and nothing else, so the state
 //! stands in a map by pid beside it, here the health of each monster. One with no health left ends.
 
-ghost use Rattle.std.specs.Prelude.{◌≡◌, Some, IfOk};
-ghost use Rattle.indexmap.specs.IndexMap.{get, keys};
-ghost use Rattle.pt_signal.specs.Values.{same_pid};
+ghost use Rattle.std.specs.Prelude.{◌≡◌};
 ghost use Rattle.pt_node.specs.Desks.{IsStill};
+ghost use Rattle.pt_uses.specs.Doing.{Repeats};
+ghost use Rattle.pt_uses.specs.Games.{EndsIfSpent, Enters, SeesTo, SeesToAll, TakesHit, Ticks, entered, hit_by};
 
 use indexmap::IndexMap;
 use pt_node::{Desk, Fault, Item, Pick, Pid, Reason};
-use std::alloc::{AllocError, Global};
+use std::alloc::Global;
 
 /// The kind of the message that takes health away: its number says how much.
 pub const HIT: u32 = 1;
 
-/// How many messages a monster sees to in a tick, and how many letters a turn handles.
+/// How many hits a monster takes in a tick, and how many letters a turn handles.
 const BUDGET: u32 = 64;
 
 /// The monsters of one desk, each with its health, in the order in which they came.
@@ -33,43 +33,93 @@ impl Game {
 
     /// A monster enters: a process, and its health.
     pub fn enter(&mut self, desk: &mut Desk, health: i64) -> Result<Pid, Fault>
-        ensures state { IfOk result (λ p. get same_pid self.new.health p ≡ Some health) }
+        ensures does { Enters desk.old.shard result desk.new.shard }
+        ensures monsters { self.new.health.entries ≡ entered self.old.health.entries result health }
         ensures still { IsStill desk.old desk.new }
     {
         self.health.reserve(1)?;
         let pid = desk.spawn()?;
-        self.health.insert(pid, health).map_err(AllocError::from)?;
+        let Ok(_former) = self.health.insert(pid, health) else {
+            unreachable!();
+        };
         Ok(pid)
     }
 
     /// One tick: each monster sees to its messages, and the desk has a turn.
     pub fn tick(&mut self, desk: &mut Desk) -> Result<(), Fault>
-        ensures monsters { keys self.new.health ≡ keys self.old.health }
+        ensures does { Ticks (desk.old, self.old.health.entries) result (desk.new, self.new.health.entries) }
+        ensures still { IsStill desk.old desk.new }
+    {
+        self.see_to_all(desk)?;
+        let _ = desk.turn(BUDGET);
+        Ok(())
+    }
+
+    /// Each monster sees to its messages.
+    fn see_to_all(&mut self, desk: &mut Desk) -> Result<(), Fault>
+        ensures does { SeesToAll (desk.old.shard, self.old.health.entries) result
+            (desk.new.shard, self.new.health.entries) }
         ensures still { IsStill desk.old desk.new }
     {
         for place in 0..self.health.len() {
             let (pid, health) = self.health.pair_mut(place);
             see_to(desk, *pid, health)?;
         }
-        let _ = desk.turn(BUDGET);
         Ok(())
     }
 }
 
 /// A monster, if it is alive, takes the hits that wait, and ends where no health is left.
 fn see_to(desk: &mut Desk, me: Pid, health: &mut i64) -> Result<(), Fault>
-    ensures { IsStill desk.old desk.new }
+    ensures does { SeesTo me (desk.old.shard, health.old) result (desk.new.shard, health.new) }
+    ensures still { IsStill desk.old desk.new }
 {
     if !desk.alive_here(me) {
         return Ok(());
     }
-    for _ in 0..BUDGET {
-        match desk.receive(me, Pick::Kind(HIT))? {
-            Some(Item::User(_, body)) => *health = health.saturating_sub(body.num),
-            _ => break,
+    take_hits(desk, me, health, BUDGET)?;
+    end_if_spent(desk, me, *health)
+}
+
+/// Takes the hits that wait, but no more than the budget.
+fn take_hits(desk: &mut Desk, me: Pid, health: &mut i64, budget: u32) -> Result<(), Fault>
+    ensures does { Repeats (TakesHit me) budget (desk.old.shard, health.old) result (desk.new.shard, health.new) }
+    ensures still { IsStill desk.old desk.new }
+{
+    for _turn in 0..budget {
+        if !take_hit(desk, me, health)? {
+            return Ok(());
         }
     }
-    if *health <= 0 {
+    Ok(())
+}
+
+/// Takes the oldest hit that waits, and says whether there was one.
+fn take_hit(desk: &mut Desk, me: Pid, health: &mut i64) -> Result<bool, Fault>
+    ensures does { TakesHit me (desk.old.shard, health.old) result (desk.new.shard, health.new) }
+    ensures still { IsStill desk.old desk.new }
+{
+    let hit = desk.receive(me, Pick::Kind(HIT))?;
+    *health = hit_by(hit, *health);
+    Ok(hit.is_some())
+}
+
+/// The health after a hit.
+fn hit_by(hit: Option<Item>, health: i64) -> i64
+    ensures { result ≡ hit_by hit health }
+{
+    match hit {
+        Some(Item::User(_from, body)) => health.saturating_sub(body.num),
+        _ => health,
+    }
+}
+
+/// Ends a monster that has no health left.
+fn end_if_spent(desk: &mut Desk, me: Pid, health: i64) -> Result<(), Fault>
+    ensures does { EndsIfSpent me (desk.old.shard, health) result (desk.new.shard, health) }
+    ensures still { IsStill desk.old desk.new }
+{
+    if health <= 0 {
         desk.exit(me, Reason::Normal)?;
     }
     Ok(())

@@ -1,34 +1,41 @@
 //! Payloads: what does not fit into a message is kept beside the table, and the message's `num` names it.
 //!
 //! Take it for texts, buffers or anything owned. A message is a kind, a number and perhaps a pid, so the sender puts
-//! the payload into a slab and sends its key; the receiver takes it out by the number that came. A message that is
-//! lost, to a process that has ended, leaves its payload here.
+//! the payload into a slab and sends its key; the receiver takes it out by the number that came. A message to a
+//! process that has ended, or that ends before it takes it, leaves its payload here: `drop_lost` lets such payloads go.
 
-ghost use Rattle.std.specs.Prelude.{◌≡◌, ◌+◌, true, pos, Some, None, is_some, if◌then◌else◌, IfOk, OnErr};
-ghost use Rattle.slab.specs.Slab.{get, slab_len};
-ghost use Rattle.pt_signal.specs.declared.signal.Signal.{Signal};
-ghost use Rattle.pt_events.specs.declared.event.Event.{Event};
+ghost use Rattle.std.specs.Prelude.{◌≡◌, true, [], OnOk, OnErr};
 ghost use Rattle.pt_shard.specs.Known.{knows};
 ghost use Rattle.pt_node.specs.Desks.{IsStill};
-ghost use Rattle.pt_uses.specs.Journals.{newest};
+ghost use Rattle.pt_uses.specs.Payloads.{LetsGo, SaysNumber, Stores, TakesOut, TakesText, is_lost, named, next_text};
+ghost use Rattle.pt_uses.specs.Payloads.{text_of};
 
 use crate::steps::tell;
 use pt_node::{Desk, Fault, Item, Pick, Pid};
 use slab::Slab;
-use std::alloc::{AllocError, Global};
+use std::alloc::Global;
 
 /// The kind of the messages that name a text.
 pub const TEXT: u32 = 3;
 
+/// A text on its way, and whom it was sent to.
+#[derive(Drop)]
+pub struct Sent {
+    pub to: Pid,
+    pub text: String,
+}
+
 /// The texts that were sent and not received, each under the number that its message has.
 #[derive(Drop)]
 pub struct Texts {
-    pub kept: Slab<String>,
+    pub kept: Slab<Sent>,
 }
 
 impl Texts {
     /// No text was sent.
-    pub fn new(alloc: Global) -> Texts {
+    pub fn new(alloc: Global) -> Texts
+        ensures { result.kept.slots ≡ [] }
+    {
         Texts {
             kept: Slab::new(alloc),
         }
@@ -43,37 +50,58 @@ impl Texts {
         text: String,
     ) -> Result<usize, Fault>
         requires { knows desk.old.shard to ≡ true }
-        ensures kept { IfOk result (λ key. get self.new.kept key ≡ Some text) }
-        ensures named { IfOk result (λ key. newest desk.new.shard.journal ≡ Some (Event.Said from to (Signal.Message (record { kind = TEXT; num = pos key; who = None })))) }
-        ensures refused { OnErr result (slab_len self.new.kept ≡ slab_len self.old.kept) }
+        ensures does { SaysNumber from to desk.old.shard result desk.new.shard }
+        ensures kept { Stores (record { to = to; text = text }) result self.old.kept self.new.kept }
         ensures still { IsStill desk.old desk.new }
     {
-        let key = self.kept.insert(text).map_err(AllocError::from)?;
-        let Ok(num) = i64::try_from(key) else {
-            let _ = self.kept.try_remove(key);
+        self.kept.reserve(1)?;
+        let Ok(num) = i64::try_from(self.kept.vacant_key()) else {
             return Err(Fault::Memory);
         };
-        if let Err(fault) = tell(desk, from, to, TEXT, num) {
-            let _ = self.kept.try_remove(key);
-            return Err(fault);
-        }
-        Ok(key)
+        tell(desk, from, to, TEXT, num)?;
+        Ok(self.kept.insert_reserved(Sent { to, text }))
     }
 
     /// Takes the oldest message with a text out of the mailbox of p, and answers its sender and the text.
     pub fn receive(&mut self, desk: &mut Desk, p: Pid) -> Result<Option<(Pid, String)>, Fault>
-        ensures taken { IfOk result (λ r. slab_len self.new.kept + (if is_some r then 1 else 0) ≡ slab_len self.old.kept) }
+        ensures does { TakesText self.old.kept p desk.old.shard result desk.new.shard }
+        ensures taken { OnOk result (TakesOut (named (next_text desk.old.shard p)) self.old.kept self.new.kept) }
+        ensures refused { OnErr result (self.new.kept ≡ self.old.kept) }
         ensures still { IsStill desk.old desk.new }
     {
-        let Some(Item::User(from, body)) = desk.receive(p, Pick::Kind(TEXT))? else {
-            return Ok(None);
+        let item = desk.receive(p, Pick::Kind(TEXT))?;
+        Ok(self.take(item))
+    }
+
+    /// Takes out the text that an item names, and answers who sent it and the text.
+    fn take(&mut self, item: Option<Item>) -> Option<(Pid, String)>
+        ensures text { result ≡ text_of self.old.kept (named item) }
+        ensures taken { TakesOut (named item) self.old.kept self.new.kept }
+    {
+        let Some(Item::User(from, body)) = item else {
+            return None;
         };
         let Ok(key) = usize::try_from(body.num) else {
-            return Ok(None);
+            return None;
         };
-        let Some(text) = self.kept.try_remove(key) else {
-            return Ok(None);
+        let Some(sent) = self.kept.try_remove(key) else {
+            return None;
         };
-        Ok(Some((from, text)))
+        let Sent { to: _, text } = sent;
+        Some((from, text))
     }
+
+    /// Lets the texts go that nobody can receive any more: those whose receiver was born on this desk and has ended.
+    pub fn drop_lost(&mut self, desk: &Desk)
+        ensures { LetsGo (is_lost desk.now.shard) self.old.kept self.new.kept }
+    {
+        self.kept.retain(|_key, sent| !is_lost(desk, sent.to));
+    }
+}
+
+/// Whether p was born on this desk and has ended.
+fn is_lost(desk: &Desk, p: Pid) -> bool
+    ensures { result ≡ is_lost desk.now.shard p }
+{
+    p.shard == desk.number() && desk.knows(p) && !desk.alive_here(p)
 }

@@ -1,22 +1,22 @@
-//! Steps that the recipes share: a message, the oldest end that a mailbox tells of, an end, and the desks gathered.
+//! Steps that the recipes share: a message, the oldest end that a mailbox tells of, and the desks gathered.
 
-ghost use Rattle.std.specs.Prelude.{◌≡◌, true, Some, None, IfOk, OnOk};
-ghost use Rattle.pt_signal.specs.declared.signal.Signal.{Signal};
-ghost use Rattle.pt_events.specs.declared.event.Event.{Event};
-ghost use Rattle.pt_shard.specs.Known.{knows};
-ghost use Rattle.pt_desk.specs.DeskState.{GoesOn};
+ghost use Rattle.std.specs.Prelude.{◌≡◌, IfOk};
+ghost use Rattle.pt_desk.specs.DeskState.{GoesOn, HasSameEnds};
 ghost use Rattle.pt_gathered.specs.Lawful.{KeepsHeadline, IsLegalNode};
 ghost use Rattle.pt_node.specs.Desks.{AreDesks, IsStill};
-ghost use Rattle.pt_uses.specs.Journals.{births, newest};
+ghost use Rattle.pt_node.specs.Gathering.{HasJournalsOf};
+ghost use Rattle.pt_uses.specs.Supervision.{TakesEnd, whose_end};
+ghost use Rattle.pt_uses.specs.Telling.{SaysTo, message};
 
 use crate::RecipeError;
-use pt_node::{Body, Desk, Fault, Gathered, Item, Pick, Pid, Reason, gather};
+use pt_node::{Body, Desk, Fault, Gathered, Item, Pick, Pid, gather};
 use std::alloc::Global;
 
 /// Sends a message. One to a pid that the desk does not know is lost, as one to a process that ended.
 #[tactic(auto, using(pt_node::proofs::GoingOn::stays))]
 pub fn tell(desk: &mut Desk, from: Pid, to: Pid, kind: u32, num: i64) -> Result<(), Fault>
-    ensures said { knows desk.old.shard to ≡ true → OnOk result (newest desk.new.shard.journal ≡ Some (Event.Said from to (Signal.Message (record { kind = kind; num = num; who = None })))) }
+    ensures does { SaysTo from to (message kind num) desk.old.shard result desk.new.shard }
+    ensures ends { HasSameEnds desk.old desk.new }
     ensures goes_on { GoesOn desk.old desk.new }
 {
     let body = Body {
@@ -32,34 +32,27 @@ pub fn tell(desk: &mut Desk, from: Pid, to: Pid, kind: u32, num: i64) -> Result<
 
 /// Takes the oldest item out of the mailbox of p; whose end it tells of, if of one.
 pub fn next_exit(desk: &mut Desk, p: Pid) -> Result<Option<Pid>, Fault>
-    ensures births { births desk.new.shard.journal ≡ births desk.old.shard.journal }
+    ensures does { TakesEnd p desk.old.shard result desk.new.shard }
     ensures still { IsStill desk.old desk.new }
 {
-    match next_item(desk, p)? {
-        Some(Item::Exit(from, _reason)) => Ok(Some(from)),
-        _ => Ok(None),
+    let item = desk.receive(p, Pick::Any)?;
+    Ok(whose_end(item))
+}
+
+/// Whose end an item tells of: only an exit signal tells of one.
+fn whose_end(item: Option<Item>) -> Option<Pid>
+    ensures { result ≡ whose_end item }
+{
+    match item {
+        Some(Item::Exit(from, _reason)) => Some(from),
+        _ => None,
     }
-}
-
-fn next_item(desk: &mut Desk, p: Pid) -> Result<Option<Item>, Fault>
-    ensures births { births desk.new.shard.journal ≡ births desk.old.shard.journal }
-    ensures still { IsStill desk.old desk.new }
-{
-    desk.receive(p, Pick::Any)
-}
-
-/// Ends p with this reason.
-pub fn leave(desk: &mut Desk, p: Pid, reason: Reason) -> Result<(), Fault>
-    ensures left { OnOk result (newest desk.new.shard.journal ≡ Some (Event.Left p reason)) }
-    ensures births { births desk.new.shard.journal ≡ births desk.old.shard.journal }
-    ensures still { IsStill desk.old desk.new }
-{
-    desk.exit(p, reason)
 }
 
 /// The desks of a node, gathered. Where there is no memory for that they are given up.
 pub fn gathered(alloc: Global, desks: Vec<Desk>) -> Result<Gathered, RecipeError>
     requires { AreDesks desks.items }
+    ensures journals { IfOk result (λ g. HasJournalsOf desks.items g) }
     ensures headline { IfOk result (λ g. KeepsHeadline g) }
     ensures legal { IfOk result (λ g. IsLegalNode g) }
 {

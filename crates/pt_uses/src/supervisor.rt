@@ -1,14 +1,13 @@
 //! A supervisor: a process that traps exits, and starts its children again when they end. When no restart is left it
 //! gives up: it ends with `shutdown`, which its links carry to the children. A program may set `left` again.
 
-ghost use Rattle.std.specs.Prelude.{◌≡◌, ◌+◌, true, Some, Ok, IfOk, [], ◌∷◌, ◌++◌};
-ghost use Rattle.pt_signal.specs.declared.reason.Reason.{Reason};
-ghost use Rattle.pt_events.specs.declared.event.Event.{Event};
-ghost use Rattle.pt_shard.specs.Calls.{new_link};
+ghost use Rattle.std.specs.Prelude.{◌≡◌, [], position, IfOk};
+ghost use Rattle.pt_signal.specs.Values.{same_pid};
 ghost use Rattle.pt_node.specs.Desks.{IsStill};
-ghost use Rattle.pt_uses.specs.Journals.{births, newest};
+ghost use Rattle.pt_uses.specs.Supervision.{BearsTrapping, MindsEnd, Starts, Tends, listed, pid_of};
+ghost use Rattle.pt_uses.specs.Supervision.{place_of, supervised};
 
-use crate::steps::{leave, next_exit};
+use crate::steps::next_exit;
 use crate::strategy::{Strategy, restart};
 use pt_node::{Desk, Fault, Pid, Reason};
 use std::alloc::Global;
@@ -32,11 +31,11 @@ pub struct Supervisor {
 impl Supervisor {
     /// A process that traps exits and has no children.
     pub fn new(alloc: Global, desk: &mut Desk, left: u32) -> Result<Supervisor, Fault>
-        ensures traps { IfOk result (λ s. newest desk.new.shard.journal ≡ Some (Event.Flag s.pid true)) }
+        ensures does { BearsTrapping desk.old.shard (pid_of result) desk.new.shard }
+        ensures made { IfOk result (λ s. (s.children.items ≡ []) × (s.left ≡ left)) }
         ensures still { IsStill desk.old desk.new }
     {
-        let pid = desk.spawn()?;
-        desk.trap(pid, true)?;
+        let pid = trapping(desk)?;
         let children = Vec::new(alloc);
         Ok(Supervisor {
             pid,
@@ -47,8 +46,9 @@ impl Supervisor {
 
     /// Starts one more child, linked to the supervisor.
     pub fn start(&mut self, desk: &mut Desk) -> Result<Pid, Fault>
-        ensures linked { IfOk result (λ p. newest desk.new.shard.journal ≡ Some (Event.Born p (Some self.old.pid) (Some (new_link desk.old.shard)))) }
-        ensures listed { IfOk result (λ p. self.new.children.items ≡ self.old.children.items ++ p ∷ []) }
+        ensures does { Starts self.old.pid desk.old.shard result desk.new.shard }
+        ensures listed { self.new.children.items ≡ listed self.old.children.items result }
+        ensures rest { (self.new.pid ≡ self.old.pid) × (self.new.left ≡ self.old.left) }
         ensures still { IsStill desk.old desk.new }
     {
         self.children.reserve(1)?;
@@ -59,21 +59,63 @@ impl Supervisor {
 
     /// Takes the oldest item of the mailbox, and where it is the end of a child, restarts or gives up.
     pub fn tend(&mut self, desk: &mut Desk, strategy: Strategy) -> Result<Tended, Fault>
-        ensures spent { self.old.left ≡ 0 → births desk.new.shard.journal ≡ births desk.old.shard.journal }
-        ensures counts { result ≡ Ok Tended.Restarted → self.new.left + 1 ≡ self.old.left }
-        ensures gives_up { result ≡ Ok Tended.GaveUp → newest desk.new.shard.journal ≡ Some (Event.Left self.old.pid Reason.Shutdown) }
+        ensures does { Tends strategy self.old.pid (supervised desk.old.shard self.old) result
+            (supervised desk.new.shard self.new) }
+        ensures pid { self.new.pid ≡ self.old.pid }
         ensures still { IsStill desk.old desk.new }
     {
         let from = next_exit(desk, self.pid)?;
-        let Some(ended) = self.children.iter().position(|child| from == Some(*child)) else {
+        let place = place_of(from, &self.children);
+        self.mind(desk, strategy, place)
+    }
+
+    /// Restarts or gives up where the child at a place has ended.
+    fn mind(
+        &mut self,
+        desk: &mut Desk,
+        strategy: Strategy,
+        place: Option<usize>,
+    ) -> Result<Tended, Fault>
+        ensures does { MindsEnd strategy self.old.pid place (supervised desk.old.shard self.old) result
+            (supervised desk.new.shard self.new) }
+        ensures pid { self.new.pid ≡ self.old.pid }
+        ensures still { IsStill desk.old desk.new }
+    {
+        let Some(ended) = place else {
             return Ok(Tended::Nothing);
         };
         let Some(left) = self.left.checked_sub(1) else {
-            leave(desk, self.pid, Reason::Shutdown)?;
+            desk.exit(self.pid, Reason::Shutdown)?;
             return Ok(Tended::GaveUp);
         };
         self.left = left;
         restart(desk, self.pid, strategy, &mut self.children, ended)?;
         Ok(Tended::Restarted)
     }
+}
+
+/// A process that traps exits.
+fn trapping(desk: &mut Desk) -> Result<Pid, Fault>
+    ensures does { BearsTrapping desk.old.shard result desk.new.shard }
+    ensures still { IsStill desk.old desk.new }
+{
+    let pid = desk.spawn()?;
+    desk.trap(pid, true)?;
+    Ok(pid)
+}
+
+/// The place of the child that has ended, where it is one.
+fn place_of(ended: Option<Pid>, children: &[Pid]) -> Option<usize>
+    ensures { result ≡ place_of ended children.now }
+{
+    match ended {
+        Some(ended) => place_in(children, ended),
+        None => None,
+    }
+}
+
+fn place_in(children: &[Pid], ended: Pid) -> Option<usize>
+    ensures { result ≡ position (same_pid ended) children.now }
+{
+    children.iter().position(|child| ended == *child)
 }

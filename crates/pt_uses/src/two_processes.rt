@@ -6,6 +6,7 @@
 ghost use Rattle.std.specs.Prelude.{IfOk};
 ghost use Rattle.pt_gathered.specs.Lawful.{KeepsHeadline, IsLegalNode};
 ghost use Rattle.pt_node.specs.Desks.{AreDesks, IsStill};
+ghost use Rattle.pt_uses.specs.Exchanges.{Exchanges};
 
 use crate::RecipeError;
 use crate::steps::{gathered, tell};
@@ -50,7 +51,8 @@ fn play(desks: &mut Vec<Desk>) -> Result<(), Fault>
 
 /// Ping asks, pong answers.
 pub fn exchange(desk: &mut Desk) -> Result<(), Fault>
-    ensures { IsStill desk.old desk.new }
+    ensures does { Exchanges desk.old result desk.new }
+    ensures still { IsStill desk.old desk.new }
 {
     let ping = desk.spawn()?;
     let pong = desk.spawn()?;
