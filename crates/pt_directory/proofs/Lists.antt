@@ -1,4 +1,4 @@
--- Lists of ends, and lists read by `get_elem?`.
+-- Lists of deaths, and lists read by `get_elem?`.
 use Rattle.std.proofs.Common.{◌≡◌, ◌≢◌, ◌⊎◌, ℕ, zero, suc, ◌+◌, ◌-◌, ◌<◌, ◌≤◌, Bool, true, false, ◌&&◌, cond, eqb, true≢false, List, [], ◌∷◌, ◌++◌, length, set, get_or, Some, refl, sym, ap, ◌∙◌, subst, inl, inr, ⊎_elim, arith, le_refl, eqb-true, eq-eqb, ne_eqb}
 use mathlib.Core.Option.{some, some-ne-none, some-injective}
 use lib.ListN.{get_elem?}
@@ -6,7 +6,7 @@ use Rattle.atomic_table.proofs.Lists.{at_longer, set_else}
 use Rattle.pt_directory.specs.declared.view.Read.{Read}
 use Rattle.pt_directory.specs.declared.view.Death.{Death}
 use Rattle.pt_directory.specs.declared.view.View.{View}
-use Rattle.pt_directory.specs.Views.{new_read, is_at, deaths_at, last_version, last_stamp, Rises, HasDeath, up_from, stamp_last, times, homes_of, fresh}
+use Rattle.pt_directory.specs.Views.{new_read, is_at, deaths_at, last_version, last_stamp, Rises, HasDeath, up_from, stamp_last, times, homes_of, fresh_view}
 
 module _ {A : Type 0} where
   pub at_append : (xs ys : List A) (k : ℕ) (a : A) → get_elem? (xs ++ ys) k ≡ some a → (get_elem? xs k ≡ some a) ⊎ ((j : ℕ) × (get_elem? ys j ≡ some a) × (k ≡ length xs + j))
@@ -112,7 +112,7 @@ has_last (x ∷ y ∷ xs) h = let t = has_last (y ∷ xs) h in (t.0, (suc t.1.0,
 pub HasDeath-longer : (es fs : List Death) (v t : ℕ) → HasDeath es v t → HasDeath (es ++ fs) v t
 HasDeath-longer es fs v t h = (h.0, h.1, at_longer es fs h.0 h.1 h.2, h.3, h.4)
 
--- an end of this slot stands among the ends of this slot
+-- a death of this slot stands among the deaths of this slot
 pub among : (es : List Death) (k : ℕ) (e : Death) (shard slot : ℕ) → get_elem? es k ≡ some e → is_at shard slot e ≡ true → (j : ℕ) × (get_elem? (deaths_at shard slot es) j ≡ some e)
 among [] k e d s at is = absurd (some-ne-none e (sym at))
 among (x ∷ xs) zero e d s at is =
@@ -130,7 +130,7 @@ from_cond true x xs ys e d s zero is more at = (0, at, sym (ap (is_at d s) (some
 from_cond true x xs ys e d s (suc j) is more at = let t = more j at in (suc t.0, t.1, t.2)
 from_cond false x xs ys e d s j is more at = let t = more j at in (suc t.0, t.1, t.2)
 
--- what stands among the ends of a slot is one of the ends, of that slot
+-- what stands among the deaths of a slot is one of the deaths, of that slot
 pub from_among : (es : List Death) (j : ℕ) (e : Death) (shard slot : ℕ) → get_elem? (deaths_at shard slot es) j ≡ some e → (k : ℕ) × (get_elem? es k ≡ some e) × (is_at shard slot e ≡ true)
 from_among [] j e d s at = absurd (some-ne-none e (sym at))
 from_among (x ∷ xs) j e d s at = from_cond (is_at d s x) x xs (deaths_at d s xs) e d s j refl (λ i h. from_among xs i e d s h) at
@@ -203,8 +203,8 @@ seats_there x (u ∷ us) (suc i) v e = let r = seats_there x us i v e in omega a
 
 pub two_seats : (x : ℕ) (l : List View) (i j : ℕ) (v w : View) → get_elem? l i ≡ some v → get_elem? l j ≡ some w → j ≢ i → times x v.homes + times x w.homes ≤ homes_of x l
 two_seats x l i j v w at there apart =
-    let a = homes_of-set x l i v (fresh []) at in
-    let b = seats_there x (set l i (fresh [])) j w (set_else l i j (fresh []) apart ∙ there) in
+    let a = homes_of-set x l i v (fresh_view []) at in
+    let b = seats_there x (set l i (fresh_view [])) j w (set_else l i j (fresh_view []) apart ∙ there) in
     omega arith
 
 pub up_from-cons : (k n : ℕ) → k < n → up_from k (n - k) ≡ k ∷ up_from (k + 1) (n - (k + 1))

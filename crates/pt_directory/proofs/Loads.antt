@@ -10,8 +10,8 @@ use Rattle.pt_directory.specs.declared.view.Shape.{Shape}
 use Rattle.pt_directory.specs.declared.view.Read.{Read}
 use Rattle.pt_directory.specs.declared.view.Death.{Death}
 use Rattle.pt_directory.specs.declared.view.View.{View}
-use Rattle.pt_directory.specs.Views.{new_death, new_read, is_at, deaths_at, Rises, HasDeath, Covers, IsHome, times, with_read, with_stamp, stamp_last}
-use Rattle.pt_directory.specs.Rule.{version_word, death_word, IsReadKept, IsViewKept, Once, IsKept, Ruled, Known, VersionLoaded, DeathLoaded, Audited}
+use Rattle.pt_directory.specs.Views.{new_death, new_read, is_at, deaths_at, Rises, HasDeath, Covers, IsHomeOf, times, with_read, with_stamp, stamp_last}
+use Rattle.pt_directory.specs.Rule.{version_word, death_word, IsReadKept, IsViewKept, Once, IsKept, Ruled, SeatKnows, VersionLoaded, DeathLoaded, Audited}
 use Rattle.pt_directory.proofs.Lists.{at_append, at_single, up_to_last, rises_both, Rises-front, has_last, among, stamp_last-push, is_at-true, times_there, homes_of-set, two_seats}
 
 -- where the words of a slot stand
@@ -53,7 +53,7 @@ pub once_set : (views : List View) (id : ℕ) (v w : View) → get_elem? views i
 once_set views id v w at same once x = let a = homes_of-set x views id v w at in let b : times x w.homes ≡ times x v.homes = ap (times x) same in let c = once x in omega arith
 
 -- two seats are not the home of one desk
-pub two_homes : (views : List View) (i j x : ℕ) (v w : View) → Once views → get_elem? views i ≡ some v → get_elem? views j ≡ some w → j ≢ i → IsHome x v → IsHome x w → ⊥
+pub two_homes : (views : List View) (i j x : ℕ) (v w : View) → Once views → get_elem? views i ≡ some v → get_elem? views j ≡ some w → j ≢ i → IsHomeOf x v → IsHomeOf x w → ⊥
 two_homes views i j x v w once at there apart h g =
     let a = two_seats x views i j v w at there apart in
     let b = times_there x v.homes h.0 h.1 in
@@ -64,7 +64,7 @@ map_match : (o : Option ℕ) (P Q : ℕ → Type 0) → ((s : ℕ) → P s → Q
 map_match None P Q f h = tt
 map_match (Some s) P Q f h = f s h
 
--- a read stays right where words and ends only grow
+-- a read stays right where words and deaths only grow
 pub read_grows : (shape : Shape) (ws us : List ℕ) (es fs : List Death) (r : Read) → ((j : ℕ) → get_or ws j 0 ≤ get_or us j 0) → ((v t : ℕ) → HasDeath es v t → HasDeath fs v t) → IsReadKept shape ws es r → IsReadKept shape us fs r
 read_grows shape ws us es fs r up more ok = record {
   shard_in = ok.shard_in;
@@ -88,7 +88,7 @@ read_keeps shape words views i id v w k at same ok =
       each = set_each (IsViewKept shape words k.done k.pending) views id w (λ j u _ e. k.each j u e) ok;
     })
 
-pub loads_version : (shape : Shape) (slots id : ℕ) (me : Known) (d s : ℕ) → d < shape.desks → s < shape.slots
+pub loads_version : (shape : Shape) (slots id : ℕ) (me : SeatKnows) (d s : ℕ) → d < shape.desks → s < shape.slots
     → Allows (Ruled shape) slots id me (version_word shape.slots d s) (λ n. n) (VersionLoaded d s (step slots (version_word shape.slots d s) 0 0 none) me)
 loads_version shape slots id me d s p q st k len at small =
     let v = me.0 in
@@ -121,7 +121,7 @@ loads_version shape slots id me d s p q st k len at small =
         refl,
         (λ j u e ud us. let h = (vok.reads j u e).version in subst (λ (z : ℕ × ℕ). u.version ≤ get_or st.words (version_word shape.slots z.0 z.1) 0) (λ i. (ud i, us i)) h),
         (λ j u e ud us.
-            let home : IsHome d v = subst (λ (z : ℕ). IsHome z v) ud (vok.deaths j u e) in
+            let home : IsHomeOf d v = subst (λ (z : ℕ). IsHomeOf z v) ud (vok.deaths j u e) in
             let a = among v.deaths j u d s e (is_at-true u d s ud us) in
             let b : get_elem? (k.done d s) a.0 ≡ some u = subst (λ (l : List Death). get_elem? l a.0 ≡ some u) (vok.home d s home).0 a.1 in
             let c = (up_to_last (k.done d s) a.0 u (Rises-front (k.done d s) (k.pending d s) so.rises) b).0 in
@@ -129,7 +129,7 @@ loads_version shape slots id me d s p q st k len at small =
       ),
     )
 
-pub loads_death : (shape : Shape) (slots id : ℕ) (me : Known) (d s ver : ℕ) (before : List Read) → me.0.reads ≡ before ++ new_read d s ver None ∷ []
+pub loads_death : (shape : Shape) (slots id : ℕ) (me : SeatKnows) (d s ver : ℕ) (before : List Read) → me.0.reads ≡ before ++ new_read d s ver None ∷ []
     → Allows (Ruled shape) slots id me (death_word shape.slots d s) (λ n. n) (DeathLoaded (step slots (death_word shape.slots d s) 0 0 none) me)
 loads_death shape slots id me d s ver before is st k len at small =
     let v = me.0 in
@@ -180,7 +180,7 @@ covered ds version stamp rises h = record {
       le_trans (rises_both ds k h.0 d h.1 rises at h.2 up) h.4;
 }
 
-pub audits : (shape : Shape) (slots id : ℕ) (me : Known) (i : ℕ) → Allows (Ruled shape) slots id me i (λ n. n) (Audited (step slots i 0 0 none) me)
+pub audits : (shape : Shape) (slots id : ℕ) (me : SeatKnows) (i : ℕ) → Allows (Ruled shape) slots id me i (λ n. n) (Audited (step slots i 0 0 none) me)
 audits shape slots id me i st k len at small =
     let v = me.0 in
     let vok = k.each id v at in (

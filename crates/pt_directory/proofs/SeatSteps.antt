@@ -1,4 +1,4 @@
--- A table stores_death with the rule, and seats are made and joined under it.
+-- A table begins with the rule, and seats are made and joined under it.
 use Rattle.std.proofs.Common.{◌≡◌, ◌≢◌, ℕ, zero, suc, ◌+◌, ◌*◌, List, [], ◌∷◌, ◌++◌, length, set, get_or, replicate, refl, sym, ap, ◌∙◌, subst, ⊎_elim, arith, append-nil}
 use Rattle.std.proofs.lemmas.List.Elements.{filter-append}
 use Rattle.std.proofs.lemmas.List.{length-replicate}
@@ -9,13 +9,13 @@ use Rattle.atomic_table.proofs.Lists.{at_set, at_snoc, at_longer}
 use Rattle.pt_directory.specs.declared.view.Shape.{Shape}
 use Rattle.pt_directory.specs.declared.view.Death.{Death}
 use Rattle.pt_directory.specs.declared.view.View.{View}
-use Rattle.pt_directory.specs.Views.{is_at, deaths_at, IsHome, fresh, up_from, joined}
+use Rattle.pt_directory.specs.Views.{is_at, deaths_at, IsHomeOf, fresh_view, up_from, joined_views}
 use Rattle.pt_directory.specs.Rule.{IsViewKept, IsKept, Ruled, one_home, other_homes, first_view}
 use Rattle.pt_directory.proofs.Lists.{at_append, at_behind, at_single, at_nothing, none_at, times-append, times-up_from, homes_of-set, homes_of-push}
 use Rattle.pt_directory.proofs.Loads.{set_each, two_homes}
 
--- a seat with no ends of a desk's slots has none of one of them
-fresh_ok : (shape : Shape) (words : List ℕ) (done pending : ℕ → ℕ → List Death) (homes : List ℕ) → ((x y k : ℕ) → get_elem? homes k ≡ some x → (done x y ≡ []) × (pending x y ≡ [])) → IsViewKept shape words done pending (fresh homes)
+-- a view that is the home of desks without deaths
+fresh_ok : (shape : Shape) (words : List ℕ) (done pending : ℕ → ℕ → List Death) (homes : List ℕ) → ((x y k : ℕ) → get_elem? homes k ≡ some x → (done x y ≡ []) × (pending x y ≡ [])) → IsViewKept shape words done pending (fresh_view homes)
 fresh_ok shape words done pending homes none_of = record {
   home = λ x y h. let t = none_of x y h.0 h.1 in (sym t.0, sym t.1);
   deaths = λ k e at. absurd (at_nothing e k at);
@@ -45,12 +45,12 @@ opens shape words n zeros len = record {
     first zero v at = subst (IsViewKept shape words (λ _ _. []) (λ _ _. [])) (some-injective (first_view shape) v at) (fresh_ok shape words (λ _ _. []) (λ _ _. []) (up_from 0 shape.desks) (λ _ _ _ _. (refl, refl)))
     first (suc i) v at = absurd (some-ne-none v (sym at))
 
-pub splits : (shape : Shape) (id h : ℕ) (hs : List ℕ) (v : View) → v ≡ fresh (h ∷ hs) → Splits (Ruled shape) id v (other_homes v) (one_home v)
+pub splits : (shape : Shape) (id h : ℕ) (hs : List ℕ) (v : View) → v ≡ fresh_view (h ∷ hs) → Splits (Ruled shape) id v (other_homes v) (one_home v)
 splits shape id h hs v is st k at =
-    let left : View = fresh hs in
-    let right : View = fresh (h ∷ []) in
-    let at' : get_elem? st.views id ≡ some (fresh (h ∷ hs)) = at ∙ ap some is in
-    let vok = k.each id (fresh (h ∷ hs)) at' in
+    let left : View = fresh_view hs in
+    let right : View = fresh_view (h ∷ []) in
+    let at' : get_elem? st.views id ≡ some (fresh_view (h ∷ hs)) = at ∙ ap some is in
+    let vok = k.each id (fresh_view (h ∷ hs)) at' in
     let bare : (x y j : ℕ) → get_elem? (h ∷ hs) j ≡ some x → (k.done x y ≡ []) × (k.pending x y ≡ []) = λ x y j e. let t = vok.home x y (j, e) in (sym t.0, sym t.1) in
     let lok : IsViewKept shape st.words k.done k.pending left = fresh_ok shape st.words k.done k.pending hs (λ x y j e. bare x y (suc j) e) in
     let rok : IsViewKept shape st.words k.done k.pending right = fresh_ok shape st.words k.done k.pending (h ∷ []) (λ x y j e. subst (λ (z : ℕ). (k.done z y ≡ []) × (k.pending z y ≡ [])) (at_single h x j e) (bare h y 0 refl)) in
@@ -60,7 +60,7 @@ splits shape id h hs v is st k at =
       sized = k.sized;
       slots = k.slots;
       once = λ x.
-          let a = homes_of-set x st.views id (fresh (h ∷ hs)) left at' in
+          let a = homes_of-set x st.views id (fresh_view (h ∷ hs)) left at' in
           let b = homes_of-push x (set st.views id left) right in
           let c = k.once x in omega arith;
       each = λ j u e. ⊎_elim
@@ -70,24 +70,24 @@ splits shape id h hs v is st k at =
     } in
     subst (λ (z : View). IsKept shape st.words (set st.views id (other_homes z) ++ one_home z ∷ [])) (sym is) both
 
-pub joins : (shape : Shape) (id : ℕ) (v : View) (other : ℕ) (w : View) → Joins (Ruled shape) id v other w (joined v w) (fresh [])
+pub joins : (shape : Shape) (id : ℕ) (v : View) (other : ℕ) (w : View) → Joins (Ruled shape) id v other w (joined_views v w) (fresh_view [])
 joins shape id v other w st k at apart there =
-    let j : View = joined v w in
+    let j : View = joined_views v w in
     let there' : get_elem? st.views other ≡ some w = ⊎_elim (λ (t : (other ≡ id) × (j ≡ w)). absurd (apart t.0)) (λ (t : (other ≢ id) × (get_elem? st.views other ≡ some w)). t.1) (at_set st.views id other j w there) in
     let vok = k.each id v at in
     let wok = k.each other w there' in
-    let not_both : (x : ℕ) → IsHome x v → IsHome x w → ⊥ = λ x. two_homes st.views id other x v w k.once at there' apart in
+    let not_both : (x : ℕ) → IsHomeOf x v → IsHomeOf x w → ⊥ = λ x. two_homes st.views id other x v w k.once at there' apart in
     let ok : IsViewKept shape st.words k.done k.pending j = record {
       home = λ x y h. ⊎_elim
           (λ (mine : get_elem? v.homes h.0 ≡ some x).
-          let hv : IsHome x v = (h.0, mine) in (
-            filter-append (is_at x y) v.deaths w.deaths ∙ ap (λ l. l ++ deaths_at x y w.deaths) (vok.home x y hv).0 ∙ ap (λ l. k.done x y ++ l) (none_at w.deaths x y (λ m e e_at e_is. not_both x hv (subst (λ (z : ℕ). IsHome z w) e_is (wok.deaths m e e_at)))) ∙ append-nil (k.done x y),
-            filter-append (is_at x y) v.begun w.begun ∙ ap (λ l. l ++ deaths_at x y w.begun) (vok.home x y hv).1 ∙ ap (λ l. k.pending x y ++ l) (none_at w.begun x y (λ m e e_at e_is. not_both x hv (subst (λ (z : ℕ). IsHome z w) e_is (wok.begun m e e_at)))) ∙ append-nil (k.pending x y),
+          let hv : IsHomeOf x v = (h.0, mine) in (
+            filter-append (is_at x y) v.deaths w.deaths ∙ ap (λ l. l ++ deaths_at x y w.deaths) (vok.home x y hv).0 ∙ ap (λ l. k.done x y ++ l) (none_at w.deaths x y (λ m e e_at e_is. not_both x hv (subst (λ (z : ℕ). IsHomeOf z w) e_is (wok.deaths m e e_at)))) ∙ append-nil (k.done x y),
+            filter-append (is_at x y) v.begun w.begun ∙ ap (λ l. l ++ deaths_at x y w.begun) (vok.home x y hv).1 ∙ ap (λ l. k.pending x y ++ l) (none_at w.begun x y (λ m e e_at e_is. not_both x hv (subst (λ (z : ℕ). IsHomeOf z w) e_is (wok.begun m e e_at)))) ∙ append-nil (k.pending x y),
           ))
           (λ (t : (i : ℕ) × (get_elem? w.homes i ≡ some x) × (h.0 ≡ length v.homes + i)).
-          let hw : IsHome x w = (t.0, t.1) in (
-            filter-append (is_at x y) v.deaths w.deaths ∙ ap (λ l. l ++ deaths_at x y w.deaths) (none_at v.deaths x y (λ m e e_at e_is. not_both x (subst (λ (z : ℕ). IsHome z v) e_is (vok.deaths m e e_at)) hw)) ∙ (wok.home x y hw).0,
-            filter-append (is_at x y) v.begun w.begun ∙ ap (λ l. l ++ deaths_at x y w.begun) (none_at v.begun x y (λ m e e_at e_is. not_both x (subst (λ (z : ℕ). IsHome z v) e_is (vok.begun m e e_at)) hw)) ∙ (wok.home x y hw).1,
+          let hw : IsHomeOf x w = (t.0, t.1) in (
+            filter-append (is_at x y) v.deaths w.deaths ∙ ap (λ l. l ++ deaths_at x y w.deaths) (none_at v.deaths x y (λ m e e_at e_is. not_both x (subst (λ (z : ℕ). IsHomeOf z v) e_is (vok.deaths m e e_at)) hw)) ∙ (wok.home x y hw).0,
+            filter-append (is_at x y) v.begun w.begun ∙ ap (λ l. l ++ deaths_at x y w.begun) (none_at v.begun x y (λ m e e_at e_is. not_both x (subst (λ (z : ℕ). IsHomeOf z v) e_is (vok.begun m e e_at)) hw)) ∙ (wok.home x y hw).1,
           ))
           (at_append v.homes w.homes h.0 x h.1);
       deaths = λ m e e_at. ⊎_elim
@@ -109,10 +109,10 @@ joins shape id v other w st k at apart there =
       slots = k.slots;
       once = λ x.
           let a = homes_of-set x st.views id v j at in
-          let b = homes_of-set x (set st.views id j) other w (fresh []) there in
+          let b = homes_of-set x (set st.views id j) other w (fresh_view []) there in
           let c = times-append x v.homes w.homes in
           let d = k.once x in omega arith;
-      each = set_each (IsViewKept shape st.words k.done k.pending) (set st.views id j) other (fresh [])
+      each = set_each (IsViewKept shape st.words k.done k.pending) (set st.views id j) other (fresh_view [])
           (λ i u _ e. set_each (IsViewKept shape st.words k.done k.pending) st.views id j (λ m z _ z_at. k.each m z z_at) ok i u e)
           (fresh_ok shape st.words k.done k.pending [] (λ x y m e. absurd (at_nothing x m e)));
     }

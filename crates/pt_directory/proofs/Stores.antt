@@ -7,8 +7,8 @@ use Rattle.atomic_table.specs.Table.{step, keeps, Allows}
 use Rattle.pt_directory.specs.declared.view.Shape.{Shape}
 use Rattle.pt_directory.specs.declared.view.Death.{Death}
 use Rattle.pt_directory.specs.declared.view.View.{View}
-use Rattle.pt_directory.specs.Views.{new_death, is_at, deaths_at, last_version, last_stamp, Rises, IsHome, with_begun, finished}
-use Rattle.pt_directory.specs.Rule.{version_word, death_word, IsSlotKept, IsViewKept, Ruled, Known, DeathStored, VersionStored}
+use Rattle.pt_directory.specs.Views.{new_death, is_at, deaths_at, last_version, last_stamp, Rises, IsHomeOf, with_begun, finished}
+use Rattle.pt_directory.specs.Rule.{version_word, death_word, IsSlotKept, IsViewKept, Ruled, SeatKnows, DeathStored, VersionStored}
 use Rattle.pt_directory.proofs.Lists.{at_append, at_single, at_nothing, set_grows, last_version-push, last_stamp-push, Rises-push, last_version-front, Rises-front, HasDeath-longer, none_at, is_at-true, true-is_at}
 use Rattle.pt_directory.proofs.Loads.{version_in, death_in, odd_even, even_odd, apart_version, apart_death, set_each, once_set, two_homes, read_grows}
 
@@ -32,14 +32,14 @@ slot_else ws slots x y i n es fs a b ok = record {
   one = ok.one;
 }
 
-module _ (shape : Shape) (slots id : ℕ) (me : Known) (d s ver t : ℕ) (p : d < shape.desks) (q : s < shape.slots) where
+module _ (shape : Shape) (slots id : ℕ) (me : SeatKnows) (d s ver t : ℕ) (p : d < shape.desks) (q : s < shape.slots) where
   abbrev e : Death
   e = new_death d s ver t
 
   here : is_at d s e ≡ true
   here = is_at-true e d s refl refl
 
-  pub stores_death : IsHome d me.0 → me.0.begun ≡ [] → last_version (deaths_at d s me.0.deaths) < ver → last_stamp (deaths_at d s me.0.deaths) < t
+  pub stores_death : IsHomeOf d me.0 → me.0.begun ≡ [] → last_version (deaths_at d s me.0.deaths) < ver → last_stamp (deaths_at d s me.0.deaths) < t
       → Allows (Ruled shape) slots id me (death_word shape.slots d s) (λ _. t) (λ _. DeathStored d s ver (step slots (death_word shape.slots d s) t 0 none) me t)
   stores_death home idle newer later st k len at small =
       let v = me.0 in
@@ -49,13 +49,13 @@ module _ (shape : Shape) (slots id : ℕ) (me : Known) (d s ver t : ℕ) (p : d 
       let so = k.slots d s p q in
       let us : List ℕ = set st.words i t in
       let more : ℕ → ℕ → List Death = λ x y. k.pending x y ++ deaths_at x y (e ∷ []) in
-      let nothing : (x y : ℕ) → IsHome x v → k.pending x y ≡ [] = λ x y h. sym (vok.home x y h).1 ∙ ap (deaths_at x y) idle in
+      let nothing : (x y : ℕ) → IsHomeOf x v → k.pending x y ≡ [] = λ x y h. sym (vok.home x y h).1 ∙ ap (deaths_at x y) idle in
       let was : last_stamp (k.done d s) < t = subst (λ (l : List Death). last_stamp l < t) (vok.home d s home).0 later in
       let old : last_version (k.done d s) < ver = subst (λ (l : List Death). last_version l < ver) (vok.home d s home).0 newer in
       let alone : k.done d s ++ k.pending d s ≡ k.done d s = ap (λ l. k.done d s ++ l) (nothing d s home) ∙ append-nil (k.done d s) in
       let low : get_or st.words i 0 ≤ t = (let a : get_or st.words i 0 ≡ last_stamp (k.done d s) = so.death ∙ ap last_stamp alone in omega arith) in
       let up : (j : ℕ) → get_or st.words j 0 ≤ get_or us j 0 = λ j. set_grows st.words i t j low in
-      let off : (j x : ℕ) (u : View) → get_elem? st.views j ≡ some u → j ≢ id → IsHome x u → (d ≡ x → ⊥) = λ j x u there apart h same. two_homes st.views id j x v u k.once at there apart (subst (λ (z : ℕ). IsHome z v) same home) h in
+      let off : (j x : ℕ) (u : View) → get_elem? st.views j ≡ some u → j ≢ id → IsHomeOf x u → (d ≡ x → ⊥) = λ j x u there apart h same. two_homes st.views id j x v u k.once at there apart (subst (λ (z : ℕ). IsHomeOf z v) same home) h in
       let rises : Rises (k.done d s ++ e ∷ []) = Rises-push (k.done d s) e (Rises-front (k.done d s) (k.pending d s) so.rises) old was in
       let now : IsSlotKept us shape.slots d s (k.done d s) (e ∷ []) = record {
         version = get_or-set_other st.words i (version_word shape.slots d s) t 0 (odd_even shape.slots d s d s) ∙ so.version;
@@ -73,7 +73,7 @@ module _ (shape : Shape) (slots id : ℕ) (me : Known) (d s ver t : ℕ) (p : d 
       let mine : IsViewKept shape us k.done more w = record {
         home = λ x y h. ((vok.home x y h).0, ap (λ l. l ++ deaths_at x y (e ∷ [])) (sym (nothing x y h)));
         deaths = vok.deaths;
-        begun = λ m f f_at. subst (λ (z : Death). IsHome z.shard v) (at_single e f m f_at) home;
+        begun = λ m f f_at. subst (λ (z : Death). IsHomeOf z.shard v) (at_single e f m f_at) home;
         reads = λ m r r_at. read_grows shape st.words us (k.done r.shard r.slot) (k.done r.shard r.slot) r up (λ _ _ h. h) (vok.reads m r r_at);
       } in (
         w,
@@ -108,13 +108,13 @@ module _ (shape : Shape) (slots id : ℕ) (me : Known) (d s ver t : ℕ) (p : d 
       let us : List ℕ = set st.words i ver in
       let more : ℕ → ℕ → List Death = λ x y. k.done x y ++ deaths_at x y (e ∷ []) in
       let left : ℕ → ℕ → List Death = λ x y. cond (is_at x y e) [] (k.pending x y) in
-      let home : IsHome d v = vok.begun 0 e (ap (λ (l : List Death). get_elem? l 0) begun) in
-      let waits : (x y : ℕ) → IsHome x v → k.pending x y ≡ deaths_at x y (e ∷ []) = λ x y h. sym (vok.home x y h).1 ∙ ap (deaths_at x y) begun in
+      let home : IsHomeOf d v = vok.begun 0 e (ap (λ (l : List Death). get_elem? l 0) begun) in
+      let waits : (x y : ℕ) → IsHomeOf x v → k.pending x y ≡ deaths_at x y (e ∷ []) = λ x y h. sym (vok.home x y h).1 ∙ ap (deaths_at x y) begun in
       let own : k.pending d s ≡ e ∷ [] = waits d s home ∙ single_on d s e here in
       let rises : Rises (k.done d s ++ e ∷ []) = subst (λ (l : List Death). Rises (k.done d s ++ l)) own so.rises in
       let low : get_or st.words i 0 ≤ ver = (let a = so.version in let b : last_version (k.done d s) ≤ ver = subst (λ (m : ℕ). last_version (k.done d s) ≤ m) (last_version-push (k.done d s) e) (last_version-front (k.done d s) (e ∷ []) rises) in omega arith) in
       let up : (j : ℕ) → get_or st.words j 0 ≤ get_or us j 0 = λ j. set_grows st.words i ver j low in
-      let off : (j x : ℕ) (u : View) → get_elem? st.views j ≡ some u → j ≢ id → IsHome x u → (d ≡ x → ⊥) = λ j x u there apart h same. two_homes st.views id j x v u k.once at there apart (subst (λ (z : ℕ). IsHome z v) same home) h in
+      let off : (j x : ℕ) (u : View) → get_elem? st.views j ≡ some u → j ≢ id → IsHomeOf x u → (d ≡ x → ⊥) = λ j x u there apart h same. two_homes st.views id j x v u k.once at there apart (subst (λ (z : ℕ). IsHomeOf z v) same home) h in
       let now : IsSlotKept us shape.slots d s (k.done d s ++ e ∷ []) [] = record {
         version = get_or-set_same st.words i ver 0 (version_in shape st.words d s k.sized p q) ∙ sym (last_version-push (k.done d s) e);
         death = get_or-set_other st.words i (death_word shape.slots d s) ver 0 (even_odd shape.slots d s d s) ∙ so.death ∙ ap (λ l. last_stamp (k.done d s ++ l)) own ∙ ap last_stamp (sym (append-nil (k.done d s ++ e ∷ [])));

@@ -6,8 +6,8 @@ use mathlib.Core.Option.{none}
 use Rattle.pt_signal.specs.declared.pid.Pid.{Pid}
 use Rattle.pt_directory.specs.declared.view.Shape.{Shape}
 use Rattle.pt_directory.specs.declared.view.Death.{Death}
-use Rattle.pt_directory.specs.Views.{new_death, new_read, deaths_at, last_version, last_stamp, IsHome, LastRead, with_read, with_stamp, up_from}
-use Rattle.pt_directory.specs.Rule.{version_word, death_word, Ruled, Known, LoadsVersion, DeathLoaded, DeathStored, VersionStored}
+use Rattle.pt_directory.specs.Views.{new_death, new_read, deaths_at, last_version, last_stamp, IsHomeOf, LastRead, with_read, with_stamp, up_from}
+use Rattle.pt_directory.specs.Rule.{version_word, death_word, Ruled, SeatKnows, LoadsVersion, DeathLoaded, DeathStored, VersionStored}
 use Rattle.atomic_table.specs.Seated.{TableId}
 use Rattle.pt_directory.specs.Seats.{SeatState, IsBegun, death_of, seat_state, add_read, new_seat}
 use mathlib.Core.List.{map-append}
@@ -18,7 +18,7 @@ use Rattle.pt_directory.proofs.Stores.{stores_death, stores_version}
 pub word_in : (n m d s i w : ℕ) → w ≡ 2 * (n * m) → d < n → s < m → i ≡ 2 * (d * m + s) → i + 1 < w
 word_in n m d s i w len p q is = let h = mul-add-lt d m s n p q in let c = mul_comm m n in omega arith
 
-module _ (shape : Shape) (slots id : ℕ) (me : Known) (d s n m i : ℕ) (en : shape.desks ≡ n) (em : shape.slots ≡ m) (p : d < n) (q : s < m) (is : i ≡ 2 * (d * m + s)) where
+module _ (shape : Shape) (slots id : ℕ) (me : SeatKnows) (d s n m i : ℕ) (en : shape.desks ≡ n) (em : shape.slots ≡ m) (p : d < n) (q : s < m) (is : i ≡ 2 * (d * m + s)) where
   p' : d < shape.desks
   p' = omega arith
 
@@ -37,7 +37,7 @@ module _ (shape : Shape) (slots id : ℕ) (me : Known) (d s n m i : ℕ) (en : s
   pub loads_death_as : (ver : ℕ) → LastRead (new_read d s ver None) me.0.reads → Allows (Ruled shape) slots id me (i + 1) (λ x. x) (DeathLoaded (step slots (i + 1) 0 0 none) me)
   loads_death_as ver last = subst (λ (j : ℕ). Allows (Ruled shape) slots id me j (λ x. x) (DeathLoaded (step slots j 0 0 none) me)) (sym above) (loads_death shape slots id me d s ver last.0 last.1)
 
-  pub stores_death_as : (ver t : ℕ) → IsHome d me.0 → me.0.begun ≡ [] → last_version (deaths_at d s me.0.deaths) < ver → last_stamp (deaths_at d s me.0.deaths) < t
+  pub stores_death_as : (ver t : ℕ) → IsHomeOf d me.0 → me.0.begun ≡ [] → last_version (deaths_at d s me.0.deaths) < ver → last_stamp (deaths_at d s me.0.deaths) < t
       → Allows (Ruled shape) slots id me (i + 1) (λ _. t) (λ _. DeathStored d s ver (step slots (i + 1) t 0 none) me t)
   stores_death_as ver t home idle newer later = subst (λ (j : ℕ). Allows (Ruled shape) slots id me j (λ _. t) (λ _. DeathStored d s ver (step slots j t 0 none) me t)) (sym above) (stores_death shape slots id me d s ver t p' q' home idle newer later)
 
@@ -51,10 +51,10 @@ begun_death pid (d ∷ []) h = (d.stamp, λ i. record { shard = h.0 i; slot = h.
 begun_death pid (d ∷ e ∷ ds) h = absurd h
 
 -- what a probe leaves, as contracts see it
-pub probed : (old mid new : Known) (a b : TableId) (now : SeatState) (d s n t : ℕ) → seat_state a old.0 ≡ now → b ≡ a → mid ≡ (with_read (new_read d s n None) old.0, old.1) → new ≡ (with_stamp t mid.0, mid.1)
+pub probed : (old mid new : SeatKnows) (a b : TableId) (now : SeatState) (d s n t : ℕ) → seat_state a old.0 ≡ now → b ≡ a → mid ≡ (with_read (new_read d s n None) old.0, old.1) → new ≡ (with_stamp t mid.0, mid.1)
     → seat_state b new.0 ≡ add_read (new_read d s n (Some t)) now
 probed old mid new a b now d s n t is same read stamped =
-    (λ i. seat_state (same i) ((stamped ∙ ap (λ (m : Known). (with_stamp t m.0, m.1)) read) i).0)
+    (λ i. seat_state (same i) ((stamped ∙ ap (λ (m : SeatKnows). (with_stamp t m.0, m.1)) read) i).0)
     ∙ (λ i. record { name = a; homes = old.0.homes; reads = stamp_last-push old.0.reads t (new_read d s n None) i; deaths = old.0.deaths })
     ∙ ap (add_read (new_read d s n (Some t))) is
 

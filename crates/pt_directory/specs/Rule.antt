@@ -1,4 +1,4 @@
--- The rule of the directory's words and of what the seats know, and what each step tells. No public clause cites this module.
+-- The rule of the directory's words and of what the seats know, and what each step tells.
 use Rattle.std.specs.Prelude.{◌≡◌, ℕ, ◌+◌, ◌*◌, ◌<◌, ◌≤◌, List, ◌++◌, length, take, drop, slice_index, None, MatchOption}
 use mathlib.Core.Option.{some}
 use lib.ListN.{get_elem?}
@@ -7,7 +7,7 @@ use Rattle.pt_directory.specs.declared.view.Shape.{Shape}
 use Rattle.pt_directory.specs.declared.view.Read.{Read}
 use Rattle.pt_directory.specs.declared.view.Death.{Death}
 use Rattle.pt_directory.specs.declared.view.View.{View}
-use Rattle.pt_directory.specs.Views.{new_death, new_read, deaths_at, last_version, last_stamp, Rises, HasDeath, Covers, IsHome, homes_of, fresh, up_from, with_read, with_stamp, with_begun, finished}
+use Rattle.pt_directory.specs.Views.{new_death, new_read, deaths_at, last_version, last_stamp, Rises, HasDeath, Covers, IsHomeOf, homes_of, fresh_view, up_from, with_read, with_stamp, with_begun, finished}
 
 -- where a slot's version word stands: the greatest version of its pids that has ended
 abbrev pub version_word : ℕ → ℕ → ℕ → ℕ
@@ -34,9 +34,9 @@ pub record IsReadKept (shape : Shape) (words : List ℕ) (done : List Death) (r 
 
 -- a view knows all deaths of the desks whose home it is and of no other desk, and each of its reads is kept
 pub record IsViewKept (shape : Shape) (words : List ℕ) (done pending : ℕ → ℕ → List Death) (v : View) : Type 0 where
-  pub home : (shard slot : ℕ) → IsHome shard v → (deaths_at shard slot v.deaths ≡ done shard slot) × (deaths_at shard slot v.begun ≡ pending shard slot)
-  pub deaths : (k : ℕ) (d : Death) → get_elem? v.deaths k ≡ some d → IsHome d.shard v
-  pub begun : (k : ℕ) (d : Death) → get_elem? v.begun k ≡ some d → IsHome d.shard v
+  pub home : (shard slot : ℕ) → IsHomeOf shard v → (deaths_at shard slot v.deaths ≡ done shard slot) × (deaths_at shard slot v.begun ≡ pending shard slot)
+  pub deaths : (k : ℕ) (d : Death) → get_elem? v.deaths k ≡ some d → IsHomeOf d.shard v
+  pub begun : (k : ℕ) (d : Death) → get_elem? v.begun k ≡ some d → IsHomeOf d.shard v
   pub reads : (k : ℕ) (r : Read) → get_elem? v.reads k ≡ some r → IsReadKept shape words (done r.shard r.slot) r
 
 -- each desk has at most one home
@@ -58,38 +58,38 @@ Ruled shape s = IsKept shape s.words s.views
 
 -- the first view is the home of all desks
 abbrev pub first_view : Shape → View
-first_view shape = fresh (up_from 0 shape.desks)
+first_view shape = fresh_view (up_from 0 shape.desks)
 
 -- what a step knows of its seat: the view, and that no slot is held
-abbrev pub Known : Type 0
-Known = Me (Unit {0}) View
+abbrev pub SeatKnows : Type 0
+SeatKnows = Me (Unit {0}) View
 
 -- a version word was read; it is not below what this seat read there or told of there before
-abbrev pub LoadsVersion : ℕ → ℕ → Known → ℕ → Known → Type 0
+abbrev pub LoadsVersion : ℕ → ℕ → SeatKnows → ℕ → SeatKnows → Type 0
 LoadsVersion shard slot me n me' =
     (me' ≡ (with_read (new_read shard slot n None) me.0, me.1))
     × ((k : ℕ) (r : Read) → get_elem? me.0.reads k ≡ some r → r.shard ≡ shard → r.slot ≡ slot → r.version ≤ n)
     × ((k : ℕ) (d : Death) → get_elem? me.0.deaths k ≡ some d → d.shard ≡ shard → d.slot ≡ slot → d.version ≤ n)
 
 -- the same, as a step tells it
-abbrev pub VersionLoaded : ℕ → ℕ → Step (Unit {0}) → Known → ℕ → Known → Type 0
+abbrev pub VersionLoaded : ℕ → ℕ → Step (Unit {0}) → SeatKnows → ℕ → SeatKnows → Type 0
 VersionLoaded shard slot st = LoadsVersion shard slot
 
 -- a death word was read, and the stamp joins the last read
-abbrev pub DeathLoaded : Step (Unit {0}) → Known → ℕ → Known → Type 0
+abbrev pub DeathLoaded : Step (Unit {0}) → SeatKnows → ℕ → SeatKnows → Type 0
 DeathLoaded st me n me' = me' ≡ (with_stamp n me.0, me.1)
 
 -- a death word was stored: the death is begun
-abbrev pub DeathStored : ℕ → ℕ → ℕ → Step (Unit {0}) → Known → ℕ → Known → Type 0
+abbrev pub DeathStored : ℕ → ℕ → ℕ → Step (Unit {0}) → SeatKnows → ℕ → SeatKnows → Type 0
 DeathStored shard slot version st me n me' = me' ≡ (with_begun (new_death shard slot version n) me.0, me.1)
 
 -- a version word was stored: the death is told whole
-abbrev pub VersionStored : Step (Unit {0}) → Known → ℕ → Known → Type 0
+abbrev pub VersionStored : Step (Unit {0}) → SeatKnows → ℕ → SeatKnows → Type 0
 VersionStored st me n me' = me' ≡ (finished me.0, me.1)
 
 -- what a seat is made with: the first home of the view that it is split off from
 abbrev pub one_home : View → View
-one_home v = fresh (take 1 v.homes)
+one_home v = fresh_view (take 1 v.homes)
 
 -- what that view keeps
 abbrev pub other_homes : View → View
@@ -99,9 +99,9 @@ other_homes v = record { homes = drop 1 v.homes; reads = v.reads; deaths = v.dea
 -- an earlier version has a greater stamp
 abbrev pub IsBacked : View → Type 0
 IsBacked v =
-    (k : ℕ) (r : Read) → get_elem? v.reads k ≡ some r → IsHome r.shard v → 0 < r.version
+    (k : ℕ) (r : Read) → get_elem? v.reads k ≡ some r → IsHomeOf r.shard v → 0 < r.version
     → MatchOption r.stamp (Unit {0}) (λ s. Covers (deaths_at r.shard r.slot v.deaths) r.version s)
 
 -- a word was read, and the rule told of this view
-abbrev pub Audited : Step (Unit {0}) → Known → ℕ → Known → Type 0
+abbrev pub Audited : Step (Unit {0}) → SeatKnows → ℕ → SeatKnows → Type 0
 Audited st me n me' = (me' ≡ me) × IsBacked me.0

@@ -26,9 +26,9 @@ pub record SeatState : Type 0 where
 abbrev pub seat_state : TableId → View → SeatState
 seat_state name v = record { name = name; homes = v.homes; reads = v.reads; deaths = v.deaths }
 
--- a directory of so many desks, each with so many slots, has words for this pid
-abbrev pub IsIn : DirectoryState → Pid → Type 0
-IsIn d pid = (pid.shard < d.desks) × (pid.slot < d.slots)
+-- the directory has words for this pid
+abbrev pub HasWordsFor : DirectoryState → Pid → Type 0
+HasWordsFor d pid = (pid.shard < d.desks) × (pid.slot < d.slots)
 
 -- the home of this desk alone, which has neither read nor told anything
 abbrev pub new_seat : TableId → ℕ → SeatState

@@ -50,8 +50,8 @@ pub record Covers (ds : List Death) (version stamp : ℕ) : Type 0 where
   pub latest : (k : ℕ) (d : Death) → get_elem? ds k ≡ some d → d.version ≤ version → d.stamp ≤ stamp
 
 -- this desk is among the view's homes
-abbrev pub IsHome : ℕ → View → Type 0
-IsHome shard v = (k : ℕ) × (get_elem? v.homes k ≡ some shard)
+abbrev pub IsHomeOf : ℕ → View → Type 0
+IsHomeOf shard v = (k : ℕ) × (get_elem? v.homes k ≡ some shard)
 
 -- how often a number stands in a list
 abbrev pub times : ℕ → List ℕ → ℕ
@@ -64,8 +64,8 @@ homes_of shard [] = 0
 homes_of shard (v ∷ vs) = times shard v.homes + homes_of shard vs
 
 -- a view that knows no more than whose home it is
-abbrev pub fresh : List ℕ → View
-fresh homes = record { homes = homes; reads = []; deaths = []; begun = [] }
+abbrev pub fresh_view : List ℕ → View
+fresh_view homes = record { homes = homes; reads = []; deaths = []; begun = [] }
 
 -- so many numbers, from this one on
 abbrev pub up_from : ℕ → ℕ → List ℕ
@@ -95,8 +95,8 @@ abbrev pub finished : View → View
 finished v = record { homes = v.homes; reads = v.reads; deaths = v.deaths ++ v.begun; begun = [] }
 
 -- what two views know together
-abbrev pub joined : View → View → View
-joined v w = record { homes = v.homes ++ w.homes; reads = v.reads ++ w.reads; deaths = v.deaths ++ w.deaths; begun = v.begun ++ w.begun }
+abbrev pub joined_views : View → View → View
+joined_views v w = record { homes = v.homes ++ w.homes; reads = v.reads ++ w.reads; deaths = v.deaths ++ w.deaths; begun = v.begun ++ w.begun }
 
 -- this read is the last
 abbrev pub LastRead : Read → List Read → Type 0

@@ -1,9 +1,9 @@
 //! The words, and the calls over them.
 
 ghost use Rattle.std.specs.Prelude.{◌≡◌, ◌*◌, ◌<◌, [], ◌∷◌, map, replicate, None, IfOk, IsSome};
-ghost use Rattle.pt_directory.specs.Views.{new_read, deaths_at, last_version, last_stamp, IsHome, with_stamp, with_begun, finished, LastRead, up_from, fresh};
+ghost use Rattle.pt_directory.specs.Views.{new_read, deaths_at, last_version, last_stamp, IsHomeOf, with_stamp, with_begun, finished, LastRead, up_from, fresh_view};
 ghost use Rattle.pt_directory.specs.Rule.{version_word, LoadsVersion};
-ghost use Rattle.pt_directory.specs.Seats.{IsIn, IsBegun, add_death, death_of, Probes, HasReadOf, HasToldOf, join_seats, IsAudited, new_seat, reopened_seat, AreEnded};
+ghost use Rattle.pt_directory.specs.Seats.{HasWordsFor, IsBegun, add_death, death_of, Probes, HasReadOf, HasToldOf, join_seats, IsAudited, new_seat, reopened_seat, AreEnded};
 
 use crate::rule::{
     Audit, DirectoryRule, JoinViews, LoadDeath, LoadVersion, Numbers, SplitHome, StoreDeath,
@@ -96,7 +96,7 @@ impl Directory {
     /// directory has, and the version not 0. It takes no memory and waits for nobody.
     pub fn probe(&self, seat: &mut Seat, pid: Pid) -> Option<u64>
         requires seat { seat.old.name ≡ self.now.name }
-        requires pid { IsIn self.now pid × (0 < pid.version) }
+        requires pid { HasWordsFor self.now pid × (0 < pid.version) }
         ensures read { Probes pid seat.old result seat.new }
         ensures again { HasReadOf pid seat.old → IsSome result }
         ensures own { HasToldOf pid seat.old → IsSome result }
@@ -114,7 +114,7 @@ impl Directory {
     /// It takes no memory and waits for nobody.
     pub fn ended(&self, seat: &mut Seat, pid: Pid, stamp: u64)
         requires seat { (seat.old.name ≡ self.now.name) × (seat.old.homes ≡ pid.shard ∷ []) }
-        requires pid { IsIn self.now pid }
+        requires pid { HasWordsFor self.now pid }
         requires version { last_version (deaths_at pid.shard pid.slot seat.old.deaths) < pid.version }
         requires stamp { last_stamp (deaths_at pid.shard pid.slot seat.old.deaths) < stamp }
         ensures { seat.new ≡ add_death (death_of pid stamp) seat.old }
@@ -148,7 +148,7 @@ impl Directory {
 
     /// Where the version word of the pid's slot stands; its death word stands behind it.
     fn word(&self, pid: Pid) -> usize
-        requires { IsIn self.now pid }
+        requires { HasWordsFor self.now pid }
         ensures { result ≡ version_word self.now.slots pid.shard pid.slot }
     {
         2 * (usize::from(pid.shard) * self.slots as usize + pid.slot as usize)
@@ -157,7 +157,7 @@ impl Directory {
     /// Loads the version word of the pid's slot, and adds that read.
     fn load_version<N: Numbers>(&self, seat: &mut TableSeat, pid: Pid) -> u64
         requires seat { seat.old.table_id ≡ self.now.name }
-        requires pid { IsIn self.now pid }
+        requires pid { HasWordsFor self.now pid }
         requires numbers { (N.shard ≡ pid.shard) × (N.slot ≡ pid.slot) }
         ensures same { (seat.new.table_id ≡ seat.old.table_id) × (seat.new.id ≡ seat.old.id) }
         ensures read { LoadsVersion pid.shard pid.slot seat.old.me result seat.new.me }
@@ -170,7 +170,7 @@ impl Directory {
     /// Loads the death word of the pid's slot; the stamp joins the last read, which is of that slot.
     fn load_death(&self, seat: &mut TableSeat, pid: Pid, version: u64) -> u64
         requires seat { seat.old.table_id ≡ self.now.name }
-        requires pid { IsIn self.now pid }
+        requires pid { HasWordsFor self.now pid }
         requires read { LastRead (new_read pid.shard pid.slot version None) seat.old.me.0.reads }
         ensures same { (seat.new.table_id ≡ seat.old.table_id) × (seat.new.id ≡ seat.old.id) }
         ensures stamped { seat.new.me ≡ (with_stamp result seat.old.me.0, seat.old.me.1) }
@@ -183,9 +183,9 @@ impl Directory {
     /// Stores the stamp of a death, which is begun by it.
     fn store_death<N: Numbers>(&self, seat: &mut TableSeat, pid: Pid, stamp: u64)
         requires seat { seat.old.table_id ≡ self.now.name }
-        requires pid { IsIn self.now pid }
+        requires pid { HasWordsFor self.now pid }
         requires numbers { (N.shard ≡ pid.shard) × (N.slot ≡ pid.slot) × (N.version ≡ pid.version) }
-        requires home { IsHome pid.shard seat.old.me.0 × (seat.old.me.0.begun ≡ []) }
+        requires home { IsHomeOf pid.shard seat.old.me.0 × (seat.old.me.0.begun ≡ []) }
         requires version { last_version (deaths_at pid.shard pid.slot seat.old.me.0.deaths) < pid.version }
         requires stamp { last_stamp (deaths_at pid.shard pid.slot seat.old.me.0.deaths) < stamp }
         ensures same { (seat.new.table_id ≡ seat.old.table_id) × (seat.new.id ≡ seat.old.id) }
@@ -199,7 +199,7 @@ impl Directory {
     /// Stores the version of the death that was begun, which is told whole by it.
     fn store_version(&self, seat: &mut TableSeat, pid: Pid)
         requires seat { seat.old.table_id ≡ self.now.name }
-        requires pid { IsIn self.now pid }
+        requires pid { HasWordsFor self.now pid }
         requires begun { IsBegun pid seat.old.me.0.begun }
         ensures same { (seat.new.table_id ≡ seat.old.table_id) × (seat.new.id ≡ seat.old.id) }
         ensures finished { seat.new.me ≡ (finished seat.old.me.0, seat.old.me.1) }
@@ -216,7 +216,7 @@ fn with_one_seat(alloc: Global, desks: u8, slots: u32) -> Result<(Words, TableSe
     requires slots { 0 < slots }
     ensures key { IfOk result (λ r. (r.0.shared.key.desks ≡ desks) × (r.0.shared.key.slots ≡ slots)) }
     ensures words { IfOk result (λ r. r.0.shared.table_id.words ≡ 2 * (desks * slots)) }
-    ensures seat { IfOk result (λ r. (r.1.table_id ≡ r.0.shared.table_id) × (r.1.me.0 ≡ fresh (up_from 0 desks))) }
+    ensures seat { IfOk result (λ r. (r.1.table_id ≡ r.0.shared.table_id) × (r.1.me.0 ≡ fresh_view (up_from 0 desks))) }
 {
     let shape = Shape {
         desks: u64::from(desks),

@@ -99,9 +99,9 @@ pub struct JoinViews;
 
 impl Join<View> for JoinViews {
     ghost use Rattle.std.specs.Prelude.{[]};
-    ghost use Rattle.pt_directory.specs.Views.{joined, fresh};
+    ghost use Rattle.pt_directory.specs.Views.{joined_views, fresh_view};
 
-    ghost both = { joined };
+    ghost both = { joined_views };
 
-    ghost spent = { fresh [] };
+    ghost spent = { fresh_view [] };
 }

@@ -2,7 +2,7 @@
 //! threads, of which one sees what the other tells.
 
 ghost use Rattle.std.specs.Prelude.{◌≡◌, ◌<◌, [], ◌∷◌};
-ghost use Rattle.pt_directory.specs.Seats.{IsIn};
+ghost use Rattle.pt_directory.specs.Seats.{HasWordsFor};
 
 use pt_directory::{Directory, Seat};
 use pt_signal::Pid;
@@ -32,7 +32,7 @@ const BEA: Pid = Pid {
 /// A probe answers this.
 fn answers(rt: &impl Abort, directory: &Directory, seat: &mut Seat, pid: Pid, wanted: Option<u64>)
     requires seat { seat.old.name ≡ directory.now.name }
-    requires pid { IsIn directory.now pid × (0 < pid.version) }
+    requires pid { HasWordsFor directory.now pid × (0 < pid.version) }
     ensures name { seat.new.name ≡ seat.old.name }
     ensures homes { seat.new.homes ≡ seat.old.homes }
     ensures deaths { seat.new.deaths ≡ seat.old.deaths }

@@ -1,5 +1,5 @@
 use Rattle.std.proofs.Common.{◌≡◌, ◌+◌, ◌-◌, ◌*◌, ◌<◌, ◌∷◌, ap, ◌∙◌, arith, mul-pos}
-use Rattle.pt_directory.specs.Views.{fresh, up_from}
+use Rattle.pt_directory.specs.Views.{fresh_view, up_from}
 use Rattle.pt_directory.specs.Rule.{one_home, other_homes}
 use Rattle.pt_directory.specs.Seats.{seat_state, new_seat}
 use Rattle.pt_directory.proofs.Lists.{up_from-cons}
@@ -15,7 +15,7 @@ split_seat-inner-requires c =
       c.loop-desk.invariant.same,
       omega (arith, t.words),
       splits c.in_ok-table.table.shared.key c.loop-desk.rest.id c.loop-desk._desk (up_from (c.loop-desk._desk + 1) (c.args.desks - (c.loop-desk._desk + 1))) c.loop-desk.rest.me.0
-          (c.loop-desk.invariant.left ∙ ap fresh (up_from-cons c.loop-desk._desk c.args.desks c.loop-desk-test.true)),
+          (c.loop-desk.invariant.left ∙ ap fresh_view (up_from-cons c.loop-desk._desk c.args.desks c.loop-desk-test.true)),
     )
 
 pub push_reserved-requires : goal.push_reserved-requires
@@ -27,7 +27,7 @@ pub loop-desk-preserved : goal.loop-desk-preserved
 loop-desk-preserved c =
     let k = c.loop-desk._desk in
     let hs = up_from (k + 1) (c.args.desks - (k + 1)) in
-    let was : c.loop-desk.rest.me.0 ≡ fresh (k ∷ hs) = c.loop-desk.invariant.left ∙ ap fresh (up_from-cons k c.args.desks c.loop-desk-test.true) in
+    let was : c.loop-desk.rest.me.0 ≡ fresh_view (k ∷ hs) = c.loop-desk.invariant.left ∙ ap fresh_view (up_from-cons k c.args.desks c.loop-desk-test.true) in
     let s = c.split_seat-inner.ensures in
     let name = c.in_ok-table.table.shared.table_id in
     let new : seat_state c.split_seat-inner.result.table_id c.split_seat-inner.result.me.0 ≡ new_seat name k =
