@@ -8,7 +8,7 @@ use Rattle.pt_signal.specs.declared.reason.Reason.{Reason}
 use Rattle.pt_signal.specs.declared.signal.Signal.{Signal}
 use Rattle.pt_signal.specs.declared.signal.Signal.TheVariants.{Link, LinkExit, Monitor, Demonitor, AliveAsk}
 use Rattle.pt_events.specs.declared.event.Event.{Event}
-use Rattle.pt_events.specs.declared.event.Event.TheVariants.{Born, Said, Came, Took, Flag, Left}
+use Rattle.pt_events.specs.declared.event.Event.TheVariants.{Said, Came, Left}
 use Rattle.pt_events.specs.declared.event.Stamped.{Stamped}
 use Rattle.pt_signal.specs.Process.{ProcessState, Sent, sent, estate, bounce, handle}
 use Rattle.pt_events.specs.History.{Past, Start, Phase, unborn, living, ended, life, sent_by, got_sends, left_sends, end_sends}
@@ -65,21 +65,16 @@ AllFrom-left (living s) me r = AllFrom-estate me s r
 AllFrom-left (ended w s) me r = tt
 
 pub from_home : (start : Start) (past : Past) (d : ℕ) (e : Event) → IsHome d e → AllFrom d (sent_by start past e)
-from_home start past d (Born q parent link) h = tt
 from_home start past d (Said a b x) h = (h, tt)
 from_home start past d (Came a b x) h = subst (λ d. AllFrom d (got_sends (life start past b) b a x)) h (AllFrom-got (life start past b) b a x)
-from_home start past d (Took q k i) h = tt
-from_home start past d (Flag q on) h = tt
 from_home start past d (Left p r) h = subst (λ d. AllFrom d (left_sends (life start past p) p r)) h (AllFrom-left (life start past p) p r)
+from_home start past d _ h = tt
 
 module _ (start : Start) where
   pub life_home : (p : Pid) (d : ℕ) (merged : List Stamped) → p.shard ≡ d → AllHome merged → life start (events (of_desk d merged)) p ≡ life start (events merged) p
   life_home p d merged e h = subst (λ d. life start (events (of_desk d merged)) p ≡ life start (events merged) p) e (life_local start p merged h)
 
   pub sent_home : (d : ℕ) (merged : List Stamped) (e : Event) → IsHome d e → AllHome merged → sent_by start (events (of_desk d merged)) e ≡ sent_by start (events merged) e
-  sent_home d merged (Born q parent link) h k = refl
-  sent_home d merged (Said a b x) h k = refl
   sent_home d merged (Came a b x) h k = ap (λ f. got_sends f b a x) (life_home b d merged h k)
-  sent_home d merged (Took q j i) h k = refl
-  sent_home d merged (Flag q on) h k = refl
   sent_home d merged (Left p r) h k = ap (λ f. left_sends f p r) (life_home p d merged h k)
+  sent_home d merged _ h k = refl

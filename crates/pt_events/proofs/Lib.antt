@@ -5,3 +5,4 @@ pub mod Homes
 pub mod Orders
 pub mod InOrder
 pub mod Agreeing
+pub mod Refusals

@@ -31,6 +31,7 @@ home_untouched d p (Came a b x) i h = apart p b d i h
 home_untouched d p (Took q k j) i h = apart p q d i h
 home_untouched d p (Flag q on) i h = apart p q d i h
 home_untouched d p (Left q r) i h = apart p q d i h
+home_untouched d p _ i h = refl
 
 module _ (start : Start) (p : Pid) where
   pub life_local : (merged : List Stamped) → AllHome merged → life start (events (of_desk p.shard merged)) p ≡ life start (events merged) p

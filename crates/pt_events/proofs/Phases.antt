@@ -3,7 +3,7 @@ use Rattle.std.proofs.Common.{◌≡◌, Bool, true, false, cond, Option, Some, 
 use Rattle.pt_signal.specs.declared.pid.Pid.{Pid}
 use Rattle.pt_signal.specs.declared.reason.Reason.{Reason}
 use Rattle.pt_events.specs.declared.event.Event.{Event}
-use Rattle.pt_events.specs.declared.event.Event.TheVariants.{Born, Said, Came, Took, Flag, Left}
+use Rattle.pt_events.specs.declared.event.Event.TheVariants.{Born, Came}
 use Rattle.pt_signal.specs.Values.{same_pid}
 use Rattle.pt_signal.specs.Process.{ProcessState, handle}
 use Rattle.pt_events.specs.History.{Phase, unborn, living, ended, after, change, touches, is_unborn, is_ended, live_or_end}
@@ -15,11 +15,7 @@ each_branch P false x y h k = k
 
 change_ended : (p : Pid) (e : Event) (r : Reason) (s : ProcessState) → change p e (ended r s) ≡ ended r s
 change_ended p (Born q parent link) r s = each_branch (λ f. f ≡ ended r s) (same_pid p q) _ _ refl refl
-change_ended p (Said a b x) r s = refl
-change_ended p (Came a b x) r s = refl
-change_ended p (Took q k i) r s = refl
-change_ended p (Flag q on) r s = refl
-change_ended p (Left q why) r s = refl
+change_ended p _ r s = refl
 
 -- an ended process stays as it ended
 pub after_ended : (p : Pid) (e : Event) (r : Reason) (s : ProcessState) → after p e (ended r s) ≡ ended r s
@@ -31,11 +27,8 @@ live_or_end_born (Some r) s = refl
 
 change_living : (p : Pid) (e : Event) (s : ProcessState) → is_unborn (change p e (living s)) ≡ false
 change_living p (Born q parent link) s = each_branch (λ f. is_unborn f ≡ false) (same_pid p q) _ _ refl refl
-change_living p (Said a b x) s = refl
 change_living p (Came a b x) s = live_or_end_born (handle p s a x).ending _
-change_living p (Took q k i) s = refl
-change_living p (Flag q on) s = refl
-change_living p (Left q why) s = refl
+change_living p _ s = refl
 
 pub after_born : (p : Pid) (e : Event) (f : Phase) → is_unborn f ≡ false → is_unborn (after p e f) ≡ false
 after_born p e unborn h = absurd (cc)

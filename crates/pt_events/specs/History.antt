@@ -20,7 +20,7 @@ use Rattle.pt_signal.specs.declared.reason.Reason.{Reason}
 use Rattle.pt_signal.specs.declared.signal.Signal.{Signal}
 use Rattle.pt_signal.specs.declared.signal.Signal.TheVariants.{Message, Link, Unlink, LinkExit, Monitor, Demonitor, AliveAsk, AliveSay}
 use Rattle.pt_events.specs.declared.event.Event.{Event}
-use Rattle.pt_events.specs.declared.event.Event.TheVariants.{Born, Said, Came, Took, Flag, Left}
+use Rattle.pt_events.specs.declared.event.Event.TheVariants.{Born, Said, Came, Took, Flag, Left, Refused}
 use Rattle.pt_signal.specs.Values.{same_pid, same_ref, same_link, fits, without_first}
 use Rattle.pt_signal.specs.Process.{ProcessState, fresh, held, enter, handle, say, Sent, sent, estate, bounce}
 
@@ -68,7 +68,12 @@ abbrev pub is_the : Pid → Option Pid → Bool
 is_the p None = false
 is_the p (Some q) = same_pid p q
 
--- the event is one of p's own: its birth, the birth of its child, what it says, takes, sets or gets, its exit
+-- the event is p's birth
+abbrev pub is_birth : Pid → Event → Bool
+is_birth p (Born q parent link) = same_pid p q
+is_birth p _ = false
+
+-- the event is one of p's own: its birth, the birth of its child, what it says, takes, sets or gets, its exit; a refused call changes nobody, and is nobody's
 abbrev pub touches : Pid → Event → Bool
 touches p (Born q parent link) = same_pid p q || is_the p parent
 touches p (Said a b x) = same_pid p a
@@ -76,6 +81,7 @@ touches p (Came a b x) = same_pid p b
 touches p (Took q k i) = same_pid p q
 touches p (Flag q on) = same_pid p q
 touches p (Left q r) = same_pid p q
+touches p (Refused a b) = false
 
 abbrev pub is_unborn : Phase → Bool
 is_unborn unborn = true
@@ -117,6 +123,7 @@ change p (Came a b x) f = gets p a x f
 change p (Took q k i) f = while_living (λ s. record s { waiting = without_first (fits k) s.waiting }) f
 change p (Flag q on) f = while_living (λ s. record s { traps = on }) f
 change p (Left q r) f = leaves r f
+change p (Refused a b) f = f
 
 abbrev pub after : Pid → Event → Phase → Phase
 after p e f = cond (touches p e) (change p e f) f
@@ -254,6 +261,7 @@ module _ (start : Start) where
   May past (Took p k i) = (alive past p ≡ true) × (find (fits k) (state past p).waiting ≡ Some i)
   May past (Flag p on) = alive past p ≡ true
   May past (Left p r) = alive past p ≡ true
+  May past (Refused a b) = (alive past a ≡ true) × (is_ended (life past b) ≡ true)
 
   abbrev pub IsLegal : Past → Type 0
   IsLegal [] = ⊤

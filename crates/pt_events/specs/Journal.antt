@@ -4,11 +4,11 @@ use Rattle.pt_signal.specs.declared.pid.Pid.{Pid}
 use Rattle.pt_signal.specs.declared.ids.LinkId.{LinkId}
 use Rattle.pt_signal.specs.declared.signal.Signal.TheVariants.{Link, Monitor, AliveAsk}
 use Rattle.pt_events.specs.declared.event.Event.{Event}
-use Rattle.pt_events.specs.declared.event.Event.TheVariants.{Born, Said, Came, Took, Flag, Left}
+use Rattle.pt_events.specs.declared.event.Event.TheVariants.{Born, Said, Came, Took, Flag, Left, Refused}
 use Rattle.pt_events.specs.declared.event.Stamped.{Stamped}
 use Rattle.pt_signal.specs.declared.letter.Letter.{Letter}
 use Rattle.pt_signal.specs.Process.{Sent, sent}
-use Rattle.pt_events.specs.History.{Past, Start, is_unborn, is_ended, life, sent_by, May}
+use Rattle.pt_events.specs.History.{Past, Start, is_unborn, is_ended, alive, life, sent_by, May}
 use Rattle.pt_events.specs.declared.event.TheConstants.{MAX_STAMP}
 
 abbrev pub events : List Stamped → Past
@@ -39,6 +39,7 @@ IsHome d (Came a b x) = b.shard ≡ d
 IsHome d (Took p k i) = p.shard ≡ d
 IsHome d (Flag p on) = p.shard ≡ d
 IsHome d (Left p r) = p.shard ≡ d
+IsHome d (Refused a b) = a.shard ≡ d
 
 abbrev pub IsLinkAt : ℕ → ℕ → Option LinkId → Type 0
 IsLinkAt d n None = ⊤
@@ -53,9 +54,10 @@ IsNewAt d n (Said a b (AliveAsk m)) = (m.desk ≡ d) × (m.number ≡ n)
 IsNewAt d n _ = ⊤
 
 module _ (start : Start) where
-  -- all but receipts may come, read over the journal alone
+  -- all but receipts may come, read over the journal alone; that the other of a refused call has ended, its own desk tells
   abbrev pub MayHere : Past → Event → Type 0
   MayHere past (Came a b x) = ⊤
+  MayHere past (Refused a b) = alive start past a ≡ true
   MayHere past e = May start past e
 
   -- a Said to a pid of the desk comes after that pid's birth; a slot's versions follow one another

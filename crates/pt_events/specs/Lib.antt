@@ -3,3 +3,4 @@ pub mod Journal
 pub mod Locality
 pub mod JournalState
 pub mod Text
+pub mod Refusals

@@ -4,7 +4,7 @@ use Rattle.pt_signal.specs.declared.Pid.{Pid}
 use Rattle.pt_signal.specs.declared.LinkId.{LinkId}
 use Rattle.pt_signal.specs.Text.{pid_text, link_id_text, reason_text, item_text, pick_text, signal_text, route_text}
 use Rattle.pt_events.specs.declared.event.Event.{Event}
-use Rattle.pt_events.specs.declared.event.Event.TheVariants.{Born, Said, Came, Took, Flag, Left}
+use Rattle.pt_events.specs.declared.event.Event.TheVariants.{Born, Said, Came, Took, Flag, Left, Refused}
 use Rattle.pt_events.specs.declared.event.Stamped.{Stamped}
 
 unfoldable pub parent_text : Option Pid → List ℕ
@@ -26,6 +26,7 @@ event_text (Came a b x) = codes "came " ++ route_text a b ++ codes " " ++ signal
 event_text (Took p k i) = codes "took " ++ pid_text p ++ codes " " ++ pick_text k ++ codes " = " ++ item_text i
 event_text (Flag p on) = codes "flag " ++ pid_text p ++ codes " " ++ switch_text on
 event_text (Left p r) = codes "left " ++ pid_text p ++ codes " " ++ reason_text r
+event_text (Refused a b) = codes "refused " ++ route_text a b
 
 -- `STAMP@DESK EVENT`
 unfoldable pub stamped_text : Stamped → List ℕ

@@ -19,6 +19,8 @@ pub enum Event {
     Flag(Pid, bool),
     /// The process ended by its own exit.
     Left(Pid, Reason),
+    /// A call of the first process was refused, since the second had ended.
+    Refused(Pid, Pid),
 }
 
 /// The greatest stamp: 2^62. A clock that has reached it is worn, and its desk writes no more events.
@@ -112,6 +114,10 @@ impl fmt::Display for Event {
                 write!(f, "flag {pid} {switch}")
             }
             Event::Left(pid, reason) => write!(f, "left {pid} {reason}"),
+            Event::Refused(from, to) => {
+                let route = Route { from, to };
+                write!(f, "refused {route}")
+            }
         }
     }
 }
