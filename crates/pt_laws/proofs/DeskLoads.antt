@@ -6,14 +6,14 @@ use Rattle.pt_signal.specs.declared.pid.Pid.{Pid}
 use Rattle.pt_signal.specs.declared.letter.Letter.{Letter}
 use Rattle.pt_signal.specs.Process.{Sent}
 use Rattle.pt_events.specs.declared.event.Event.{Event}
-use Rattle.pt_events.specs.declared.event.Event.TheVariants.{Born, Said, Came, Took, Flag, Left}
+use Rattle.pt_events.specs.declared.event.Event.TheVariants.{Born, Came}
 use Rattle.pt_events.specs.declared.event.Stamped.{Stamped}
 use Rattle.pt_events.specs.History.{Past, Start, life, is_unborn, flying, sent_by}
 use Rattle.pt_events.specs.Journal.{Journals, LanesAgree, IsMerge, IsHome, Agrees, events, of_desk, letter, content, posts, gots, in_lane}
 use Rattle.pt_events.specs.Locality.{AllHome}
 use Rattle.pt_laws.specs.Load.{weight, weights, size, total, pids, IsStart, load, desk_sizes, below, left_weight, load_by_desk}
 use Rattle.pt_laws.specs.Laws.{LanesFly}
-use Rattle.pt_laws.specs.LoadLaws.{Receives, HasDesks}
+use Rattle.pt_laws.specs.LoadLaws.{OldestComes, HasDesks}
 use Rattle.pt_events.proofs.Local.{life_local}
 use Rattle.pt_events.proofs.Homes.{life_home}
 use Rattle.pt_laws.proofs.lanes.Load.{one_receipt}
@@ -26,7 +26,7 @@ sizes_came : (start : Start) → IsStart start → (past : Past) (l : Letter) (s
 sizes_came start ok past l s e is comes = let h = one_receipt start ok past l.from l.to l.signal in rw (comes, ← is) (omega arith)
 
 module _ (start : Start) (ok : IsStart start) (n d e : ℕ) (l : Letter) (s : Stamped) (journal after : Journals) (over left : ℕ → ℕ → List Letter)
-    (r : Receives start n d e l s journal after over left) (d_in : d < n) (e_in : e < n) where
+    (r : OldestComes start n d e l s journal after over left) (d_in : d < n) (e_in : e < n) where
   abbrev goes : List Sent
   goes = sent_by start (events (journal e)) s.event
 
@@ -210,11 +210,7 @@ module _ (start : Start) (e : ℕ) where
           ∙ ap (λ z. z ++ filter (λ p. p.shard == e) (cond (is_unborn (life start (events (of_desk e merged)) p)) (p ∷ []) [])) ih
           ∙ ap (λ f. filter (λ p. p.shard == e) (pids start (events merged)) ++ filter (λ p. p.shard == e) (cond (is_unborn f) (p ∷ []) [])) (same p (home.0 ∙ eqb-true s.desk e k))
           ∙ sym (filter-append (λ p. p.shard == e) (pids start (events merged)) (cond (is_unborn (life start (events merged) p)) (p ∷ []) []))
-      here (Said a b x) home k ih same = ih
-      here (Came a b x) home k ih same = ih
-      here (Took p q i) home k ih same = ih
-      here (Flag p on) home k ih same = ih
-      here (Left p r) home k ih same = ih
+      here _ home k ih same = ih
 
       there : (ev : Event) → IsHome s.desk ev → (s.desk == e) ≡ false
           → filter (λ p. p.shard == e) (pids start (events (of_desk e merged))) ≡ filter (λ p. p.shard == e) (pids start (events merged))
@@ -227,11 +223,7 @@ module _ (start : Start) (e : ℕ) where
           gone : (b : Bool) → filter (λ p. p.shard == e) (cond b (p ∷ []) []) ≡ []
           gone true = rw (ne_eqb p.shard e (λ q. both_ways (s.desk == e) k (eq-eqb s.desk e (sym home.0 ∙ q)))) refl
           gone false = refl
-      there (Said a b x) home k ih = ih
-      there (Came a b x) home k ih = ih
-      there (Took p q i) home k ih = ih
-      there (Flag p on) home k ih = ih
-      there (Left p r) home k ih = ih
+      there _ home k ih = ih
 
       go : (b : Bool) → (s.desk == e) ≡ b
           → filter (λ p. p.shard == e) (pids start (events (of_desk e merged))) ≡ filter (λ p. p.shard == e) (pids start (events merged))

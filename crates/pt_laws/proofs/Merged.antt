@@ -1,27 +1,31 @@
 -- The merge of local journals whose lanes agree is legal.
-use Rattle.std.proofs.Common.{◌≡◌, ℕ, ◌≤◌, Bool, true, false, cond, ◌==◌, List, [], ◌∷◌, ◌++◌, Option, Some, None, map, filter, refl, sym, ap, ◌∙◌, subst, append-nil, ⊎_elim, arith}
+use Rattle.std.proofs.Common.{◌≡◌, ℕ, ◌≤◌, Bool, true, false, cond, ◌==◌, List, [], ◌∷◌, ◌++◌, Option, Some, None, map, filter, refl, sym, ap, ◌∙◌, subst, append-nil, ⊎_elim, arith, le_refl}
 use Rattle.std.specs.Map.{lookup}
 use Rattle.std.proofs.lemmas.List.{map-append}
 use Rattle.std.proofs.lemmas.List.Elements.{filter-append}
 use Rattle.std.proofs.lemmas.Bool.{eq-eqb, eqb-true, and_parts, and_from, and_right}
+use Rattle.std.proofs.lemmas.Bool.Decides.{nat_tests}
 use Rattle.std.specs.List.{find}
+use Rattle.std.specs.Prelude.{nat_lt}
 use Rattle.pt_signal.specs.declared.pid.Pid.{Pid}
 use Rattle.pt_signal.specs.declared.ids.Ref.{Ref}
 use Rattle.pt_signal.specs.declared.ids.LinkId.{LinkId}
 use Rattle.pt_signal.specs.declared.letter.Letter.{Letter}
 use Rattle.pt_signal.specs.declared.signal.Signal.{Signal}
-use Rattle.pt_signal.specs.declared.signal.Signal.TheVariants.{Message, Link, Unlink, LinkExit, Monitor, Demonitor, AliveAsk, AliveSay}
+use Rattle.pt_signal.specs.declared.signal.Signal.TheVariants.{Message, Link, Unlink, Monitor, Demonitor, AliveAsk}
 use Rattle.pt_events.specs.declared.event.Event.{Event}
-use Rattle.pt_events.specs.declared.event.Event.TheVariants.{Born, Said, Came, Took, Flag, Left}
+use Rattle.pt_events.specs.declared.event.Event.TheVariants.{Born, Said, Came, Took, Flag, Left, Refused}
 use Rattle.pt_events.specs.declared.event.Stamped.{Stamped}
 use Rattle.pt_signal.specs.Values.{same_pid, same_ref, same_link, without_first, fits}
 use Rattle.pt_signal.specs.Process.{Sent, sent, held}
-use Rattle.pt_events.specs.History.{Start, life, alive, state, is_living, state_of, is_between, flying, landed, sent_by, made_link, made_ref, makes_link, makes_ref, is_this, May, MaySay, MayBear, IsLegal}
-use Rattle.pt_events.specs.Journal.{events, of_desk, letter, content, IsHome, IsOf, IsNewAt, IsLinkAt, MayHere, IsNext, IsLocal, letters, posts, got, got_of, gots, Agrees, LanesAgree, IsAfter, AllBefore, IsRising}
+use Rattle.pt_events.specs.History.{Start, life, alive, state, is_living, is_ended, state_of, is_between, flying, landed, sent_by, made_link, made_ref, makes_link, makes_ref, is_this, May, MaySay, MayBear, IsLegal}
+use Rattle.pt_events.specs.Journal.{Journals, IsMerge, events, of_desk, letter, content, IsHome, IsOf, IsNewAt, IsLinkAt, MayHere, IsNext, IsLocal, letters, posts, got, got_of, gots, Agrees, LanesAgree, IsAfter, AllBefore, IsRising}
+use Rattle.pt_events.specs.Refusals.{stamped_below, IsTrueRefusal, AllTrueRefusals, RefusalsAreTrue}
 use Rattle.pt_signal.proofs.Same.{same_pid_is, same_pid_refl, same_ref_is, same_link_is}
 use Rattle.pt_events.proofs.Local.{AllHome}
 use Rattle.pt_signal.proofs.Firsts.{filter_wider, filter_other, first_wider}
 use Rattle.pt_laws.proofs.lanes.Lanes.{AllUpTo, AllUpTo-append, AllAt-letters, Back, back, contents}
+use Rattle.pt_events.proofs.Refusals.{ended_below}
 use Rattle.pt_events.proofs.Homes.{AllFrom, from_home, in_lane, life_home, sent_home}
 
 module _ (start : Start) (low top : ℕ) where
@@ -103,10 +107,8 @@ module _ (start : Start) (low top : ℕ) where
     may_say a c (Unlink ids) e n k = ap (λ f. held (state_of f).links c) (sym (same_life a e)) ∙ k
     may_say a c (Monitor m) e n k = (fresh_ref s merged m n.0 n.1 b h, k.1)
     may_say a c (Demonitor m) e n k = ap (λ f. lookup (same_ref m) (state_of f).watching) (sym (same_life a e)) ∙ k
-    may_say a c (LinkExit ids r) e n k = k
-    may_say a c (Signal.Down m r) e n k = k
     may_say a c (AliveAsk m) e n k = fresh_ref s merged m n.0 n.1 b h
-    may_say a c (AliveSay m x) e n k = k
+    may_say a c _ e n k = k
 
     may_live : (p : Pid) → p.shard ≡ s.desk → alive start (events (of_desk s.desk merged)) p ≡ true → alive start (events merged) p ≡ true
     may_live p e k = ap is_living (sym (same_life p e)) ∙ k
@@ -118,15 +120,60 @@ module _ (start : Start) (low top : ℕ) where
     may_bear (Some q) None e n k = may_live q e k
     may_bear (Some q) (Some i) e n k = (may_live q e k.0, fresh_link s merged i n.0 n.1 b h)
 
+    -- the other of a refused call has ended by the events with lower stamps of its own desk, all of which stand before s
+    other_ended : (c : Pid) → is_ended (life start (events (stamped_below s.stamp (of_desk c.shard merged))) c) ≡ true → is_ended (life start (events merged) c) ≡ true
+    other_ended c k =
+        subst (λ f. is_ended f ≡ true) (life_home start c c.shard merged refl (all_home merged h))
+        (ended_below start c low top c.shard s.stamp (of_desk c.shard merged) (h c.shard) k)
+
     -- every event but a receipt
     may_plain : (ev : Event) → IsHome s.desk ev → IsNewAt s.desk s.stamp ev → MayHere start (events (of_desk s.desk merged)) ev
-        → ((a c : Pid) (x : Signal) → ev ≡ Came a c x → May start (events merged) ev) → May start (events merged) ev
-    may_plain (Born p parent link) i n k came = (sym (same_life p i.0) ∙ k.0, may_bear parent link i.1 n k.1)
-    may_plain (Said a c x) i n k came = (may_live a i k.0, may_say a c x i n k.1)
-    may_plain (Came a c x) i n k came = came a c x refl
-    may_plain (Took p j it) i n k came = (may_live p i k.0, ap (λ f. find (fits j) (state_of f).waiting) (sym (same_life p i)) ∙ k.1)
-    may_plain (Flag p on) i n k came = may_live p i k
-    may_plain (Left p r) i n k came = may_live p i k
+        → IsTrueRefusal start (λ d. of_desk d merged) s.stamp ev → ((a c : Pid) (x : Signal) → ev ≡ Came a c x → May start (events merged) ev) → May start (events merged) ev
+    may_plain (Born p parent link) i n k true_one came = (sym (same_life p i.0) ∙ k.0, may_bear parent link i.1 n k.1)
+    may_plain (Said a c x) i n k true_one came = (may_live a i k.0, may_say a c x i n k.1)
+    may_plain (Came a c x) i n k true_one came = came a c x refl
+    may_plain (Took p j it) i n k true_one came = (may_live p i k.0, ap (λ f. find (fits j) (state_of f).waiting) (sym (same_life p i)) ∙ k.1)
+    may_plain (Flag p on) i n k true_one came = may_live p i k
+    may_plain (Left p r) i n k true_one came = may_live p i k
+    may_plain (Refused a c) i n k true_one came = (may_live a i k, other_ended c true_one)
+
+  -- refused calls --------------------------------------------------------------------------
+
+  -- of an event that is no later than s, what comes from s on tells nothing
+  below_without : (n d : ℕ) (s : Stamped) (merged : List Stamped) → n ≤ s.stamp → stamped_below n (of_desk d (s ∷ merged)) ≡ stamped_below n (of_desk d merged)
+  below_without n d s merged h = go (s.desk == d)
+    where
+      go : (b : Bool) → stamped_below n (cond b (s ∷ of_desk d merged) (of_desk d merged)) ≡ stamped_below n (of_desk d merged)
+      go true = let late : nat_lt s.stamp n ≡ false = grind (arith, nat_tests) in rw late refl
+      go false = refl
+
+  true_without : (n : ℕ) (s : Stamped) (merged : List Stamped) (e : Event) → n ≤ s.stamp
+      → IsTrueRefusal start (λ d. of_desk d (s ∷ merged)) n e → IsTrueRefusal start (λ d. of_desk d merged) n e
+  true_without n s merged (Refused a b) h k = subst (λ z. is_ended (life start (events z) b) ≡ true) (below_without n b.shard s merged h) k
+  true_without n s merged _ h k = tt
+
+  before_le : (s t : Stamped) → IsAfter s t → t.stamp ≤ s.stamp
+  before_le s t h = ⊎_elim (λ w. omega arith) (λ w. omega (arith, w.0)) h
+
+  all_true_without : (s : Stamped) (merged noted : List Stamped) → AllBefore s noted
+      → AllTrueRefusals start (λ d. of_desk d (s ∷ merged)) noted → AllTrueRefusals start (λ d. of_desk d merged) noted
+  all_true_without s merged [] b h = tt
+  all_true_without s merged (t ∷ noted) b h = (true_without t.stamp s merged t.event (before_le s t b.0) h.0, all_true_without s merged noted b.1 h.1)
+
+  -- each event of a merge is one of its desk's
+  all_true : (journal : Journals) (merged : List Stamped) → ((d : ℕ) → AllTrueRefusals start journal (of_desk d merged)) → AllTrueRefusals start journal merged
+  all_true journal [] h = tt
+  all_true journal (s ∷ merged) h =
+      ((subst (λ c. AllTrueRefusals start journal (cond c (s ∷ of_desk s.desk merged) (of_desk s.desk merged))) (eq-eqb s.desk s.desk refl) (h s.desk)).0,
+      all_true journal merged (λ d. tail d (s.desk == d) (h d)))
+    where
+      tail : (d : ℕ) (b : Bool) → AllTrueRefusals start journal (cond b (s ∷ of_desk d merged) (of_desk d merged)) → AllTrueRefusals start journal (of_desk d merged)
+      tail d true k = k.1
+      tail d false k = k
+
+  pub merged_refusals : (journal : Journals) (merged : List Stamped) → IsMerge journal merged → RefusalsAreTrue start journal
+      → AllTrueRefusals start (λ d. of_desk d merged) merged
+  merged_refusals journal merged m h = all_true (λ d. of_desk d merged) merged (subst (RefusalsAreTrue start) (λ i d. sym (m.1 d) i) h)
 
   -- one event more in the lanes --------------------------------------------------------------
 
@@ -181,9 +228,6 @@ module _ (start : Start) (low top : ℕ) where
       go true = (h, tt)
       go false = tt
   up_to_of n d t h _ = tt
-
-  before_le : (s t : Stamped) → IsAfter s t → t.stamp ≤ s.stamp
-  before_le s t h = ⊎_elim (λ w. omega arith) (λ w. omega (arith, w.0)) h
 
   gots_up_to : (s : Stamped) (merged : List Stamped) (d e : ℕ) → AllBefore s merged → AllUpTo s.stamp (gots (of_desk e merged) d)
   gots_up_to s [] d e h = tt
@@ -244,11 +288,7 @@ module _ (start : Start) (low top : ℕ) where
       go false g t k =
           let none : map content lead ≡ [] = same ∙ rw g refl in
           filter_other (in_lane d e) (is_between a c) (off_home g) fl ∙ f ∙ no_lead lead rest none
-  landed_lane home d e n (Born q parent link) fl lead rest i f same = f ∙ no_lead lead rest (same ∙ ap (map content) (none_at (home == e)))
-  landed_lane home d e n (Said a b x) fl lead rest i f same = f ∙ no_lead lead rest (same ∙ ap (map content) (none_at (home == e)))
-  landed_lane home d e n (Took q k it) fl lead rest i f same = f ∙ no_lead lead rest (same ∙ ap (map content) (none_at (home == e)))
-  landed_lane home d e n (Flag q on) fl lead rest i f same = f ∙ no_lead lead rest (same ∙ ap (map content) (none_at (home == e)))
-  landed_lane home d e n (Left q r) fl lead rest i f same = f ∙ no_lead lead rest (same ∙ ap (map content) (none_at (home == e)))
+  landed_lane home d e n _ fl lead rest i f same = f ∙ no_lead lead rest (same ∙ ap (map content) (none_at (home == e)))
 
   -- the theorem --------------------------------------------------------------------------------
 
@@ -283,9 +323,9 @@ module _ (start : Start) (low top : ℕ) where
           ∙ rw (eq-eqb s.desk c.shard (sym home), eq-eqb a.shard a.shard refl) refl
 
   pub merged_legal : (merged : List Stamped) (over : ℕ → ℕ → List Letter) → IsRising merged → AllLocal merged
-      → LanesAgree start (λ d. of_desk d merged) over → IsMerged merged over
-  merged_legal [] over r h a = record { legal = tt; flies = λ d e. ap (map content) (a d e) }
-  merged_legal (s ∷ merged) over r h a = step (merged_legal merged)
+      → LanesAgree start (λ d. of_desk d merged) over → AllTrueRefusals start (λ d. of_desk d merged) merged → IsMerged merged over
+  merged_legal [] over r h a true_all = record { legal = tt; flies = λ d e. ap (map content) (a d e) }
+  merged_legal (s ∷ merged) over r h a true_all = step (merged_legal merged)
     where
       tail : AllLocal merged
       tail = tail_local s merged h
@@ -305,13 +345,14 @@ module _ (start : Start) (low top : ℕ) where
       before : ℕ → ℕ → List Letter
       before d e = (backs d e).lead ++ (backs d e).rest
 
-      step : ((over : ℕ → ℕ → List Letter) → IsRising merged → AllLocal merged → LanesAgree start (λ d. of_desk d merged) over → IsMerged merged over)
+      step : ((over : ℕ → ℕ → List Letter) → IsRising merged → AllLocal merged → LanesAgree start (λ d. of_desk d merged) over
+          → AllTrueRefusals start (λ d. of_desk d merged) merged → IsMerged merged over)
           → IsMerged (s ∷ merged) over
       step ih =
-          let k = ih before r.1 tail (λ d e. (backs d e).agrees) in
+          let k = ih before r.1 tail (λ d e. (backs d e).agrees) (all_true_without s merged merged r.0 true_all.1) in
           record {
             legal = (
-              may_plain s merged r.0 tail s.event next.home next.new_at next.may
+              may_plain s merged r.0 tail s.event next.home next.new_at next.may (true_without s.stamp s merged s.event (le_refl s.stamp) true_all.0)
                   (came_may s merged s.event refl (λ d e. (backs d e).lead) (λ d e. (backs d e).rest) next.home k.flies (λ d e. (backs d e).same)),
               k.legal,
             );

@@ -5,6 +5,7 @@ use Rattle.pt_signal.specs.declared.letter.Letter.{Letter}
 use Rattle.pt_events.specs.declared.event.Stamped.{Stamped}
 use Rattle.pt_events.specs.History.{Past, Start, IsLegal, emitted, came, flight, flying}
 use Rattle.pt_events.specs.Journal.{Journals, LanesAgree, in_lane, IsLocal, IsMerge, events, content}
+use Rattle.pt_events.specs.Refusals.{RefusalsAreTrue}
 use Rattle.pt_laws.specs.Sender.{IsSenderFront}
 
 -- what one pid sent another is what came, then what is in flight
@@ -27,9 +28,9 @@ LanesFly start past over = (d e : ℕ) → filter (in_lane d e) (flying start pa
 abbrev pub LegalWithLeftOver : Start → List Stamped → (ℕ → ℕ → List Letter) → Type 0
 LegalWithLeftOver start merged over = IsLegal start (events merged) × LanesFly start (events merged) over
 
--- the merge of local journals whose lanes agree is so
+-- the merge of local journals whose lanes agree and whose refusals are true is so
 abbrev pub MergeLegal : Type 0
 MergeLegal =
     (start : Start) (low top : ℕ) (journal : Journals) (over : ℕ → ℕ → List Letter) (merged : List Stamped)
-    → ((d : ℕ) → IsLocal start low top d (journal d)) → LanesAgree start journal over → IsMerge journal merged
-    → LegalWithLeftOver start merged over
+    → ((d : ℕ) → IsLocal start low top d (journal d)) → LanesAgree start journal over → RefusalsAreTrue start journal
+    → IsMerge journal merged → LegalWithLeftOver start merged over

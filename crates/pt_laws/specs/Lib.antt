@@ -1,5 +1,5 @@
 pub mod Acts
-pub mod Lives
+pub mod BirthsAndEnds
 pub mod Since
 pub mod Words
 pub mod Taken

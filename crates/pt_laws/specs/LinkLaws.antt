@@ -6,6 +6,7 @@ use Rattle.pt_signal.specs.Values.{same_pid}
 use Rattle.pt_events.specs.declared.event.Stamped.{Stamped}
 use Rattle.pt_events.specs.History.{Past, Start, IsLegal, alive}
 use Rattle.pt_events.specs.Journal.{Journals, LanesAgree, IsLocal, IsMerge, events}
+use Rattle.pt_events.specs.Refusals.{RefusalsAreTrue}
 use Rattle.pt_laws.specs.Load.{IsQuiet}
 use Rattle.pt_laws.specs.Resumed.{AllNewTo, MadeUpTo, IsLeftBy}
 use Rattle.pt_laws.specs.Links.{IsKnownSaid, IsBornHome, IsBornFree, LinksAgree}
@@ -31,7 +32,7 @@ MergeKnown =
 abbrev pub MergeLinks : Type 0
 MergeLinks =
     (low top : ℕ) (journal : Journals) (over : ℕ → ℕ → List Letter) (merged : List Stamped) (p q : Pid)
-    → ((d : ℕ) → IsLocal [] low top d (journal d)) → LanesAgree [] journal over → IsMerge journal merged
+    → ((d : ℕ) → IsLocal [] low top d (journal d)) → LanesAgree [] journal over → RefusalsAreTrue [] journal → IsMerge journal merged
     → IsQuiet [] (events merged) → same_pid p q ≡ false → alive [] (events merged) p ≡ true → LinksAgree [] (events merged) p q
 
 -- and in a quiet history over every start that was left behind
@@ -46,7 +47,7 @@ abbrev pub MergeLinksOver : Type 0
 MergeLinksOver =
     (start : Start) (old : Past) (low top : ℕ) (journal : Journals) (over : ℕ → ℕ → List Letter) (merged : List Stamped) (p q : Pid)
     → IsLeftBy start old → IsKnownSaid [] old → IsBornHome old → MadeUpTo low old
-    → ((d : ℕ) → IsLocal start low top d (journal d)) → LanesAgree start journal over → IsMerge journal merged
+    → ((d : ℕ) → IsLocal start low top d (journal d)) → LanesAgree start journal over → RefusalsAreTrue start journal → IsMerge journal merged
     → IsQuiet start (events merged) → same_pid p q ≡ false → alive start (events merged) p ≡ true → LinksAgree start (events merged) p q
 
 -- both histories together keep the two rules, so it holds after any number of them

@@ -7,6 +7,7 @@ use Rattle.pt_events.specs.declared.event.Event.TheVariants.{Came}
 use Rattle.pt_events.specs.declared.event.Stamped.{Stamped}
 use Rattle.pt_events.specs.History.{Past, Start, unborn, at_start, flight, sent_by, May, IsLegal}
 use Rattle.pt_events.specs.Journal.{Journals, IsLocal, LanesAgree, IsMerge, events, letter}
+use Rattle.pt_events.specs.Refusals.{RefusalsAreTrue}
 use Rattle.pt_laws.specs.Load.{IsStart, IsQuiet, weight, weights, desk_sizes, load, load_by_desk}
 use Rattle.pt_laws.specs.Laws.{LanesFly}
 
@@ -51,7 +52,7 @@ OneReceipt =
     → desk_sizes start b.shard (Came a b x ∷ past) + weights (sent_by start past (Came a b x)) + 1 ≤ desk_sizes start b.shard past + weight x
 
 -- the oldest letter left over from desk d to desk e comes there, by the event s; nothing else happens at the desks below n
-pub record Receives (start : Start) (n d e : ℕ) (l : Letter) (s : Stamped) (journal after : Journals) (over left : ℕ → ℕ → List Letter) : Type 0 where
+pub record OldestComes (start : Start) (n d e : ℕ) (l : Letter) (s : Stamped) (journal after : Journals) (over left : ℕ → ℕ → List Letter) : Type 0 where
   pub rest : List Letter
   pub oldest : over d e ≡ l ∷ rest
   pub there : l.to.shard ≡ e
@@ -66,7 +67,7 @@ pub record Receives (start : Start) (n d e : ℕ) (l : Letter) (s : Stamped) (jo
 abbrev pub ReceiptLowers : Type 0
 ReceiptLowers =
     (start : Start) (n d e : ℕ) (l : Letter) (s : Stamped) (journal after : Journals) (over left : ℕ → ℕ → List Letter) → IsStart start
-    → d < n → e < n → Receives start n d e l s journal after over left → load_by_desk start after left n < load_by_desk start journal over n
+    → d < n → e < n → OldestComes start n d e l s journal after over left → load_by_desk start after left n < load_by_desk start journal over n
 
 -- there are no desks but those below n
 pub record HasDesks (n : ℕ) (start : Start) (journal : Journals) (over : ℕ → ℕ → List Letter) : Type 0 where
@@ -78,5 +79,6 @@ pub record HasDesks (n : ℕ) (start : Start) (journal : Journals) (over : ℕ �
 abbrev pub LoadByDesk : Type 0
 LoadByDesk =
     (start : Start) (low top n : ℕ) (journal : Journals) (over : ℕ → ℕ → List Letter) (merged : List Stamped)
-    → ((d : ℕ) → IsLocal start low top d (journal d)) → LanesAgree start journal over → IsMerge journal merged → HasDesks n start journal over
+    → ((d : ℕ) → IsLocal start low top d (journal d)) → LanesAgree start journal over → RefusalsAreTrue start journal
+    → IsMerge journal merged → HasDesks n start journal over
     → load_by_desk start journal over n ≡ load start (events merged)

@@ -1,7 +1,7 @@
 //! The laws of histories: each is the contract of a function that does nothing.
 
 ghost use Rattle.pt_laws.specs.Acts.{LocalActs, LegalActs};
-ghost use Rattle.pt_laws.specs.Lives.{LivesOnce, StaysEnded, NothingAfterEnd, AliveUntilEnd};
+ghost use Rattle.pt_laws.specs.BirthsAndEnds.{LivesOnce, StaysEnded, NothingAfterEnd, AliveUntilEnd};
 ghost use Rattle.pt_laws.specs.Words.{TrapIsLastFlag, HeldSince, IsHeldSince, PeersSince, OpenSince, IsOpenSince, KeptSince, IsKeptSince};
 ghost use Rattle.pt_laws.specs.JournalLaws.{ReadLocally, SentLocally, JournalsSay, MergeIsThere, MergeIsOne};
 ghost use Rattle.pt_laws.specs.Taken.{TakenByPosition};

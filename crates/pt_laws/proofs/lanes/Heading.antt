@@ -6,7 +6,7 @@ use Rattle.pt_signal.specs.declared.letter.Letter.{Letter}
 use Rattle.pt_events.specs.History.{Past, Start, life, arrived, is_unborn, at_start}
 use Rattle.pt_events.specs.Journal.{Journals, LanesAgree, IsLocal, events}
 use Rattle.pt_laws.specs.Load.{one_if}
-use Rattle.pt_laws.specs.Lives.{births}
+use Rattle.pt_laws.specs.BirthsAndEnds.{births}
 use Rattle.pt_laws.specs.Acts.{ActsMayCome}
 use Rattle.pt_laws.specs.MonitorLaws.{demonitors_and_downs, IsMadeOnce, HasOldRefs}
 use Rattle.pt_laws.specs.Headline.{IsHeadline}

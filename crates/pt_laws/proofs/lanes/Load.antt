@@ -11,10 +11,10 @@ use Rattle.pt_signal.specs.declared.reason.Reason.{Reason}
 use Rattle.pt_signal.specs.declared.signal.Signal.{Signal}
 use Rattle.pt_signal.specs.declared.signal.Signal.TheVariants.{Message, Link, Unlink, LinkExit, Monitor, Demonitor, AliveAsk, AliveSay}
 use Rattle.pt_events.specs.declared.event.Event.{Event}
-use Rattle.pt_events.specs.declared.event.Event.TheVariants.{Born, Said, Came, Took, Flag, Left}
+use Rattle.pt_events.specs.declared.event.Event.TheVariants.{Born, Came}
 use Rattle.pt_signal.specs.Values.{same_pid, same_ref, without_first}
 use Rattle.pt_signal.specs.Process.{ProcessState, Verdict, drops, queues, ends, verdict, obey, Handled, handle, held, holds_any, link_exit, down, enter, enter_at, cut, cut_at, leave_at, without_ids, keep, same_watch, Sent, sent, estate, bounce}
-use Rattle.pt_events.specs.History.{Past, Start, Phase, unborn, living, ended, life, after, is_unborn, is_between, flying, got_sends, end_sends, live_or_end, gets, change, touches, sent_by, IsLegal}
+use Rattle.pt_events.specs.History.{Past, Start, Phase, unborn, living, ended, life, after, is_unborn, is_between, flying, got_sends, end_sends, live_or_end, gets, change, touches, sent_by, IsLegal, is_birth}
 use Rattle.pt_laws.specs.Load.{weight, weights, size, total, one_if, times, IsStart, pids, load, desk_sizes}
 use Rattle.pt_signal.proofs.Same.{same_pid_is, same_pid_refl}
 use Rattle.pt_events.proofs.Phases.{after_born, each_branch}
@@ -138,28 +138,16 @@ spends_handle me s from (AliveAsk m) = omega arith
 spends_handle me s from (AliveSay m x) = omega arith
 
 spends_bounce : (me from : Pid) (x : Signal) → weights (bounce me from x) + 1 ≤ weight x
-spends_bounce me from (Message b) = le_refl 1
 spends_bounce me from (Link i) = le_refl 2
-spends_bounce me from (Unlink ids) = le_refl 1
-spends_bounce me from (Signal.Exit r) = le_refl 1
-spends_bounce me from (LinkExit ids r) = le_refl 1
 spends_bounce me from (Monitor m) = le_refl 2
-spends_bounce me from (Demonitor m) = le_refl 1
-spends_bounce me from (Signal.Down m r) = le_refl 1
 spends_bounce me from (AliveAsk m) = le_refl 2
-spends_bounce me from (AliveSay m x) = le_refl 1
+spends_bounce me from _ = le_refl 1
 
 weight_some : (x : Signal) → 1 ≤ weight x
-weight_some (Message b) = le_refl 1
 weight_some (Link i) = omega arith
-weight_some (Unlink ids) = le_refl 1
-weight_some (Signal.Exit r) = le_refl 1
-weight_some (LinkExit ids r) = le_refl 1
 weight_some (Monitor m) = omega arith
-weight_some (Demonitor m) = le_refl 1
-weight_some (Signal.Down m r) = le_refl 1
 weight_some (AliveAsk m) = omega arith
-weight_some (AliveSay m x) = le_refl 1
+weight_some _ = le_refl 1
 
 -- the receiver afterwards and what goes out weigh less than the receiver before and the letter
 receipt : (b a : Pid) (x : Signal) (f : Phase) → size (gets b a x f) + weights (got_sends f b a x) + 1 ≤ size f + weight x
@@ -197,17 +185,9 @@ times-append p (x ∷ xs) ys = let h = times-append p xs ys in omega arith
 
 -- each pid that was born stands once ---------------------------------------------------------------
 
-abbrev is_birth : Pid → Event → Bool
-is_birth p (Born q parent link) = same_pid p q
-is_birth p _ = false
-
 change_unborn : (p : Pid) (e : Event) → is_birth p e ≡ false → is_unborn (change p e unborn) ≡ true
 change_unborn p (Born q parent link) h = rw h refl
-change_unborn p (Said a b x) h = refl
-change_unborn p (Came a b x) h = refl
-change_unborn p (Took q k i) h = refl
-change_unborn p (Flag q on) h = refl
-change_unborn p (Left q r) h = refl
+change_unborn p _ h = refl
 
 keeps_unborn : (p : Pid) (e : Event) (f : Phase) → is_birth p e ≡ false → is_unborn (after p e f) ≡ is_unborn f
 keeps_unborn p e unborn h = each_branch (λ g. is_unborn g ≡ true) (touches p e) _ _ (change_unborn p e h) refl
@@ -248,11 +228,7 @@ module _ (start : Start) (ok : IsStart start) where
           let G : Pid → Type 0 = λ q. times p (pids start past) + times p (cond (is_unborn (life start past q)) (q ∷ []) []) ≡ cond (is_unborn (life start (Born q parent link ∷ past) p)) 0 1 in
           subst G (same_pid_is p q e) (birth p parent link (life start past p) _ ih)
       go false e ih = rw (no_more (is_unborn (life start past q)) e, keeps_unborn p (Born q parent link) (life start past p) e) (omega arith)
-  born_once (Said a b x ∷ past) p = born_once past p ∙ ap (λ z. cond z 0 1) (sym (keeps_unborn p (Said a b x) (life start past p) refl))
-  born_once (Came a b x ∷ past) p = born_once past p ∙ ap (λ z. cond z 0 1) (sym (keeps_unborn p (Came a b x) (life start past p) refl))
-  born_once (Took q k i ∷ past) p = born_once past p ∙ ap (λ z. cond z 0 1) (sym (keeps_unborn p (Took q k i) (life start past p) refl))
-  born_once (Flag q on ∷ past) p = born_once past p ∙ ap (λ z. cond z 0 1) (sym (keeps_unborn p (Flag q on) (life start past p) refl))
-  born_once (Left q r ∷ past) p = born_once past p ∙ ap (λ z. cond z 0 1) (sym (keeps_unborn p (Left q r) (life start past p) refl))
+  born_once (e ∷ past) p = born_once past p ∙ ap (λ z. cond z 0 1) (sym (keeps_unborn p e (life start past p) refl))
 
   -- of one receipt: the processes afterwards and what goes out weigh less than the processes before and the letter
   pub came_sizes : (past : Past) (a b : Pid) (x : Signal) (ps : List Pid) → times b ps ≡ cond (is_unborn (life start past b)) 0 1

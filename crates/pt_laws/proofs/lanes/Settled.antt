@@ -2,7 +2,7 @@
 use Rattle.std.proofs.Common.{◌≡◌, ◌+◌, ◌≤◌, true, List, [], ◌∷◌, ◌++◌, map, filter, length, refl, arith}
 use Rattle.pt_laws.specs.LoadLaws.{AllCame}
 use Rattle.pt_signal.specs.declared.pid.Pid.{Pid}
-use Rattle.pt_events.specs.declared.event.Event.TheVariants.{Born, Said, Came, Took, Flag, Left}
+use Rattle.pt_events.specs.declared.event.Event.TheVariants.{Came}
 use Rattle.pt_signal.specs.Process.{Sent}
 use Rattle.pt_events.specs.History.{Past, Start, IsLegal, flying, flight, is_between}
 use Rattle.pt_laws.specs.Load.{IsStart, IsQuiet, load}
@@ -15,11 +15,7 @@ settled_bound start ok old [] a h = omega arith
 settled_bound start ok old (Came x y s ∷ new) a h =
     let ih = settled_bound start ok old new a h.1 in
     let f = load_falls start ok (new ++ old) x y s h in omega arith
-settled_bound start ok old (Born p q l ∷ new) a h = absurd a
-settled_bound start ok old (Said x y s ∷ new) a h = absurd a
-settled_bound start ok old (Took p k i ∷ new) a h = absurd a
-settled_bound start ok old (Flag p on ∷ new) a h = absurd a
-settled_bound start ok old (Left p r ∷ new) a h = absurd a
+settled_bound start ok old (_ ∷ new) a h = absurd a
 
 -- every flight is empty exactly where nothing flies
 pub quiet_flights : (start : Start) (past : Past) → IsQuiet start past → (a b : Pid) → flight start past a b ≡ []

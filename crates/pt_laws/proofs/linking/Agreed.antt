@@ -5,7 +5,7 @@ use Rattle.pt_signal.specs.declared.pid.Pid.{Pid}
 use Rattle.pt_signal.specs.declared.ids.Ids.{Ids}
 use Rattle.pt_signal.specs.declared.ids.LinkId.{LinkId}
 use Rattle.pt_events.specs.declared.event.Event.{Event}
-use Rattle.pt_events.specs.declared.event.Event.TheVariants.{Born, Said, Came, Took, Flag, Left}
+use Rattle.pt_events.specs.declared.event.Event.TheVariants.{Born, Said}
 use Rattle.pt_events.specs.declared.event.Stamped.{Stamped}
 use Rattle.pt_signal.specs.Values.{same_pid}
 use Rattle.pt_signal.specs.Process.{held}
@@ -83,11 +83,7 @@ unsaid start a c e (Said b d x ∷ past) k u = go (same_pid a b && same_pid c d)
         let v : d.shard ≡ b.shard = sym (ap (λ z. z.shard) e2) ∙ e ∙ ap (λ z. z.shard) e1 in
         absurd (both_ways _ (k.0 v) (subst (λ z. is_unborn (life start past z) ≡ true) e2 before_it))
     go false f ih = rw f (omega arith)
-unsaid start a c e (Born q p l ∷ past) k u = let ih = unsaid start a c e past k (was_unborn c (Born q p l) (life start past c) u) in omega arith
-unsaid start a c e (Came b d x ∷ past) k u = let ih = unsaid start a c e past k (was_unborn c (Came b d x) (life start past c) u) in omega arith
-unsaid start a c e (Took q j i ∷ past) k u = let ih = unsaid start a c e past k (was_unborn c (Took q j i) (life start past c) u) in omega arith
-unsaid start a c e (Flag q on ∷ past) k u = let ih = unsaid start a c e past k (was_unborn c (Flag q on) (life start past c) u) in omega arith
-unsaid start a c e (Left q r ∷ past) k u = let ih = unsaid start a c e past k (was_unborn c (Left q r) (life start past c) u) in omega arith
+unsaid start a c e (ev ∷ past) k u = let ih = unsaid start a c e past k (was_unborn c ev (life start past c) u) in omega arith
 
 module _ (start : Start) where
   pub born_free : (past : Past) → IsLegal start past → IsKnownSaid start past → IsBornHome past → IsBornFree past
@@ -100,10 +96,7 @@ module _ (start : Start) where
       first_tie (Some a) None o = tt
       first_tie (Some a) (Some i) o = unsaid start a c (sym o) past k (ap is_unborn h.0.0)
   born_free (Said a d x ∷ past) h k b = born_free past h.1 k.1 b
-  born_free (Came a d x ∷ past) h k b = born_free past h.1 k b
-  born_free (Took c j i ∷ past) h k b = born_free past h.1 k b
-  born_free (Flag c on ∷ past) h k b = born_free past h.1 k b
-  born_free (Left c r ∷ past) h k b = born_free past h.1 k b
+  born_free (_ ∷ past) h k b = born_free past h.1 k b
 
   module _ (low top : ℕ) where
     -- each desk's events of a merge are its journal
@@ -124,11 +117,7 @@ module _ (start : Start) where
         step : (ev : Event) → IsHome s.desk ev → IsKnown start s.desk top (events (of_desk s.desk merged)) ev
             → IsKnownSaid start (events merged) → IsKnownSaid start (ev ∷ events merged)
         step (Said a b x) i k ih = (λ e. let f : b.shard ≡ s.desk = e ∙ i in ap is_unborn (sym (life_home start b s.desk merged f homes)) ∙ k f, ih)
-        step (Born p q l) i k ih = ih
-        step (Came a b x) i k ih = ih
-        step (Took p j y) i k ih = ih
-        step (Flag p on) i k ih = ih
-        step (Left p r) i k ih = ih
+        step _ i k ih = ih
 
     pub merge_home : (merged : List Stamped) → AllLocal start low top merged → IsBornHome (events merged)
     merge_home [] h = tt
@@ -140,32 +129,20 @@ module _ (start : Start) where
 
         step : (ev : Event) → IsHome s.desk ev → IsBornHome (events merged) → IsBornHome (ev ∷ events merged)
         step (Born p q l) i ih = (of_home p q i.0 i.1, ih)
-        step (Said a b x) i ih = ih
-        step (Came a b x) i ih = ih
-        step (Took p j y) i ih = ih
-        step (Flag p on) i ih = ih
-        step (Left p r) i ih = ih
+        step _ i ih = ih
 
 -- a history over the state of another --------------------------------------------------------------
 
 pub home_joined : (new old : Past) → IsBornHome new → IsBornHome old → IsBornHome (new ++ old)
 home_joined [] old h k = k
 home_joined (Born p q l ∷ new) old h k = (h.0, home_joined new old h.1 k)
-home_joined (Said a b x ∷ new) old h k = home_joined new old h k
-home_joined (Came a b x ∷ new) old h k = home_joined new old h k
-home_joined (Took p j y ∷ new) old h k = home_joined new old h k
-home_joined (Flag p on ∷ new) old h k = home_joined new old h k
-home_joined (Left p r ∷ new) old h k = home_joined new old h k
+home_joined (_ ∷ new) old h k = home_joined new old h k
 
 module _ (start : Start) (old : Past) (left : IsLeftBy start old) where
   pub known_joined : (new : Past) → IsKnownSaid start new → IsKnownSaid [] old → IsKnownSaid [] (new ++ old)
   known_joined [] h k = k
   known_joined (Said a b x ∷ new) h k = (λ e. sym (over_unborn [] start old left.alike new b) ∙ h.0 e, known_joined new h.1 k)
-  known_joined (Born p q l ∷ new) h k = known_joined new h k
-  known_joined (Came a b x ∷ new) h k = known_joined new h k
-  known_joined (Took p j y ∷ new) h k = known_joined new h k
-  known_joined (Flag p on ∷ new) h k = known_joined new h k
-  known_joined (Left p r ∷ new) h k = known_joined new h k
+  known_joined (_ ∷ new) h k = known_joined new h k
 
   pub links_over : (new : Past) → IsKnownSaid [] old → IsBornHome old → AllNewTo old new → IsLegal start new
       → IsQuiet start new

@@ -10,7 +10,7 @@ use Rattle.pt_signal.specs.declared.ids.Ids.{Ids}
 use Rattle.pt_signal.specs.declared.ids.LinkId.{LinkId}
 use Rattle.pt_signal.specs.declared.reason.Reason.{Reason}
 use Rattle.pt_signal.specs.declared.signal.Signal.{Signal}
-use Rattle.pt_signal.specs.declared.signal.Signal.TheVariants.{Message, Link, Unlink, LinkExit, Monitor, Demonitor, AliveAsk, AliveSay}
+use Rattle.pt_signal.specs.declared.signal.Signal.TheVariants.{Link, Unlink, LinkExit, Monitor, Demonitor, AliveAsk}
 use Rattle.pt_events.specs.declared.event.Event.{Event}
 use Rattle.pt_events.specs.declared.event.Event.TheVariants.{Born, Said, Came, Took, Flag, Left}
 use Rattle.pt_signal.specs.Values.{same_pid, without_first}
@@ -29,16 +29,10 @@ use Rattle.pt_laws.proofs.linking.Sides.{Seen, before, here, over}
 
 -- what the signal is to a link
 abbrev pub part : Signal → List Tie
-part (Message body) = []
 part (Link j) = adds j ∷ []
 part (Unlink ids) = takes ids ∷ []
-part (Signal.Exit r) = []
 part (LinkExit ids r) = clears ids ∷ []
-part (Monitor m) = []
-part (Demonitor m) = []
-part (Signal.Down m r) = []
-part (AliveAsk m) = []
-part (AliveSay m x) = []
+part _ = []
 
 -- the signals of links from p to q among letters
 abbrev pub parts : Pid → Pid → List Sent → List Tie
@@ -137,14 +131,8 @@ module _ (p q : Pid) where
   bounce_other : (b a : Pid) (x : Signal) → same_pid p b ≡ false → parts p q (bounce b a x) ≡ []
   bounce_other b a (Link j) h = rw h refl
   bounce_other b a (Monitor m) h = rw h refl
-  bounce_other b a (Message body) h = refl
-  bounce_other b a (Unlink ids) h = refl
-  bounce_other b a (Signal.Exit r) h = refl
-  bounce_other b a (LinkExit ids r) h = refl
-  bounce_other b a (Demonitor m) h = refl
-  bounce_other b a (Signal.Down m r) h = refl
   bounce_other b a (AliveAsk m) h = rw h refl
-  bounce_other b a (AliveSay m x) h = refl
+  bounce_other b a _ h = refl
 
   end_other : (b : Pid) (o : Option Reason) (s : ProcessState) → same_pid p b ≡ false → parts p q (end_sends b o s) ≡ []
   end_other b None s h = refl
@@ -153,15 +141,7 @@ module _ (p q : Pid) where
   -- what a live process answers is no signal of links
   answer_parts : (b a : Pid) (x : Signal) → parts p q (living_answer b a x) ≡ []
   answer_parts b a (AliveAsk m) = each_branch (λ z. z ++ [] ≡ []) (same_pid p b && same_pid q a) [] [] refl refl
-  answer_parts b a (Message body) = refl
-  answer_parts b a (Link i) = refl
-  answer_parts b a (Unlink ids) = refl
-  answer_parts b a (Signal.Exit r) = refl
-  answer_parts b a (LinkExit ids r) = refl
-  answer_parts b a (Monitor m) = refl
-  answer_parts b a (Demonitor m) = refl
-  answer_parts b a (Signal.Down m r) = refl
-  answer_parts b a (AliveSay m x) = refl
+  answer_parts b a _ = refl
 
   pub got_living : (s : ProcessState) (b a : Pid) (x : Signal)
       → parts p q (got_sends (living s) b a x) ≡ parts p q (end_sends b (handle b s a x).ending (handle b s a x).state)
@@ -213,26 +193,14 @@ module _ (p q : Pid) where
   pub bounce_own : (x : Signal) → parts p q (bounce p q x) ≡ returns (part x)
   bounce_own (Link j) = rw (same_pid_refl p, same_pid_refl q) refl
   bounce_own (Monitor m) = rw (same_pid_refl p, same_pid_refl q) refl
-  bounce_own (Message body) = refl
-  bounce_own (Unlink ids) = refl
-  bounce_own (Signal.Exit r) = refl
-  bounce_own (LinkExit ids r) = refl
-  bounce_own (Demonitor m) = refl
-  bounce_own (Signal.Down m r) = refl
   bounce_own (AliveAsk m) = rw (same_pid_refl p, same_pid_refl q) refl
-  bounce_own (AliveSay m x) = refl
+  bounce_own _ = refl
 
   pub bounce_not : (a : Pid) (x : Signal) → same_pid q a ≡ false → parts p q (bounce p a x) ≡ []
   bounce_not a (Link j) h = rw (and_right (same_pid p p) (same_pid q a) h) refl
   bounce_not a (Monitor m) h = rw (and_right (same_pid p p) (same_pid q a) h) refl
-  bounce_not a (Message body) h = refl
-  bounce_not a (Unlink ids) h = refl
-  bounce_not a (Signal.Exit r) h = refl
-  bounce_not a (LinkExit ids r) h = refl
-  bounce_not a (Demonitor m) h = refl
-  bounce_not a (Signal.Down m r) h = refl
   bounce_not a (AliveAsk m) h = rw (and_right (same_pid p p) (same_pid q a) h) refl
-  bounce_not a (AliveSay m x) h = refl
+  bounce_not a _ h = refl
 
 -- each pid has at most one entry in a live process -----------------------------------------------------
 
@@ -250,14 +218,7 @@ keyed_linked None None s k = k
 keyed_say : (s : ProcessState) (b : Pid) (x : Signal) → Keyed s.links → Keyed (say s b x).links
 keyed_say s b (Link i) k = Keyed-enter b i s.links k
 keyed_say s b (Unlink ids) k = Keyed-cut b ids s.links k
-keyed_say s b (Message body) k = k
-keyed_say s b (Signal.Exit r) k = k
-keyed_say s b (LinkExit ids r) k = k
-keyed_say s b (Monitor m) k = k
-keyed_say s b (Demonitor m) k = k
-keyed_say s b (Signal.Down m r) k = k
-keyed_say s b (AliveAsk m) k = k
-keyed_say s b (AliveSay m x) k = k
+keyed_say s b _ k = k
 
 keyed_obey : (v : Verdict) (s : ProcessState) → Keyed s.links → Keyed (obey v s).state.links
 keyed_obey Verdict.drops s k = k
@@ -275,16 +236,12 @@ keyed_down None s a m r k = k
 keyed_down (Some b) s a m r k = k
 
 pub keyed_handle : (me : Pid) (s : ProcessState) (a : Pid) (x : Signal) → Keyed s.links → Keyed (handle me s a x).state.links
-keyed_handle me s a (Message body) k = k
 keyed_handle me s a (Link i) k = Keyed-enter a i s.links k
 keyed_handle me s a (Unlink ids) k = Keyed-cut a ids s.links k
 keyed_handle me s a (Signal.Exit r) k = keyed_obey (verdict false s.traps (same_pid a me) a r) s k
 keyed_handle me s a (LinkExit ids r) k = keyed_exit (holds_any (held s.links a) ids) me s a r k
-keyed_handle me s a (Monitor m) k = k
-keyed_handle me s a (Demonitor m) k = k
 keyed_handle me s a (Signal.Down m r) k = keyed_down (lookup _ s.watching) s a m r k
-keyed_handle me s a (AliveAsk m) k = k
-keyed_handle me s a (AliveSay m x) k = k
+keyed_handle me s a _ k = k
 
 keyed_end : (o : Option Reason) (s : ProcessState) → Keyed s.links → KeyedIn (live_or_end o s)
 keyed_end None s k = k
@@ -317,9 +274,10 @@ keyed_change p (Born c parent link) f k =
     (keyed_while (linked (Some c) link) (keyed_linked (Some c) link) f k)
 keyed_change p (Said a b x) f k = keyed_while (λ s. say s b x) (λ s. keyed_say s b x) f k
 keyed_change p (Came a b x) f k = keyed_gets p a x f k
+keyed_change p (Left c r) f k = keyed_leaves r f k
 keyed_change p (Took c j i) f k = keyed_while _ (λ s h. h) f k
 keyed_change p (Flag c on) f k = keyed_while _ (λ s h. h) f k
-keyed_change p (Left c r) f k = keyed_leaves r f k
+keyed_change p _ f k = k
 
 pub keyed_life : (past : Past) (p : Pid) → KeyedIn (life [] past p)
 keyed_life [] p = tt
@@ -331,44 +289,27 @@ module _ (q : Pid) where
   -- a signal of q's comes to a live process
   pub taken_entry : (me : Pid) (s : ProcessState) (x : Signal) (t : Tie) → Keyed s.links → part x ≡ t ∷ []
       → held (handle me s q x).state.links q ≡ got (held s.links q) t
-  taken_entry me s (Message body) t k e = absurd (cc)
   taken_entry me s (Link j) t k e = let f : adds j ≡ t = cc in held-enter q j s.links ∙ ap (got (held s.links q)) f
   taken_entry me s (Unlink ids) t k e = let f : takes ids ≡ t = cc in held-cut q ids s.links k ∙ ap (got (held s.links q)) f
-  taken_entry me s (Signal.Exit r) t k e = absurd (cc)
   taken_entry me s (LinkExit ids r) t k e = let f : clears ids ≡ t = cc in exit_holds q me s ids r k ∙ ap (got (held s.links q)) f
-  taken_entry me s (Monitor m) t k e = absurd (cc)
-  taken_entry me s (Demonitor m) t k e = absurd (cc)
-  taken_entry me s (Signal.Down m r) t k e = absurd (cc)
-  taken_entry me s (AliveAsk m) t k e = absurd (cc)
-  taken_entry me s (AliveSay m x) t k e = absurd (cc)
+  taken_entry me s _ t k e = absurd (cc)
 
   -- a signal that is none of links
   pub other_entry : (me : Pid) (s : ProcessState) (a : Pid) (x : Signal) → part x ≡ [] → held (handle me s a x).state.links q ≡ held s.links q
-  other_entry me s a (Message body) e = refl
   other_entry me s a (Link j) e = absurd (cc)
   other_entry me s a (Unlink ids) e = absurd (cc)
   other_entry me s a (Signal.Exit r) e = ap (λ z. held z q) (obey_links q (verdict false s.traps (same_pid a me) a r) s)
   other_entry me s a (LinkExit ids r) e = absurd (cc)
-  other_entry me s a (Monitor m) e = refl
-  other_entry me s a (Demonitor m) e = refl
   other_entry me s a (Signal.Down m r) e = ap (λ z. held z q) (down_links q (lookup _ s.watching) s a m r)
-  other_entry me s a (AliveAsk m) e = refl
-  other_entry me s a (AliveSay m x) e = refl
+  other_entry me s a _ e = refl
 
   -- what is said to another
   pub said_other : (b : Pid) (x : Signal) (f : Phase) → same_pid q b ≡ false → seen q (while_living (λ s. say s b x) f) ≡ seen q f
   said_other b x unborn n = refl
   said_other b x (ended r s) n = refl
-  said_other b (Message body) (living s) n = refl
   said_other b (Link i) (living s) n = ap here (held-enter-other q b i s.links n)
   said_other b (Unlink ids) (living s) n = ap here (held-cut-other q b ids s.links n)
-  said_other b (Signal.Exit r) (living s) n = refl
-  said_other b (LinkExit ids r) (living s) n = refl
-  said_other b (Monitor m) (living s) n = refl
-  said_other b (Demonitor m) (living s) n = refl
-  said_other b (Signal.Down m r) (living s) n = refl
-  said_other b (AliveAsk m) (living s) n = refl
-  said_other b (AliveSay m x) (living s) n = refl
+  said_other b _ (living s) n = refl
 
   linked_other : (c : Pid) (link : Option LinkId) (s : ProcessState) → same_pid q c ≡ false → held (linked (Some c) link s).links q ≡ held s.links q
   linked_other c None s n = refl

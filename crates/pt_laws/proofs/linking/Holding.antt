@@ -9,7 +9,7 @@ use Rattle.pt_signal.specs.declared.ids.Ids.{Ids}
 use Rattle.pt_signal.specs.declared.ids.LinkId.{LinkId}
 use Rattle.pt_signal.specs.declared.reason.Reason.{Reason}
 use Rattle.pt_signal.specs.declared.signal.Signal.{Signal}
-use Rattle.pt_signal.specs.declared.signal.Signal.TheVariants.{Message, Link, Unlink, LinkExit, Monitor, Demonitor, AliveAsk, AliveSay}
+use Rattle.pt_signal.specs.declared.signal.Signal.TheVariants.{Link, Unlink, LinkExit}
 use Rattle.pt_signal.specs.Values.{same_pid, same_ref, same_link}
 use Rattle.pt_signal.specs.Process.{ProcessState, Verdict, drops, queues, ends, verdict, obey, holds_any, has_id, id_list, ids_of, without_ids, held, link_exit, down, handle}
 use Rattle.pt_laws.specs.Load.{one_if}
@@ -114,7 +114,6 @@ module _ (q : Pid) where
 
   -- from another than q
   pub other_holds : (me : Pid) (s : ProcessState) (a : Pid) (x : Signal) → same_pid q a ≡ false → held (handle me s a x).state.links q ≡ held s.links q
-  other_holds me s a (Message b) n = refl
   other_holds me s a (Link i) n = held-enter-other q a i s.links n
   other_holds me s a (Unlink ids) n = held-cut-other q a ids s.links n
   other_holds me s a (Signal.Exit r) n = ap (λ z. held z q) (obey_links (verdict false s.traps (same_pid a me) a r) s)
@@ -123,11 +122,8 @@ module _ (q : Pid) where
       go : (b : Bool) → held (link_exit b me s a r).state.links q ≡ held s.links q
       go false = refl
       go true = ap (λ z. held z q) (obey_links (verdict true s.traps (same_pid a me) a r) (record s { links = remove_entry (same_pid a) s.links })) ∙ held-removed-other q a s.links n
-  other_holds me s a (Monitor m) n = refl
-  other_holds me s a (Demonitor m) n = refl
   other_holds me s a (Signal.Down m r) n = ap (λ z. held z q) (down_links (lookup (same_ref m) s.watching) s a m r)
-  other_holds me s a (AliveAsk m) n = refl
-  other_holds me s a (AliveSay m x) n = refl
+  other_holds me s a _ n = refl
 
   -- from q: an exit signal that shares an id takes all out
   pub exit_holds : (me : Pid) (s : ProcessState) (ids : Ids) (r : Reason) → Keyed s.links → held (handle me s q (LinkExit ids r)).state.links q ≡ cond (holds_any (held s.links q) ids) None (held s.links q)

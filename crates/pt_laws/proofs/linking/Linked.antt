@@ -7,7 +7,7 @@ use Rattle.pt_signal.specs.declared.ids.Ids.{Ids}
 use Rattle.pt_signal.specs.declared.ids.LinkId.{LinkId}
 use Rattle.pt_signal.specs.declared.reason.Reason.{Reason}
 use Rattle.pt_signal.specs.declared.signal.Signal.{Signal}
-use Rattle.pt_signal.specs.declared.signal.Signal.TheVariants.{Message, Link, Unlink, LinkExit, Monitor, Demonitor, AliveAsk, AliveSay}
+use Rattle.pt_signal.specs.declared.signal.Signal.TheVariants.{Link, Unlink, LinkExit, AliveSay}
 use Rattle.pt_events.specs.declared.event.Event.{Event}
 use Rattle.pt_events.specs.declared.event.Event.TheVariants.{Born, Said, Came, Took, Flag, Left}
 use Rattle.pt_signal.specs.Values.{same_pid, same_link, without_first}
@@ -116,16 +116,8 @@ joined_nil p q ls = joined_none p q ls [] refl
 -- a Said ------------------------------------------------------------------------------------------------
 
 makes_said : (p q a b : Pid) (x : Signal) (i : LinkId) → (same_pid p a && same_pid q b) ≡ false → makes_by p q (Said a b x) i ≡ false
-makes_said p q a b (Message body) i h = refl
 makes_said p q a b (Link j) i h = rw h refl
-makes_said p q a b (Unlink ids) i h = refl
-makes_said p q a b (Signal.Exit r) i h = refl
-makes_said p q a b (LinkExit ids r) i h = refl
-makes_said p q a b (Monitor m) i h = refl
-makes_said p q a b (Demonitor m) i h = refl
-makes_said p q a b (Signal.Down m r) i h = refl
-makes_said p q a b (AliveAsk m) i h = refl
-makes_said p q a b (AliveSay m x) i h = refl
+makes_said p q a b _ i h = refl
 
 is_state : (f : Phase) → is_living f ≡ true → f ≡ living (state_of f)
 is_state unborn h = absurd (false≢true h)
@@ -167,13 +159,8 @@ module _ (past : Past) (a q : Pid) (n : same_pid a q ≡ false) where
     said_near x = rw (same_pid_refl a) (ap (λ f. seen q (while_living (λ s. say s q x) f)) (is_state (life [] past a) lives))
 
     said_here : (x : Signal) → MaySay [] past (state [] past a) a q x → BondOf a q past → BondOf a q (Said a q x ∷ past)
-    said_here (Message body) may b = plain (Message body) refl (λ s. refl) (λ i. refl) b
-    said_here (Signal.Exit r) may b = plain (Signal.Exit r) refl (λ s. refl) (λ i. refl) b
-    said_here (Monitor m) may b = plain (Monitor m) refl (λ s. refl) (λ i. refl) b
-    said_here (Demonitor m) may b = plain (Demonitor m) refl (λ s. refl) (λ i. refl) b
     said_here (LinkExit ids r) may b = absurd may
     said_here (Signal.Down m r) may b = absurd may
-    said_here (AliveAsk m) may b = plain (AliveAsk m) refl (λ s. refl) (λ i. refl) b
     said_here (AliveSay m x) may b = absurd may
     said_here (Link j) may b =
         let e : seen q (life [] past a) ≡ here None = near_is ∙ ap here may.1 in
@@ -197,6 +184,7 @@ module _ (past : Past) (a q : Pid) (n : same_pid a q ≡ false) where
         (λ i. refl) (λ i. refl) (λ i. refl)
         v (sym (said_far q (Unlink ids))) (sym (said_away (Unlink ids))) (sym (said_home q (Unlink ids)))
         (say_unlink (made_link past) (made_by a q past) (made_by q a past) (seen a (life [] past q)) F G ids c)
+    said_here x may b = plain x refl (λ s. refl) (λ i. refl) b
 
     pub said_step : (b : Pid) (x : Signal) → MaySay [] past (state [] past a) a b x → BondOf a q past → BondOf a q (Said a b x ∷ past)
     said_step b x may bond = go (same_pid q b) refl
@@ -255,16 +243,10 @@ module _ (m mi th : LinkId → Bool) (p q : Pid) (B : Seen) (F : List Tie) where
   came_over (t ∷ u ∷ ts) G (inr (v, h)) b = absurd (cc)
 
   one_part : (x : Signal) → part x ≡ [] ⊎ (t : Tie) × (part x ≡ t ∷ [])
-  one_part (Message body) = inl refl
   one_part (Link j) = inr (adds j, refl)
   one_part (Unlink ids) = inr (takes ids, refl)
-  one_part (Signal.Exit r) = inl refl
   one_part (LinkExit ids r) = inr (clears ids, refl)
-  one_part (Monitor m) = inl refl
-  one_part (Demonitor m) = inl refl
-  one_part (Signal.Down m r) = inl refl
-  one_part (AliveAsk m) = inl refl
-  one_part (AliveSay m x) = inl refl
+  one_part _ = inl refl
 
   -- from q
   came_from : (f : Phase) (x : Signal) (G : List Tie) → KeyedIn f → Bond m mi th (seen q f) B F (part x ++ G)
@@ -417,19 +399,7 @@ none_made a c (e ∷ past) u h i = rw (here_not e u (omega arith)) (none_made a 
         go true e = let k : is_unborn (newborn parent link (life [] past c)) ≡ true = rw e at u in absurd (born_not (life [] past c) parent link k)
         go false e = rw e refl
     here_not (Said b d (Link j)) u h = rw (zero_false (same_pid a b && same_pid c d) h) refl
-    here_not (Said b d (Message body)) u h = refl
-    here_not (Said b d (Unlink ids)) u h = refl
-    here_not (Said b d (Signal.Exit r)) u h = refl
-    here_not (Said b d (LinkExit ids r)) u h = refl
-    here_not (Said b d (Monitor m)) u h = refl
-    here_not (Said b d (Demonitor m)) u h = refl
-    here_not (Said b d (Signal.Down m r)) u h = refl
-    here_not (Said b d (AliveAsk m)) u h = refl
-    here_not (Said b d (AliveSay m x)) u h = refl
-    here_not (Came b d x) u h = refl
-    here_not (Took d k j) u h = refl
-    here_not (Flag d on) u h = refl
-    here_not (Left d r) u h = refl
+    here_not _ u h = refl
 
 module _ (past : Past) (c : Pid) (parent : Option Pid) (link : Option LinkId) where
   born_bystander : (p q : Pid) → same_pid p c ≡ false → same_pid q c ≡ false → BondOf p q past → BondOf p q (Born c parent link ∷ past)
@@ -571,3 +541,4 @@ bonds (Took c j i ∷ past) h free p q n = calm p q past (Took c j i) (bonds pas
 bonds (Flag c on ∷ past) h free p q n = calm p q past (Flag c on) (bonds past h.1 free p q n)
     (λ p q. each_branch (λ f. seen q f ≡ seen q (life [] past p)) (same_pid p c) _ _ (seen_while q _ (λ s. refl) (life [] past p)) refl)
     (λ p q. joined_nil p q (flying [] past)) (λ p q i. refl)
+bonds (e ∷ past) h free p q n = calm p q past e (bonds past h.1 free p q n) (λ p q. refl) (λ p q. joined_nil p q (flying [] past)) (λ p q i. refl)

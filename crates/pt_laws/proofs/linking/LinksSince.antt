@@ -8,7 +8,7 @@ use Rattle.pt_signal.specs.declared.ids.Ids.{Ids}
 use Rattle.pt_signal.specs.declared.ids.LinkId.{LinkId}
 use Rattle.pt_signal.specs.declared.reason.Reason.{Reason}
 use Rattle.pt_signal.specs.declared.signal.Signal.{Signal}
-use Rattle.pt_signal.specs.declared.signal.Signal.TheVariants.{Message, Link, Unlink, LinkExit, Monitor, Demonitor, AliveAsk, AliveSay}
+use Rattle.pt_signal.specs.declared.signal.Signal.TheVariants.{Link, Unlink, LinkExit, Monitor, Demonitor}
 use Rattle.pt_events.specs.declared.event.Event.{Event}
 use Rattle.pt_events.specs.declared.event.Event.TheVariants.{Born, Said, Came, Took, Flag, Left}
 use Rattle.pt_signal.specs.Values.{same_pid, same_ref}
@@ -180,16 +180,12 @@ module _ (p q : Pid) where
   LinksStep g f e = ids_with g q ≡ filter (λ i. not (link_leaves p q f e i)) (ids_with f q) ++ link_enters p q f e
 
   came_step : (a b : Pid) (x : Signal) (f : Phase) → Keyed (state_of f).links → LinksStep (after p (Came a b x) f) f (Came a b x)
-  came_step a b (Message body) f k = came_other a (Message body) (λ s. refl) (same_pid p b) f
   came_step a b (Link i) f k = came_link a i (same_pid p b) f
   came_step a b (Unlink ids) f k = came_unlink a ids (same_pid p b) f k
   came_step a b (Signal.Exit r) f k = came_other a (Signal.Exit r) (λ s. obey_keeps (λ s. s.links) (λ w s. refl) (verdict false s.traps (same_pid a p) a r) s) (same_pid p b) f
   came_step a b (LinkExit ids r) f k = came_exit a ids r (same_pid p b) f k
-  came_step a b (Monitor m) f k = came_other a (Monitor m) (λ s. refl) (same_pid p b) f
-  came_step a b (Demonitor m) f k = came_other a (Demonitor m) (λ s. refl) (same_pid p b) f
   came_step a b (Signal.Down m r) f k = came_other a (Signal.Down m r) (λ s. down_keeps (λ s. s.links) (λ w s. refl) (λ l s. refl) (lookup (same_ref m) s.watching) s a m r) (same_pid p b) f
-  came_step a b (AliveAsk m) f k = came_other a (AliveAsk m) (λ s. refl) (same_pid p b) f
-  came_step a b (AliveSay m x) f k = came_other a (AliveSay m x) (λ s. refl) (same_pid p b) f
+  came_step a b x f k = came_other a x (λ s. refl) (same_pid p b) f
 
   -- the other events -------------------------------------------------------------------------------
 
@@ -217,16 +213,11 @@ module _ (p q : Pid) where
   said_unlink b named false f l k = same_ids (are_two (ids_with f q)) (ids_with f q)
 
   said_step : (a b : Pid) (x : Signal) (f : Phase) → (same_pid p a ≡ true → is_living f ≡ true) → Keyed (state_of f).links → LinksStep (after p (Said a b x) f) f (Said a b x)
-  said_step a b (Message body) f l k = said_other (λ s. s) (λ s. refl) (same_pid p a) f
   said_step a b (Link i) f l k = said_link b i (same_pid p a) f l
   said_step a b (Unlink ids) f l k = said_unlink b ids (same_pid p a) f l k
-  said_step a b (Signal.Exit r) f l k = said_other (λ s. s) (λ s. refl) (same_pid p a) f
-  said_step a b (LinkExit ids r) f l k = said_other (λ s. s) (λ s. refl) (same_pid p a) f
   said_step a b (Monitor m) f l k = said_other (λ s. say s b (Monitor m)) (λ s. refl) (same_pid p a) f
   said_step a b (Demonitor m) f l k = said_other (λ s. say s b (Demonitor m)) (λ s. refl) (same_pid p a) f
-  said_step a b (Signal.Down m r) f l k = said_other (λ s. s) (λ s. refl) (same_pid p a) f
-  said_step a b (AliveAsk m) f l k = said_other (λ s. s) (λ s. refl) (same_pid p a) f
-  said_step a b (AliveSay m x) f l k = said_other (λ s. s) (λ s. refl) (same_pid p a) f
+  said_step a b _ f l k = said_other (λ s. s) (λ s. refl) (same_pid p a) f
 
   leaves_links : (t : Bool) (r : Reason) (f : Phase) → ids_with (cond t (leaves r f) f) q ≡ filter (λ i. true) (ids_with f q) ++ cond (are_two (ids_with f q)) [] []
   leaves_links true r unborn = refl
@@ -275,6 +266,7 @@ module _ (start : Start) (p q : Pid) where
   links_step past (Took c k i) h keyed = said_other p q (λ s. record s { waiting = _ }) (λ s. refl) (same_pid p c) (life start past p)
   links_step past (Flag c on) h k = said_other p q (λ s. record s { traps = on }) (λ s. refl) (same_pid p c) (life start past p)
   links_step past (Left c r) h k = leaves_links p q (same_pid p c) r (life start past p)
+  links_step past _ h k = same_ids (are_two (ids_with (life start past p) q)) (ids_with (life start past p) q)
 
 -- one entry a pid ----------------------------------------------------------------------------------
 
@@ -287,8 +279,6 @@ keyed_linked None None s k = k
 keyed_said : (s : ProcessState) (b : Pid) (x : Signal) → Keyed s.links → Keyed (say s b x).links
 keyed_said s b (Link i) k = Keyed-enter b i s.links k
 keyed_said s b (Unlink ids) k = Keyed-cut b ids s.links k
-keyed_said s b (Monitor m) k = k
-keyed_said s b (Demonitor m) k = k
 keyed_said s b _ k = k
 
 keyed_exit : (b : Bool) (p : Pid) (s : ProcessState) (a : Pid) (r : Reason) → Keyed s.links → Keyed (link_exit b p s a r).state.links
@@ -296,16 +286,12 @@ keyed_exit false p s a r k = k
 keyed_exit true p s a r k = rw (obey_keeps (λ s. s.links) (λ w s. refl) (verdict true s.traps (same_pid a p) a r) (record s { links = remove_entry (same_pid a) s.links })) (Keyed-removed a s.links k)
 
 keyed_handled : (p : Pid) (s : ProcessState) (a : Pid) (x : Signal) → Keyed s.links → Keyed (handle p s a x).state.links
-keyed_handled p s a (Message b) k = k
 keyed_handled p s a (Link i) k = Keyed-enter a i s.links k
 keyed_handled p s a (Unlink ids) k = Keyed-cut a ids s.links k
 keyed_handled p s a (Signal.Exit r) k = rw (obey_keeps (λ s. s.links) (λ w s. refl) (verdict false s.traps (same_pid a p) a r) s) k
 keyed_handled p s a (LinkExit ids r) k = keyed_exit (holds_any (held s.links a) ids) p s a r k
-keyed_handled p s a (Monitor m) k = k
-keyed_handled p s a (Demonitor m) k = k
 keyed_handled p s a (Signal.Down m r) k = rw (down_keeps (λ s. s.links) (λ w s. refl) (λ l s. refl) (lookup (same_ref m) s.watching) s a m r) k
-keyed_handled p s a (AliveAsk m) k = k
-keyed_handled p s a (AliveSay m x) k = k
+keyed_handled p s a _ k = k
 
 keyed_while : (step : ProcessState → ProcessState) → ((s : ProcessState) → Keyed s.links → Keyed (step s).links) → (f : Phase) → Keyed (state_of f).links → Keyed (state_of (while_living step f)).links
 keyed_while step h unborn k = k
@@ -336,6 +322,7 @@ keyed_step p (Came a b x) f k = each_branch (λ g. Keyed (state_of g).links) (sa
 keyed_step p (Took c j i) f k = each_branch (λ g. Keyed (state_of g).links) (same_pid p c) _ _ (keyed_while _ (λ s h. h) f k) k
 keyed_step p (Flag c on) f k = each_branch (λ g. Keyed (state_of g).links) (same_pid p c) _ _ (keyed_while _ (λ s h. h) f k) k
 keyed_step p (Left c r) f k = each_branch (λ g. Keyed (state_of g).links) (same_pid p c) _ _ (keyed_leaves r f k) k
+keyed_step p _ f k = k
 
 module _ (start : Start) (ok : HasOneEntryEach start) (p : Pid) where
   pub keyed : (past : Past) → Keyed (state start past p).links

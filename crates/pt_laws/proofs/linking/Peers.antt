@@ -9,7 +9,7 @@ use Rattle.pt_signal.specs.declared.ids.Ids.{Ids}
 use Rattle.pt_signal.specs.declared.ids.LinkId.{LinkId}
 use Rattle.pt_signal.specs.declared.reason.Reason.{Reason}
 use Rattle.pt_signal.specs.declared.signal.Signal.{Signal}
-use Rattle.pt_signal.specs.declared.signal.Signal.TheVariants.{Message, Link, Unlink, LinkExit, Monitor, Demonitor, AliveAsk, AliveSay}
+use Rattle.pt_signal.specs.declared.signal.Signal.TheVariants.{Link, Unlink, LinkExit}
 use Rattle.pt_events.specs.declared.event.Event.{Event}
 use Rattle.pt_events.specs.declared.event.Event.TheVariants.{Born, Said, Came, Took, Flag, Left}
 use Rattle.pt_signal.specs.Values.{same_pid, same_ref}
@@ -200,7 +200,6 @@ module _ (p : Pid) where
   same_step f g h other = subst (λ l. InOrder (links_of f) l (option_to_list other)) (sym h) (same_in_order (links_of f) (option_to_list other))
 
   handle_step : (s : ProcessState) (a : Pid) (x : Signal) → Keyed s.links → InOrder s.links (handle p s a x).state.links (a ∷ [])
-  handle_step s a (Message b) k = same_in_order s.links (a ∷ [])
   handle_step s a (Link i) k = enter_in_order a i s.links
   handle_step s a (Unlink ids) k = cut_in_order a ids s.links k (a ∷ [])
   handle_step s a (Signal.Exit r) k = subst (λ l. InOrder s.links l (a ∷ [])) (sym (obey_keeps (λ s. s.links) (λ w s. refl) (verdict false s.traps (same_pid a p) a r) s)) (same_in_order s.links (a ∷ []))
@@ -209,11 +208,8 @@ module _ (p : Pid) where
       go : (b : Bool) → InOrder s.links (cond b (remove_entry (same_pid a) s.links) s.links) (a ∷ [])
       go true = removed_in_order a s.links k (a ∷ [])
       go false = same_in_order s.links (a ∷ [])
-  handle_step s a (Monitor m) k = same_in_order s.links (a ∷ [])
-  handle_step s a (Demonitor m) k = same_in_order s.links (a ∷ [])
   handle_step s a (Signal.Down m r) k = subst (λ l. InOrder s.links l (a ∷ [])) (sym (down_keeps (λ s. s.links) (λ w s. refl) (λ l s. refl) (lookup (same_ref m) s.watching) s a m r)) (same_in_order s.links (a ∷ []))
-  handle_step s a (AliveAsk m) k = same_in_order s.links (a ∷ [])
-  handle_step s a (AliveSay m x) k = same_in_order s.links (a ∷ [])
+  handle_step s a _ k = same_in_order s.links (a ∷ [])
 
   came_step : (t : Bool) (a : Pid) (x : Signal) (f : Phase) → Keyed (links_of f) → Step f (cond t (gets p a x f) f) (cond t (Some a) None)
   came_step true a x unborn k = same_in_order [] (a ∷ [])
@@ -225,8 +221,6 @@ module _ (p : Pid) where
   say_step : (s : ProcessState) (b : Pid) (x : Signal) → Keyed s.links → InOrder s.links (say s b x).links (b ∷ [])
   say_step s b (Link i) k = enter_in_order b i s.links
   say_step s b (Unlink ids) k = cut_in_order b ids s.links k (b ∷ [])
-  say_step s b (Monitor m) k = same_in_order s.links (b ∷ [])
-  say_step s b (Demonitor m) k = same_in_order s.links (b ∷ [])
   say_step s b _ k = same_in_order s.links (b ∷ [])
 
   said_step : (t : Bool) (b : Pid) (x : Signal) (f : Phase) → Keyed (links_of f) → Step f (cond t (while_living (λ s. say s b x) f) f) (cond t (Some b) None)
@@ -275,6 +269,7 @@ module _ (p : Pid) where
   peers_step (Took q j i) f k = same_step f (after p (Took q j i) f) (plain_step (same_pid p q) _ (λ s. refl) f) None
   peers_step (Flag q on) f k = same_step f (after p (Flag q on) f) (plain_step (same_pid p q) _ (λ s. refl) f) None
   peers_step (Left q r) f k = same_step f (after p (Left q r) f) (left_step (same_pid p q) r f) None
+  peers_step _ f k = same_step f f refl None
 
 module _ (start : Start) (ok : HasOneEntryEach start) (p : Pid) where
   pub peers_since : (past : Past) → peers (life start past p) ≡ standing (peers (at_start start p)) (λ before. peer_begins p (life start before p)) (λ before. peer_ends p (life start before p)) past

@@ -1,7 +1,7 @@
 -- Local journals and legal histories have acts that may come.
 use Rattle.std.proofs.Common.{ℕ, List, [], ◌∷◌}
 use Rattle.pt_events.specs.declared.event.Event.{Event}
-use Rattle.pt_events.specs.declared.event.Event.TheVariants.{Born, Said, Came, Took, Flag, Left}
+use Rattle.pt_events.specs.declared.event.Event.TheVariants.{Came, Refused}
 use Rattle.pt_events.specs.declared.event.Stamped.{Stamped}
 use Rattle.pt_events.specs.History.{Past, Start, May, IsLegal}
 use Rattle.pt_events.specs.Journal.{MayHere, IsLocal, events}
@@ -13,11 +13,8 @@ local_acts start low top d (s ∷ journal) h = (h.0.may, local_acts start low to
 
 here : (start : Start) (past : Past) (e : Event) → May start past e → MayHere start past e
 here start past (Came a b x) h = tt
-here start past (Born p parent link) h = h
-here start past (Said a b x) h = h
-here start past (Took p k i) h = h
-here start past (Flag p on) h = h
-here start past (Left p r) h = h
+here start past (Refused a b) h = h.0
+here start past _ h = h
 
 pub legal_acts : (start : Start) (past : Past) → IsLegal start past → ActsMayCome start past
 legal_acts start [] h = tt

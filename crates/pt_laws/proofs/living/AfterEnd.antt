@@ -6,7 +6,7 @@ use Rattle.pt_signal.specs.declared.item.Item.{Item}
 use Rattle.pt_signal.specs.Values.{same_pid}
 use Rattle.pt_signal.specs.Process.{ProcessState}
 use Rattle.pt_events.specs.declared.event.Event.{Event}
-use Rattle.pt_events.specs.declared.event.Event.TheVariants.{Born, Said, Came, Took, Flag, Left}
+use Rattle.pt_events.specs.declared.event.Event.TheVariants.{Came}
 use Rattle.pt_events.specs.History.{Past, Start, ended, life, state_of, at_start, arrived, arrived_since, arrives}
 use Rattle.pt_laws.proofs.living.BirthsAndEnds.{stays_ended}
 
@@ -16,11 +16,7 @@ none_arrives start past p r s (Came a b x) h = rw h (both (same_pid p b))
     both : (c : Bool) → ◌≡◌ {A = List Item} (cond c [] []) []
     both true = refl
     both false = refl
-none_arrives start past p r s (Born q parent link) h = refl
-none_arrives start past p r s (Said a b x) h = refl
-none_arrives start past p r s (Took q k i) h = refl
-none_arrives start past p r s (Flag q on) h = refl
-none_arrives start past p r s (Left q w) h = refl
+none_arrives start past p r s _ h = refl
 
 since_end : (start : Start) (later past : Past) (p : Pid) (r : Reason) (s : ProcessState) → life start past p ≡ ended r s
     → arrived_since start (later ++ past) p ≡ arrived_since start past p

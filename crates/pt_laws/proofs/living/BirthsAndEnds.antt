@@ -7,19 +7,19 @@ use Rattle.pt_signal.specs.declared.pid.Pid.{Pid}
 use Rattle.pt_signal.specs.declared.ids.LinkId.{LinkId}
 use Rattle.pt_signal.specs.declared.reason.Reason.{Reason}
 use Rattle.pt_signal.specs.declared.signal.Signal.{Signal}
-use Rattle.pt_signal.specs.declared.signal.Signal.TheVariants.{Message, Link, Unlink, LinkExit, Monitor, Demonitor, AliveAsk, AliveSay}
+use Rattle.pt_signal.specs.declared.signal.Signal.TheVariants.{LinkExit}
 use Rattle.pt_events.specs.declared.event.Event.{Event}
 use Rattle.pt_events.specs.declared.event.Event.TheVariants.{Born, Said, Came, Took, Flag, Left}
 use Rattle.pt_signal.specs.Values.{same_pid, same_ref}
 use Rattle.pt_signal.specs.Process.{ProcessState, Verdict, drops, queues, ends, verdict, obey, held, holds_any, link_exit, down, handle}
-use Rattle.pt_events.specs.History.{Past, Start, Phase, unborn, living, ended, life, after, is_the, is_unborn, is_ended, is_living, reason_of, newborn, while_living, live_or_end, gets, leaves}
+use Rattle.pt_events.specs.History.{Past, Start, Phase, unborn, living, ended, life, after, is_the, is_unborn, is_ended, is_living, reason_of, newborn, while_living, live_or_end, gets, leaves, is_birth}
 use Rattle.pt_events.specs.Journal.{MayHere}
 use Rattle.pt_laws.specs.Acts.{ActsMayCome}
 use Rattle.pt_laws.specs.Load.{one_if}
 use Rattle.std.specs.Map.{lookup}
 use Rattle.pt_signal.proofs.Same.{same_pid_is}
 use Rattle.pt_events.proofs.Phases.{after_ended}
-use Rattle.pt_laws.specs.Lives.{is_birth, ended_by, signal_ends, ends_with, births, deaths, was_born, end_reason}
+use Rattle.pt_laws.specs.BirthsAndEnds.{ended_by, signal_ends, ends_with, births, deaths, was_born, end_reason}
 
 -- a signal ends a live process by its verdict alone ------------------------------------------------
 
@@ -38,16 +38,10 @@ down_ending None s a m r = refl
 down_ending (Some t) s a m r = refl
 
 pub handle_ending : (p : Pid) (s : ProcessState) (a : Pid) (x : Signal) → (handle p s a x).ending ≡ signal_ends p s a x
-handle_ending p s a (Message b) = refl
-handle_ending p s a (Link i) = refl
-handle_ending p s a (Unlink ids) = refl
 handle_ending p s a (Signal.Exit r) = obey_ending (verdict false s.traps (same_pid a p) a r) s
 handle_ending p s a (LinkExit ids r) = link_exit_ending (holds_any (held s.links a) ids) p s a r
-handle_ending p s a (Monitor m) = refl
-handle_ending p s a (Demonitor m) = refl
 handle_ending p s a (Signal.Down m r) = down_ending (lookup (same_ref m) s.watching) s a m r
-handle_ending p s a (AliveAsk m) = refl
-handle_ending p s a (AliveSay m x) = refl
+handle_ending p s a _ = refl
 
 -- births -------------------------------------------------------------------------------------------
 
@@ -99,6 +93,7 @@ born_step p (Came a b x) f = gets_case (same_pid p b) p a x f
 born_step p (Took q k i) f = step_case (same_pid p q) _ f
 born_step p (Flag q on) f = step_case (same_pid p q) _ f
 born_step p (Left q r) f = leaves_case (same_pid p q) r f
+born_step p _ f = step_case false (λ s. s) f
 
 -- ends ---------------------------------------------------------------------------------------------
 
@@ -155,17 +150,14 @@ module _ (start : Start) where
   reason_step past p (Took q k i) h = step_reason (same_pid p q) _ (life start past p)
   reason_step past p (Flag q on) h = step_reason (same_pid p q) _ (life start past p)
   reason_step past p (Left q r) h = leaves_reason (same_pid p q) r (life start past p) (λ e. rw (same_pid_is p q e) h)
+  reason_step past p _ h = step_reason false (λ s. s) (life start past p)
 
   -- the laws ---------------------------------------------------------------------------------------
 
   -- a birth is of a pid that was unborn
   birth_is_new : (past : Past) (p : Pid) (e : Event) → MayHere start past e → is_birth p e ≡ true → is_unborn (life start past p) ≡ true
   birth_is_new past p (Born q parent link) h e = rw (same_pid_is p q e, h.0) refl
-  birth_is_new past p (Said a b x) h e = absurd (false≢true e)
-  birth_is_new past p (Came a b x) h e = absurd (false≢true e)
-  birth_is_new past p (Took q k i) h e = absurd (false≢true e)
-  birth_is_new past p (Flag q on) h e = absurd (false≢true e)
-  birth_is_new past p (Left q r) h e = absurd (false≢true e)
+  birth_is_new past p _ h e = absurd (false≢true e)
 
   pub born_once : (past : Past) (p : Pid) → ActsMayCome start past
       → births past p + one_if (not (is_unborn (life start [] p))) ≡ one_if (not (is_unborn (life start past p)))
@@ -196,33 +188,15 @@ module _ (start : Start) where
       go : (b : Bool) → same_pid p q ≡ b → is_some (cond (same_pid p q) (Some r) None) ≡ true → reason_of (life start past p) ≡ None
       go true e k = lives (life start past p) (rw (same_pid_is p q e) h)
       go false e k = let z : false ≡ true = rw e at k in absurd (false≢true z)
-  end_is_new past p (Came a b x) h g = go (life start past p) g
-    where
-      go : (f : Phase) → is_some (ends_with p f (Came a b x)) ≡ true → reason_of f ≡ None
-      go unborn k = refl
-      go (living s) k = refl
-      go (ended w s) k = absurd (false≢true k)
-  end_is_new past p (Born q parent link) h g = go (life start past p) g
-    where
-      go : (f : Phase) → is_some (ends_with p f (Born q parent link)) ≡ true → reason_of f ≡ None
-      go unborn k = refl
-      go (living s) k = refl
-      go (ended w s) k = absurd (false≢true k)
-  end_is_new past p (Said a b x) h g = go (life start past p) g
-    where
-      go : (f : Phase) → is_some (ends_with p f (Said a b x)) ≡ true → reason_of f ≡ None
-      go unborn k = refl
-      go (living s) k = refl
-      go (ended w s) k = absurd (false≢true k)
   end_is_new past p (Took q k i) h g = go (life start past p) g
     where
       go : (f : Phase) → is_some (ends_with p f (Took q k i)) ≡ true → reason_of f ≡ None
       go unborn k = refl
       go (living s) k = refl
       go (ended w s) k = absurd (false≢true k)
-  end_is_new past p (Flag q on) h g = go (life start past p) g
+  end_is_new past p e h g = go (life start past p) g
     where
-      go : (f : Phase) → is_some (ends_with p f (Flag q on)) ≡ true → reason_of f ≡ None
+      go : (f : Phase) → is_some (ends_with p f e) ≡ true → reason_of f ≡ None
       go unborn k = refl
       go (living s) k = refl
       go (ended w s) k = absurd (false≢true k)

@@ -68,8 +68,8 @@ module _ {X : Type 0} (g : ProcessState → X) where
         (each_branch (λ z. g (state_of z) ≡ g (state_of f)) (same_pid p c) _ _ (newborn_keeps parent link f) (while_keeps (linked (Some c) link) (linked_keeps (Some c) link) f)) refl
 
     pub say_keeps : ((l : List (Ref × Pid)) (s : ProcessState) → g (record s { watching = l }) ≡ g s) → (b : Pid) (x : Signal) (s : ProcessState) → g (say s b x) ≡ g s
-    say_keeps watching b (Link i) s = links _ s
-    say_keeps watching b (Unlink ids) s = links _ s
     say_keeps watching b (Monitor m) s = watching _ s
     say_keeps watching b (Demonitor m) s = watching _ s
+    say_keeps watching b (Link i) s = links _ s
+    say_keeps watching b (Unlink ids) s = links _ s
     say_keeps watching b _ s = refl

@@ -5,7 +5,7 @@ use Rattle.std.specs.Map.{lookup}
 use Rattle.std.proofs.lemmas.Bool.{false≢true}
 use Rattle.pt_signal.specs.declared.pid.Pid.{Pid}
 use Rattle.pt_signal.specs.declared.signal.Signal.{Signal}
-use Rattle.pt_signal.specs.declared.signal.Signal.TheVariants.{Message, Link, Unlink, LinkExit, Monitor, Demonitor, AliveAsk, AliveSay}
+use Rattle.pt_signal.specs.declared.signal.Signal.TheVariants.{LinkExit}
 use Rattle.pt_events.specs.declared.event.Event.{Event}
 use Rattle.pt_events.specs.declared.event.Event.TheVariants.{Born, Said, Came, Took, Flag, Left}
 use Rattle.pt_signal.specs.Values.{same_pid, same_ref}
@@ -19,16 +19,10 @@ use Rattle.pt_events.proofs.Phases.{each_branch}
 use Rattle.pt_laws.proofs.living.Fields.{while_keeps, leaves_keeps, gets_keeps, obey_keeps, link_exit_keeps, down_keeps, born_keeps, say_keeps}
 
 handle_traps : (p : Pid) (s : ProcessState) (a : Pid) (x : Signal) → (handle p s a x).state.traps ≡ s.traps
-handle_traps p s a (Message b) = refl
-handle_traps p s a (Link i) = refl
-handle_traps p s a (Unlink ids) = refl
 handle_traps p s a (Signal.Exit r) = obey_keeps (λ s. s.traps) (λ w s. refl) (verdict false s.traps (same_pid a p) a r) s
 handle_traps p s a (LinkExit ids r) = link_exit_keeps (λ s. s.traps) (λ w s. refl) (λ l s. refl) (holds_any (held s.links a) ids) p s a r
-handle_traps p s a (Monitor m) = refl
-handle_traps p s a (Demonitor m) = refl
 handle_traps p s a (Signal.Down m r) = down_keeps (λ s. s.traps) (λ w s. refl) (λ l s. refl) (lookup (same_ref m) s.watching) s a m r
-handle_traps p s a (AliveAsk m) = refl
-handle_traps p s a (AliveSay m x) = refl
+handle_traps p s a _ = refl
 
 flagged : (b on : Bool) (f : Phase) → (b ≡ true → is_living f ≡ true)
     → (state_of (cond b (while_living (λ s. record s { traps = on }) f) f)).traps ≡ or_else (cond b (Some on) None) (state_of f).traps
@@ -45,6 +39,7 @@ module _ (start : Start) (p : Pid) where
   flag_step past (Took q k i) h = each_branch (λ g. (state_of g).traps ≡ (state start past p).traps) (same_pid p q) _ _ (while_keeps (λ s. s.traps) _ (λ s. refl) (life start past p)) refl
   flag_step past (Flag q on) h = flagged (same_pid p q) on (life start past p) (λ e. rw (same_pid_is p q e) h)
   flag_step past (Left q r) h = each_branch (λ g. (state_of g).traps ≡ (state start past p).traps) (same_pid p q) _ _ (leaves_keeps (λ s. s.traps) r (life start past p)) refl
+  flag_step past _ h = refl
 
   or_else-or : (o n : Option Bool) (t : Bool) → or_else o (or_else n t) ≡ or_else (option_or o n) t
   or_else-or None n t = refl

@@ -8,9 +8,9 @@ use Rattle.pt_signal.specs.declared.ids.Ref.{Ref}
 use Rattle.pt_signal.specs.declared.ids.LinkId.{LinkId}
 use Rattle.pt_signal.specs.declared.reason.Reason.{Reason}
 use Rattle.pt_signal.specs.declared.signal.Signal.{Signal}
-use Rattle.pt_signal.specs.declared.signal.Signal.TheVariants.{Message, Link, Unlink, LinkExit, Monitor, Demonitor, AliveAsk, AliveSay}
+use Rattle.pt_signal.specs.declared.signal.Signal.TheVariants.{Message, Link, Unlink, Monitor, Demonitor, AliveAsk}
 use Rattle.pt_events.specs.declared.event.Event.{Event}
-use Rattle.pt_events.specs.declared.event.Event.TheVariants.{Born, Said, Came, Took, Flag, Left}
+use Rattle.pt_events.specs.declared.event.Event.TheVariants.{Born, Said, Came, Took, Flag, Left, Refused}
 use Rattle.pt_signal.specs.Values.{same_pid, same_ref, fits}
 use Rattle.pt_signal.specs.Process.{ProcessState, fresh, held}
 use Rattle.pt_events.specs.History.{Past, Start, Phase, unborn, living, ended, phase_or_unborn, at_start, life, after, alive, state, state_of, is_living, is_unborn, is_ended, flying, sent_by, got_sends, left_sends, is_between, made_link, made_ref, makes_link, makes_ref, May, MaySay, MayBear, IsLegal}
@@ -55,6 +55,11 @@ pub outcome_unborn : (f : Phase) → is_unborn (outcome f) ≡ is_unborn f
 outcome_unborn unborn = refl
 outcome_unborn (living s) = refl
 outcome_unborn (ended r s) = refl
+
+outcome_ended : (f : Phase) → is_ended (outcome f) ≡ is_ended f
+outcome_ended unborn = refl
+outcome_ended (living s) = refl
+outcome_ended (ended r s) = refl
 
 outcome_running : (f : Phase) → is_ended f ≡ false → outcome f ≡ f
 outcome_running unborn h = refl
@@ -111,12 +116,15 @@ module _ (start again : Start) (old : Past) (begun : (p : Pid) → at_start agai
   pub over_living : (new : Past) (p : Pid) → alive again new p ≡ true → life again new p ≡ life start (new ++ old) p
   over_living new p h = living_same _ _ (over_outcome new p) h
 
-  -- whether it lives, and whether it was born, is the same
+  -- whether it lives, was born, and has ended, is the same
   pub over_alive : (new : Past) (p : Pid) → alive again new p ≡ alive start (new ++ old) p
   over_alive new p = sym (outcome_living _) ∙ ap is_living (over_outcome new p) ∙ outcome_living _
 
   pub over_unborn : (new : Past) (p : Pid) → is_unborn (life again new p) ≡ is_unborn (life start (new ++ old) p)
   over_unborn new p = sym (outcome_unborn _) ∙ ap is_unborn (over_outcome new p) ∙ outcome_unborn _
+
+  pub over_ended : (new : Past) (p : Pid) → is_ended (life again new p) ≡ is_ended (life start (new ++ old) p)
+  over_ended new p = sym (outcome_ended _) ∙ ap is_ended (over_outcome new p) ∙ outcome_ended _
 
 module _ (start again : Start) (old : Past) (legal : IsLegal start old) (quiet : IsQuiet start old) (begun : (p : Pid) → at_start again p ≡ outcome (life start old p)) where
   same_sent : (new : Past) (e : Event) → sent_by again new e ≡ sent_by start (new ++ old) e
@@ -144,10 +152,8 @@ module _ (start again : Start) (old : Past) (legal : IsLegal start old) (quiet :
   same_say new a b (Unlink ids) l n h = ap (λ f. held (state_of f).links b) (sym l) ∙ h
   same_say new a b (Monitor m) l n h = (made_ref_both new m h.0 n, h.1)
   same_say new a b (Demonitor m) l n h = ap (λ f. lookup (same_ref m) (state_of f).watching) (sym l) ∙ h
-  same_say new a b (LinkExit ids r) l n h = h
-  same_say new a b (Signal.Down m r) l n h = h
   same_say new a b (AliveAsk m) l n h = made_ref_both new m h n
-  same_say new a b (AliveSay m x) l n h = h
+  same_say new a b _ l n h = h
 
   same_alive : (new : Past) (p : Pid) → alive again new p ≡ true → alive start (new ++ old) p ≡ true
   same_alive new p h = sym (over_alive start again old begun new p) ∙ h
@@ -165,6 +171,7 @@ module _ (start again : Start) (old : Past) (legal : IsLegal start old) (quiet :
   same_may new (Took p k i) n h = (same_alive new p h.0, ap (λ f. find (fits k) (state_of f).waiting) (sym (over_living start again old begun new p h.0)) ∙ h.1)
   same_may new (Flag p on) n h = same_alive new p h
   same_may new (Left p r) n h = same_alive new p h
+  same_may new (Refused a b) n h = (same_alive new a h.0, sym (over_ended start again old begun new b) ∙ h.1)
 
   pub over_legal : (new : Past) → AllNewTo old new → IsLegal again new → IsLegal start (new ++ old)
   over_legal [] n h = legal

@@ -2,7 +2,7 @@
 use Rattle.std.proofs.Common.{◌≡◌, List, [], ◌∷◌, ◌++◌, map, cond, refl, ap, ◌∙◌}
 use Rattle.std.specs.Map.{keys_of}
 use Rattle.pt_signal.specs.declared.pid.Pid.{Pid}
-use Rattle.pt_events.specs.declared.event.Event.TheVariants.{Born, Said, Came, Took, Flag, Left}
+use Rattle.pt_events.specs.declared.event.Event.TheVariants.{Born}
 use Rattle.pt_events.specs.History.{Past, Start, Phase, life, is_unborn}
 use Rattle.pt_laws.specs.Load.{IsStart, pids}
 use Rattle.pt_laws.specs.Resumed.{outcome, start_after}
@@ -25,11 +25,7 @@ module _ (start : Start) (ok : IsStart start) (one : Past) where
   same_pids (Born p parent link ∷ two) =
       ap (λ z. z ++ cond (is_unborn (life (start_after start one) two p)) (p ∷ []) []) (same_pids two)
       ∙ ap (λ b. pids start (two ++ one) ++ cond b (p ∷ []) []) (same_unborn_is start ok one two p)
-  same_pids (Said a b x ∷ two) = same_pids two
-  same_pids (Came a b x ∷ two) = same_pids two
-  same_pids (Took q k i ∷ two) = same_pids two
-  same_pids (Flag q on ∷ two) = same_pids two
-  same_pids (Left q r ∷ two) = same_pids two
+  same_pids (_ ∷ two) = same_pids two
 
   pub twice : (two : Past) → start_after (start_after start one) two ≡ start_after start (two ++ one)
   twice two =

@@ -7,7 +7,7 @@ use Rattle.pt_signal.specs.declared.ids.Ref.{Ref}
 use Rattle.pt_signal.specs.declared.reason.Reason.{Reason}
 use Rattle.pt_signal.specs.declared.reason.Reason.TheVariants.{Normal, Kill}
 use Rattle.pt_signal.specs.declared.signal.Signal.{Signal}
-use Rattle.pt_signal.specs.declared.signal.Signal.TheVariants.{Message, Link, Unlink, LinkExit, Monitor, Demonitor, AliveAsk, AliveSay}
+use Rattle.pt_signal.specs.declared.signal.Signal.TheVariants.{LinkExit, Monitor, Demonitor, AliveSay}
 use Rattle.pt_events.specs.declared.event.Event.TheVariants.{Born, Said, Came, Took, Flag, Left}
 use Rattle.pt_signal.specs.Values.{same_pid, same_ref}
 use Rattle.pt_signal.specs.Process.{ProcessState, verdict, obey, holds_any, held, link_exit, down, handle, say}
@@ -58,29 +58,19 @@ module _ (m : Ref) where
 
   pub handle_downs : (me : Pid) (s : ProcessState) (from : Pid) (x : Signal)
       → opens m (handle me s from x).state.watching + count (is_down_item m) (handle me s from x).items ≡ opens m s.watching
-  handle_downs me s from (Message b) = omega arith
-  handle_downs me s from (Link i) = omega arith
-  handle_downs me s from (Unlink ids) = omega arith
   handle_downs me s from (Signal.Exit r) = obeys me s false s.traps (same_pid from me) from r
   handle_downs me s from (LinkExit ids r) = link_exits (holds_any (held s.links from) ids) me s from r
-  handle_downs me s from (Monitor n) = omega arith
-  handle_downs me s from (Demonitor n) = omega arith
   handle_downs me s from (Signal.Down n r) = downs n s _ refl from r
-  handle_downs me s from (AliveAsk n) = omega arith
-  handle_downs me s from (AliveSay n x) = omega arith
+  handle_downs me s from _ = omega arith
 
   say_downs : (start : Start) (past : Past) (s : ProcessState) (a b : Pid) (x : Signal) → MaySay start past s a b x
       → opens m (say s b x).watching + one_if (is_demonitor m x) ≡ opens m s.watching + one_if (is_monitor m x)
-  say_downs start past s a b (Message body) h = omega arith
-  say_downs start past s a b (Link i) h = omega arith
-  say_downs start past s a b (Unlink ids) h = omega arith
-  say_downs start past s a b (Signal.Exit r) h = omega arith
   say_downs start past s a b (LinkExit ids r) h = absurd h
   say_downs start past s a b (Monitor n) h = let k = count-append (λ (e : Ref × Pid). same_ref m e.0) s.watching ((n, b) ∷ []) in omega arith
   say_downs start past s a b (Demonitor n) h = let k = removed_by m n s.watching b h in omega arith
   say_downs start past s a b (Signal.Down n r) h = absurd h
-  say_downs start past s a b (AliveAsk n) h = omega arith
   say_downs start past s a b (AliveSay n x) h = absurd h
+  say_downs start past s a b _ h = omega arith
 
 -- event by event --------------------------------------------------------------------------------
 
@@ -144,4 +134,9 @@ module _ (start : Start) (m : Ref) (w : Pid) where
       let k = count-append (is_down_item m) (arrived_since start past w) [] in
       let c : opens_of (Left q r ∷ past) ≡ opens_of past =
       each_branch (λ g. opens m (state_of g).watching ≡ opens_of past) (same_pid w q) _ _ (ap (opens m) (leaves_keeps (λ s. s.watching) r (life start past w))) refl in
+      omega arith
+  count_law (e ∷ past) h =
+      let ih = count_law past h.1 in
+      let k = count-append (is_down_item m) (arrived_since start past w) [] in
+      let c : opens_of (e ∷ past) ≡ opens_of past = refl in
       omega arith

@@ -7,7 +7,7 @@ use Rattle.pt_signal.specs.declared.pid.Pid.{Pid}
 use Rattle.pt_signal.specs.declared.ids.Ref.{Ref}
 use Rattle.pt_signal.specs.declared.reason.Reason.{Reason}
 use Rattle.pt_signal.specs.declared.signal.Signal.{Signal}
-use Rattle.pt_signal.specs.declared.signal.Signal.TheVariants.{Message, Link, Unlink, LinkExit, Monitor, Demonitor, AliveAsk, AliveSay}
+use Rattle.pt_signal.specs.declared.signal.Signal.TheVariants.{LinkExit, Monitor, Demonitor, AliveSay}
 use Rattle.pt_signal.specs.Values.{same_pid, same_ref, without_first}
 use Rattle.pt_signal.specs.Process.{ProcessState, verdict, holds_any, held, down, handle, say, keep, same_watch}
 use Rattle.pt_events.specs.History.{Past, Start, MaySay}
@@ -93,16 +93,12 @@ module _ (m : Ref) (w : Pid) where
 
   -- a signal that comes to a live process
   pub kept_step : (me : Pid) (s : ProcessState) (a : Pid) (x : Signal) → KeptStep (keeps m w s) (keeps m w (handle me s a x).state) (π_of a x) (κ_of a x)
-  kept_step me s a (Message b) = other_signal _ _ a refl
-  kept_step me s a (Link i) = other_signal _ _ a refl
-  kept_step me s a (Unlink ids) = other_signal _ _ a refl
   kept_step me s a (Signal.Exit r) = other_signal _ _ a (ap (count (same_watch m w)) (obey_keeps (λ s. s.kept) (λ w s. refl) (verdict false s.traps (same_pid a me) a r) s))
   kept_step me s a (LinkExit ids r) = other_signal _ _ a (ap (count (same_watch m w)) (link_exit_keeps (λ s. s.kept) (λ w s. refl) (λ l s. refl) (holds_any (held s.links a) ids) me s a r))
   kept_step me s a (Monitor n) = monitor_step a n s.kept
   kept_step me s a (Demonitor n) = demonitor_step a n s.kept
   kept_step me s a (Signal.Down n r) = other_signal _ _ a (ap (count (same_watch m w)) (down_keeps (λ s. s.kept) (λ w s. refl) (λ l s. refl) (lookup (same_ref n) s.watching) s a n r))
-  kept_step me s a (AliveAsk n) = other_signal _ _ a refl
-  kept_step me s a (AliveSay n x) = other_signal _ _ a refl
+  kept_step me s a _ = other_signal _ _ a refl
 
 -- how often the reference is open -----------------------------------------------------------------
 
@@ -135,24 +131,14 @@ module _ (m : Ref) (t : Pid) where
   }
 
   pub open_step : (me : Pid) (s : ProcessState) (a : Pid) (x : Signal) → OpenStep s x (opens_to m t (handle me s a x).state)
-  open_step me s a (Message b) = unchanged s _ _ refl refl
-  open_step me s a (Link i) = unchanged s _ _ refl refl
-  open_step me s a (Unlink ids) = unchanged s _ _ refl refl
   open_step me s a (Signal.Exit r) = unchanged s _ _ (obey_keeps (λ s. s.watching) (λ w s. refl) (verdict false s.traps (same_pid a me) a r) s) refl
   open_step me s a (LinkExit ids r) = unchanged s _ _ (link_exit_keeps (λ s. s.watching) (λ w s. refl) (λ l s. refl) (holds_any (held s.links a) ids) me s a r) refl
-  open_step me s a (Monitor n) = unchanged s _ _ refl refl
-  open_step me s a (Demonitor n) = unchanged s _ _ refl refl
   open_step me s a (Signal.Down n r) = down_step n s _ refl a r
-  open_step me s a (AliveAsk n) = unchanged s _ _ refl refl
-  open_step me s a (AliveSay n x) = unchanged s _ _ refl refl
+  open_step me s a _ = unchanged s _ _ refl refl
 
   -- what the sayer opens and closes
   pub say_step : (start : Start) (past : Past) (s : ProcessState) (w b : Pid) (x : Signal) → MaySay start past s w b x
       → opens_to m t (say s b x) + one_if (same_pid t b && is_demonitor m x) ≡ opens_to m t s + one_if (same_pid t b && is_monitor m x)
-  say_step start past s w b (Message body) h = refl
-  say_step start past s w b (Link i) h = refl
-  say_step start past s w b (Unlink ids) h = refl
-  say_step start past s w b (Signal.Exit r) h = refl
   say_step start past s w b (LinkExit ids r) h = absurd h
   say_step start past s w b (Monitor n) h =
       let k = count-append (is_open m t) s.watching ((n, b) ∷ []) in
@@ -161,5 +147,5 @@ module _ (m : Ref) (t : Pid) where
       let k = count_entry_found (is_open m t) (same_ref n) n b (λ e f. rw (same_ref_is n e.0 f) refl) s.watching h in
       let z : one_if (same_pid t b && false) ≡ 0 = rw (and_right (same_pid t b) false refl) refl in omega arith
   say_step start past s w b (Signal.Down n r) h = absurd h
-  say_step start past s w b (AliveAsk n) h = refl
   say_step start past s w b (AliveSay n x) h = absurd h
+  say_step start past s w b _ h = refl

@@ -8,7 +8,7 @@ use Rattle.pt_signal.specs.declared.signal.Signal.{Signal}
 use Rattle.pt_signal.specs.declared.signal.Signal.TheVariants.{Monitor}
 use Rattle.pt_signal.specs.Values.{same_pid}
 use Rattle.pt_events.specs.declared.event.Event.{Event}
-use Rattle.pt_events.specs.declared.event.Event.TheVariants.{Born, Said, Came, Took, Flag, Left}
+use Rattle.pt_events.specs.declared.event.Event.TheVariants.{Said}
 use Rattle.pt_events.specs.declared.event.Stamped.{Stamped}
 use Rattle.pt_events.specs.History.{Start}
 use Rattle.pt_events.specs.Journal.{IsLocal, IsNewAt, clock, events}
@@ -35,11 +35,7 @@ module _ (w : Pid) (m : Ref) where
       go : (c : Bool) → (same_pid w a && is_monitor m x) ≡ c → one_if (same_pid w a && is_monitor m x) ≡ 0
       go true e = absurd (l (number x h (and_parts (same_pid w a) (is_monitor m x) e).1))
       go false e = rw e refl
-  says_other d n (Born q p l) h k = refl
-  says_other d n (Came a b x) h k = refl
-  says_other d n (Took q k i) h l = refl
-  says_other d n (Flag q on) h k = refl
-  says_other d n (Left q r) h k = refl
+  says_other d n _ h k = refl
 
   said_new : (start : Start) (low top d : ℕ) (journal : List Stamped) → IsLocal start low top d journal → m.number ≤ low → said_times w (is_monitor m) (events journal) ≡ 0
   said_new start low top d [] h k = refl

@@ -8,7 +8,7 @@ use Rattle.pt_signal.specs.declared.ids.Ref.{Ref}
 use Rattle.pt_signal.specs.declared.ids.LinkId.{LinkId}
 use Rattle.pt_signal.specs.declared.reason.Reason.{Reason}
 use Rattle.pt_signal.specs.declared.signal.Signal.{Signal}
-use Rattle.pt_signal.specs.declared.signal.Signal.TheVariants.{Message, Link, Unlink, LinkExit, Monitor, Demonitor, AliveAsk, AliveSay}
+use Rattle.pt_signal.specs.declared.signal.Signal.TheVariants.{Monitor, Demonitor}
 use Rattle.pt_events.specs.declared.event.Event.{Event}
 use Rattle.pt_events.specs.declared.event.Event.TheVariants.{Born, Said, Came, Took, Flag, Left}
 use Rattle.pt_signal.specs.Values.{same_pid, same_ref, without_first}
@@ -35,20 +35,8 @@ module _ (m : Ref) (w : Pid) where
     where
       none : (e : Event) → makes_ref m e ≡ false → says w (is_monitor m) e ≡ 0
       none (Said a b (Monitor n)) h = rw (and_right (same_pid w a) (same_ref m n) h) refl
-      none (Said a b (Message body)) h = rw (and_right (same_pid w a) false refl) refl
-      none (Said a b (Link i)) h = rw (and_right (same_pid w a) false refl) refl
-      none (Said a b (Unlink i)) h = rw (and_right (same_pid w a) false refl) refl
-      none (Said a b (Signal.Exit r)) h = rw (and_right (same_pid w a) false refl) refl
-      none (Said a b (LinkExit i r)) h = rw (and_right (same_pid w a) false refl) refl
-      none (Said a b (Demonitor n)) h = rw (and_right (same_pid w a) false refl) refl
-      none (Said a b (Signal.Down n r)) h = rw (and_right (same_pid w a) false refl) refl
-      none (Said a b (AliveAsk n)) h = rw (and_right (same_pid w a) false refl) refl
-      none (Said a b (AliveSay n x)) h = rw (and_right (same_pid w a) false refl) refl
-      none (Born q p l) h = refl
-      none (Came a b x) h = refl
-      none (Took q k i) h = refl
-      none (Flag q on) h = refl
-      none (Left q r) h = refl
+      none (Said a b _) h = rw (and_right (same_pid w a) false refl) refl
+      none _ h = refl
 
   pub said_once : (start : Start) (past : Past) → ActsMayCome start past → said_times w (is_monitor m) past ≤ 1
   said_once start [] h = omega arith
@@ -61,11 +49,7 @@ module _ (m : Ref) (w : Pid) where
       go : (c : Bool) → (same_pid w a && is_monitor m x) ≡ c → said_times w (is_monitor m) past ≤ 1 → said_times w (is_monitor m) past + one_if (same_pid w a && is_monitor m x) ≤ 1
       go true e ih = let z = zero_before x (and_parts (same_pid w a) (is_monitor m x) e).1 h.0.1 in rw e (omega arith)
       go false e ih = rw e (omega arith)
-  said_once start (Born q p l ∷ past) h = let ih = said_once start past h.1 in omega arith
-  said_once start (Came a b x ∷ past) h = let ih = said_once start past h.1 in omega arith
-  said_once start (Took q k i ∷ past) h = let ih = said_once start past h.1 in omega arith
-  said_once start (Flag q on ∷ past) h = let ih = said_once start past h.1 in omega arith
-  said_once start (Left q r ∷ past) h = let ih = said_once start past h.1 in omega arith
+  said_once start (_ ∷ past) h = let ih = said_once start past h.1 in omega arith
 
   says_one : (t : Pid) (e : Event) → says_to w t (is_monitor m) e ≤ says w (is_monitor m) e
   says_one t (Said a b x) = go (same_pid w a) (same_pid t b) (is_monitor m x)
@@ -74,11 +58,7 @@ module _ (m : Ref) (w : Pid) where
       go true true y = omega arith
       go true false y = omega arith
       go false d y = omega arith
-  says_one t (Born q p l) = omega arith
-  says_one t (Came a b x) = omega arith
-  says_one t (Took q k i) = omega arith
-  says_one t (Flag q on) = omega arith
-  says_one t (Left q r) = omega arith
+  says_one t _ = omega arith
 
   pub said_to_one : (t : Pid) (past : Past) → said_to w t (is_monitor m) past ≤ said_times w (is_monitor m) past
   said_to_one t [] = omega arith
@@ -98,11 +78,7 @@ module _ (m : Ref) (w : Pid) where
           one : (g y : Bool) → 0 + one_if (g && y) ≤ one_if y
           one true y = omega arith
           one false y = omega arith
-  says_two t c n (Born q p l) = omega arith
-  says_two t c n (Came a b x) = omega arith
-  says_two t c n (Took q k i) = omega arith
-  says_two t c n (Flag q on) = omega arith
-  says_two t c n (Left q r) = omega arith
+  says_two t c n _ = omega arith
 
   pub said_to_two : (t c : Pid) → same_pid t c ≡ false → (past : Past) → said_to w t (is_monitor m) past + said_to w c (is_monitor m) past ≤ said_times w (is_monitor m) past
   said_to_two t c n [] = omega arith
@@ -478,6 +454,17 @@ module _ (m : Ref) where
       let ih = monitored past h.1 w t in
       let o = each_branch (λ f. open_in w t m f ≡ O_of w t m past) (same_pid w c) _ _ (open_while m w t _ (λ s. refl) (life [] past w)) refl in
       let k = each_branch (λ f. kept_in w t m f ≡ K_of w t m past) (same_pid t c) _ _ (kept_while m w t _ (λ s. refl) (life [] past t)) refl in
+      let p = count-append (mon w t m) (flying [] past) [] in
+      let q = count-append (dem w t m) (flying [] past) [] in
+      let d = count-append (dwn w t m) (flying [] past) [] in
+      record {
+        counts = same_inv w t m _ _ _ _ _ _ _ _ _ _ _ _ ih.counts (omega arith) k (omega arith) o (omega arith) (omega arith);
+        ordered = ordered_quiet w t m (flying [] past) [] ih.ordered refl;
+      }
+  monitored (e ∷ past) h w t =
+      let ih = monitored past h.1 w t in
+      let o : open_in w t m (life [] (e ∷ past) w) ≡ O_of w t m past = refl in
+      let k : kept_in w t m (life [] (e ∷ past) t) ≡ K_of w t m past = refl in
       let p = count-append (mon w t m) (flying [] past) [] in
       let q = count-append (dem w t m) (flying [] past) [] in
       let d = count-append (dwn w t m) (flying [] past) [] in

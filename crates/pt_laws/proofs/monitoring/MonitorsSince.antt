@@ -7,7 +7,7 @@ use Rattle.pt_signal.specs.declared.ids.Ref.{Ref}
 use Rattle.pt_signal.specs.declared.ids.LinkId.{LinkId}
 use Rattle.pt_signal.specs.declared.reason.Reason.{Reason}
 use Rattle.pt_signal.specs.declared.signal.Signal.{Signal}
-use Rattle.pt_signal.specs.declared.signal.Signal.TheVariants.{Message, Link, Unlink, LinkExit, Monitor, Demonitor, AliveAsk, AliveSay}
+use Rattle.pt_signal.specs.declared.signal.Signal.TheVariants.{Link, Unlink, LinkExit, Monitor, Demonitor}
 use Rattle.pt_events.specs.declared.event.Event.{Event}
 use Rattle.pt_events.specs.declared.event.Event.TheVariants.{Born, Said, Came, Took, Flag, Left}
 use Rattle.pt_signal.specs.Values.{same_pid, same_ref, fits, without_first}
@@ -15,7 +15,7 @@ use Rattle.pt_signal.specs.Process.{ProcessState, verdict, held, holds_any, down
 use Rattle.pt_events.specs.History.{Past, Start, Phase, unborn, living, ended, life, state, at_start, after, touches, is_the, is_living, state_of, open_monitors, linked, newborn, while_living, live_or_end, gets, leaves}
 use Rattle.pt_events.specs.Journal.{MayHere}
 use Rattle.pt_laws.specs.Acts.{ActsMayCome}
-use Rattle.pt_laws.specs.Lives.{signal_ends}
+use Rattle.pt_laws.specs.BirthsAndEnds.{signal_ends}
 use Rattle.pt_laws.specs.Since.{standing}
 use Rattle.pt_laws.specs.MonitorLaws.{IsMadeOnce}
 use Rattle.pt_laws.specs.Words.{monitor_opens, monitor_closes}
@@ -87,16 +87,10 @@ module _ (w : Pid) where
   came_down a n r s h false = all_stay s.watching
 
   came_step : (a b : Pid) (x : Signal) (s : ProcessState) → ((n : Ref) → opens n s.watching ≤ 1) → OpenStep (after w (Came a b x) (living s)) (living s) (Came a b x)
-  came_step a b (Message body) s h = came_other a (Message body) s refl (same_pid w b)
-  came_step a b (Link i) s h = came_other a (Link i) s refl (same_pid w b)
-  came_step a b (Unlink ids) s h = came_other a (Unlink ids) s refl (same_pid w b)
   came_step a b (Signal.Exit r) s h = came_other a (Signal.Exit r) s (obey_keeps (λ s. s.watching) (λ w s. refl) (verdict false s.traps (same_pid a w) a r) s) (same_pid w b)
   came_step a b (LinkExit ids r) s h = came_other a (LinkExit ids r) s (link_exit_keeps (λ s. s.watching) (λ w s. refl) (λ l s. refl) (holds_any (held s.links a) ids) w s a r) (same_pid w b)
-  came_step a b (Monitor m) s h = came_other a (Monitor m) s refl (same_pid w b)
-  came_step a b (Demonitor m) s h = came_other a (Demonitor m) s refl (same_pid w b)
   came_step a b (Signal.Down n r) s h = came_down a n r s (h n) (same_pid w b)
-  came_step a b (AliveAsk m) s h = came_other a (AliveAsk m) s refl (same_pid w b)
-  came_step a b (AliveSay m x) s h = came_other a (AliveSay m x) s refl (same_pid w b)
+  came_step a b x s h = came_other a x s refl (same_pid w b)
 
   -- the other events ---------------------------------------------------------------------------------
 
@@ -116,16 +110,11 @@ module _ (w : Pid) where
   said_demonitor b m false s h = all_stay s.watching
 
   said_step : (a b : Pid) (x : Signal) (s : ProcessState) → ((n : Ref) → opens n s.watching ≤ 1) → OpenStep (after w (Said a b x) (living s)) (living s) (Said a b x)
-  said_step a b (Message body) s h = step_other (λ s. s) (λ s. refl) (same_pid w a) s
   said_step a b (Link i) s h = step_other (λ s. say s b (Link i)) (λ s. refl) (same_pid w a) s
   said_step a b (Unlink ids) s h = step_other (λ s. say s b (Unlink ids)) (λ s. refl) (same_pid w a) s
-  said_step a b (Signal.Exit r) s h = step_other (λ s. s) (λ s. refl) (same_pid w a) s
-  said_step a b (LinkExit ids r) s h = step_other (λ s. s) (λ s. refl) (same_pid w a) s
   said_step a b (Monitor m) s h = said_monitor b m (same_pid w a) s
   said_step a b (Demonitor m) s h = said_demonitor b m (same_pid w a) s (h m)
-  said_step a b (Signal.Down m r) s h = step_other (λ s. s) (λ s. refl) (same_pid w a) s
-  said_step a b (AliveAsk m) s h = step_other (λ s. s) (λ s. refl) (same_pid w a) s
-  said_step a b (AliveSay m x) s h = step_other (λ s. s) (λ s. refl) (same_pid w a) s
+  said_step a b _ s h = step_other (λ s. s) (λ s. refl) (same_pid w a) s
 
   born_living : (parent : Option Pid) (link : Option LinkId) (step : ProcessState → ProcessState) → ((s : ProcessState) → (step s).watching ≡ s.watching) → (t u : Bool) (s : ProcessState)
       → open_monitors (cond (t || u) (cond t (newborn parent link (living s)) (while_living step (living s))) (living s)) ≡ filter (λ k. true) s.watching ++ []
@@ -144,6 +133,7 @@ module _ (w : Pid) where
   living_step (Took q k i) s h = step_other (λ s. record s { waiting = without_first (fits k) s.waiting }) (λ s. refl) (same_pid w q) s
   living_step (Flag q on) s h = step_other (λ s. record s { traps = on }) (λ s. refl) (same_pid w q) s
   living_step (Left q r) s h = left_living (same_pid w q) r s
+  living_step _ s h = all_stay s.watching
 
   -- a process that is not alive opens nothing
   opens_alive : (a b : Pid) (x : Signal) (f : Phase) → (same_pid w a ≡ true → is_living f ≡ true) → is_living f ≡ false → monitor_opens w (Said a b x) ≡ []
@@ -162,6 +152,7 @@ module _ (w : Pid) where
   unborn_step (Took q k i) n = each_branch (λ g. open_monitors g ≡ []) (same_pid w q) _ _ refl refl
   unborn_step (Flag q on) n = each_branch (λ g. open_monitors g ≡ []) (same_pid w q) _ _ refl refl
   unborn_step (Left q r) n = each_branch (λ g. open_monitors g ≡ []) (same_pid w q) _ _ refl refl
+  unborn_step _ n = refl
 
   open_step : (e : Event) (f : Phase) → (is_living f ≡ false → monitor_opens w e ≡ []) → ((n : Ref) → opens n (state_of f).watching ≤ 1) → OpenStep (after w e f) f e
   open_step e unborn n h = unborn_step e (n refl)

@@ -6,7 +6,7 @@ use Rattle.std.proofs.lemmas.Bool.{and_parts}
 use Rattle.pt_signal.specs.declared.pid.Pid.{Pid}
 use Rattle.pt_signal.specs.declared.ids.Ref.{Ref}
 use Rattle.pt_signal.specs.declared.signal.Signal.{Signal}
-use Rattle.pt_signal.specs.declared.signal.Signal.TheVariants.{Message, Link, Unlink, LinkExit, Monitor, Demonitor, AliveAsk, AliveSay}
+use Rattle.pt_signal.specs.declared.signal.Signal.TheVariants.{LinkExit, Monitor, Demonitor}
 use Rattle.pt_events.specs.declared.event.Event.{Event}
 use Rattle.pt_events.specs.declared.event.Event.TheVariants.{Born, Said, Came, Took, Flag, Left}
 use Rattle.pt_signal.specs.Values.{same_pid, same_ref, without_first}
@@ -87,16 +87,11 @@ module _ (t : Pid) where
   came_demonitor w m false (ended r s) h = all_stay s.kept
 
   kept_step : (e : Event) (f : Phase) → KeptOnce (state_of f).kept → KeptStep (after t e f) f e
-  kept_step (Came a b (Message body)) f h = came_other a (Message body) (λ s. refl) (same_pid t b) f
-  kept_step (Came a b (Link i)) f h = came_other a (Link i) (λ s. refl) (same_pid t b) f
-  kept_step (Came a b (Unlink ids)) f h = came_other a (Unlink ids) (λ s. refl) (same_pid t b) f
   kept_step (Came a b (Signal.Exit r)) f h = came_other a (Signal.Exit r) (λ s. obey_keeps (λ s. s.kept) (λ w s. refl) (verdict false s.traps (same_pid a t) a r) s) (same_pid t b) f
   kept_step (Came a b (LinkExit ids r)) f h = came_other a (LinkExit ids r) (λ s. link_exit_keeps (λ s. s.kept) (λ w s. refl) (λ l s. refl) (holds_any (held s.links a) ids) t s a r) (same_pid t b) f
   kept_step (Came a b (Monitor m)) f h = came_monitor a m (same_pid t b) f
   kept_step (Came a b (Demonitor m)) f h = came_demonitor a m (same_pid t b) f h
   kept_step (Came a b (Signal.Down m r)) f h = came_other a (Signal.Down m r) (λ s. down_keeps (λ s. s.kept) (λ w s. refl) (λ l s. refl) (lookup (same_ref m) s.watching) s a m r) (same_pid t b) f
-  kept_step (Came a b (AliveAsk m)) f h = came_other a (AliveAsk m) (λ s. refl) (same_pid t b) f
-  kept_step (Came a b (AliveSay m x)) f h = came_other a (AliveSay m x) (λ s. refl) (same_pid t b) f
   kept_step (Born q parent link) f h = same_kept (after t (Born q parent link) f) f (born_keeps (λ s. s.kept) (λ l s. refl) t q parent link f)
   kept_step (Said a b x) f h =
       each_branch (λ g. (state_of g).kept ≡ filter (λ k. true) (state_of f).kept ++ []) (same_pid t a) _ _
@@ -107,19 +102,17 @@ module _ (t : Pid) where
       each_branch (λ g. (state_of g).kept ≡ filter (λ k. true) (state_of f).kept ++ []) (same_pid t q) _ _ (while_keeps (λ s. s.kept) _ (λ s. refl) f ∙ all_stay (state_of f).kept) (all_stay (state_of f).kept)
   kept_step (Left q r) f h =
       each_branch (λ g. (state_of g).kept ≡ filter (λ k. true) (state_of f).kept ++ []) (same_pid t q) _ _ (leaves_keeps (λ s. s.kept) r f ∙ all_stay (state_of f).kept) (all_stay (state_of f).kept)
+  kept_step (Came a b x) f h = came_other a x (λ s. refl) (same_pid t b) f
+  kept_step _ f h = all_stay (state_of f).kept
 
   -- no watch comes to be kept twice
   once_handled : (s : ProcessState) (a : Pid) (x : Signal) → KeptOnce s.kept → KeptOnce (handle t s a x).state.kept
   once_handled s a (Monitor m) h = once_more m a s.kept h
   once_handled s a (Demonitor m) h = once_less m a s.kept h
-  once_handled s a (Message body) h = h
-  once_handled s a (Link i) h = h
-  once_handled s a (Unlink ids) h = h
   once_handled s a (Signal.Exit r) h = rw (obey_keeps (λ s. s.kept) (λ w s. refl) (verdict false s.traps (same_pid a t) a r) s) h
   once_handled s a (LinkExit ids r) h = rw (link_exit_keeps (λ s. s.kept) (λ w s. refl) (λ l s. refl) (holds_any (held s.links a) ids) t s a r) h
   once_handled s a (Signal.Down m r) h = rw (down_keeps (λ s. s.kept) (λ w s. refl) (λ l s. refl) (lookup (same_ref m) s.watching) s a m r) h
-  once_handled s a (AliveAsk m) h = h
-  once_handled s a (AliveSay m x) h = h
+  once_handled s a _ h = h
 
   once_gets : (a : Pid) (x : Signal) (f : Phase) → KeptOnce (state_of f).kept → KeptOnce (state_of (gets t a x f)).kept
   once_gets a x unborn h = h
@@ -136,6 +129,7 @@ module _ (t : Pid) where
   once_step (Took q k i) f h = each_branch Once (same_pid t q) _ _ (subst KeptOnce (sym (while_keeps (λ s. s.kept) _ (λ s. refl) f)) h) h
   once_step (Flag q on) f h = each_branch Once (same_pid t q) _ _ (subst KeptOnce (sym (while_keeps (λ s. s.kept) _ (λ s. refl) f)) h) h
   once_step (Left q r) f h = each_branch Once (same_pid t q) _ _ (rw (leaves_keeps (λ s. s.kept) r f) h) h
+  once_step _ f h = h
 
 module _ (start : Start) (ok : KeepsEachOnce start) (t : Pid) where
   pub kept_once : (past : Past) → KeptOnce (state start past t).kept

@@ -6,7 +6,7 @@ use Rattle.pt_signal.specs.declared.ids.Ref.{Ref}
 use Rattle.pt_signal.specs.declared.ids.Ids.{Ids}
 use Rattle.pt_signal.specs.declared.reason.Reason.{Reason}
 use Rattle.pt_signal.specs.declared.signal.Signal.{Signal}
-use Rattle.pt_signal.specs.declared.signal.Signal.TheVariants.{Message, Link, Unlink, LinkExit, Monitor, Demonitor, AliveAsk, AliveSay}
+use Rattle.pt_signal.specs.declared.signal.Signal.TheVariants.{Link, LinkExit, Monitor, Demonitor, AliveAsk, AliveSay}
 use Rattle.pt_signal.specs.Values.{same_pid, same_ref}
 use Rattle.pt_signal.specs.Process.{ProcessState, handle, same_watch, Sent, sent, estate, bounce}
 use Rattle.pt_events.specs.History.{Phase, unborn, living, ended, gets, live_or_end, got_sends, end_sends, state_of}
@@ -111,16 +111,10 @@ module _ (w t : Pid) (m : Ref) where
   no_count false = refl
 
   bounce_down : (b a : Pid) (x : Signal) → count (carries t w (is_down m)) (bounce b a x) ≡ one_if ((same_pid w a && same_pid t b) && is_monitor m x)
-  bounce_down b a (Message body) = no_count _
   bounce_down b a (Link i) = let z = and_right (same_pid t b && same_pid w a) false refl in rw z (no_count _)
-  bounce_down b a (Unlink ids) = no_count _
-  bounce_down b a (Signal.Exit r) = no_count _
-  bounce_down b a (LinkExit ids r) = no_count _
   bounce_down b a (Monitor n) = let z = and_comm (same_pid t b) (same_pid w a) in rw z (omega arith)
-  bounce_down b a (Demonitor n) = no_count _
-  bounce_down b a (Signal.Down n r) = no_count _
   bounce_down b a (AliveAsk n) = let z = and_right (same_pid t b && same_pid w a) false refl in rw z (no_count _)
-  bounce_down b a (AliveSay n x) = no_count _
+  bounce_down b a _ = no_count _
 
   -- an open reference and a kept watch of a live process -----------------------------------------------
 
@@ -171,11 +165,6 @@ module _ (w t : Pid) (m : Ref) where
   -- no Demonitor of the pair, where a Monitor or nothing goes back
   not_both : (c : Bool) (x : Signal) → one_if (c && is_monitor m x) + one_if (c && is_demonitor m x) ≤ 1
   not_both false x = omega arith
-  not_both true (Message b) = omega arith
-  not_both true (Link i) = omega arith
-  not_both true (Unlink ids) = omega arith
-  not_both true (Signal.Exit r) = omega arith
-  not_both true (LinkExit ids r) = omega arith
   not_both true (Monitor n) = go (same_ref m n)
     where
       go : (b : Bool) → one_if b + 0 ≤ 1
@@ -186,9 +175,7 @@ module _ (w t : Pid) (m : Ref) where
       go : (b : Bool) → 0 + one_if b ≤ 1
       go true = omega arith
       go false = omega arith
-  not_both true (Signal.Down n r) = omega arith
-  not_both true (AliveAsk n) = omega arith
-  not_both true (AliveSay n x) = omega arith
+  not_both true _ = omega arith
 
   got_down_off : (f : Phase) (b a : Pid) (x : Signal) → same_pid t b ≡ false → count (carries t w (is_down m)) (got_sends f b a x) ≡ 0
   got_down_off unborn b a x e = bounce_down b a x ∙ pair_false (same_pid w a) (same_pid t b) (is_monitor m x) e

@@ -9,8 +9,8 @@ use Rattle.pt_signal.specs.declared.item.Item.{Item}
 use Rattle.pt_signal.specs.declared.reason.Reason.{Reason}
 use Rattle.pt_signal.specs.declared.reason.Reason.TheVariants.{Normal, Kill}
 use Rattle.pt_signal.specs.declared.signal.Signal.{Signal}
-use Rattle.pt_signal.specs.declared.signal.Signal.TheVariants.{Message, Link, Unlink, LinkExit, Monitor, Demonitor, AliveAsk, AliveSay}
-use Rattle.pt_events.specs.declared.event.Event.TheVariants.{Born, Said, Came, Took, Flag, Left}
+use Rattle.pt_signal.specs.declared.signal.Signal.TheVariants.{Link, LinkExit, Monitor, Demonitor, AliveAsk, AliveSay}
+use Rattle.pt_events.specs.declared.event.Event.TheVariants.{Said, Came, Left}
 use Rattle.pt_signal.specs.Values.{same_pid, same_ref, without_first}
 use Rattle.pt_signal.specs.Process.{ProcessState, verdict, obey, holds_any, held, link_exit, down, handle, Sent, sent, estate, bounce}
 use Rattle.pt_events.specs.History.{Past, Start, Phase, unborn, living, ended, life, state, is_living, is_unborn, is_ended, is_between, alive, flying, got_sends, left_sends, end_sends, items_of, arrives, arrived_since, MaySay, IsLegal}
@@ -78,28 +78,14 @@ module _ (q t : Pid) (m : Ref) where
   asked_by a b x = one_if ((same_pid q a && same_pid t b) && is_question m x)
 
   bounce_says : (b a : Pid) (x : Signal) → count says_so (bounce b a x) ≡ asked_by a b x
-  bounce_says b a (Message body) = no_count _
   bounce_says b a (Link i) = let z = and_right (same_pid t b && same_pid q a) false refl in rw z (no_count _)
-  bounce_says b a (Unlink ids) = no_count _
-  bounce_says b a (Signal.Exit r) = no_count _
-  bounce_says b a (LinkExit ids r) = no_count _
   bounce_says b a (Monitor n) = let z = and_right (same_pid t b && same_pid q a) false refl in rw z (no_count _)
-  bounce_says b a (Demonitor n) = no_count _
-  bounce_says b a (Signal.Down n r) = no_count _
   bounce_says b a (AliveAsk n) = let z = and_comm (same_pid t b) (same_pid q a) in rw z (omega arith)
-  bounce_says b a (AliveSay n x) = no_count _
+  bounce_says b a _ = no_count _
 
   answer_says : (b a : Pid) (x : Signal) → count says_so (living_answer b a x) ≡ asked_by a b x
-  answer_says b a (Message body) = no_count _
-  answer_says b a (Link i) = no_count _
-  answer_says b a (Unlink ids) = no_count _
-  answer_says b a (Signal.Exit r) = no_count _
-  answer_says b a (LinkExit ids r) = no_count _
-  answer_says b a (Monitor n) = no_count _
-  answer_says b a (Demonitor n) = no_count _
-  answer_says b a (Signal.Down n r) = no_count _
   answer_says b a (AliveAsk n) = let z = and_comm (same_pid t b) (same_pid q a) in rw z (omega arith)
-  answer_says b a (AliveSay n x) = no_count _
+  answer_says b a _ = no_count _
 
   got_says : (f : Phase) (b a : Pid) (x : Signal) → count says_so (got_sends f b a x) ≡ asked_by a b x
   got_says unborn b a x = bounce_says b a x
@@ -134,16 +120,11 @@ module _ (q t : Pid) (m : Ref) where
   said_by a x = one_if (is_saying m x && same_pid t a)
 
   handled : (me : Pid) (s : ProcessState) (a : Pid) (x : Signal) → answers_in (handle me s a x).items ≡ said_by a x
-  handled me s a (Message body) = refl
-  handled me s a (Link i) = refl
-  handled me s a (Unlink ids) = refl
   handled me s a (Signal.Exit r) = obeys s false s.traps (same_pid a me) a r
   handled me s a (LinkExit ids r) = link_exits (holds_any (held s.links a) ids) me s a r
-  handled me s a (Monitor n) = refl
-  handled me s a (Demonitor n) = refl
   handled me s a (Signal.Down n r) = downs (lookup (same_ref n) s.watching) s a n r
-  handled me s a (AliveAsk n) = refl
   handled me s a (AliveSay n x) = omega arith
+  handled me s a _ = refl
 
   pair : (c d e : Bool) → d ≡ true → one_if (e && c) ≡ one_if ((c && d) && e)
   pair true true true h = refl
@@ -174,11 +155,7 @@ module _ (q t : Pid) (m : Ref) where
         go : (c : Bool) → same_pid q a ≡ c → (is_unborn (life start past q) ≡ true → said_to q t (is_question m) past ≡ 0) → said_to q t (is_question m) (Said a b x ∷ past) ≡ 0
         go true e ih = absurd (lives (life start past q) before (subst (λ a. alive start past a ≡ true) (sym (same_pid_is q a e)) h.0.0))
         go false e ih = let k = ih before in rw e (omega arith)
-    unsaid (Born p parent link ∷ past) h u = let ih = unsaid past h.1 (was_unborn q (Born p parent link) (life start past q) u) in omega arith
-    unsaid (Came a b x ∷ past) h u = let ih = unsaid past h.1 (was_unborn q (Came a b x) (life start past q) u) in omega arith
-    unsaid (Took p k i ∷ past) h u = let ih = unsaid past h.1 (was_unborn q (Took p k i) (life start past q) u) in omega arith
-    unsaid (Flag p on ∷ past) h u = let ih = unsaid past h.1 (was_unborn q (Flag p on) (life start past q) u) in omega arith
-    unsaid (Left p r ∷ past) h u = let ih = unsaid past h.1 (was_unborn q (Left p r) (life start past q) u) in omega arith
+    unsaid (e ∷ past) h u = let ih = unsaid past h.1 (was_unborn q e (life start past q) u) in omega arith
 
     no_saying : (past : Past) (s : ProcessState) (a b : Pid) (x : Signal) → MaySay start past s a b x → is_saying m x ≡ false
     no_saying past s a b (AliveSay n x) h = absurd h
@@ -226,24 +203,6 @@ module _ (q t : Pid) (m : Ref) where
         (λ u. let v = unsaid past h.1 u in omega arith) ls
         in
         omega arith
-    balanced (Born p parent link ∷ past) h e =
-        let ih = balanced past h.1 (was_not_ended q (Born p parent link) (life start past q) e) in
-        let k = count-append asks (flying start past) [] in
-        let l = count-append says_so (flying start past) [] in
-        let r = count-append (is_answer m t) (arrived_since start past q) [] in
-        omega arith
-    balanced (Took p j i ∷ past) h e =
-        let ih = balanced past h.1 (was_not_ended q (Took p j i) (life start past q) e) in
-        let k = count-append asks (flying start past) [] in
-        let l = count-append says_so (flying start past) [] in
-        let r = count-append (is_answer m t) (arrived_since start past q) [] in
-        omega arith
-    balanced (Flag p on ∷ past) h e =
-        let ih = balanced past h.1 (was_not_ended q (Flag p on) (life start past q) e) in
-        let k = count-append asks (flying start past) [] in
-        let l = count-append says_so (flying start past) [] in
-        let r = count-append (is_answer m t) (arrived_since start past q) [] in
-        omega arith
     balanced (Left p w ∷ past) h e =
         let ih = balanced past h.1 (was_not_ended q (Left p w) (life start past q) e) in
         let k = count-append asks (flying start past) (left_sends (life start past p) p w) in
@@ -251,6 +210,12 @@ module _ (q t : Pid) (m : Ref) where
         let r = count-append (is_answer m t) (arrived_since start past q) [] in
         let na = left_none q t (is_question m) (λ ids r. refl) (λ n r. refl) (λ n. refl) (life start past p) p w in
         let ns = left_none t q (is_saying m) (λ ids r. refl) (λ n r. refl) (λ n. refl) (life start past p) p w in
+        omega arith
+    balanced (ev ∷ past) h e =
+        let ih = balanced past h.1 (was_not_ended q ev (life start past q) e) in
+        let k = count-append asks (flying start past) [] in
+        let l = count-append says_so (flying start past) [] in
+        let r = count-append (is_answer m t) (arrived_since start past q) [] in
         omega arith
 
     pub quiet_answers : (past : Past) → IsLegal start past → IsQuiet start past → alive start past q ≡ true

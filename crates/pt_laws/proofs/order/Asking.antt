@@ -11,9 +11,9 @@ use Rattle.pt_signal.specs.declared.item.Item.{Item}
 use Rattle.pt_signal.specs.declared.reason.Reason.{Reason}
 use Rattle.pt_signal.specs.declared.reason.Reason.TheVariants.{Normal, Kill}
 use Rattle.pt_signal.specs.declared.signal.Signal.{Signal}
-use Rattle.pt_signal.specs.declared.signal.Signal.TheVariants.{Message, Link, Unlink, LinkExit, Monitor, Demonitor, AliveAsk, AliveSay}
+use Rattle.pt_signal.specs.declared.signal.Signal.TheVariants.{Message, Link, LinkExit, Monitor, Demonitor, AliveAsk, AliveSay}
 use Rattle.pt_events.specs.declared.event.Event.{Event}
-use Rattle.pt_events.specs.declared.event.Event.TheVariants.{Born, Said, Came, Took, Flag, Left}
+use Rattle.pt_events.specs.declared.event.Event.TheVariants.{Said, Came, Left}
 use Rattle.pt_signal.specs.Values.{same_pid, same_ref, without_first}
 use Rattle.pt_signal.specs.Process.{ProcessState, verdict, obey, holds_any, held, link_exit, down, handle, Sent, sent, estate, bounce}
 use Rattle.pt_events.specs.History.{Past, Start, Phase, unborn, living, ended, is_living, life, alive, state, is_between, landed, flying, sent_by, got_sends, left_sends, end_sends, items_of, arrives, arrived_since, emitted, came, MaySay, May, IsLegal}
@@ -184,15 +184,11 @@ module _ (start : Start) where
 
   handled : (past : Past) (q : Pid) (s : ProcessState) (a : Pid) (x : Signal) → Tells start past a q x → Each (TellsItem start past q) (handle q s a x).items
   handled past q s a (Message b) h = (tt, tt)
-  handled past q s a (Link i) h = tt
-  handled past q s a (Unlink ids) h = tt
   handled past q s a (Signal.Exit r) h = obeyed past q s false s.traps (same_pid a q) a r
   handled past q s a (LinkExit ids r) h = link_exited past q (holds_any (held s.links a) ids) q s a r
-  handled past q s a (Monitor m) h = tt
-  handled past q s a (Demonitor m) h = tt
   handled past q s a (Signal.Down m r) h = downed past q (lookup (same_ref m) s.watching) s a m r
-  handled past q s a (AliveAsk m) h = tt
   handled past q s a (AliveSay m x) h = (h, tt)
+  handled past q s a _ h = tt
 
   items_tell : (past : Past) (q a : Pid) (x : Signal) (f : Phase) → Tells start past a q x → Each (TellsItem start past q) (items_of f q a x)
   items_tell past q a x unborn h = tt
@@ -309,9 +305,7 @@ module _ (start : Start) (q t : Pid) (m : Ref) where
   newly past (Said a b x) pre rest post e f = just_said past a b x pre rest post e f
   newly past (Came a b x) pre rest post e f = absurd (never_there _ rest post (no_ask_got (life start past b) b a x) f)
   newly past (Left p r) pre rest post e f = absurd (never_there _ rest post (no_ask_left (life start past p) p r) f)
-  newly past (Born p parent link) pre rest post e f = absurd (never_there [] rest post tt f)
-  newly past (Took p k i) pre rest post e f = absurd (never_there [] rest post tt f)
-  newly past (Flag p on) pre rest post e f = absurd (never_there [] rest post tt f)
+  newly past _ pre rest post e f = absurd (never_there [] rest post tt f)
 
   -- a question that is among what q sent t was said when all before it had been sent
   was_said : (past : Past) (pre post : List Signal) → emitted start past q t ≡ pre ++ AliveAsk m ∷ post → SaidThen start past q t m pre

@@ -11,7 +11,7 @@ use Rattle.pt_signal.specs.declared.pid.Pid.{Pid}
 use Rattle.pt_signal.specs.declared.item.Item.{Item}
 use Rattle.pt_signal.specs.declared.item.Pick.{Pick}
 use Rattle.pt_events.specs.declared.event.Event.{Event}
-use Rattle.pt_events.specs.declared.event.Event.TheVariants.{Born, Said, Came, Took, Flag, Left}
+use Rattle.pt_events.specs.declared.event.Event.TheVariants.{Took}
 use Rattle.pt_signal.specs.Values.{same_pid, fits, without_first}
 use Rattle.pt_events.specs.History.{Past, Start, state, state_of, at_start, arrived, arrived_since, arrives}
 use Rattle.pt_laws.specs.Acts.{ActsMayCome}
@@ -285,8 +285,4 @@ module _ (start : Start) (p : Pid) where
           go : (b : Bool) → left_waiting (cond b (take_first k (arrivals start past p)) (arrivals start past p)) ≡ cond b (without_first (fits k) (state start past p).waiting) (state start past p).waiting
           go true = take_first_waiting k (arrivals start past p) ∙ ap (without_first (fits k)) (waits start p past h.1)
           go false = waits start p past h.1
-  placed (Born q parent link ∷ past) h = arrive_next past (Born q parent link) h refl (placed past h.1)
-  placed (Said a b x ∷ past) h = arrive_next past (Said a b x) h refl (placed past h.1)
-  placed (Came a b x ∷ past) h = arrive_next past (Came a b x) h refl (placed past h.1)
-  placed (Flag q on ∷ past) h = arrive_next past (Flag q on) h refl (placed past h.1)
-  placed (Left q r ∷ past) h = arrive_next past (Left q r) h refl (placed past h.1)
+  placed (e ∷ past) h = arrive_next past e h refl (placed past h.1)

@@ -11,9 +11,9 @@ use Rattle.pt_signal.specs.declared.letter.Letter.{Letter}
 use Rattle.pt_signal.specs.declared.reason.Reason.{Reason}
 use Rattle.pt_signal.specs.declared.reason.Reason.TheVariants.{Normal, Kill}
 use Rattle.pt_signal.specs.declared.signal.Signal.{Signal}
-use Rattle.pt_signal.specs.declared.signal.Signal.TheVariants.{Message, Link, Unlink, LinkExit, Monitor, Demonitor, AliveAsk, AliveSay}
+use Rattle.pt_signal.specs.declared.signal.Signal.TheVariants.{Message, Link, LinkExit, Monitor, Demonitor, AliveAsk}
 use Rattle.pt_events.specs.declared.event.Event.{Event}
-use Rattle.pt_events.specs.declared.event.Event.TheVariants.{Born, Said, Came, Took, Flag, Left}
+use Rattle.pt_events.specs.declared.event.Event.TheVariants.{Said, Came, Left}
 use Rattle.pt_events.specs.declared.event.Stamped.{Stamped}
 use Rattle.pt_signal.specs.Values.{same_pid, same_ref}
 use Rattle.pt_signal.specs.Process.{ProcessState, Sent, sent, verdict, obey, holds_any, held, link_exit, down, handle, estate, bounce}
@@ -125,15 +125,10 @@ both2 a p false = refl
 -- a live process gets a message from a exactly where one came
 user_items : (a p me : Pid) (s : ProcessState) (c : Pid) (x : Signal) → users a p (handle me s c x).items ≡ cond (same_pid a c) (body_of x) []
 user_items a p me s c (Message b) = append-nil _
-user_items a p me s c (Link i) = both _
-user_items a p me s c (Unlink ids) = both _
 user_items a p me s c (Signal.Exit r) = no_user a p s false s.traps (same_pid c me) c r ∙ both _
 user_items a p me s c (LinkExit ids r) = no_user_by_link a p (holds_any (held s.links c) ids) me s c r ∙ both _
-user_items a p me s c (Monitor m) = both _
-user_items a p me s c (Demonitor m) = both _
 user_items a p me s c (Signal.Down m r) = no_user_down a p (lookup (same_ref m) s.watching) s c m r ∙ both _
-user_items a p me s c (AliveAsk m) = both _
-user_items a p me s c (AliveSay m x) = both _
+user_items a p me s c _ = both _
 
 -- what the event adds to the three parts, by the phase
 module _ (a p : Pid) where
@@ -258,12 +253,10 @@ module _ (a p : Pid) where
 
   bodies_of_event : (start : Start) (past : Past) (e : Event) → bodies (sent_by start past e) ≡ said_by a p e
   unfolding bodies
-  bodies_of_event start past (Born q parent link) = refl
   bodies_of_event start past (Said c d x) = append-nil _
   bodies_of_event start past (Came c d x) = bodies_of_got (life start past d) d c x
-  bodies_of_event start past (Took q k i) = refl
-  bodies_of_event start past (Flag q on) = refl
   bodies_of_event start past (Left q r) = bodies_of_left (life start past q) q r
+  bodies_of_event start past _ = refl
 
   messages_of_letters : (n : ℕ) (ls : List Sent) → messages a p (map (letter n) ls) ≡ bodies ls
   unfolding bodies

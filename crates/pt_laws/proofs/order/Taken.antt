@@ -10,7 +10,7 @@ use Rattle.pt_signal.specs.declared.item.Pick.{Pick}
 use Rattle.pt_signal.specs.declared.item.Item.{Item}
 use Rattle.pt_signal.specs.declared.reason.Reason.{Reason}
 use Rattle.pt_signal.specs.declared.signal.Signal.{Signal}
-use Rattle.pt_signal.specs.declared.signal.Signal.TheVariants.{Message, Link, Unlink, LinkExit, Monitor, Demonitor, AliveAsk, AliveSay}
+use Rattle.pt_signal.specs.declared.signal.Signal.TheVariants.{Message, LinkExit, AliveSay}
 use Rattle.pt_events.specs.declared.event.Event.{Event}
 use Rattle.pt_events.specs.declared.event.Event.TheVariants.{Born, Said, Came, Took, Flag, Left}
 use Rattle.pt_signal.specs.Values.{same_pid, same_ref, fits, without_first}
@@ -64,15 +64,11 @@ downed (Some t) s from m r = refl
 
 pub handle_queues : (me : Pid) (s : ProcessState) (from : Pid) (x : Signal) → (handle me s from x).state.waiting ≡ s.waiting ++ (handle me s from x).items
 handle_queues me s from (Message b) = refl
-handle_queues me s from (Link i) = sym (append-nil s.waiting)
-handle_queues me s from (Unlink ids) = sym (append-nil s.waiting)
 handle_queues me s from (Signal.Exit r) = obeyed (verdict false s.traps (same_pid from me) from r) s
 handle_queues me s from (LinkExit ids r) = link_exited (holds_any (held s.links from) ids) me s from r
-handle_queues me s from (Monitor m) = sym (append-nil s.waiting)
-handle_queues me s from (Demonitor m) = sym (append-nil s.waiting)
 handle_queues me s from (Signal.Down m r) = downed (lookup (same_ref m) s.watching) s from m r
-handle_queues me s from (AliveAsk m) = sym (append-nil s.waiting)
 handle_queues me s from (AliveSay m x) = refl
+handle_queues me s from _ = sym (append-nil s.waiting)
 
 -- positions -----------------------------------------------------------------------------------
 
@@ -133,3 +129,4 @@ module _ (start : Start) (p : Pid) where
   waits (Left q r ∷ past) h =
       nothing_more (arrivals start past p) ∙ waits past h.1
       ∙ sym (each_branch (λ g. (state_of g).waiting ≡ (state start past p).waiting) (same_pid p q) _ _ (leaves_keeps (λ s. s.waiting) r (life start past p)) refl)
+  waits (_ ∷ past) h = nothing_more (arrivals start past p) ∙ waits past h.1

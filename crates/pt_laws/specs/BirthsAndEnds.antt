@@ -6,16 +6,12 @@ use Rattle.pt_signal.specs.declared.reason.Reason.{Reason}
 use Rattle.pt_signal.specs.declared.signal.Signal.{Signal}
 use Rattle.pt_signal.specs.declared.signal.Signal.TheVariants.{LinkExit}
 use Rattle.pt_events.specs.declared.event.Event.{Event}
-use Rattle.pt_events.specs.declared.event.Event.TheVariants.{Born, Came, Left}
+use Rattle.pt_events.specs.declared.event.Event.TheVariants.{Came, Left}
 use Rattle.pt_signal.specs.Values.{same_pid}
 use Rattle.pt_signal.specs.Process.{ProcessState, Verdict, ends, verdict, held, holds_any}
-use Rattle.pt_events.specs.History.{Past, Start, Phase, living, ended, at_start, life, alive, arrived, is_unborn, is_ended, reason_of}
+use Rattle.pt_events.specs.History.{Past, Start, Phase, living, ended, at_start, life, alive, arrived, is_birth, is_unborn, is_ended, reason_of}
 use Rattle.pt_laws.specs.Acts.{ActsMayCome}
 use Rattle.pt_laws.specs.Load.{one_if}
-
-abbrev pub is_birth : Pid → Event → Bool
-is_birth p (Born q parent link) = same_pid p q
-is_birth p _ = false
 
 abbrev pub ended_by : Verdict → Option Reason
 ended_by (ends r) = Some r
