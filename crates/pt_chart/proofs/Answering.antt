@@ -14,15 +14,7 @@ back_to me from (AliveAsk n) m y =
     let one : sent me from (AliveSay n true) ≡ y.0 = cc in
     let same : AliveSay n true ≡ AliveSay m true = ap (λ (l : Sent). l.signal) one ∙ y.2 in
     ap (λ z. sent me from z ∷ []) same
-back_to me from (Message b) m y = let no : [] ≡ y.0 ∷ [] = y.1 in absurd (cc)
-back_to me from (Link i) m y = let no : [] ≡ y.0 ∷ [] = y.1 in absurd (cc)
-back_to me from (Unlink i) m y = let no : [] ≡ y.0 ∷ [] = y.1 in absurd (cc)
-back_to me from (LinkExit i r) m y = let no : [] ≡ y.0 ∷ [] = y.1 in absurd (cc)
-back_to me from (Monitor i) m y = let no : [] ≡ y.0 ∷ [] = y.1 in absurd (cc)
-back_to me from (Demonitor i) m y = let no : [] ≡ y.0 ∷ [] = y.1 in absurd (cc)
-back_to me from (AliveSay i b) m y = let no : [] ≡ y.0 ∷ [] = y.1 in absurd (cc)
-back_to me from (Signal.Exit r) m y = let no : [] ≡ y.0 ∷ [] = y.1 in absurd (cc)
-back_to me from (Signal.Down i r) m y = let no : [] ≡ y.0 ∷ [] = y.1 in absurd (cc)
+back_to me from _ m y = let no : [] ≡ y.0 ∷ [] = y.1 in absurd (cc)
 
 pub back_is : (me from : Pid) (x : Signal) (s : ProcessState) (m : Ref) → IsYes m (handle me s from x).answer → (handle me s from x).answer ≡ sent me from (AliveSay m true) ∷ []
 back_is me from x s m y = handle_answer me s from x ∙ back_to me from x m (subst (IsYes m) (handle_answer me s from x) y)

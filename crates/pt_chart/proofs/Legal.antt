@@ -26,24 +26,12 @@ closed_anew m (living s) h = h
 closed_anew m (ended r s) h = tt
 
 said_anew : (past : Past) (p a b : Pid) (x : Signal) (s : ProcessState) → MaySay [] past s a b x → IsAnew x (live_state (life [] past p))
-said_anew past p a b (Message y) s may = tt
-said_anew past p a b (Signal.Exit r) s may = tt
-said_anew past p a b (Link i) s may = tt
-said_anew past p a b (Unlink ids) s may = tt
 said_anew past p a b (Monitor m) s may = closed_anew m (life [] past p) (unmade_closed m past p may.0)
-said_anew past p a b (Demonitor m) s may = tt
-said_anew past p a b (LinkExit ids r) s may = tt
-said_anew past p a b (Signal.Down m r) s may = tt
-said_anew past p a b (AliveAsk m) s may = tt
-said_anew past p a b (AliveSay m y) s may = tt
+said_anew past p a b _ s may = tt
 
 opens_anew : (past : Past) (p : Pid) (e : Event) → May [] past e → OpensAnew e (followed p (life [] past p))
-opens_anew past p (Born q parent link) may = tt
 opens_anew past p (Said a b x) may = said_anew past p a b x (state [] past a) may.1
-opens_anew past p (Came a b x) may = tt
-opens_anew past p (Took q k i) may = tt
-opens_anew past p (Flag q on) may = tt
-opens_anew past p (Left q r) may = tt
+opens_anew past p _ may = tt
 
 -- the law
 pub monitors_anew : (past : Past) (p : Pid) → IsLegal [] past → MonitorsAnew past p

@@ -58,6 +58,7 @@ seen_after p (Came a b x) f = got p a x (same_pid p b) f
 seen_after p (Took q k i) f = stepped p (λ s. record s { waiting = without_first (fits k) s.waiting }) (same_pid p q) f
 seen_after p (Flag q on) f = stepped p (λ s. record s { traps = on }) (same_pid p q) f
 seen_after p (Left q r) f = left p r (same_pid p q) f
+seen_after p _ f = refl
 
 -- what it sends ----------------------------------------------------------------------------------------
 
@@ -89,6 +90,7 @@ sends_own past p (Took q k i) = either_way (same_pid p q) []
 sends_own past p (Flag q on) = either_way (same_pid p q) []
 sends_own past p (Left q r) =
     own p q (same_pid p q) refl (λ z. left_sends (life [] past z) z r) ∙ ap (λ z. cond (same_pid p q) z []) (left_phase p r (life [] past p))
+sends_own past p _ = refl
 
 -- its end ------------------------------------------------------------------------------------------------
 
@@ -122,14 +124,12 @@ ends_live p (Came a b x) s row before =
 ends_live p (Took q k i) s row before = still s (record s { waiting = without_first (fits k) s.waiting }) (same_pid p q) row before
 ends_live p (Flag q on) s row before = still s (record s { traps = on }) (same_pid p q) row before
 ends_live p (Left q r) s row before = by_test s (same_pid p q) (ended r s) (Some r) row before refl
+ends_live p _ s row before = refl
 
 not_live : (p : Pid) (e : Event) (row : ℕ) (before : Option (ℕ × Reason)) (b : Bool) → before ≡ noted row (ends e (record { me = p; born = b; state = None })) before
-not_live p (Born q parent link) row before b = refl
-not_live p (Said a c x) row before b = refl
 not_live p (Came a c x) row before b = none_noted (same_pid p c) row before
-not_live p (Took q k i) row before b = refl
-not_live p (Flag q on) row before b = refl
 not_live p (Left q r) row before b = none_noted (same_pid p q) row before
+not_live p _ row before b = refl
 
 pub ends_after : (p : Pid) (e : Event) (f : Phase) (row : ℕ) (before : Option (ℕ × Reason)) → end_between f (after p e f) row before ≡ noted row (ends e (followed p f)) before
 ends_after p e unborn row before = not_live p e row before false

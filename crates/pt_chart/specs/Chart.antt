@@ -6,9 +6,9 @@ use Rattle.pt_signal.specs.declared.reason.Reason.{Reason}
 use Rattle.pt_signal.specs.Values.{same_pid}
 use Rattle.pt_signal.specs.Process.{Sent}
 use Rattle.pt_events.specs.declared.event.Event.{Event}
-use Rattle.pt_events.specs.declared.event.Event.TheVariants.{Born, Said, Came, Took, Flag, Left}
+use Rattle.pt_events.specs.declared.event.Event.TheVariants.{Born, Said, Came, Took, Flag, Left, Refused}
 use Rattle.pt_events.specs.declared.event.Stamped.{Stamped}
-use Rattle.pt_events.specs.History.{Past, Phase, living, ended, life, touches, sent_by, IsLegal}
+use Rattle.pt_events.specs.History.{Past, Phase, is_birth, living, ended, life, touches, sent_by, IsLegal}
 use Rattle.pt_events.specs.Journal.{events}
 use Rattle.pt_chart.specs.declared.layout.Sending.{Sending}
 use Rattle.pt_chart.specs.declared.layout.Arrow.{Arrow}
@@ -18,7 +18,7 @@ use Rattle.pt_chart.specs.Following.{followed, OpensAnew}
 
 -- columns -------------------------------------------------------------------------------------------
 
--- whom an event names
+-- who has a column for the event
 abbrev pub named : Event → List Pid
 named (Born p None link) = p ∷ []
 named (Born p (Some q) link) = q ∷ p ∷ []
@@ -27,6 +27,7 @@ named (Came a b x) = a ∷ b ∷ []
 named (Took p k i) = p ∷ []
 named (Flag p on) = p ∷ []
 named (Left p r) = p ∷ []
+named (Refused a b) = a ∷ []
 
 -- one more stands behind the others, unless it is among them
 abbrev pub join : List Pid → Pid → List Pid
@@ -42,10 +43,6 @@ everyone events = fold (λ ps s. joined ps (named s.event)) [] events
 -- the column of a process
 abbrev pub place : List Pid → Pid → ℕ
 place ps p = unwrap_or (position (same_pid p) ps) (length ps)
-
-abbrev pub is_birth : Pid → Event → Bool
-is_birth p (Born q parent link) = same_pid p q
-is_birth p _ = false
 
 -- what a process sends, and its end -------------------------------------------------------------------
 

@@ -10,7 +10,7 @@ use Rattle.pt_signal.specs.declared.signal.Signal.TheVariants.{Monitor}
 use Rattle.pt_signal.specs.Values.{same_pid, same_ref, fits, without_first}
 use Rattle.pt_signal.specs.Process.{ProcessState, Sent, fresh, handle, say, sent, estate, bounce}
 use Rattle.pt_events.specs.declared.event.Event.{Event}
-use Rattle.pt_events.specs.declared.event.Event.TheVariants.{Born, Said, Came, Took, Flag, Left}
+use Rattle.pt_events.specs.declared.event.Event.TheVariants.{Born, Said, Came, Took, Flag, Left, Refused}
 use Rattle.pt_events.specs.History.{Phase, living, linked, is_the, is_unborn, end_sends}
 
 pub record Followed : Type 0 where
@@ -49,6 +49,7 @@ seen (Came a b x) w = cond (same_pid w.me b) (record w { state = gets w.me a x w
 seen (Took q k i) w = cond (same_pid w.me q) (changes (λ s. record s { waiting = without_first (fits k) s.waiting }) w) w
 seen (Flag q on) w = cond (same_pid w.me q) (changes (λ s. record s { traps = on }) w) w
 seen (Left q r) w = cond (same_pid w.me q) (record w { state = None }) w
+seen (Refused a b) w = w
 
 -- what it sends by the event ------------------------------------------------------------------------
 

@@ -40,15 +40,19 @@ fn longest(alloc: Global, events: &[Stamped]) -> Result<usize, AllocError> {
     Ok(longest)
 }
 
-/// How many characters the longest label has that stands right of the last column: what a process sends to itself, or
-/// why it ends.
+/// How many characters the longest label has that stands right of the last column: what a process sends to itself, a
+/// call that was refused, or why it ends.
 fn beside(alloc: Global, events: &[Stamped]) -> Result<usize, AllocError> {
     let mut longest = "other:4294967295".len();
     for stamped in events {
-        if let Event::Said(from, to, signal) = stamped.event {
-            if from == to {
+        match stamped.event {
+            Event::Said(from, to, signal) if from == to => {
                 longest = format!(in alloc; "{signal}")?.len().max(longest);
             }
+            Event::Refused(_, to) => {
+                longest = format!(in alloc; "refused {to}")?.len().max(longest);
+            }
+            _ => {}
         }
     }
     Ok(longest)
@@ -224,6 +228,7 @@ impl Drawing {
             }
             Event::Flag(pid, on) => self.flag(self.column(layout, pid), y, on),
             Event::Left(_, _) => Ok(()),
+            Event::Refused(from, to) => self.refusal(self.column(layout, from), y, to),
         }
     }
 
@@ -278,6 +283,17 @@ impl Drawing {
             self.text,
             "<text class=\"label\" x=\"{beside}\" y=\"{base}\">{flag}</text>"
         )
+    }
+
+    /// A refused call, at its sayer: the process that had ended.
+    fn refusal(&mut self, x: u64, y: u64, to: Pid) -> Result<(), AllocError> {
+        let (beside, base) = (x.saturating_add(6), y.saturating_sub(4));
+        write!(
+            self.text,
+            "<text class=\"label exit-label\" x=\"{beside}\" y=\"{base}\">refused "
+        )?;
+        self.escaped(to)?;
+        self.text.push_str("</text>\n")
     }
 
     /// A cross where a process ends, with the reason.

@@ -81,6 +81,7 @@ impl Follower {
                 Ok(None)
             }
             Event::Left(pid, reason) => self.see_end(row, pid, reason, sent),
+            Event::Refused(_, _) => Ok(None),
         }
     }
 

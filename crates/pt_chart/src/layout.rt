@@ -3,7 +3,8 @@
 ghost use Rattle.std.specs.Prelude.{◌≡◌, [], All, IfOk, OnOk, position, slice_get};
 ghost use Rattle.std.specs.List.{list_any};
 ghost use Rattle.pt_signal.specs.Values.{same_pid};
-ghost use Rattle.pt_chart.specs.Chart.{IsLayout, IsColumn, IsLegalHistory, ShowsLife, everyone, join, joined, named, place, receipts, is_receipt, is_birth, arrow, arrows};
+ghost use Rattle.pt_events.specs.History.{is_birth};
+ghost use Rattle.pt_chart.specs.Chart.{IsLayout, IsColumn, IsLegalHistory, ShowsLife, everyone, join, joined, named, place, receipts, is_receipt, arrow, arrows};
 ghost use Rattle.pt_chart.specs.Following.{noted};
 
 use crate::follower::Follower;
@@ -103,7 +104,8 @@ fn name(pids: &mut Vec<Pid>, event: Event) -> Result<(), AllocError>
         Event::Born(pid, None, _)
         | Event::Took(pid, _, _)
         | Event::Flag(pid, _)
-        | Event::Left(pid, _) => join(pids, pid),
+        | Event::Left(pid, _)
+        | Event::Refused(pid, _) => join(pids, pid),
     }
 }
 

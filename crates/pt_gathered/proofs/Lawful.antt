@@ -59,14 +59,14 @@ module _ (g : GatheredState) (whole : IsGathered g) where
   keeps_headline law empty = law [] g.config.start g.config.top_version (journals g) (over g) (empty g.config.start) locals lanes_agree
 
   pub legal_node : MergeLegal → IsLegalNode g
-  legal_node law merged m = law [] g.config.start g.config.top_version (journals g) (over g) merged locals lanes_agree m
+  legal_node law merged m = law [] g.config.start g.config.top_version (journals g) (over g) merged locals lanes_agree whole.refusals m
 
   has_desks : HasDesks (length g.shards) [] (journals g) (over g)
   has_desks = record { journals = past_end; lanes = over_right g; begun = λ p h. refl }
 
   -- the load desk by desk is that of the history
   pub load_is : LoadByDesk → (merged : List Stamped) → IsMerge (journals g) merged → load_of g ≡ load [] (events merged)
-  load_is law merged m = law [] g.config.start g.config.top_version (length g.shards) (journals g) (over g) merged locals lanes_agree m has_desks
+  load_is law merged m = law [] g.config.start g.config.top_version (length g.shards) (journals g) (over g) merged locals lanes_agree whole.refusals m has_desks
 
   nothing_over : NothingLeft g → (d e : ℕ) → over g d e ≡ []
   nothing_over none d e =
@@ -80,7 +80,7 @@ module _ (g : GatheredState) (whole : IsGathered g) where
 
   pub links_stand : IsQuietNode g → MergeLinks → LinksStand g
   links_stand quiet links merged p q m other lives =
-      links g.config.start g.config.top_version (journals g) (over g) merged p q locals lanes_agree m (quiet merged m).1 other lives
+      links g.config.start g.config.top_version (journals g) (over g) merged p q locals lanes_agree whole.refusals m (quiet merged m).1 other lives
 
   pub watches_stand : IsQuietNode g → QuietMonitor → QuietWatch → WatchesStand g
   watches_stand quiet monitors watches merged w t m is =

@@ -19,11 +19,7 @@ use Rattle.pt_gathered.proofs.Loads.{load_lowered}
 AllCame-append : (xs ys : Past) → AllCame xs → AllCame ys → AllCame (xs ++ ys)
 AllCame-append [] ys h k = k
 AllCame-append (Came a b x ∷ xs) ys h k = AllCame-append xs ys h k
-AllCame-append (Born p q i ∷ xs) ys h k = absurd h
-AllCame-append (Said a b x ∷ xs) ys h k = absurd h
-AllCame-append (Took p q i ∷ xs) ys h k = absurd h
-AllCame-append (Flag p on ∷ xs) ys h k = absurd h
-AllCame-append (Left p r ∷ xs) ys h k = absurd h
+AllCame-append (_ ∷ xs) ys h k = absurd h
 
 pub follows_same : (journal : List Stamped) → Follows journal journal
 follows_same journal = record { more = []; is = refl; receipts = tt }

@@ -4,7 +4,10 @@ use Rattle.std.specs.Prelude.{slice_get, ◌⊎◌, Ok, Err}
 use Rattle.std.proofs.lemmas.Bool.{eqb-true, eq-eqb, ne_eqb, both_ways, cases_order}
 use Rattle.std.proofs.lemmas.List.{get_or_default, get_or-set_same, get_or-set_other, length-set}
 use Rattle.pt_signal.specs.declared.letter.Letter.{Letter}
+use Rattle.pt_events.specs.declared.event.Stamped.{Stamped}
 use Rattle.pt_events.specs.Journal.{clock}
+use Rattle.pt_events.specs.Refusals.{AllTrueRefusals, RefusalsAreTrue}
+use Rattle.pt_events.proofs.Refusals.{still_true_refusals}
 use Rattle.pt_gathered.proofs.Boxes.{put_at}
 use Rattle.pt_carrier.proofs.Lists.{get_or-map_read, get_or-map_set_same, get_or-map_set_other, map-set_same, map-through, length-map_same}
 use Rattle.pt_carrier.proofs.Rooms.{place_before}
@@ -339,12 +342,36 @@ module _ (config : Config) (shards : List ShardState) (lanes : List (List Letter
       left = over_two;
     }
 
+    more : ℕ → List Stamped
+    more k = cond (k == e) (receipt config.start e l (journal_at shards e) ∷ []) []
+
+    grew : (k : ℕ) → journal_at shards2 k ≡ more k ++ journal_at shards k
+    grew k = journal_two k ∙ go (k == e)
+      where
+        go : (b : Bool)
+            → cond b (receipt config.start e l (journal_at shards e) ∷ journal_at shards k) (journal_at shards k)
+            ≡ cond b (receipt config.start e l (journal_at shards e) ∷ []) [] ++ journal_at shards k
+        go true = refl
+        go false = refl
+
+    -- a receipt is no refused call, and those that there are stay true
+    refusals_two : RefusalsAreTrue [] (journal_at shards2)
+    refusals_two k =
+        subst (AllTrueRefusals [] (journal_at shards2)) (sym (grew k))
+        (go (k == e) (still_true_refusals [] (journal_at shards) (journal_at shards2) more grew (journal_at shards k) (whole.refusals k)))
+      where
+        go : (b : Bool) → AllTrueRefusals [] (journal_at shards2) (journal_at shards k)
+            → AllTrueRefusals [] (journal_at shards2) (cond b (receipt config.start e l (journal_at shards e) ∷ []) [] ++ journal_at shards k)
+        go true h = (tt, h)
+        go false h = h
+
     pub gathered_after : AreShards config shards2 → IsGathered new_node
     gathered_after fit = record {
       desks = count2 ∙ whole.desks;
       lanes = took.lane_count ∙ whole.lanes ∙ ap (λ n. n * n) (sym count2);
       shards = fit;
       agree = λ i k hi hk. agree_step old_node new_node whole d e l receives d_in e_in i k (omega (arith, hi, count2)) (omega (arith, hk, count2));
+      refusals = refusals_two;
     }
 
 -- the receiver and the sender of the first letter are of the two desks

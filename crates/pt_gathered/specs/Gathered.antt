@@ -2,6 +2,7 @@
 use Rattle.std.specs.Prelude.{◌≡◌, ℕ, ◌+◌, ◌*◌, ◌<◌, nat_lt, Bool, cond, List, [], ◌++◌, length, map, slice_index_or, Option, None}
 use Rattle.pt_signal.specs.declared.letter.Letter.{Letter}
 use Rattle.pt_events.specs.Journal.{Journals, posts, gots, Agrees}
+use Rattle.pt_events.specs.Refusals.{RefusalsAreTrue}
 use Rattle.pt_shard.specs.declared.config.Config.{Config}
 use Rattle.pt_shard.specs.ShardState.{ShardState}
 use Rattle.pt_shard.specs.Outbox.{held_from}
@@ -46,3 +47,4 @@ pub record IsGathered (g : GatheredState) : Type 0 where
   pub lanes : length g.lanes ≡ length g.shards * length g.shards
   pub shards : (d : ℕ) (x : ShardState) → d < length g.shards → IsShardOf g.config d (slice_index_or g.shards d x)
   pub agree : (d e : ℕ) → d < length g.shards → e < length g.shards → Agrees (posts [] (journals g d) e) (gots (journals g e) d) (over_in g.shards g.lanes d e)
+  pub refusals : RefusalsAreTrue [] (journals g)

@@ -6,7 +6,7 @@ use Rattle.pt_signal.specs.declared.ids.LinkId.{LinkId}
 use Rattle.pt_judge.specs.declared.cause.Cause.{Cause}
 use Rattle.pt_judge.specs.declared.cause.Cause.TheVariants.{BornTwice, NotAlive, NotFront, NotFirstMatch, Unlawful}
 use Rattle.pt_events.specs.declared.event.Event.{Event}
-use Rattle.pt_events.specs.declared.event.Event.TheVariants.{Born, Said, Came, Took, Flag, Left}
+use Rattle.pt_events.specs.declared.event.Event.TheVariants.{Born, Said, Came, Took, Flag, Left, Refused}
 use Rattle.pt_events.specs.History.{Past, Start, May, MayBear}
 use Rattle.pt_judge.specs.Judge.{Refuses, DeadParent, BadLink}
 
@@ -31,4 +31,6 @@ no_cause start past (Took p j i) NotAlive h k = both_ways _ k h.0
 no_cause start past (Took p j i) NotFirstMatch h k = k h.1
 no_cause start past (Flag p on) NotAlive h k = both_ways _ k h
 no_cause start past (Left p r) NotAlive h k = both_ways _ k h
+no_cause start past (Refused a b) NotAlive h k = both_ways _ k h.0
+no_cause start past (Refused a b) Unlawful h k = both_ways _ k h.1
 no_cause start past e c h k = k

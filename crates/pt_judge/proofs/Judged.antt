@@ -1,5 +1,5 @@
 -- The causes that the judge finds by tests are the lowest that fit.
-use Rattle.std.proofs.Common.{◌≡◌, ◌<◌, Bool, true, false, cond, not, Option, Some, None, is_none, List, [], ◌∷◌, refl, ap, sym, ◌∙◌, subst, arith}
+use Rattle.std.proofs.Common.{◌≡◌, ◌<◌, Bool, true, false, cond, not, Option, Some, None, is_none, is_some, List, [], ◌∷◌, refl, ap, sym, ◌∙◌, subst, arith}
 use Rattle.std.specs.Map.{lookup}
 use Rattle.std.specs.List.{find}
 use Rattle.std.specs.Option.{option_map}
@@ -11,14 +11,14 @@ use Rattle.pt_signal.specs.declared.item.Item.{Item}
 use Rattle.pt_signal.specs.declared.item.Pick.{Pick}
 use Rattle.pt_signal.specs.declared.reason.Reason.{Reason}
 use Rattle.pt_signal.specs.declared.signal.Signal.{Signal}
-use Rattle.pt_signal.specs.declared.signal.Signal.TheVariants.{Message, Link, Unlink, LinkExit, Monitor, Demonitor, AliveAsk, AliveSay}
+use Rattle.pt_signal.specs.declared.signal.Signal.TheVariants.{Message, Link, Unlink, Monitor, Demonitor, AliveAsk}
 use Rattle.pt_judge.specs.declared.cause.Cause.{Cause}
 use Rattle.pt_judge.specs.declared.cause.Cause.TheVariants.{BornTwice, NotAlive, NotFront, NotFirstMatch, Unlawful, Memory}
 use Rattle.pt_events.specs.declared.event.Event.{Event}
-use Rattle.pt_events.specs.declared.event.Event.TheVariants.{Born, Said, Came, Took, Flag, Left}
+use Rattle.pt_events.specs.declared.event.Event.TheVariants.{Born, Said, Came, Took, Flag, Left, Refused}
 use Rattle.pt_signal.specs.Values.{same_pid, same_ref, fits}
 use Rattle.pt_signal.specs.Process.{held, Sent, sent}
-use Rattle.pt_events.specs.History.{Past, Start, Phase, unborn, living, ended, is_unborn, is_the, is_between, life, alive, state, flying, MaySay, MayBear}
+use Rattle.pt_events.specs.History.{Past, Start, Phase, unborn, living, ended, is_unborn, is_the, is_between, life, alive, state, flying, MaySay, MayBear, is_ended, reason_of}
 use Rattle.pt_judge.specs.Judge.{number, Refuses, DeadParent, BadLink, IsJudged}
 use Rattle.pt_judge.specs.Judging.{Known, known_after, is_item, is_ids, is_signal, may_say, lacks, unlawful_link, cause}
 use Rattle.pt_signal.proofs.Same.{same_pid_is, same_pid_refl}
@@ -107,10 +107,8 @@ module _ (start : Start) (past : Past) where
   say_true a b (Unlink ids) h = ids_found (held (state start past a).links b) ids h
   say_true a b (Monitor m) h = let p = and_parts _ _ h in (not_true _ p.0, not_true _ p.1)
   say_true a b (Demonitor m) h = the_found b (lookup (same_ref m) (state start past a).watching) h
-  say_true a b (LinkExit ids r) h = absurd (cc)
-  say_true a b (Signal.Down m r) h = absurd (cc)
   say_true a b (AliveAsk m) h = not_true _ h
-  say_true a b (AliveSay m x) h = absurd (cc)
+  say_true a b _ h = absurd (cc)
 
   say_false : (a b : Pid) (x : Signal) → may_say K a b x ≡ false → ¬ MaySay start past (state start past a) a b x
   say_false a b (Message body) h k = absurd (cc)
@@ -119,10 +117,8 @@ module _ (start : Start) (past : Past) where
   say_false a b (Unlink ids) h k = ids_not_found (held (state start past a).links b) ids h k
   say_false a b (Monitor m) h k = let l : may_say K a b (Monitor m) ≡ true = rw (k.0, k.1) refl in both_ways _ h l
   say_false a b (Demonitor m) h k = the_not_found b (lookup (same_ref m) (state start past a).watching) h k
-  say_false a b (LinkExit ids r) h k = k
-  say_false a b (Signal.Down m r) h k = k
   say_false a b (AliveAsk m) h k = both_ways _ k (not_false _ h)
-  say_false a b (AliveSay m x) h k = k
+  say_false a b _ h k = k
 
   bear_true : (parent : Option Pid) (link : Option LinkId) → lacks K parent ≡ false → unlawful_link past parent link ≡ false → MayBear start past parent link
   bear_true None None h k = tt
@@ -271,6 +267,30 @@ module _ (start : Start) (past : Past) where
           below_alive Unlawful h k = k
           below_alive Memory h k = k
 
+  reason_ended : (f : Phase) → is_some (reason_of f) ≡ is_ended f
+  reason_ended unborn = refl
+  reason_ended (living s) = refl
+  reason_ended (ended r s) = refl
+
+  refusal_cause : (a b : Pid) → IsJudged start past (Refused a b) (cause K (Refused a b))
+  refusal_cause a b = go (alive start past a) refl (is_some (reason_of (life start past b))) refl
+    where
+      go : (c : Bool) → alive start past a ≡ c → (d : Bool) → is_some (reason_of (life start past b)) ≡ d
+          → IsJudged start past (Refused a b) (cond c (cond d None (Some Unlawful)) (Some NotAlive))
+      go false e d f = (e, below_alive)
+        where
+          below_alive : (lower : Cause) → number lower < 2 → ¬ Refuses start past (Refused a b) lower
+          below_alive NotAlive h k = absurd (omega arith)
+          below_alive Unlawful h k = absurd (omega arith)
+          below_alive _ h k = k
+      go true e true f = (e, sym (reason_ended (life start past b)) ∙ f)
+      go true e false f = (sym (reason_ended (life start past b)) ∙ f, below_lawful)
+        where
+          below_lawful : (lower : Cause) → number lower < 5 → ¬ Refuses start past (Refused a b) lower
+          below_lawful NotAlive h k = both_ways _ k e
+          below_lawful Unlawful h k = absurd (omega arith)
+          below_lawful _ h k = k
+
   pub judged : (e : Event) → IsJudged start past e (cause K e)
   judged (Born p parent link) = birth_cause p parent link
   judged (Said a b x) = saying_cause a b x
@@ -278,3 +298,4 @@ module _ (start : Start) (past : Past) where
   judged (Took p k i) = taking_cause p k i
   judged (Flag p on) = flag_cause p on
   judged (Left p r) = left_cause p r
+  judged (Refused a b) = refusal_cause a b

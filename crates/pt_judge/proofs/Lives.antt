@@ -12,8 +12,8 @@ use Rattle.pt_signal.specs.declared.ids.LinkId.{LinkId}
 use Rattle.pt_events.specs.declared.event.Event.{Event}
 use Rattle.pt_events.specs.declared.event.Event.TheVariants.{Born, Said, Came, Took, Flag, Left}
 use Rattle.pt_signal.specs.Values.{same_pid}
-use Rattle.pt_events.specs.History.{Start, Phase, unborn, at_start, phase_or_unborn, after, newborn, is_the}
-use Rattle.pt_judge.specs.Judging.{shown, is_born, IsObserved}
+use Rattle.pt_events.specs.History.{Start, Phase, unborn, at_start, phase_or_unborn, after, newborn, is_the, is_birth}
+use Rattle.pt_judge.specs.Judging.{shown, IsObserved}
 use Rattle.pt_signal.proofs.Same.{same_pid_is, same_pid_refl}
 use Rattle.pt_judge.proofs.FirstPlaces.{lookup_first}
 
@@ -46,6 +46,7 @@ after_unborn p (Came a b x) h = quiet_unborn (same_pid p b)
 after_unborn p (Took q k i) h = quiet_unborn (same_pid p q)
 after_unborn p (Flag q on) h = quiet_unborn (same_pid p q)
 after_unborn p (Left q r) h = quiet_unborn (same_pid p q)
+after_unborn p _ h = refl
 
 -- a birth leaves every other unborn pid unborn
 pub other_unborn : (p q : Pid) (parent : Option Pid) (link : Option LinkId) → same_pid p q ≡ false → after p (Born q parent link) unborn ≡ unborn
@@ -90,14 +91,10 @@ observed_other old e h = record {
   known = λ p. known_shown old e p ∙ sym (no_more (is_some (lookup (same_pid p) old)) e p h);
 }
   where
-    no_more : (b : Bool) (e : Event) (p : Pid) → IsNoBirth e → (b || is_born p e) ≡ b
+    no_more : (b : Bool) (e : Event) (p : Pid) → IsNoBirth e → (b || is_birth p e) ≡ b
     no_more true e p h = refl
     no_more false (Born q parent link) p h = absurd h
-    no_more false (Said a c x) p h = refl
-    no_more false (Came a c x) p h = refl
-    no_more false (Took q k i) p h = refl
-    no_more false (Flag q on) p h = refl
-    no_more false (Left q r) p h = refl
+    no_more false _ p h = refl
 
 pub observed_birth : (old : Start) (q : Pid) (parent : Option Pid) (link : Option LinkId) → is_some (lookup (same_pid q) old) ≡ false
     → IsObserved old (map (shown (Born q parent link)) old ++ (q, newborn parent link unborn) ∷ []) (Born q parent link)
@@ -125,7 +122,7 @@ observed_birth old q parent link h = record { lives = λ p. lives_of p (same_pid
     lives_of p false f =
         ap phase_or_unborn (pushed p) ∙ ap phase_or_unborn (ap (λ b. cond b (Some (newborn parent link unborn)) (lookup (same_pid p) (map (shown e) old))) f) ∙ at_shown old e p (other_unborn p q parent link f)
 
-    known_of : (p : Pid) → is_some (lookup (same_pid p) (map (shown e) old ++ (q, newborn parent link unborn) ∷ [])) ≡ is_some (lookup (same_pid p) old) || is_born p e
+    known_of : (p : Pid) → is_some (lookup (same_pid p) (map (shown e) old ++ (q, newborn parent link unborn) ∷ [])) ≡ is_some (lookup (same_pid p) old) || is_birth p e
     known_of p = ap is_some (pushed p) ∙ go (same_pid p q) refl (is_some (lookup (same_pid p) old)) refl
       where
         go : (b : Bool) → same_pid p q ≡ b → (c : Bool) → is_some (lookup (same_pid p) old) ≡ c
@@ -137,11 +134,7 @@ observed_birth old q parent link h = record { lives = λ p. lives_of p (same_pid
 
 pub no_birth : (e : Event) → ((q : Pid) (parent : Option Pid) (link : Option LinkId) → e ≡ Born q parent link → ⊥) → IsNoBirth e
 no_birth (Born q parent link) h = h q parent link refl
-no_birth (Said a b x) h = tt
-no_birth (Came a b x) h = tt
-no_birth (Took q k i) h = tt
-no_birth (Flag q on) h = tt
-no_birth (Left q r) h = tt
+no_birth _ h = tt
 
 -- one more of a list has seen the event
 set_after : {X : Type 0} (xs ys : List X) (x y : X) (i : ℕ) → i ≡ length xs → set (xs ++ x ∷ ys) i y ≡ xs ++ y ∷ ys

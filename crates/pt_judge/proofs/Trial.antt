@@ -4,7 +4,7 @@ use Rattle.std.proofs.lemmas.Option.{slice_get-get_or}
 use Rattle.pt_judge.specs.declared.cause.Cause.{Cause}
 use Rattle.pt_judge.specs.declared.cause.Cause.TheVariants.{BornTwice, NotAlive, NotFront, NotFirstMatch, Unlawful, Memory}
 use Rattle.pt_events.specs.declared.event.Event.{Event}
-use Rattle.pt_events.specs.declared.event.Event.TheVariants.{Born, Said, Came, Took, Flag, Left}
+use Rattle.pt_events.specs.declared.event.Event.TheVariants.{Born}
 use Rattle.pt_events.specs.History.{Past, Start, May, IsLegal}
 use Rattle.pt_judge.specs.Judge.{Refuses, IsCause, IsJudged, IsAfter, Judges, FailsAt, Fails}
 use Rattle.pt_judge.specs.Judging.{JudgeState, now_is, known, known_after, cause}
@@ -22,11 +22,7 @@ module _ (start : Start) where
 
   no_memory : (past : Past) (e : Event) → ¬ Refuses start past e Memory
   no_memory past (Born p parent link) h = h
-  no_memory past (Said a b x) h = h
-  no_memory past (Came a b x) h = h
-  no_memory past (Took p k i) h = h
-  no_memory past (Flag p on) h = h
-  no_memory past (Left p r) h = h
+  no_memory past _ h = h
 
   refused : (past : Past) (e : Event) (c : Cause) → IsCause start past e c → Judges start past e (Err c)
   refused past e Memory h = absurd (no_memory past e h.0)

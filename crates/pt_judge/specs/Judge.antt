@@ -7,11 +7,11 @@ use Rattle.pt_signal.specs.declared.ids.LinkId.{LinkId}
 use Rattle.pt_judge.specs.declared.cause.Cause.{Cause}
 use Rattle.pt_judge.specs.declared.cause.Cause.TheVariants.{BornTwice, NotAlive, NotFront, NotFirstMatch, Unlawful, Memory}
 use Rattle.pt_events.specs.declared.event.Event.{Event}
-use Rattle.pt_events.specs.declared.event.Event.TheVariants.{Born, Said, Came, Took, Flag, Left}
+use Rattle.pt_events.specs.declared.event.Event.TheVariants.{Born, Said, Came, Took, Flag, Left, Refused}
 use Rattle.pt_signal.specs.Values.{fits}
 use Rattle.pt_signal.specs.Process.{sent}
 use Rattle.pt_judge.specs.Judging.{JudgeState, now_is}
-use Rattle.pt_events.specs.History.{Past, Start, unborn, life, alive, state, flying, is_between, made_link, MaySay, May, IsLegal}
+use Rattle.pt_events.specs.History.{Past, Start, unborn, is_ended, life, alive, state, flying, is_between, made_link, MaySay, May, IsLegal}
 
 abbrev pub number : Cause → ℕ
 number BornTwice = 1
@@ -43,6 +43,8 @@ module _ (start : Start) where
   Refuses past (Took p k i) NotFirstMatch = ¬ (find (fits k) (state start past p).waiting ≡ Some i)
   Refuses past (Flag p on) NotAlive = alive start past p ≡ false
   Refuses past (Left p r) NotAlive = alive start past p ≡ false
+  Refuses past (Refused a b) NotAlive = alive start past a ≡ false
+  Refuses past (Refused a b) Unlawful = is_ended (life start past b) ≡ false
   Refuses past e c = ⊥
 
   -- the cause that is given: the lowest that fits

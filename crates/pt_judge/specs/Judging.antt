@@ -14,10 +14,10 @@ use Rattle.pt_signal.specs.declared.signal.Signal.TheVariants.{Message, Link, Un
 use Rattle.pt_judge.specs.declared.cause.Cause.{Cause}
 use Rattle.pt_judge.specs.declared.cause.Cause.TheVariants.{BornTwice, NotAlive, NotFront, NotFirstMatch, Unlawful}
 use Rattle.pt_events.specs.declared.event.Event.{Event}
-use Rattle.pt_events.specs.declared.event.Event.TheVariants.{Born, Said, Came, Took, Flag, Left}
+use Rattle.pt_events.specs.declared.event.Event.TheVariants.{Born, Said, Came, Took, Flag, Left, Refused}
 use Rattle.pt_signal.specs.Values.{same_pid, same_ref, fits}
 use Rattle.pt_signal.specs.Process.{ProcessState, held, handle, obey, verdict, Sent, sent, bounce}
-use Rattle.pt_events.specs.History.{Past, Start, Phase, unborn, is_living, is_unborn, is_the, is_between, at_start, after, landed, reason_of, state_of, end_sends, life, flying, made_link, made_ref}
+use Rattle.pt_events.specs.History.{Past, Start, Phase, unborn, is_birth, is_living, is_unborn, is_the, is_between, at_start, after, landed, reason_of, state_of, end_sends, life, flying, made_link, made_ref}
 use Rattle.pt_judge.specs.Same.{same_item, same_ids, same_signal}
 
 -- what the judge knows: the events that it judged, newest first; what each process is that was born; and what is on its way
@@ -73,14 +73,10 @@ abbrev pub MayBeBorn : Start → Event → Type 0
 MayBeBorn start (Born p parent link) = is_some (lookup (same_pid p) start) ≡ false
 MayBeBorn start _ = Unit {0}
 
-abbrev pub is_born : Pid → Event → Bool
-is_born p (Born q parent link) = same_pid p q
-is_born p _ = false
-
 -- the table after the event
 pub record IsObserved (old new : Start) (e : Event) : Type 0 where
   pub lives : (p : Pid) → at_start new p ≡ after p e (at_start old p)
-  pub known : (p : Pid) → is_some (lookup (same_pid p) new) ≡ is_some (lookup (same_pid p) old) || is_born p e
+  pub known : (p : Pid) → is_some (lookup (same_pid p) new) ≡ is_some (lookup (same_pid p) old) || is_birth p e
 
 -- the receiver of what came, or who leaves, lives
 abbrev pub lived : Start → Event → Bool
@@ -158,3 +154,4 @@ cause k (Came a b x) = cond (is_signal (option_map (λ l. l.signal) (find (is_be
 cause k (Took p j i) = cond (is_living (k.is p)) (cond (is_item (find (fits j) (state_of (k.is p)).waiting) i) None (Some NotFirstMatch)) (Some NotAlive)
 cause k (Flag p on) = cond (is_living (k.is p)) None (Some NotAlive)
 cause k (Left p r) = cond (is_living (k.is p)) None (Some NotAlive)
+cause k (Refused a b) = cond (is_living (k.is a)) (cond (is_some (reason_of (k.is b))) None (Some Unlawful)) (Some NotAlive)

@@ -9,7 +9,7 @@ use Rattle.pt_signal.specs.declared.item.Pick.{Pick}
 use Rattle.pt_signal.specs.declared.reason.Reason.{Reason}
 use Rattle.pt_signal.specs.declared.ids.Ref.{Ref}
 use Rattle.pt_signal.specs.declared.signal.Signal.{Signal}
-use Rattle.pt_signal.specs.declared.signal.Signal.TheVariants.{Message, Link, Unlink, LinkExit, Monitor, Demonitor, AliveAsk, AliveSay}
+use Rattle.pt_signal.specs.declared.signal.Signal.TheVariants.{LinkExit}
 use Rattle.pt_signal.specs.Values.{same_pid, same_ref, fits, without_first}
 use Rattle.std.specs.Map.{lookup}
 use Rattle.pt_signal.specs.Process.{ProcessState, handle, say, held, holds_any, obey, Verdict, drops, queues, ends, verdict, link_exit, down}
@@ -51,16 +51,10 @@ downed_one None s a n r = omega arith
 downed_one (Some t) s a n r = omega arith
 
 handled_one : (me : Pid) (s : ProcessState) (a : Pid) (x : Signal) → length (handle me s a x).items ≤ 1
-handled_one me s a (Message b) = omega arith
-handled_one me s a (Link i) = omega arith
-handled_one me s a (Unlink ids) = omega arith
 handled_one me s a (Signal.Exit r) = obeyed_one (verdict false s.traps (same_pid a me) a r) s
 handled_one me s a (LinkExit ids r) = exited_one (holds_any (held s.links a) ids) me s a r
-handled_one me s a (Monitor n) = omega arith
-handled_one me s a (Demonitor n) = omega arith
 handled_one me s a (Signal.Down n r) = downed_one (lookup (same_ref n) s.watching) s a n r
-handled_one me s a (AliveAsk n) = omega arith
-handled_one me s a (AliveSay n y) = omega arith
+handled_one me s a _ = omega arith
 
 -- what one event does to the numbers
 record Moves (waits waits' took came : ℕ) : Type 0 where
@@ -99,6 +93,7 @@ module _ (p : Pid) where
   moves past (Left q r) may =
       same_number (life [] past p) (life [] (Left q r ∷ past) p)
       (each_branch (λ g. (state_of g).waiting ≡ (state [] past p).waiting) (same_pid p q) _ _ (leaves_keeps (λ s. s.waiting) r (life [] past p)) refl)
+  moves past _ may = same_number (life [] past p) (life [] past p) refl
 
   -- over a local journal
   pub balance : (low top d : ℕ) (journal : List Stamped) → IsLocal [] low top d journal

@@ -8,7 +8,7 @@ use Rattle.pt_signal.specs.declared.pid.Pid.{Pid}
 use Rattle.pt_signal.specs.declared.ids.Ref.{Ref}
 use Rattle.pt_signal.specs.declared.ids.LinkId.{LinkId}
 use Rattle.pt_signal.specs.declared.signal.Signal.{Signal}
-use Rattle.pt_signal.specs.declared.signal.Signal.TheVariants.{Message, Link, Unlink, LinkExit, Monitor, Demonitor, AliveAsk, AliveSay}
+use Rattle.pt_signal.specs.declared.signal.Signal.TheVariants.{Unlink, LinkExit, Monitor, Demonitor, AliveSay}
 use Rattle.pt_signal.specs.Values.{same_pid, same_ref}
 use Rattle.pt_signal.specs.declared.item.Item.{Item}
 use Rattle.pt_signal.specs.declared.item.Pick.{Pick}
@@ -16,7 +16,7 @@ use Rattle.pt_signal.specs.declared.reason.Reason.{Reason}
 use Rattle.pt_signal.specs.Process.{ProcessState, fresh, held, holds_any, handle, say, obey, Verdict, drops, queues, ends, verdict, link_exit, down}
 use Rattle.pt_signal.proofs.Same.{same_pid_is, same_pid_refl}
 use Rattle.pt_events.specs.declared.event.Event.{Event}
-use Rattle.pt_events.specs.declared.event.Event.TheVariants.{Born, Said, Came, Took, Flag, Left}
+use Rattle.pt_events.specs.declared.event.Event.TheVariants.{Born, Said, Came, Took, Flag, Left, Refused}
 use Rattle.pt_events.specs.declared.event.Stamped.{Stamped}
 use Rattle.pt_events.specs.History.{Past, Phase, unborn, living, ended, life, state, state_of, touches, is_unborn, is_ended, is_living, alive, made_ref, makes_ref, MaySay, MayBear, change, linked, live_or_end}
 use Rattle.pt_events.specs.Journal.{events, IsNext, IsLocal, IsHome, IsOf, MayHere, IsKnown}
@@ -28,7 +28,7 @@ use Rattle.pt_lives.specs.Table.{Slots, at, of_version, slot_at, found, Tells, A
 use Rattle.pt_lives.specs.DeskLives.{IsDeskJournal}
 use Rattle.pt_lives.specs.Steps.{MayShow, may_show_parent, MayObserve, Observes, MaySee, MayMeet, MayDo}
 use Rattle.pt_lives.proofs.Places.{slice_get-past}
-use Rattle.pt_lives.proofs.Told.{HomeParent, found_here, none_unborn, told_changed, told_born}
+use Rattle.pt_lives.proofs.Told.{HomeParent, found_here, none_unborn, told_changed, told_born, tells_still}
 
 -- a reference that was never made is open nowhere -----------------------------------------------
 
@@ -69,28 +69,15 @@ module _ (m : Ref) where
   downed (Some t) s a n r h = removed n s.watching h
 
   handled : (me : Pid) (s : ProcessState) (a : Pid) (x : Signal) → IsClosed s → IsClosed (handle me s a x).state
-  handled me s a (Message b) h = h
-  handled me s a (Link i) h = h
-  handled me s a (Unlink ids) h = h
   handled me s a (Signal.Exit r) h = obeyed (verdict false s.traps (same_pid a me) a r) s h
   handled me s a (LinkExit ids r) h = exited (holds_any (held s.links a) ids) me s a r h
-  handled me s a (Monitor n) h = h
-  handled me s a (Demonitor n) h = h
   handled me s a (Signal.Down n r) h = downed (lookup (same_ref n) s.watching) s a n r h
-  handled me s a (AliveAsk n) h = h
-  handled me s a (AliveSay n y) h = h
+  handled me s a _ h = h
 
   said : (w : Pid) (s : ProcessState) (b : Pid) (x : Signal) → makes_ref m (Said w b x) ≡ false → IsClosed s → IsClosed (say s b x)
-  said w s b (Message y) n h = h
-  said w s b (Link i) n h = h
-  said w s b (Unlink ids) n h = h
-  said w s b (Signal.Exit r) n h = h
-  said w s b (LinkExit ids r) n h = h
   said w s b (Monitor k) n h = pushed k b s.watching n h
   said w s b (Demonitor k) n h = removed k s.watching h
-  said w s b (Signal.Down k r) n h = h
-  said w s b (AliveAsk k) n h = h
-  said w s b (AliveSay k y) n h = h
+  said w s b _ n h = h
 
   entered : (parent : Option Pid) (link : Option LinkId) (s : ProcessState) → IsClosed s → IsClosed (linked parent link s)
   entered None link s h = h
@@ -110,20 +97,10 @@ module _ (m : Ref) where
   changed w (Born q parent link) (living s) n h = both (same_pid w q) _ _ h (entered (Some q) link s h)
   changed w (Born q parent link) (ended r s) n h = both (same_pid w q) _ _ h h
   changed w (Said a b x) (living s) n h = said a s b x n h
-  changed w (Said a b x) unborn n h = h
-  changed w (Said a b x) (ended r s) n h = h
   changed w (Came a b x) (living s) n h = still (handle w s a x).ending (handle w s a x).state (handled w s a x h)
-  changed w (Came a b x) unborn n h = h
-  changed w (Came a b x) (ended r s) n h = h
-  changed w (Took q k i) (living s) n h = h
-  changed w (Took q k i) unborn n h = h
-  changed w (Took q k i) (ended r s) n h = h
-  changed w (Flag q on) (living s) n h = h
-  changed w (Flag q on) unborn n h = h
-  changed w (Flag q on) (ended r s) n h = h
-  changed w (Left q r) (living s) n h = h
-  changed w (Left q r) unborn n h = h
-  changed w (Left q r) (ended z s) n h = h
+  changed w _ unborn n h = h
+  changed w _ (ended r s) n h = h
+  changed w _ (living s) n h = h
 
   pub unmade_closed : (past : Past) (w : Pid) → made_ref past m ≡ false → IsClosed (state [] past w)
   unmade_closed [] w h = refl
@@ -139,12 +116,8 @@ one_or_none true i = omega arith
 one_or_none false i = omega arith
 
 takes_one : (p : Pid) (e : Event) → length (taken_by p e) ≤ 1
-takes_one p (Born q parent link) = omega arith
-takes_one p (Said a b x) = omega arith
-takes_one p (Came a b x) = omega arith
 takes_one p (Took q k i) = one_or_none (same_pid p q) i
-takes_one p (Flag q on) = omega arith
-takes_one p (Left q r) = omega arith
+takes_one p _ = omega arith
 
 pub few_taken : (past : Past) (p : Pid) → length (taken past p) ≤ length past
 few_taken [] p = omega arith
@@ -169,16 +142,12 @@ pub meet_said : (past : Past) (a b : Pid) (x : Signal) → alive [] past a ≡ t
 meet_said past a b x h may = meet_living a (Said a b x) (life [] past a) h (λ s e. does x s (ap state_of e) may)
   where
     does : (x : Signal) (s : ProcessState) → state [] past a ≡ s → MaySay [] past (state [] past a) a b x → MayDo a s (Said a b x)
-    does (Message y) s e may = tt
-    does (Signal.Exit r) s e may = tt
-    does (Link i) s e may = tt
     does (Unlink ids) s e may = ap (λ z. held z.links b) (sym e) ∙ may
     does (Monitor m) s e may = ap (λ z. lookup (same_ref m) z.watching) (sym e) ∙ unmade_closed m past a may.0
-    does (Demonitor m) s e may = tt
     does (LinkExit ids r) s e may = absurd may
     does (Signal.Down m r) s e may = absurd may
-    does (AliveAsk m) s e may = tt
     does (AliveSay m y) s e may = absurd may
+    does _ s e may = tt
 
 meet_came : (a b : Pid) (x : Signal) (f : Phase) → is_unborn f ≡ false → MayMeet b f (Came a b x)
 meet_came a b x unborn h = absurd (true≢false h)
@@ -247,6 +216,7 @@ module _ (low top desk : ℕ) (old : Slots) (past : Past) (few : length past + 1
   may_observe (Took q k i) home may known = may_show desk old past (Took q k i) q home (same_pid_refl q) few (λ u. meet_living q (Took q k i) (life [] past q) may.0 (λ s e. tt)) told
   may_observe (Flag q on) home may known = may_show desk old past (Flag q on) q home (same_pid_refl q) few (λ u. meet_living q (Flag q on) (life [] past q) may (λ s e. tt)) told
   may_observe (Left q r) home may known = may_show desk old past (Left q r) q home (same_pid_refl q) few (λ u. meet_living q (Left q r) (life [] past q) may (λ s e. tt)) told
+  may_observe _ home may known = tt
 
   takes_alive : (p q : Pid) (k : Pick) (i : Item) → alive [] past q ≡ true → life [] past p ≡ unborn → taken_by p (Took q k i) ≡ []
   takes_alive p q k i a u = go (same_pid p q) refl
@@ -269,6 +239,7 @@ module _ (low top desk : ℕ) (old : Slots) (past : Past) (few : length past + 1
   told_next new (Took q k i) home may h = told_changed desk old new past (Took q k i) q home (λ p. refl) (λ p u. (each_branch (λ f. f ≡ unborn) (touches p (Took q k i)) unborn unborn refl refl, takes_alive p q k i may.0 u)) h told
   told_next new (Flag q on) home may h = told_changed desk old new past (Flag q on) q home (λ p. refl) (λ p u. (each_branch (λ f. f ≡ unborn) (touches p (Flag q on)) unborn unborn refl refl, refl)) h told
   told_next new (Left q r) home may h = told_changed desk old new past (Left q r) q home (λ p. refl) (λ p u. (each_branch (λ f. f ≡ unborn) (touches p (Left q r)) unborn unborn refl refl, refl)) h told
+  told_next new (Refused a b) home may h = λ p. subst (λ z. Tells (Refused a b ∷ past) p (found desk z p)) (sym h) (tells_still past p (Refused a b) (found desk old p) refl (told p))
 
 -- the journal, read from its first event -----------------------------------------------------------
 

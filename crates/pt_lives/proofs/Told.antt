@@ -8,7 +8,7 @@ use Rattle.pt_signal.specs.declared.ids.LinkId.{LinkId}
 use Rattle.pt_signal.specs.Values.{same_pid}
 use Rattle.pt_signal.proofs.Same.{same_pid_is, same_pid_refl}
 use Rattle.pt_events.specs.declared.event.Event.{Event}
-use Rattle.pt_events.specs.declared.event.Event.TheVariants.{Born, Said, Came, Took, Flag, Left}
+use Rattle.pt_events.specs.declared.event.Event.TheVariants.{Born, Took}
 use Rattle.pt_events.specs.History.{Past, unborn, life, after, change, newborn, touches, is_unborn}
 use Rattle.pt_laws.specs.Taken.{taken, taken_by}
 use Rattle.pt_events.proofs.Phases.{after_born, each_branch}
@@ -23,12 +23,8 @@ abbrev pub Unmoved : Past → Pid → Event → Type 0
 Unmoved past p e = life [] past p ≡ unborn → (after p e unborn ≡ unborn) × (taken_by p e ≡ [])
 
 pub untaken : (p : Pid) (e : Event) → touches p e ≡ false → taken_by p e ≡ []
-untaken p (Born q parent link) h = refl
-untaken p (Said a b x) h = refl
-untaken p (Came a b x) h = refl
 untaken p (Took q k i) h = rw h refl
-untaken p (Flag q on) h = refl
-untaken p (Left q r) h = refl
+untaken p _ h = refl
 
 -- it saw the event
 pub tells_seen : (past : Past) (p : Pid) (e : Event) (o : Option LifeState) → Unmoved past p e → Tells past p o → Tells (e ∷ past) p (option_map (shown e) o)

@@ -5,7 +5,7 @@ use Rattle.std.specs.Map.{lookup}
 use Rattle.pt_signal.specs.declared.pid.Pid.{Pid}
 use Rattle.pt_signal.specs.declared.signal.Signal.TheVariants.{Unlink, Monitor}
 use Rattle.pt_events.specs.declared.event.Event.{Event}
-use Rattle.pt_events.specs.declared.event.Event.TheVariants.{Born, Said, Came, Took, Flag, Left}
+use Rattle.pt_events.specs.declared.event.Event.TheVariants.{Born, Said, Came, Took, Flag, Left, Refused}
 use Rattle.pt_signal.specs.Values.{same_pid, same_ref}
 use Rattle.pt_signal.specs.Process.{ProcessState, held}
 use Rattle.pt_events.specs.History.{Phase, unborn, living, ended, newborn, after, touches}
@@ -68,6 +68,7 @@ Observes (Came a b x) old new = Changes b (shown (Came a b x)) old new
 Observes (Took p k i) old new = Changes p (shown (Took p k i)) old new
 Observes (Flag p on) old new = Changes p (shown (Flag p on)) old new
 Observes (Left p r) old new = Changes p (shown (Left p r)) old new
+Observes (Refused a b) old new = new ≡ old
 
 abbrev pub MayShow : Slots → Pid → Event → Type 0
 MayShow slots p e = IfSome (at slots p.slot p.version) (MaySee e)
@@ -84,3 +85,4 @@ MayObserve slots (Came a b x) = MayShow slots b (Came a b x)
 MayObserve slots (Took p k i) = MayShow slots p (Took p k i)
 MayObserve slots (Flag p on) = MayShow slots p (Flag p on)
 MayObserve slots (Left p r) = MayShow slots p (Left p r)
+MayObserve slots (Refused a b) = ⊤

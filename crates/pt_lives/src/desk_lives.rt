@@ -88,6 +88,7 @@ fn observe(alloc: Global, slots: &mut Vec<Slot>, event: Event) -> Result<(), All
         Event::Took(pid, _, _) => show(slots, pid, event),
         Event::Flag(pid, _) => show(slots, pid, event),
         Event::Left(pid, _) => show(slots, pid, event),
+        Event::Refused(_, _) => Ok(()),
     }
 }
 

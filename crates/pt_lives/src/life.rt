@@ -84,6 +84,7 @@ fn meet(process: &mut Process, event: Event) -> Result<Option<Reason>, AllocErro
             let _ = process.set_trap(on);
         }
         Event::Left(_, reason) => return Ok(Some(reason)),
+        Event::Refused(_, _) => {}
     }
     Ok(None)
 }

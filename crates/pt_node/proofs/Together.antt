@@ -1,14 +1,20 @@
 -- The accounts of desks whose lanes were brought together.
-use Rattle.std.proofs.Common.{◌≡◌, ℕ, ◌+◌, ◌*◌, ◌<◌, List, [], ◌∷◌, ◌++◌, length, map, get_or, sym, ap, ◌∙◌, subst, arith}
+use Rattle.std.proofs.Common.{◌≡◌, ℕ, ◌+◌, ◌*◌, ◌<◌, ◌≤◌, List, [], ◌∷◌, ◌++◌, length, map, get_or, sym, ap, ◌∙◌, subst, arith, ⊎_elim}
 use Rattle.std.proofs.lemmas.Simd.{map-map}
-use Rattle.std.proofs.lemmas.List.{get_or-map, length-map}
+use Rattle.std.proofs.lemmas.List.{get_or-map, get_or_past, length-map}
+use Rattle.std.proofs.lemmas.Bool.{cases_lt}
 use Rattle.pt_signal.specs.declared.letter.Letter.{Letter}
-use Rattle.pt_events.specs.Journal.{Agrees, posts, gots}
+use Rattle.pt_events.specs.declared.event.Event.{Event}
+use Rattle.pt_events.specs.declared.event.Event.TheVariants.{Refused}
+use Rattle.pt_events.specs.declared.event.Stamped.{Stamped}
+use Rattle.pt_events.specs.Journal.{Journals, Agrees, posts, gots}
+use Rattle.pt_events.specs.Refusals.{IsTrueRefusal, AllTrueRefusals, RefusalsAreTrue}
 use Rattle.pt_carrier.specs.Ends.{OutEnds, InEnds}
 use Rattle.pt_carrier.specs.Node.{all_posted, all_collected, entry}
 use Rattle.pt_shard.specs.declared.config.Config.{Config}
 use Rattle.pt_shard.specs.ShardState.{ShardState}
 use Rattle.pt_shard.specs.Outbox.{held_from}
+use Rattle.pt_shard.specs.Fit.{IsNoRefusal, IsUnrefused}
 use Rattle.pt_gathered.specs.Gathered.{GatheredState, IsGathered, IsShardOf, journal_at, box_at, hold_at, over_in}
 use Rattle.pt_events.proofs.Agreeing.{Agrees-posted}
 use Rattle.pt_desk.specs.DeskState.{DeskState, IsDesk, place}
@@ -20,6 +26,14 @@ pub lane_agrees : (sent posted box collected lane got held : List Letter) → se
 lane_agrees sent posted box collected lane got held s p a =
     subst (λ z. Agrees z got (held ++ lane ++ box)) (sym (s ∙ ap (λ z. z ++ box) p))
     (Agrees-posted (collected ++ lane) got (held ++ lane) box (Agrees-posted collected got held lane a))
+
+unrefused_true : (journal : Journals) (noted : List Stamped) → IsUnrefused noted → AllTrueRefusals [] journal noted
+unrefused_true journal [] h = tt
+unrefused_true journal (s ∷ noted) h = (none s.event h.0, unrefused_true journal noted h.1)
+  where
+    none : (e : Event) → IsNoRefusal e → IsTrueRefusal [] journal s.stamp e
+    none (Refused a b) h = absurd h
+    none _ h = tt
 
 module _ (desks : List DeskState) (g : GatheredState) (whole : (d : ℕ) (x : DeskState) → d < length desks → IsDesk (get_or desks d x)) (gathers : Gathers desks g) where
   count : length g.shards ≡ length desks
@@ -92,12 +106,26 @@ module _ (desks : List DeskState) (g : GatheredState) (whole : (d : ℕ) (x : De
       (get_or g.lanes (d * length g.shards + e) []) (gots (get_or desks e x).shard.journal d) (held_from d (get_or desks e x).shard.hold)
       sent posted got)
 
+  -- no desk was refused a call
+  refusals_at : RefusalsAreTrue [] (journal_at g.shards)
+  refusals_at d =
+      ⊎_elim
+      (λ (h : d < length g.shards).
+      let k : d < length desks = omega (arith, h, count) in
+      let x : DeskState = some_desk desks d k in
+      subst (AllTrueRefusals [] (journal_at g.shards)) (sym (journal_of d x k)) (unrefused_true (journal_at g.shards) (get_or desks d x).shard.journal (whole d x k).fit.unrefused))
+      (λ (h : length g.shards ≤ d).
+      subst (AllTrueRefusals [] (journal_at g.shards))
+      (sym (get_or_past (map (λ (s : ShardState). s.journal) g.shards) d [] (omega (arith, length-map g.shards (λ (s : ShardState). s.journal))))) tt)
+      (cases_lt d (length g.shards))
+
   pub gathered_whole : IsGathered g
   gathered_whole = record {
     desks = count ∙ gathers.node.count;
     lanes = gathers.left.count ∙ ap (λ n. n * n) (ends_count ∙ sym count);
     shards = λ d x h. is_shard d x (omega (arith, h, count));
     agree = λ d e h k. agree_at d e (omega (arith, h, count)) (omega (arith, k, count));
+    refusals = refusals_at;
   }
 
 pub same_journals : (desks : List DeskState) (g : GatheredState) → g.shards ≡ all_shards desks → HasJournalsOf desks g

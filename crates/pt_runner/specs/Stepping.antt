@@ -4,7 +4,7 @@ use Rattle.std.specs.List.{filter}
 use Rattle.pt_signal.specs.declared.pid.Pid.{Pid}
 use Rattle.pt_signal.specs.declared.reason.Reason.TheVariants.{Other}
 use Rattle.pt_events.specs.declared.event.Event.{Event}
-use Rattle.pt_events.specs.declared.event.Event.TheVariants.{Born, Said, Came, Took, Flag, Left}
+use Rattle.pt_events.specs.declared.event.Event.TheVariants.{Born, Said, Came, Took, Flag, Left, Refused}
 use Rattle.pt_shard.specs.declared.fault.Fault.{Fault}
 use Rattle.pt_shard.specs.declared.fault.Fault.TheVariants.{Full, Myself}
 use Rattle.pt_shard.specs.ShardState.{ShardState, lives, after}
@@ -21,6 +21,7 @@ author (Came a b x) = None
 author (Took p pick item) = Some p
 author (Flag p on) = Some p
 author (Left p reason) = Some p
+author (Refused a b) = Some a
 
 -- the process that is born by it
 abbrev pub child_of : Event → List Pid

@@ -22,11 +22,7 @@ is_birth _ = false
 
 change_unborn : (p : Pid) (e : Event) → is_birth e ≡ false → change p e unborn ≡ unborn
 change_unborn p (Born q parent link) h = absurd (cc)
-change_unborn p (Said a b x) h = refl
-change_unborn p (Came a b x) h = refl
-change_unborn p (Took q k i) h = refl
-change_unborn p (Flag q on) h = refl
-change_unborn p (Left q r) h = refl
+change_unborn p _ h = refl
 
 same_birth : (p : Pid) (e : Event) (f : Phase) → is_birth e ≡ false → is_unborn (after p e f) ≡ is_unborn f
 same_birth p e unborn h = each_branch (λ f. is_unborn f ≡ true) (touches p e) (change p e unborn) unborn (ap is_unborn (change_unborn p e h)) refl
@@ -35,11 +31,7 @@ same_birth p e (ended r s) h = after_born p e (ended r s) refl
 
 pub issued_same : (start : Start) (before : Past) (e : Event) (slot : ℕ) → is_birth e ≡ false → issued_in start (e ∷ before) slot ≡ issued_in start before slot
 issued_same start before (Born q parent link) slot h = absurd (cc)
-issued_same start before (Said a b x) slot h = refl
-issued_same start before (Came a b x) slot h = refl
-issued_same start before (Took q k i) slot h = refl
-issued_same start before (Flag q on) slot h = refl
-issued_same start before (Left q r) slot h = refl
+issued_same start before _ slot h = refl
 
 pub issued_kept : (start : Start) (desk : ℕ) (before : Past) (e : Event) → is_birth e ≡ false → BornAreIssued start desk before → BornAreIssued start desk (e ∷ before)
 issued_kept start desk before e h k p = rw (same_birth p e (life start before p) h, issued_same start before e p.slot h) (k p)

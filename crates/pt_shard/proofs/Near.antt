@@ -160,6 +160,7 @@ module _ (desks : ℕ) (W : Ref × Pid → Type 0) where
   near_change d p (Took q k i) f here home new near h = near_while _ (λ s j. record { links = j.links; watching = j.watching; kept = j.kept }) f h
   near_change d p (Flag q on) f here home new near h = near_while _ (λ s j. record { links = j.links; watching = j.watching; kept = j.kept }) f h
   near_change d p (Left q r) f here home new near h = near_left r f
+  near_change d p _ f here home new near h = h
 
   near_mapped : {X : Type 0} (Q : X → Type 0) (f : X → Sent) → ((x : X) → Q x → IsToNode desks (f x)) → (xs : List X) → Every Q xs → Every (IsToNode desks) (map f xs)
   near_mapped Q f k [] h = tt
@@ -199,12 +200,10 @@ module _ (desks : ℕ) (W : Ref × Pid → Type 0) where
   near_left_sends near_open (ended w s) me r h = tt
 
   pub near_sent : ((e : Ref × Pid) → W e → e.1.shard < desks) → (past : Past) (e : Event) → IsNear desks e → ((p : Pid) → IsNearPhase (life [] past p)) → Every (IsToNode desks) (sent_by [] past e)
-  near_sent near_open past (Born q parent link) near h = tt
   near_sent near_open past (Said a b x) near h = (near, tt)
   near_sent near_open past (Came a b x) near h = near_got_sends near_open (life [] past b) b a x near (h b)
-  near_sent near_open past (Took q k i) near h = tt
-  near_sent near_open past (Flag q on) near h = tt
   near_sent near_open past (Left p r) near h = near_left_sends near_open (life [] past p) p r (h p)
+  near_sent near_open past _ near h = tt
 
 -- an open monitor of the desk: its target is of the node, and was born if it is of the desk; its reference was made
 abbrev pub IsOpen : ℕ → ℕ → ℕ → List Stamped → Ref × Pid → Type 0

@@ -3,7 +3,7 @@ use Rattle.std.specs.Prelude.{◌≡◌, ℕ, ◌<◌, Bool, ◌&&◌, not, ◌=
 use Rattle.pt_signal.specs.declared.pid.Pid.{Pid}
 use Rattle.pt_signal.specs.Process.{ProcessState}
 use Rattle.pt_events.specs.declared.event.Event.{Event}
-use Rattle.pt_events.specs.declared.event.Event.TheVariants.{Said, Came}
+use Rattle.pt_events.specs.declared.event.Event.TheVariants.{Said, Came, Refused}
 use Rattle.pt_events.specs.History.{Past, Start, Phase, living, life, is_unborn}
 use Rattle.pt_shard.specs.ShardState.{ShardState, past}
 use Rattle.pt_shard.specs.Known.{issued_in}
@@ -31,10 +31,11 @@ of_phase p _ = None
 abbrev pub resident : Past → Pid → Option (Pid × ProcessState)
 resident past p = of_phase p (life [] past p)
 
--- the other process of the event is of a desk of the node
+-- the other process of the event is of a desk of the node; no desk refuses a call yet
 abbrev pub IsNear : ℕ → Event → Type 0
 IsNear desks (Said a b x) = b.shard < desks
 IsNear desks (Came a b x) = a.shard < desks
+IsNear desks (Refused a b) = ⊥
 IsNear desks _ = ⊤
 
 abbrev pub AllNear : ℕ → Past → Type 0

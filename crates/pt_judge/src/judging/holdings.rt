@@ -205,6 +205,7 @@ impl Holdings {
             Event::Took(_, pick, _) => take(&mut self.waiting, pick),
             Event::Flag(_, on) => self.traps = on,
             Event::Left(_, reason) => return Ok(Some(reason)),
+            Event::Refused(_, _) => {}
         }
         Ok(None)
     }

@@ -52,6 +52,7 @@ fn touches(pid: Pid, event: Event) -> bool
         Event::Took(owner, _, _) => pid == owner,
         Event::Flag(owner, _) => pid == owner,
         Event::Left(owner, _) => pid == owner,
+        Event::Refused(_, _) => false,
     }
 }
 

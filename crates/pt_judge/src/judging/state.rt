@@ -7,7 +7,7 @@ ghost use Rattle.std.specs.List.{find};
 ghost use Rattle.pt_signal.specs.Values.{same_ref, fits};
 ghost use Rattle.pt_signal.specs.Process.{held};
 ghost use Rattle.pt_judge.specs.declared.cause.Cause.TheVariants.{NotAlive};
-ghost use Rattle.pt_events.specs.declared.event.Event.TheVariants.{Born, Said, Came, Took};
+ghost use Rattle.pt_events.specs.declared.event.Event.TheVariants.{Born, Said, Came, Took, Refused};
 ghost use Rattle.pt_events.specs.History.{open_monitors, reason_of, state_of, is_living, is_unborn, is_the, is_between, makes_link, makes_ref, made_link, made_ref};
 ghost use Rattle.pt_judge.specs.Judging.{now_is, known, cause, may_say, lacks, unlawful_link, is_item, is_ids, is_signal, IsHeldBy, IsStep};
 
@@ -334,6 +334,18 @@ impl State {
         None
     }
 
+    fn refusal_cause(&self, from: Pid, to: Pid) -> Option<Cause>
+        ensures { result ≡ cause (known self.now) (Refused from to) }
+    {
+        if !self.alive(from) {
+            return Some(Cause::NotAlive);
+        }
+        if self.ended(to).is_none() {
+            return Some(Cause::Unlawful);
+        }
+        None
+    }
+
     /// Why the event may not come next, if it may not; memory aside.
     pub(super) fn cause(&self, event: Event) -> Option<Cause>
         ensures { result ≡ cause (known self.now) event }
@@ -345,6 +357,7 @@ impl State {
             Event::Took(pid, pick, item) => self.taking_cause(pid, pick, item),
             Event::Flag(pid, _) => self.life_cause(pid),
             Event::Left(pid, _) => self.life_cause(pid),
+            Event::Refused(from, to) => self.refusal_cause(from, to),
         }
     }
 
