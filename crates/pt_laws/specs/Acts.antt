@@ -4,7 +4,7 @@ use Rattle.pt_events.specs.declared.event.Stamped.{Stamped}
 use Rattle.pt_events.specs.History.{Past, Start, IsLegal}
 use Rattle.pt_events.specs.Journal.{MayHere, IsLocal, events}
 
--- each event but a receipt may come after those before it; of a receipt nothing is asked
+-- each event but a receipt may come after those before it, as its own desk reads it; of a receipt nothing is asked
 abbrev pub ActsMayCome : Start → Past → Type 0
 ActsMayCome start [] = ⊤
 ActsMayCome start (e ∷ past) = MayHere start past e × ActsMayCome start past

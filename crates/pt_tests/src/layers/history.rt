@@ -147,6 +147,34 @@ fn unlawful(rt: HostRuntime) {
     compare(&rt, rt.alloc(), CASES);
 }
 
+/// A call is refused where its sayer lives and the other has ended.
+#[test]
+fn refused_calls(rt: HostRuntime) -> Result<(), Fail> {
+    const LEFT_A: Event = Event::Left(A, Reason::Normal);
+    const LEFT_B: Event = Event::Left(B, Reason::Normal);
+    const REFUSED: Event = Event::Refused(A, B);
+    const CASES: &[Judged] = &[
+        (&[BORN_A, BORN_B, LEFT_B, REFUSED, REFUSED], None),
+        (&[BORN_B, REFUSED], Some((1, Cause::NotAlive))),
+        (
+            &[BORN_A, BORN_B, LEFT_B, LEFT_A, REFUSED],
+            Some((4, Cause::NotAlive)),
+        ),
+        (&[BORN_A, REFUSED], Some((1, Cause::Unlawful))),
+        (&[BORN_A, BORN_B, REFUSED], Some((2, Cause::Unlawful))),
+        (&[BORN_A, Event::Refused(A, A)], Some((1, Cause::Unlawful))),
+    ];
+    compare(&rt, rt.alloc(), CASES);
+    let stamped = Stamped {
+        stamp: 5,
+        desk: 0,
+        event: REFUSED,
+    };
+    let text = format!(in rt.alloc(); "{stamped}")?;
+    assert_eq!(rt; text.as_str(), "5@0 refused <0.0.1> -> <0.1.1>");
+    Ok(())
+}
+
 const A_B: LinkId = LinkId { desk: 0, number: 6 };
 
 const B_C: LinkId = LinkId { desk: 0, number: 7 };
