@@ -26,7 +26,7 @@ module _ (old new : GatheredState) (d e : ℕ) (l : Letter) (r : Receives d e l 
       go true p false q = rw (p, q) (sym (over_both old i k hi hk))
       go false p b q = rw p (sym (over_both old i k hi hk))
 
-  is_receipt : laws.Receives [] (length old.shards) d e l (receipt old.config.start e l (journals old e)) (journals old) (journals new) (over old) (over new)
+  is_receipt : laws.OldestComes [] (length old.shards) d e l (receipt old.config.start e l (journals old e)) (journals old) (journals new) (over old) (over new)
   is_receipt = record {
     rest = drop 1 (over_in old.shards old.lanes d e);
     oldest = over_both old d e d_in e_in ∙ r.first;

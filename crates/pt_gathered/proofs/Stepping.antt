@@ -342,7 +342,8 @@ module _ (config : Config) (shards : List ShardState) (lanes : List (List Letter
       left = over_two;
     }
 
-    more : ℕ → List Stamped
+    -- what desk k wrote
+    abbrev more : ℕ → List Stamped
     more k = cond (k == e) (receipt config.start e l (journal_at shards e) ∷ []) []
 
     grew : (k : ℕ) → journal_at shards2 k ≡ more k ++ journal_at shards k
