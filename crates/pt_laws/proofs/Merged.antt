@@ -163,9 +163,10 @@ module _ (start : Start) (low top : ℕ) where
   -- each event of a merge is one of its desk's
   all_true : (journal : Journals) (merged : List Stamped) → ((d : ℕ) → AllTrueRefusals start journal (of_desk d merged)) → AllTrueRefusals start journal merged
   all_true journal [] h = tt
-  all_true journal (s ∷ merged) h =
-      ((subst (λ c. AllTrueRefusals start journal (cond c (s ∷ of_desk s.desk merged) (of_desk s.desk merged))) (eq-eqb s.desk s.desk refl) (h s.desk)).0,
-      all_true journal merged (λ d. tail d (s.desk == d) (h d)))
+  all_true journal (s ∷ merged) h = (
+    (subst (λ c. AllTrueRefusals start journal (cond c (s ∷ of_desk s.desk merged) (of_desk s.desk merged))) (eq-eqb s.desk s.desk refl) (h s.desk)).0,
+    all_true journal merged (λ d. tail d (s.desk == d) (h d)),
+  )
     where
       tail : (d : ℕ) (b : Bool) → AllTrueRefusals start journal (cond b (s ∷ of_desk d merged) (of_desk d merged)) → AllTrueRefusals start journal (of_desk d merged)
       tail d true k = k.1
