@@ -1,4 +1,5 @@
 use Rattle.std.proofs.Common.{arith}
+use Rattle.pt_events.specs.Journal.{events}
 use Rattle.pt_report.proofs.Accounts.{all_lines}
 use Rattle.pt_report.proofs.summary.write_accounts.Goals as goal
 
@@ -6,5 +7,5 @@ pub returns : goal.returns
 returns g c = (
   c.pids-pid-items.result.now,
   λ merged is.
-      (c.pids-pid-items.ensures merged is, all_lines _ c.pids-pid-items.result.now c.loop-pid.pid-index _ _ (omega (arith, c.loop-pid-test.false)) (c.loop-pid.invariant merged is)),
+      (c.pids-pid-items.ensures merged is, all_lines (events merged) c.pids-pid-items.result.now c.loop-pid.pid-index _ _ (omega (arith, c.loop-pid-test.false)) (c.loop-pid.invariant merged is)),
 )
