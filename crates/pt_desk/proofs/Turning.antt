@@ -7,12 +7,12 @@ use Rattle.pt_signal.specs.declared.letter.Letter.{Letter}
 use Rattle.pt_carrier.specs.Ends.{OutEnds, InEnds, Collects, IsFirstFromCursor}
 use Rattle.pt_shard.specs.declared.stop.Stop.{Stop}
 use Rattle.pt_shard.specs.declared.stop.Stop.TheVariants.{Memory, Worn}
-use Rattle.pt_shard.specs.ShardState.{ShardState, handled, Handles as ShardHandles}
+use Rattle.pt_shard.specs.ShardState.{ShardState, handled, Handles}
 use Rattle.pt_shard.specs.Outbox.{holding}
 use Rattle.pt_shard.specs.Extends.{Extends}
 use Rattle.pt_desk.specs.DeskState.{DeskState, GoesOn, IsAccounted, place}
 use Rattle.pt_desk.specs.Posting.{Posts}
-use Rattle.pt_desk.specs.Turns.{TakesIn, Fetches, FindsNone, HandlesNext, HandlesAll, Stays, EndsWith, handled_held}
+use Rattle.pt_desk.specs.Turns.{TakesFromLane, Fetches, FindsNone, HandlesNext, HandlesAll, Stays, EndsWith, handled_held}
 use Rattle.pt_desk.specs.InPlace.{HandlesFront}
 use Rattle.pt_carrier.proofs.Collecting.{front_taken}
 use Rattle.pt_desk.proofs.Accounts.{accounted_handled, accounted_taken}
@@ -32,7 +32,7 @@ pub held_accounted : (s s1 s2 : ShardState) (o : OutEnds) (i : InEnds) (l : Lett
 held_accounted s s1 s2 o i l boxes acc holds handles frees =
     subst (λ z. IsAccounted z o i) (sym (frees ∙ ap (λ (z : ShardState). holding None z) handles)) (accounted_handled s o i boxes acc l holds)
 
-refused : (l : Letter) (s s' : ShardState) (stop : Stop) → ShardHandles l s (Err stop) s' → s' ≡ s
+refused : (l : Letter) (s s' : ShardState) (stop : Stop) → Handles l s (Err stop) s' → s' ≡ s
 refused l s s' Memory h = h.1
 refused l s s' Worn h = h.1
 
@@ -41,8 +41,8 @@ is_free None h = refl
 is_free (Some l) h = absurd (both_ways true h refl)
 
 -- what was done with the letter in front of a lane was done with the one that is then taken out of it
-pub front_handled : (k : ℕ) (i i' : InEnds) (l : Letter) (s s' : ShardState) (r : Result (Option Pid) Stop) → HandlesFront k i s r s' → Collects i i' k l → ShardHandles l s r s'
-front_handled k i i' l s s' r h takes = subst (λ l. ShardHandles l s r s') (front_taken i i' k h.0 l h.1 takes) h.2
+pub front_handled : (k : ℕ) (i i' : InEnds) (l : Letter) (s s' : ShardState) (r : Result (Option Pid) Stop) → HandlesFront k i s r s' → Collects i i' k l → Handles l s r s'
+front_handled k i i' l s s' r h takes = subst (λ l. Handles l s r s') (front_taken i i' k h.0 l h.1 takes) h.2
 
 pub front_refused : (k : ℕ) (i : InEnds) (s s' : ShardState) (stop : Stop) → HandlesFront k i s (Err stop) s' → s' ≡ s
 front_refused k i s s' stop h = refused h.0 s s' stop h.2
@@ -56,7 +56,7 @@ module _ (s : ShardState) (o : OutEnds) (i i' : InEnds) (k : ℕ) (l : Letter) (
   unheld = ap (λ h. holding h s) free
 
   module _ (first : IsFirstFromCursor i i' k) where
-    pub taken_in : TakesIn l (of_parts s o i) (of_parts (holding (Some l) s) o i')
+    pub taken_in : TakesFromLane l (of_parts s o i) (of_parts (holding (Some l) s) o i')
     taken_in = record {
       free = free;
       shard = refl;
@@ -74,7 +74,7 @@ module _ (s : ShardState) (o : OutEnds) (i i' : InEnds) (k : ℕ) (l : Letter) (
       after = ap (λ (z : ShardState). of_parts z o i') (handles ∙ ap (handled l) unheld);
     }
 
-    pub stays_collected : (s1 s2 : ShardState) (stop : Stop) → ShardHandles l s (Err stop) s1 → s2 ≡ holding (Some l) s1 → Stays stop (of_parts s o i) (of_parts s2 o i')
+    pub stays_collected : (s1 s2 : ShardState) (stop : Stop) → Handles l s (Err stop) s1 → s2 ≡ holding (Some l) s1 → Stays stop (of_parts s o i) (of_parts s2 o i')
     stays_collected s1 s2 Worn refuses keeps =
         subst (λ z. Stays Worn (of_parts s o i) (of_parts z o i')) (sym (keeps ∙ ap (holding (Some l)) (refused l s s1 Worn refuses))) (l, inr taken_in, refuses.0)
     stays_collected s1 s2 Memory refuses keeps =
@@ -83,7 +83,7 @@ module _ (s : ShardState) (o : OutEnds) (i i' : InEnds) (k : ℕ) (l : Letter) (
   taken_accounted : IsAccounted s o i → IsAccounted (holding (Some l) s) o i'
   taken_accounted acc = accounted_taken s o i acc i' l free (subst (λ k. Collects i i' k l) from_is takes) place_is
 
-  pub refused_accounted : (s1 s2 : ShardState) (stop : Stop) → IsAccounted s o i → ShardHandles l s (Err stop) s1 → s2 ≡ holding (Some l) s1 → IsAccounted s2 o i'
+  pub refused_accounted : (s1 s2 : ShardState) (stop : Stop) → IsAccounted s o i → Handles l s (Err stop) s1 → s2 ≡ holding (Some l) s1 → IsAccounted s2 o i'
   refused_accounted s1 s2 stop acc refuses keeps = subst (λ z. IsAccounted z o i') (sym (keeps ∙ ap (holding (Some l)) (refused l s s1 stop refuses))) (taken_accounted acc)
 
   pub collected_accounted : (s1 : ShardState) → length s.outbox ≡ s.config.desks → IsAccounted s o i → s1 ≡ handled l s → IsAccounted s1 o i'

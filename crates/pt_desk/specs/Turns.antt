@@ -12,7 +12,7 @@ use Rattle.pt_desk.specs.DeskState.{DeskState}
 use Rattle.pt_desk.specs.Posting.{Posts, total}
 
 -- the letter is taken out of its lane and stands in the hold
-pub record TakesIn (l : Letter) (old new : DeskState) : Type 0 where
+pub record TakesFromLane (l : Letter) (old new : DeskState) : Type 0 where
   pub free : old.shard.hold ≡ None
   pub shard : new.shard ≡ holding (Some l) old.shard
   pub outs : new.outs ≡ old.outs
@@ -22,7 +22,7 @@ pub record TakesIn (l : Letter) (old new : DeskState) : Type 0 where
 
 -- the next letter stands in the hold: it stood there, or none did and it was collected
 abbrev pub Fetches : Letter → DeskState → DeskState → Type 0
-Fetches l old new = ((old.shard.hold ≡ Some l) × (new ≡ old)) ⊎ TakesIn l old new
+Fetches l old new = ((old.shard.hold ≡ Some l) × (new ≡ old)) ⊎ TakesFromLane l old new
 
 -- none is in the hold, and no lane shows a letter
 pub record FindsNone (old new : DeskState) : Type 0 where
@@ -51,10 +51,10 @@ Stays Worn old new = (l : Letter) × Fetches l old new × (MAX_STAMP ≤ max new
 Stays Memory old new = (l : Letter) × Fetches l old new × (max new.shard.clock l.stamp < MAX_STAMP)
 
 -- one more letter is handled, or there is none, or it is refused
-abbrev pub Handles : DeskState → Result Bool Stop → DeskState → Type 0
-Handles old (Ok true) new = (l : Letter) × HandlesNext l old new
-Handles old (Ok false) new = FindsNone old new
-Handles old (Err stop) new = Stays stop old new
+abbrev pub HandlesAtMostOne : DeskState → Result Bool Stop → DeskState → Type 0
+HandlesAtMostOne old (Ok true) new = (l : Letter) × HandlesNext l old new
+HandlesAtMostOne old (Ok false) new = FindsNone old new
+HandlesAtMostOne old (Err stop) new = Stays stop old new
 
 -- these letters were handled one after the other; the newest stands first
 abbrev pub HandlesAll : List Letter → DeskState → DeskState → Type 0

@@ -13,7 +13,7 @@ ghost use Rattle.pt_shard.specs.Calls.{Calls, Monitors, Bears, BearsChild, link_
 ghost use Rattle.pt_desk.specs.DeskState.{IsDesk, IsAccounted, HasSameEnds, GoesOn, posted_to, waits_for, collected_from};
 ghost use Rattle.pt_desk.specs.Posting.{PostsOne, PostsTo, PostsSome, Posts, total};
 ghost use Rattle.pt_desk.specs.InPlace.{HandlesFront, HoldsFront};
-ghost use Rattle.pt_desk.specs.Turns.{Handles, Turns};
+ghost use Rattle.pt_desk.specs.Turns.{HandlesAtMostOne, Turns};
 
 use crate::turned::Turned;
 use pt_carrier::{Ins, Outs};
@@ -390,7 +390,7 @@ impl Desk {
 
     /// Handles the letter in the hold, or else the next that is collected, and says whether there was one.
     fn handle(&mut self) -> Result<bool, Stop>
-        ensures { Handles self.old result self.new }
+        ensures { HandlesAtMostOne self.old result self.new }
     {
         if self.shard.holds() {
             return self.handle_held();
@@ -415,7 +415,7 @@ impl Desk {
     #[inline(never)]
     fn handle_held(&mut self) -> Result<bool, Stop>
         requires { is_some self.old.shard.hold ≡ true }
-        ensures { Handles self.old result self.new }
+        ensures { HandlesAtMostOne self.old result self.new }
     {
         let Some(letter) = self.shard.held() else {
             unreachable!();

@@ -43,7 +43,7 @@ use Rattle.pt_shard.specs.LedgerState.{Book, LedgerState, HasRoomToAll, Prepares
 use Rattle.pt_shard.specs.Residents.{ResidentsState, living_at, with_process, in_place, pid_at, vacant_at, Changes, Ends, IsSameTable, HasRoomFor}
 use Rattle.pt_shard.specs.Whole.{Parts, parts_of, shard_of, IsWhole}
 use Rattle.pt_shard.specs.Plain.{IsPlain}
-use Rattle.pt_shard.specs.Acts.{Acts, Tells, IsStill, PreparesBirth, IsStopped, TakesIn, done, posted, link_after, ref_after, taking, linking, unlinking, giving_up, giving_up_at}
+use Rattle.pt_shard.specs.Acts.{Acts, Tells, HasOnlyMoreRoom, PreparesBirth, IsStopped, TakesIn, done, posted, link_after, ref_after, taking, linking, unlinking, giving_up, giving_up_at}
 use Rattle.pt_shard.proofs.Acting.{Outcome, Found, own_book, alive, lives_here, is_there, said_to, said_known, plain_may, plain_new, plain_changes, left_alone, set_flag, took_item, link_now, link_new, ref_now, ref_new, not_open_yet, open_target, peers_near, left_by, left_from, left_near, left_peers}
 use Rattle.pt_shard.proofs.Outcomes.{not_prepared, same_book}
 use Rattle.pt_shard.proofs.Bearing.{Unchanged, unchanged, same_table, BirthOutcome, adopts, child_outcome, room_stays, parent_is_there}
@@ -82,7 +82,7 @@ module _ (a : Parts) (whole : IsWhole a) (p : Pid) (was : Resident) (found : Som
       → Outcome a (parts_of a.config book house) (a.book.clock + 1) e
 
   module _ {A : Type 0} (answer : A) (ledger : LedgerState) (is : ledger.book ≡ a.book) (now : Resident) (ledger' : LedgerState) where
-    still_one : (event : Option Event) (r : Result A Fault) → IsStill was ledger now ledger' → Calls p event answer (shard_of a) r (shard_of a)
+    still_one : (event : Option Event) (r : Result A Fault) → HasOnlyMoreRoom was ledger now ledger' → Calls p event answer (shard_of a) r (shard_of a)
         → Acted A a (left_with ledger'.book now) p event answer r
     still_one event r still calls =
         let u = kept_still ledger'.book now still.0 still.1 (still.2 ∙ is) in

@@ -21,6 +21,7 @@ use Rattle.pt_events.specs.Journal.{letter, IsHome, MayHere, IsNewAt, IsKnown}
 use Rattle.pt_events.proofs.Steps.{said, took, flagged, left}
 use Rattle.pt_slots.specs.declared.Key.{Key}
 use Rattle.pt_slots.specs.State.{at, next_key}
+use Rattle.pt_slots.specs.Offers.{OffersTheFree}
 use Rattle.pt_signal.specs.declared.reason.Reason.TheVariants.{Normal}
 use Rattle.pt_process.specs.Resident.{Owing}
 use Rattle.pt_process.specs.Peers.{peers}
@@ -43,8 +44,9 @@ use Rattle.pt_shard.specs.Calls.{new_link, new_ref}
 use Rattle.pt_shard.specs.Sound.{Every}
 use Rattle.pt_shard.proofs.Fresh.{fresh_link, fresh_ref}
 use Rattle.pt_shard.proofs.Near.{near_life, not_open, open_at, IsNearPhase, IsOpen}
-use Rattle.pt_shard.proofs.Births.{is_birth, issued_kept, issued_same, known_near, known_born}
+use Rattle.pt_shard.proofs.Births.{is_any_birth, issued_kept, issued_same, known_near, known_born}
 use Rattle.pt_shard.proofs.Frames.{IsPut, put_one, lives_there}
+use Rattle.pt_shard.proofs.Vacancy.{same_place, offers_changed}
 use Rattle.pt_shard.proofs.Keeps.{IsLawful, same_desk, sent_near, whole_next, fit_next, extends_next, next_is}
 
 -- the table by places, and by pids ------------------------------------------------------
@@ -71,9 +73,6 @@ at_home desk table p r h = go (p.shard == desk) refl h
 
 pub same_settings : (table : Table) → SameSettings table table
 same_settings table = record { issues = λ slot. refl; capacity = refl; top_version = refl }
-
-pub same_place : (p : Pid) (slot version : ℕ) → is_place_of p slot version ≡ true → (p.slot ≡ slot) × (p.version ≡ version)
-same_place p slot version h = (grind (arith, nat_tests), grind (arith, nat_tests))
 
 changed_nothing : (o : Option (Pid × ProcessState)) → changed (λ me s. s) o ≡ o
 changed_nothing None = refl
@@ -207,7 +206,7 @@ module _ (a : Parts) (whole : IsWhole a) (p : Pid) (f : Found a p) where
   -- an event of p that is neither a birth nor a receipt
   pub record IsOwn (e : Event) : Type 0 where
     pub alone : (q : Pid) → touches q e ≡ same_pid q p
-    pub no_birth : is_birth e ≡ false
+    pub no_birth : is_any_birth e ≡ false
     pub home : IsHome a.house.desk e
     pub may : MayHere [] (past (shard_of a)) e
     pub new_at : IsNewAt a.house.desk (a.book.clock + 1) e
@@ -215,9 +214,9 @@ module _ (a : Parts) (whole : IsWhole a) (p : Pid) (f : Found a p) where
     pub near : IsNear a.config.desks e
 
   module _ (can : a.book.clock < 2 ^ 62) (book : Book) (house : ResidentsState) (desk : house.desk ≡ a.house.desk) where
-    own_lawful : (e : Event) (own : IsOwn e) (v : Option (Pid × ProcessState)) → Puts p v a.house.table house.table → resident (e ∷ past (shard_of a)) p ≡ v
+    own_lawful : (e : Event) (own : IsOwn e) (v : Option (Pid × ProcessState)) → Puts p v a.house.table house.table → resident (e ∷ past (shard_of a)) p ≡ v → OffersTheFree house.table
         → IsLawful a whole (a.book.clock + 1) e house.table
-    own_lawful e own v puts after = record {
+    own_lawful e own v puts after offers = record {
       later = omega arith;
       fits = omega (arith, can);
       home = own.home;
@@ -230,6 +229,7 @@ module _ (a : Parts) (whole : IsWhole a) (p : Pid) (f : Found a p) where
           (subst (λ x. IsPut p x (resident_at a.house.desk a.house.table) (resident_at a.house.desk house.table)) (sym after) (put_by_pid a.house.desk p v a.house.table house.table stands.0 puts));
       issues = λ slot. puts.settings.issues slot ∙ whole.sound.issues slot ∙ sym (issued_same [] (past (shard_of a)) e slot own.no_birth);
       born = issued_kept [] a.house.desk (past (shard_of a)) e own.no_birth whole.sound.born;
+      offers = offers;
       capacity = puts.settings.capacity;
       top_version = puts.settings.top_version;
     }
@@ -243,7 +243,7 @@ module _ (a : Parts) (whole : IsWhole a) (p : Pid) (f : Found a p) where
     said_to to x born near may new is changes =
         let own : IsOwn (Said p to x) = record { alone = λ q. refl; no_birth = refl; home = stands.0; may = rw lives_here (refl, may); new_at = new; known = born; near = near } in
         let after = ap (of_phase p) (said [] (past (shard_of a)) p f.s lives_here to x) ∙ sym (ap (changed (λ me s. say s to x)) stands.1) in
-        outcome a whole (a.book.clock + 1) (Said p to x) book house desk (own_lawful (Said p to x) own _ changes.puts after) is (ap (option_pid a.house.desk) changes.next)
+        outcome a whole (a.book.clock + 1) (Said p to x) book house desk (own_lawful (Said p to x) own _ changes.puts after (offers_changed p _ a.house.table house.table whole.offers changes)) is (ap (option_pid a.house.desk) changes.next)
 
     pub said_known : (to : Pid) (x : Signal) → knows (shard_of a) to ≡ true
         → MaySay [] (past (shard_of a)) f.s p to x → IsNewAt a.house.desk (a.book.clock + 1) (Said p to x)
@@ -258,7 +258,7 @@ module _ (a : Parts) (whole : IsWhole a) (p : Pid) (f : Found a p) where
     set_flag on is changes =
         let own : IsOwn (Flag p on) = record { alone = λ q. refl; no_birth = refl; home = stands.0; may = rw lives_here refl; new_at = tt; known = tt; near = tt } in
         let after = ap (of_phase p) (flagged [] (past (shard_of a)) p f.s lives_here on) ∙ sym (ap (changed (λ me s. record s { traps = on })) stands.1) in
-        outcome a whole (a.book.clock + 1) (Flag p on) book house desk (own_lawful (Flag p on) own _ changes.puts after) is (ap (option_pid a.house.desk) changes.next)
+        outcome a whole (a.book.clock + 1) (Flag p on) book house desk (own_lawful (Flag p on) own _ changes.puts after (offers_changed p _ a.house.table house.table whole.offers changes)) is (ap (option_pid a.house.desk) changes.next)
 
     pub took_item : (k : Pick) (i : Item) → find (fits k) f.s.waiting ≡ Some i
         → book ≡ wrote (a.book.clock + 1) (Took p k i) [] a.book
@@ -267,7 +267,7 @@ module _ (a : Parts) (whole : IsWhole a) (p : Pid) (f : Found a p) where
     took_item k i first is changes =
         let own : IsOwn (Took p k i) = record { alone = λ q. refl; no_birth = refl; home = stands.0; may = rw lives_here (refl, first); new_at = tt; known = tt; near = tt } in
         let after = ap (of_phase p) (took [] (past (shard_of a)) p f.s lives_here k i) ∙ sym (ap (changed (λ me t. record t { waiting = without_first (fits k) t.waiting })) stands.1) in
-        outcome a whole (a.book.clock + 1) (Took p k i) book house desk (own_lawful (Took p k i) own _ changes.puts after) is (ap (option_pid a.house.desk) changes.next)
+        outcome a whole (a.book.clock + 1) (Took p k i) book house desk (own_lawful (Took p k i) own _ changes.puts after (offers_changed p _ a.house.table house.table whole.offers changes)) is (ap (option_pid a.house.desk) changes.next)
 
     pub left_by : (r : Reason) (owing : Owing) → Ends p r owing a.house.table house.table
         → book ≡ wrote (a.book.clock + 1) (Left p r) (map (letter (a.book.clock + 1)) owing.owed) a.book
@@ -276,7 +276,7 @@ module _ (a : Parts) (whole : IsWhole a) (p : Pid) (f : Found a p) where
         let own : IsOwn (Left p r) = record { alone = λ q. refl; no_birth = refl; home = stands.0; may = rw lives_here refl; new_at = tt; known = tt; near = tt } in
         let owes : owing.owed ≡ left_sends (life [] (past (shard_of a)) p) p r = ap (λ o. o.owed) (owes_is p r owing a.house.table house.table f.s stands.1 ends) ∙ sym (ap (λ x. left_sends x p r) lives_here) in
         outcome a whole (a.book.clock + 1) (Left p r) book house desk
-        (own_lawful (Left p r) own None ends.puts (ap (of_phase p) (left [] (past (shard_of a)) p f.s lives_here r)))
+        (own_lawful (Left p r) own None ends.puts (ap (of_phase p) (left [] (past (shard_of a)) p f.s lives_here r)) ends.offers)
         (wrote_is ∙ ap (λ o. wrote (a.book.clock + 1) (Left p r) (map (letter (a.book.clock + 1)) o) a.book) owes)
         (vacant_next a.house.desk a.config.top_version p a.house.table house.table stands.0 whole.top_version ends.next)
 

@@ -16,6 +16,7 @@ use Rattle.pt_events.specs.History.{Past, Phase, unborn, living, ended, life, li
 use Rattle.pt_events.specs.Journal.{IsLinkAt, IsOf}
 use Rattle.pt_slots.specs.declared.Key.{Key}
 use Rattle.pt_slots.specs.State.{at, issued, next_key}
+use Rattle.pt_slots.specs.Offers.{OffersTheFree}
 use Rattle.pt_slots.specs.Calls.{Inserted, names}
 use Rattle.pt_process.specs.Resident.{Resident}
 use Rattle.pt_shard.specs.declared.fault.Fault.{Fault}
@@ -31,6 +32,7 @@ use Rattle.pt_shard.specs.Residents.{Table, ResidentsState, seen, resident_at, i
 use Rattle.pt_shard.specs.Whole.{Parts, parts_of, shard_of, IsWhole}
 use Rattle.pt_shard.proofs.Births.{issued_more, next_unborn, previous, previous_born, is_unborn_is, ended_is}
 use Rattle.pt_shard.proofs.Frames.{lives_not}
+use Rattle.pt_shard.proofs.Vacancy.{next_birth, offers_changed, offers_same}
 use Rattle.pt_shard.proofs.Keeps.{IsLawful, with_table, same_desk, whole_next, extends_next, fit_next, extends_itself}
 use Rattle.pt_shard.proofs.Outcomes.{still}
 use Rattle.pt_shard.proofs.Acting.{Found, lives_here, stands, put_by_pid, link_new, same_settings}
@@ -148,6 +150,7 @@ module _ (a : Parts) (whole : IsWhole a) (key : Key) (r : Resident) (mid : Table
       pub new_at : IsLinkAt a.house.desk (a.book.clock + 1) link
       pub reads : (p : Pid) → resident_at a.house.desk table' p ≡ read_born child parent link p (resident_at a.house.desk a.house.table p)
       pub issues : (slot : ℕ) → issued table' slot ≡ issued mid slot
+      pub offers : OffersTheFree table'
       pub capacity : table'.capacity ≡ mid.capacity
       pub top_version : table'.top_version ≡ mid.top_version
 
@@ -167,6 +170,7 @@ module _ (a : Parts) (whole : IsWhole a) (key : Key) (r : Resident) (mid : Table
           b.reads p ∙ ap (read_born child parent link p) (whole.sound.residents p) ∙ sym (birth_resident (past (shard_of a)) child parent link not_yet p);
       issues = λ slot. b.issues slot ∙ issued_now slot;
       born = issued_more [] a.house.desk (past (shard_of a)) child parent link refl next_is whole.sound.born;
+      offers = b.offers;
       capacity = b.capacity ∙ ins.settings.capacity;
       top_version = b.top_version ∙ ins.settings.top_version;
     }
@@ -200,6 +204,7 @@ module _ (a : Parts) (whole : IsWhole a) (key : Key) (r : Resident) (mid : Table
     new_at = tt;
     reads = λ p. inserted_reading a.house.desk key r a.house.table mid ins p ∙ rw (me, state) refl;
     issues = λ slot. refl;
+    offers = ins.offers;
     capacity = refl;
     top_version = refl;
   }
@@ -249,6 +254,7 @@ module _ (a : Parts) (whole : IsWhole a) (key : Key) (r : Resident) (mid : Table
         new_at = new_at;
         reads = child_reads;
         issues = changes.puts.settings.issues;
+        offers = offers_changed par _ mid table' ins.offers changes;
         capacity = changes.puts.settings.capacity;
         top_version = changes.puts.settings.top_version;
       }
@@ -270,6 +276,10 @@ same_whole a book house whole b d same =
           first = refl;
           clock_is = whole.sound.fit.clock_is;
           local = whole.sound.fit.local;
+          vacant =
+              next_birth (shard_of (parts_of a.config a.book (with_table a.house house.table))) house.table (λ p. same_reading a.house.desk a.house.table house.table same p ∙ whole.sound.residents p)
+              (λ slot. same.settings.issues slot ∙ whole.sound.issues slot) (same.settings.capacity ∙ whole.capacity) (same.settings.top_version ∙ whole.top_version)
+              (offers_same a.house.table house.table whole.offers same);
           boxes = whole.sound.fit.boxes;
           boxed = whole.sound.fit.boxed;
           held = whole.sound.fit.held;
@@ -282,6 +292,7 @@ same_whole a book house whole b d same =
         born = whole.sound.born;
         near = whole.sound.near;
       };
+      offers = offers_same a.house.table house.table whole.offers same;
       home = whole.home;
       capacity = same.settings.capacity ∙ whole.capacity;
       top_version = same.settings.top_version ∙ whole.top_version;

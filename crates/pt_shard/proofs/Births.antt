@@ -15,25 +15,25 @@ use Rattle.pt_shard.specs.ShardState.{ShardState, past}
 use Rattle.pt_shard.specs.Known.{issued_in, is_in_node, is_not_ahead, knows}
 use Rattle.pt_shard.specs.Sound.{is_issued, BornAreIssued}
 
--- the event is no birth
-abbrev pub is_birth : Event → Bool
-is_birth (Born q parent link) = true
-is_birth _ = false
+-- the event is a birth
+abbrev pub is_any_birth : Event → Bool
+is_any_birth (Born q parent link) = true
+is_any_birth _ = false
 
-change_unborn : (p : Pid) (e : Event) → is_birth e ≡ false → change p e unborn ≡ unborn
+change_unborn : (p : Pid) (e : Event) → is_any_birth e ≡ false → change p e unborn ≡ unborn
 change_unborn p (Born q parent link) h = absurd (cc)
 change_unborn p _ h = refl
 
-same_birth : (p : Pid) (e : Event) (f : Phase) → is_birth e ≡ false → is_unborn (after p e f) ≡ is_unborn f
+same_birth : (p : Pid) (e : Event) (f : Phase) → is_any_birth e ≡ false → is_unborn (after p e f) ≡ is_unborn f
 same_birth p e unborn h = each_branch (λ f. is_unborn f ≡ true) (touches p e) (change p e unborn) unborn (ap is_unborn (change_unborn p e h)) refl
 same_birth p e (living s) h = after_born p e (living s) refl
 same_birth p e (ended r s) h = after_born p e (ended r s) refl
 
-pub issued_same : (start : Start) (before : Past) (e : Event) (slot : ℕ) → is_birth e ≡ false → issued_in start (e ∷ before) slot ≡ issued_in start before slot
+pub issued_same : (start : Start) (before : Past) (e : Event) (slot : ℕ) → is_any_birth e ≡ false → issued_in start (e ∷ before) slot ≡ issued_in start before slot
 issued_same start before (Born q parent link) slot h = absurd (cc)
 issued_same start before _ slot h = refl
 
-pub issued_kept : (start : Start) (desk : ℕ) (before : Past) (e : Event) → is_birth e ≡ false → BornAreIssued start desk before → BornAreIssued start desk (e ∷ before)
+pub issued_kept : (start : Start) (desk : ℕ) (before : Past) (e : Event) → is_any_birth e ≡ false → BornAreIssued start desk before → BornAreIssued start desk (e ∷ before)
 issued_kept start desk before e h k p = rw (same_birth p e (life start before p) h, issued_same start before e p.slot h) (k p)
 
 other_version : (desk n : ℕ) (q p : Pid) → q.shard ≡ desk → q.version ≡ n + 1 → q.slot ≡ p.slot → same_pid p q ≡ false

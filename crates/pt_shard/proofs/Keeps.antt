@@ -14,6 +14,7 @@ use Rattle.pt_events.specs.History.{sent_by}
 use Rattle.pt_events.specs.Journal.{letter, letters, gots, got_of, posts, IsHome, MayHere, IsNewAt, IsKnown}
 use Rattle.pt_events.proofs.Homes.{AllFrom, from_home}
 use Rattle.pt_slots.specs.State.{issued}
+use Rattle.pt_slots.specs.Offers.{OffersTheFree}
 use Rattle.pt_shard.proofs.Boxes.{put_at, put_count}
 use Rattle.pt_shard.specs.ShardState.{ShardState, past, sends, written, vacated, ended_by, put_out}
 use Rattle.pt_shard.specs.Known.{issued_in}
@@ -24,6 +25,7 @@ use Rattle.pt_shard.specs.LedgerState.{wrote}
 use Rattle.pt_shard.specs.Residents.{Table, ResidentsState, resident_at, vacant_at}
 use Rattle.pt_shard.specs.Whole.{Parts, parts_of, shard_of, IsWhole}
 use Rattle.pt_shard.proofs.Births.{stays_known}
+use Rattle.pt_shard.proofs.Vacancy.{next_birth}
 use Rattle.pt_shard.proofs.Near.{IsOpen, IsToNode, near_life, near_sent}
 
 -- letters between desks -----------------------------------------------------------------
@@ -85,6 +87,7 @@ module _ (a : Parts) (whole : IsWhole a) where
     pub residents : (p : Pid) → resident_at a.house.desk table p ≡ resident (e ∷ past before) p
     pub issues : (slot : ℕ) → issued table slot ≡ issued_in [] (e ∷ past before) slot
     pub born : BornAreIssued [] a.house.desk (e ∷ past before)
+    pub offers : OffersTheFree table
     pub capacity : table.capacity ≡ a.house.table.capacity
     pub top_version : table.top_version ≡ a.house.table.top_version
 
@@ -125,6 +128,8 @@ module _ (a : Parts) (whole : IsWhole a) where
       first = refl;
       clock_is = refl;
       local = (record { here = refl; later = let k = whole.sound.fit.clock_is in omega (arith, law.later); within = law.fits; home = law.home; may = law.may; new_at = law.new_at; known = law.known }, whole.sound.fit.local);
+      vacant =
+          next_birth (record (written n e before) { vacant = vacant_at a.house.desk table }) table law.residents law.issues (law.capacity ∙ whole.capacity) (law.top_version ∙ whole.top_version) law.offers;
       boxes = put_count a.book.outbox (sends n e before) ∙ whole.sound.fit.boxes;
       boxed = fit_boxed;
       held = whole.sound.fit.held;
@@ -149,7 +154,7 @@ module _ (a : Parts) (whole : IsWhole a) where
     pub whole_next : IsWhole (next_parts n e table)
     whole_next =
         subst (λ b. IsWhole (parts_of a.config b (with_table a.house table))) (sym same_book)
-        (record { sound = sound_written; home = whole.home; capacity = law.capacity ∙ whole.capacity; top_version = law.top_version ∙ whole.top_version })
+        (record { sound = sound_written; offers = law.offers; home = whole.home; capacity = law.capacity ∙ whole.capacity; top_version = law.top_version ∙ whole.top_version })
 
     pub fit_next : IsFit (shard_of (next_parts n e table))
     fit_next = whole_next.sound.fit

@@ -12,7 +12,8 @@ use Rattle.pt_slots.proofs.Steps.{written}
 use Rattle.pt_process.specs.Resident.{Resident, Owing}
 use Rattle.pt_shard.specs.Acts.{HasRoomIf}
 use Rattle.pt_shard.specs.Residents.{Table, seen, in_place, resident_at, living_at, key_at, changed, is_place_of, Changes, Ends, IsSameTable, HasRoomFor}
-use Rattle.pt_shard.proofs.Acting.{own_place, same_place}
+use Rattle.pt_shard.proofs.Acting.{own_place}
+use Rattle.pt_shard.proofs.Vacancy.{same_place}
 
 module _ (desk : ℕ) (table : Table) (p : Pid) (was : Resident) (found : Some was ≡ living_at desk table p) where
   here : (p.shard ≡ desk) × (at table p.slot p.version ≡ Some was)
@@ -85,6 +86,7 @@ ends_after p r owing old mid new same ends = record {
       top_version = ends.puts.settings.top_version ∙ same.settings.top_version;
     };
   };
+  offers = ends.offers;
   next =
       ends.next
       ∙ ap (λ t. cond (p.version == t) (next_key mid) (Some (record { slot = p.slot; version = p.version + 1 }))) same.settings.top_version

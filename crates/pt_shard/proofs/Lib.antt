@@ -15,3 +15,4 @@ mod Bearing
 mod Standing
 mod Acted
 mod Taken
+mod Vacancy

@@ -28,6 +28,8 @@ use Rattle.pt_shard.specs.Sound.{Every}
 use Rattle.pt_shard.proofs.Endings.{fewer_owed, estate_peers}
 use Rattle.pt_process.specs.Peers.{peers}
 use Rattle.pt_shard.proofs.Keeps.{IsLawful, sent_near}
+use Rattle.pt_slots.specs.Offers.{OffersTheFree}
+use Rattle.pt_shard.proofs.Vacancy.{offers_changed}
 use Rattle.pt_shard.proofs.Acting.{Outcome, outcome, Found, stands, both, put_by_pid, same_settings, vacant_next, option_pid, owes_is, put_there}
 
 -- what the journal says a letter does, by what stands in the slot of its receiver ---------------
@@ -63,6 +65,7 @@ standing a l = resident_at a.house.desk a.house.table l.to
 pub record Delivers (a : Parts) (l : Letter) (table : Table) : Type 0 where
   pub live : (q : Pid) → resident_at a.house.desk table q ≡ cond (same_pid q l.to) (remains l (standing a l)) (resident_at a.house.desk a.house.table q)
   pub settings : SameSettings a.house.table table
+  pub offers : OffersTheFree table
   pub vacant : vacant_at a.house.desk table ≡ vacated a.config.top_version (cond (is_ended_by l (standing a l)) (Some l.to) None) (vacant_at a.house.desk a.house.table)
 
 module _ (a : Parts) (whole : IsWhole a) (l : Letter) (here : l.to.shard ≡ a.house.desk) (near : l.from.shard < a.config.desks) (can : max a.book.clock l.stamp < 2 ^ 62) where
@@ -85,6 +88,7 @@ module _ (a : Parts) (whole : IsWhole a) (l : Letter) (here : l.to.shard ≡ a.h
           (subst (λ v. IsPut l.to v (resident_at a.house.desk a.house.table) (resident_at a.house.desk house.table)) (sym comes) delivers.live);
       issues = λ slot. delivers.settings.issues slot ∙ whole.sound.issues slot ∙ sym (issued_same [] (past (shard_of a)) (came l) slot refl);
       born = issued_kept [] a.house.desk (past (shard_of a)) (came l) refl whole.sound.born;
+      offers = delivers.offers;
       capacity = delivers.settings.capacity;
       top_version = delivers.settings.top_version;
     }
@@ -108,6 +112,7 @@ module _ (a : Parts) (whole : IsWhole a) (l : Letter) (here : l.to.shard ≡ a.h
         (subst (Delivers a l) (sym same) (record {
           live = λ q. still q (same_pid q l.to) refl;
           settings = same_settings a.house.table;
+          offers = whole.offers;
           vacant = rw none refl;
         }))
         (is ∙ ap (λ o. wrote (receipt_stamp a l) (came l) (map (letter (receipt_stamp a l)) (replies l o)) a.book) (sym none))
@@ -135,6 +140,7 @@ module _ (a : Parts) (whole : IsWhole a) (l : Letter) (here : l.to.shard ≡ a.h
           (record {
             live = subst (λ v. IsPut l.to v (resident_at a.house.desk a.house.table) (resident_at a.house.desk house.table)) (sym stays) (put_by_pid a.house.desk l.to _ a.house.table house.table here changes.puts);
             settings = changes.puts.settings;
+            offers = offers_changed l.to _ a.house.table house.table whole.offers changes;
             vacant = rw (stands_there, none) (ap (option_pid a.house.desk) changes.next);
           })
           (is ∙ ap (λ o. wrote (receipt_stamp a l) (came l) (map (letter (receipt_stamp a l)) o) a.book) (sym back))
@@ -203,6 +209,7 @@ module _ (a : Parts) (whole : IsWhole a) (l : Letter) (here : l.to.shard ≡ a.h
           capacity = ends.puts.settings.capacity ∙ changes.puts.settings.capacity;
           top_version = ends.puts.settings.top_version ∙ changes.puts.settings.top_version;
         };
+        offers = ends.offers;
         vacant =
             vacant_next a.house.desk a.config.top_version l.to mid.table last.table here (changes.puts.settings.top_version ∙ whole.top_version) ends.next
             ∙ ap (vacated a.config.top_version (Some l.to)) (ap (option_pid a.house.desk) changes.next)

@@ -28,6 +28,7 @@ removed_at p reason r owing old new owes removed =
         settings = record { issues = removed.issues; capacity = removed.settings.capacity; top_version = removed.settings.top_version };
       };
       next = removed.next;
+      offers = removed.offers;
     }
   where
     go : (b : Bool) (slot version : ℕ) → is_place_of p slot version ≡ b → seen (at new slot version) ≡ cond (is_place_of p slot version) None (seen (at old slot version))

@@ -9,8 +9,9 @@ use Rattle.pt_signal.specs.declared.letter.Letter.{Letter}
 use Rattle.pt_slots.specs.Calls.{IsEmpty}
 use Rattle.pt_shard.specs.declared.config.Config.{Config}
 use Rattle.pt_shard.specs.Opening.{IsInRange, fresh}
+use Rattle.pt_shard.proofs.Vacancy.{next_birth}
 use Rattle.pt_shard.specs.Extends.{Extends}
-use Rattle.pt_shard.specs.Fit.{AreBetween}
+use Rattle.pt_shard.specs.Fit.{AreBetween, IsNextBirth}
 use Rattle.pt_shard.specs.LedgerState.{Book}
 use Rattle.pt_shard.specs.Sound.{is_issued}
 use Rattle.pt_shard.specs.Residents.{ResidentsState, resident_at}
@@ -24,6 +25,7 @@ module _ (a : Parts) (whole : IsWhole a) (outbox : List (List Letter)) (hold : O
   moved = parts_of a.config (record a.book { outbox = outbox; hold = hold }) a.house
 
   pub moved_whole : IsWhole moved
+  unfolding IsNextBirth
   moved_whole = record {
     sound = record {
       fit = record {
@@ -32,6 +34,7 @@ module _ (a : Parts) (whole : IsWhole a) (outbox : List (List Letter)) (hold : O
         first = refl;
         clock_is = whole.sound.fit.clock_is;
         local = whole.sound.fit.local;
+        vacant = whole.sound.fit.vacant;
         boxes = boxes;
         boxed = boxed;
         held = held;
@@ -44,6 +47,7 @@ module _ (a : Parts) (whole : IsWhole a) (outbox : List (List Letter)) (hold : O
       born = whole.sound.born;
       near = whole.sound.near;
     };
+    offers = whole.offers;
     home = whole.home;
     capacity = whole.capacity;
     top_version = whole.top_version;
@@ -111,6 +115,7 @@ module _ (config : Config) (settings : IsInRange config) (house : ResidentsState
         first = refl;
         clock_is = refl;
         local = tt;
+        vacant = next_birth (shard_of (parts_of config (first_book config house.desk) house)) house.table nobody empty.none_issued empty.capacity_is empty.top_version_is empty.offers;
         boxes = length-replicate config.desks [];
         boxed = empty_boxed house.desk config.desks;
         held = tt;
@@ -123,6 +128,7 @@ module _ (config : Config) (settings : IsInRange config) (house : ResidentsState
       born = none_issued house.desk;
       near = tt;
     };
+    offers = empty.offers;
     home = refl;
     capacity = empty.capacity_is;
     top_version = empty.top_version_is;

@@ -75,17 +75,17 @@ giving_up w m flush s = giving_up_at (lookup (same_ref m) s.watching) w m flush 
 -- what a process does, and what that leaves ----------------------------------------------------------
 
 -- nothing changed but for room
-abbrev pub IsStill : Resident → LedgerState → Resident → LedgerState → Type 0
-IsStill r l r' l' = (r'.me ≡ r.me) × (r'.state ≡ r.state) × (l'.book ≡ l.book)
+abbrev pub HasOnlyMoreRoom : Resident → LedgerState → Resident → LedgerState → Type 0
+HasOnlyMoreRoom r l r' l' = (r'.me ≡ r.me) × (r'.state ≡ r.state) × (l'.book ≡ l.book)
 
 -- it wrote that event, if any, and answers so
 abbrev pub Acts : {A : Type 0} → Option Event → A → Resident → LedgerState → Result A Fault → Resident → LedgerState → Type 0
-Acts None answer r l (Ok a) r' l' = (a ≡ answer) × IsStill r l r' l'
+Acts None answer r l (Ok a) r' l' = (a ≡ answer) × HasOnlyMoreRoom r l r' l'
 Acts None answer r l (Err f) r' l' = ⊥
 Acts (Some e) answer r l (Ok a) r' l' =
     (l.book.clock < MAX_STAMP) × (a ≡ answer) × (r'.me ≡ r.me) × (r'.state ≡ done e r.state) × (l'.book ≡ wrote (l.book.clock + 1) e (posted (l.book.clock + 1) e) l.book)
-Acts (Some e) answer r l (Err fault.Worn) r' l' = (MAX_STAMP ≤ l.book.clock) × IsStill r l r' l'
-Acts (Some e) answer r l (Err fault.Memory) r' l' = (l.book.clock < MAX_STAMP) × IsStill r l r' l'
+Acts (Some e) answer r l (Err fault.Worn) r' l' = (MAX_STAMP ≤ l.book.clock) × HasOnlyMoreRoom r l r' l'
+Acts (Some e) answer r l (Err fault.Memory) r' l' = (l.book.clock < MAX_STAMP) × HasOnlyMoreRoom r l r' l'
 Acts (Some e) answer r l (Err fault.Gone) r' l' = ⊥
 Acts (Some e) answer r l (Err fault.Full) r' l' = ⊥
 Acts (Some e) answer r l (Err fault.Myself) r' l' = ⊥
@@ -107,17 +107,17 @@ HasRoomIf (Some i) r = 0 < r.room
 -- there is room for a birth, with the link that is asked for
 abbrev pub PreparesBirth : Bool → Resident → LedgerState → Result (Option LinkId) Fault → Resident → LedgerState → Type 0
 PreparesBirth linked r l (Ok link) r' l' =
-    (l.book.clock < MAX_STAMP) × (link ≡ then_some linked (link_after l.book)) × IsStill r l r' l' × (0 < l'.room) × HasRoomIf link r'
-PreparesBirth linked r l (Err fault.Worn) r' l' = (MAX_STAMP ≤ l.book.clock) × IsStill r l r' l'
-PreparesBirth linked r l (Err fault.Memory) r' l' = (l.book.clock < MAX_STAMP) × IsStill r l r' l'
+    (l.book.clock < MAX_STAMP) × (link ≡ then_some linked (link_after l.book)) × HasOnlyMoreRoom r l r' l' × (0 < l'.room) × HasRoomIf link r'
+PreparesBirth linked r l (Err fault.Worn) r' l' = (MAX_STAMP ≤ l.book.clock) × HasOnlyMoreRoom r l r' l'
+PreparesBirth linked r l (Err fault.Memory) r' l' = (l.book.clock < MAX_STAMP) × HasOnlyMoreRoom r l r' l'
 PreparesBirth linked r l (Err fault.Gone) r' l' = ⊥
 PreparesBirth linked r l (Err fault.Full) r' l' = ⊥
 PreparesBirth linked r l (Err fault.Myself) r' l' = ⊥
 
 -- a letter could not be handled
 abbrev pub IsStopped : Letter → Stop → Resident → LedgerState → Resident → LedgerState → Type 0
-IsStopped x Worn r l r' l' = (MAX_STAMP ≤ max l.book.clock x.stamp) × IsStill r l r' l'
-IsStopped x Memory r l r' l' = (max l.book.clock x.stamp < MAX_STAMP) × IsStill r l r' l'
+IsStopped x Worn r l r' l' = (MAX_STAMP ≤ max l.book.clock x.stamp) × HasOnlyMoreRoom r l r' l'
+IsStopped x Memory r l r' l' = (max l.book.clock x.stamp < MAX_STAMP) × HasOnlyMoreRoom r l r' l'
 
 -- the letter did to it what its signal does, and its answer is sent
 abbrev pub TakesIn : Letter → Resident → LedgerState → Result (Unit {0}) Stop → Resident → LedgerState → Type 0

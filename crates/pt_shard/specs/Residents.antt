@@ -7,6 +7,7 @@ use Rattle.pt_signal.specs.declared.reason.Reason.{Reason}
 use Rattle.pt_signal.specs.Process.{ProcessState, estate}
 use Rattle.pt_slots.specs.declared.Key.{Key}
 use Rattle.pt_slots.specs.State.{SlotsState, at, issued, next_key, with_value}
+use Rattle.pt_slots.specs.Offers.{OffersTheFree}
 use Rattle.pt_process.specs.Resident.{Resident, Owing}
 
 abbrev pub Table : Type 0
@@ -93,3 +94,4 @@ pub record Ends (p : Pid) (reason : Reason) (owing : Owing) (old new : Table) : 
   pub lived : IsSome (in_place old p)
   pub puts : Puts p None old new
   pub next : next_key new ≡ cond (p.version == old.top_version) (next_key old) (Some (record { slot = p.slot; version = p.version + 1 }))
+  pub offers : OffersTheFree new

@@ -1,6 +1,7 @@
 -- The parts of a desk, and what holds of them. No public clause cites this module.
 use Rattle.std.specs.Prelude.{◌≡◌, []}
 use Rattle.pt_slots.specs.State.{issued}
+use Rattle.pt_slots.specs.Offers.{OffersTheFree}
 use Rattle.pt_shard.specs.declared.config.Config.{Config}
 use Rattle.pt_shard.specs.ShardState.{ShardState}
 use Rattle.pt_shard.specs.LedgerState.{Book}
@@ -29,6 +30,7 @@ shard_of a = record {
 
 pub record IsWhole (a : Parts) : Type 0 where
   pub sound : IsSound (shard_of a) (resident_at a.house.desk a.house.table) (issued a.house.table)
+  pub offers : OffersTheFree a.house.table
   pub home : a.book.desk ≡ a.house.desk
   pub capacity : a.house.table.capacity ≡ a.config.slots
   pub top_version : a.house.table.top_version ≡ a.config.top_version

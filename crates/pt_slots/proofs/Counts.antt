@@ -1,7 +1,7 @@
 -- How a count over slots follows the change of one slot.
-use Rattle.std.proofs.Common.{◌≡◌, ◌≢◌, ℕ, zero, suc, ◌+◌, ◌<◌, ◌≤◌, List, [], ◌∷◌, get_or, Option, Some, None, is_some, cond, count_by, sum_by, refl, ap, arith}
+use Rattle.std.proofs.Common.{◌≡◌, ◌≢◌, ℕ, zero, suc, ◌+◌, ◌<◌, ◌≤◌, List, [], ◌∷◌, get_or, Option, Some, None, IsSome, is_some, cond, count_by, sum_by, refl, ap, arith}
 use Rattle.std.proofs.lemmas.List.Sums.{sum_by-cons}
-use Rattle.pt_slots.specs.State.{is_live, is_retired}
+use Rattle.pt_slots.specs.State.{is_live, is_retired, first_free}
 
 module _ {X : Type 0} (f : X → ℕ) (d : X) (nothing : f d ≡ 0) where
   -- lists that read alike, past their ends too, have one sum
@@ -67,3 +67,40 @@ module _ {T : Type 0} where
       one_of None = refl
       one_of (Some None) = refl
       one_of (Some (Some value)) = refl
+
+  -- the first free slot is not above the count of those that are not free
+  pub first_free_within : (slots : List (Option (Option T))) → first_free slots ≤ count_by is_some slots
+  first_free_within [] = omega arith
+  first_free_within (None ∷ slots) = omega arith
+  first_free_within (Some entry ∷ slots) = omega (arith, sum_by-cons (λ o. cond (is_some o) 1 0) (Some entry) slots, first_free_within slots)
+
+  pub first_free_is_free : (slots : List (Option (Option T))) → get_or slots (first_free slots) None ≡ None
+  first_free_is_free [] = refl
+  first_free_is_free (None ∷ slots) = refl
+  first_free_is_free (Some entry ∷ slots) = first_free_is_free slots
+
+  -- it is behind each one that is not free, where it is behind all before that
+  pub first_free_later : (slots : List (Option (Option T))) (n : ℕ) → n ≤ first_free slots → IsSome (get_or slots n None) → n < first_free slots
+  first_free_later [] n behind some = absurd (cc)
+  first_free_later (None ∷ slots) zero behind some = absurd (cc)
+  first_free_later (None ∷ slots) (suc n) behind some = absurd (omega (arith, behind))
+  first_free_later (Some entry ∷ slots) zero behind some = omega arith
+  first_free_later (Some entry ∷ slots) (suc n) behind some = omega (arith, first_free_later slots n (omega (arith, behind)) some)
+
+  pub first_free_here : (slots : List (Option (Option T))) (n : ℕ) → n ≤ first_free slots → (IsSome (get_or slots n None) → ⊥) → n ≡ first_free slots
+  first_free_here [] n behind free = omega (arith, behind)
+  first_free_here (None ∷ slots) n behind free = omega (arith, behind)
+  first_free_here (Some entry ∷ slots) zero behind free = absurd (free refl)
+  first_free_here (Some entry ∷ slots) (suc n) behind free = omega (arith, first_free_here slots n (omega (arith, behind)) free)
+
+  -- and rests on which slots are free alone
+  pub first_free_same : (old new : List (Option (Option T))) → ((i : ℕ) → is_some (get_or new i None) ≡ is_some (get_or old i None)) → first_free new ≡ first_free old
+  first_free_same [] [] same = refl
+  first_free_same [] (None ∷ new) same = refl
+  first_free_same [] (Some y ∷ new) same = let here = same 0 in absurd (cc)
+  first_free_same (None ∷ old) [] same = refl
+  first_free_same (Some x ∷ old) [] same = let here = same 0 in absurd (cc)
+  first_free_same (None ∷ old) (None ∷ new) same = refl
+  first_free_same (None ∷ old) (Some y ∷ new) same = let here = same 0 in absurd (cc)
+  first_free_same (Some x ∷ old) (None ∷ new) same = let here = same 0 in absurd (cc)
+  first_free_same (Some x ∷ old) (Some y ∷ new) same = ap suc (first_free_same old new (λ i. same (suc i)))

@@ -11,7 +11,7 @@ use Rattle.pt_slots.specs.State.{SlotsState, at, issued, is_live, is_retired, li
 use Rattle.pt_slots.specs.declared.Key.{Key}
 use Rattle.pt_slots.proofs.Changes.{Changes, sound_changed, at_changed, issued_changed, count_changed}
 use Rattle.pt_slots.proofs.Counts.{taken_split, count_with_free}
-use Rattle.pt_slots.proofs.Offers.{Offers, next_offered, next_kept}
+use Rattle.pt_slots.proofs.Offers.{Offers, free_slot_offered, next_offered, next_kept, offers_the_free}
 
 pub found : {X : Type 0} (o : Option X) → IsSome o → (x : X) × (o ≡ Some x)
 found None some = absurd (cc)
@@ -61,8 +61,7 @@ module _ {T : Type 0} where
     offers_free key slot_is version_is =
         record {
           room = λ all. omega (arith, all, sound.slots_fit, fewer, has.capacity_kept, ap (λ (xs : List (Option (Option T))). count_by is_some xs) has.slots_kept);
-          below = omega (arith, has.has_version, sound.slots_fit, has.capacity_kept, has.vacant_kept);
-          slot_is = slot_is ∙ has.vacant_kept;
+          slot_is = slot_is ∙ has.vacant_kept ∙ sym (free_slot_offered old (omega (arith, has.has_version, sound.slots_fit, has.capacity_kept, has.vacant_kept)) (rw (← has.slots_kept, ← has.vacant_kept) has.free));
           version_is = version_is ∙ ap (λ (n : ℕ). n + 1) (has.versions_kept key.slot);
         }
 
@@ -103,6 +102,13 @@ module _ {T : Type 0} where
     pub at_entry : (slot version : ℕ) → at (record s { slots = set s.slots key.slot entry; vacant = vacant }) slot version ≡ cond ((key.slot == slot) && (key.version == version)) (unwrap_or entry None) (at s slot version)
     at_entry = at_changed _ _ _ _ _ changes_entry (λ other differs. dead_others s key.slot other (λ e. differs (e ∙ (holds s key value live).latest)))
 
+    -- a slot that stays taken or retired changes nothing in which slots are free
+    still_taken : is_some entry ≡ true → (i : ℕ) → is_some (get_or (set s.slots key.slot entry) i None) ≡ is_some (get_or s.slots i None)
+    still_taken some i = elim (cases_eq i key.slot) [
+      | inl same ↦ rw (same, changes_entry.entry_is, (holds s key value live).entry) some
+      | inr differs ↦ ap is_some (changes_entry.entries i differs)
+    ]
+
     count_entry : (p : Option (Option T) → Bool) → p None ≡ false → count_by p (set s.slots key.slot entry) + cond (p (Some (Some value))) 1 0 ≡ count_by p s.slots + cond (p entry) 1 0
     count_entry p none = rw (holds s key value live).entry at (count_changed _ _ _ _ _ changes_entry p none)
 
@@ -118,7 +124,8 @@ module _ {T : Type 0} where
           issues = λ slot. refl;
           counted = lives;
           retired = retires;
-          next = next_kept s (with_value s key value) refl refl refl (omega (arith, taken_split s.slots, taken_split (set s.slots key.slot (Some (Some value))), lives, retires));
+          next = next_kept s (with_value s key value) refl refl refl (omega (arith, taken_split s.slots, taken_split (set s.slots key.slot (Some (Some value))), lives, retires))
+              (still_taken s key was (Some (Some value)) s.vacant live refl);
           settings = record { capacity = refl; top_version = refl };
         }
 
@@ -126,26 +133,6 @@ module _ {T : Type 0} where
     -- a removal below the top version, which leaves the slot free
     abbrev pub freed : SlotsState T
     freed = record s { slots = set s.slots key.slot None; vacant = key.slot }
-
-    pub removed_freed : key.version < s.top_version → Removed key value s freed
-    unfolding issued live_count retired_count
-    removed_freed below_top =
-        let test : (key.version == s.top_version) ≡ false = grind (arith, common_steps, below_top) in
-        let taken = count_entry s key value None key.slot live is_some refl in
-        record {
-          was_live = live;
-          live = at_entry s key value None key.slot live;
-          issues = λ slot. refl;
-          counted = omega (arith, count_entry s key value None key.slot live is_live refl);
-          retired = rw test (omega (arith, count_entry s key value None key.slot live is_retired refl));
-          next = rw test (next_offered freed _ (record {
-            room = λ all. omega (arith, taken, sound.within, all);
-            below = omega (arith, below_versions s key value retired room sound live, sound.slots_fit);
-            slot_is = refl;
-            version_is = ap (λ n. n + 1) (sym (holds s key value live).latest);
-          }));
-          settings = record { capacity = refl; top_version = refl };
-        }
 
     pub sound_freed : key.version < s.top_version → IsSound freed retired room
     sound_freed below_top =
@@ -162,26 +149,29 @@ module _ {T : Type 0} where
         sound.slots_fit
         sound.slots_stored
 
+    pub removed_freed : key.version < s.top_version → Removed key value s freed
+    unfolding issued live_count retired_count
+    removed_freed below_top =
+        let test : (key.version == s.top_version) ≡ false = grind (arith, common_steps, below_top) in
+        let taken = count_entry s key value None key.slot live is_some refl in
+        record {
+          was_live = live;
+          live = at_entry s key value None key.slot live;
+          issues = λ slot. refl;
+          counted = omega (arith, count_entry s key value None key.slot live is_live refl);
+          retired = rw test (omega (arith, count_entry s key value None key.slot live is_retired refl));
+          next = rw test (next_offered freed _ (record {
+            room = λ all. omega (arith, taken, sound.within, all);
+            slot_is = sym (free_slot_offered freed (omega (arith, below_versions s key value retired room sound live, sound.slots_fit)) (changes_entry s key value None key.slot live).entry_is);
+            version_is = ap (λ n. n + 1) (sym (holds s key value live).latest);
+          }));
+          offers = offers_the_free freed retired room (sound_freed below_top);
+          settings = record { capacity = refl; top_version = refl };
+        }
+
     -- a removal at the top version, which retires the slot
     abbrev pub spent : SlotsState T
     spent = record s { slots = set s.slots key.slot (Some None) }
-
-    pub removed_spent : s.top_version ≤ key.version → Removed key value s spent
-    unfolding issued live_count retired_count
-    removed_spent at_top =
-        let fits : key.version ≤ s.top_version = rw (holds s key value live).latest at (sound.issued_fits key.slot) in
-        let test : (key.version == s.top_version) ≡ true = grind (arith, common_steps, fits, at_top) in
-        let lives : count_by is_live spent.slots + 1 ≡ count_by is_live s.slots = omega (arith, count_entry s key value (Some None) s.vacant live is_live refl) in
-        let retires : count_by is_retired spent.slots ≡ count_by is_retired s.slots + 1 = omega (arith, count_entry s key value (Some None) s.vacant live is_retired refl) in
-        record {
-          was_live = live;
-          live = at_entry s key value (Some None) s.vacant live;
-          issues = λ slot. refl;
-          counted = lives;
-          retired = rw test retires;
-          next = rw test (next_kept s spent refl refl refl (omega (arith, taken_split s.slots, taken_split spent.slots, lives, retires)));
-          settings = record { capacity = refl; top_version = refl };
-        }
 
     pub sound_spent : s.top_version ≤ key.version → IsSound spent (retired + 1) room
     sound_spent at_top =
@@ -198,6 +188,24 @@ module _ {T : Type 0} where
         (omega arith)
         sound.slots_fit
         sound.slots_stored
+
+    pub removed_spent : s.top_version ≤ key.version → Removed key value s spent
+    unfolding issued live_count retired_count
+    removed_spent at_top =
+        let fits : key.version ≤ s.top_version = rw (holds s key value live).latest at (sound.issued_fits key.slot) in
+        let test : (key.version == s.top_version) ≡ true = grind (arith, common_steps, fits, at_top) in
+        let lives : count_by is_live spent.slots + 1 ≡ count_by is_live s.slots = omega (arith, count_entry s key value (Some None) s.vacant live is_live refl) in
+        let retires : count_by is_retired spent.slots ≡ count_by is_retired s.slots + 1 = omega (arith, count_entry s key value (Some None) s.vacant live is_retired refl) in
+        record {
+          was_live = live;
+          live = at_entry s key value (Some None) s.vacant live;
+          issues = λ slot. refl;
+          counted = lives;
+          retired = rw test retires;
+          next = rw test (next_kept s spent refl refl refl (omega (arith, taken_split s.slots, taken_split spent.slots, lives, retires)) (still_taken s key value (Some None) s.vacant live refl));
+          offers = offers_the_free spent (retired + 1) room (sound_spent at_top);
+          settings = record { capacity = refl; top_version = refl };
+        }
 
     -- so one more retired slot can be counted
     pub retired_fits : s.top_version ≤ key.version → retired + 1 < 2 ^ 32
@@ -266,21 +274,6 @@ module _ {T : Type 0} where
       unfolding at
       at_kept s v = rw (has.versions_kept s, has.slots_kept) refl
 
-      pub inserted_filled : Inserted value issues_key old filled
-      unfolding issued live_count retired_count
-      inserted_filled =
-          record {
-            offered = next_offered old issues_key offers;
-            slot_in_range = omega (arith, offers.below, offers.slot_is);
-            version_is_next = offers.version_is;
-            version_in_range = omega (arith, version_fits, has.top_version_kept);
-            live = λ s v. at_changed _ _ _ _ _ change (λ other _. dead_free mid place was_free other) s v ∙ ap (λ (x : Option T). cond ((place == s) && (latest + 1 == v)) (Some value) x) (at_kept s v);
-            issues = λ s. issued_changed _ _ _ _ _ change s ∙ ap (λ (n : ℕ). cond (place == s) (latest + 1) n) (has.versions_kept s);
-            counted = count_filled is_live refl;
-            retired = omega (arith, count_filled is_retired refl);
-            settings = record { capacity = has.capacity_kept; top_version = has.top_version_kept };
-          }
-
       pub sound_filled : IsSound filled retired after.capacity
       sound_filled =
           let as_long = length-set mid.versions place (latest + 1) in
@@ -296,6 +289,22 @@ module _ {T : Type 0} where
           (omega (arith, as_long))
           (omega (arith, as_long, sound.slots_fit))
           (omega (arith, as_long, sound.slots_stored, same_room))
+
+      pub inserted_filled : Inserted value issues_key old filled
+      unfolding issued live_count retired_count
+      inserted_filled =
+          record {
+            offered = next_offered old issues_key offers;
+            slot_in_range = omega (arith, below, sound.slots_fit, has.capacity_kept);
+            version_is_next = offers.version_is;
+            version_in_range = omega (arith, version_fits, has.top_version_kept);
+            live = λ s v. at_changed _ _ _ _ _ change (λ other _. dead_free mid place was_free other) s v ∙ ap (λ (x : Option T). cond ((place == s) && (latest + 1 == v)) (Some value) x) (at_kept s v);
+            issues = λ s. issued_changed _ _ _ _ _ change s ∙ ap (λ (n : ℕ). cond (place == s) (latest + 1) n) (has.versions_kept s);
+            counted = count_filled is_live refl;
+            retired = omega (arith, count_filled is_retired refl);
+            offers = offers_the_free filled retired after.capacity sound_filled;
+            settings = record { capacity = has.capacity_kept; top_version = has.top_version_kept };
+          }
 
       pub never_falls : (slot : ℕ) → issued old slot ≤ issued filled slot
       unfolding issued

@@ -1,6 +1,7 @@
 -- What each call of a `Slots` does.
 use Rattle.std.specs.Prelude.{◌≡◌, ℕ, ◌+◌, ◌<◌, ◌≤◌, ◌==◌, ◌&&◌, Bool, Option, Some, None, Result, Ok, Err, IsSome, if◌then◌else◌}
 use Rattle.pt_slots.specs.State.{SlotsState, at, issued, live_count, retired_count, next_key}
+use Rattle.pt_slots.specs.Offers.{OffersTheFree}
 use Rattle.pt_slots.specs.declared.InsertError.{InsertError}
 use Rattle.pt_slots.specs.declared.InsertError.TheVariants.{Full, Memory}
 use Rattle.pt_slots.specs.declared.Key.{Key}
@@ -20,6 +21,7 @@ module _ {T : Type 0} where
     pub counted : live_count s ≡ 0
     pub retired : retired_count s ≡ 0
     pub next : next_key s ≡ Some (record { slot = 0; version = 1 })
+    pub offers : OffersTheFree s
     pub capacity_is : s.capacity ≡ capacity
     pub top_version_is : s.top_version ≡ top_version
 
@@ -37,6 +39,7 @@ module _ {T : Type 0} where
         ≡ (if key.slot == slot then key.version else issued old slot)
     pub counted : live_count new ≡ live_count old + 1
     pub retired : retired_count new ≡ retired_count old
+    pub offers : OffersTheFree new
     pub settings : SameSettings old new
 
   abbrev pub Inserts : T → SlotsState T → Result Key (InsertError T) → SlotsState T → Type 0
@@ -60,6 +63,7 @@ module _ {T : Type 0} where
     pub next : next_key new ≡ (if key.version == old.top_version
         then next_key old
         else Some (record { slot = key.slot; version = key.version + 1 }))
+    pub offers : OffersTheFree new
     pub settings : SameSettings old new
 
   abbrev pub Removes : Key → SlotsState T → Option T → SlotsState T → Type 0

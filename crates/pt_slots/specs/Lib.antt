@@ -1,5 +1,6 @@
 pub mod State
 pub mod Calls
+pub mod Offers
 pub mod Keys
 pub mod Lends
 pub mod Sound

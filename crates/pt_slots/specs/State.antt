@@ -1,5 +1,5 @@
 -- What a contract sees of a `Slots`.
-use Rattle.std.specs.Prelude.{ℕ, ◌+◌, ◌==◌, ◌||◌, nat_le, Bool, true, false, List, Option, Some, None, unwrap_or, count_by, slice_index_or, slice_set, if◌then◌else◌}
+use Rattle.std.specs.Prelude.{ℕ, suc, ◌+◌, ◌==◌, ◌&&◌, not, nat_lt, Bool, true, false, List, [], ◌∷◌, Option, Some, None, is_some, unwrap_or, count_by, slice_index_or, slice_set, if◌then◌else◌}
 use Rattle.slab.specs.Slab.{Slab}
 use Rattle.pt_slots.specs.declared.Key.{Key}
 
@@ -8,7 +8,7 @@ pub record SlotsState (T : Type 0) : Type 0 where
   pub slots : List (Option (Option T))
   -- the latest version that each slot has issued
   pub versions : List ℕ
-  -- the free slot that is offered next
+  -- the slot that the slab offers
   pub vacant : ℕ
   pub capacity : ℕ
   pub top_version : ℕ
@@ -54,16 +54,29 @@ module _ {T : Type 0} where
   unfoldable pub retired_count : SlotsState T → ℕ
   retired_count s = count_by is_retired s.slots
 
-  -- every slot is taken or retired, or the free slot that is offered is not below the capacity
+  -- every slot is taken or retired
   unfoldable pub is_full : SlotsState T → Bool
-  is_full s = (live_count s + retired_count s == s.capacity) || nat_le s.capacity s.vacant
+  is_full s = live_count s + retired_count s == s.capacity
+
+  -- the first slot that is free
+  abbrev pub first_free : List (Option (Option T)) → ℕ
+  first_free [] = 0
+  first_free (None ∷ slots) = 0
+  first_free (Some entry ∷ slots) = suc (first_free slots)
+
+  -- the free slot that is used next: the one that the slab offers, where that is below the capacity
+  unfoldable pub free_slot : SlotsState T → ℕ
+  free_slot s =
+      if nat_lt s.vacant s.capacity && not (is_some (slice_index_or s.slots s.vacant None))
+      then s.vacant
+      else first_free s.slots
 
   -- the key that the next `insert` gives
   unfoldable pub next_key : SlotsState T → Option Key
   next_key s =
       if is_full s
       then None
-      else Some (record { slot = s.vacant; version = issued s s.vacant + 1 })
+      else Some (record { slot = free_slot s; version = issued s (free_slot s) + 1 })
 
   -- the slots after a write through `get_mut`
   abbrev pub with_value : SlotsState T → Key → T → SlotsState T

@@ -43,11 +43,12 @@
 //! with insertions cost a tenth to a quarter more, for the wider entries. The README has the figures.
 #![tactic(auto)]
 
-ghost use Rattle.std.specs.Prelude.{◌≡◌, ℕ, ◌<◌, ◌≤◌, ◌^◌, Some, IsSome, OnSome, IsOkAnd, OnOk, OnErr, is_some, option_copied, slice_index_or, vec_len};
+ghost use Rattle.std.specs.Prelude.{◌≡◌, ℕ, ◌<◌, ◌≤◌, ◌^◌, Some, IsSome, OnSome, IsOkAnd, OnOk, OnErr, is_some, option_copied, count_by, slice_index_or, vec_len};
 ghost use Rattle.std.specs.Option.{option_copied_mut};
 ghost use Rattle.std.specs.Borrow.{Lends, sem};
 ghost use Rattle.std.specs.Option.Follows.{option_follows_value};
-ghost use Rattle.pt_slots.specs.State.{at, issued, live_count, retired_count, next_key, with_value};
+ghost use Rattle.pt_slots.specs.State.{at, issued, live_count, retired_count, first_free, free_slot, next_key, with_value};
+ghost use Rattle.pt_slots.specs.Offers.{OffersTheFree};
 ghost use Rattle.pt_slots.specs.Calls.{IsEmpty, Inserts, Removes, Written};
 ghost use Rattle.pt_slots.specs.Grows.{Grows};
 
@@ -232,25 +233,52 @@ impl<T> Slots<T> {
 
     /// The key that the next `insert` gives, or `None` exactly where it would answer `Full`.
     pub fn next(&self) -> Option<Key>
-        ensures { result ≡ next_key self.now }
+        ensures key { result ≡ next_key self.now }
+        ensures offers { OffersTheFree self.now }
     {
-        let capacity = self.capacity as usize;
-        let vacant = self.entries.vacant_key();
-        if self.entries.len() == capacity || vacant >= capacity {
+        if self.entries.len() == self.capacity as usize {
             return None;
         }
-        let slot = vacant as u32;
+        let slot = self.free_slot();
         Some(Key {
             slot,
             version: self.issued(slot) + 1,
         })
     }
 
+    /// The free slot that is used next.
+    fn free_slot(&self) -> u32
+        requires { count_by is_some self.now.slots < self.now.capacity }
+        ensures { result ≡ free_slot self.now }
+    {
+        let vacant = self.entries.vacant_key();
+        if vacant < self.capacity as usize {
+            vacant as u32
+        } else {
+            self.first_free()
+        }
+    }
+
+    /// The first free slot. A slab offers the slot that was freed last, or else the one behind those in use, but its
+    /// contract leaves open which: so there is an answer of its own for a slot past the capacity.
+    #[cold]
+    #[inline(never)]
+    fn first_free(&self) -> u32
+        requires { count_by is_some self.now.slots < self.now.capacity }
+        ensures { result ≡ first_free self.now.slots }
+    {
+        for slot in 0..self.capacity {
+            if !self.entries.contains(slot as usize) {
+                return slot;
+            }
+        }
+        unreachable!()
+    }
+
     /// Stores a value under a key that was never issued before.
     ///
-    /// Where it cannot, it hands the value back and changes nothing: `Full` where the taken and the retired
-    /// slots number the capacity, or the slot that the storage offers is not below it, and else `Memory`
-    /// where the storage cannot grow.
+    /// Where it cannot, it hands the value back and changes nothing: `Full` exactly where every slot is taken or
+    /// retired, and else `Memory` where the storage cannot grow.
     #[inline]
     pub fn insert(&mut self, value: T) -> Result<Key, InsertError<T>>
         ensures cases { Inserts value self.old result self.new }
@@ -297,7 +325,8 @@ impl<T> Slots<T> {
             return Growth::Memory;
         }
         let slots = self.entries.capacity().min(self.capacity as usize);
-        // The slab says of a key only once it is given out that there is room for it.
+        // The slab says of a key only once it is given out that there is room for it, and nowhere that it is below the
+        // capacity.
         if self.entries.vacant_key() >= slots {
             return Growth::Memory;
         }

@@ -1,7 +1,7 @@
 use Rattle.std.proofs.Common.{◌≡◌, ◌<◌, Ok, Err, sym, ap, ◌∙◌, subst, arith}
 use Rattle.pt_carrier.specs.Ends.{Place, Collects}
 use Rattle.pt_carrier.proofs.Collecting.{collects, is_first}
-use Rattle.pt_shard.specs.ShardState.{ShardState, Handles as ShardHandles}
+use Rattle.pt_shard.specs.ShardState.{ShardState, Handles}
 use Rattle.pt_desk.specs.Turns.{HandlesNext, Stays}
 use Rattle.pt_desk.proofs.Turning.{is_free, front_handled, front_refused, next_collected, collected_accounted, refused_accounted, stays_collected}
 use Rattle.pt_desk.proofs.Posted.{of_parts}
@@ -29,7 +29,7 @@ taken c =
     let passes = c.pass.ensures in
     collects c.self.inside.ins c.next_from.new.self c.pass.new.self c.in-Some.from c.pass.ensures.collects.0 found.same.0 found.same.2 found.some.0 passes.collects.1 passes.others
 
-done : (c : goal.After-pass) → ShardHandles c.pass.ensures.collects.0 c.self.inside.shard (Ok c.in-Ok._ended) c.handle_front.new.shard
+done : (c : goal.After-pass) → Handles c.pass.ensures.collects.0 c.self.inside.shard (Ok c.in-Ok._ended) c.handle_front.new.shard
 done c =
     front_handled c.in-Some.from c.next_from.new.self c.pass.new.self c.pass.ensures.collects.0 c.self.inside.shard c.handle_front.new.shard (Ok c.in-Ok._ended)
     c.in-Ok.ensures.does c.pass.ensures.collects.1
@@ -62,7 +62,7 @@ held c =
     let takes = c.hold_front.ensures.holds in
     collects c.self.inside.ins c.next_from.new.self c.hold_front.new.ins c.in-Some.from takes.letter found.same.0 found.same.2 found.some.0 takes.collects takes.others
 
-stopped : (c : goal.After-hold_front) → ShardHandles c.hold_front.ensures.holds.letter c.self.inside.shard (Err c.in-Err.stop) c.handle_front.new.shard
+stopped : (c : goal.After-hold_front) → Handles c.hold_front.ensures.holds.letter c.self.inside.shard (Err c.in-Err.stop) c.handle_front.new.shard
 stopped c =
     let takes = c.hold_front.ensures.holds in
     front_handled c.in-Some.from c.next_from.new.self c.hold_front.new.ins takes.letter c.self.inside.shard c.handle_front.new.shard (Err c.in-Err.stop)

@@ -1,12 +1,12 @@
 use Rattle.std.proofs.Common.{◌∷◌, Some, None, subst, Ok, inl, inr, refl, arith, rules}
-use Rattle.pt_desk.specs.Turns.{Handles}
+use Rattle.pt_desk.specs.Turns.{HandlesAtMostOne}
 use Rattle.pt_desk.proofs.Turning.{turn_goes_on}
 use Rattle.pt_desk.proofs.desk.Desk.turn.Goals as goal
 
 pub loop-letter-preserved : goal.loop-letter-preserved
 loop-letter-preserved c =
     let inv = c.loop-letter.invariant in
-    let next = subst (λ b. Handles c.loop-letter.self (Ok b) c.handle.new.self) c.in-Ok-true.field-0-test c.in-Ok-true.ensures in
+    let next = subst (λ b. HandlesAtMostOne c.loop-letter.self (Ok b) c.handle.new.self) c.in-Ok-true.field-0-test c.in-Ok-true.ensures in
     (next.0 ∷ inv.0, omega (arith, inv.1), omega (arith, inv.2), (c.loop-letter.self, inv.3, next.1))
 
 pub returns-in-Err-clause-goes_on : goal.returns-in-Err-clause-goes_on
@@ -24,7 +24,7 @@ returns-after-loop-letter-clause-goes_on c =
 pub returns-in-Ok-false-clause-goes_on : goal.returns-in-Ok-false-clause-goes_on
 returns-in-Ok-false-clause-goes_on c =
     let inv = c.loop-letter.invariant in
-    let none = subst (λ b. Handles c.loop-letter.self (Ok b) c.handle.new.self) c.in-Ok-false.field-0-test c.in-Ok-false.ensures in
+    let none = subst (λ b. HandlesAtMostOne c.loop-letter.self (Ok b) c.handle.new.self) c.in-Ok-false.field-0-test c.in-Ok-false.ensures in
     turn_goes_on c.args.self.now c.post-posted.new.self c.loop-letter.self c.handle.new.self inv.0 None c.loop-letter.handled c.args.budget
     c.post-posted.ensures.posts inv.3 (inr (omega (arith, inv.2, c.loop-letter-test.true), none))
 

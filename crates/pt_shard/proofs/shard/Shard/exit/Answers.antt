@@ -32,6 +32,9 @@ returns-in_err-prepare_end-clause-does c =
     let i = c.self.inside in
     subst (λ d. Calls c.args.p (Some (Left c.args.p c.args.reason)) (tt {0}) d c.from_residual.result (shard_of (parts_of i.config c.prepare_end.new.self.book (with_process i.house c.args.p c.prepare_end.new.process)))) c.self.view_is (refused c).does
 
+pub returns-in_err-prepare_end-clause-fit : goal.returns-in_err-prepare_end-clause-fit
+returns-in_err-prepare_end-clause-fit c = (refused c).fit
+
 -- it ends ---------------------------------------------------------------------------------
 
 pub end-estate-requires : goal.end-estate-requires

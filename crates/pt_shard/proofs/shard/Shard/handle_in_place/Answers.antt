@@ -57,6 +57,9 @@ returns-in_err-take_in-clause-does c =
     (stops (parts_of c.self.inside.config c.self.inside.ledger.book c.self.inside.house) c.self.invariant c.args.letter.now c.in-Some.process.now c.in-Some.ensures.value (c.requires.here ∙ sym (ap (λ (d : ShardState). d.number) c.self.view_is)) (subst (λ (d : ShardState). c.args.letter.now.from.shard < d.config.desks) (sym c.self.view_is) c.requires.near) c.self.inside.ledger refl c.take_in.new.process c.take_in.new.ledger c.in_err-take_in.field-0.0 c.in_err-take_in.ensures
     c.from_residual-in_err-take_in.result c.from_residual-in_err-take_in.ensures)
 
+pub returns-in_err-take_in-clause-fit : goal.returns-in_err-take_in-clause-fit
+returns-in_err-take_in-clause-fit c = (refused_living c).fit
+
 pub invariant_of-self-in_default-would_end : goal.invariant_of-self-in_default-would_end
 invariant_of-self-in_default-would_end c =
     let one : Outcome (parts_of c.self.inside.config c.self.inside.ledger.book c.self.inside.house) (parts_of c.self.inside.config c.take_in.new.ledger.book (with_process c.self.inside.house c.args.letter.now.to c.take_in.new.process)) (receipt_stamp (parts_of c.self.inside.config c.self.inside.ledger.book c.self.inside.house) c.args.letter.now) (came c.args.letter.now) = (
@@ -100,6 +103,9 @@ returns-in_err-prepare_ending-clause-does c =
     subst (λ d. Handles c.args.letter.now d c.from_residual-in_err-prepare_ending.result (shard_of (parts_of c.self.inside.config c.prepare_ending.new.ledger.book (with_process c.self.inside.house c.args.letter.now.to c.prepare_ending.new.process)))) c.self.view_is
     (stops (parts_of c.self.inside.config c.self.inside.ledger.book c.self.inside.house) c.self.invariant c.args.letter.now c.in-Some.process.now c.in-Some.ensures.value (c.requires.here ∙ sym (ap (λ (d : ShardState). d.number) c.self.view_is)) (subst (λ (d : ShardState). c.args.letter.now.from.shard < d.config.desks) (sym c.self.view_is) c.requires.near) c.self.inside.ledger refl c.prepare_ending.new.process c.prepare_ending.new.ledger c.in_err-prepare_ending.field-0.0 c.in_err-prepare_ending.ensures
     c.from_residual-in_err-prepare_ending.result c.from_residual-in_err-prepare_ending.ensures)
+
+pub returns-in_err-prepare_ending-clause-fit : goal.returns-in_err-prepare_ending-clause-fit
+returns-in_err-prepare_ending-clause-fit c = (refused_end c).fit
 
 pub end_by-requires-clause-lives : goal.end_by-requires-clause-lives
 end_by-requires-clause-lives c = still_in_mid (parts_of c.self.inside.config c.self.inside.ledger.book c.self.inside.house) c.self.invariant c.args.letter.now (acting (parts_of c.self.inside.config c.self.inside.ledger.book c.self.inside.house) c.self.invariant c.args.letter.now.to c.in-Some.process.now c.in-Some.ensures.value) (with_process c.self.inside.house c.args.letter.now.to c.prepare_ending.new.process)

@@ -59,3 +59,8 @@ returns-then-eq-clause-does c =
       sym c.eq.ensures ∙ c.if-eq.true,
       same.is,
     )
+
+pub returns-then-eq-clause-fit : goal.returns-then-eq-clause-fit
+returns-then-eq-clause-fit c =
+    let i = c.self.inside in
+    (kept_still (parts_of i.config i.ledger.book i.house) c.self.invariant c.args.w c.in-Some.process.now c.in-Some.ensures.value i.ledger.book c.in-Some.process.now refl refl refl).fit

@@ -34,6 +34,11 @@ returns-then-is_worn-clause-does c =
       same.is,
     )
 
+pub returns-then-is_worn-clause-fit : goal.returns-then-is_worn-clause-fit
+returns-then-is_worn-clause-fit c =
+    let i = c.self.inside in
+    (kept_still (parts_of i.config i.ledger.book i.house) c.self.invariant c.args.parent c.in-Some.process.now c.in-Some.ensures.value i.ledger.book c.in-Some.process.now refl refl refl).fit
+
 pub invariant_of-self-in_default-vacant : goal.invariant_of-self-in_default-vacant
 invariant_of-self-in_default-vacant c =
     let i = c.self.inside in
@@ -50,6 +55,11 @@ returns-in_default-vacant-clause-does c =
       same.is,
     )
 
+pub returns-in_default-vacant-clause-fit : goal.returns-in_default-vacant-clause-fit
+returns-in_default-vacant-clause-fit c =
+    let i = c.self.inside in
+    (kept_still (parts_of i.config i.ledger.book i.house) c.self.invariant c.args.parent c.in-Some.process.now c.in-Some.ensures.value i.ledger.book c.in-Some.process.now refl refl refl).fit
+
 -- no room for it
 pub invariant_of-self-in_err-link : goal.invariant_of-self-in_err-link
 invariant_of-self-in_err-link c =
@@ -61,6 +71,17 @@ returns-in_err-link-clause-does c =
     let i = c.self.inside in
     subst (λ d. BearsChild c.args.parent c.args.linked d c.from_residual.result (shard_of (parts_of i.config c.prepare_birth.new.ledger.book (with_process i.house c.args.parent c.prepare_birth.new.parent)))) c.self.view_is
     (bears_none (parts_of i.config i.ledger.book i.house) c.self.invariant c.args.parent c.in-Some.process.now c.in-Some.ensures.value c.args.linked i.ledger refl c.prepare_birth.new.parent c.prepare_birth.new.ledger (subst IsSome c.in-Some-vacant.ensures refl) c.in_err-link.field-0.0 c.in_err-link.ensures c.from_residual.result c.from_residual.ensures)
+
+pub returns-in_err-link-clause-extends : goal.returns-in_err-link-clause-extends
+returns-in_err-link-clause-extends c =
+    let i = c.self.inside in
+    subst (λ d. Extends d (shard_of (parts_of i.config c.prepare_birth.new.ledger.book (with_process i.house c.args.parent c.prepare_birth.new.parent)))) c.self.view_is
+    (no_room (parts_of i.config i.ledger.book i.house) c.self.invariant c.args.parent c.in-Some.process.now c.in-Some.ensures.value c.args.linked i.ledger refl c.prepare_birth.new.parent c.prepare_birth.new.ledger c.in_err-link.field-0.0 c.in_err-link.ensures).extends
+
+pub returns-in_err-link-clause-fit : goal.returns-in_err-link-clause-fit
+returns-in_err-link-clause-fit c =
+    let i = c.self.inside in
+    (no_room (parts_of i.config i.ledger.book i.house) c.self.invariant c.args.parent c.in-Some.process.now c.in-Some.ensures.value c.args.linked i.ledger refl c.prepare_birth.new.parent c.prepare_birth.new.ledger c.in_err-link.field-0.0 c.in_err-link.ensures).fit
 
 -- no memory for the child
 pub invariant_of-self-in_err-child : goal.invariant_of-self-in_err-child
@@ -76,6 +97,11 @@ returns-in_err-child-clause-does c =
     (child_no_memory c.args.parent c.args.linked (shard_of (parts_of i.config i.ledger.book i.house)) (shard_of (parts_of i.config c.prepare_birth.new.ledger.book (with_process i.house c.args.parent c.prepare_birth.new.parent)))
     (alive (parts_of i.config i.ledger.book i.house) c.self.invariant c.args.parent (acting (parts_of i.config i.ledger.book i.house) c.self.invariant c.args.parent c.in-Some.process.now c.in-Some.ensures.value))
     (subst IsSome c.in-Some-vacant.ensures refl) same.is (can_bear (parts_of i.config i.ledger.book i.house) c.self.invariant c.args.parent c.in-Some.process.now c.in-Some.ensures.value c.args.linked i.ledger refl c.prepare_birth.new.parent c.prepare_birth.new.ledger c.in_ok-link.link c.in_ok-link.ensures) c.from_residual-in_err-child.result c.from_residual-in_err-child.ensures)
+
+pub returns-in_err-child-clause-fit : goal.returns-in_err-child-clause-fit
+returns-in_err-child-clause-fit c =
+    let i = c.self.inside in
+    (ready (parts_of i.config i.ledger.book i.house) c.self.invariant c.args.parent c.in-Some.process.now c.in-Some.ensures.value c.args.linked i.ledger refl c.prepare_birth.new.parent c.prepare_birth.new.ledger c.in_ok-link.link c.in_ok-link.ensures).fit
 
 -- no memory for its slot
 pub admit-requires : goal.admit-requires
@@ -99,6 +125,13 @@ returns-in_err-admit-clause-does c =
     (child_no_memory c.args.parent c.args.linked (shard_of (parts_of i.config i.ledger.book i.house)) (shard_of (parts_of i.config c.prepare_birth.new.ledger.book c.admit.new.self))
     (alive (parts_of i.config i.ledger.book i.house) c.self.invariant c.args.parent (acting (parts_of i.config i.ledger.book i.house) c.self.invariant c.args.parent c.in-Some.process.now c.in-Some.ensures.value))
     (subst IsSome c.in-Some-vacant.ensures refl) same.is (can_bear (parts_of i.config i.ledger.book i.house) c.self.invariant c.args.parent c.in-Some.process.now c.in-Some.ensures.value c.args.linked i.ledger refl c.prepare_birth.new.parent c.prepare_birth.new.ledger c.in_ok-link.link c.in_ok-link.ensures) c.from_residual-in_err-admit.result c.from_residual-in_err-admit.ensures)
+
+pub returns-in_err-admit-clause-fit : goal.returns-in_err-admit-clause-fit
+returns-in_err-admit-clause-fit c =
+    let i = c.self.inside in
+    let same = unchanged (parts_of i.config i.ledger.book i.house) c.self.invariant c.prepare_birth.new.ledger.book c.admit.new.self c.in_ok-link.ensures.2.2 c.admit.ensures.desk
+    (subst (λ (h : ResidentsState). IsSameTable i.house.table h.table) (sym c.in_err-admit.ensures.err) (same_before (parts_of i.config i.ledger.book i.house) c.self.invariant c.args.parent c.in-Some.process.now c.in-Some.ensures.value c.args.linked i.ledger refl c.prepare_birth.new.parent c.prepare_birth.new.ledger c.in_ok-link.link c.in_ok-link.ensures)) in
+    same.fit
 
 -- born
 pub adopt-requires-clause-lives : goal.adopt-requires-clause-lives
