@@ -2,7 +2,7 @@
 
 ghost use Rattle.std.specs.Prelude.{◌≡◌, ℕ, ◌<◌, ◌≤◌, Bool, false, MatchBool, length, map};
 ghost use Rattle.pt_carrier.specs.declared.ends.TheConstants.{MAX_DESKS};
-ghost use Rattle.pt_desk.specs.DeskState.{GoesOn};
+ghost use Rattle.pt_desk.specs.DeskState.{DeskState, GoesOn};
 ghost use Rattle.pt_node.specs.Desks.{AreDesks};
 ghost use Rattle.pt_node.specs.Running.{AllGoOn, AllWork, HasTurn, HaveEnded, InRounds, Round, TakesTurn, Works};
 
@@ -14,10 +14,16 @@ use std::thread::Threads;
 ///
 /// What a step does about a refusal of the desk is its own matter. It promises what each call of a desk does: the desk
 /// stays the same desk of the same node, and its journal begins with the one before.
+///
+/// What else a step may do is the ghost member `does`, of the work and the desk before it and the two after it: what a
+/// run promises of its workers is said in its terms.
 pub trait Work {
+    ghost does: { Self → DeskState → Self → DeskState → Type 0 };
+
     /// One step.
     fn step(&mut self, desk: &mut Desk)
-        ensures { GoesOn desk.old desk.new };
+        ensures does { does self.old desk.old self.new desk.new }
+        ensures goes_on { GoesOn desk.old desk.new };
 }
 
 /// What stands before and after each turn of each worker.
@@ -42,9 +48,9 @@ pub trait Gate {
 pub struct FreeGate;
 
 impl Gate for FreeGate {
-    ghost use Rattle.std.specs.Prelude.{◌≡◌, true};
+    ghost use Rattle.pt_node.specs.Running.{always};
 
-    ghost lets = { λ _ _ _ answer. answer ≡ true };
+    ghost lets = { λ _ desk turn begins. always desk turn begins };
 
     fn before(&self, _desk: u8, _turn: u64) -> bool {
         true
@@ -77,7 +83,7 @@ pub fn run<R: Threads + Sync, G: Gate + Sync, W: Work + Send>(
     gate: &G,
 ) -> Ran<W>
     ensures each { AllGoOn desks.items result.desks.items }
-    ensures turns { AllWork (G.lets gate.now) turns budget desks.items result.desks.items }
+    ensures turns { AllWork (G.lets gate.now) W.does turns budget desks.items result.desks.items }
     ensures desks { AreDesks (map (λ p. p.0) desks.items) → AreDesks (map (λ p. p.0) result.desks.items) }
 {
     let mut desks = desks;
@@ -98,8 +104,8 @@ pub fn run_single<G: Gate, W: Work>(
     gate: &G,
 ) -> Ran<W>
     ensures each { AllGoOn desks.items result.desks.items }
-    ensures turns { AllWork (G.lets gate.now) turns budget desks.items result.desks.items }
-    ensures rounds { length desks.items ≤ MAX_DESKS → InRounds (G.lets gate.now) turns budget desks.items result.desks.items }
+    ensures turns { AllWork (G.lets gate.now) W.does turns budget desks.items result.desks.items }
+    ensures rounds { length desks.items ≤ MAX_DESKS → InRounds (G.lets gate.now) W.does turns budget desks.items result.desks.items }
     ensures desks { AreDesks (map (λ p. p.0) desks.items) → AreDesks (map (λ p. p.0) result.desks.items) }
 {
     let mut desks = desks;
@@ -115,8 +121,8 @@ pub fn run_single<G: Gate, W: Work>(
 fn all_rounds<G: Gate, W: Work>(desks: &mut Vec<(Desk, W)>, turns: u64, budget: u32, gate: &G)
     requires { length desks.old.items ≤ MAX_DESKS }
     ensures each { AllGoOn desks.old.items desks.new.items }
-    ensures turns { AllWork (G.lets gate.now) turns budget desks.old.items desks.new.items }
-    ensures rounds { InRounds (G.lets gate.now) turns budget desks.old.items desks.new.items }
+    ensures turns { AllWork (G.lets gate.now) W.does turns budget desks.old.items desks.new.items }
+    ensures rounds { InRounds (G.lets gate.now) W.does turns budget desks.old.items desks.new.items }
 {
     let mut ended = [false; 64];
     for turn in 0..turns {
@@ -136,7 +142,7 @@ fn one_round<G: Gate, W: Work>(
 ) -> bool
     requires { length desks.old.items ≤ MAX_DESKS }
     ensures each { AllGoOn desks.old.items desks.new.items }
-    ensures round { Round (G.lets gate.now) budget turn (length desks.old.items) (desks.old.items, ended.old) (desks.new.items, ended.new) }
+    ensures round { Round (G.lets gate.now) W.does budget turn (length desks.old.items) (desks.old.items, ended.old) (desks.new.items, ended.new) }
     ensures none { result ≡ false → HaveEnded (length desks.old.items) ended.new }
 {
     let mut goes_on = false;
@@ -161,7 +167,7 @@ fn turn_at<G: Gate, W: Work>(
     requires desk { d < length desks.old.items }
     requires few { length desks.old.items ≤ MAX_DESKS }
     ensures each { AllGoOn desks.old.items desks.new.items }
-    ensures turn { HasTurn (G.lets gate.now) budget turn d (desks.old.items, ended.old) (desks.new.items, ended.new) }
+    ensures turn { HasTurn (G.lets gate.now) W.does budget turn d (desks.old.items, ended.old) (desks.new.items, ended.new) }
 {
     if ended[d] {
         return;
@@ -172,7 +178,7 @@ fn turn_at<G: Gate, W: Work>(
 /// All turns of each worker, one worker after another.
 fn one_by_one<G: Gate, W: Work>(desks: &mut Vec<(Desk, W)>, turns: u64, budget: u32, gate: &G)
     ensures each { AllGoOn desks.old.items desks.new.items }
-    ensures turns { AllWork (G.lets gate.now) turns budget desks.old.items desks.new.items }
+    ensures turns { AllWork (G.lets gate.now) W.does turns budget desks.old.items desks.new.items }
 {
     for d in 0..desks.len() {
         work_turns(&mut desks[d], turns, budget, gate);
@@ -188,7 +194,7 @@ fn work_all<R: Threads + Sync, G: Gate + Sync, W: Work + Send>(
     gate: &G,
 )
     ensures each { AllGoOn desks.old desks.new }
-    ensures turns { AllWork (G.lets gate.now) turns budget desks.old desks.new }
+    ensures turns { AllWork (G.lets gate.now) W.does turns budget desks.old desks.new }
 {
     let workers = desks.len();
     if workers > 0 {
@@ -206,7 +212,7 @@ fn work_all<R: Threads + Sync, G: Gate + Sync, W: Work + Send>(
 /// The turns of one worker.
 fn work_turns<G: Gate, W: Work>(pair: &mut (Desk, W), turns: u64, budget: u32, gate: &G)
     ensures goes_on { GoesOn pair.old.0 pair.new.0 }
-    ensures turns { Works (G.lets gate.now pair.old.0.shard.number) turns budget pair.old pair.new }
+    ensures turns { Works (G.lets gate.now pair.old.0.shard.number) W.does turns budget pair.old pair.new }
 {
     for turn in 0..turns {
         if !one_turn(pair, turn, budget, gate) {
@@ -219,7 +225,7 @@ fn work_turns<G: Gate, W: Work>(pair: &mut (Desk, W), turns: u64, budget: u32, g
 fn one_turn<G: Gate, W: Work>(pair: &mut (Desk, W), turn: u64, budget: u32, gate: &G) -> bool
     ensures goes_on { GoesOn pair.old.0 pair.new.0 }
     ensures lets { G.lets gate.now pair.old.0.shard.number turn result }
-    ensures takes { MatchBool result (TakesTurn budget pair.old pair.new) (pair.new ≡ pair.old) }
+    ensures takes { MatchBool result (TakesTurn W.does budget pair.old pair.new) (pair.new ≡ pair.old) }
 {
     let (desk, work) = pair;
     let number = desk.number();

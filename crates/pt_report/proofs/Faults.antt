@@ -1,34 +1,56 @@
 -- Which faults are told where.
-use Rattle.std.specs.Prelude.{◌≡◌, ℕ, List, Ok}
+use Rattle.std.specs.Prelude.{◌≡◌, ℕ, List, length, Ok}
+use Rattle.std.proofs.Common.{inl, inr}
 use Rattle.pt_script.specs.Plans.{Whole}
 use Rattle.pt_script.specs.Scripts.{reading}
 use Rattle.pt_shard.specs.declared.fault.Fault.{Fault}
-use Rattle.pt_shard.specs.declared.fault.Fault.TheVariants.{Memory as DeskMemory}
+use Rattle.pt_shard.specs.declared.fault.Fault.TheVariants.{Full, Memory as DeskMemory, Worn, Gone, Myself}
 use Rattle.pt_shard.specs.declared.stop.Stop.{Stop}
 use Rattle.pt_shard.specs.declared.stop.Stop.TheVariants.{Memory as StopMemory, Worn as StopWorn}
+use Rattle.pt_gathered.specs.Gathered.{GatheredState}
+use Rattle.pt_gathered.specs.Order.{SettlingStops}
+use Rattle.pt_options.specs.declared.choices.Options.{Options}
+use Rattle.pt_options.specs.declared.choices.Show.TheVariants.{Summary}
 use Rattle.pt_report.specs.declared.fault.ReportFault.{ReportFault}
 use Rattle.pt_report.specs.declared.fault.ReportFault.TheVariants.{Script, Memory, Desk, File}
-use Rattle.pt_report.specs.Status.{told, stopped, IsOfNode, IsNoScript}
-use Rattle.pt_report.specs.Reports.{IsRefusedAs}
+use Rattle.pt_report.specs.Status.{told, stopped, IsOfPrint}
+use Rattle.pt_report.specs.Reports.{BirthRefused, IsNodeOf, IsOfStart, IsOfSummary, IsRefusedAs}
 
-pub told_of_node : (fault : Fault) → IsOfNode (told fault)
-told_of_node DeskMemory = tt
-told_of_node _ = tt
+pub told_of_start : (script : Whole) (fault : Fault) → BirthRefused script fault → IsOfStart script (told fault)
+told_of_start script DeskMemory b = tt
+told_of_start script Full b = b
+told_of_start script Worn b = b
+told_of_start script Gone b = absurd b.2.3
+told_of_start script Myself b = absurd b.2.3
 
-pub stopped_no_script : (stop : Stop) → IsNoScript (stopped stop)
-stopped_no_script StopMemory = tt
-stopped_no_script StopWorn = tt
+pub stopped_of_summary : (g last : GatheredState) (stop : Stop) → SettlingStops (length g.shards) stop g last → IsOfSummary g (stopped stop)
+stopped_of_summary g last StopMemory s = tt
+stopped_of_summary g last StopWorn s = (last, s)
 
 -- where the bytes are a script, a refusal of its node is told
-pub of_node : (bytes : List ℕ) (script : Whole) (fault : ReportFault) → reading bytes ≡ Ok script → IsOfNode fault → IsRefusedAs bytes fault
-of_node bytes script Memory read n = (script, read)
-of_node bytes script (Desk fault) read n = (script, read)
-of_node bytes script (Script error) read n = absurd n
-of_node bytes script File read n = absurd n
+pub of_start : (bytes : List ℕ) (options : Options) (script : Whole) (fault : ReportFault) → reading bytes ≡ Ok script → IsOfStart script fault → IsRefusedAs bytes options fault
+of_start bytes options script Memory read n = (script, read)
+of_start bytes options script (Desk Full) read n = (script, read, n)
+of_start bytes options script (Desk Worn) read n = (script, read, inl n)
+of_start bytes options script (Desk DeskMemory) read n = absurd n
+of_start bytes options script (Desk Gone) read n = absurd n
+of_start bytes options script (Desk Myself) read n = absurd n
+of_start bytes options script (Script error) read n = absurd n
+of_start bytes options script File read n = absurd n
 
 -- and so is one of printing
-pub of_print : (bytes : List ℕ) (script : Whole) (fault : ReportFault) → reading bytes ≡ Ok script → IsNoScript fault → IsRefusedAs bytes fault
-of_print bytes script (Script error) read n = absurd n
-of_print bytes script Memory read n = (script, read)
-of_print bytes script (Desk fault) read n = (script, read)
-of_print bytes script File read n = (script, read)
+pub of_print : (bytes : List ℕ) (options : Options) (script : Whole) (fault : ReportFault) → reading bytes ≡ Ok script → IsOfPrint fault → IsRefusedAs bytes options fault
+of_print bytes options script (Script error) read n = absurd n
+of_print bytes options script Memory read n = (script, read)
+of_print bytes options script (Desk fault) read n = absurd n
+of_print bytes options script File read n = (script, read)
+
+pub of_summary : (bytes : List ℕ) (options : Options) (script : Whole) (g : GatheredState) (fault : ReportFault) → reading bytes ≡ Ok script → options.print ≡ Summary → IsNodeOf options script g → IsOfSummary g fault → IsRefusedAs bytes options fault
+of_summary bytes options script g Memory read asked node n = (script, read)
+of_summary bytes options script g File read asked node n = (script, read)
+of_summary bytes options script g (Desk Worn) read asked node n = (script, read, inr (record { asked = asked; node = g; is_node = node; last = n.0; stops = n.1 }))
+of_summary bytes options script g (Desk Full) read asked node n = absurd n
+of_summary bytes options script g (Desk DeskMemory) read asked node n = absurd n
+of_summary bytes options script g (Desk Gone) read asked node n = absurd n
+of_summary bytes options script g (Desk Myself) read asked node n = absurd n
+of_summary bytes options script g (Script error) read asked node n = absurd n

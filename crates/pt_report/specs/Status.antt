@@ -2,11 +2,11 @@
 use Rattle.std.specs.Prelude.{ℕ, ⊤}
 use Rattle.pt_script.specs.declared.fault.ScriptError.TheVariants.{Refused}
 use Rattle.pt_shard.specs.declared.fault.Fault.{Fault}
-use Rattle.pt_shard.specs.declared.fault.Fault.TheVariants.{Memory as DeskMemory, Worn as DeskWorn}
+use Rattle.pt_shard.specs.declared.fault.Fault.TheVariants.{Full, Memory as DeskMemory, Worn as DeskWorn, Gone, Myself}
 use Rattle.pt_shard.specs.declared.stop.Stop.{Stop}
 use Rattle.pt_shard.specs.declared.stop.Stop.TheVariants.{Memory as StopMemory, Worn as StopWorn}
 use Rattle.pt_report.specs.declared.fault.ReportFault.{ReportFault}
-use Rattle.pt_report.specs.declared.fault.ReportFault.TheVariants.{Script, Memory, Desk}
+use Rattle.pt_report.specs.declared.fault.ReportFault.TheVariants.{Script, Memory, Desk, File}
 
 -- 1 where the bytes are no script, else 3
 abbrev pub status_of : ReportFault → ℕ
@@ -23,13 +23,16 @@ abbrev pub stopped : Stop → ReportFault
 stopped StopMemory = Memory
 stopped StopWorn = Desk DeskWorn
 
--- a fault of memory or of a desk
-abbrev pub IsOfNode : ReportFault → Type 0
-IsOfNode Memory = ⊤
-IsOfNode (Desk fault) = ⊤
-IsOfNode _ = ⊥
+-- a fault of printing what stands in a node: of memory, or of the writer
+abbrev pub IsOfPrint : ReportFault → Type 0
+IsOfPrint Memory = ⊤
+IsOfPrint File = ⊤
+IsOfPrint _ = ⊥
 
--- any fault but that of a script
-abbrev pub IsNoScript : ReportFault → Type 0
-IsNoScript (Script error) = ⊥
-IsNoScript _ = ⊤
+-- the number that a desk's refusal is printed with
+abbrev pub fault_number : Fault → ℕ
+fault_number Full = 1
+fault_number DeskMemory = 2
+fault_number DeskWorn = 3
+fault_number Gone = 4
+fault_number Myself = 5

@@ -2,7 +2,7 @@
 
 ghost use Rattle.std.specs.Prelude.{◌≡◌, ◌≢◌, ℕ, OnOk, IfErr, List};
 ghost use Rattle.std.specs.Io.KnownBytes.{Appends};
-ghost use Rattle.pt_report.specs.Status.{IsNoScript};
+ghost use Rattle.pt_report.specs.Status.{IsOfPrint};
 ghost use Rattle.pt_report.specs.declared.fault.ReportFault.TheVariants.{File};
 
 use crate::fault::ReportFault;
@@ -19,7 +19,7 @@ pub fn print_chart<W: Write>(
     out: &mut W,
 ) -> Result<(), ReportFault>
     ensures text { OnOk result ((text : List ℕ) × Appends (W.contents out.old) (W.contents out.new) text) }
-    ensures fault { IfErr result IsNoScript }
+    ensures fault { IfErr result IsOfPrint }
     ensures untouched { IfErr result (λ f. f ≢ File → out.new ≡ out.old) }
 {
     let events = gathered.history()?;

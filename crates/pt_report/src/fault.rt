@@ -1,7 +1,7 @@
 //! Why a script was not run, or what happened not printed.
 
 ghost use Rattle.std.specs.Prelude.{◌≡◌};
-ghost use Rattle.pt_report.specs.Status.{status_of};
+ghost use Rattle.pt_report.specs.Status.{fault_number, status_of};
 
 use pt_node::{Fault, Stop};
 use pt_script::ScriptError;
@@ -41,7 +41,9 @@ impl ReportFault {
 }
 
 /// The number by which a fault of a desk is printed.
-fn number_of(fault: &Fault) -> u8 {
+fn number_of(fault: &Fault) -> u8
+    ensures { result ≡ fault_number fault.now }
+{
     match fault {
         Fault::Full => 1,
         Fault::Memory => 2,

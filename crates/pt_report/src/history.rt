@@ -7,7 +7,7 @@ ghost use Rattle.pt_events.specs.declared.event.Stamped.{Stamped};
 ghost use Rattle.pt_gathered.specs.Gathered.{journals};
 ghost use Rattle.pt_gathered.specs.LeftOvers.{all_left};
 ghost use Rattle.pt_report.specs.Lines.{lines, left_lines, history_text};
-ghost use Rattle.pt_report.specs.Status.{IsNoScript};
+ghost use Rattle.pt_report.specs.Status.{IsOfPrint};
 ghost use Rattle.pt_report.specs.declared.fault.ReportFault.TheVariants.{File};
 
 use crate::fault::ReportFault;
@@ -18,7 +18,7 @@ use std::io::Write;
 /// Prints the history of a node and the letters left over.
 pub fn print_history<W: Write>(gathered: &Gathered, out: &mut W) -> Result<(), ReportFault>
     ensures text { OnOk result ((h : List Stamped) × IsMerge (journals gathered.now) (reverse h) × Appends (W.contents out.old) (W.contents out.new) (history_text h (all_left gathered.now))) }
-    ensures fault { IfErr result IsNoScript }
+    ensures fault { IfErr result IsOfPrint }
     ensures untouched { IfErr result (λ f. f ≢ File → out.new ≡ out.old) }
 {
     let events = gathered.history()?;

@@ -18,12 +18,15 @@ use std::thread::Threads;
 /// Reads a script from its bytes, runs it as the options say, and prints what happened.
 ///
 /// On `Ok` the whole text was written and the writer flushed: the history, the summary or the chart of a node that has
-/// the script's settings, was run and then gathered. What `Mode::Single` prints is the same each time.
+/// the script's settings, was run and then gathered. Each of its desks took all the turns that the options ask for, with
+/// the script's budget, and before each of them a step of the script's operations. What `Mode::Single` prints is the same
+/// each time.
 ///
-/// Refused as `Script` where the bytes are no script, with the first fault and its place, and as `Memory` or `Desk` where
-/// a desk or memory was wanting: the writer is then as it was. `File` tells that the writer failed, and nothing else
-/// tells it; some of the text may have been written.
-#[tactic(auto, using(crate::proofs::Faults::of_node, crate::proofs::Faults::of_print))]
+/// Refused as `Script` where the bytes are no script, with the first fault and its place. `Desk` tells that a process
+/// that the script begins with found no free slot on its desk (`Full`), or that a clock is at its limit (`Worn`), there
+/// or when a summary is settled; and `Memory` that there was none. The writer is then as it was. `File` tells that the
+/// writer failed, and nothing else tells it; some of the text may have been written.
+#[tactic(auto, using(crate::proofs::Faults::of_start, crate::proofs::Faults::of_print, crate::proofs::Faults::of_summary))]
 pub fn report<R: Threads + Sync, W: Write>(
     rt: &R,
     alloc: Global,
@@ -31,8 +34,8 @@ pub fn report<R: Threads + Sync, W: Write>(
     script: &[u8],
     out: &mut W,
 ) -> Result<(), ReportFault>
-    ensures text { OnOk result (Reports script.now options.now.print (W.contents out.old) (W.contents out.new)) }
-    ensures refused { IfErr result (IsRefusedAs script.now) }
+    ensures text { OnOk result (Reports script.now options.now (W.contents out.old) (W.contents out.new)) }
+    ensures refused { IfErr result (IsRefusedAs script.now options.now) }
     ensures untouched { IfErr result (λ f. f ≢ File → out.new ≡ out.old) }
 {
     let script = Script::from_bytes(alloc, script)?;

@@ -7,7 +7,7 @@ ghost use Rattle.std.specs.Io.KnownBytes.{Appends};
 ghost use Rattle.pt_lives.specs.LivesState.{InEveryMerge, account_in};
 ghost use Rattle.pt_gathered.specs.Gathered.{journals};
 ghost use Rattle.pt_report.specs.Summaries.{Summarizes, AppendsAccounts, account_line};
-ghost use Rattle.pt_report.specs.Status.{IsNoScript};
+ghost use Rattle.pt_report.specs.Reports.{IsOfSummary};
 ghost use Rattle.pt_report.specs.declared.fault.ReportFault.TheVariants.{File};
 
 use crate::fault::ReportFault;
@@ -17,10 +17,9 @@ use std::io;
 use std::io::Write;
 
 /// Settles a node and prints what became of its processes.
-#[tactic(auto, using(crate::proofs::Faults::stopped_no_script))]
 pub fn print_summary<W: Write>(gathered: Gathered, out: &mut W) -> Result<(), ReportFault>
     ensures text { OnOk result (Summarizes gathered (W.contents out.old) (W.contents out.new)) }
-    ensures fault { IfErr result IsNoScript }
+    ensures fault { IfErr result (IsOfSummary gathered) }
     ensures untouched { IfErr result (λ f. f ≢ File → out.new ≡ out.old) }
 {
     let events = count_events(&gathered);

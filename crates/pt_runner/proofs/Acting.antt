@@ -15,13 +15,11 @@ use Rattle.pt_signal.specs.declared.signal.Signal.TheVariants.{AliveAsk}
 use Rattle.pt_events.specs.declared.event.Event.TheVariants.{Said}
 use Rattle.pt_shard.specs.declared.fault.Fault.{Fault}
 use Rattle.pt_shard.specs.Calls.{Calls, Monitors, take_event, first_match, demonitor_event, new_ref}
-use Rattle.pt_runner.specs.Stepping.{came_of}
 use Rattle.pt_runner.specs.declared.calls.Progress.TheVariants.{Done, Stays}
 use Rattle.pt_shard.specs.ShardState.{ShardState}
 use Rattle.pt_runner.specs.declared.calls.Progress.{Progress}
 use Rattle.pt_runner.specs.declared.runner.Actor.{Actor}
-use Rattle.pt_runner.proofs.Stepping.{pid_of, kept_pids}
-use Rattle.pt_runner.specs.Acting.{CallsAt, Takes, taken_of, Demonitors, MonitorsAt, AsksAt, got, Performs, Acting, Table, acting, set_acting, with_child, newborn, Plays, Acts, ActsAt, EachActs}
+use Rattle.pt_runner.specs.Acting.{came_of, CallsAt, Takes, taken_of, Demonitors, MonitorsAt, AsksAt, got, Performs, Acting, Table, acting, set_acting, with_child, newborn, Plays, DoesOperation, ActsAt, EachActs}
 
 -- calls on a target ------------------------------------------------------------------------
 
@@ -76,7 +74,7 @@ pub performs_as : (pids : List (Option Pid)) (p : Pid) (o named : Operation) (ol
 performs_as pids p o named old references progress new after is h = subst (λ (x : Operation). Performs pids p x old references progress new after) (sym is) h
 
 -- an operation that is no spawn
-pub acts_plain : (o : Operation) (i : ℕ) (a b : Acting) (t u : Table) (old new : ShardState) → ((process : ℕ) (linked : Bool) → o ≢ Spawn process linked) → Plays t.pids o a old b new → u ≡ set_acting i b t → Acts o i a t old u new
+pub acts_plain : (o : Operation) (i : ℕ) (a b : Acting) (t u : Table) (old new : ShardState) → ((process : ℕ) (linked : Bool) → o ≢ Spawn process linked) → Plays t.pids o a old b new → u ≡ set_acting i b t → DoesOperation o i a t old u new
 acts_plain (Send to kind num who) i a b t u old new plain plays is = (b, plays, is)
 acts_plain (Receive pattern) i a b t u old new plain plays is = (b, plays, is)
 acts_plain (Check pattern) i a b t u old new plain plays is = (b, plays, is)
@@ -135,10 +133,3 @@ living_case test a actors false e rest = rw e rest
 pub living_actors : (test : Pid → Bool) (actors : List Actor) → map acting (filter (λ (x : Actor). test x.pid) actors) ≡ filter (λ (x : Acting). test x.pid) (map acting actors)
 living_actors test [] = refl
 living_actors test (a ∷ actors) = living_case test a actors (test a.pid) refl (living_actors test actors)
-
-pub living_count : (test : Pid → Bool) (actors : List Actor) → length (filter (λ (x : Acting). test x.pid) (map acting actors)) ≡ length (filter test (map pid_of actors))
-living_count test actors =
-    ap length (sym (living_actors test actors))
-    ∙ length-map (filter (λ (x : Actor). test x.pid) actors) acting
-    ∙ sym (length-map (filter (λ (x : Actor). test x.pid) actors) pid_of)
-    ∙ ap length (kept_pids test actors)

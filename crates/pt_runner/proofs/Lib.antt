@@ -1,4 +1,2 @@
-pub mod Calling
-pub mod Stepping
 pub mod Acting
 pub mod Starting

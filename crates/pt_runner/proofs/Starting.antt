@@ -1,8 +1,9 @@
 -- Births one after the other.
-use Rattle.std.proofs.Common.{◌≡◌, ◌≢◌, ⊎_elim, ℕ, zero, suc, ◌+◌, ◌<◌, List, [], ◌∷◌, ◌++◌, Bool, true, false, cond, length, length-append, map, get_or, set, take, Option, Some, None, Result, Ok, Err, refl, ap, sym, subst, ◌∙◌, append-nil, arith}
-use Rattle.std.specs.Prelude.{◌==◌, ◌≤◌, filter, fold, reverse, Vec}
+use Rattle.std.proofs.Common.{◌≡◌, ◌≢◌, ⊎_elim, ℕ, zero, suc, ◌+◌, ◌<◌, List, [], ◌∷◌, ◌++◌, Bool, true, false, cond, length, length-append, map, get_or, set, take, Option, Some, None, Result, Ok, Err, refl, ap, sym, subst, ◌∙◌, append-nil, arith, lit<}
+use Rattle.std.specs.Prelude.{◌==◌, ◌≤◌, filter, fold, reverse, IsSome, IsErrAnd, Vec}
 use Rattle.pt_script.specs.Sound.{IsSound, TopFits}
 use Rattle.pt_script.specs.Plans.{Plan, Whole}
+use Rattle.pt_script.specs.Nodes.{config_of}
 use Rattle.std.specs.List.{All}
 use Rattle.std.proofs.lemmas.Bool.{cases_eq, eqb-true, eq-eqb}
 use Rattle.std.proofs.lemmas.List.{take_more, take_all, get_or-map, map-append, reverse-append, get_or-set_same, get_or-set_other, length-set, get_or_default}
@@ -16,15 +17,16 @@ use Rattle.pt_shard.specs.declared.config.Config.{Config}
 use Rattle.pt_shard.specs.declared.fault.Fault.{Fault}
 use Rattle.pt_shard.specs.declared.fault.Fault.TheVariants.{Full, Memory, Worn, Gone, Myself}
 use Rattle.pt_shard.specs.ShardState.{ShardState, past}
-use Rattle.pt_shard.specs.Calls.{Bears}
-use Rattle.pt_desk.specs.DeskState.{DeskState, GoesOn, place}
+use Rattle.pt_shard.specs.Calls.{Bears, CanWrite, IsWorn}
+use Rattle.pt_shard.specs.Opening.{fresh}
+use Rattle.pt_desk.specs.DeskState.{DeskState, IsDesk, GoesOn, place}
 use Rattle.pt_node.specs.Desks.{AreDesksOf}
 use Rattle.pt_node.specs.Opening.{AreFresh}
 use Rattle.pt_script.specs.declared.values.Top.{Top}
 use Rattle.pt_runner.specs.declared.runner.Actor.{Actor}
 use Rattle.pt_runner.specs.declared.runner.Runner.{Runner}
 use Rattle.pt_runner.specs.Acting.{Acting, acting, table, newborn}
-use Rattle.pt_runner.specs.Starting.{on, birth, config_of, Begins, IsRunnerOf, named, put_pid, numbered, starter, starters, is_on, Bears as BearsAll}
+use Rattle.pt_runner.specs.Starting.{on, birth, Begins, IsRunnerOf, named, put_pid, numbered, starter, starters, is_on, AtNext, BirthsStop, BornUntil, BearsList, Starts}
 
 -- the desks of a node -----------------------------------------------------------------
 
@@ -206,47 +208,34 @@ starters_more : (plans : List Plan) (d : ℕ) (ones : List (Top × Pid)) (one : 
 starters_more plans d ones one = ap (map (starter plans)) (filter-append (is_on d) ones (one ∷ [])) ∙ map-append (starter plans) (filter (is_on d) ones) (filter (is_on d) (one ∷ []))
 
 -- the actors are those of the first i of the list that are of desk d
-pub record Listed (w : Whole) (born : List Pid) (d i : ℕ) (actors : List Actor) : Type 0 where
-  pub processes : map (λ (a : Actor). a.pid) actors ≡ on d (take i born)
-  pub starters : map acting actors ≡ starters w.processes d (take i (named w born))
+abbrev pub Listed : Whole → List Pid → ℕ → ℕ → List Actor → Type 0
+Listed w born d i actors = map acting actors ≡ starters w.processes d (take i (named w born))
 
 module _ (w : Whole) (born : List Pid) (d i : ℕ) (t : Top) (p : Pid) (actors : List Actor) (here : AreAt w born i t p) (listed : Listed w born d i actors) where
-  ons : (b : Bool) → (p.shard == d) ≡ b → on d (take (i + 1) born) ≡ on d (take i born) ++ cond b (p ∷ []) []
-  ons b h = ap (on d) (take_more born i p here.within ∙ ap (λ (q : Pid). take i born ++ q ∷ []) (sym here.pid)) ∙ on_more d (take i born) p b h
-
   lists : (b : Bool) → (p.shard == d) ≡ b → starters w.processes d (take (i + 1) (named w born)) ≡ starters w.processes d (take i (named w born)) ++ cond b (starter w.processes (t, p) ∷ []) []
   lists b h =
       ap (starters w.processes d) (named_more w born i t p here) ∙ starters_more w.processes d (take i (named w born)) (t, p)
       ∙ ap (λ (xs : List Acting). starters w.processes d (take i (named w born)) ++ xs) (one_starter w.processes d (t, p) b h)
 
-  pub listed_here : (a : Actor) → p.shard ≡ d → a.pid ≡ p → acting a ≡ newborn w.processes t.process p → Listed w born d (i + 1) (actors ++ a ∷ [])
-  listed_here a same pid new = record {
-    processes = map-append (λ (x : Actor). x.pid) actors (a ∷ []) ∙ ap (λ (ps : List Pid). ps ++ a.pid ∷ []) listed.processes ∙ ap (λ (q : Pid). on d (take i born) ++ q ∷ []) pid ∙ sym (ons true (eq-eqb p.shard d same));
-    starters = map-append acting actors (a ∷ []) ∙ ap (λ (xs : List Acting). xs ++ acting a ∷ []) listed.starters ∙ ap (λ (x : Acting). starters w.processes d (take i (named w born)) ++ x ∷ []) new ∙ sym (lists true (eq-eqb p.shard d same));
-  }
+  pub listed_here : (a : Actor) → p.shard ≡ d → acting a ≡ newborn w.processes t.process p → Listed w born d (i + 1) (actors ++ a ∷ [])
+  listed_here a same new =
+      map-append acting actors (a ∷ []) ∙ ap (λ (xs : List Acting). xs ++ acting a ∷ []) listed
+      ∙ ap (λ (x : Acting). starters w.processes d (take i (named w born)) ++ x ∷ []) new ∙ sym (lists true (eq-eqb p.shard d same))
 
   pub listed_beside : p.shard ≢ d → Listed w born d (i + 1) actors
   listed_beside apart =
       let no : (p.shard == d) ≡ false = unequal p.shard d apart (p.shard == d) refl in
-      record {
-        processes = listed.processes ∙ sym (ons false no ∙ append-nil (on d (take i born)));
-        starters = listed.starters ∙ sym (lists false no ∙ append-nil (starters w.processes d (take i (named w born))));
-      }
+      listed ∙ sym (lists false no ∙ append-nil (starters w.processes d (take i (named w born))))
 
 -- the runner that has all that were listed
 pub runner_made : (w : Whole) (born : List Pid) (d i : ℕ) (actors : List Actor) (pids : List (Option Pid)) (r : Runner) → length born ≤ i → Listed w born d i actors → pids ≡ numbered w born
-    → r.script.now ≡ w → r.actors.items ≡ actors → table r ≡ record { plans = w.processes; pids = pids; actors = map acting actors } → IsRunnerOf w born d r
-runner_made w born d i actors pids r all listed numbers script is made = record {
+    → r.script.now ≡ w → table r ≡ record { plans = w.processes; pids = pids; actors = map acting actors } → IsRunnerOf w born d r
+runner_made w born d i actors pids r all listed numbers script made = record {
   script = script;
-  processes = ap (map (λ (a : Actor). a.pid)) is ∙ listed.processes ∙ ap (on d) (take_all i born all);
   table =
       made ∙ ap (λ (ps : List (Option Pid)). record { plans = w.processes; pids = ps; actors = map acting actors }) numbers
-      ∙ ap (λ (xs : List Acting). record { plans = w.processes; pids = numbered w born; actors = xs }) (listed.starters ∙ ap (starters w.processes d) (named_all w born i all));
+      ∙ ap (λ (xs : List Acting). record { plans = w.processes; pids = numbered w born; actors = xs }) (listed ∙ ap (starters w.processes d) (named_all w born i all));
 }
-
--- a refusal leaves those that were born before
-pub left_as_is : {A : Type 0} (config : Config) (tops : List Top) (count : ℕ) (born : List Pid) (desks : List DeskState) (r : Result (Vec Pid A) Fault) (fault : Fault) → r ≡ Err fault → Begun config tops count born desks → BearsAll tops desks r
-left_as_is config tops count born desks r fault e begun = subst (BearsAll tops desks) (sym e) (count, born, begun.begins)
 
 all_at : {X : Type 0} (P : X → Type 0) (xs : List X) (i : ℕ) (d : X) → All P xs → i < length xs → P (get_or xs i d)
 all_at P [] i d all lt = absurd (omega (arith, lt))
@@ -258,3 +247,52 @@ pub desk_within : (w : Whole) (desks : List DeskState) (i : ℕ) (d : Top) → I
 desk_within w desks i d sound node lt =
     let fits = all_at (TopFits (length w.processes) w.settings.desks) w.tops i d sound.tops lt in
     omega (arith, fits.1, node.count)
+
+-- refusals ---------------------------------------------------------------------------------------
+
+-- the desk of the next process, which was written back
+at_next : (tops : List Top) (count : ℕ) (desks : List DeskState) (t : Top) (y : DeskState) (Holds : DeskState → Type 0) → count < length tops → (get_or tops count t).desk < length desks → Holds y
+    → AtNext tops count (set desks (get_or tops count t).desk y) Holds
+at_next tops count desks t y Holds few within holds u x =
+    let same : (get_or tops count u).desk ≡ (get_or tops count t).desk = ap (λ (z : Top). z.desk) (get_or_default tops count u t few) in
+    let there : get_or (set desks (get_or tops count t).desk y) (get_or tops count u).desk x ≡ y = ap (λ n. get_or (set desks (get_or tops count t).desk y) n x) same ∙ get_or-set_same desks (get_or tops count t).desk y x within in
+    subst Holds (sym there) holds
+
+-- what its refusal says of it
+pub births_stop : (tops : List Top) (count : ℕ) (desks : List DeskState) (t : Top) (old : ShardState) (y : DeskState) (fault : Fault) → count < length tops → (get_or tops count t).desk < length desks
+    → IsDesk y → Bears None None old (Err fault) y.shard → BirthsStop tops count (set desks (get_or tops count t).desk y) fault
+births_stop tops count desks t old y Full few within whole b =
+    let H : ShardState → Type 0 = λ s. CanWrite s × (s.vacant ≡ None) in
+    let h : H y.shard = subst H (sym b.2) (b.0, b.1) in
+    (few, at_next tops count desks t y (λ d. IsDesk d × CanWrite d.shard × (d.shard.vacant ≡ None)) few within (whole, h.0, h.1))
+births_stop tops count desks t old y Worn few within whole b =
+    (few, at_next tops count desks t y (λ d. IsDesk d × IsWorn d.shard) few within (whole, subst IsWorn (sym b.1) b.0))
+births_stop tops count desks t old y Memory few within whole b = λ less.
+    let H : ShardState → Type 0 = λ s. CanWrite s × IsSome s.vacant in
+    at_next tops count desks t y (λ d. CanWrite d.shard × IsSome d.shard.vacant) few within (subst H (sym b.2) (b.0, b.1))
+births_stop tops count desks t old y Gone few within whole b = absurd b
+births_stop tops count desks t old y Myself few within whole b = absurd b
+
+-- there was no memory for the list of pids: nothing has happened on the desks
+pub none_born : (w : Whole) (desks : List DeskState) → IsSound w → AreFresh (config_of w.settings) desks → BirthsStop w.tops 0 desks Memory
+none_born w desks sound are few t x =
+    let within : (get_or w.tops 0 t).desk < length desks = desk_within w desks 0 t sound are.node few in
+    let H : ShardState → Type 0 = λ s. CanWrite s × IsSome s.vacant in
+    let can : CanWrite (fresh (config_of w.settings) (get_or w.tops 0 t).desk) = lit< tt in
+    subst H (sym (are.shards (get_or w.tops 0 t).desk x within)) (can, refl)
+
+-- nor for the runners: all are born
+all_born : (tops : List Top) (desks : List DeskState) → BirthsStop tops (length tops) desks Memory
+all_born tops desks less = absurd (omega (arith, less))
+
+-- a refusal leaves those that were born before
+pub left_as_is : {A : Type 0} (config : Config) (tops : List Top) (count : ℕ) (born : List Pid) (desks : List DeskState) (r : Result (Vec Pid A) Fault) (fault : Fault) → r ≡ Err fault → Begun config tops count born desks → BirthsStop tops count desks fault → BearsList tops desks r
+left_as_is config tops count born desks r fault e begun stop = subst (BearsList tops desks) (sym e) (count, born, begun.begins, stop)
+
+-- what is answered where a birth is refused, and where there is no memory for the runners
+pub refused_as : {A : Type 0} (w : Whole) (desks : List DeskState) (fault : Fault) (r : Result (Vec Runner A) Fault) → BornUntil w.tops desks fault → IsErrAnd r (λ f. f ≡ fault) → Starts w desks r
+refused_as w desks fault (Ok x) b h = absurd h
+refused_as w desks fault (Err f) b h = subst (BornUntil w.tops desks) (sym h) b
+
+pub no_runners : {A : Type 0} (w : Whole) (desks : List DeskState) (born : List Pid) (r : Result (Vec Runner A) Fault) → Begins w.tops (length w.tops) born desks → IsErrAnd r (λ f. f ≡ Memory) → Starts w desks r
+no_runners w desks born r b h = refused_as w desks Memory r (length w.tops, born, b, all_born w.tops desks) h

@@ -7,14 +7,16 @@ use Rattle.pt_signal.specs.declared.ids.Ref.{Ref}
 use Rattle.pt_signal.specs.declared.item.Item.{Item}
 use Rattle.pt_signal.specs.declared.item.Pick.{Pick}
 use Rattle.pt_signal.specs.declared.pid.Pid.{Pid}
-use Rattle.pt_signal.specs.declared.reason.Reason.TheVariants.{Normal}
+use Rattle.pt_signal.specs.declared.reason.Reason.TheVariants.{Normal, Other}
 use Rattle.pt_signal.specs.declared.signal.Signal.{Signal}
 use Rattle.pt_events.specs.declared.event.Event.{Event}
 use Rattle.pt_events.specs.declared.event.Event.TheVariants.{Said, Flag, Left}
 use Rattle.pt_shard.specs.declared.fault.Fault.{Fault}
+use Rattle.pt_shard.specs.declared.fault.Fault.TheVariants.{Full, Myself}
 use Rattle.pt_shard.specs.Calls.{Calls, Monitors, BearsChild, link_event, unlink_event, take_event, first_match, demonitor_event, new_ref}
 use Rattle.pt_shard.specs.Known.{knows}
 use Rattle.pt_shard.specs.ShardState.{ShardState, lives, state_in}
+use Rattle.pt_desk.specs.DeskState.{DeskState, HasSameEnds}
 use Rattle.pt_script.specs.Plans.{Plan}
 use Rattle.pt_script.specs.declared.values.Operation.{Operation}
 use Rattle.pt_script.specs.declared.values.Operation.TheVariants.{Send, Receive, Check, Link, Unlink, Monitor, Demonitor, Alive, Trap, Exit, Signal as SendExit, Spawn, Pass}
@@ -24,7 +26,6 @@ use Rattle.pt_runner.specs.declared.calls.Progress.{Progress}
 use Rattle.pt_runner.specs.declared.calls.Progress.TheVariants.{Done, Stays, Ends}
 use Rattle.pt_runner.specs.declared.runner.Actor.{Actor}
 use Rattle.pt_runner.specs.declared.runner.Runner.{Runner}
-use Rattle.pt_runner.specs.Stepping.{came_of}
 
 -- a runner's table ----------------------------------------------------------------------
 
@@ -100,6 +101,13 @@ pick_of pids references (DownOf tag) = option_map Pick.DownOf (reference_of refe
 pick_of pids references (AliveOf tag) = option_map Pick.AliveOf (reference_of references tag)
 
 -- what an operation does ------------------------------------------------------------------
+
+-- what comes of an operation, by the answer to its call
+abbrev pub came_of : {A : Type 0} → Result A Fault → Progress
+came_of (Ok x) = Done
+came_of (Err Full) = Ends (Other 1)
+came_of (Err Myself) = Ends (Other 5)
+came_of (Err _) = Stays
 
 -- it is passed over
 abbrev pub IsPassed : ShardState → Progress → ShardState → Type 0
@@ -224,16 +232,16 @@ abbrev pub SpawnsAt : ℕ → Bool → ℕ → Table → ShardState → Table �
 SpawnsAt process linked i t old u new = (a : Acting) × (slice_index_or t.actors i a ≡ a) × TriesSpawn process linked i a t old u new
 
 -- the process a, at place i, does the operation
-abbrev pub Acts : Operation → ℕ → Acting → Table → ShardState → Table → ShardState → Type 0
-Acts (Spawn process linked) i a t old u new = TriesSpawn process linked i a t old u new
-Acts operation i a t old u new = (b : Acting) × Plays t.pids operation a old b new × (u ≡ set_acting i b t)
+abbrev pub DoesOperation : Operation → ℕ → Acting → Table → ShardState → Table → ShardState → Type 0
+DoesOperation (Spawn process linked) i a t old u new = TriesSpawn process linked i a t old u new
+DoesOperation operation i a t old u new = (b : Acting) × Plays t.pids operation a old b new × (u ≡ set_acting i b t)
 
 -- the process at place i does its next operation
 pub record ActsAt (i : ℕ) (t : Table) (old : ShardState) (u : Table) (new : ShardState) : Type 0 where
   pub within : i < length t.actors
   pub a : Acting
   pub is : slice_index_or t.actors i a ≡ a
-  pub acts : Acts (next_of t.plans a) i a t old u new
+  pub acts : DoesOperation (next_of t.plans a) i a t old u new
 
 -- a step --------------------------------------------------------------------------------------
 
@@ -251,3 +259,7 @@ living d t = record t { actors = filter (λ (a : Acting). lives d a.pid) t.actor
 -- born by that stands behind them, and has its first operation in the next step.
 abbrev pub EachDoesNext : Table → ShardState → Table → ShardState → Type 0
 EachDoesNext t old u new = EachActs (length (living old t).actors) (living old t) old u new
+
+-- A step of a runner with its desk: so does each of the runner's processes, and nothing is posted or collected.
+abbrev pub RunnerDoes : Runner → DeskState → Runner → DeskState → Type 0
+RunnerDoes r old s new = EachDoesNext (table r) old.shard (table s) new.shard × HasSameEnds old new

@@ -1,23 +1,18 @@
 -- How the work of a script begins.
-use Rattle.std.specs.Prelude.{◌≡◌, ℕ, ◌<◌, ◌≤◌, ◌==◌, Bool, List, length, map, fold, reverse, replicate, take, slice_index_or, slice_set, Option, Some, None, Result, Ok, Err, Vec}
+use Rattle.std.specs.Prelude.{◌≡◌, ℕ, ◌<◌, ◌≤◌, ◌==◌, Bool, List, length, map, fold, reverse, replicate, take, slice_index_or, slice_set, Option, Some, None, IsSome, Result, Ok, Err, Vec}
 use Rattle.std.specs.List.{filter, zip}
 use Rattle.pt_signal.specs.declared.pid.Pid.{Pid}
 use Rattle.pt_events.specs.declared.event.Event.{Event}
 use Rattle.pt_events.specs.declared.event.Event.TheVariants.{Born}
-use Rattle.pt_shard.specs.declared.config.Config.{Config}
 use Rattle.pt_shard.specs.declared.fault.Fault.{Fault}
+use Rattle.pt_shard.specs.declared.fault.Fault.TheVariants.{Full, Memory, Worn, Gone, Myself}
+use Rattle.pt_shard.specs.Calls.{CanWrite, IsWorn}
 use Rattle.pt_shard.specs.ShardState.{past}
-use Rattle.pt_desk.specs.DeskState.{DeskState}
+use Rattle.pt_desk.specs.DeskState.{DeskState, IsDesk}
 use Rattle.pt_script.specs.Plans.{Plan, Whole}
-use Rattle.pt_script.specs.declared.values.Settings.{Settings}
 use Rattle.pt_script.specs.declared.values.Top.{Top}
 use Rattle.pt_runner.specs.declared.runner.Runner.{Runner}
 use Rattle.pt_runner.specs.Acting.{Acting, table, newborn}
-use Rattle.pt_runner.specs.Stepping.{processes_of}
-
--- the settings of a script's node: its clocks begin at 0
-abbrev pub config_of : Settings → Config
-config_of s = record { desks = s.desks; slots = s.slots; top_version = s.top_version; lane = s.lane; start = 0 }
 
 -- those of the processes that are of desk d
 abbrev pub on : ℕ → List Pid → List Pid
@@ -58,7 +53,6 @@ starters plans d ones = map (starter plans) (filter (is_on d) ones)
 -- the runner of desk d, when these are born
 pub record IsRunnerOf (w : Whole) (born : List Pid) (d : ℕ) (r : Runner) : Type 0 where
   pub script : r.script.now ≡ w
-  pub processes : processes_of r ≡ on d born
   pub table : table r ≡ record { plans = w.processes; pids = numbered w born; actors = starters w.processes d (named w born) }
 
 -- one runner a desk, in their order
@@ -66,13 +60,30 @@ pub record AreRunners (w : Whole) (born : List Pid) (desks : ℕ) (runners : Lis
   pub counted : length runners ≡ desks
   pub each : (d : ℕ) (r : Runner) → d < desks → IsRunnerOf w born d (slice_index_or runners d r)
 
--- all of them are born, and each desk has its runner; where a birth is refused, those before it stay
+-- this holds of the desk that the next process of the list is to be born on, behind the first count
+abbrev pub AtNext : List Top → ℕ → List DeskState → (DeskState → Type 0) → Type 0
+AtNext tops count desks Holds = (t : Top) (x : DeskState) → Holds (slice_index_or desks (slice_index_or tops count t).desk x)
+
+-- Why no more of the list are born, behind the first count: the next one's desk, one that keeps its accounts, has no
+-- vacant slot, or is worn. Where memory was wanting neither is so; it may also be wanting behind the last one.
+abbrev pub BirthsStop : List Top → ℕ → List DeskState → Fault → Type 0
+BirthsStop tops count desks Full = (count < length tops) × AtNext tops count desks (λ d. IsDesk d × CanWrite d.shard × (d.shard.vacant ≡ None))
+BirthsStop tops count desks Worn = (count < length tops) × AtNext tops count desks (λ d. IsDesk d × IsWorn d.shard)
+BirthsStop tops count desks Memory = count < length tops → AtNext tops count desks (λ d. CanWrite d.shard × IsSome d.shard.vacant)
+BirthsStop tops count desks Gone = ⊥
+BirthsStop tops count desks Myself = ⊥
+
+-- the first of the list are born, and for this reason no more
+abbrev pub BornUntil : List Top → List DeskState → Fault → Type 0
+BornUntil tops desks fault = (count : ℕ) × (born : List Pid) × Begins tops count born desks × BirthsStop tops count desks fault
+
+-- all of them are born, and each desk has its runner; or those before a refusal are born
 abbrev pub Starts : {A : Type 0} → Whole → List DeskState → Result (Vec Runner A) Fault → Type 0
 Starts w desks (Ok runners) =
     (born : List Pid) × Begins w.tops (length w.tops) born desks × AreRunners w born (length desks) runners.items
-Starts w desks (Err fault) = (count : ℕ) × (born : List Pid) × Begins w.tops count born desks
+Starts w desks (Err fault) = BornUntil w.tops desks fault
 
 -- the births alone
-abbrev pub Bears : {A : Type 0} → List Top → List DeskState → Result (Vec Pid A) Fault → Type 0
-Bears tops desks (Ok born) = Begins tops (length tops) born.items desks
-Bears tops desks (Err fault) = (count : ℕ) × (born : List Pid) × Begins tops count born desks
+abbrev pub BearsList : {A : Type 0} → List Top → List DeskState → Result (Vec Pid A) Fault → Type 0
+BearsList tops desks (Ok born) = Begins tops (length tops) born.items desks
+BearsList tops desks (Err fault) = BornUntil tops desks fault

@@ -1,18 +1,16 @@
 //! The operations of a process, as calls of its desk.
 
-#![tactic(auto, using(crate::proofs::Calling::stays, crate::proofs::Calling::none_done))]
+#![tactic(auto, using(pt_node::proofs::GoingOn::stays))]
 
-ghost use Rattle.std.specs.Prelude.{◌≡◌, ◌≢◌, ◌⊎◌, ℕ, Bool, ◌+◌, ◌<◌, ◌++◌, true, Some, IfSome, [], vec_len, vec_capacity};
+ghost use Rattle.std.specs.Prelude.{◌≡◌, ◌≢◌, ℕ, Bool, ◌+◌, ◌<◌, ◌++◌, true, Some, IfSome, vec_len, vec_capacity};
 ghost use Rattle.pt_signal.specs.declared.signal.Signal.{Signal};
 ghost use Rattle.pt_events.specs.declared.event.Event.{Event};
 ghost use Rattle.pt_desk.specs.DeskState.{GoesOn, HasSameEnds};
 ghost use Rattle.pt_shard.specs.Calls.{link_event, unlink_event};
 ghost use Rattle.pt_shard.specs.Known.{knows};
 ghost use Rattle.pt_script.specs.declared.values.Operation.{Operation};
-ghost use Rattle.pt_runner.specs.declared.calls.Progress.TheVariants.{Done, Stays};
 ghost use Rattle.pt_runner.specs.Acting as spec;
-ghost use Rattle.pt_runner.specs.Acting.{Performs};
-ghost use Rattle.pt_runner.specs.Stepping.{Leaves, came_of};
+ghost use Rattle.pt_runner.specs.Acting.{Performs, came_of};
 
 use pt_node::{Body, Desk, Fault, Item, Pick, Pid, Reason, Ref};
 use pt_script::{Operation, Pattern};
@@ -106,7 +104,6 @@ pub fn call(
 ) -> Progress
     requires plain { (process : ℕ) (linked : Bool) → operation ≢ Operation.Spawn process linked }
     ensures performs { Performs pids.now p operation desk.old.shard references.old.items result desk.new.shard references.new.items }
-    ensures leaves { Leaves p result desk.old.shard desk.new.shard }
     ensures ends { HasSameEnds desk.old desk.new }
     ensures goes_on { GoesOn desk.old desk.new }
 {
@@ -140,7 +137,6 @@ fn send(
     who: Option<u32>,
 ) -> Progress
     ensures does { spec.Sends pids.now p to kind num who desk.old.shard result desk.new.shard }
-    ensures leaves { Leaves p result desk.old.shard desk.new.shard }
     ensures ends { HasSameEnds desk.old desk.new }
     ensures goes_on { GoesOn desk.old desk.new }
 {
@@ -171,9 +167,7 @@ fn receive(
     pattern: Pattern,
     without: Progress,
 ) -> Progress
-    requires { (without ≡ Done) ⊎ (without ≡ Stays) }
     ensures does { spec.Takes (spec.pick_of pids.now references.now.items pattern) p without desk.old.shard result desk.new.shard }
-    ensures leaves { Leaves p result desk.old.shard desk.new.shard }
     ensures ends { HasSameEnds desk.old desk.new }
     ensures goes_on { GoesOn desk.old desk.new }
 {
@@ -185,7 +179,6 @@ fn receive(
 
 fn link(desk: &mut Desk, pids: &[Option<Pid>], p: Pid, to: u32) -> Progress
     ensures does { spec.CallsAt (spec.target_of desk.old.shard pids.now to) p (link_event desk.old.shard p) desk.old.shard result desk.new.shard }
-    ensures leaves { Leaves p result desk.old.shard desk.new.shard }
     ensures ends { HasSameEnds desk.old desk.new }
     ensures goes_on { GoesOn desk.old desk.new }
 {
@@ -197,7 +190,6 @@ fn link(desk: &mut Desk, pids: &[Option<Pid>], p: Pid, to: u32) -> Progress
 
 fn unlink(desk: &mut Desk, pids: &[Option<Pid>], p: Pid, to: u32) -> Progress
     ensures does { spec.CallsAt (spec.target_of desk.old.shard pids.now to) p (unlink_event desk.old.shard p) desk.old.shard result desk.new.shard }
-    ensures leaves { Leaves p result desk.old.shard desk.new.shard }
     ensures ends { HasSameEnds desk.old desk.new }
     ensures goes_on { GoesOn desk.old desk.new }
 {
@@ -209,7 +201,6 @@ fn unlink(desk: &mut Desk, pids: &[Option<Pid>], p: Pid, to: u32) -> Progress
 
 fn exit_signal(desk: &mut Desk, pids: &[Option<Pid>], p: Pid, to: u32, reason: Reason) -> Progress
     ensures does { spec.CallsAt (spec.target_of desk.old.shard pids.now to) p (λ t. Some (Event.Said p t (Signal.Exit reason))) desk.old.shard result desk.new.shard }
-    ensures leaves { Leaves p result desk.old.shard desk.new.shard }
     ensures ends { HasSameEnds desk.old desk.new }
     ensures goes_on { GoesOn desk.old desk.new }
 {
@@ -237,7 +228,6 @@ fn monitor(
     to: u32,
 ) -> Progress
     ensures does { spec.MonitorsAt p (spec.target_of desk.old.shard pids.now to) desk.old.shard references.old.items result desk.new.shard references.new.items }
-    ensures leaves { Leaves p result desk.old.shard desk.new.shard }
     ensures ends { HasSameEnds desk.old desk.new }
     ensures goes_on { GoesOn desk.old desk.new }
 {
@@ -255,7 +245,6 @@ fn monitor(
 
 fn demonitor(desk: &mut Desk, references: &References, p: Pid, tag: u32, flush: bool) -> Progress
     ensures does { spec.Demonitors (spec.reference_of references.now.items tag) p flush desk.old.shard result desk.new.shard }
-    ensures leaves { Leaves p result desk.old.shard desk.new.shard }
     ensures ends { HasSameEnds desk.old desk.new }
     ensures goes_on { GoesOn desk.old desk.new }
 {
@@ -273,7 +262,6 @@ fn ask_alive(
     to: u32,
 ) -> Progress
     ensures does { spec.AsksAt p (spec.target_of desk.old.shard pids.now to) desk.old.shard references.old.items result desk.new.shard references.new.items }
-    ensures leaves { Leaves p result desk.old.shard desk.new.shard }
     ensures ends { HasSameEnds desk.old desk.new }
     ensures goes_on { GoesOn desk.old desk.new }
 {

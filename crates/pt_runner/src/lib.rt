@@ -2,7 +2,7 @@
 //!
 //! ```
 //! let script = Script::read(alloc, text)?;
-//! let mut desks = open(alloc, config(&script))?;
+//! let mut desks = open(alloc, script.config())?;
 //! let runners = Runner::start(alloc, &script, &mut desks)?;    // the processes of the script's list are born
 //! ..                                                           // each desk with its runner, to `run` or `run_single`
 //! ```
@@ -34,4 +34,3 @@ mod runner;
 mod start;
 
 pub use runner::Runner;
-pub use start::config;

@@ -1,12 +1,9 @@
 //! The work of a script on one desk.
 
-ghost use Rattle.std.specs.Prelude.{◌≡◌, ◌≢◌, ℕ, Bool, ◌<◌, ◌≤◌, ◌+◌, ◌++◌, [], ◌∷◌, false, Some, Ok, slice_set, map, vec_len, vec_capacity};
-ghost use Rattle.std.specs.List.{All, filter};
+ghost use Rattle.std.specs.Prelude.{◌≡◌, ◌≢◌, ℕ, Bool, ◌<◌, ◌≤◌, ◌+◌, Some, Ok, slice_set, map, vec_len, vec_capacity};
 ghost use Rattle.pt_desk.specs.DeskState.{GoesOn, HasSameEnds};
-ghost use Rattle.pt_shard.specs.ShardState.{lives};
 ghost use Rattle.pt_script.specs.declared.values.Operation.{Operation};
-ghost use Rattle.pt_runner.specs.Acting.{Plays, GoesBehind, ActsAt, EachDoesNext, acting, table, newborn, next_of, advanced, living, with_child, SpawnsAt};
-ghost use Rattle.pt_runner.specs.Stepping.{DoesOne, Concludes, ActsOnce, Steps, processes_of, pid_at, born_by};
+ghost use Rattle.pt_runner.specs.Acting.{Plays, GoesBehind, ActsAt, RunnerDoes, acting, table, newborn, next_of, advanced, living, with_child, SpawnsAt};
 
 use crate::calls::{Progress, References, call, progress_of};
 use pt_node::{Desk, Fault, Pid, Reason, Work};
@@ -29,8 +26,7 @@ pub(crate) struct Actor {
 impl Actor {
     /// A process that was born just now.
     pub(crate) fn new(alloc: Global, script: &Script, pid: Pid, process: u32) -> Actor
-        ensures pid { result.pid ≡ pid }
-        ensures newborn { acting result ≡ newborn script.now.processes process pid }
+        ensures { acting result ≡ newborn script.now.processes process pid }
     {
         let begins = match script.processes().get(process as usize) {
             Some(plan) => plan.traps(),
@@ -63,8 +59,7 @@ impl Actor {
 
     /// Its next operation is behind it.
     fn advance(&mut self)
-        ensures pid { self.new.pid ≡ self.old.pid }
-        ensures advanced { acting self.new ≡ advanced (acting self.old) }
+        ensures { acting self.new ≡ advanced (acting self.old) }
     {
         if self.begins {
             self.begins = false;
@@ -77,10 +72,8 @@ impl Actor {
     fn perform(&mut self, pids: &[Option<Pid>], operation: Operation, desk: &mut Desk)
         requires plain { (process : ℕ) (linked : Bool) → operation ≢ Operation.Spawn process linked }
         ensures plays { Plays pids.now operation (acting self.old) desk.old.shard (acting self.new) desk.new.shard }
-        ensures does { DoesOne self.old.pid desk.old.shard desk.new.shard [] }
         ensures ends { HasSameEnds desk.old desk.new }
         ensures goes_on { GoesOn desk.old desk.new }
-        ensures pid { self.new.pid ≡ self.old.pid }
     {
         let progress = call(desk, pids, &mut self.references, self.pid, operation);
         self.conclude(progress, desk);
@@ -89,10 +82,8 @@ impl Actor {
     /// Goes on behind an operation, or ends by its refusal.
     fn conclude(&mut self, progress: Progress, desk: &mut Desk)
         ensures behind { GoesBehind progress (acting self.old) desk.old.shard (acting self.new) desk.new.shard }
-        ensures leaves { Concludes self.old.pid progress desk.old.shard desk.new.shard }
         ensures ends { HasSameEnds desk.old desk.new }
         ensures goes_on { GoesOn desk.old desk.new }
-        ensures pid { self.new.pid ≡ self.old.pid }
     {
         match progress {
             Progress::Done => self.advance(),
@@ -133,7 +124,6 @@ impl<'a> Runner<'a> {
         pids: Vec<Option<Pid>>,
         actors: Vec<Actor>,
     ) -> Runner<'a>
-        ensures actors { result.actors ≡ actors }
         ensures script { result.script.now ≡ script.now }
         ensures table { table result ≡ record { plans = script.now.processes; pids = pids.items; actors = map acting actors.items } }
     {
@@ -147,41 +137,39 @@ impl<'a> Runner<'a> {
 
     /// Takes out the processes that have ended.
     fn bury(&mut self, desk: &Desk)
-        ensures processes { processes_of self.new ≡ filter (lives desk.now.shard) (processes_of self.old) }
-        ensures living { table self.new ≡ living desk.now.shard (table self.old) }
+        ensures { table self.new ≡ living desk.now.shard (table self.old) }
     {
         self.actors.retain(|actor| desk.alive_here(actor.pid));
     }
 
     /// Does the next operation of the process at this index.
-    fn act(&mut self, index: usize, pid: Pid, desk: &mut Desk)
-        requires index { index < vec_len self.old.actors }
-        requires pid { pid_at self.old index pid ≡ pid }
+    fn act(&mut self, index: usize, desk: &mut Desk)
+        requires { index < vec_len self.old.actors }
         ensures acts { ActsAt index (table self.old) desk.old.shard (table self.new) desk.new.shard }
-        ensures does { ActsOnce pid self.old desk.old.shard self.new desk.new.shard }
+        ensures len { vec_len self.old.actors ≤ vec_len self.new.actors }
         ensures ends { HasSameEnds desk.old desk.new }
         ensures goes_on { GoesOn desk.old desk.new }
     {
         let operation = self.actors[index].next(self.script);
         if let Operation::Spawn { process, linked } = operation {
-            self.spawn(index, pid, process, linked, desk);
+            self.spawn(index, process, linked, desk);
         } else {
             self.actors[index].perform(self.pids.as_slice(), operation, desk);
         }
     }
 
     /// Spawns a process, whose first operation comes in the next step.
-    fn spawn(&mut self, index: usize, pid: Pid, process: u32, linked: bool, desk: &mut Desk)
-        requires index { index < vec_len self.old.actors }
-        requires pid { pid_at self.old index pid ≡ pid }
+    fn spawn(&mut self, index: usize, process: u32, linked: bool, desk: &mut Desk)
+        requires { index < vec_len self.old.actors }
         ensures spawns { SpawnsAt process linked index (table self.old) desk.old.shard (table self.new) desk.new.shard }
-        ensures does { ActsOnce pid self.old desk.old.shard self.new desk.new.shard }
+        ensures len { vec_len self.old.actors ≤ vec_len self.new.actors }
         ensures ends { HasSameEnds desk.old desk.new }
         ensures goes_on { GoesOn desk.old desk.new }
     {
         if self.actors.reserve(1).is_err() {
             return;
         }
+        let pid = self.actors[index].pid;
         let answer = desk.spawn_child(pid, linked);
         self.enter(process, answer);
         self.actors[index].conclude(progress_of(answer), desk);
@@ -191,7 +179,6 @@ impl<'a> Runner<'a> {
     fn enter(&mut self, process: u32, answer: Result<Pid, Fault>)
         requires { vec_len self.old.actors < vec_capacity self.old.actors }
         ensures table { table self.new ≡ with_child process answer (table self.old) }
-        ensures listed { processes_of self.new ≡ processes_of self.old ++ born_by answer }
         ensures len { vec_len self.old.actors ≤ vec_len self.new.actors }
     {
         match answer {
@@ -204,7 +191,6 @@ impl<'a> Runner<'a> {
     fn list(&mut self, process: u32, child: Pid)
         requires { vec_len self.old.actors < vec_capacity self.old.actors }
         ensures table { table self.new ≡ with_child process (Ok child) (table self.old) }
-        ensures listed { processes_of self.new ≡ processes_of self.old ++ child ∷ [] }
         ensures len { vec_len self.new.actors ≡ vec_len self.old.actors + 1 }
     {
         let actor = Actor::new(self.alloc, self.script, child, process);
@@ -214,17 +200,17 @@ impl<'a> Runner<'a> {
 }
 
 impl Work for Runner<'_> {
+    ghost use Rattle.pt_runner.specs.Acting.{RunnerDoes};
+
+    ghost does = { λ r old s new. RunnerDoes r old s new };
+
     fn step(&mut self, desk: &mut Desk)
-        ensures steps { Steps (processes_of self.old) desk.old.shard (processes_of self.new) desk.new.shard }
-        ensures does { EachDoesNext (table self.old) desk.old.shard (table self.new) desk.new.shard }
-        ensures idle { All (λ p. lives desk.old.shard p ≡ false) (processes_of self.old) → desk.new.shard ≡ desk.old.shard }
-        ensures ends { HasSameEnds desk.old desk.new }
+        ensures does { RunnerDoes self.old desk.old self.new desk.new }
         ensures goes_on { GoesOn desk.old desk.new }
     {
         self.bury(desk);
         for index in 0..self.actors.len() {
-            let pid = self.actors[index].pid;
-            self.act(index, pid, desk);
+            self.act(index, desk);
         }
     }
 }

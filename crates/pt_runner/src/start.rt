@@ -1,30 +1,17 @@
 //! How the work of a script begins.
 
-ghost use Rattle.std.specs.Prelude.{◌≡◌, ◌≤◌, IfOk, length, vec_len};
-ghost use Rattle.pt_shard.specs.Opening.{IsInRange};
+ghost use Rattle.std.specs.Prelude.{◌≡◌, ◌≤◌, None, IfOk, length, vec_len};
+ghost use Rattle.pt_shard.specs.Calls.{Bears};
+ghost use Rattle.pt_script.specs.Nodes.{config_of};
+ghost use Rattle.pt_desk.specs.DeskState.{GoesOn, IsDesk};
 ghost use Rattle.pt_node.specs.Desks.{AreDesksOf};
 ghost use Rattle.pt_node.specs.Opening.{AreFresh};
-ghost use Rattle.pt_runner.specs.Starting.{Starts, Bears, AreRunners, IsRunnerOf, config_of, numbered};
+ghost use Rattle.pt_runner.specs.Starting.{Starts, BearsList, AreRunners, IsRunnerOf, numbered};
 
 use crate::runner::{Actor, Runner, put_pid};
-use pt_node::{Config, Desk, Fault, Pid};
+use pt_node::{Desk, Fault, Pid};
 use pt_script::Script;
 use std::alloc::{AllocError, Global};
-
-/// The settings of a script's node, whose clocks begin at 0.
-pub fn config(script: &Script) -> Config
-    ensures settings { result ≡ config_of script.now.settings }
-    ensures range { IsInRange result }
-{
-    let settings = script.settings();
-    Config {
-        desks: settings.desks,
-        slots: settings.slots,
-        top_version: settings.top_version,
-        lane: settings.lane,
-        start: 0,
-    }
-}
 
 impl<'a> Runner<'a> {
     /// Lets the processes that the script begins with be born, in its order, and gives one runner a desk, in their order.
@@ -32,8 +19,10 @@ impl<'a> Runner<'a> {
     /// A runner has the processes that were born on its desk, in that order, each at the first operation of its list and
     /// with no reference yet, and it knows the pids of all that were born.
     ///
-    /// The desks are those that `open` gave for the script's [`config`], in order. A birth may be refused by its desk,
-    /// and there may be no memory for the runners: the processes that were born before stay.
+    /// The desks are those that `open` gave for the script's `config`, in order. Refused as `Full` where the desk of
+    /// the next process has no free slot, as `Worn` where its clock is at its limit, else as `Memory`, for a process or
+    /// for the runners: the processes that were born before stay.
+    #[tactic(auto, using(crate::proofs::Starting::refused_as, crate::proofs::Starting::no_runners))]
     pub fn start(
         alloc: Global,
         script: &'a Script,
@@ -54,15 +43,27 @@ impl<'a> Runner<'a> {
 fn bear(alloc: Global, script: &Script, desks: &mut [Desk]) -> Result<Vec<Pid>, Fault>
     requires { AreFresh (config_of script.now.settings) desks.old }
     ensures desks { AreDesksOf (config_of script.now.settings) desks.new }
-    ensures bears { Bears script.now.tops desks.new result }
+    ensures bears { BearsList script.now.tops desks.new result }
 {
     let tops = script.tops();
     let mut born = Vec::with_capacity(alloc, tops.len())?;
     for top in tops {
-        let pid = desks[top.desk as usize].spawn()?;
+        let pid = bear_on(&mut desks[top.desk as usize])?;
         born.push_reserved(pid);
     }
     Ok(born)
+}
+
+/// Lets a process be born on a desk, of which then all holds that holds of every desk, also where it refuses.
+fn bear_on(desk: &mut Desk) -> Result<Pid, Fault>
+    ensures does { Bears None None desk.old.shard result desk.new.shard }
+    ensures here { IfOk result (λ p. p.shard ≡ desk.new.shard.number) }
+    ensures whole { IsDesk desk.new }
+    ensures goes_on { GoesOn desk.old desk.new }
+{
+    let born = desk.spawn();
+    let _ = desk.journal();
+    born
 }
 
 /// A runner for each of so many desks.

@@ -7,6 +7,7 @@ pub mod Operations
 pub mod Lists
 pub mod Scripts
 pub mod Sound
+pub mod Nodes
 pub mod Standing
 pub mod Writing
 pub mod Sights

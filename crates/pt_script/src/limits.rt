@@ -1,7 +1,7 @@
 //! The limits of the format, and what stands where a setting is missing.
 //!
 //! Reading a script takes no node, so the limits of a node's settings are the format's own here: where they equal those
-//! of a node, which `pt_runner::config` proves that they fit, they repeat them.
+//! of a node, which `Script::config` proves that they fit, they repeat them.
 
 /// The most bytes of a script's text.
 pub const MAX_BYTES: usize = 1_048_576;

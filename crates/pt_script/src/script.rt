@@ -1,9 +1,12 @@
 //! What a script says.
 
 ghost use Rattle.std.specs.Prelude.{◌≡◌};
+ghost use Rattle.pt_shard.specs.Opening.{IsInRange};
+ghost use Rattle.pt_script.specs.Nodes.{config_of};
 ghost use Rattle.pt_script.specs.Sound.{IsSound};
 
 use crate::values::{Operation, Settings, Top};
+use pt_shard::Config;
 use std::marker::Model;
 
 /// What a process does.
@@ -81,6 +84,29 @@ impl Script {
         ensures sound { IsSound self.now }
     {
         self.settings
+    }
+
+    /// The settings of the script's node, whose clocks begin at 0.
+    pub fn config(&self) -> Config
+        ensures settings { result ≡ config_of self.now.settings }
+        ensures range { IsInRange result }
+    {
+        let settings = self.settings();
+        Config {
+            desks: settings.desks,
+            slots: settings.slots,
+            top_version: settings.top_version,
+            lane: settings.lane,
+            start: 0,
+        }
+    }
+
+    /// How many letters each turn of a desk may handle.
+    pub fn budget(&self) -> u32
+        ensures budget { result ≡ self.now.settings.budget }
+        ensures sound { IsSound self.now }
+    {
+        self.settings.budget
     }
 
     /// The processes that the script begins with, in its order.

@@ -167,6 +167,10 @@ impl<'a> Crowd<'a> {
 }
 
 impl<'a> Work for Crowd<'a> {
+    ghost use Rattle.std.specs.Prelude.{⊤};
+
+    ghost does = { λ _ _ _ _. ⊤ };
+
     #[tactic(auto, using(pt_node::proofs::GoingOn::stays))]
     fn step(&mut self, desk: &mut Desk) {
         let me = self.draw(desk.number());

@@ -1,4 +1,5 @@
-//! Workers: that those of `run` are on two threads, that letters pass between them, and that a turn that stops ends none.
+//! Workers: that those of `run` are on two threads, that letters pass between them, that a turn that stops ends none, and
+//! that their gate is asked before each turn and told after it.
 
 ghost use Rattle.std.specs.Prelude.{◌≡◌, map};
 ghost use Rattle.pt_desk.specs.DeskState.{GoesOn};
@@ -84,6 +85,10 @@ struct Meeter<'a> {
 }
 
 impl<'a> Work for Meeter<'a> {
+    ghost use Rattle.std.specs.Prelude.{⊤};
+
+    ghost does = { λ _ _ _ _. ⊤ };
+
     #[tactic(auto, using(pt_node::proofs::GoingOn::stays))]
     fn step(&mut self, desk: &mut Desk) {
         self.meetings.step.meet(desk.number());
@@ -166,6 +171,10 @@ impl<'a> Player<'a> {
 }
 
 impl<'a> Work for Player<'a> {
+    ghost use Rattle.std.specs.Prelude.{⊤};
+
+    ghost does = { λ _ _ _ _. ⊤ };
+
     #[tactic(auto, using(pt_node::proofs::GoingOn::stays))]
     fn step(&mut self, desk: &mut Desk) {
         if self.calls_left == 0 || !self.call(desk) {
@@ -186,6 +195,10 @@ struct Stepping {
 }
 
 impl Work for Stepping {
+    ghost use Rattle.std.specs.Prelude.{⊤};
+
+    ghost does = { λ _ _ _ _. ⊤ };
+
     #[tactic(auto, using(pt_node::proofs::GoingOn::stays))]
     fn step(&mut self, _desk: &mut Desk) {
         self.steps = self.steps.saturating_add(1);
@@ -397,4 +410,107 @@ fn a_turn_that_stops_ends_no_worker(rt: HostRuntime) -> Result<(), Fail> {
     look_at_worn(&rt, rt.alloc(), ran)?;
     let ran = run_single(worn_pairs(&rt, rt.alloc()), 5, 16, &FreeGate);
     look_at_worn(&rt, rt.alloc(), ran)
+}
+
+/// Ends the worker of each desk before a turn of its own, and counts what it is asked and told.
+#[derive(Drop)]
+struct Counting {
+    /// How many turns the worker of each desk may take.
+    most: [u64; 2],
+    asked: [AtomicU64; 2],
+    told: [AtomicU64; 2],
+    /// How often it was asked or told out of turn.
+    strays: AtomicU64,
+}
+
+impl Counting {
+    fn new(most: [u64; 2]) -> Counting {
+        Counting {
+            most,
+            asked: [AtomicU64::new(0), AtomicU64::new(0)],
+            told: [AtomicU64::new(0), AtomicU64::new(0)],
+            strays: AtomicU64::new(0),
+        }
+    }
+
+    /// So many turns went before that of this number.
+    fn expect(&self, turn: u64, before: u64) {
+        if before != turn {
+            self.strays.fetch_add(1, Ordering::SeqCst);
+        }
+    }
+
+    fn asked(&self) -> [u64; 2] {
+        [
+            self.asked[0].load(Ordering::SeqCst),
+            self.asked[1].load(Ordering::SeqCst),
+        ]
+    }
+
+    fn told(&self) -> [u64; 2] {
+        [
+            self.told[0].load(Ordering::SeqCst),
+            self.told[1].load(Ordering::SeqCst),
+        ]
+    }
+}
+
+impl Gate for Counting {
+    ghost use Rattle.std.specs.Prelude.{⊤};
+
+    ghost lets = { λ _ _ _ _. ⊤ };
+
+    fn before(&self, desk: u8, turn: u64) -> bool {
+        let place = usize::from(desk) % 2;
+        self.expect(turn, self.asked[place].fetch_add(1, Ordering::SeqCst));
+        self.expect(turn, self.told[place].load(Ordering::SeqCst));
+        turn < self.most[place]
+    }
+
+    fn after(&self, desk: u8, turn: u64) {
+        let place = usize::from(desk) % 2;
+        self.expect(turn, self.told[place].fetch_add(1, Ordering::SeqCst));
+    }
+}
+
+/// Two new desks, each with a worker that counts its steps.
+fn counted_pairs<R: Abort>(rt: &R, alloc: Global) -> Vec<(Desk, Stepping)>
+    ensures { AreDesks (map (λ p. p.0) result.items) }
+{
+    let desks = two_desks(rt, alloc, 0);
+    paired(
+        rt,
+        alloc,
+        desks,
+        [Stepping { steps: 0 }, Stepping { steps: 0 }],
+    )
+}
+
+/// The worker of desk 0 took two turns of seven and was then asked no more; that of desk 1 took them all.
+fn look_at_counts<R: Abort>(
+    rt: &R,
+    alloc: Global,
+    ran: Ran<Stepping>,
+    gate: &Counting,
+) -> Result<(), Fail>
+    requires { AreDesks (map (λ p. p.0) ran.desks.items) }
+{
+    let (_node, works) = gathered_again(rt, alloc, ran);
+    assert!(rt; works.len() == 2);
+    assert_eq!(rt; works[0].steps, 2);
+    assert_eq!(rt; works[1].steps, 7);
+    assert_eq!(rt; gate.asked(), [3, 7]);
+    assert_eq!(rt; gate.told(), [2, 7]);
+    assert_eq!(rt; gate.strays.load(Ordering::SeqCst), 0);
+    Ok(())
+}
+
+#[test]
+fn a_gate_is_asked_before_each_turn_and_told_after_it(rt: HostRuntime) -> Result<(), Fail> {
+    let gate = Counting::new([2, 9]);
+    let ran = run(&rt, counted_pairs(&rt, rt.alloc()), 7, 16, &gate);
+    look_at_counts(&rt, rt.alloc(), ran, &gate)?;
+    let gate = Counting::new([2, 9]);
+    let ran = run_single(counted_pairs(&rt, rt.alloc()), 7, 16, &gate);
+    look_at_counts(&rt, rt.alloc(), ran, &gate)
 }

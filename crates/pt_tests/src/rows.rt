@@ -16,3 +16,4 @@ mod play;
 mod quiet;
 mod settling;
 mod slots;
+mod workers;

@@ -20,6 +20,10 @@ pub struct Sender {
 }
 
 impl Work for Sender {
+    ghost use Rattle.std.specs.Prelude.{⊤};
+
+    ghost does = { λ _ _ _ _. ⊤ };
+
     #[tactic(auto, using(pt_node::proofs::GoingOn::stays))]
     fn step(&mut self, desk: &mut Desk) {
         if let Ok(()) = tell(desk, self.me, self.to, 1, self.sent) {

@@ -4,7 +4,7 @@ ghost use Rattle.std.specs.Prelude.{◌≡◌, vec_len};
 ghost use Rattle.pt_node.specs.Desks.{AreDesks};
 
 use pt_node::{Desk, FreeGate, Gathered, Ran, assign, gather, open, release, run_single};
-use pt_runner::{Runner, config};
+use pt_runner::Runner;
 use pt_script::Script;
 use std::alloc::Global;
 use std::process::Abort;
@@ -12,7 +12,7 @@ use std::test::Fail;
 
 /// The node of a script, run on one thread and gathered.
 fn run_script<R: Abort>(rt: &R, alloc: Global, script: &Script, turns: u64) -> Gathered {
-    let Ok(mut desks) = open(alloc, config(script)) else {
+    let Ok(mut desks) = open(alloc, script.config()) else {
         panic!(rt; "the node does not open");
     };
     match Runner::start(alloc, script, desks.as_mut_slice()) {
@@ -39,7 +39,7 @@ fn run_desks<R: Abort>(
         panic!(rt; "no memory for the pairs");
     };
     assign(&mut desks, &mut runners, &mut pairs);
-    let budget = script.settings().budget;
+    let budget = script.budget();
     let Ran { desks: mut pairs } = run_single(pairs, turns, budget, &FreeGate);
     release(&mut pairs, &mut desks, &mut runners);
     pairs.destroy_empty();

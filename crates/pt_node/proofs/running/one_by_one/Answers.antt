@@ -16,10 +16,11 @@ loop-d-preserved g c =
     let p' = c.work_turns.new.pair in
     let within : d < length mid = omega (arith, c.loop-d-test.true, inv.each.count) in
     let lets = g.G.Gate.lets c.args.gate.now in
+    let does = g.W.Work.does in
     record {
       each = all_go_on_then _ _ _ inv.each (one_goes_on mid d p p' within c.index_mut.ensures.value c.work_turns.ensures.goes_on);
-      done = one_done lets c.args.budget c.args.turns d old mid p p' within c.index_mut.ensures.value inv.rest c.work_turns.ensures.turns inv.done;
-      rest = one_rest lets c.args.budget c.args.turns d old mid p p' within c.index_mut.ensures.value inv.rest c.work_turns.ensures.turns;
+      done = one_done lets does c.args.budget c.args.turns d old mid p p' within c.index_mut.ensures.value inv.rest c.work_turns.ensures.turns inv.done;
+      rest = one_rest lets does c.args.budget c.args.turns d old mid p p' within c.index_mut.ensures.value inv.rest c.work_turns.ensures.turns;
     }
 
 pub returns-clause-turns : goal.returns-clause-turns

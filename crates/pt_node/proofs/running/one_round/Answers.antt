@@ -19,14 +19,15 @@ pub loop-d-preserved : goal.loop-d-preserved
 loop-d-preserved g c =
     let inv = c.loop-d.invariant in
     let lets = g.G.Gate.lets c.args.gate.now in
+    let does = g.W.Work.does in
     let start : Workers g.row.W.Denot = (c.args.desks.now.items, c.args.ended.now) in
     let old : Workers g.row.W.Denot = (c.loop-d.desks.items, c.loop-d.ended) in
     let new : Workers g.row.W.Denot = (c.turn_at.new.desks.items, c.turn_at.new.ended) in
     record {
       each = all_go_on_then _ _ _ inv.each c.turn_at.ensures.each;
-      round = turn_more lets c.args.budget c.args.turn c.loop-d.d start old new inv.round c.turn_at.ensures.turn;
+      round = turn_more lets does c.args.budget c.args.turn c.loop-d.d start old new inv.round c.turn_at.ensures.turn;
       none = elim c.if-not-ended-d.branch [
         | then-not-ended-d w ↦ λ off. absurd (both_ways c.if-not-ended-d.goes_on off w.goes_on-is)
-        | else-not-ended-d w ↦ λ off. none_more lets c.args.budget c.args.turn c.loop-d.d old new c.turn_at.ensures.turn (inv.none (sym w.goes_on-is ∙ off)) w.if-not-ended-d.false
+        | else-not-ended-d w ↦ λ off. none_more lets does c.args.budget c.args.turn c.loop-d.d old new c.turn_at.ensures.turn (inv.none (sym w.goes_on-is ∙ off)) w.if-not-ended-d.false
       ];
     }

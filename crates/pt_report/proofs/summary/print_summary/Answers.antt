@@ -1,5 +1,7 @@
-use Rattle.std.proofs.Common.{◌-◌, ◌^◌, ◌∙◌, ap, zero-add, rules}
+use Rattle.std.proofs.Common.{◌-◌, ◌^◌, ◌∙◌, ap, sym, subst, zero-add, rules}
 use Rattle.std.specs.Prelude.{min}
+use Rattle.pt_report.specs.Reports.{IsOfSummary}
+use Rattle.pt_report.proofs.Faults.{stopped_of_summary}
 use Rattle.pt_report.proofs.summary.print_summary.Goals as goal
 
 pub returns-in-Ok-write_summary-clause-text : goal.returns-in-Ok-write_summary-clause-text
@@ -15,3 +17,8 @@ returns-in-Ok-write_summary-clause-text g c = (
   },
   c.in-Ok-write_summary.ensures,
 )
+
+pub returns-in-Err-clause-fault : goal.returns-in-Err-clause-fault
+returns-in-Err-clause-fault g c =
+    let unsettled = c.in-Err.unsettled in
+    subst (IsOfSummary c.args.gathered) (sym c.from.ensures) (stopped_of_summary c.args.gathered unsettled.gathered unsettled.fault c.in-Err.ensures.refused_order)

@@ -1,9 +1,5 @@
-use Rattle.std.proofs.Common.{Some, sym, subst, refl}
-use Rattle.pt_events.specs.declared.event.Event.TheVariants.{Flag, Left}
-use Rattle.pt_shard.specs.ShardState.{state_in}
-use Rattle.pt_runner.specs.declared.calls.Progress.{Progress}
+use Rattle.std.proofs.Common.{subst, refl}
 use Rattle.pt_runner.specs.declared.calls.Progress.TheVariants.{Done}
-use Rattle.pt_runner.specs.Stepping.{Leaves}
 use Rattle.pt_script.specs.declared.values.Operation.TheVariants as operation
 use Rattle.std.proofs.Common.{w64, rules}
 use mir.Val.{SFits}
@@ -11,20 +7,7 @@ use Rattle.std.specs.Prelude.{ℤ}
 use Rattle.std.proofs.lemmas.Int.{to_z-of_z}
 use Rattle.pt_runner.specs.Acting.{Sends}
 use Rattle.pt_runner.proofs.Acting.{performs_as}
-use Rattle.pt_runner.proofs.Calling.{leaves}
 use Rattle.pt_runner.proofs.calls.call.Goals as goal
-
-pub returns-in-Trap-clause-leaves : goal.returns-in-Trap-clause-leaves
-returns-in-Trap-clause-leaves c =
-    let old = c.args.desk.now.shard in
-    let new = c.trap.new.self.shard in
-    subst (λ (r : Progress). Leaves c.args.p r old new) (sym c.progress_of.ensures) (leaves c.args.p (Some (Flag c.args.p c.in-Trap.on)) (state_in old c.args.p).traps old new c.trap.result (refl, refl) c.trap.ensures.does)
-
-pub returns-in-Exit-clause-leaves : goal.returns-in-Exit-clause-leaves
-returns-in-Exit-clause-leaves c =
-    let old = c.args.desk.now.shard in
-    let new = c.exit.new.self.shard in
-    subst (λ (r : Progress). Leaves c.args.p r old new) (sym c.progress_of-in-Exit.ensures) (leaves c.args.p (Some (Left c.args.p c.in-Exit.reason)) tt old new c.exit.result (refl, refl) c.exit.ensures.does)
 
 pub returns-in-Receive-clause-performs : goal.returns-in-Receive-clause-performs
 returns-in-Receive-clause-performs c = performs_as c.args.pids.now c.args.p c.args.operation (operation.Receive c.in-Receive.pattern) c.args.desk.now.shard c.args.references.now.items c.receive.result c.receive.new.desk.shard c.args.references.now.items c.in-Receive.is (c.receive.ensures.does, refl)

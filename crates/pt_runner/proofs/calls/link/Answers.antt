@@ -1,16 +1,7 @@
-use Rattle.std.proofs.Common.{refl, sym, subst, ◌∙◌}
+use Rattle.std.proofs.Common.{refl, sym, ◌∙◌}
 use Rattle.pt_shard.specs.Calls.{link_event}
-use Rattle.pt_runner.specs.declared.calls.Progress.{Progress}
-use Rattle.pt_runner.specs.Stepping.{Leaves}
 use Rattle.pt_runner.proofs.Acting.{passed_at, call_at}
-use Rattle.pt_runner.proofs.Calling.{leaves, link_own}
 use Rattle.pt_runner.proofs.calls.link.Goals as goal
-
-pub returns-in-Some-clause-leaves : goal.returns-in-Some-clause-leaves
-returns-in-Some-clause-leaves c =
-    let old = c.args.desk.now.shard in
-    let new = c.link.new.self.shard in
-    subst (λ (r : Progress). Leaves c.args.p r old new) (sym c.progress_of.ensures) (leaves c.args.p (link_event old c.args.p c.in-Some.to) tt old new c.link.result (link_own old c.args.p c.in-Some.to) c.link.ensures.does)
 
 pub returns-in-None-clause-does : goal.returns-in-None-clause-does
 returns-in-None-clause-does c = passed_at _ c.args.p _ c.args.desk.now.shard (sym c.target.ensures.target ∙ c.in-None.is)

@@ -1,8 +1,5 @@
-use Rattle.std.proofs.Common.{sym, subst, ◌∙◌}
-use Rattle.pt_runner.specs.declared.calls.Progress.{Progress}
-use Rattle.pt_runner.specs.Stepping.{Leaves}
+use Rattle.std.proofs.Common.{sym, ◌∙◌}
 use Rattle.pt_runner.proofs.Acting.{take_passed, take_at}
-use Rattle.pt_runner.proofs.Calling.{take_leaves}
 use Rattle.pt_runner.proofs.calls.receive.Goals as goal
 
 pub returns-in_default-clause-does : goal.returns-in_default-clause-does
@@ -10,8 +7,3 @@ returns-in_default-clause-does c = take_passed _ c.args.p c.args.without c.args.
 
 pub returns-clause-does : goal.returns-clause-does
 returns-clause-does c = take_at _ c.in-Some.pick c.args.p c.args.without c.args.desk.now.shard c.receive.new.self.shard c.receive.result c.taken_of.result (sym c.pick_of.ensures ∙ c.in-Some.is) c.receive.ensures.does c.taken_of.ensures
-
-pub returns-clause-leaves : goal.returns-clause-leaves
-returns-clause-leaves c =
-    subst (λ (x : Progress). Leaves c.args.p x c.args.desk.now.shard c.receive.new.self.shard) (sym c.taken_of.ensures)
-    (take_leaves c.args.p c.in-Some.pick c.args.without c.args.desk.now.shard c.receive.new.self.shard c.receive.result c.requires c.receive.ensures.does)

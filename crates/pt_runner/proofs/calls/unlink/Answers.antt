@@ -1,8 +1,5 @@
-use Rattle.std.proofs.Common.{refl, sym, subst, ◌∙◌}
+use Rattle.std.proofs.Common.{refl, sym, ◌∙◌}
 use Rattle.pt_shard.specs.Calls.{unlink_event}
-use Rattle.pt_runner.specs.declared.calls.Progress.{Progress}
-use Rattle.pt_runner.specs.Stepping.{Leaves}
-use Rattle.pt_runner.proofs.Calling.{leaves, unlink_own}
 use Rattle.pt_runner.proofs.Acting.{passed_at, call_at}
 use Rattle.pt_runner.proofs.calls.unlink.Goals as goal
 
@@ -13,9 +10,3 @@ pub returns-in-Some-clause-does : goal.returns-in-Some-clause-does
 returns-in-Some-clause-does c =
     call_at _ c.in-Some.to c.args.p (unlink_event c.args.desk.now.shard c.args.p) _ c.args.desk.now.shard c.unlink.new.self.shard c.unlink.result c.progress_of.result
     (sym c.target.ensures.target ∙ c.in-Some.is) refl c.unlink.ensures.does c.progress_of.ensures
-
-pub returns-in-Some-clause-leaves : goal.returns-in-Some-clause-leaves
-returns-in-Some-clause-leaves c =
-    let old = c.args.desk.now.shard in
-    let new = c.unlink.new.self.shard in
-    subst (λ (r : Progress). Leaves c.args.p r old new) (sym c.progress_of.ensures) (leaves c.args.p (unlink_event old c.args.p c.in-Some.to) tt old new c.unlink.result (unlink_own old c.args.p c.in-Some.to) c.unlink.ensures.does)

@@ -1,6 +1,6 @@
 use Rattle.std.proofs.Common.{◌≡◌, vec_len, length}
 use Rattle.std.specs.Vec.{vec_capacity}
-use Rattle.pt_runner.specs.Starting.{config_of}
+use Rattle.pt_script.specs.Nodes.{config_of}
 use Rattle.pt_runner.proofs.Starting.{Begun}
 use Rattle.pt_runner.proofs.start.bear.Given as goal
 

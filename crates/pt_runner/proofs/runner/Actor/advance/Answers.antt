@@ -1,5 +1,5 @@
 use Rattle.std.proofs.Common.{rules}
 use Rattle.pt_runner.proofs.runner.Actor.advance.Goals as goal
 
-pub returns-else-self-clause-advanced : goal.returns-else-self-clause-advanced
-returns-else-self-clause-advanced c = search rules
+pub returns-else-self : goal.returns-else-self
+returns-else-self c = search rules
