@@ -3,6 +3,7 @@
 
 mod charts;
 mod command_lines;
+mod faults;
 mod reports;
 mod runs;
 mod texts;

@@ -90,10 +90,11 @@ fn ten_lines(rt: HostRuntime) {
 
 #[test]
 fn causes(rt: HostRuntime) {
-    const TO_ITSELF: Event = Event::Said(A, A, Signal::Message(ONE));
-    const CAME: Event = Event::Came(A, A, Signal::Message(ONE));
-    const TOOK: Event = Event::Took(A, Pick::Any, Item::User(A, ONE));
-    const OWN_LINK: Event = Event::Said(A, A, Signal::Link(LINK));
+    const BODY: Body = Body { num: 1, ..ONE };
+    const TO_ITSELF: Event = Event::Said(A, A, Signal::Message(BODY));
+    const CAME: Event = Event::Came(A, A, Signal::Message(BODY));
+    const TOOK: Event = Event::Took(A, Pick::Any, Item::User(A, BODY));
+    const OWN_LINK: Event = Event::Said(A, A, Signal::Link(LinkId { number: 2, ..LINK }));
     const CASES: &[Judged] = &[
         (&[BORN_A, BORN_A], Some((1, Cause::BornTwice))),
         (&[TO_ITSELF], Some((0, Cause::NotAlive))),

@@ -6,7 +6,8 @@ ghost use Rattle.pt_node.specs.Desks.{IsStill};
 use crate::rows::play::Call;
 use pt_history::{State, replay};
 use pt_node::{
-    Body, Desk, Event, Fault, Gathered, Item, Pick, Pid, Quiet, Reason, Ref, Stamped, Turned,
+    Body, Desk, Event, Fault, Gathered, Item, LeftOver, Pick, Pid, Quiet, Reason, Ref, Signal,
+    Stamped, Turned,
 };
 use std::alloc::{AllocError, Global};
 use std::fmt::Display;
@@ -324,6 +325,57 @@ fn event_in(
         }
     }
     "none".to_string(alloc)
+}
+
+/// The load of a gathered node: the letters left over, and what these processes hold of links and of these monitors.
+pub fn load(
+    rt: &impl Abort,
+    alloc: Global,
+    gathered: &Gathered,
+    pids: &[Pid],
+    monitors: &[Ref],
+) -> Result<u64, Fail> {
+    let Some(state) = judged(alloc, gathered)? else {
+        panic!(rt; "the history is unlawful");
+    };
+    let mut load = weights(gathered.left_over()?.as_slice());
+    for p in pids {
+        load = load.saturating_add(size(&state, *p, pids, monitors));
+    }
+    Ok(load)
+}
+
+/// How much letters on their way weigh together.
+fn weights(letters: &[LeftOver]) -> u64 {
+    let mut sum: u64 = 0;
+    for left in letters {
+        sum = sum.saturating_add(weight(left.letter.signal));
+    }
+    sum
+}
+
+/// How much a letter on its way weighs: two where a receipt may send a letter back, else one.
+fn weight(signal: Signal) -> u64 {
+    match signal {
+        Signal::Link(_) | Signal::Monitor(_) | Signal::AliveAsk(_) => 2,
+        _ => 1,
+    }
+}
+
+/// How many links and open and kept monitors a live process holds.
+fn size(state: &State, p: Pid, pids: &[Pid], monitors: &[Ref]) -> u64 {
+    if !state.alive(p) {
+        return 0;
+    }
+    let links = pids
+        .iter()
+        .filter(|q| state.linked(p, **q).is_some())
+        .count();
+    let open = monitors.iter().filter(|m| state.watching(p, **m)).count();
+    let kept = monitors.iter().filter(|m| state.kept(p, **m)).count();
+    (links as u64)
+        .saturating_add(open as u64)
+        .saturating_add(kept as u64)
 }
 
 /// The letters left over, each with a `;` after it.

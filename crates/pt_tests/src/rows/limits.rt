@@ -4,7 +4,6 @@ use crate::rows::known::{A, settings};
 use crate::rows::play::Call::*;
 use crate::rows::play::{Step, play};
 use pt_node::{Config, OpenError, Pick, Pid, gather, open};
-use pt_shard::MAX_STAMP;
 use std::test::Fail;
 
 /// A pid of a second desk.
@@ -24,7 +23,7 @@ const NEXT: Pid = Pid {
 #[test]
 fn a_clock_at_its_limit_refuses_what_has_an_event(rt: HostRuntime) -> Result<(), Fail> {
     let late = Config {
-        start: MAX_STAMP - 1,
+        start: 4_611_686_018_427_387_903,
         ..settings(8)
     };
     const STEPS: &[Step] = &[
@@ -41,7 +40,7 @@ fn a_clock_at_its_limit_refuses_what_has_an_event(rt: HostRuntime) -> Result<(),
 #[test]
 fn a_turn_stops_at_the_limit_of_the_clock(rt: HostRuntime) -> Result<(), Fail> {
     let late = Config {
-        start: MAX_STAMP - 2,
+        start: 4_611_686_018_427_387_902,
         ..settings(8)
     };
     const STEPS: &[Step] = &[
@@ -60,7 +59,7 @@ fn a_turn_stops_at_the_limit_of_the_clock(rt: HostRuntime) -> Result<(), Fail> {
 #[test]
 fn a_worn_clock_is_told_before_a_full_desk(rt: HostRuntime) -> Result<(), Fail> {
     let late = Config {
-        start: MAX_STAMP - 1,
+        start: 4_611_686_018_427_387_903,
         ..settings(1)
     };
     const STEPS: &[Step] = &[
@@ -95,7 +94,7 @@ fn settings_out_of_range_are_refused(rt: HostRuntime) -> Result<(), Fail> {
             ..fine
         },
         Config {
-            start: MAX_STAMP + 1,
+            start: 4_611_686_018_427_387_905,
             ..fine
         },
     ];

@@ -1,13 +1,13 @@
-//! Nodes that are gathered while letters are on their way, and settled.
+//! Nodes that are gathered while letters are on their way, their load, and what they settle to.
 
 ghost use Rattle.pt_node.specs.Desks.{AreDesks};
 
-use crate::rows::bench::{Settled, look_after, settle};
+use crate::rows::bench::{Settled, load, look_after, settle};
 use crate::rows::desks::send_fifty;
 use crate::rows::known::{A, A1, B, B1, C, D, E, settings, two_desks};
 use crate::rows::play::Call::*;
 use crate::rows::play::{Step, close, make, play_on, run};
-use pt_node::{Config, Desk, Gathered, Pid, Reason, open};
+use pt_node::{Config, Desk, Gathered, Pid, Reason, Ref, open};
 use std::alloc::Global;
 use std::process::Abort;
 use std::test::Fail;
@@ -129,6 +129,45 @@ const CHAIN_ENDED: [Step; 8] = [
 #[test]
 fn an_end_goes_down_its_links_when_the_node_settles(rt: HostRuntime) -> Result<(), Fail> {
     play_settled(&rt, rt.alloc(), settings(8), &CHAIN, 1, 2, &CHAIN_ENDED)
+}
+
+/// Plays the steps, gathers, and compares the load of what is gathered.
+fn play_loaded(
+    rt: &impl Abort,
+    alloc: Global,
+    config: Config,
+    steps: &[Step],
+    monitors: &[Ref],
+    wanted: u64,
+) -> Result<(), Fail> {
+    let gathered = play_on(rt, alloc, config, steps, &[])?;
+    let found = load(rt, alloc, &gathered, &[A, B, C, D, E, A1], monitors)?;
+    assert_eq!(rt; found, wanted);
+    Ok(())
+}
+
+#[test]
+fn letters_links_and_monitors_are_the_load(rt: HostRuntime) -> Result<(), Fail> {
+    const FIRST: Ref = Ref { desk: 0, number: 4 };
+    const SECOND: Ref = Ref { desk: 0, number: 5 };
+    const THIRD: Ref = Ref { desk: 0, number: 9 };
+    const WATCHED: &[Step] = &[
+        (Spawn, "<0.0.1>"),
+        (Spawn, "<0.1.1>"),
+        (Spawn, "<0.2.1>"),
+        (Monitor(A, B), "#0.4"),
+        (Monitor(C, B), "#0.5"),
+        (Turn(16), "posted 2 handled 2"),
+        (Exit(C, Reason::Shutdown), "ok"),
+        (Monitor(A, B), "#0.9"),
+    ];
+    // an exit on its way; three links with both ends, and one whose other end is gone
+    play_loaded(&rt, rt.alloc(), settings(8), &CHAIN, &[], 8)?;
+    // two unlinks on their way, and a link, which weighs two; its first end
+    play_loaded(&rt, rt.alloc(), two_desks(8), &CROSSING, &[], 5)?;
+    // a demonitor on its way, and a monitor, which weighs two; two monitors that are open and two that are kept
+    let monitors = [FIRST, SECOND, THIRD];
+    play_loaded(&rt, rt.alloc(), settings(8), WATCHED, &monitors, 7)
 }
 
 #[test]

@@ -290,13 +290,26 @@ fn long_and_deep_texts_are_refused(rt: HostRuntime) -> Result<(), Fail> {
     )
 }
 
-/// A writer that takes one byte a write, and refuses from a write or flush on.
+/// A writer that counts what it is asked for, and refuses from one request on.
 #[derive(Drop)]
-struct Failing {
+struct Counting {
+    /// How many writes and flushes it still takes.
     left: u32,
+    /// How many bytes it was given, and how many of them its last flush passed on.
+    bytes: usize,
+    flushed: usize,
 }
 
-impl Failing {
+impl Counting {
+    /// One that takes so many writes and flushes.
+    fn new(left: u32) -> Counting {
+        Counting {
+            left,
+            bytes: 0,
+            flushed: 0,
+        }
+    }
+
     fn use_up(&mut self) -> io::Result<()> {
         if self.left == 0 {
             return Err(io::Error::from(ErrorKind::BrokenPipe));
@@ -306,38 +319,46 @@ impl Failing {
     }
 }
 
-impl Write for Failing {
+impl Write for Counting {
     fn write(&mut self, buf: &[u8]) -> io::Result<usize> {
         self.use_up()?;
+        self.bytes = self.bytes.saturating_add(buf.len());
         Ok(buf.len())
     }
 
     fn flush(&mut self) -> io::Result<()> {
-        self.use_up()
+        self.use_up()?;
+        self.flushed = self.bytes;
+        Ok(())
     }
 }
 
-/// Lets the writer refuse from its first, second, third and so on call on, until a run meets no refusal.
+/// How many writes and flushes a run asks for. All that is written has to be flushed.
+fn requests_of<R: Abort + Threads + Sync>(rt: &R, alloc: Global, print: Show) -> Result<u32, Fail> {
+    const MOST: u32 = 1_000_000;
+    let mut out = Counting::new(MOST);
+    report(rt, alloc, &asked(print, 8), PING.as_bytes(), &mut out)?;
+    assert!(rt; 0 < out.bytes && out.flushed == out.bytes);
+    Ok(MOST.saturating_sub(out.left))
+}
+
+/// Lets the writer refuse from its first request on, from its second, and so on: each run but the one in which it takes
+/// all that is asked for tells that the file failed.
 fn fails_each_time<R: Abort + Threads + Sync>(
     rt: &R,
     alloc: Global,
     print: Show,
 ) -> Result<(), Fail> {
-    for left in 0..1_000_000u32 {
-        let mut out = Failing { left };
+    let requests = requests_of(rt, alloc, print)?;
+    for left in 0..requests {
+        let mut out = Counting::new(left);
         match report(rt, alloc, &asked(print, 8), PING.as_bytes(), &mut out) {
-            Ok(()) => {
-                assert!(rt; left > 1);
-                return Ok(());
-            }
-            Err(fault) => {
-                assert!(rt; fault == ReportFault::File);
-                assert!(rt; fault.status() == 3);
-                assert!(rt; format!(in alloc; "{fault}")?.as_str() == "file refused");
-            }
+            Ok(()) => assert!(rt; false, "refused at {left} and not told"),
+            Err(fault) => assert_eq!(rt; fault, ReportFault::File),
         }
     }
-    assert!(rt; false, "every run met a refusal");
+    let mut out = Counting::new(requests);
+    report(rt, alloc, &asked(print, 8), PING.as_bytes(), &mut out)?;
     Ok(())
 }
 
@@ -352,7 +373,7 @@ fn a_failing_writer_is_told_as_such(rt: HostRuntime) -> Result<(), Fail> {
 fn a_failing_writer_behind_a_small_buffer_is_told_as_such(rt: HostRuntime) -> Result<(), Fail> {
     let alloc = rt.alloc();
     for left in 0..1_000_000u32 {
-        let mut out = BufWriter::with_capacity(alloc, 16, Failing { left })?;
+        let mut out = BufWriter::with_capacity(alloc, 16, Counting::new(left))?;
         match report(
             &rt,
             alloc,
