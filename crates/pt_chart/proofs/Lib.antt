@@ -4,3 +4,5 @@ pub mod Rows
 pub mod Receipts
 pub mod Answering
 pub mod Legal
+pub mod Numbering
+pub mod Writing

@@ -2,3 +2,6 @@ pub mod Chart
 pub mod Following
 pub mod Page
 pub mod Replying
+pub mod Points
+pub mod Text
+pub mod Drawing

@@ -1,38 +1,51 @@
 //! The chart, from its background to its foreground.
 
-use crate::layout::{Arrow, Layout, lay_out};
+ghost use Rattle.std.specs.Prelude.{◌≡◌, ◌≤◌, ◌++◌, All, IfOk, OnOk, length, position, string_bytes};
+ghost use Rattle.pt_signal.specs.Values.{same_pid};
+ghost use Rattle.pt_events.specs.Text.{stamped_text};
+ghost use Rattle.pt_chart.specs.Drawing.{IsChart, IsPageOf, birth_mark, column, drawn, end, event_mark, letters, line, mark, numbered, place_in};
+
+use crate::layout::{Column, Layout, lay_out};
 use crate::page::Page;
-use crate::strokes::{EXIT, LINK, MESSAGE, MONITOR, QUESTION, Stroke, stroke_of};
+use crate::part::Part;
+use crate::text::{write_head, write_parts};
 use pt_events::{Event, Stamped};
-use pt_signal::{Pid, Reason, Signal};
+use pt_signal::Pid;
 use std::alloc::{AllocError, Global};
-use std::fmt::Display;
 
 /// The history as a message sequence chart: what its [`lay_out`] says, drawn.
-pub fn chart(alloc: Global, events: &[Stamped]) -> Result<String, AllocError> {
+///
+/// The text has the line of each event, each process with its life, each letter's arrow, each event's mark and each
+/// end, each once and in this order.
+pub fn chart(alloc: Global, events: &[Stamped]) -> Result<String, AllocError>
+    ensures { IfOk result (λ text. IsChart events.now (string_bytes text)) }
+{
     let layout = lay_out(alloc, events)?;
-    let mut drawing = Drawing {
-        alloc,
-        page: Page {
-            longest: longest(alloc, events)?,
-            beside: beside(alloc, events)?,
-            columns: layout.columns.len(),
-            rows: layout.rows,
-        },
-        text: String::new(alloc),
-    };
-    drawing.head()?;
-    drawing.lines(events)?;
-    drawing.columns(&layout)?;
-    drawing.arrows(&layout)?;
-    drawing.marks(events, &layout)?;
-    drawing.ends(&layout)?;
-    drawing.text.push_str("</svg>\n")?;
-    Ok(drawing.text)
+    let page = page_of(alloc, events, &layout)?;
+    let parts = parts_of(alloc, events, &layout)?;
+    let mut text = String::new(alloc);
+    write_head(&page, &mut text)?;
+    write_parts(alloc, &page, parts.as_slice(), &mut text)?;
+    text.push_str("</svg>\n")?;
+    Ok(text)
+}
+
+/// The page on which a layout of the history has room.
+fn page_of(alloc: Global, events: &[Stamped], layout: &Layout) -> Result<Page, AllocError>
+    ensures { IfOk result (λ page. IsPageOf events.now layout.now page) }
+{
+    Ok(Page {
+        longest: longest(alloc, events)?,
+        beside: beside(alloc, events)?,
+        columns: layout.columns.len(),
+        rows: events.len(),
+    })
 }
 
 /// How many characters the longest line of an event has.
-fn longest(alloc: Global, events: &[Stamped]) -> Result<usize, AllocError> {
+fn longest(alloc: Global, events: &[Stamped]) -> Result<usize, AllocError>
+    ensures { IfOk result (λ n. All (λ s. length (stamped_text s) ≤ n) events.now) }
+{
     let mut longest = 0;
     for stamped in events {
         longest = format!(in alloc; "{stamped}")?.len().max(longest);
@@ -58,285 +71,203 @@ fn beside(alloc: Global, events: &[Stamped]) -> Result<usize, AllocError> {
     Ok(longest)
 }
 
-#[derive(Drop)]
-struct Drawing {
-    alloc: Global,
-    page: Page,
-    text: String,
+/// What the chart is drawn of.
+fn parts_of(alloc: Global, events: &[Stamped], layout: &Layout) -> Result<Vec<Part>, AllocError>
+    ensures { IfOk result (λ parts. parts.items ≡ drawn events.now layout.now) }
+{
+    let columns = layout.columns.as_slice();
+    let mut parts = Vec::new(alloc);
+    list_lines(events, &mut parts)?;
+    list_columns(columns, &mut parts)?;
+    list_letters(columns, &mut parts)?;
+    list_marks(events, columns, &mut parts)?;
+    list_ends(columns, &mut parts)?;
+    Ok(parts)
 }
 
-impl Drawing {
-    fn head(&mut self) -> Result<(), AllocError> {
-        let (width, height) = (self.page.width(), self.page.height());
-        let text = &mut self.text;
-        writeln!(text, "<?xml version=\"1.0\" encoding=\"UTF-8\"?>")?;
-        writeln!(
-            text,
-            "<svg xmlns=\"http://www.w3.org/2000/svg\" version=\"1.1\" width=\"{width}\" height=\"{height}\" viewBox=\"0 0 {width} {height}\">"
-        )?;
-        text.push_str(STYLE)?;
-        self.stroke(&MESSAGE)?;
-        self.stroke(&EXIT)?;
-        self.stroke(&LINK)?;
-        self.stroke(&MONITOR)?;
-        self.stroke(&QUESTION)?;
-        writeln!(
-            self.text,
-            "<rect width=\"{width}\" height=\"{height}\" fill=\"#fff\"/>"
-        )
+/// A line an event.
+fn list_lines(events: &[Stamped], parts: &mut Vec<Part>) -> Result<(), AllocError>
+    ensures { OnOk result (parts.new.items ≡ parts.old.items ++ numbered line events.now) }
+{
+    for row in 0..events.len() {
+        parts.push(Part::Line {
+            row,
+            event: events[row],
+        })?;
     }
+    Ok(())
+}
 
-    /// The style of a stroke, and its arrow heads.
-    fn stroke(&mut self, stroke: &Stroke) -> Result<(), AllocError> {
-        let Stroke {
-            class,
-            colour,
-            dashes,
-        } = *stroke;
-        let text = &mut self.text;
-        writeln!(
-            text,
-            "<style type=\"text/css\">.{class}{{stroke:{colour};stroke-dasharray:{dashes};fill:none}} .{class}-label{{fill:{colour}}}</style>"
-        )?;
-        writeln!(
-            text,
-            "<marker id=\"{class}-came\" viewBox=\"0 0 8 8\" refX=\"8\" refY=\"4\" markerWidth=\"8\" markerHeight=\"8\" orient=\"auto\"><path d=\"M0 0L8 4L0 8z\" fill=\"{colour}\"/></marker>"
-        )?;
-        writeln!(
-            text,
-            "<marker id=\"{class}-sent\" viewBox=\"0 0 8 8\" refX=\"8\" refY=\"4\" markerWidth=\"8\" markerHeight=\"8\" orient=\"auto\"><path d=\"M0 0L8 4L0 8\" fill=\"none\" stroke=\"{colour}\"/></marker>"
-        )
+/// The names and the life of each process.
+fn list_columns(columns: &[Column], parts: &mut Vec<Part>) -> Result<(), AllocError>
+    ensures { OnOk result (parts.new.items ≡ parts.old.items ++ numbered column columns.now) }
+{
+    for place in 0..columns.len() {
+        list_column(place, &columns[place], parts)?;
     }
+    Ok(())
+}
 
-    /// A line an event.
-    fn lines(&mut self, events: &[Stamped]) -> Result<(), AllocError> {
-        let (gutter, width) = (self.page.gutter(), self.page.width());
-        let mut row = 0usize;
-        for stamped in events {
-            let y = self.page.y(row);
-            let base = y.saturating_add(4);
-            writeln!(
-                self.text,
-                "<path class=\"row\" d=\"M{gutter} {y}H{width}\"/>"
-            )?;
-            write!(self.text, "<text class=\"event\" x=\"12\" y=\"{base}\">")?;
-            self.escaped(*stamped)?;
-            self.text.push_str("</text>\n")?;
-            row = row.saturating_add(1);
+fn list_column(place: usize, shown: &Column, parts: &mut Vec<Part>) -> Result<(), AllocError>
+    ensures { OnOk result (parts.new.items ≡ parts.old.items ++ column place shown.now) }
+{
+    parts.push(Part::Column {
+        column: place,
+        pid: shown.pid,
+    })?;
+    if let Some(born) = shown.born {
+        parts.push(Part::Life {
+            column: place,
+            born,
+            ended: shown.ended.map(|(row, _)| row),
+        })?;
+    }
+    Ok(())
+}
+
+/// An arrow a letter.
+fn list_letters(columns: &[Column], parts: &mut Vec<Part>) -> Result<(), AllocError>
+    ensures { OnOk result (parts.new.items ≡ parts.old.items ++ numbered letters columns.now) }
+{
+    for place in 0..columns.len() {
+        list_letters_from(place, &columns[place], parts)?;
+    }
+    Ok(())
+}
+
+fn list_letters_from(place: usize, shown: &Column, parts: &mut Vec<Part>) -> Result<(), AllocError>
+    ensures { OnOk result (parts.new.items ≡ parts.old.items ++ letters place shown.now) }
+{
+    for arrow in &shown.arrows {
+        parts.push(Part::Letter {
+            column: place,
+            arrow: *arrow,
+        })?;
+    }
+    Ok(())
+}
+
+/// The mark of each event.
+fn list_marks(
+    events: &[Stamped],
+    columns: &[Column],
+    parts: &mut Vec<Part>,
+) -> Result<(), AllocError>
+    ensures { OnOk result (parts.new.items ≡ parts.old.items ++ numbered (mark columns.now) events.now) }
+{
+    for row in 0..events.len() {
+        list_mark(row, events[row].event, columns, parts)?;
+    }
+    Ok(())
+}
+
+fn list_mark(
+    row: usize,
+    event: Event,
+    columns: &[Column],
+    parts: &mut Vec<Part>,
+) -> Result<(), AllocError>
+    ensures { OnOk result (parts.new.items ≡ parts.old.items ++ event_mark columns.now row event) }
+{
+    match event {
+        Event::Born(pid, parent, link) => {
+            list_birth(row, pid, parent, link.is_some(), columns, parts)
         }
-        Ok(())
-    }
-
-    /// The head and the line of each process.
-    fn columns(&mut self, layout: &Layout) -> Result<(), AllocError> {
-        let bottom = self.page.end().saturating_add(48);
-        let end = self.page.end();
-        for k in 0..layout.columns.len() {
-            let column = &layout.columns[k];
-            let x = self.page.x(k);
-            self.name(x, 22, column.pid)?;
-            self.name(x, bottom, column.pid)?;
-            writeln!(self.text, "<path class=\"before\" d=\"M{x} 30V{end}\"/>")?;
-            let Some(born) = column.born else {
-                continue;
-            };
-            let from = self.page.y(born);
-            let to = match column.ended {
-                Some((row, _)) => self.page.y(row),
-                None => end,
-            };
-            writeln!(self.text, "<path class=\"life\" d=\"M{x} {from}V{to}\"/>")?;
+        Event::Said(from, to, signal) => {
+            parts.push(Part::Saying {
+                row,
+                from: column_of(columns, from),
+                to: column_of(columns, to),
+                signal,
+            })?;
+            Ok(())
         }
-        Ok(())
-    }
-
-    fn name(&mut self, x: u64, y: u64, pid: Pid) -> Result<(), AllocError> {
-        write!(self.text, "<text class=\"name\" x=\"{x}\" y=\"{y}\">")?;
-        self.escaped(pid)?;
-        self.text.push_str("</text>\n")
-    }
-
-    fn arrows(&mut self, layout: &Layout) -> Result<(), AllocError> {
-        for column in 0..layout.columns.len() {
-            self.arrows_from(column, layout.columns[column].arrows.as_slice())?;
+        Event::Took(pid, _, _) => {
+            parts.push(Part::Taking {
+                row,
+                column: column_of(columns, pid),
+            })?;
+            Ok(())
         }
-        Ok(())
-    }
-
-    fn arrows_from(&mut self, column: usize, arrows: &[Arrow]) -> Result<(), AllocError> {
-        for arrow in arrows {
-            self.arrow(column, arrow)?;
+        Event::Flag(pid, on) => {
+            parts.push(Part::Trapping {
+                row,
+                column: column_of(columns, pid),
+                on,
+            })?;
+            Ok(())
         }
-        Ok(())
-    }
-
-    fn arrow(&mut self, column: usize, arrow: &Arrow) -> Result<(), AllocError> {
-        let class = stroke_of(&arrow.signal).class;
-        let from = self.page.x(column);
-        let sent = self.page.y(arrow.sent);
-        let to = self.page.x(arrow.to);
-        let (came, head) = match arrow.came {
-            Some(row) => (self.page.y(row), "came"),
-            None => (self.page.end().saturating_add(18), "sent"),
-        };
-        if column == arrow.to {
-            let side = from.saturating_add(44);
-            writeln!(
-                self.text,
-                "<path class=\"{class}\" d=\"M{from} {sent}C{side} {sent} {side} {came} {to} {came}\" marker-end=\"url(#{class}-{head})\"/>"
-            )
-        } else {
-            writeln!(
-                self.text,
-                "<path class=\"{class}\" d=\"M{from} {sent}L{to} {came}\" marker-end=\"url(#{class}-{head})\"/>"
-            )
+        Event::Refused(from, to) => {
+            parts.push(Part::Refusal {
+                row,
+                column: column_of(columns, from),
+                to,
+            })?;
+            Ok(())
         }
-    }
-
-    /// The mark of each event.
-    fn marks(&mut self, events: &[Stamped], layout: &Layout) -> Result<(), AllocError> {
-        let mut row = 0usize;
-        for stamped in events {
-            self.mark(row, stamped.event, layout)?;
-            row = row.saturating_add(1);
-        }
-        Ok(())
-    }
-
-    fn mark(&mut self, row: usize, event: Event, layout: &Layout) -> Result<(), AllocError> {
-        let y = self.page.y(row);
-        match event {
-            Event::Born(pid, parent, link) => {
-                if let Some(parent) = parent {
-                    let class = if link.is_some() { "link" } else { "before" };
-                    let (from, to) = (self.column(layout, parent), self.column(layout, pid));
-                    writeln!(
-                        self.text,
-                        "<path class=\"{class}\" d=\"M{from} {y}H{to}\"/>"
-                    )?;
-                }
-                self.birth(self.column(layout, pid), y, pid)
-            }
-            Event::Said(from, to, signal) => {
-                let (from, to) = (self.column(layout, from), self.column(layout, to));
-                self.label(from, to, y, signal)
-            }
-            Event::Came(_, _, _) => Ok(()),
-            Event::Took(pid, _, _) => {
-                let x = self.column(layout, pid);
-                writeln!(self.text, "<circle cx=\"{x}\" cy=\"{y}\" r=\"4\"/>")
-            }
-            Event::Flag(pid, on) => self.flag(self.column(layout, pid), y, on),
-            Event::Left(_, _) => Ok(()),
-            Event::Refused(from, to) => self.refusal(self.column(layout, from), y, to),
-        }
-    }
-
-    /// The middle of the column of a process.
-    fn column(&self, layout: &Layout, pid: Pid) -> u64 {
-        match layout.columns.iter().position(|column| column.pid == pid) {
-            Some(k) => self.page.x(k),
-            None => self.page.x(layout.columns.len()),
-        }
-    }
-
-    fn birth(&mut self, x: u64, y: u64, pid: Pid) -> Result<(), AllocError> {
-        let (left, top) = (x.saturating_sub(42), y.saturating_sub(9));
-        writeln!(
-            self.text,
-            "<rect class=\"born\" x=\"{left}\" y=\"{top}\" width=\"84\" height=\"18\"/>"
-        )?;
-        self.name(x, y.saturating_add(4), pid)
-    }
-
-    /// What is sent, beside its sender and towards its receiver.
-    fn label(&mut self, from: u64, to: u64, y: u64, signal: Signal) -> Result<(), AllocError> {
-        let class = stroke_of(&signal).class;
-        let base = y.saturating_sub(4);
-        let (x, anchor) = if to < from {
-            (from.saturating_sub(6), "end")
-        } else {
-            (from.saturating_add(6), "start")
-        };
-        write!(
-            self.text,
-            "<text class=\"label halo\" x=\"{x}\" y=\"{base}\" text-anchor=\"{anchor}\">"
-        )?;
-        self.escaped(signal)?;
-        write!(
-            self.text,
-            "</text><text class=\"label {class}-label\" x=\"{x}\" y=\"{base}\" text-anchor=\"{anchor}\">"
-        )?;
-        self.escaped(signal)?;
-        self.text.push_str("</text>\n")
-    }
-
-    fn flag(&mut self, x: u64, y: u64, on: bool) -> Result<(), AllocError> {
-        let (left, top) = (x.saturating_sub(4), y.saturating_sub(4));
-        let (beside, base) = (x.saturating_add(8), y.saturating_sub(4));
-        let flag = if on { "traps" } else { "traps no more" };
-        writeln!(
-            self.text,
-            "<rect x=\"{left}\" y=\"{top}\" width=\"8\" height=\"8\"/>"
-        )?;
-        writeln!(
-            self.text,
-            "<text class=\"label\" x=\"{beside}\" y=\"{base}\">{flag}</text>"
-        )
-    }
-
-    /// A refused call, at its sayer: the process that had ended.
-    fn refusal(&mut self, x: u64, y: u64, to: Pid) -> Result<(), AllocError> {
-        let (beside, base) = (x.saturating_add(6), y.saturating_sub(4));
-        write!(
-            self.text,
-            "<text class=\"label exit-label\" x=\"{beside}\" y=\"{base}\">refused "
-        )?;
-        self.escaped(to)?;
-        self.text.push_str("</text>\n")
-    }
-
-    /// A cross where a process ends, with the reason.
-    fn ends(&mut self, layout: &Layout) -> Result<(), AllocError> {
-        for k in 0..layout.columns.len() {
-            let x = self.page.x(k);
-            self.end(x, layout.columns[k].ended)?;
-        }
-        Ok(())
-    }
-
-    fn end(&mut self, x: u64, ended: Option<(usize, Reason)>) -> Result<(), AllocError> {
-        let Some((row, reason)) = ended else {
-            return Ok(());
-        };
-        let y = self.page.y(row);
-        let (left, right) = (x.saturating_sub(6), x.saturating_add(6));
-        let (top, bottom) = (y.saturating_sub(6), y.saturating_add(6));
-        let (beside, base) = (x.saturating_add(10), y.saturating_add(12));
-        writeln!(
-            self.text,
-            "<path class=\"end\" d=\"M{left} {top}L{right} {bottom}M{left} {bottom}L{right} {top}\"/>"
-        )?;
-        writeln!(
-            self.text,
-            "<text class=\"label exit-label\" x=\"{beside}\" y=\"{base}\">{reason}</text>"
-        )
-    }
-
-    /// The text of a value, with XML's own characters escaped.
-    fn escaped<D: Display + Drop>(&mut self, value: D) -> Result<(), AllocError> {
-        let plain = format!(in self.alloc; "{value}")?;
-        for c in plain.chars() {
-            match c {
-                '<' => self.text.push_str("&lt;")?,
-                '>' => self.text.push_str("&gt;")?,
-                '&' => self.text.push_str("&amp;")?,
-                _ => self.text.push(c)?,
-            }
-        }
-        Ok(())
+        Event::Came(_, _, _) | Event::Left(_, _) => Ok(()),
     }
 }
 
-const STYLE: &str =
-    "<style type=\"text/css\">text{font-family:monospace;font-size:11px} .event{fill:#333} .name{text-anchor:middle;font-weight:bold} .label{font-size:10px} .halo{fill:#fff;stroke:#fff;stroke-width:2} .row{stroke:#eee} .before{stroke:#bbb;stroke-dasharray:2 3;fill:none} .life{stroke:#555;stroke-width:1.5} .born{fill:#fff;stroke:#555} .end{stroke:#b00020;stroke-width:2}</style>\n";
+fn list_birth(
+    row: usize,
+    pid: Pid,
+    parent: Option<Pid>,
+    linked: bool,
+    columns: &[Column],
+    parts: &mut Vec<Part>,
+) -> Result<(), AllocError>
+    ensures { OnOk result (parts.new.items ≡ parts.old.items ++ birth_mark columns.now row pid parent linked) }
+{
+    let child = column_of(columns, pid);
+    if let Some(parent) = parent {
+        parts.push(Part::Bearing {
+            row,
+            parent: column_of(columns, parent),
+            child,
+            linked,
+        })?;
+    }
+    parts.push(Part::Birth {
+        row,
+        column: child,
+        pid,
+    })?;
+    Ok(())
+}
+
+/// The column of a process; behind all if it has none.
+fn column_of(columns: &[Column], pid: Pid) -> usize
+    ensures { result ≡ place_in columns.now pid }
+{
+    position_of(columns, pid).unwrap_or(columns.len())
+}
+
+fn position_of(columns: &[Column], pid: Pid) -> Option<usize>
+    ensures { result ≡ position (λ c. same_pid pid c.pid) columns.now }
+{
+    columns.iter().position(|column| pid == column.pid)
+}
+
+/// A cross where a process ends.
+fn list_ends(columns: &[Column], parts: &mut Vec<Part>) -> Result<(), AllocError>
+    ensures { OnOk result (parts.new.items ≡ parts.old.items ++ numbered end columns.now) }
+{
+    for place in 0..columns.len() {
+        list_end(place, &columns[place], parts)?;
+    }
+    Ok(())
+}
+
+fn list_end(place: usize, shown: &Column, parts: &mut Vec<Part>) -> Result<(), AllocError>
+    ensures { OnOk result (parts.new.items ≡ parts.old.items ++ end place shown.now) }
+{
+    if let Some((row, reason)) = shown.ended {
+        parts.push(Part::End {
+            row,
+            column: place,
+            reason,
+        })?;
+    }
+    Ok(())
+}

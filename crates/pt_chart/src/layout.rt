@@ -223,7 +223,7 @@ fn arrow_of(
 }
 
 /// The column of a process; behind all if it has none.
-pub(crate) fn place(pids: &[Pid], pid: Pid) -> usize
+fn place(pids: &[Pid], pid: Pid) -> usize
     ensures { result ≡ place pids.now pid }
 {
     position_of(pids, pid).unwrap_or(pids.len())

@@ -1,7 +1,7 @@
 //! Where things stand on the page, in pixels. Past the largest number all stand at it.
 
 ghost use Rattle.std.specs.Prelude.{◌≡◌, ℕ, ◌<◌, ◌≤◌};
-ghost use Rattle.pt_chart.specs.Page.{gutter_of, x_of, y_of, width_of, height_of};
+ghost use Rattle.pt_chart.specs.Page.{gutter_of, x_of, y_of, row_or_end, width_of, height_of};
 
 /// How far the rows stand from one another.
 const ROW: u64 = 22;
@@ -59,6 +59,16 @@ impl Page {
         ensures { result ≡ y_of self.now.rows }
     {
         self.y(self.rows)
+    }
+
+    /// The middle of a row, or where all lines end.
+    pub fn row_or_end(&self, row: Option<usize>) -> u64
+        ensures { result ≡ row_or_end self.now row }
+    {
+        match row {
+            Some(row) => self.y(row),
+            None => self.end(),
+        }
     }
 
     /// The width of the page, which has room for all columns.

@@ -1,55 +1,50 @@
 //! How a signal is drawn.
 
-use pt_signal::Signal;
+ghost use Rattle.std.specs.Prelude.{◌≡◌};
+ghost use Rattle.pt_chart.specs.Text.{stroke_of};
 
-/// A kind of stroke.
-#[derive(Clone, Copy)]
-pub struct Stroke {
-    /// The name of its class.
-    pub class: &'static str,
-    /// Its colour.
-    pub colour: &'static str,
-    /// Its dashes.
-    pub dashes: &'static str,
+use pt_signal::Signal;
+use std::fmt;
+
+/// The strokes by which the letters of a chart are told apart.
+#[derive(Clone, Copy, Debug, PartialEq, Eq)]
+pub(crate) enum Stroke {
+    Message,
+    Exit,
+    Link,
+    Monitor,
+    Question,
 }
 
-pub static MESSAGE: Stroke = Stroke {
-    class: "message",
-    colour: "#1f4e99",
-    dashes: "none",
-};
+impl Stroke {
+    /// How the letter of a signal is drawn.
+    pub fn of(signal: &Signal) -> Stroke
+        ensures { result ≡ stroke_of signal.now }
+    {
+        match signal {
+            Signal::Message(_) => Stroke::Message,
+            Signal::Link(_) | Signal::Unlink(_) => Stroke::Link,
+            Signal::Exit(_) | Signal::LinkExit(_, _) => Stroke::Exit,
+            Signal::Monitor(_) | Signal::Demonitor(_) | Signal::Down(_, _) => Stroke::Monitor,
+            Signal::AliveAsk(_) | Signal::AliveSay(_, _) => Stroke::Question,
+        }
+    }
+}
 
-pub static LINK: Stroke = Stroke {
-    class: "link",
-    colour: "#2a7a2a",
-    dashes: "8 3",
-};
+/// The name of its class in the drawing.
+impl fmt::Display for Stroke {
+    ghost use Rattle.std.specs.Prelude.{Some};
+    ghost use Rattle.pt_chart.specs.Text.{stroke_text};
 
-pub static EXIT: Stroke = Stroke {
-    class: "exit",
-    colour: "#b00020",
-    dashes: "none",
-};
+    ghost output = { λ s. Some (stroke_text s) };
 
-pub static MONITOR: Stroke = Stroke {
-    class: "monitor",
-    colour: "#9a5b00",
-    dashes: "3 3",
-};
-
-pub static QUESTION: Stroke = Stroke {
-    class: "question",
-    colour: "#6a4fa0",
-    dashes: "1 3",
-};
-
-/// How the letter of a signal is drawn.
-pub fn stroke_of(signal: &Signal) -> &'static Stroke {
-    match signal {
-        Signal::Message(_) => &MESSAGE,
-        Signal::Link(_) | Signal::Unlink(_) => &LINK,
-        Signal::Exit(_) | Signal::LinkExit(_, _) => &EXIT,
-        Signal::Monitor(_) | Signal::Demonitor(_) | Signal::Down(_, _) => &MONITOR,
-        Signal::AliveAsk(_) | Signal::AliveSay(_, _) => &QUESTION,
+    fn fmt<W: fmt::Write>(&self, f: &mut fmt::Formatter<W>) -> fmt::Result {
+        f.write_str(match self {
+            Stroke::Message => "message",
+            Stroke::Exit => "exit",
+            Stroke::Link => "link",
+            Stroke::Monitor => "monitor",
+            Stroke::Question => "question",
+        })
     }
 }

@@ -1,0 +1,8 @@
+use Rattle.std.proofs.Common.{rules, arith}
+use Rattle.pt_chart.proofs.Numbering.{one_more}
+use Rattle.pt_chart.specs.Drawing.{end}
+use Rattle.pt_chart.proofs.drawing.list_ends.Goals as goal
+
+pub loop-place-preserved : goal.loop-place-preserved
+loop-place-preserved c =
+    one_more end c.args.parts.now.items c.loop-place.parts.items c.list_end.new.parts.items c.args.columns.now c.loop-place.place c.index-columns-place.result (omega arith) (search rules) c.loop-place.invariant c.in_ok-list_end.ensures

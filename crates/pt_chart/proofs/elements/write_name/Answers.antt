@@ -1,0 +1,8 @@
+use Rattle.std.proofs.Common.{append_assoc}
+use Rattle.pt_chart.specs.Text.{name_text}
+use Rattle.pt_chart.proofs.Writing.{reads_as}
+use Rattle.pt_chart.proofs.elements.write_name.Goals as goal
+
+pub returns : goal.returns
+unfolding name_text
+returns c = reads_as _ _ _ _ (name_text c.args.at c.args.name.now) c.write.ensures.bytes (simp append_assoc)

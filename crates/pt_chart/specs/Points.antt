@@ -1,0 +1,22 @@
+-- Points of the page, and their texts.
+use Rattle.std.specs.Prelude.{ℕ, ◌+◌, ◌==◌, if◌then◌else◌, List, ◌++◌, codes, decimal}
+use Rattle.pt_chart.specs.declared.page.Page.{Page}
+use Rattle.pt_chart.specs.declared.point.Point.{Point}
+use Rattle.pt_chart.specs.Page.{capped, x_of, y_of}
+
+unfoldable pub point_text : Point → List ℕ
+point_text p = decimal p.x ++ codes " " ++ decimal p.y
+
+unfoldable pub at_text : Point → List ℕ
+at_text p = codes "x=\"" ++ decimal p.x ++ codes "\" y=\"" ++ decimal p.y ++ codes "\""
+
+abbrev pub point : ℕ → ℕ → Point
+point x y = record { x = x; y = y }
+
+-- where a column and a row meet
+abbrev pub spot : Page → ℕ → ℕ → Point
+spot p k row = point (x_of p k) (y_of row)
+
+-- the points between which an arrow is bent: straight to another column, and by the right back to its own
+abbrev pub bend : Point → Point → Point × Point
+bend from to = if from.x == to.x then (point (capped (from.x + 44)) from.y, point (capped (from.x + 44)) to.y) else (from, to)

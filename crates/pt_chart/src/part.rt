@@ -1,0 +1,70 @@
+//! What a chart is drawn of, by rows and columns.
+
+use crate::layout::Arrow;
+use pt_events::Stamped;
+use pt_signal::{Pid, Reason, Signal};
+
+/// One thing that is drawn.
+#[derive(Clone, Copy, Debug, PartialEq, Eq)]
+pub(crate) enum Part {
+    /// The line of an event, at the left of its row.
+    Line {
+        row: usize,
+        event: Stamped,
+    },
+    /// The name of a process, above and below its column, and the line between the two.
+    Column {
+        column: usize,
+        pid: Pid,
+    },
+    /// The life of a process, from the row of its birth to that of its end, or to the last one.
+    Life {
+        column: usize,
+        born: usize,
+        ended: Option<usize>,
+    },
+    /// A letter, from the column of its sender.
+    Letter {
+        column: usize,
+        arrow: Arrow,
+    },
+    /// The stroke from a process to the child that it bears.
+    Bearing {
+        row: usize,
+        parent: usize,
+        child: usize,
+        linked: bool,
+    },
+    /// The box of a birth.
+    Birth {
+        row: usize,
+        column: usize,
+        pid: Pid,
+    },
+    /// What a process says, beside it and towards the receiver.
+    Saying {
+        row: usize,
+        from: usize,
+        to: usize,
+        signal: Signal,
+    },
+    /// The dot of an item that is taken.
+    Taking {
+        row: usize,
+        column: usize,
+    },
+    /// The square of a change of `trap_exit`.
+    Trapping {
+        row: usize,
+        column: usize,
+        on: bool,
+    },
+    /// A refused call, at its sayer: the process that had ended.
+    Refusal { row: usize, column: usize, to: Pid },
+    /// The cross of an end, with the reason.
+    End {
+        row: usize,
+        column: usize,
+        reason: Reason,
+    },
+}
