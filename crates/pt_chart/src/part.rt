@@ -60,7 +60,11 @@ pub(crate) enum Part {
         on: bool,
     },
     /// A refused call, at its sayer: the process that had ended.
-    Refusal { row: usize, column: usize, to: Pid },
+    Refusal {
+        row: usize,
+        column: usize,
+        to: Pid,
+    },
     /// The cross of an end, with the reason.
     End {
         row: usize,
