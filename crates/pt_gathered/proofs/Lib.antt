@@ -11,3 +11,4 @@ pub mod Again
 pub mod Histories
 pub mod Places
 pub mod Posted
+pub mod Shards

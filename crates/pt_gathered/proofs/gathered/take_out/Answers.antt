@@ -7,6 +7,7 @@ use Rattle.pt_shard.specs.Outbox.{held_from}
 use Rattle.pt_gathered.specs.Gathered.{hold_at}
 use Rattle.pt_gathered.proofs.Stepping.{hold_is, lane_is, takes_hold, takes_lane, takes_box}
 use Rattle.pt_gathered.proofs.Places.{held_is, held_is_not}
+use Rattle.pt_gathered.proofs.Shards.{set_shard}
 use Rattle.pt_gathered.proofs.gathered.take_out.Goals as goal
 
 pub returns-then-is_some-clause-takes : goal.returns-then-is_some-clause-takes
@@ -61,3 +62,19 @@ returns-clause-takes c =
     let room : e < length r.outbox =
     omega (arith, c.requires.within.1, c.requires.desks, ap (λ (z : ShardState). length z.outbox) r_is, shard.fit.boxes, ap (λ z. z.desks) shard.config_is) in
     rw (c.from-4.ensures, c.next_out.ensures.rest) (takes_box shards lanes d e c.requires.within.0 c.requires.within.1 c.requires.lanes none r r_is empty room)
+
+pub returns-then-is_some-clause-shards : goal.returns-then-is_some-clause-shards
+returns-then-is_some-clause-shards c =
+    let shards = c.args.shards.now.items in
+    let e = c.args.e in
+    let s = c.index_mut.result.now in
+    let t = c.take_hold.new.self in
+    let s_is : s ≡ get_or shards e s = c.index_mut.ensures.value ∙ ap (λ k. get_or shards k s) c.from.ensures in
+    let was = c.requires.shards e s c.requires.within.1 in
+    let at : c.from.result ≡ e = c.from.ensures in
+    let within : c.from.result < length shards = omega (arith, at, c.requires.within.1) in
+    set_shard c.args.config shards c.from.result t within c.requires.shards (record {
+      number = ap (λ (z : ShardState). z.number) c.take_hold.ensures.rest ∙ ap (λ (z : ShardState). z.number) s_is ∙ was.number ∙ sym at;
+      config_is = ap (λ (z : ShardState). z.config) c.take_hold.ensures.rest ∙ ap (λ (z : ShardState). z.config) s_is ∙ was.config_is;
+      fit = c.take_hold.ensures.fit;
+    })
