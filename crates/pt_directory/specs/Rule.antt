@@ -1,4 +1,4 @@
--- The rule of the directory's words and of what the seats know, and what each step tells.
+-- The rule of the directory's words and of what the seats know, and what each step tells. No public clause cites this module.
 use Rattle.std.specs.Prelude.{◌≡◌, ℕ, ◌+◌, ◌*◌, ◌<◌, ◌≤◌, List, ◌++◌, length, take, drop, slice_index, None, MatchOption}
 use mathlib.Core.Option.{some}
 use lib.ListN.{get_elem?}
