@@ -25,6 +25,7 @@ use Rattle.pt_runner.specs.declared.runner.Runner.{Runner}
 use Rattle.pt_runner.specs.Acting.{RunnerDoes}
 use Rattle.pt_script.specs.Nodes.{config_of}
 use Rattle.pt_runner.specs.Starting.{Begins, AreRunners, BornUntil}
+use Rattle.pt_chart.specs.Drawing.{IsChart}
 use Rattle.pt_report.specs.Lines.{history_text}
 use Rattle.pt_report.specs.Summaries.{Summarizes}
 use Rattle.pt_report.specs.declared.fault.ReportFault.{ReportFault}
@@ -62,7 +63,7 @@ pub record IsNodeOf (options : Options) (script : Whole) (g : GatheredState) : T
 abbrev pub Shows : Show → GatheredState → Option (List ℕ) → Option (List ℕ) → Type 0
 Shows Summary g old new = Summarizes g old new
 Shows History g old new = (h : List Stamped) × IsMerge (journals g) (reverse h) × Appends old new (history_text h (all_left g))
-Shows Chart g old new = (text : List ℕ) × Appends old new text
+Shows Chart g old new = (h : List Stamped) × IsMerge (journals g) (reverse h) × (text : List ℕ) × IsChart h text × Appends old new text
 
 -- the bytes are a script, and what was printed is what is asked for of a node that it was run on
 pub record Reports (bytes : List ℕ) (options : Options) (old new : Option (List ℕ)) : Type 0 where

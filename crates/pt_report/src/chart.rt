@@ -1,7 +1,11 @@
 //! The chart of a history.
 
-ghost use Rattle.std.specs.Prelude.{◌≡◌, ◌≢◌, ℕ, OnOk, IfErr, List};
+ghost use Rattle.std.specs.Prelude.{◌≡◌, ◌≢◌, ℕ, OnOk, IfErr, List, reverse};
 ghost use Rattle.std.specs.Io.KnownBytes.{Appends};
+ghost use Rattle.pt_events.specs.Journal.{IsMerge};
+ghost use Rattle.pt_events.specs.declared.event.Stamped.{Stamped};
+ghost use Rattle.pt_chart.specs.Drawing.{IsChart};
+ghost use Rattle.pt_gathered.specs.Gathered.{journals};
 ghost use Rattle.pt_report.specs.Status.{IsOfPrint};
 ghost use Rattle.pt_report.specs.declared.fault.ReportFault.TheVariants.{File};
 
@@ -18,7 +22,7 @@ pub fn print_chart<W: Write>(
     gathered: &Gathered,
     out: &mut W,
 ) -> Result<(), ReportFault>
-    ensures text { OnOk result ((text : List ℕ) × Appends (W.contents out.old) (W.contents out.new) text) }
+    ensures text { OnOk result ((h : List Stamped) × IsMerge (journals gathered.now) (reverse h) × (text : List ℕ) × IsChart h text × Appends (W.contents out.old) (W.contents out.new) text) }
     ensures fault { IfErr result IsOfPrint }
     ensures untouched { IfErr result (λ f. f ≢ File → out.new ≡ out.old) }
 {
