@@ -1,6 +1,6 @@
 -- Lists that are one longer.
 use Rattle.std.proofs.Common.{◌≡◌, ℕ, ◌+◌, ◌<◌, List, [], ◌∷◌, ◌++◌, map, length, take, get_or, Some, ap, sym, ◌∙◌, append_assoc, arith}
-use Rattle.std.specs.Prelude.{slice_get}
+use Rattle.std.specs.Prelude.{slice_get, max, codes}
 use Rattle.std.proofs.lemmas.List.{take_more, map-append}
 use Rattle.std.proofs.lemmas.List.Sums.{fold_more}
 use Rattle.std.proofs.lemmas.Option.{slice_get_within, get_or_from_slice_get}
@@ -8,9 +8,18 @@ use Rattle.pt_signal.specs.declared.pid.Pid.{Pid}
 use Rattle.pt_signal.specs.Process.{Sent}
 use Rattle.pt_events.specs.declared.event.Stamped.{Stamped}
 use Rattle.pt_events.specs.History.{Past}
+use Rattle.pt_events.specs.Text.{stamped_text}
+use Rattle.pt_chart.specs.Drawing.{label_beside, longest_beside, longest_line}
 use Rattle.pt_chart.specs.declared.layout.Column.{Column}
 use Rattle.pt_chart.specs.declared.layout.Sending.{Sending}
 use Rattle.pt_chart.specs.Chart.{everyone, joined, named, past_of, in_row}
+
+-- what one more gives stands behind
+pub one_more_given : {X Y : Type 0} (f : X → Y) (start before after : List Y) (xs : List X) (i : ℕ) (d : X) → i < length xs → before ≡ start ++ map f (take i xs) → after ≡ before ++ f (get_or xs i d) ∷ []
+    → after ≡ start ++ map f (take (i + 1) xs)
+one_more_given f start before after xs i d h b a =
+    a ∙ ap (λ z. z ++ f (get_or xs i d) ∷ []) b ∙ append_assoc start (map f (take i xs)) (f (get_or xs i d) ∷ [])
+    ∙ ap (λ z. start ++ z) (sym (ap (map f) (take_more xs i d h) ∙ map-append f (take i xs) (get_or xs i d ∷ [])))
 
 -- one more is paid
 pub paid : (row : ℕ) (start before after : List Sending) (owed : List Sent) (i : ℕ) (l : Sent) → before ≡ start ++ map (in_row row) (take i owed) → slice_get owed i ≡ Some l
@@ -24,6 +33,18 @@ paid row start before after owed i l b g a =
 
 pub everyone_more : (events : List Stamped) (i : ℕ) (d : Stamped) → i < length events → everyone (take (i + 1) events) ≡ joined (everyone (take i events)) (named (get_or events i d).event)
 everyone_more events i d h = fold_more (λ ps s. joined ps (named s.event)) [] events i d h
+
+-- the longest line, and the longest label, of one more event
+pub longest_line_more : (events : List Stamped) (i n : ℕ) (d : Stamped) → i < length events → n ≡ longest_line (take i events)
+    → max (length (stamped_text (get_or events i d))) n ≡ longest_line (take (i + 1) events)
+longest_line_more events i n d h is =
+    ap (max (length (stamped_text (get_or events i d)))) is ∙ sym (fold_more (λ (n : ℕ) (s : Stamped). max (length (stamped_text s)) n) 0 events i d h)
+
+pub longest_beside_more : (events : List Stamped) (i n : ℕ) (d : Stamped) → i < length events → n ≡ longest_beside (take i events)
+    → max (length (label_beside (get_or events i d).event)) n ≡ longest_beside (take (i + 1) events)
+longest_beside_more events i n d h is =
+    ap (max (length (label_beside (get_or events i d).event))) is
+    ∙ sym (fold_more (λ (n : ℕ) (s : Stamped). max (length (label_beside s.event)) n) (length (codes "other:4294967295")) events i d h)
 
 pub past_more : (events : List Stamped) (i : ℕ) (d : Stamped) → i < length events → past_of (take (i + 1) events) ≡ (get_or events i d).event ∷ past_of (take i events)
 past_more events i d h = fold_more (λ (past : Past) s. s.event ∷ past) [] events i d h

@@ -1,5 +1,6 @@
 -- A process is followed as the history says: its state, what it has sent, and its end.
-use Rattle.std.proofs.Common.{◌≡◌, ℕ, ◌+◌, ◌<◌, Bool, true, false, cond, ◌||◌, List, [], ◌∷◌, ◌++◌, map, length, take, get_or, Option, Some, None, refl, ap, sym, ◌∙◌, subst}
+use Rattle.std.proofs.Common.{◌≡◌, ℕ, ◌+◌, ◌<◌, ◌≤◌, Bool, true, false, cond, ◌||◌, List, [], ◌∷◌, ◌++◌, map, length, take, get_or, Option, Some, None, refl, ap, sym, ◌∙◌, subst, append_assoc}
+use Rattle.std.proofs.lemmas.List.{take_all}
 use Rattle.pt_signal.specs.declared.pid.Pid.{Pid}
 use Rattle.pt_signal.specs.declared.ids.LinkId.{LinkId}
 use Rattle.pt_signal.specs.declared.reason.Reason.{Reason}
@@ -138,21 +139,22 @@ ends_after p e (ended r s) row before = not_live p e row before true
 
 -- all of it ------------------------------------------------------------------------------------------------
 
--- what was followed of p is what the history says
-pub record Traces (past : Past) (p : Pid) (w : Followed) (letters : List Sending) (over : Option (ℕ × Reason)) : Type 0 where
+-- what was followed of p is what the history says; what it sends stands behind these letters
+pub record Traces (past : Past) (p : Pid) (w : Followed) (start letters : List Sending) (over : Option (ℕ × Reason)) : Type 0 where
   pub state : w ≡ followed p (life [] past p)
-  pub sent : letters ≡ sent_of past p
+  pub sent : letters ≡ start ++ sent_of past p
   pub end : over ≡ end_of past p
 
-pub trace_next : (past : Past) (p : Pid) (e : Event) (w w' : Followed) (sent sent' : List Sending) (end end' : Option (ℕ × Reason)) (row : ℕ)
-    → length past ≡ row → Traces past p w sent end → OpensAnew e (followed p (life [] past p)) → (OpensAnew e w → w' ≡ seen e w) → sent' ≡ sent ++ map (in_row row) (sends e w) → end' ≡ noted row (ends e w) end
-    → Traces (e ∷ past) p w' sent' end'
-trace_next past p e w w' sent sent' end end' row n t anew saw said finished = record {
+pub trace_next : (past : Past) (p : Pid) (e : Event) (w w' : Followed) (start sent sent' : List Sending) (end end' : Option (ℕ × Reason)) (row : ℕ)
+    → length past ≡ row → Traces past p w start sent end → OpensAnew e (followed p (life [] past p)) → (OpensAnew e w → w' ≡ seen e w) → sent' ≡ sent ++ map (in_row row) (sends e w) → end' ≡ noted row (ends e w) end
+    → Traces (e ∷ past) p w' start sent' end'
+trace_next past p e w w' start sent sent' end end' row n t anew saw said finished = record {
   state = saw (subst (OpensAnew e) (sym t.state) anew) ∙ ap (seen e) t.state ∙ sym (seen_after p e (life [] past p));
   sent =
       said ∙ ap (λ z. z ++ map (in_row row) (sends e w)) t.sent
-      ∙ ap (λ z. sent_of past p ++ map (in_row row) z) (ap (sends e) t.state ∙ sym (sends_own past p e))
-      ∙ ap (λ k. sent_of past p ++ map (in_row k) (cond (touches p e) (sent_by [] past e) [])) (sym n);
+      ∙ append_assoc start (sent_of past p) (map (in_row row) (sends e w))
+      ∙ ap (λ z. start ++ (sent_of past p ++ map (in_row row) z)) (ap (sends e) t.state ∙ sym (sends_own past p e))
+      ∙ ap (λ k. start ++ (sent_of past p ++ map (in_row k) (cond (touches p e) (sent_by [] past e) []))) (sym n);
   end =
       finished ∙ ap (λ z. noted row (ends e z) end) t.state ∙ ap (noted row (ends e (followed p (life [] past p)))) t.end
       ∙ sym (ends_after p e (life [] past p) row (end_of past p))
@@ -160,13 +162,21 @@ trace_next past p e w w' sent sent' end end' row n t anew saw said finished = re
 }
 
 -- the same from the events before a row to those before the next one
-pub trace_row : (events : List Stamped) (i : ℕ) (d : Stamped) (p : Pid) (w w' : Followed) (letters letters' : List Sending) (over over' : Option (ℕ × Reason)) (reason : Option Reason)
-    → i < length events → length (past_of (take i events)) ≡ i → (MonitorsAnew (past_of (take i events)) p → Traces (past_of (take i events)) p w letters over)
+pub trace_row : (events : List Stamped) (i : ℕ) (d : Stamped) (p : Pid) (w w' : Followed) (start letters letters' : List Sending) (over over' : Option (ℕ × Reason)) (reason : Option Reason)
+    → i < length events → length (past_of (take i events)) ≡ i → (MonitorsAnew (past_of (take i events)) p → Traces (past_of (take i events)) p w start letters over)
     → (OpensAnew (get_or events i d).event w → w' ≡ seen (get_or events i d).event w) → letters' ≡ letters ++ map (in_row i) (sends (get_or events i d).event w)
     → over' ≡ noted i reason over → reason ≡ ends (get_or events i d).event w
-    → MonitorsAnew (past_of (take (i + 1) events)) p → Traces (past_of (take (i + 1) events)) p w' letters' over'
-trace_row events i d p w w' letters letters' over over' reason h rows before saw said finished why anew =
+    → MonitorsAnew (past_of (take (i + 1) events)) p → Traces (past_of (take (i + 1) events)) p w' start letters' over'
+trace_row events i d p w w' start letters letters' over over' reason h rows before saw said finished why anew =
     let more = past_more events i d h in
     let both : OpensAnew (get_or events i d).event (followed p (life [] (past_of (take i events)) p)) × MonitorsAnew (past_of (take i events)) p = subst (λ (past : Past). MonitorsAnew past p) more anew in
-    subst (λ (past : Past). Traces past p w' letters' over') (sym more)
-    (trace_next (past_of (take i events)) p (get_or events i d).event w w' letters letters' over over' i rows (before both.1) both.0 saw said (finished ∙ ap (λ r. noted i r over) why))
+    subst (λ (past : Past). Traces past p w' start letters' over') (sym more)
+    (trace_next (past_of (take i events)) p (get_or events i d).event w w' start letters letters' over over' i rows (before both.1) both.0 saw said (finished ∙ ap (λ r. noted i r over) why))
+
+-- and behind the last row all of it
+pub traced : (events : List Stamped) (i : ℕ) (p : Pid) (w : Followed) (start letters : List Sending) (over : Option (ℕ × Reason))
+    → length events ≤ i → (MonitorsAnew (past_of (take i events)) p → Traces (past_of (take i events)) p w start letters over)
+    → MonitorsAnew (past_of events) p → Traces (past_of events) p w start letters over
+traced events i p w start letters over h before anew =
+    let all : take i events ≡ events = take_all i events h in
+    subst (λ es. Traces (past_of es) p w start letters over) all (before (subst (λ es. MonitorsAnew (past_of es) p) (sym all) anew))

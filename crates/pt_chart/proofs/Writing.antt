@@ -1,12 +1,19 @@
--- What a text is after a write, and after several.
-use Rattle.std.proofs.Common.{◌≡◌, ℕ, List, [], ◌++◌, Result, Ok, Err, ap, ◌∙◌}
-use Rattle.std.specs.Prelude.{OnOk}
+-- What a text is after a write, and the chart that it is.
+use Rattle.std.proofs.Common.{◌≡◌, ℕ, List, ◌++◌, Result, Ok, Err, ap, ◌∙◌}
+use Rattle.std.specs.Prelude.{All, IfOk, OnOk}
+use Rattle.pt_events.specs.declared.event.Stamped.{Stamped}
+use Rattle.pt_chart.specs.declared.layout.Column.{Column}
+use Rattle.pt_chart.specs.declared.layout.Layout.{Layout}
+use Rattle.pt_chart.specs.Chart.{IsLayout, IsLegalHistory, ShowsLife}
+use Rattle.pt_chart.specs.Drawing.{IsChart, drawing_text, drawn, page_of}
 
 -- the same bytes, put together in another way
 pub reads_as : {T E : Type 0} (r : Result T E) (new old a b : List ℕ) → OnOk r (new ≡ old ++ a) → a ≡ b → OnOk r (new ≡ old ++ b)
 reads_as (Ok x) new old a b h e = h ∙ ap (λ z. old ++ z) e
 reads_as (Err x) new old a b h e = tt
 
--- three writes, one after the other, into an empty text
-pub in_turn : (start mid late end a b c : List ℕ) → start ≡ [] → mid ≡ start ++ a → late ≡ mid ++ b → end ≡ late ++ c → end ≡ a ++ b ++ c
-in_turn start mid late end a b c s m l e = e ∙ ap (λ z. z ++ c) (l ∙ ap (λ z. z ++ b) (m ∙ ap (λ z. z ++ a) s))
+-- a drawing of a layout of the history is a chart of it
+pub charted : {T E : Type 0} (bytes : T → List ℕ) (events : List Stamped) (l : Layout) (r : Result T E) → IsLayout events l → (IsLegalHistory events → All (λ (c : Column). ShowsLife events c) l.columns.items)
+    → IfOk r (λ text. bytes text ≡ drawing_text (page_of events l) (drawn events l)) → IfOk r (λ text. IsChart events (bytes text))
+charted bytes events l (Ok text) laid legal drawing = record { layout = l; laid_out = laid; legal = legal; is = drawing }
+charted bytes events l (Err e) laid legal drawing = tt

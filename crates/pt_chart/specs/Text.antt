@@ -1,5 +1,5 @@
 -- The text of each part of a drawing, as SVG. Numbers are pixels.
-use Rattle.std.specs.Prelude.{ℕ, ◌+◌, ◌==◌, nat_lt, if◌then◌else◌, Bool, true, false, cond, List, [], ◌∷◌, ◌++◌, codes, decimal, Option, Some, None}
+use Rattle.std.specs.Prelude.{ℕ, ◌+◌, ◌==◌, nat_lt, if◌then◌else◌, Bool, true, false, List, [], ◌∷◌, ◌++◌, codes, decimal, Option, Some, None}
 use Rattle.std.specs.List.{flat_map}
 use Rattle.pt_signal.specs.declared.pid.Pid.{Pid}
 use Rattle.pt_signal.specs.declared.reason.Reason.{Reason}
@@ -13,7 +13,9 @@ use Rattle.pt_chart.specs.declared.page.Page.{Page}
 use Rattle.pt_chart.specs.declared.part.Part.{Part}
 use Rattle.pt_chart.specs.declared.point.Point.{Point}
 use Rattle.pt_chart.specs.Points.{point_text, at_text, point, spot, bend}
-use Rattle.pt_chart.specs.declared.part.Part.TheVariants.{Line, Column, Life, Letter, Bearing, Birth, Saying, Taking, Trapping, Refusal, End}
+use Rattle.pt_chart.specs.declared.part.Part.TheVariants.{Line, Column, Life, Letter, Mark, End}
+use Rattle.pt_chart.specs.declared.part.Mark as mark
+use Rattle.pt_chart.specs.declared.part.Mark.TheVariants.{Bearing, Birth, Saying, Taking, Trapping, Refusal}
 use Rattle.pt_chart.specs.declared.strokes.Stroke.{Stroke}
 use Rattle.pt_chart.specs.declared.strokes.Stroke.TheVariants as stroke
 use Rattle.pt_chart.specs.declared.style.TheConstants.{STYLE}
@@ -90,13 +92,18 @@ abbrev pub head_text : Page → List ℕ
 head_text p = size_text (width_of p) (height_of p) ++ STYLE.now
 
 -- the line of an event, and a rule across the page
+abbrev pub said_line_text : Page → ℕ → List ℕ → List ℕ
+said_line_text p row said = rule_text (point (gutter_of p) (y_of row)) (width_of p) ++ said_text (point 12 (y_of row)) said
+
 abbrev pub line_text : Page → ℕ → Stamped → List ℕ
-line_text p row s = rule_text (point (gutter_of p) (y_of row)) (width_of p) ++ said_text (point 12 (y_of row)) (escape (stamped_text s))
+line_text p row s = said_line_text p row (escape (stamped_text s))
 
 -- the name of a process above and below its column
+abbrev pub named_column_text : Page → ℕ → List ℕ → List ℕ
+named_column_text p k name = before_text (x_of p k) (y_of p.rows) ++ name_text (point (x_of p k) 22) name ++ name_text (point (x_of p k) (capped (y_of p.rows + 48))) name
+
 abbrev pub column_text : Page → ℕ → Pid → List ℕ
-column_text p k pid =
-    before_text (x_of p k) (y_of p.rows) ++ name_text (point (x_of p k) 22) (escape (pid_text pid)) ++ name_text (point (x_of p k) (capped (y_of p.rows + 48))) (escape (pid_text pid))
+column_text p k pid = named_column_text p k (escape (pid_text pid))
 
 abbrev pub life_text : Page → ℕ → ℕ → Option ℕ → List ℕ
 life_text p k born ended = alive_text (spot p k born) (row_or_end p ended)
@@ -119,8 +126,11 @@ bearing_class false = codes "before"
 abbrev pub bearing_text : Page → ℕ → ℕ → ℕ → Bool → List ℕ
 bearing_text p row parent child linked = level_text (bearing_class linked) (spot p parent row) (x_of p child)
 
+abbrev pub named_birth_text : Point → List ℕ → List ℕ
+named_birth_text at name = shape_text (codes "birth") at ++ name_text (point at.x (capped (at.y + 4))) name
+
 abbrev pub birth_text : Page → ℕ → ℕ → Pid → List ℕ
-birth_text p row k pid = shape_text (codes "birth") (spot p k row) ++ name_text (point (x_of p k) (capped (y_of row + 4))) (escape (pid_text pid))
+birth_text p row k pid = named_birth_text (spot p k row) (escape (pid_text pid))
 
 -- beside the sender, towards the receiver
 abbrev pub side_text : Bool → List ℕ
@@ -143,18 +153,24 @@ trapping_text p row k on = shape_text (codes "trapping") (spot p k row) ++ label
 abbrev pub refusal_text : Page → ℕ → ℕ → Pid → List ℕ
 refusal_text p row k to = label_text stroke.Exit (spot p k row) (side_text false) (escape (codes "refused " ++ pid_text to))
 
+abbrev pub said_end_text : Point → List ℕ → List ℕ
+said_end_text at said = shape_text (codes "end") at ++ label_text stroke.Exit at (codes " dx=\"10\" dy=\"12\"") said
+
 abbrev pub end_text : Page → ℕ → ℕ → Reason → List ℕ
-end_text p row k r = shape_text (codes "end") (spot p k row) ++ label_text stroke.Exit (spot p k row) (codes " dx=\"10\" dy=\"12\"") (escape (reason_text r))
+end_text p row k r = said_end_text (spot p k row) (escape (reason_text r))
+
+abbrev pub mark_text : Page → ℕ → mark.Mark → List ℕ
+mark_text p row (Bearing parent child linked) = bearing_text p row parent child linked
+mark_text p row (Birth k pid) = birth_text p row k pid
+mark_text p row (Saying from to x) = saying_text p row from to x
+mark_text p row (Taking k) = taking_text p row k
+mark_text p row (Trapping k on) = trapping_text p row k on
+mark_text p row (Refusal k to) = refusal_text p row k to
 
 abbrev pub part_text : Page → Part → List ℕ
 part_text p (Line row s) = line_text p row s
 part_text p (Column k pid) = column_text p k pid
 part_text p (Life k born ended) = life_text p k born ended
 part_text p (Letter k a) = letter_text p k a
-part_text p (Bearing row parent child linked) = bearing_text p row parent child linked
-part_text p (Birth row k pid) = birth_text p row k pid
-part_text p (Saying row from to x) = saying_text p row from to x
-part_text p (Taking row k) = taking_text p row k
-part_text p (Trapping row k on) = trapping_text p row k on
-part_text p (Refusal row k to) = refusal_text p row k to
+part_text p (Mark row m) = mark_text p row m
 part_text p (End row k r) = end_text p row k r

@@ -1,13 +1,14 @@
 //! The chart, from its background to its foreground.
 
-ghost use Rattle.std.specs.Prelude.{◌≡◌, ◌≤◌, ◌++◌, All, IfOk, OnOk, length, position, string_bytes};
+ghost use Rattle.std.specs.Prelude.{◌≡◌, [], ◌∷◌, ◌++◌, IfOk, OnOk, length, position, string_bytes};
 ghost use Rattle.pt_signal.specs.Values.{same_pid};
 ghost use Rattle.pt_events.specs.Text.{stamped_text};
-ghost use Rattle.pt_chart.specs.Drawing.{IsChart, IsPageOf, birth_mark, column, drawn, end, event_mark, letters, line, mark, numbered, place_in};
+ghost use Rattle.pt_chart.specs.declared.part.Part.TheVariants.{Mark as MarkPart};
+ghost use Rattle.pt_chart.specs.Drawing.{IsChart, birth_mark, column, drawing_text, drawn, end, event_mark, label_beside, letters, line, longest_beside, longest_line, mark, numbered, page_of, place_in};
 
 use crate::layout::{Column, Layout, lay_out};
 use crate::page::Page;
-use crate::part::Part;
+use crate::part::{Mark, Part};
 use crate::text::{write_head, write_parts};
 use pt_events::{Event, Stamped};
 use pt_signal::Pid;
@@ -21,18 +22,37 @@ pub fn chart(alloc: Global, events: &[Stamped]) -> Result<String, AllocError>
     ensures { IfOk result (λ text. IsChart events.now (string_bytes text)) }
 {
     let layout = lay_out(alloc, events)?;
-    let page = page_of(alloc, events, &layout)?;
-    let parts = parts_of(alloc, events, &layout)?;
+    drawing_of(alloc, events, &layout)
+}
+
+/// The drawing of a layout of the history.
+fn drawing_of(alloc: Global, events: &[Stamped], layout: &Layout) -> Result<String, AllocError>
+    ensures { IfOk result (λ text. string_bytes text ≡ drawing_text (page_of events.now layout.now) (drawn events.now layout.now)) }
+{
+    let page = page_of(alloc, events, layout)?;
+    let parts = parts_of(alloc, events, layout)?;
     let mut text = String::new(alloc);
-    write_head(&page, &mut text)?;
-    write_parts(alloc, &page, parts.as_slice(), &mut text)?;
-    text.push_str("</svg>\n")?;
+    write_drawing(alloc, &page, parts.as_slice(), &mut text)?;
     Ok(text)
+}
+
+/// Writes the whole text of a drawing.
+fn write_drawing(
+    alloc: Global,
+    page: &Page,
+    parts: &[Part],
+    text: &mut String,
+) -> Result<(), AllocError>
+    ensures { OnOk result (string_bytes text.new ≡ string_bytes text.old ++ drawing_text page.now parts.now) }
+{
+    write_head(page, text)?;
+    write_parts(alloc, page, parts, text)?;
+    text.push_str("</svg>\n")
 }
 
 /// The page on which a layout of the history has room.
 fn page_of(alloc: Global, events: &[Stamped], layout: &Layout) -> Result<Page, AllocError>
-    ensures { IfOk result (λ page. IsPageOf events.now layout.now page) }
+    ensures { IfOk result (λ page. page ≡ page_of events.now layout.now) }
 {
     Ok(Page {
         longest: longest(alloc, events)?,
@@ -44,31 +64,43 @@ fn page_of(alloc: Global, events: &[Stamped], layout: &Layout) -> Result<Page, A
 
 /// How many characters the longest line of an event has.
 fn longest(alloc: Global, events: &[Stamped]) -> Result<usize, AllocError>
-    ensures { IfOk result (λ n. All (λ s. length (stamped_text s) ≤ n) events.now) }
+    ensures { IfOk result (λ n. n ≡ longest_line events.now) }
 {
     let mut longest = 0;
     for stamped in events {
-        longest = format!(in alloc; "{stamped}")?.len().max(longest);
+        longest = line_length(alloc, stamped)?.max(longest);
     }
     Ok(longest)
 }
 
+/// How many characters the line of an event has.
+fn line_length(alloc: Global, stamped: &Stamped) -> Result<usize, AllocError>
+    ensures { IfOk result (λ n. n ≡ length (stamped_text stamped.now)) }
+{
+    Ok(format!(in alloc; "{stamped}")?.len())
+}
+
 /// How many characters the longest label has that stands right of the last column: what a process sends to itself, a
 /// call that was refused, or why it ends.
-fn beside(alloc: Global, events: &[Stamped]) -> Result<usize, AllocError> {
+fn beside(alloc: Global, events: &[Stamped]) -> Result<usize, AllocError>
+    ensures { IfOk result (λ n. n ≡ longest_beside events.now) }
+{
     let mut longest = "other:4294967295".len();
     for stamped in events {
-        match stamped.event {
-            Event::Said(from, to, signal) if from == to => {
-                longest = format!(in alloc; "{signal}")?.len().max(longest);
-            }
-            Event::Refused(_, to) => {
-                longest = format!(in alloc; "refused {to}")?.len().max(longest);
-            }
-            _ => {}
-        }
+        longest = label_length(alloc, stamped.event)?.max(longest);
     }
     Ok(longest)
+}
+
+/// How many characters the label of an event has that stands right of its column.
+fn label_length(alloc: Global, event: Event) -> Result<usize, AllocError>
+    ensures { IfOk result (λ n. n ≡ length (label_beside event)) }
+{
+    match event {
+        Event::Said(from, to, signal) if from == to => Ok(format!(in alloc; "{signal}")?.len()),
+        Event::Refused(_, to) => Ok(format!(in alloc; "refused {to}")?.len()),
+        _ => Ok(0),
+    }
 }
 
 /// What the chart is drawn of.
@@ -174,36 +206,20 @@ fn list_mark(
             list_birth(row, pid, parent, link.is_some(), columns, parts)
         }
         Event::Said(from, to, signal) => {
-            parts.push(Part::Saying {
-                row,
-                from: column_of(columns, from),
-                to: column_of(columns, to),
-                signal,
-            })?;
-            Ok(())
+            let (from, to) = (column_of(columns, from), column_of(columns, to));
+            put(row, Mark::Saying { from, to, signal }, parts)
         }
         Event::Took(pid, _, _) => {
-            parts.push(Part::Taking {
-                row,
-                column: column_of(columns, pid),
-            })?;
-            Ok(())
+            let column = column_of(columns, pid);
+            put(row, Mark::Taking { column }, parts)
         }
         Event::Flag(pid, on) => {
-            parts.push(Part::Trapping {
-                row,
-                column: column_of(columns, pid),
-                on,
-            })?;
-            Ok(())
+            let column = column_of(columns, pid);
+            put(row, Mark::Trapping { column, on }, parts)
         }
         Event::Refused(from, to) => {
-            parts.push(Part::Refusal {
-                row,
-                column: column_of(columns, from),
-                to,
-            })?;
-            Ok(())
+            let column = column_of(columns, from);
+            put(row, Mark::Refusal { column, to }, parts)
         }
         Event::Came(_, _, _) | Event::Left(_, _) => Ok(()),
     }
@@ -221,18 +237,24 @@ fn list_birth(
 {
     let child = column_of(columns, pid);
     if let Some(parent) = parent {
-        parts.push(Part::Bearing {
+        let parent = column_of(columns, parent);
+        put(
             row,
-            parent: column_of(columns, parent),
-            child,
-            linked,
-        })?;
+            Mark::Bearing {
+                parent,
+                child,
+                linked,
+            },
+            parts,
+        )?;
     }
-    parts.push(Part::Birth {
-        row,
-        column: child,
-        pid,
-    })?;
+    put(row, Mark::Birth { column: child, pid }, parts)
+}
+
+fn put(row: usize, mark: Mark, parts: &mut Vec<Part>) -> Result<(), AllocError>
+    ensures { OnOk result (parts.new.items ≡ parts.old.items ++ MarkPart row mark ∷ []) }
+{
+    parts.push(Part::Mark { row, mark })?;
     Ok(())
 }
 

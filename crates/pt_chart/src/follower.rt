@@ -2,7 +2,7 @@
 
 ghost use Rattle.std.specs.Prelude.{◌≡◌, ◌++◌, cond, map, Some, None, IfOk, OnOk};
 ghost use Rattle.pt_signal.specs.Values.{same_pid, fits, without_first};
-ghost use Rattle.pt_signal.specs.Process.{say, handle};
+ghost use Rattle.pt_signal.specs.Process.{fresh, handle, say};
 ghost use Rattle.pt_events.specs.declared.event.Event.TheVariants.{Born, Said, Came, Flag, Left};
 ghost use Rattle.pt_events.specs.History.{unborn, linked};
 ghost use Rattle.pt_chart.specs.Chart.{in_row};
@@ -184,10 +184,7 @@ impl Follower {
         if self.born {
             return Ok(());
         }
-        let mut process = Process::new(alloc, self.me);
-        if let (Some(parent), Some(link)) = (parent, link) {
-            process.add_link(parent, link)?;
-        }
+        let process = newborn(alloc, self.me, parent, link)?;
         self.born = true;
         self.process = Some(process);
         Ok(())
@@ -294,6 +291,23 @@ impl Follower {
         pay(row, &process.estate(reason), sent)?;
         Ok(Some(reason))
     }
+}
+
+/// A process that is born, with the link to its parent, if there is one.
+fn newborn(
+    alloc: Global,
+    me: Pid,
+    parent: Option<Pid>,
+    link: Option<LinkId>,
+) -> Result<Process, AllocError>
+    ensures me { IfOk result (λ p. p.me ≡ me) }
+    ensures state { IfOk result (λ p. p.state ≡ linked parent link fresh) }
+{
+    let mut process = Process::new(alloc, me);
+    if let (Some(parent), Some(link)) = (parent, link) {
+        process.add_link(parent, link)?;
+    }
+    Ok(process)
 }
 
 /// What a signal that comes makes a live process do.

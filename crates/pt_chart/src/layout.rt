@@ -1,10 +1,10 @@
 //! Where the parts of a chart stand: its columns, its rows and the arrows between them, as numbers.
 
-ghost use Rattle.std.specs.Prelude.{◌≡◌, [], All, IfOk, OnOk, position, slice_get};
+ghost use Rattle.std.specs.Prelude.{◌≡◌, ◌++◌, [], All, IfOk, OnOk, position, slice_get};
 ghost use Rattle.std.specs.List.{list_any};
 ghost use Rattle.pt_signal.specs.Values.{same_pid};
 ghost use Rattle.pt_events.specs.History.{is_birth};
-ghost use Rattle.pt_chart.specs.Chart.{IsLayout, IsColumn, IsLegalHistory, ShowsLife, everyone, join, joined, named, place, receipts, is_receipt, arrow, arrows};
+ghost use Rattle.pt_chart.specs.Chart.{IsLayout, IsColumn, IsLegalHistory, ShowsLife, MonitorsAnew, arrow, arrows, end_of, everyone, is_receipt, join, joined, named, past_of, place, receipts, sent_of};
 ghost use Rattle.pt_chart.specs.Following.{noted};
 
 use crate::follower::Follower;
@@ -125,7 +125,7 @@ fn is_among(pids: &[Pid], pid: Pid) -> bool
     pids.iter().any(|other| pid == *other)
 }
 
-/// Follows one process through the history.
+/// The column of one process, as it is followed through the history.
 fn column_of(
     alloc: Global,
     events: &[Stamped],
@@ -135,13 +135,8 @@ fn column_of(
     ensures pid { IfOk result (λ c. c.pid ≡ pid) }
     ensures column { pids.now ≡ everyone events.now → IfOk result (λ c. IsColumn events.now c) }
 {
-    let mut follower = Follower::new(pid);
     let mut sent = Vec::new(alloc);
-    let mut ended = None;
-    for row in 0..events.len() {
-        let reason = follower.see(alloc, row, events[row].event, &mut sent)?;
-        ended = noted(row, reason, ended);
-    }
+    let ended = follow(alloc, events, pid, &mut sent)?;
     let arrows = arrows_of(alloc, events, pids, pid, sent.as_slice())?;
     let born = birth_row(events, pid);
     Ok(Column {
@@ -150,6 +145,25 @@ fn column_of(
         ended,
         arrows,
     })
+}
+
+/// What a process sends in the history joins, and the answer is its end, if it has one.
+fn follow(
+    alloc: Global,
+    events: &[Stamped],
+    pid: Pid,
+    sent: &mut Vec<Sending>,
+) -> Result<Option<(usize, Reason)>, AllocError>
+    ensures sent { MonitorsAnew (past_of events.now) pid → OnOk result (sent.new.items ≡ sent.old.items ++ sent_of (past_of events.now) pid) }
+    ensures ending { MonitorsAnew (past_of events.now) pid → IfOk result (λ ended. ended ≡ end_of (past_of events.now) pid) }
+{
+    let mut follower = Follower::new(pid);
+    let mut ended = None;
+    for row in 0..events.len() {
+        let reason = follower.see(alloc, row, events[row].event, sent)?;
+        ended = noted(row, reason, ended);
+    }
+    Ok(ended)
 }
 
 fn birth_row(events: &[Stamped], pid: Pid) -> Option<usize>

@@ -5,7 +5,7 @@ use pt_events::Stamped;
 use pt_signal::{Pid, Reason, Signal};
 
 /// One thing that is drawn.
-#[derive(Clone, Copy, Debug, PartialEq, Eq)]
+#[derive(Clone, Copy)]
 pub(crate) enum Part {
     /// The line of an event, at the left of its row.
     Line {
@@ -28,47 +28,51 @@ pub(crate) enum Part {
         column: usize,
         arrow: Arrow,
     },
-    /// The stroke from a process to the child that it bears.
-    Bearing {
+    /// The mark of an event, in its row.
+    Mark {
         row: usize,
-        parent: usize,
-        child: usize,
-        linked: bool,
-    },
-    /// The box of a birth.
-    Birth {
-        row: usize,
-        column: usize,
-        pid: Pid,
-    },
-    /// What a process says, beside it and towards the receiver.
-    Saying {
-        row: usize,
-        from: usize,
-        to: usize,
-        signal: Signal,
-    },
-    /// The dot of an item that is taken.
-    Taking {
-        row: usize,
-        column: usize,
-    },
-    /// The square of a change of `trap_exit`.
-    Trapping {
-        row: usize,
-        column: usize,
-        on: bool,
-    },
-    /// A refused call, at its sayer: the process that had ended.
-    Refusal {
-        row: usize,
-        column: usize,
-        to: Pid,
+        mark: Mark,
     },
     /// The cross of an end, with the reason.
     End {
         row: usize,
         column: usize,
         reason: Reason,
+    },
+}
+
+/// What marks an event.
+#[derive(Clone, Copy)]
+pub(crate) enum Mark {
+    /// The stroke from a process to the child that it bears.
+    Bearing {
+        parent: usize,
+        child: usize,
+        linked: bool,
+    },
+    /// The box of a birth.
+    Birth {
+        column: usize,
+        pid: Pid,
+    },
+    /// What a process says, beside it and towards the receiver.
+    Saying {
+        from: usize,
+        to: usize,
+        signal: Signal,
+    },
+    /// The dot of an item that is taken.
+    Taking {
+        column: usize,
+    },
+    /// The square of a change of `trap_exit`.
+    Trapping {
+        column: usize,
+        on: bool,
+    },
+    /// A refused call, at its sayer: the process that had ended.
+    Refusal {
+        column: usize,
+        to: Pid,
     },
 }

@@ -3,7 +3,7 @@
 use std::fmt;
 
 /// A point of the page, in pixels, as a path names it.
-#[derive(Clone, Copy, Debug, PartialEq, Eq)]
+#[derive(Clone, Copy)]
 pub(crate) struct Point {
     pub x: u64,
     pub y: u64,

@@ -7,7 +7,7 @@ use pt_signal::Signal;
 use std::fmt;
 
 /// The strokes by which the letters of a chart are told apart.
-#[derive(Clone, Copy, Debug, PartialEq, Eq)]
+#[derive(Clone, Copy)]
 pub(crate) enum Stroke {
     Message,
     Exit,

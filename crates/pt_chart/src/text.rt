@@ -3,7 +3,7 @@
 ghost use Rattle.std.specs.Prelude.{◌≡◌, ◌++◌, IfOk, OnOk, string_bytes};
 ghost use Rattle.std.specs.List.{flat_map};
 ghost use Rattle.pt_chart.specs.Points.{bend, spot};
-ghost use Rattle.pt_chart.specs.Text.{arrow_text, bearing_text, birth_text, column_text, end_text, escape, escape_one, head_text, letter_text, life_text, line_text, part_text, refusal_text, saying_text, side_text, trapping_text};
+ghost use Rattle.pt_chart.specs.Text.{arrow_text, bearing_text, birth_text, column_text, end_text, escape, escape_one, head_text, letter_text, life_text, line_text, mark_text, named_birth_text, named_column_text, part_text, refusal_text, said_end_text, said_line_text, saying_text, side_text, trapping_text};
 
 use crate::elements::{
     write_alive, write_before, write_curve, write_label, write_level, write_marker, write_name,
@@ -11,7 +11,7 @@ use crate::elements::{
 };
 use crate::layout::Arrow;
 use crate::page::Page;
-use crate::part::Part;
+use crate::part::{Mark, Part};
 use crate::point::Point;
 use crate::strokes::Stroke;
 use crate::style::STYLE;
@@ -54,27 +54,38 @@ fn write_part(alloc: Global, page: &Page, part: Part, text: &mut String) -> Resu
             ended,
         } => write_life(page, column, born, ended, text),
         Part::Letter { column, arrow } => write_letter(page, column, arrow, text),
-        Part::Bearing {
-            row,
-            parent,
-            child,
-            linked,
-        } => write_bearing(page, row, parent, child, linked, text),
-        Part::Birth { row, column, pid } => write_birth(alloc, page, row, column, pid, text),
-        Part::Saying {
-            row,
-            from,
-            to,
-            signal,
-        } => write_saying(alloc, page, row, from, to, signal, text),
-        Part::Taking { row, column } => write_shape("taking", spot(page, column, row), text),
-        Part::Trapping { row, column, on } => write_trapping(page, row, column, on, text),
-        Part::Refusal { row, column, to } => write_refusal(alloc, page, row, column, to, text),
+        Part::Mark { row, mark } => write_mark(alloc, page, row, mark, text),
         Part::End {
             row,
             column,
             reason,
         } => write_end(alloc, page, row, column, reason, text),
+    }
+}
+
+/// The mark of an event, in its row.
+fn write_mark(
+    alloc: Global,
+    page: &Page,
+    row: usize,
+    mark: Mark,
+    text: &mut String,
+) -> Result<(), AllocError>
+    ensures { OnOk result (string_bytes text.new ≡ string_bytes text.old ++ mark_text page.now row mark) }
+{
+    match mark {
+        Mark::Bearing {
+            parent,
+            child,
+            linked,
+        } => write_bearing(page, row, parent, child, linked, text),
+        Mark::Birth { column, pid } => write_birth(alloc, page, row, column, pid, text),
+        Mark::Saying { from, to, signal } => {
+            write_saying(alloc, page, row, from, to, signal, text)
+        }
+        Mark::Taking { column } => write_shape("taking", spot(page, column, row), text),
+        Mark::Trapping { column, on } => write_trapping(page, row, column, on, text),
+        Mark::Refusal { column, to } => write_refusal(alloc, page, row, column, to, text),
     }
 }
 
@@ -89,13 +100,19 @@ fn write_line(
     ensures { OnOk result (string_bytes text.new ≡ string_bytes text.old ++ line_text page.now row event) }
 {
     let said = escaped(alloc, format!(in alloc; "{event}")?.as_str())?;
+    write_said_line(page, row, said.as_str(), text)
+}
+
+fn write_said_line(page: &Page, row: usize, said: &str, text: &mut String) -> Result<(), AllocError>
+    ensures { OnOk result (string_bytes text.new ≡ string_bytes text.old ++ said_line_text page.now row said.now) }
+{
     let y = page.y(row);
     let from = Point {
         x: page.gutter(),
         y,
     };
     write_rule(from, page.width(), text)?;
-    write_said(Point { x: 12, y }, said.as_str(), text)
+    write_said(Point { x: 12, y }, said, text)
 }
 
 /// The name of a process, above and below its column.
@@ -109,11 +126,22 @@ fn write_column(
     ensures { OnOk result (string_bytes text.new ≡ string_bytes text.old ++ column_text page.now column pid) }
 {
     let name = escaped(alloc, format!(in alloc; "{pid}")?.as_str())?;
+    write_named_column(page, column, name.as_str(), text)
+}
+
+fn write_named_column(
+    page: &Page,
+    column: usize,
+    name: &str,
+    text: &mut String,
+) -> Result<(), AllocError>
+    ensures { OnOk result (string_bytes text.new ≡ string_bytes text.old ++ named_column_text page.now column name.now) }
+{
     let (x, end) = (page.x(column), page.end());
     write_before(x, end, text)?;
-    write_name(Point { x, y: 22 }, name.as_str(), text)?;
+    write_name(Point { x, y: 22 }, name, text)?;
     let y = end.saturating_add(48);
-    write_name(Point { x, y }, name.as_str(), text)
+    write_name(Point { x, y }, name, text)
 }
 
 fn write_life(
@@ -213,10 +241,15 @@ fn write_birth(
     ensures { OnOk result (string_bytes text.new ≡ string_bytes text.old ++ birth_text page.now row column pid) }
 {
     let name = escaped(alloc, format!(in alloc; "{pid}")?.as_str())?;
-    let at = spot(page, column, row);
+    write_named_birth(spot(page, column, row), name.as_str(), text)
+}
+
+fn write_named_birth(at: Point, name: &str, text: &mut String) -> Result<(), AllocError>
+    ensures { OnOk result (string_bytes text.new ≡ string_bytes text.old ++ named_birth_text at name.now) }
+{
     write_shape("birth", at, text)?;
     let y = at.y.saturating_add(4);
-    write_name(Point { x: at.x, y }, name.as_str(), text)
+    write_name(Point { x: at.x, y }, name, text)
 }
 
 fn write_saying(
@@ -301,15 +334,14 @@ fn write_end(
     ensures { OnOk result (string_bytes text.new ≡ string_bytes text.old ++ end_text page.now row column reason) }
 {
     let said = escaped(alloc, format!(in alloc; "{reason}")?.as_str())?;
-    let at = spot(page, column, row);
+    write_said_end(spot(page, column, row), said.as_str(), text)
+}
+
+fn write_said_end(at: Point, said: &str, text: &mut String) -> Result<(), AllocError>
+    ensures { OnOk result (string_bytes text.new ≡ string_bytes text.old ++ said_end_text at said.now) }
+{
     write_shape("end", at, text)?;
-    write_label(
-        Stroke::Exit,
-        at,
-        " dx=\"10\" dy=\"12\"",
-        said.as_str(),
-        text,
-    )
+    write_label(Stroke::Exit, at, " dx=\"10\" dy=\"12\"", said, text)
 }
 
 /// The text with XML's own characters escaped. What is not ASCII, which no text of a history has, is a question mark.

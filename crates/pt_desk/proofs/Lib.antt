@@ -4,3 +4,9 @@ pub mod Posted
 pub mod Turning
 pub mod Calling
 pub mod Fresh
+pub mod Ending
+pub mod Deaths
+pub mod Seating
+mod Looking
+mod Telling
+pub mod Reached

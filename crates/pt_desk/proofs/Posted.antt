@@ -6,18 +6,19 @@ use Rattle.pt_carrier.specs.Ends.{OutEnds, InEnds, one_more, LooksAt}
 use Rattle.pt_shard.specs.ShardState.{ShardState}
 use Rattle.pt_shard.specs.Outbox.{sent_on}
 use Rattle.pt_shard.specs.Fit.{IsFit}
+use Rattle.pt_desk.specs.Sight.{Sight}
 use Rattle.pt_desk.specs.DeskState.{DeskState, IsAccounted, posted_to, waits_for}
 use Rattle.pt_desk.specs.Posting.{total, PostsTo, OnlyPosts, SameLane, PostsSome, PostsOne}
 use Rattle.pt_desk.proofs.Letters.{total_more}
 
 -- the desk of these parts
-abbrev pub of_parts : ShardState → OutEnds → InEnds → DeskState
-of_parts s o i = record { shard = s; outs = o; ins = i }
+abbrev pub of_parts : ShardState → OutEnds → InEnds → Sight → DeskState
+of_parts s o i v = record { shard = s; outs = o; ins = i; sight = v }
 
-pub posts_one : (s s' : ShardState) (o o' : OutEnds) (i : InEnds) (e : ℕ) (l : Letter) → e < s.config.desks → IsFit s → IsAccounted s o i
+pub posts_one : (s s' : ShardState) (o o' : OutEnds) (i : InEnds) (v : Sight) (e : ℕ) (l : Letter) → e < s.config.desks → IsFit s → IsAccounted s o i
     → get_or s.outbox e [] ≡ l ∷ drop 1 (get_or s.outbox e []) → s' ≡ sent_on e s
-    → o'.posted ≡ one_more o.posted e l → o'.place ≡ o.place → o'.capacity ≡ o.capacity → LooksAt o o' e → PostsOne e (of_parts s o i) true (of_parts s' o' i)
-posts_one s s' o o' i e l e_in fit acc first after more place capacity looks = (
+    → o'.posted ≡ one_more o.posted e l → o'.place ≡ o.place → o'.capacity ≡ o.capacity → LooksAt o o' e → PostsOne e (of_parts s o i v) true (of_parts s' o' i v)
+posts_one s s' o o' i v e l e_in fit acc first after more place capacity looks = (
   l,
   first,
   ap (λ z. get_or z e []) more ∙ get_or-set_same o.posted e (get_or o.posted e [] ++ l ∷ []) [] (omega (arith, e_in, acc.posted_desks)),
@@ -33,6 +34,7 @@ posts_one s s' o o' i e l e_in fit acc first after more place capacity looks = (
       place = place;
       capacity = capacity;
       ins = refl;
+      sight = refl;
     };
     counted = ap total more ∙ total_more o.posted e l (omega (arith, e_in, acc.posted_desks));
   },
@@ -41,7 +43,7 @@ posts_one s s' o o' i e l e_in fit acc first after more place capacity looks = (
 pub same_lanes : (d : DeskState) (e : ℕ) → PostsSome e 0 d d
 same_lanes d e = record {
   others = λ k n. record { posted = refl; waits = refl; seen = refl };
-  only = record { shard = refl; place = refl; capacity = refl; ins = refl };
+  only = record { shard = refl; place = refl; capacity = refl; ins = refl; sight = refl };
   counted = omega arith;
 }
 
@@ -51,6 +53,7 @@ only_then old mid new a b = record {
   place = b.place ∙ a.place;
   capacity = b.capacity ∙ a.capacity;
   ins = b.ins ∙ a.ins;
+  sight = b.sight ∙ a.sight;
 }
 
 pub some_then : (old mid new : DeskState) (e m n : ℕ) → PostsSome e m old mid → PostsSome e n mid new → PostsSome e (m + n) old new
@@ -136,7 +139,7 @@ pub below_none : (d : DeskState) → PostsBelow 0 d d
 below_none d = record {
   each = λ e h. absurd (omega arith);
   rest = λ e h. record { posted = refl; waits = refl; seen = refl };
-  only = record { shard = refl; place = refl; capacity = refl; ins = refl };
+  only = record { shard = refl; place = refl; capacity = refl; ins = refl; sight = refl };
   grows = omega arith;
 }
 

@@ -10,6 +10,7 @@ use Rattle.pt_shard.specs.declared.stop.Stop.TheVariants.{Memory, Worn}
 use Rattle.pt_shard.specs.ShardState.{ShardState, handled, Handles}
 use Rattle.pt_shard.specs.Outbox.{holding}
 use Rattle.pt_shard.specs.Extends.{Extends}
+use Rattle.pt_desk.specs.Sight.{Sight, SeesOn}
 use Rattle.pt_desk.specs.DeskState.{DeskState, GoesOn, IsAccounted, place}
 use Rattle.pt_desk.specs.Posting.{Posts}
 use Rattle.pt_desk.specs.Turns.{TakesFromLane, Fetches, FindsNone, HandlesNext, HandlesAll, Stays, EndsWith, handled_held}
@@ -19,13 +20,13 @@ use Rattle.pt_desk.proofs.Accounts.{accounted_handled, accounted_taken}
 use Rattle.pt_desk.proofs.Posted.{of_parts}
 
 -- the letter in the hold is handled
-pub next_held : (s s1 s2 : ShardState) (o : OutEnds) (i : InEnds) (l : Letter) → s.hold ≡ Some l → max s.clock l.stamp < 2 ^ 62 → s1 ≡ handled l s → s2 ≡ holding None s1
-    → HandlesNext l (of_parts s o i) (of_parts s2 o i)
-next_held s s1 s2 o i l holds within handles frees = record {
-  fetched = of_parts s o i;
+pub next_held : (s s1 s2 : ShardState) (o : OutEnds) (i : InEnds) (v : Sight) (l : Letter) → s.hold ≡ Some l → max s.clock l.stamp < 2 ^ 62 → s1 ≡ handled l s → s2 ≡ holding None s1
+    → HandlesNext l (of_parts s o i v) (of_parts s2 o i v)
+next_held s s1 s2 o i v l holds within handles frees = record {
+  fetched = of_parts s o i v;
   fetches = inl (holds, refl);
   within = within;
-  after = ap (λ (z : ShardState). of_parts z o i) (frees ∙ ap (λ (z : ShardState). holding None z) handles);
+  after = ap (λ (z : ShardState). of_parts z o i v) (frees ∙ ap (λ (z : ShardState). holding None z) handles);
 }
 
 pub held_accounted : (s s1 s2 : ShardState) (o : OutEnds) (i : InEnds) (l : Letter) → length s.outbox ≡ s.config.desks → IsAccounted s o i → s.hold ≡ Some l → s1 ≡ handled l s → s2 ≡ holding None s1 → IsAccounted s2 o i
@@ -48,7 +49,7 @@ pub front_refused : (k : ℕ) (i : InEnds) (s s' : ShardState) (stop : Stop) →
 front_refused k i s s' stop h = refused h.0 s s' stop h.2
 
 -- a letter is collected while the hold is free
-module _ (s : ShardState) (o : OutEnds) (i i' : InEnds) (k : ℕ) (l : Letter) (free : s.hold ≡ None) (takes : Collects i i' k l) (place_is : i'.place ≡ i.place) where
+module _ (s : ShardState) (o : OutEnds) (i i' : InEnds) (v : Sight) (k : ℕ) (l : Letter) (free : s.hold ≡ None) (takes : Collects i i' k l) (place_is : i'.place ≡ i.place) where
   from_is : k ≡ l.from.shard
   from_is = sym takes.from_there
 
@@ -56,29 +57,30 @@ module _ (s : ShardState) (o : OutEnds) (i i' : InEnds) (k : ℕ) (l : Letter) (
   unheld = ap (λ h. holding h s) free
 
   module _ (first : IsFirstFromCursor i i' k) where
-    pub taken_in : TakesFromLane l (of_parts s o i) (of_parts (holding (Some l) s) o i')
+    pub taken_in : TakesFromLane l (of_parts s o i v) (of_parts (holding (Some l) s) o i' v)
     taken_in = record {
       free = free;
       shard = refl;
       outs = refl;
+      sight = refl;
       place = place_is;
       collects = subst (λ k. Collects i i' k l) from_is takes;
       first = subst (IsFirstFromCursor i i') from_is first;
     }
 
-    pub next_collected : (s1 : ShardState) → max s.clock l.stamp < 2 ^ 62 → s1 ≡ handled l s → HandlesNext l (of_parts s o i) (of_parts s1 o i')
+    pub next_collected : (s1 : ShardState) → max s.clock l.stamp < 2 ^ 62 → s1 ≡ handled l s → HandlesNext l (of_parts s o i v) (of_parts s1 o i' v)
     next_collected s1 within handles = record {
-      fetched = of_parts (holding (Some l) s) o i';
+      fetched = of_parts (holding (Some l) s) o i' v;
       fetches = inr taken_in;
       within = within;
-      after = ap (λ (z : ShardState). of_parts z o i') (handles ∙ ap (handled l) unheld);
+      after = ap (λ (z : ShardState). of_parts z o i' v) (handles ∙ ap (handled l) unheld);
     }
 
-    pub stays_collected : (s1 s2 : ShardState) (stop : Stop) → Handles l s (Err stop) s1 → s2 ≡ holding (Some l) s1 → Stays stop (of_parts s o i) (of_parts s2 o i')
+    pub stays_collected : (s1 s2 : ShardState) (stop : Stop) → Handles l s (Err stop) s1 → s2 ≡ holding (Some l) s1 → Stays stop (of_parts s o i v) (of_parts s2 o i' v)
     stays_collected s1 s2 Worn refuses keeps =
-        subst (λ z. Stays Worn (of_parts s o i) (of_parts z o i')) (sym (keeps ∙ ap (holding (Some l)) (refused l s s1 Worn refuses))) (l, inr taken_in, refuses.0)
+        subst (λ z. Stays Worn (of_parts s o i v) (of_parts z o i' v)) (sym (keeps ∙ ap (holding (Some l)) (refused l s s1 Worn refuses))) (l, inr taken_in, refuses.0)
     stays_collected s1 s2 Memory refuses keeps =
-        subst (λ z. Stays Memory (of_parts s o i) (of_parts z o i')) (sym (keeps ∙ ap (holding (Some l)) (refused l s s1 Memory refuses))) (l, inr taken_in, refuses.0)
+        subst (λ z. Stays Memory (of_parts s o i v) (of_parts z o i' v)) (sym (keeps ∙ ap (holding (Some l)) (refused l s s1 Memory refuses))) (l, inr taken_in, refuses.0)
 
   taken_accounted : IsAccounted s o i → IsAccounted (holding (Some l) s) o i'
   taken_accounted acc = accounted_taken s o i acc i' l free (subst (λ k. Collects i i' k l) from_is takes) place_is
@@ -106,16 +108,27 @@ extends_then old mid new a b = record {
   known = λ p h. b.known p (a.known p h);
 }
 
-pub goes_on_then : (old mid new : DeskState) → GoesOn old mid → GoesOn mid new → GoesOn old new
-goes_on_then old mid new a b = record { shard = extends_then old.shard mid.shard new.shard a.shard b.shard; place = b.place ∙ a.place }
+sees_same : (v : Sight) → SeesOn v v
+sees_same v = record { directory = refl; reads = λ k r h. h }
 
-same_goes_on : (old new : DeskState) → new ≡ old → GoesOn old new
-same_goes_on old new h = record { shard = subst (λ (d : DeskState). Extends old.shard d.shard) (sym h) (extends old.shard); place = ap place h }
+sees_then : (old mid new : Sight) → SeesOn old mid → SeesOn mid new → SeesOn old new
+sees_then old mid new a b = record { directory = b.directory ∙ a.directory; reads = λ k r h. b.reads k r (a.reads k r h) }
+
+-- a call of the shard leaves the ends and the sight
+pub shard_goes_on : (s s' : ShardState) (o : OutEnds) (i : InEnds) (v : Sight) → Extends s s' → GoesOn (of_parts s o i v) (of_parts s' o i v)
+shard_goes_on s s' o i v e = record { shard = e; place = refl; sight = sees_same v }
+
+pub goes_on_then : (old mid new : DeskState) → GoesOn old mid → GoesOn mid new → GoesOn old new
+goes_on_then old mid new a b = record { shard = extends_then old.shard mid.shard new.shard a.shard b.shard; place = b.place ∙ a.place; sight = sees_then old.sight mid.sight new.sight a.sight b.sight }
+
+pub same_goes_on : (old new : DeskState) → new ≡ old → GoesOn old new
+same_goes_on old new h = record { shard = subst (λ (d : DeskState). Extends old.shard d.shard) (sym h) (extends old.shard); place = ap place h; sight = subst (λ (d : DeskState). SeesOn old.sight d.sight) (sym h) (sees_same old.sight) }
 
 posts_go_on : (old new : DeskState) → Posts old new → GoesOn old new
 posts_go_on old new p = record {
   shard = subst (Extends old.shard) (sym p.only.shard) (record { start = refl; number = refl; config = refl; more = []; journal = refl; known = λ q h. h });
   place = λ j. (p.only.place j, ap (λ (i : InEnds). i.place) p.only.ins j);
+  sight = subst (SeesOn old.sight) (sym p.only.sight) (sees_same old.sight);
 }
 
 fetches_go_on : (l : Letter) (old new : DeskState) → Fetches l old new → GoesOn old new
@@ -125,6 +138,7 @@ fetches_go_on l old new f =
       | inr takes ↦ record {
         shard = subst (Extends old.shard) (sym takes.shard) (record { start = refl; number = refl; config = refl; more = []; journal = refl; known = λ q h. h });
         place = λ j. (ap (λ (o : OutEnds). o.place) takes.outs j, takes.place j);
+        sight = subst (SeesOn old.sight) (sym takes.sight) (sees_same old.sight);
       }
     ]
 
@@ -132,12 +146,14 @@ none_goes_on : (old new : DeskState) → FindsNone old new → GoesOn old new
 none_goes_on old new f = record {
   shard = subst (Extends old.shard) (sym f.shard) (extends old.shard);
   place = λ j. (ap (λ (o : OutEnds). o.place) f.outs j, f.place j);
+  sight = subst (SeesOn old.sight) (sym f.sight) (sees_same old.sight);
 }
 
 held_goes_on : (l : Letter) (d : DeskState) → GoesOn d (handled_held l d)
 held_goes_on l d = record {
   shard = record { start = refl; number = refl; config = refl; more = _ ∷ []; journal = refl; known = λ q h. h };
   place = refl;
+  sight = sees_same d.sight;
 }
 
 next_goes_on : (l : Letter) (old new : DeskState) → HandlesNext l old new → GoesOn old new

@@ -1,4 +1,4 @@
--- A desk of a node: what it is without its lanes, and its ends of them.
+-- A desk of a node: what it is without its lanes, its ends of them, and its sight of who has ended.
 use Rattle.std.specs.Prelude.{◌≡◌, ℕ, ◌<◌, List, [], ◌++◌, length, slice_index_or}
 use Rattle.pt_signal.specs.declared.letter.Letter.{Letter}
 use Rattle.pt_events.specs.Journal.{posts, gots, Agrees}
@@ -8,11 +8,13 @@ use Rattle.pt_shard.specs.ShardState.{ShardState, box}
 use Rattle.pt_shard.specs.Outbox.{held_from}
 use Rattle.pt_shard.specs.Extends.{Extends}
 use Rattle.pt_shard.specs.Fit.{IsFit}
+use Rattle.pt_desk.specs.Sight.{Sight, IsSeated, SeesOn}
 
 pub record DeskState : Type 0 where
   pub shard : ShardState
   pub outs : OutEnds
   pub ins : InEnds
+  pub sight : Sight
 
 -- where its ends stand: a desk stays one of its node where this stays
 abbrev pub place : DeskState → Place × Place
@@ -46,6 +48,7 @@ pub record IsAccounted (s : ShardState) (o : OutEnds) (i : InEnds) : Type 0 wher
 pub record IsDesk (d : DeskState) : Type 0 where
   pub fit : IsFit d.shard
   pub accounts : IsAccounted d.shard d.outs d.ins
+  pub seated : IsSeated d.shard d.sight
 
 -- nothing is posted and nothing collected
 abbrev pub HasSameEnds : DeskState → DeskState → Type 0
@@ -55,3 +58,4 @@ HasSameEnds old new = (new.outs ≡ old.outs) × (new.ins ≡ old.ins)
 pub record GoesOn (old new : DeskState) : Type 0 where
   pub shard : Extends old.shard new.shard
   pub place : place new ≡ place old
+  pub sight : SeesOn old.sight new.sight

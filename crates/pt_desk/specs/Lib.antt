@@ -1,4 +1,6 @@
 pub mod DeskState
 pub mod InPlace
 pub mod Posting
+pub mod Reaching
+pub mod Sight
 pub mod Turns

@@ -22,6 +22,7 @@ pub record OnlyPosts (old new : DeskState) : Type 0 where
   pub place : new.outs.place ≡ old.outs.place
   pub capacity : new.outs.capacity ≡ old.outs.capacity
   pub ins : new.ins ≡ old.ins
+  pub sight : new.sight ≡ old.sight
 
 -- so for every desk
 pub record Posts (old new : DeskState) : Type 0 where

@@ -16,6 +16,7 @@ pub record TakesFromLane (l : Letter) (old new : DeskState) : Type 0 where
   pub free : old.shard.hold ≡ None
   pub shard : new.shard ≡ holding (Some l) old.shard
   pub outs : new.outs ≡ old.outs
+  pub sight : new.sight ≡ old.sight
   pub place : new.ins.place ≡ old.ins.place
   pub collects : Collects old.ins new.ins l.from.shard l
   pub first : IsFirstFromCursor old.ins new.ins l.from.shard
@@ -29,6 +30,7 @@ pub record FindsNone (old new : DeskState) : Type 0 where
   pub free : old.shard.hold ≡ None
   pub shard : new.shard ≡ old.shard
   pub outs : new.outs ≡ old.outs
+  pub sight : new.sight ≡ old.sight
   pub place : new.ins.place ≡ old.ins.place
   pub cursor : new.ins.cursor ≡ old.ins.cursor
   pub collected : new.ins.collected ≡ old.ins.collected

@@ -1,6 +1,6 @@
 //! A desk of a node.
 
-ghost use Rattle.std.specs.Prelude.{◌≡◌, ◌<◌, ◌+◌, ◌-◌, ◌^◌, ◌++◌, ℕ, [], length, min, true, Some, None, IfOk, cond, is_some, slice_index_or};
+ghost use Rattle.std.specs.Prelude.{◌≡◌, ◌<◌, ◌+◌, ◌-◌, ◌^◌, ◌∷◌, ◌++◌, ℕ, [], length, min, true, Some, None, IfSome, IfOk, IsOk, cond, is_some, slice_index_or};
 ghost use Rattle.std.specs.Option.{option_copied};
 ghost use Rattle.pt_signal.specs.declared.signal.Signal.{Signal};
 ghost use Rattle.pt_events.specs.declared.event.Event.{Event};
@@ -10,59 +10,98 @@ ghost use Rattle.pt_shard.specs.Known.{knows};
 ghost use Rattle.pt_shard.specs.Outbox.{count_pending, held_from};
 ghost use Rattle.pt_shard.specs.Fit.{IsFit};
 ghost use Rattle.pt_shard.specs.Calls.{Calls, Monitors, Bears, BearsChild, link_event, unlink_event, first_match, take_event, demonitor_event, held_by, new_ref};
+ghost use Rattle.std.specs.Arc.{arc_value};
+ghost use Rattle.pt_directory.specs.Seats.{add_death, death_of};
 ghost use Rattle.pt_desk.specs.DeskState.{IsDesk, IsAccounted, HasSameEnds, GoesOn, posted_to, waits_for, collected_from};
+ghost use Rattle.pt_desk.specs.Sight.{IsSeated, seat_of};
+ghost use Rattle.pt_desk.specs.Reaching.{LooksFirst, Reaches, has_link_to_make, has_monitor_to_make};
 ghost use Rattle.pt_desk.specs.Posting.{PostsOne, PostsTo, PostsSome, Posts, total};
-ghost use Rattle.pt_desk.specs.InPlace.{HandlesFront, HoldsFront};
+ghost use Rattle.pt_desk.specs.InPlace.{HandlesFront, HoldsFront, CanTell, told};
 ghost use Rattle.pt_desk.specs.Turns.{HandlesAtMostOne, Turns};
 
 use crate::turned::Turned;
 use pt_carrier::{Ins, Outs};
+use pt_directory::{Directory, Seat};
 use pt_events::Journal;
 use pt_shard::{Config, Fault, Shard, Stop};
 use pt_signal::{Body, Ids, Item, Pick, Pid, Reason, Ref};
+use std::alloc::Global;
 use std::marker::Model;
+use std::sync::Arc;
 
-/// A desk of a node: its processes, its journal, the letters that wait in it, and its ends of the lanes.
+/// A desk of a node: its processes, its journal, the letters that wait in it, its ends of the lanes, and its seat in the
+/// directory of ended processes.
 ///
 /// It cannot be dropped: [`Desk::apart`] takes it, and so does the gathering of a node.
 pub struct Desk {
     shard: Shard,
     outs: Outs,
     ins: Ins,
+    directory: Arc<Directory, Global>,
+    seat: Seat,
 }
 
 impl Model for Desk {
+    ghost use Rattle.std.specs.Prelude.{◌≡◌};
+    ghost use Rattle.std.specs.Arc.{arc_value};
     ghost use Rattle.pt_desk.specs.DeskState.{DeskState, IsDesk};
+    ghost use Rattle.pt_desk.specs.Sight.{seat_of};
 
     ghost Value = { DeskState };
 
-    ghost view = { λ d. record { shard = d.shard; outs = d.outs; ins = d.ins } };
+    ghost view = { λ d. record { shard = d.shard; outs = d.outs; ins = d.ins; sight = record { directory = arc_value d.directory; reads = d.seat.reads } } };
 
-    ghost invariant = { λ d. IsDesk (record { shard = d.shard; outs = d.outs; ins = d.ins }) };
+    ghost invariant = { λ d.
+        IsDesk (record { shard = d.shard; outs = d.outs; ins = d.ins; sight = record { directory = arc_value d.directory; reads = d.seat.reads } })
+        × (d.seat ≡ seat_of d.shard (record { directory = arc_value d.directory; reads = d.seat.reads })) };
 }
 
 impl Desk {
-    /// The desk of this shard, with its ends of the lanes.
+    /// The desk of this shard, with its ends of the lanes and its seat in the directory.
     ///
     /// The ends are those of the shard's number, and the accounts agree: what the shard's journal sent to each desk is
     /// what was posted there and then what waits in its outbox, and what was collected from each desk is what its
-    /// journal received from there and then the letter in its hold.
-    pub fn whole(shard: Shard, outs: Outs, ins: Ins) -> Desk
-        requires { IsAccounted shard outs ins }
-        ensures { result ≡ record { shard = shard; outs = outs; ins = ins } }
+    /// journal received from there and then the letter in its hold. The seat is the home of this desk alone, and the ends
+    /// that it has told are those of the journal; of each refused call it had seen the end, at a lower stamp.
+    pub fn whole(
+        shard: Shard,
+        outs: Outs,
+        ins: Ins,
+        directory: Arc<Directory, Global>,
+        seat: Seat,
+    ) -> Desk
+        requires accounted { IsAccounted shard outs ins }
+        requires seated { IsSeated shard (record { directory = arc_value directory; reads = seat.reads }) }
+        requires seat { seat ≡ seat_of shard (record { directory = arc_value directory; reads = seat.reads }) }
+        ensures { result ≡ record { shard = shard; outs = outs; ins = ins; sight = record { directory = arc_value directory; reads = seat.reads } } }
     {
         let _ = shard.journal();
-        Desk { shard, outs, ins }
+        Desk {
+            shard,
+            outs,
+            ins,
+            directory,
+            seat,
+        }
     }
 
     /// Takes the desk apart: the reverse of `whole`, and the same holds of what it gives.
-    pub fn apart(self) -> (Shard, Outs, Ins)
-        ensures parts { self ≡ record { shard = result.0; outs = result.1; ins = result.2 } }
+    pub fn apart(self) -> (Shard, Outs, Ins, Arc<Directory, Global>, Seat)
+        ensures parts { (self.shard ≡ result.0) × (self.outs ≡ result.1) × (self.ins ≡ result.2) }
+        ensures sight { self.sight ≡ record { directory = arc_value result.3; reads = result.4.reads } }
         ensures fit { IsFit result.0 }
         ensures accounts { IsAccounted result.0 result.1 result.2 }
+        ensures seated { IsSeated self.shard self.sight }
+        ensures seat { result.4 ≡ seat_of self.shard self.sight }
     {
-        let Desk { shard, outs, ins } = self;
-        (shard, outs, ins)
+        let Desk {
+            shard,
+            outs,
+            ins,
+            directory,
+            seat,
+        } = self;
+        (shard, outs, ins, directory, seat)
     }
 
     /// What happened here, oldest event first.
@@ -160,6 +199,7 @@ impl Desk {
         ensures does { Bears None None self.old.shard result self.new.shard }
         ensures known { IfOk result (λ p. (p.shard ≡ self.new.shard.number) × (knows self.new.shard p ≡ true)) }
         ensures ends { HasSameEnds self.old self.new }
+        ensures sight { self.new.sight ≡ self.old.sight }
         ensures goes_on { GoesOn self.old self.new }
     {
         self.shard.spawn()
@@ -174,6 +214,7 @@ impl Desk {
         ensures does { BearsChild parent linked self.old.shard result self.new.shard }
         ensures known { IfOk result (λ p. (p.shard ≡ self.new.shard.number) × (knows self.new.shard p ≡ true)) }
         ensures ends { HasSameEnds self.old self.new }
+        ensures sight { self.new.sight ≡ self.old.sight }
         ensures goes_on { GoesOn self.old self.new }
     {
         self.shard.spawn_child(parent, linked)
@@ -182,13 +223,15 @@ impl Desk {
     /// Sends a message: Erlang's `!`, chapter Processes, section Signals.
     ///
     /// It comes to the receiver after all that the sender sent it before. A receiver that is not alive then loses
-    /// it, and nobody is told. Refused as `Gone`, `Worn` or `Memory`.
+    /// it, and nobody is told. Refused as `Gone`, as `NoProc` where the desk sees that the receiver has ended, as `Worn`
+    /// or `Memory`.
     pub fn send(&mut self, from: Pid, to: Pid, body: Body) -> Result<(), Fault>
         requires { knows self.old.shard to ≡ true }
-        ensures does { Calls from (Some (Event.Said from to (Signal.Message body))) tt self.old.shard result self.new.shard }
+        ensures does { Reaches (lives self.old.shard from) from to (Calls from (Some (Event.Said from to (Signal.Message body))) tt self.old.shard result self.new.shard) self.old result self.new }
         ensures ends { HasSameEnds self.old self.new }
         ensures goes_on { GoesOn self.old self.new }
     {
+        self.reach(self.alive_here(from), from, to)?;
         self.shard.send(from, to, body)
     }
 
@@ -201,6 +244,7 @@ impl Desk {
         requires { knows self.old.shard to ≡ true }
         ensures does { Calls from (Some (Event.Said from to (Signal.Exit reason))) tt self.old.shard result self.new.shard }
         ensures ends { HasSameEnds self.old self.new }
+        ensures sight { self.new.sight ≡ self.old.sight }
         ensures goes_on { GoesOn self.old self.new }
     {
         self.shard.exit_signal(from, to, reason)
@@ -209,13 +253,15 @@ impl Desk {
     /// Links p with another process: Erlang's `link/1`, section Links.
     ///
     /// Nothing happens where p is the target, or holds a link with it. A target that is not alive when the link
-    /// comes answers it by an exit signal with `noproc`. Refused as `Gone`, `Worn` or `Memory`.
+    /// comes answers it by an exit signal with `noproc`. Refused as `Gone`, or where there is a link to make, as `NoProc`
+    /// where the desk sees that the target has ended, as `Worn` or `Memory`.
     pub fn link(&mut self, p: Pid, to: Pid) -> Result<(), Fault>
         requires { knows self.old.shard to ≡ true }
-        ensures does { Calls p (link_event self.old.shard p to) tt self.old.shard result self.new.shard }
+        ensures does { Reaches (has_link_to_make self.old.shard p to) p to (Calls p (link_event self.old.shard p to) tt self.old.shard result self.new.shard) self.old result self.new }
         ensures ends { HasSameEnds self.old self.new }
         ensures goes_on { GoesOn self.old self.new }
     {
+        self.reach(self.makes_link(p, to), p, to)?;
         self.shard.link(p, to)
     }
 
@@ -227,6 +273,7 @@ impl Desk {
         requires { knows self.old.shard to ≡ true }
         ensures does { Calls p (unlink_event self.old.shard p to) tt self.old.shard result self.new.shard }
         ensures ends { HasSameEnds self.old self.new }
+        ensures sight { self.new.sight ≡ self.old.sight }
         ensures goes_on { GoesOn self.old self.new }
     {
         self.shard.unlink(p, to)
@@ -236,13 +283,15 @@ impl Desk {
     /// DOWN will have.
     ///
     /// A target that is not alive when the monitor comes is answered by a DOWN with `noproc`. Refused as `Gone`,
-    /// as `Myself` where w is the target, as `Worn` or `Memory`.
+    /// as `Myself` where w is the target, as `NoProc` where the desk sees that the target has ended, as `Worn` or
+    /// `Memory`.
     pub fn monitor(&mut self, w: Pid, t: Pid) -> Result<Ref, Fault>
         requires { knows self.old.shard t ≡ true }
-        ensures does { Monitors w t self.old.shard result self.new.shard }
+        ensures does { Reaches (has_monitor_to_make self.old.shard w t) w t (Monitors w t self.old.shard result self.new.shard) self.old result self.new }
         ensures ends { HasSameEnds self.old self.new }
         ensures goes_on { GoesOn self.old self.new }
     {
+        self.reach(self.makes_monitor(w, t), w, t)?;
         self.shard.monitor(w, t)
     }
 
@@ -254,6 +303,7 @@ impl Desk {
     pub fn demonitor(&mut self, w: Pid, monitor: Ref, flush: bool) -> Result<bool, Fault>
         ensures does { Calls w (demonitor_event self.old.shard w monitor flush) (is_some (demonitor_event self.old.shard w monitor flush)) self.old.shard result self.new.shard }
         ensures ends { HasSameEnds self.old self.new }
+        ensures sight { self.new.sight ≡ self.old.sight }
         ensures goes_on { GoesOn self.old self.new }
     {
         self.shard.demonitor(w, monitor, flush)
@@ -268,6 +318,7 @@ impl Desk {
         requires { knows self.old.shard t ≡ true }
         ensures does { Calls p (Some (Event.Said p t (Signal.AliveAsk (new_ref self.old.shard)))) (new_ref self.old.shard) self.old.shard result self.new.shard }
         ensures ends { HasSameEnds self.old self.new }
+        ensures sight { self.new.sight ≡ self.old.sight }
         ensures goes_on { GoesOn self.old self.new }
     {
         self.shard.ask_alive(p, t)
@@ -280,6 +331,7 @@ impl Desk {
     pub fn trap(&mut self, p: Pid, on: bool) -> Result<bool, Fault>
         ensures does { Calls p (Some (Event.Flag p on)) (state_in self.old.shard p).traps self.old.shard result self.new.shard }
         ensures ends { HasSameEnds self.old self.new }
+        ensures sight { self.new.sight ≡ self.old.sight }
         ensures goes_on { GoesOn self.old self.new }
     {
         self.shard.trap(p, on)
@@ -293,6 +345,7 @@ impl Desk {
     pub fn receive(&mut self, p: Pid, pick: Pick) -> Result<Option<Item>, Fault>
         ensures does { Calls p (take_event self.old.shard p pick) (first_match self.old.shard p pick) self.old.shard result self.new.shard }
         ensures ends { HasSameEnds self.old self.new }
+        ensures sight { self.new.sight ≡ self.old.sight }
         ensures goes_on { GoesOn self.old self.new }
     {
         self.shard.receive(p, pick)
@@ -306,9 +359,58 @@ impl Desk {
     pub fn exit(&mut self, p: Pid, reason: Reason) -> Result<(), Fault>
         ensures does { Calls p (Some (Event.Left p reason)) tt self.old.shard result self.new.shard }
         ensures ends { HasSameEnds self.old self.new }
+        ensures sight { self.new.sight ≡ self.old.sight }
         ensures goes_on { GoesOn self.old self.new }
     {
-        self.shard.exit(p, reason)
+        self.shard.exit(p, reason)?;
+        tell_end(&self.shard, &self.directory, &mut self.seat, p);
+        Ok(())
+    }
+
+    /// Whether p has a link to make with another process.
+    #[inline(always)]
+    fn makes_link(&self, p: Pid, to: Pid) -> bool
+        ensures { result ≡ has_link_to_make self.now.shard p to }
+    {
+        p != to && self.shard.alive_here(p) && self.shard.linked(p, to).is_none()
+    }
+
+    /// Whether w has a monitor to make of another process.
+    #[inline(always)]
+    fn makes_monitor(&self, w: Pid, t: Pid) -> bool
+        ensures { result ≡ has_monitor_to_make self.now.shard w t }
+    {
+        w != t && self.shard.alive_here(w)
+    }
+
+    /// Looks, for a call of p that has something to send to t, whether t is seen to have ended.
+    #[inline(always)]
+    fn reach(&mut self, looks: bool, p: Pid, t: Pid) -> Result<(), Fault>
+        requires alive { looks ≡ true → lives self.old.shard p ≡ true }
+        requires known { knows self.old.shard t ≡ true }
+        ensures reaches { Reaches looks p t (IsOk result × (self.new.shard ≡ self.old.shard)) self.old result self.new }
+        ensures ends { HasSameEnds self.old self.new }
+        ensures goes_on { GoesOn self.old self.new }
+    {
+        if !looks {
+            return Ok(());
+        }
+        self.look(p, t)
+    }
+
+    /// Looks whether t is seen to have ended, for a call of p, which is refused then.
+    #[inline(always)]
+    fn look(&mut self, p: Pid, t: Pid) -> Result<(), Fault>
+        requires alive { lives self.old.shard p ≡ true }
+        requires known { knows self.old.shard t ≡ true }
+        ensures looks { LooksFirst p t (IsOk result × (self.new.shard ≡ self.old.shard)) self.old result self.new }
+        ensures ends { HasSameEnds self.old self.new }
+        ensures goes_on { GoesOn self.old self.new }
+    {
+        match self.directory.probe(&mut self.seat, t) {
+            Some(seen) => Err(self.shard.refuse(p, t, seen)),
+            None => Ok(()),
+        }
     }
 
     /// Posts letters, and then handles at most `budget` letters.
@@ -399,8 +501,9 @@ impl Desk {
             return Ok(false);
         };
         match handle_front(&mut self.shard, &self.ins, from) {
-            Ok(_ended) => {
+            Ok(ended) => {
                 self.ins.pass(from);
+                tell_ended(&self.shard, &self.directory, &mut self.seat, ended);
                 Ok(true)
             }
             Err(stop) => {
@@ -420,8 +523,9 @@ impl Desk {
         let Some(letter) = self.shard.held() else {
             unreachable!();
         };
-        self.shard.handle(letter)?;
+        let ended = self.shard.handle(letter)?;
         let _ = self.shard.take_hold();
+        tell_ended(&self.shard, &self.directory, &mut self.seat, ended);
         Ok(true)
     }
 }
@@ -456,4 +560,23 @@ fn hold_front(shard: &mut Shard, ins: &mut Ins, from: u8)
 {
     let letter = ins.take(from);
     shard.put_hold(letter);
+}
+
+/// Tells the directory who has ended by the newest event, if somebody has.
+#[inline(always)]
+fn tell_ended(shard: &Shard, directory: &Directory, seat: &mut Seat, ended: Option<Pid>)
+    requires { IfSome ended (CanTell directory.now seat.old shard.now.clock) }
+    ensures { seat.new ≡ told ended shard.now.clock seat.old }
+{
+    if let Some(p) = ended {
+        tell_end(shard, directory, seat, p);
+    }
+}
+
+/// Tells the directory that p has ended, by the newest event.
+fn tell_end(shard: &Shard, directory: &Directory, seat: &mut Seat, p: Pid)
+    requires { CanTell directory.now seat.old shard.now.clock p }
+    ensures { seat.new ≡ add_death (death_of p shard.now.clock) seat.old }
+{
+    directory.ended(seat, p, shard.clock());
 }

@@ -34,11 +34,21 @@
 //!
 //! # Refusals
 //!
-//! A call is refused by a `Fault`, and the desk is then exactly as it was. Where several could be given it is the
-//! first of `Gone` (the acting process is not alive here), `Myself` (a monitor of oneself), `Worn` (the call has an
-//! event to write, and the clock stands at 2^62), `Full` (no slot for a birth) and `Memory` (the call has an event
-//! to write, and a growth was refused). A call that has no event to write takes no memory and needs no clock. A target
-//! is to be one that the desk `knows`: a pid that was issued here, dead or alive, or any pid in range of another desk.
+//! A call is refused by a `Fault`. Where several could be given it is the first of `Gone` (the acting process is not
+//! alive here), `Myself` (a monitor of oneself), `NoProc` (the desk sees that the other process has ended), `Worn` (the
+//! call has an event to write, and the clock stands at 2^62), `Full` (no slot for a birth) and `Memory` (the call has an
+//! event to write, and a growth was refused). The desk is then exactly as it was, but for what a look leaves: a call
+//! refused as `NoProc` is noted in the journal, and one refused as `Worn` or `Memory` behind a look has been seen to
+//! look. A call that has no event to write takes no memory and needs no clock. A target is to be one that the desk
+//! `knows`: a pid that was issued here, dead or alive, or any pid in range of another desk.
+//!
+//! # Who has ended
+//!
+//! The desks of a node share a directory of `pt_directory`. Each end on a desk is told there before the call, or the
+//! turn, that brought it returns. `send`, `link` and `monitor` look there first, where they have something to send: a
+//! process of the same desk that has ended is always seen, and so is one that was seen before; of others it is not
+//! promised when. The note of a refused call is stamped above the end that was seen, so it stands behind that end in
+//! the node's one history.
 //!
 //! # A desk is spent, not dropped
 //!
@@ -55,8 +65,10 @@
 //!
 //! A contract sees a desk as the `DeskState` of `specs/DeskState`. `IsDesk` holds of every desk, and
 //! [`Desk::journal`] states it: what was sent to each desk was posted there or waits, and what was collected from
-//! each was received or is in the hold. `GoesOn` is on every call: number, settings and node stay, and the journal
-//! begins with the one before. `specs/Turns` says what a turn does.
+//! each was received or is in the hold. `GoesOn` is on every call: number, settings and node stay, the journal begins
+//! with the one before, and what was read of the directory stays. `specs/Turns` says what a turn does, `specs/Reaching`
+//! what a look does, and `specs/Sight` what holds of the desk's seat: `seat_of` says that it has told the ends of the
+//! journal, and [`Desk::apart`] gives it so.
 #![tactic(auto)]
 
 mod desk;

@@ -9,9 +9,12 @@ use Rattle.pt_carrier.specs.Node.{places, IsNode, IsNew}
 use Rattle.pt_shard.specs.declared.config.Config.{Config}
 use Rattle.pt_shard.specs.ShardState.{ShardState}
 use Rattle.pt_shard.specs.Opening.{IsInRange, fresh}
+use Rattle.pt_desk.specs.Sight.{Sight}
 use Rattle.pt_desk.specs.DeskState.{DeskState, IsAccounted}
 use Rattle.pt_node.specs.Desks.{AreAccounted, all_ends, all_shards}
 use Rattle.pt_node.specs.Opening.{AreFreshShards, AreFresh}
+use Rattle.pt_node.specs.Seating.{Seated, seat_in, all_seats, sight_of, AreFreshSeats}
+use Rattle.pt_node.proofs.SeatsOf.{fresh_seat}
 use Rattle.pt_node.proofs.Wholes.{accounted_each}
 
 empty_box : (n e : ℕ) → get_or (replicate {A = List Letter} n []) e [] ≡ []
@@ -46,13 +49,18 @@ module _ (config : Config) (shards : List ShardState) (pairs : List (OutEnds × 
             collected = λ d l. fresh_ends.collected d;
           })
 
-  module _ (range : IsInRange config) (desks : List DeskState) (ends_are : all_ends desks ≡ pairs) (shards_are : all_shards desks ≡ shards) where
+  module _ (range : IsInRange config) (desks : List DeskState) (ends_are : all_ends desks ≡ pairs) (shards_are : all_shards desks ≡ shards)
+      (seats : List Seated) (looked : AreFreshSeats config seats) (seats_are : all_seats desks ≡ seats) where
     desk_count : length desks ≡ config.desks
     desk_count = sym (length-map desks (λ (d : DeskState). d.shard)) ∙ ap length shards_are ∙ are.count
 
     shard_is : (d : ℕ) (x : DeskState) → d < length desks → (get_or desks d x).shard ≡ fresh config d
     shard_is d x h =
         sym (get_or-map (λ (d : DeskState). d.shard) desks d x x.shard h) ∙ ap (λ z. get_or z d x.shard) shards_are ∙ are.fresh_each d x.shard (omega (arith, h, desk_count, are.count))
+
+    sight_is : (d : ℕ) (x : DeskState) → d < length desks → (get_or desks d x).sight ≡ record { directory = looked.directory; reads = [] }
+    sight_is d x h =
+        ap sight_of (sym (get_or-map seat_in desks d x (seat_in x) h) ∙ ap (λ z. get_or z d (seat_in x)) seats_are ∙ fresh_seat config seats looked d (seat_in x) (omega (arith, h, desk_count)))
 
     pub fresh_desks : AreFresh config desks
     fresh_desks = record {
@@ -61,9 +69,12 @@ module _ (config : Config) (shards : List ShardState) (pairs : List (OutEnds × 
         count = desk_count;
         node = subst IsNode (sym (sym (map-map places (λ (d : DeskState). (d.outs, d.ins)) desks) ∙ ap (map places) ends_are)) node;
         configs = λ d x h. ap (λ (s : ShardState). s.config) (shard_is d x h);
+        directory = looked.directory;
+        directories = λ d x h. ap (λ (s : Sight). s.directory) (sight_is d x h);
       };
       shards = shard_is;
       ends = λ d x h.
           subst (IsNew config.desks config.lane) (sym (ap (λ z. get_or z d (x.outs, x.ins)) ends_are) ∙ get_or-map (λ (d : DeskState). (d.outs, d.ins)) desks d x (x.outs, x.ins) h)
           (new d (x.outs, x.ins) (omega (arith, h, desk_count)));
+      unread = λ d x h. ap (λ (s : Sight). s.reads) (sight_is d x h);
     }

@@ -12,7 +12,7 @@ use Rattle.pt_node.specs.Desks.{AreDesksOf, AreDesks}
 use Rattle.pt_node.specs.Running.{AllGoOn}
 
 pub stays : (d : DeskState) → GoesOn d d
-stays d = record { shard = extends d.shard; place = refl }
+stays d = record { shard = extends d.shard; place = refl; sight = record { directory = refl; reads = λ k r h. h } }
 
 module _ {W : Type 0} where
   pub all_stay : (xs : List (DeskState × W)) → AllGoOn xs xs
@@ -64,6 +64,12 @@ module _ {W : Type 0} where
             let before : d < length old = omega (arith, within, c.count) in
             ap (λ (z : DeskState). z.shard.config) (get_or-map desk new d x y within) ∙ (c.each d x before).shard.config
             ∙ ap (λ (z : DeskState). z.shard.config) (sym (get_or-map desk old d x y before)) ∙ are.configs d y (omega (arith, l, lengths));
+        directory = are.directory;
+        directories = λ d y l.
+            let within : d < length new = omega (arith, l, length-map new desk) in
+            let before : d < length old = omega (arith, within, c.count) in
+            ap (λ (z : DeskState). z.sight.directory) (get_or-map desk new d x y within) ∙ (c.each d x before).sight.directory
+            ∙ ap (λ (z : DeskState). z.sight.directory) (sym (get_or-map desk old d x y before)) ∙ are.directories d y (omega (arith, l, lengths));
       }
 
   pub still_desks : (old new : List (DeskState × W)) → AllGoOn old new → AreDesks (map (λ (p : DeskState × W). p.0) old) → AreDesks (map (λ (p : DeskState × W). p.0) new)

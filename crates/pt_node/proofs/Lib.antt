@@ -1,6 +1,9 @@
 pub mod Together
+pub mod TrueReads
+pub mod SeatsOf
 pub mod Wholes
 pub mod Fresh
 pub mod GoingOn
 pub mod StillDesks
 pub mod Rounding
+pub mod Calling

@@ -1,25 +1,33 @@
 -- The accounts of desks whose lanes were brought together.
-use Rattle.std.proofs.Common.{◌≡◌, ℕ, ◌+◌, ◌*◌, ◌<◌, ◌≤◌, List, [], ◌∷◌, ◌++◌, length, map, get_or, sym, ap, ◌∙◌, subst, arith, ⊎_elim}
+use Rattle.std.proofs.Common.{◌≡◌, ℕ, ◌+◌, ◌*◌, ◌<◌, ◌≤◌, List, [], ◌∷◌, ◌++◌, length, map, get_or, Option, Some, None, true, refl, sym, ap, ◌∙◌, subst, arith, ⊎_elim}
 use Rattle.std.proofs.lemmas.Simd.{map-map}
 use Rattle.std.proofs.lemmas.List.{get_or-map, get_or_past, length-map}
 use Rattle.std.proofs.lemmas.Bool.{cases_lt}
+use Rattle.std.specs.Prelude.{MatchOption}
+use mathlib.Core.Option.{some}
+use lib.ListN.{get_elem?}
+use Rattle.pt_signal.specs.declared.pid.Pid.{Pid}
 use Rattle.pt_signal.specs.declared.letter.Letter.{Letter}
 use Rattle.pt_events.specs.declared.event.Event.{Event}
 use Rattle.pt_events.specs.declared.event.Event.TheVariants.{Refused}
 use Rattle.pt_events.specs.declared.event.Stamped.{Stamped}
-use Rattle.pt_events.specs.Journal.{Journals, Agrees, posts, gots}
-use Rattle.pt_events.specs.Refusals.{IsTrueRefusal, AllTrueRefusals, RefusalsAreTrue}
+use Rattle.pt_events.specs.History.{is_ended, life}
+use Rattle.pt_events.specs.Journal.{events, Agrees, posts, gots}
+use Rattle.pt_events.specs.Refusals.{stamped_below, IsTrueRefusal, AllTrueRefusals, RefusalsAreTrue}
 use Rattle.pt_carrier.specs.Ends.{OutEnds, InEnds}
 use Rattle.pt_carrier.specs.Node.{all_posted, all_collected, entry}
 use Rattle.pt_shard.specs.declared.config.Config.{Config}
 use Rattle.pt_shard.specs.ShardState.{ShardState}
 use Rattle.pt_shard.specs.Outbox.{held_from}
-use Rattle.pt_shard.specs.Fit.{IsNoRefusal, IsUnrefused}
 use Rattle.pt_gathered.specs.Gathered.{GatheredState, IsGathered, IsShardOf, journal_at, box_at, hold_at, over_in}
 use Rattle.pt_events.proofs.Agreeing.{Agrees-posted}
-use Rattle.pt_desk.specs.DeskState.{DeskState, IsDesk, place}
-use Rattle.pt_node.specs.Desks.{all_ends, all_shards}
-use Rattle.pt_node.specs.Gathering.{Gathers, HasJournalsOf}
+use Rattle.pt_directory.specs.declared.view.Read.{Read}
+use Rattle.pt_desk.specs.Sight.{HasEndOf, IsSeen, AllSeen}
+use Rattle.pt_desk.specs.DeskState.{DeskState}
+use Rattle.pt_node.specs.Desks.{AreWhole, all_ends, all_shards}
+use Rattle.pt_node.specs.Gathering.{Gathers, HasJournalsOf, ReadsAreTrue}
+use Rattle.pt_node.specs.Seating.{all_seats, AreAudited}
+use Rattle.pt_node.proofs.TrueReads.{number_at, true_read}
 
 -- one lane: what was posted is what was collected and what the lane has
 pub lane_agrees : (sent posted box collected lane got held : List Letter) → sent ≡ posted ++ box → posted ≡ collected ++ lane → Agrees collected got held → Agrees sent got (held ++ lane ++ box)
@@ -27,15 +35,7 @@ lane_agrees sent posted box collected lane got held s p a =
     subst (λ z. Agrees z got (held ++ lane ++ box)) (sym (s ∙ ap (λ z. z ++ box) p))
     (Agrees-posted (collected ++ lane) got (held ++ lane) box (Agrees-posted collected got held lane a))
 
-unrefused_true : (journal : Journals) (noted : List Stamped) → IsUnrefused noted → AllTrueRefusals [] journal noted
-unrefused_true journal [] h = tt
-unrefused_true journal (s ∷ noted) h = (none s.event h.0, unrefused_true journal noted h.1)
-  where
-    none : (e : Event) → IsNoRefusal e → IsTrueRefusal [] journal s.stamp e
-    none (Refused a b) h = absurd h
-    none _ h = tt
-
-module _ (desks : List DeskState) (g : GatheredState) (whole : (d : ℕ) (x : DeskState) → d < length desks → IsDesk (get_or desks d x)) (gathers : Gathers desks g) where
+module _ (desks : List DeskState) (g : GatheredState) (whole : AreWhole desks) (gathers : Gathers desks g) (audited : AreAudited (all_seats desks)) where
   count : length g.shards ≡ length desks
   count = ap length gathers.shards ∙ length-map desks (λ (d : DeskState). d.shard)
 
@@ -50,18 +50,12 @@ module _ (desks : List DeskState) (g : GatheredState) (whole : (d : ℕ) (x : De
   some_desk [] d h = absurd (omega arith)
   some_desk (x ∷ xs) d h = x
 
-  number_at : (d : ℕ) (x : DeskState) → d < length desks → (get_or desks d x).shard.number ≡ d
-  number_at d x h =
-      let k = gathers.node.node.numbers d (place x) (omega (arith, h, length-map desks place)) in
-      let at = get_or-map place desks d x (place x) h in
-      sym (whole d x h).accounts.out_number ∙ sym (ap (λ p. p.0.number) at) ∙ k.0
-
   is_shard : (d : ℕ) (y : ShardState) → d < length desks → IsShardOf g.config d (get_or g.shards d y)
   is_shard d y h =
       let x : DeskState = some_desk desks d h in
       let at = shard_at d x y h in
       record {
-        number = ap (λ (s : ShardState). s.number) at ∙ number_at d x h;
+        number = ap (λ (s : ShardState). s.number) at ∙ number_at g.config desks gathers.node whole d x h;
         config_is = ap (λ (s : ShardState). s.config) at ∙ gathers.node.configs d x h;
         fit = rw at (whole d x h).fit;
       }
@@ -106,14 +100,36 @@ module _ (desks : List DeskState) (g : GatheredState) (whole : (d : ℕ) (x : De
       (get_or g.lanes (d * length g.shards + e) []) (gots (get_or desks e x).shard.journal d) (held_from d (get_or desks e x).shard.hold)
       sent posted got)
 
-  -- no desk was refused a call
+  -- whoever was seen to have ended has
+  seen_at : (d : ℕ) (x : DeskState) → d < length desks → (k : ℕ) (r : Read) → get_elem? (get_or desks d x).sight.reads k ≡ some r → (p : Pid) → HasEndOf p r
+      → (n : ℕ) → r.stamp ≡ Some n → (m : ℕ) → n < m → is_ended (life [] (events (stamped_below m (journal_at g.shards p.shard))) p) ≡ true
+  seen_at d x h k r at p ends n stamp m later =
+      let t = true_read g.config desks gathers.node whole audited d x h k r at p ends n stamp m later in
+      subst (λ j. is_ended (life [] (events (stamped_below m j)) p) ≡ true) (sym (journal_of p.shard x t.0)) t.1
+
+  pub reads_true : ReadsAreTrue desks g
+  reads_true d x h k r at p ends = go r.stamp refl
+    where
+      go : (o : Option ℕ) → r.stamp ≡ o → MatchOption o (Unit {0}) (λ n. is_ended (life [] (events (stamped_below (n + 1) (journal_at g.shards p.shard))) p) ≡ true)
+      go None stamp = tt
+      go (Some n) stamp = seen_at d x h k r at p ends n stamp (n + 1) (omega arith)
+
+  -- so each refused call was to such a one
+  refused_true : (d : ℕ) (x : DeskState) → d < length desks → (noted : List Stamped) → AllSeen (get_or desks d x).sight.reads noted → AllTrueRefusals [] (journal_at g.shards) noted
+  refused_true d x h [] all = tt
+  refused_true d x h (s ∷ noted) all = (one s.event all.0, refused_true d x h noted all.1)
+    where
+      one : (e : Event) → IsSeen (get_or desks d x).sight.reads s.stamp e → IsTrueRefusal [] (journal_at g.shards) s.stamp e
+      one (Refused a b) seen = seen_at d x h seen.0 seen.1 seen.3 b seen.4 seen.2 seen.5 s.stamp seen.6
+      one _ seen = tt
+
   refusals_at : RefusalsAreTrue [] (journal_at g.shards)
   refusals_at d =
       ⊎_elim
       (λ (h : d < length g.shards).
       let k : d < length desks = omega (arith, h, count) in
       let x : DeskState = some_desk desks d k in
-      subst (AllTrueRefusals [] (journal_at g.shards)) (sym (journal_of d x k)) (unrefused_true (journal_at g.shards) (get_or desks d x).shard.journal (whole d x k).fit.unrefused))
+      subst (AllTrueRefusals [] (journal_at g.shards)) (sym (journal_of d x k)) (refused_true d x k (get_or desks d x).shard.journal (whole d x k).seated.seen))
       (λ (h : length g.shards ≤ d).
       subst (AllTrueRefusals [] (journal_at g.shards))
       (sym (get_or_past (map (λ (s : ShardState). s.journal) g.shards) d [] (omega (arith, length-map g.shards (λ (s : ShardState). s.journal))))) tt)

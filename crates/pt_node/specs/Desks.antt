@@ -5,6 +5,8 @@ use Rattle.pt_carrier.specs.Ends.{Place, OutEnds, InEnds}
 use Rattle.pt_carrier.specs.Node.{IsNode, kept}
 use Rattle.pt_shard.specs.declared.config.Config.{Config}
 use Rattle.pt_shard.specs.ShardState.{ShardState}
+use Rattle.pt_directory.specs.Seats.{DirectoryState}
+use Rattle.pt_desk.specs.Sight.{Sight}
 use Rattle.pt_desk.specs.DeskState.{DeskState, IsDesk, IsAccounted, place}
 
 -- all desks of one opening with these settings, each once and in order: no call of a desk changes its settings or its place
@@ -13,14 +15,17 @@ pub record AreDesksOf (config : Config) (desks : List DeskState) : Type 0 where
   pub count : length desks ≡ config.desks
   pub node : IsNode (map place desks)
   pub configs : (d : ℕ) (x : DeskState) → d < length desks → (slice_index_or desks d x).shard.config ≡ config
+  -- they have one directory
+  pub directory : DirectoryState
+  pub directories : (d : ℕ) (x : DeskState) → d < length desks → (slice_index_or desks d x).sight.directory ≡ directory
 
 abbrev pub AreDesks : List DeskState → Type 0
 AreDesks desks = (config : Config) × AreDesksOf config desks
 
 -- what a caller needs of what it does to one of the desks, so that all of them stay the desks of their node: the desk
--- keeps its place among the lanes and its settings, as each call of a desk does
+-- keeps its place among the lanes, its settings and its directory, as each call of a desk does
 abbrev pub IsStill : DeskState → DeskState → Type 0
-IsStill old new = (place new ≡ place old) × (new.shard.config ≡ old.shard.config)
+IsStill old new = (place new ≡ place old) × (new.shard.config ≡ old.shard.config) × (new.sight.directory ≡ old.sight.directory)
 
 abbrev pub all_ends : List DeskState → List (OutEnds × InEnds)
 all_ends desks = map (λ (d : DeskState). (d.outs, d.ins)) desks
@@ -29,8 +34,8 @@ abbrev pub all_shards : List DeskState → List ShardState
 all_shards desks = map (λ (d : DeskState). d.shard) desks
 
 -- all of a desk but what its ends know of the other end of each lane
-abbrev pub desk_kept : DeskState → ShardState × (Place × List (List Letter) × List ℕ) × (Place × ℕ × List (List Letter))
-desk_kept d = (d.shard, (kept (d.outs, d.ins)).0, (kept (d.outs, d.ins)).1)
+abbrev pub desk_kept : DeskState → ShardState × Sight × (Place × List (List Letter) × List ℕ) × (Place × ℕ × List (List Letter))
+desk_kept d = (d.shard, d.sight, (kept (d.outs, d.ins)).0, (kept (d.outs, d.ins)).1)
 
 -- what holds of every desk
 abbrev pub AreWhole : List DeskState → Type 0

@@ -2,3 +2,5 @@ pub mod Desks
 pub mod Opening
 pub mod Gathering
 pub mod Running
+pub mod Seating
+pub mod Node

@@ -6,9 +6,10 @@ ghost use Rattle.pt_carrier.specs.Node.{lists};
 ghost use Rattle.pt_carrier.specs.declared.reunion.Cause.{Cause};
 ghost use Rattle.pt_gathered.specs.Lawful.{LanesKeep, KeepsHeadline, IsLegalNode, AnswersHold};
 ghost use Rattle.pt_node.specs.Desks.{AreDesks, desk_kept};
-ghost use Rattle.pt_node.specs.Gathering.{Gathers, HasJournalsOf};
+ghost use Rattle.pt_node.specs.Gathering.{Gathers, HasJournalsOf, ReadsAreTrue};
 
 use crate::making::{look, make_whole, take_apart};
+use crate::seating::audit_all;
 use pt_carrier::{Cause, reunite};
 use pt_desk::Desk;
 use pt_gathered::{Gathered, Lane, laws_of};
@@ -60,7 +61,7 @@ impl DesksBack {
     pub fn abandon(self) {
         let DesksBack { mut desks } = self;
         while let Some(desk) = desks.pop() {
-            let (_shard, outs, ins) = desk.apart();
+            let (_shard, outs, ins, _directory, _seat) = desk.apart();
             outs.close();
             ins.close();
         }
@@ -75,7 +76,8 @@ impl DesksBack {
 /// order and by whatever threads: each mailbox's messages from one sender are that sender's messages to it, in order
 /// and each once, from the mailbox's birth to its exit or the letters left over; nothing enters after the exit; taken
 /// and waiting items together are the arrivals; each monitor gives at most one `DOWN` and none after its demonitor;
-/// each answer to the question whether a process is alive is true, and all that the asker had sent it before came first.
+/// each answer to the question whether a process is alive is true, and all that the asker had sent it before came first;
+/// and whomever a desk saw to have ended, and so refused a call to, had ended.
 ///
 /// Where memory is refused all desks come back as they were, in order; only what the ends of a lane know of each
 /// other may be more, which no call tells. It waits for nobody.
@@ -87,6 +89,7 @@ pub fn gather(alloc: Global, desks: Vec<Desk>) -> Result<Gathered, DesksBack>
     ensures headline { IfOk result (λ g. KeepsHeadline g) }
     ensures legal { IfOk result (λ g. IsLegalNode g) }
     ensures answers { IfOk result (λ g. AnswersHold g) }
+    ensures reads { IfOk result (λ g. ReadsAreTrue desks.items g) }
     ensures back { IfErr result (λ b. map desk_kept b ≡ map desk_kept desks.items) }
 {
     look(desks.as_slice());
@@ -102,20 +105,24 @@ pub fn gather(alloc: Global, desks: Vec<Desk>) -> Result<Gathered, DesksBack>
     let Ok(mut shards) = Vec::with_capacity(alloc, count) else {
         return Err(DesksBack { desks });
     };
+    let Ok(mut seats) = Vec::with_capacity(alloc, count) else {
+        return Err(DesksBack { desks });
+    };
     let Ok(mut pairs) = Vec::with_capacity(alloc, count) else {
         return Err(DesksBack { desks });
     };
-    take_apart(&mut desks, &mut pairs, &mut shards);
+    take_apart(&mut desks, &mut pairs, &mut shards, &mut seats);
     match reunite(alloc, pairs) {
         Ok(left) => {
             desks.destroy_empty();
             fill(left.lanes, &mut lanes);
+            audit_all(seats);
             let gathered = Gathered::of(alloc, config, shards, lanes);
             laws_of(&gathered);
             Ok(gathered)
         }
         Err(back) => {
-            make_whole(back.into_ends(), shards, &mut desks);
+            make_whole(back.into_ends(), shards, seats, &mut desks);
             Err(DesksBack { desks })
         }
     }

@@ -17,6 +17,12 @@
 //! [`open`] makes the desks of one node, in order: empty, each with its ends of the lanes. Where the desks go from
 //! there is the caller's matter, since they may move between threads; no call of a desk makes it one of another node.
 //!
+//! # Calling by pid
+//!
+//! [`Node`] has the desks of one opening and may be dropped. Its calls name a process by its pid alone, and are made on
+//! the desk of that pid; no call asks anything of its caller. What it cannot do it refuses, by a [`NodeFault`]: so a
+//! target that the node cannot have had is [`Unknown`](NodeFault::Unknown), and nothing has happened then.
+//!
 //! # Running
 //!
 //! [`run`] gives each desk a worker on a thread of its own, and [`run_single`] does the same turns on the calling
@@ -33,11 +39,16 @@
 
 mod gathering;
 mod making;
+mod node;
+mod node_fault;
 mod opening;
 mod pairs;
 mod running;
+mod seating;
 
 pub use gathering::{DesksBack, gather};
+pub use node::{Node, NodeBack};
+pub use node_fault::NodeFault;
 pub use opening::open;
 pub use pairs::{assign, release};
 pub use pt_carrier::Cause;

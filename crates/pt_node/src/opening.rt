@@ -5,11 +5,13 @@ ghost use Rattle.pt_shard.specs.Opening.{IsInRange};
 ghost use Rattle.pt_node.specs.Opening.{Opens, AreFreshShards};
 
 use crate::making::make_whole;
+use crate::seating::fresh_seats;
 use pt_desk::Desk;
 use pt_shard::{Config, OpenError, Shard};
 use std::alloc::{AllocError, Global};
 
-/// Opens a node: its desks, in order, on which nothing has happened, each with its ends of all lanes.
+/// Opens a node: its desks, in order, on which nothing has happened, each with its ends of all lanes and its seat in one
+/// directory of who has ended.
 ///
 /// Refused as `Bounds` exactly where a setting is out of its range, else as `Memory` where there is none.
 pub fn open(alloc: Global, config: Config) -> Result<Vec<Desk>, OpenError>
@@ -21,6 +23,9 @@ pub fn open(alloc: Global, config: Config) -> Result<Vec<Desk>, OpenError>
     let Ok(shards) = fresh_shards(alloc, config) else {
         return Err(OpenError::Memory);
     };
+    let Ok(seats) = fresh_seats(alloc, config) else {
+        return Err(OpenError::Memory);
+    };
     let Ok(mut desks) = Vec::with_capacity(alloc, usize::from(config.desks)) else {
         return Err(OpenError::Memory);
     };
@@ -28,7 +33,7 @@ pub fn open(alloc: Global, config: Config) -> Result<Vec<Desk>, OpenError>
         desks.destroy_empty();
         return Err(OpenError::Memory);
     };
-    make_whole(pairs, shards, &mut desks);
+    make_whole(pairs, shards, seats, &mut desks);
     Ok(desks)
 }
 

@@ -4,7 +4,7 @@ use Rattle.std.proofs.Common.{inl, inr}
 use Rattle.pt_script.specs.Plans.{Whole}
 use Rattle.pt_script.specs.Scripts.{reading}
 use Rattle.pt_shard.specs.declared.fault.Fault.{Fault}
-use Rattle.pt_shard.specs.declared.fault.Fault.TheVariants.{Full, Memory as DeskMemory, Worn, Gone, Myself}
+use Rattle.pt_shard.specs.declared.fault.Fault.TheVariants.{Full, Memory as DeskMemory, Worn, Gone, Myself, NoProc}
 use Rattle.pt_shard.specs.declared.stop.Stop.{Stop}
 use Rattle.pt_shard.specs.declared.stop.Stop.TheVariants.{Memory as StopMemory, Worn as StopWorn}
 use Rattle.pt_gathered.specs.Gathered.{GatheredState}
@@ -22,6 +22,7 @@ told_of_start script Full b = b
 told_of_start script Worn b = b
 told_of_start script Gone b = absurd b.2.3
 told_of_start script Myself b = absurd b.2.3
+told_of_start script NoProc b = absurd b.2.3
 
 pub stopped_of_summary : (g last : GatheredState) (stop : Stop) → SettlingStops (length g.shards) stop g last → IsOfSummary g (stopped stop)
 stopped_of_summary g last StopMemory s = tt
@@ -35,6 +36,7 @@ of_start bytes options script (Desk Worn) read n = (script, read, inl n)
 of_start bytes options script (Desk DeskMemory) read n = absurd n
 of_start bytes options script (Desk Gone) read n = absurd n
 of_start bytes options script (Desk Myself) read n = absurd n
+of_start bytes options script (Desk NoProc) read n = absurd n
 of_start bytes options script (Script error) read n = absurd n
 of_start bytes options script File read n = absurd n
 
@@ -53,4 +55,5 @@ of_summary bytes options script g (Desk Full) read asked node n = absurd n
 of_summary bytes options script g (Desk DeskMemory) read asked node n = absurd n
 of_summary bytes options script g (Desk Gone) read asked node n = absurd n
 of_summary bytes options script g (Desk Myself) read asked node n = absurd n
+of_summary bytes options script g (Desk NoProc) read asked node n = absurd n
 of_summary bytes options script g (Script error) read asked node n = absurd n

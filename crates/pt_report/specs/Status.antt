@@ -2,7 +2,7 @@
 use Rattle.std.specs.Prelude.{ℕ, ⊤}
 use Rattle.pt_script.specs.declared.fault.ScriptError.TheVariants.{Refused}
 use Rattle.pt_shard.specs.declared.fault.Fault.{Fault}
-use Rattle.pt_shard.specs.declared.fault.Fault.TheVariants.{Full, Memory as DeskMemory, Worn as DeskWorn, Gone, Myself}
+use Rattle.pt_shard.specs.declared.fault.Fault.TheVariants.{Full, Memory as DeskMemory, Worn as DeskWorn, Gone, Myself, NoProc}
 use Rattle.pt_shard.specs.declared.stop.Stop.{Stop}
 use Rattle.pt_shard.specs.declared.stop.Stop.TheVariants.{Memory as StopMemory, Worn as StopWorn}
 use Rattle.pt_report.specs.declared.fault.ReportFault.{ReportFault}
@@ -36,3 +36,4 @@ fault_number DeskMemory = 2
 fault_number DeskWorn = 3
 fault_number Gone = 4
 fault_number Myself = 5
+fault_number NoProc = 6

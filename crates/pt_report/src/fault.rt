@@ -50,6 +50,7 @@ fn number_of(fault: &Fault) -> u8
         Fault::Worn => 3,
         Fault::Gone => 4,
         Fault::Myself => 5,
+        Fault::NoProc => 6,
     }
 }
 

@@ -14,12 +14,15 @@ use Rattle.pt_script.specs.declared.values.Operation.TheVariants.{Send, Receive,
 use Rattle.pt_signal.specs.declared.signal.Signal.TheVariants.{AliveAsk}
 use Rattle.pt_events.specs.declared.event.Event.TheVariants.{Said}
 use Rattle.pt_shard.specs.declared.fault.Fault.{Fault}
+use Rattle.pt_desk.specs.DeskState.{DeskState}
+use Rattle.pt_desk.specs.Reaching.{Reaches, has_monitor_to_make}
+use Rattle.pt_desk.proofs.Reached.{reached}
 use Rattle.pt_shard.specs.Calls.{Calls, Monitors, take_event, first_match, demonitor_event, new_ref}
 use Rattle.pt_runner.specs.declared.calls.Progress.TheVariants.{Done, Stays}
 use Rattle.pt_shard.specs.ShardState.{ShardState}
 use Rattle.pt_runner.specs.declared.calls.Progress.{Progress}
 use Rattle.pt_runner.specs.declared.runner.Actor.{Actor}
-use Rattle.pt_runner.specs.Acting.{came_of, CallsAt, Takes, taken_of, Demonitors, MonitorsAt, AsksAt, got, Performs, Acting, Table, acting, set_acting, with_child, newborn, Plays, DoesOperation, ActsAt, EachActs}
+use Rattle.pt_runner.specs.Acting.{came_of, CallsAt, ReachesAt, Takes, taken_of, Demonitors, MonitorsAt, AsksAt, got, Performs, Acting, Table, acting, set_acting, with_child, newborn, Plays, DoesOperation, ActsAt, EachActs}
 
 -- calls on a target ------------------------------------------------------------------------
 
@@ -29,6 +32,20 @@ passed_at at p event old is = subst (λ (o : Option Pid). CallsAt o p event old 
 pub call_at : (at : Option Pid) (t p : Pid) (event : Pid → Option Event) (e : Option Event) (old new : ShardState) (answer : Result (Unit {0}) Fault) (progress : Progress) → at ≡ Some t → e ≡ event t → Calls p e (tt {0}) old answer new → progress ≡ came_of answer → CallsAt at p event old progress new
 call_at at t p event e old new answer progress is same calls came =
     subst (λ (o : Option Pid). CallsAt o p event old progress new) (sym is) (answer, subst (λ (f : Option Event). Calls p f (tt {0}) old answer new) same calls, came)
+
+-- calls that reach for a target: what the desk says of one is what the runner says
+
+pub reach_passed : (at : Option Pid) (p : Pid) (looks : Pid → Bool) (event : Pid → Option Event) (old : ShardState) → at ≡ None → ReachesAt at p looks event old Done old
+reach_passed at p looks event old is = subst (λ (o : Option Pid). ReachesAt o p looks event old Done old) (sym is) (refl, refl)
+
+pub reach_at : (at : Option Pid) (t p : Pid) (looks : Pid → Bool) (event : Pid → Option Event) (e : Option Event) (old new : DeskState) (answer : Result (Unit {0}) Fault) (progress : Progress) → at ≡ Some t → e ≡ event t
+    → Reaches (looks t) p t (Calls p e (tt {0}) old.shard answer new.shard) old answer new → progress ≡ came_of answer → ReachesAt at p looks event old.shard progress new.shard
+reach_at at t p looks event e old new answer progress is same reaches came =
+    subst (λ (o : Option Pid). ReachesAt o p looks event old.shard progress new.shard) (sym is) (
+      answer,
+      reached (looks t) p t (Calls p (event t) (tt {0}) old.shard answer new.shard) old answer new (subst (λ (f : Option Event). Reaches (looks t) p t (Calls p f (tt {0}) old.shard answer new.shard) old answer new) same reaches),
+      came,
+    )
 
 pub take_passed : (at : Option Pick) (p : Pid) (without : Progress) (old : ShardState) → at ≡ None → Takes at p without old Done old
 take_passed at p without old is = subst (λ (o : Option Pick). Takes o p without old Done old) (sym is) (refl, refl)
@@ -53,9 +70,11 @@ no_room p (Some t) old references after e = inl (refl, refl, e)
 pub no_target : (p : Pid) (at : Option Pid) (old : ShardState) (references after : List (Option Ref)) → at ≡ None → after ≡ references ++ None ∷ [] → MonitorsAt p at old references Done old after
 no_target p at old references after is e = subst (λ (o : Option Pid). MonitorsAt p o old references Done old after) (sym is) (inr ((refl, refl), e))
 
-pub monitor_at : (p : Pid) (at : Option Pid) (t : Pid) (old new : ShardState) (references after : List (Option Ref)) (answer : Result Ref Fault) (progress : Progress) → at ≡ Some t → Monitors p t old answer new → progress ≡ came_of answer → after ≡ references ++ got answer → MonitorsAt p at old references progress new after
-monitor_at p at t old new references after answer progress is calls came noted =
-    subst (λ (o : Option Pid). MonitorsAt p o old references progress new after) (sym is) (inr (answer, calls, came, noted))
+pub monitor_at : (p : Pid) (at : Option Pid) (t : Pid) (old new : DeskState) (references after : List (Option Ref)) (answer : Result Ref Fault) (progress : Progress) → at ≡ Some t
+    → Reaches (has_monitor_to_make old.shard p t) p t (Monitors p t old.shard answer new.shard) old answer new → progress ≡ came_of answer → after ≡ references ++ got answer → MonitorsAt p at old.shard references progress new.shard after
+monitor_at p at t old new references after answer progress is reaches came noted =
+    subst (λ (o : Option Pid). MonitorsAt p o old.shard references progress new.shard after) (sym is)
+    (inr (answer, reached (has_monitor_to_make old.shard p t) p t (Monitors p t old.shard answer new.shard) old answer new reaches, came, noted))
 
 pub ask_no_room : (p : Pid) (at : Option Pid) (old : ShardState) (references after : List (Option Ref)) → after ≡ references → AsksAt p at old references Stays old after
 ask_no_room p None old references after e = inl (refl, refl, e)

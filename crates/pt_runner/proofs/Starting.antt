@@ -15,12 +15,13 @@ use Rattle.pt_signal.specs.declared.pid.Pid.{Pid}
 use Rattle.pt_events.specs.declared.event.Event.{Event}
 use Rattle.pt_shard.specs.declared.config.Config.{Config}
 use Rattle.pt_shard.specs.declared.fault.Fault.{Fault}
-use Rattle.pt_shard.specs.declared.fault.Fault.TheVariants.{Full, Memory, Worn, Gone, Myself}
+use Rattle.pt_shard.specs.declared.fault.Fault.TheVariants.{Full, Memory, Worn, Gone, Myself, NoProc}
 use Rattle.pt_shard.specs.ShardState.{ShardState, past}
 use Rattle.pt_shard.specs.Calls.{Bears, CanWrite, IsWorn}
 use Rattle.pt_shard.specs.Opening.{fresh}
 use Rattle.pt_desk.specs.DeskState.{DeskState, IsDesk, GoesOn, place}
 use Rattle.pt_node.specs.Desks.{AreDesksOf}
+use Rattle.pt_node.proofs.StillDesks.{still_node}
 use Rattle.pt_node.specs.Opening.{AreFresh}
 use Rattle.pt_script.specs.declared.values.Top.{Top}
 use Rattle.pt_runner.specs.declared.runner.Actor.{Actor}
@@ -30,22 +31,9 @@ use Rattle.pt_runner.specs.Starting.{on, birth, Begins, IsRunnerOf, named, put_p
 
 -- the desks of a node -----------------------------------------------------------------
 
-settings : DeskState → Config
-settings d = d.shard.config
-
 -- desks of one node are that node's where one of them goes on
 pub node_set : (config : Config) (desks : List DeskState) (d : ℕ) (old y : DeskState) → AreDesksOf config desks → d < length desks → old ≡ get_or desks d old → GoesOn old y → AreDesksOf config (set desks d y)
-unfolding settings
-node_set config desks d old y node l r s = record {
-  some = rw length-set node.some;
-  count = length-set desks d y ∙ node.count;
-  node = rw (map-set_same place desks d old y l r s.place) node.node;
-  configs = λ k z h.
-      sym (get_or-map settings (set desks d y) k z (settings z) h)
-      ∙ ap (λ cs. get_or cs k (settings z)) (map-set_same settings desks d old y l r s.shard.config)
-      ∙ get_or-map settings desks k z (settings z) (rw (sym (length-set desks d y)) h)
-      ∙ node.configs k z (rw (sym (length-set desks d y)) h);
-}
+node_set config desks d old y node l r s = still_node config desks d old y node l r (s.place, s.shard.config, s.sight.directory)
 
 -- those of one desk -----------------------------------------------------------------------
 
@@ -161,6 +149,7 @@ not_born old new Full b = b.2
 not_born old new Memory b = b.2
 not_born old new Gone b = absurd b
 not_born old new Myself b = absurd b
+not_born old new NoProc b = absurd b
 
 -- runners --------------------------------------------------------------------------------------
 
@@ -272,6 +261,7 @@ births_stop tops count desks t old y Memory few within whole b = λ less.
     at_next tops count desks t y (λ d. CanWrite d.shard × IsSome d.shard.vacant) few within (subst H (sym b.2) (b.0, b.1))
 births_stop tops count desks t old y Gone few within whole b = absurd b
 births_stop tops count desks t old y Myself few within whole b = absurd b
+births_stop tops count desks t old y NoProc few within whole b = absurd b
 
 -- there was no memory for the list of pids: nothing has happened on the desks
 pub none_born : (w : Whole) (desks : List DeskState) → IsSound w → AreFresh (config_of w.settings) desks → BirthsStop w.tops 0 desks Memory

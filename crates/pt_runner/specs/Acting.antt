@@ -12,11 +12,12 @@ use Rattle.pt_signal.specs.declared.signal.Signal.{Signal}
 use Rattle.pt_events.specs.declared.event.Event.{Event}
 use Rattle.pt_events.specs.declared.event.Event.TheVariants.{Said, Flag, Left}
 use Rattle.pt_shard.specs.declared.fault.Fault.{Fault}
-use Rattle.pt_shard.specs.declared.fault.Fault.TheVariants.{Full, Myself}
+use Rattle.pt_shard.specs.declared.fault.Fault.TheVariants.{Full, Myself, NoProc}
 use Rattle.pt_shard.specs.Calls.{Calls, Monitors, BearsChild, link_event, unlink_event, take_event, first_match, demonitor_event, new_ref}
 use Rattle.pt_shard.specs.Known.{knows}
 use Rattle.pt_shard.specs.ShardState.{ShardState, lives, state_in}
 use Rattle.pt_desk.specs.DeskState.{DeskState, HasSameEnds}
+use Rattle.pt_desk.specs.Reaching.{IsReached, has_link_to_make, has_monitor_to_make}
 use Rattle.pt_script.specs.Plans.{Plan}
 use Rattle.pt_script.specs.declared.values.Operation.{Operation}
 use Rattle.pt_script.specs.declared.values.Operation.TheVariants.{Send, Receive, Check, Link, Unlink, Monitor, Demonitor, Alive, Trap, Exit, Signal as SendExit, Spawn, Pass}
@@ -107,6 +108,7 @@ abbrev pub came_of : {A : Type 0} → Result A Fault → Progress
 came_of (Ok x) = Done
 came_of (Err Full) = Ends (Other 1)
 came_of (Err Myself) = Ends (Other 5)
+came_of (Err NoProc) = Done
 came_of (Err _) = Stays
 
 -- it is passed over
@@ -122,9 +124,16 @@ abbrev pub CallsAt : Option Pid → Pid → (Pid → Option Event) → ShardStat
 CallsAt None p event old progress new = IsPassed old progress new
 CallsAt (Some t) p event old progress new = IsCall p (event t) (tt {0}) old progress new
 
+-- a call that reaches for a target, passed over without one
+abbrev pub ReachesAt : Option Pid → Pid → (Pid → Bool) → (Pid → Option Event) → ShardState → Progress → ShardState → Type 0
+ReachesAt None p looks event old progress new = IsPassed old progress new
+ReachesAt (Some t) p looks event old progress new =
+    (answer : Result (Unit {0}) Fault) × IsReached (looks t) p t (Calls p (event t) (tt {0}) old answer new) old answer new
+    × (progress ≡ came_of answer)
+
 abbrev pub Sends : List (Option Pid) → Pid → ℕ → ℕ → ℤ → Option ℕ → ShardState → Progress → ShardState → Type 0
 Sends pids p to kind num who old progress new =
-    CallsAt (target_of old pids to) p (λ t. Some (Said p t (Signal.Message (record { kind = kind; num = num; who = pid_if pids who })))) old progress new
+    ReachesAt (target_of old pids to) p (λ t. lives old p) (λ t. Some (Said p t (Signal.Message (record { kind = kind; num = num; who = pid_if pids who })))) old progress new
 
 -- what comes of a receive, where `without` does so when no item fits
 abbrev pub taken_of : Progress → Result (Option Item) Fault → Progress
@@ -141,9 +150,10 @@ abbrev pub Demonitors : Option Ref → Pid → Bool → ShardState → Progress 
 Demonitors None p flush old progress new = IsPassed old progress new
 Demonitors (Some m) p flush old progress new = IsCall p (demonitor_event old p m flush) (is_some (demonitor_event old p m flush)) old progress new
 
--- the reference that an operation with a tag got
+-- what the tag of an operation stands for by the answer: a reference, or none where it is passed over
 abbrev pub got : Result Ref Fault → List (Option Ref)
 got (Ok reference) = Some reference ∷ []
+got (Err NoProc) = None ∷ []
 got (Err _) = []
 
 abbrev pub HasNoRoom : ShardState → List (Option Ref) → Progress → ShardState → List (Option Ref) → Type 0
@@ -159,7 +169,8 @@ MonitorsAt p None old references progress new after =
     HasNoRoom old references progress new after ⊎ HasNoTarget old references progress new after
 MonitorsAt p (Some t) old references progress new after =
     HasNoRoom old references progress new after
-    ⊎ ((answer : Result Ref Fault) × Monitors p t old answer new × (progress ≡ came_of answer) × (after ≡ references ++ got answer))
+    ⊎ ((answer : Result Ref Fault) × IsReached (has_monitor_to_make old p t) p t (Monitors p t old answer new) old answer new
+    × (progress ≡ came_of answer) × (after ≡ references ++ got answer))
 
 -- an ask, likewise
 abbrev pub AsksAt : Pid → Option Pid → ShardState → List (Option Ref) → Progress → ShardState → List (Option Ref) → Type 0
@@ -176,7 +187,8 @@ Performs pids p (Send to kind num who) old references progress new after =
     Sends pids p to kind num who old progress new × (after ≡ references)
 Performs pids p (Receive pattern) old references progress new after = Takes (pick_of pids references pattern) p Stays old progress new × (after ≡ references)
 Performs pids p (Check pattern) old references progress new after = Takes (pick_of pids references pattern) p Done old progress new × (after ≡ references)
-Performs pids p (Link to) old references progress new after = CallsAt (target_of old pids to) p (link_event old p) old progress new × (after ≡ references)
+Performs pids p (Link to) old references progress new after =
+    ReachesAt (target_of old pids to) p (has_link_to_make old p) (link_event old p) old progress new × (after ≡ references)
 Performs pids p (Unlink to) old references progress new after = CallsAt (target_of old pids to) p (unlink_event old p) old progress new × (after ≡ references)
 Performs pids p (Monitor to tag) old references progress new after =
     MonitorsAt p (target_of old pids to) old references progress new after

@@ -5,7 +5,7 @@ use Rattle.pt_signal.specs.declared.pid.Pid.{Pid}
 use Rattle.pt_events.specs.declared.event.Event.{Event}
 use Rattle.pt_events.specs.declared.event.Event.TheVariants.{Born}
 use Rattle.pt_shard.specs.declared.fault.Fault.{Fault}
-use Rattle.pt_shard.specs.declared.fault.Fault.TheVariants.{Full, Memory, Worn, Gone, Myself}
+use Rattle.pt_shard.specs.declared.fault.Fault.TheVariants.{Full, Memory, Worn, Gone, Myself, NoProc}
 use Rattle.pt_shard.specs.Calls.{CanWrite, IsWorn}
 use Rattle.pt_shard.specs.ShardState.{past}
 use Rattle.pt_desk.specs.DeskState.{DeskState, IsDesk}
@@ -72,6 +72,7 @@ BirthsStop tops count desks Worn = (count < length tops) × AtNext tops count de
 BirthsStop tops count desks Memory = count < length tops → AtNext tops count desks (λ d. CanWrite d.shard × IsSome d.shard.vacant)
 BirthsStop tops count desks Gone = ⊥
 BirthsStop tops count desks Myself = ⊥
+BirthsStop tops count desks NoProc = ⊥
 
 -- the first of the list are born, and for this reason no more
 abbrev pub BornUntil : List Top → List DeskState → Fault → Type 0

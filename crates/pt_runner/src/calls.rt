@@ -6,6 +6,7 @@ ghost use Rattle.std.specs.Prelude.{◌≡◌, ◌≢◌, ℕ, Bool, ◌+◌, �
 ghost use Rattle.pt_signal.specs.declared.signal.Signal.{Signal};
 ghost use Rattle.pt_events.specs.declared.event.Event.{Event};
 ghost use Rattle.pt_desk.specs.DeskState.{GoesOn, HasSameEnds};
+ghost use Rattle.pt_desk.specs.Reaching.{has_link_to_make};
 ghost use Rattle.pt_shard.specs.Calls.{link_event, unlink_event};
 ghost use Rattle.pt_shard.specs.Known.{knows};
 ghost use Rattle.pt_script.specs.declared.values.Operation.{Operation};
@@ -34,7 +35,7 @@ pub fn progress_of<T: Drop>(answer: Result<T, Fault>) -> Progress
     ensures { result ≡ came_of answer }
 {
     match answer {
-        Ok(_) => Progress::Done,
+        Ok(_) | Err(Fault::NoProc) => Progress::Done,
         Err(Fault::Full) => Progress::Ends(Reason::Other(1)),
         Err(Fault::Myself) => Progress::Ends(Reason::Other(5)),
         Err(Fault::Memory | Fault::Worn | Fault::Gone) => Progress::Stays,
@@ -178,7 +179,7 @@ fn receive(
 }
 
 fn link(desk: &mut Desk, pids: &[Option<Pid>], p: Pid, to: u32) -> Progress
-    ensures does { spec.CallsAt (spec.target_of desk.old.shard pids.now to) p (link_event desk.old.shard p) desk.old.shard result desk.new.shard }
+    ensures does { spec.ReachesAt (spec.target_of desk.old.shard pids.now to) p (has_link_to_make desk.old.shard p) (link_event desk.old.shard p) desk.old.shard result desk.new.shard }
     ensures ends { HasSameEnds desk.old desk.new }
     ensures goes_on { GoesOn desk.old desk.new }
 {
@@ -210,13 +211,15 @@ fn exit_signal(desk: &mut Desk, pids: &[Option<Pid>], p: Pid, to: u32, reason: R
     }
 }
 
-/// Notes the reference that the next tag stands for, if there is one.
+/// Notes what the next tag stands for by the answer: a reference, or nothing where the operation is passed over.
 fn note(references: &mut References, answer: Result<Ref, Fault>)
     requires { vec_len references.old < vec_capacity references.old }
     ensures { references.new.items ≡ references.old.items ++ spec.got answer }
 {
-    if let Ok(reference) = answer {
-        references.push_reserved(Some(reference));
+    match answer {
+        Ok(reference) => references.push_reserved(Some(reference)),
+        Err(Fault::NoProc) => references.push_reserved(None),
+        Err(_) => {}
     }
 }
 

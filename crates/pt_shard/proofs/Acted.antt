@@ -104,6 +104,7 @@ module _ (a : Parts) (whole : IsWhole a) (p : Pid) (was : Resident) (found : Som
     acted (Some e) law (Err fault.Gone) h = absurd h
     acted (Some e) law (Err fault.Full) h = absurd h
     acted (Some e) law (Err fault.Myself) h = absurd h
+    acted (Some e) law (Err fault.NoProc) h = absurd h
 
   -- what its events make of the desk ------------------------------------------------------------
 
@@ -242,6 +243,7 @@ module _ (a : Parts) (whole : IsWhole a) (p : Pid) (found : Found a p) (ledger :
     told law (Err fault.Gone) h = absurd h
     told law (Err fault.Full) h = absurd h
     told law (Err fault.Myself) h = absurd h
+    told law (Err fault.NoProc) h = absurd h
 
   pub said : (to : Pid) (x : Signal) → knows (shard_of a) to ≡ true → IsPlain x → (r : Result (Unit {0}) Fault) → Tells (Said p to x) (tt {0}) ledger r ledger'
       → Acted (Unit {0}) a (told_with ledger'.book) p (Some (Said p to x)) (tt {0}) r
@@ -364,6 +366,7 @@ module _ (a : Parts) (whole : IsWhole a) (par : Pid) (was : Resident) (found : S
   no_room fault.Gone h = absurd h
   no_room fault.Full h = absurd h
   no_room fault.Myself h = absurd h
+  no_room fault.NoProc h = absurd h
 
   pub bears_none : IsSome (vacant_at a.house.desk a.house.table) → (f : Fault) → PreparesBirth asked was ledger (Err f) now ledger'
       → (r : Result Pid Fault) → IsErr r × IsErrAnd r (λ g. g ≡ f) → BearsChild par asked (shard_of a) r (shard_of before)
@@ -372,6 +375,7 @@ module _ (a : Parts) (whole : IsWhole a) (par : Pid) (was : Resident) (found : S
   bears_none free fault.Gone h (Ok q) err = absurd h
   bears_none free fault.Full h (Ok q) err = absurd h
   bears_none free fault.Myself h (Ok q) err = absurd h
+  bears_none free fault.NoProc h (Ok q) err = absurd h
   bears_none free fault.Worn h (Err f) err =
       subst (λ x. BearsChild par asked (shard_of a) (Err x) (shard_of before)) (sym err.1)
       (alive a whole par (acting a whole par was found), subst (λ (b : Book). 2 ^ 62 ≤ b.clock) is h.0, (no_room fault.Worn h).is)
@@ -381,6 +385,7 @@ module _ (a : Parts) (whole : IsWhole a) (par : Pid) (was : Resident) (found : S
   bears_none free fault.Gone h (Err f) err = absurd h
   bears_none free fault.Full h (Err f) err = absurd h
   bears_none free fault.Myself h (Err f) err = absurd h
+  bears_none free fault.NoProc h (Err f) err = absurd h
 
   module _ (link : Option LinkId) (h : PreparesBirth asked was ledger (Ok link) now ledger') where
     pub ready : Unchanged a before

@@ -285,7 +285,6 @@ same_whole a book house whole b d same =
           held = whole.sound.fit.held;
           posts_near = whole.sound.fit.posts_near;
           gots_near = whole.sound.fit.gots_near;
-          unrefused = whole.sound.fit.unrefused;
         };
         residents = λ p. same_reading a.house.desk a.house.table house.table same p ∙ whole.sound.residents p;
         issues = λ slot. same.settings.issues slot ∙ whole.sound.issues slot;

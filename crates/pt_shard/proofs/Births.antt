@@ -8,7 +8,7 @@ use Rattle.pt_signal.specs.declared.ids.LinkId.{LinkId}
 use Rattle.pt_signal.specs.Values.{same_pid}
 use Rattle.pt_signal.proofs.Same.{same_pid_refl, same_pid_is}
 use Rattle.pt_events.specs.declared.event.Event.{Event}
-use Rattle.pt_events.specs.declared.event.Event.TheVariants.{Born, Said, Came, Took, Flag, Left}
+use Rattle.pt_events.specs.declared.event.Event.TheVariants.{Born}
 use Rattle.pt_events.specs.History.{Past, Start, Phase, unborn, living, ended, life, after, change, newborn, touches, is_unborn, is_ended, is_living, is_the}
 use Rattle.pt_events.proofs.Phases.{each_branch, after_born}
 use Rattle.pt_shard.specs.ShardState.{ShardState, past}

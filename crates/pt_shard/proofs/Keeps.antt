@@ -8,7 +8,7 @@ use Rattle.pt_signal.specs.declared.pid.Pid.{Pid}
 use Rattle.pt_signal.specs.declared.letter.Letter.{Letter}
 use Rattle.pt_signal.specs.Process.{Sent}
 use Rattle.pt_events.specs.declared.event.Event.{Event}
-use Rattle.pt_events.specs.declared.event.Event.TheVariants.{Came, Refused}
+use Rattle.pt_events.specs.declared.event.Event.TheVariants.{Came}
 use Rattle.pt_events.specs.declared.event.Stamped.{Stamped}
 use Rattle.pt_events.specs.History.{sent_by}
 use Rattle.pt_events.specs.Journal.{letter, letters, gots, got_of, posts, IsHome, MayHere, IsNewAt, IsKnown}
@@ -19,7 +19,7 @@ use Rattle.pt_shard.proofs.Boxes.{put_at, put_count}
 use Rattle.pt_shard.specs.ShardState.{ShardState, past, sends, written, vacated, ended_by, put_out}
 use Rattle.pt_shard.specs.Known.{issued_in}
 use Rattle.pt_shard.specs.Extends.{Extends}
-use Rattle.pt_shard.specs.Fit.{IsFit, IsNoRefusal, AreBetween}
+use Rattle.pt_shard.specs.Fit.{IsFit, AreBetween}
 use Rattle.pt_shard.specs.Sound.{Every, IsSound, BornAreIssued, IsNear, resident}
 use Rattle.pt_shard.specs.LedgerState.{wrote}
 use Rattle.pt_shard.specs.Residents.{Table, ResidentsState, resident_at, vacant_at}
@@ -54,10 +54,6 @@ none_far desks e n (l ∷ ls) h far = rw (not_there l.to.shard e desks h.0 far) 
 got_near : (desks e n : ℕ) (x : Event) → IsNear desks x → desks ≤ e → got_of e n x ≡ []
 got_near desks e n (Came a b x) h far = rw (not_there a.shard e desks h far) refl
 got_near desks e n _ h far = refl
-
-no_refusal : (desks : ℕ) (e : Event) → IsNear desks e → IsNoRefusal e
-no_refusal desks (Refused a b) h = h
-no_refusal desks _ h = tt
 
 -- one more event ------------------------------------------------------------------------
 
@@ -135,7 +131,6 @@ module _ (a : Parts) (whole : IsWhole a) where
       held = whole.sound.fit.held;
       posts_near = fit_posts;
       gots_near = fit_gots;
-      unrefused = (no_refusal a.config.desks e law.near, whole.sound.fit.unrefused);
     }
 
     sound_written : IsSound (record (written n e before) { vacant = vacant_at a.house.desk table }) (resident_at a.house.desk table) (issued table)

@@ -16,3 +16,4 @@ mod Standing
 mod Acted
 mod Taken
 mod Vacancy
+mod Noting

@@ -40,7 +40,6 @@ module _ (a : Parts) (whole : IsWhole a) (outbox : List (List Letter)) (hold : O
         held = held;
         posts_near = whole.sound.fit.posts_near;
         gots_near = whole.sound.fit.gots_near;
-        unrefused = whole.sound.fit.unrefused;
       };
       residents = whole.sound.residents;
       issues = whole.sound.issues;
@@ -121,7 +120,6 @@ module _ (config : Config) (settings : IsInRange config) (house : ResidentsState
         held = tt;
         posts_near = λ e far. refl;
         gots_near = λ e far. refl;
-        unrefused = tt;
       };
       residents = nobody;
       issues = empty.none_issued;

@@ -89,6 +89,7 @@ Acts (Some e) answer r l (Err fault.Memory) r' l' = (l.book.clock < MAX_STAMP) �
 Acts (Some e) answer r l (Err fault.Gone) r' l' = ⊥
 Acts (Some e) answer r l (Err fault.Full) r' l' = ⊥
 Acts (Some e) answer r l (Err fault.Myself) r' l' = ⊥
+Acts (Some e) answer r l (Err fault.NoProc) r' l' = ⊥
 
 -- that event, which changes nothing in its process, was written, and it answers so
 abbrev pub Tells : {A : Type 0} → Event → A → LedgerState → Result A Fault → LedgerState → Type 0
@@ -98,6 +99,7 @@ Tells e answer l (Err fault.Memory) l' = (l.book.clock < MAX_STAMP) × (l'.book 
 Tells e answer l (Err fault.Gone) l' = ⊥
 Tells e answer l (Err fault.Full) l' = ⊥
 Tells e answer l (Err fault.Myself) l' = ⊥
+Tells e answer l (Err fault.NoProc) l' = ⊥
 
 -- the process takes one more link without memory, where there is one
 abbrev pub HasRoomIf : Option LinkId → Resident → Type 0
@@ -113,6 +115,7 @@ PreparesBirth linked r l (Err fault.Memory) r' l' = (l.book.clock < MAX_STAMP) �
 PreparesBirth linked r l (Err fault.Gone) r' l' = ⊥
 PreparesBirth linked r l (Err fault.Full) r' l' = ⊥
 PreparesBirth linked r l (Err fault.Myself) r' l' = ⊥
+PreparesBirth linked r l (Err fault.NoProc) r' l' = ⊥
 
 -- a letter could not be handled
 abbrev pub IsStopped : Letter → Stop → Resident → LedgerState → Resident → LedgerState → Type 0

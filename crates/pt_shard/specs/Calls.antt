@@ -1,5 +1,5 @@
 -- What each call of a desk answers, and what it leaves.
-use Rattle.std.specs.Prelude.{◌≡◌, ◌+◌, ◌<◌, ◌≤◌, Bool, true, false, cond, ◌||◌, is_some, Option, Some, None, IsSome, Result, Ok, Err}
+use Rattle.std.specs.Prelude.{◌≡◌, ℕ, ◌+◌, ◌<◌, ◌≤◌, Bool, true, false, cond, ◌||◌, max, is_some, Option, Some, None, IsSome, Result, Ok, Err}
 use Rattle.std.specs.Bool.{then_some}
 use Rattle.std.specs.List.{find}
 use Rattle.std.specs.Map.{lookup}
@@ -14,11 +14,11 @@ use Rattle.pt_signal.specs.declared.item.Item.{Item}
 use Rattle.pt_signal.specs.declared.item.Pick.{Pick}
 use Rattle.pt_signal.specs.declared.signal.Signal.TheVariants.{Link, Unlink, Monitor, Demonitor}
 use Rattle.pt_events.specs.declared.event.Event.{Event}
-use Rattle.pt_events.specs.declared.event.Event.TheVariants.{Born, Said, Took}
+use Rattle.pt_events.specs.declared.event.Event.TheVariants.{Born, Said, Took, Refused}
 use Rattle.pt_events.specs.declared.event.TheConstants.{MAX_STAMP}
 use Rattle.pt_shard.specs.declared.fault.Fault.{Fault}
-use Rattle.pt_shard.specs.declared.fault.Fault.TheVariants.{Full, Memory, Worn, Gone, Myself}
-use Rattle.pt_shard.specs.ShardState.{ShardState, lives, state_in, after}
+use Rattle.pt_shard.specs.declared.fault.Fault.TheVariants.{Full, Memory, Worn, Gone, Myself, NoProc}
+use Rattle.pt_shard.specs.ShardState.{ShardState, lives, state_in, after, written}
 
 -- one more event can be stamped
 abbrev pub CanWrite : ShardState → Type 0
@@ -43,6 +43,7 @@ Calls p event answer old (Err Worn) new = (lives old p ≡ true) × IsSome event
 Calls p event answer old (Err Memory) new = (lives old p ≡ true) × IsSome event × CanWrite old × (new ≡ old)
 Calls p event answer old (Err Full) new = ⊥
 Calls p event answer old (Err Myself) new = ⊥
+Calls p event answer old (Err NoProc) new = ⊥
 
 -- the events of the calls ------------------------------------------------------------
 
@@ -92,6 +93,7 @@ Monitors w t old (Err Myself) new = (lives old w ≡ true) × (same_pid w t ≡ 
 Monitors w t old (Err Worn) new = (lives old w ≡ true) × (same_pid w t ≡ false) × IsWorn old × (new ≡ old)
 Monitors w t old (Err Memory) new = (lives old w ≡ true) × (same_pid w t ≡ false) × CanWrite old × (new ≡ old)
 Monitors w t old (Err Full) new = ⊥
+Monitors w t old (Err NoProc) new = ⊥
 
 -- births ------------------------------------------------------------------------------
 
@@ -104,6 +106,7 @@ Bears parent link old (Err Full) new = CanWrite old × (old.vacant ≡ None) × 
 Bears parent link old (Err Memory) new = CanWrite old × IsSome old.vacant × (new ≡ old)
 Bears parent link old (Err Gone) new = ⊥
 Bears parent link old (Err Myself) new = ⊥
+Bears parent link old (Err NoProc) new = ⊥
 
 abbrev pub birth_link : Bool → ShardState → Option LinkId
 birth_link linked d = then_some linked (new_link d)
@@ -115,3 +118,13 @@ BearsChild parent linked old (Err Worn) new = (lives old parent ≡ true) × IsW
 BearsChild parent linked old (Err Full) new = (lives old parent ≡ true) × CanWrite old × (old.vacant ≡ None) × (new ≡ old)
 BearsChild parent linked old (Err Memory) new = (lives old parent ≡ true) × CanWrite old × IsSome old.vacant × (new ≡ old)
 BearsChild parent linked old (Err Myself) new = ⊥
+BearsChild parent linked old (Err NoProc) new = ⊥
+
+-- refused calls -------------------------------------------------------------------------
+
+-- a call of p to t, of whose end at stamp n the desk has seen, is refused; the desk notes it, at a later stamp
+abbrev pub Refuses : Pid → Pid → ℕ → ShardState → Fault → ShardState → Type 0
+Refuses p t n old NoProc new = (max old.clock n < MAX_STAMP) × (new ≡ written (max old.clock n + 1) (Refused p t) old)
+Refuses p t n old Worn new = (MAX_STAMP ≤ max old.clock n) × (new ≡ old)
+Refuses p t n old Memory new = (max old.clock n < MAX_STAMP) × (new ≡ old)
+Refuses p t n old _ new = ⊥

@@ -2,22 +2,10 @@
 use Rattle.std.specs.Prelude.{◌≡◌, ◌⊎◌, ℕ, ◌+◌, ◌<◌, ◌≤◌, true, false, List, [], ◌∷◌, length, Option, Some, None, IfSome, ⊤}
 use Rattle.pt_signal.specs.declared.letter.Letter.{Letter}
 use Rattle.pt_signal.specs.declared.pid.Pid.{Pid}
-use Rattle.pt_events.specs.declared.event.Event.{Event}
-use Rattle.pt_events.specs.declared.event.Event.TheVariants.{Refused}
-use Rattle.pt_events.specs.declared.event.Stamped.{Stamped}
 use Rattle.pt_events.specs.Journal.{clock, IsLocal, posts, gots}
 use Rattle.pt_shard.specs.ShardState.{ShardState, past, lives, box}
 use Rattle.pt_shard.specs.Known.{issued_in}
 use Rattle.pt_shard.specs.Opening.{IsInRange}
-
--- no event is a refused call
-abbrev pub IsNoRefusal : Event → Type 0
-IsNoRefusal (Refused a b) = ⊥
-IsNoRefusal _ = ⊤
-
-abbrev pub IsUnrefused : List Stamped → Type 0
-IsUnrefused [] = ⊤
-IsUnrefused (s ∷ journal) = IsNoRefusal s.event × IsUnrefused journal
 
 -- from pids of desk d to pids of desk e
 abbrev pub AreBetween : ℕ → ℕ → List Letter → Type 0
@@ -56,5 +44,3 @@ pub record IsFit (d : ShardState) : Type 0 where
   -- it sent to desks of the node alone, and got from such alone
   pub posts_near : (e : ℕ) → d.config.desks ≤ e → posts d.start d.journal e ≡ []
   pub gots_near : (e : ℕ) → d.config.desks ≤ e → gots d.journal e ≡ []
-  -- it was refused no call yet
-  pub unrefused : IsUnrefused d.journal

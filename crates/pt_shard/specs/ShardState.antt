@@ -57,11 +57,15 @@ abbrev pub is_ended_by : Phase → Pid → Pid → Signal → Bool
 is_ended_by (living s) b a x = is_some (handle b s a x).ending
 is_ended_by _ b a x = false
 
--- the process that the event ends
+-- the process that the event ends, after those before it
+abbrev pub ended_in : Start → Past → Event → Option Pid
+ended_in start past (Came a b x) = cond (is_ended_by (life start past b) b a x) (Some b) None
+ended_in start past (Left p r) = Some p
+ended_in start past _ = None
+
+-- the process of the desk that the event ends
 abbrev pub ended_by : ShardState → Event → Option Pid
-ended_by d (Came a b x) = cond (is_ended_by (phase_of d b) b a x) (Some b) None
-ended_by d (Left p r) = Some p
-ended_by d _ = None
+ended_by d e = ended_in d.start (past d) e
 
 -- the slot of a process that ended is the next to be given out, under its next version, unless it had the top one
 abbrev pub vacated : ℕ → Option Pid → Option Pid → Option Pid

@@ -31,11 +31,11 @@ of_phase p _ = None
 abbrev pub resident : Past → Pid → Option (Pid × ProcessState)
 resident past p = of_phase p (life [] past p)
 
--- the other process of the event is of a desk of the node; no desk refuses a call yet
+-- the other process of the event is of a desk of the node
 abbrev pub IsNear : ℕ → Event → Type 0
 IsNear desks (Said a b x) = b.shard < desks
 IsNear desks (Came a b x) = a.shard < desks
-IsNear desks (Refused a b) = ⊥
+IsNear desks (Refused a b) = b.shard < desks
 IsNear desks _ = ⊤
 
 abbrev pub AllNear : ℕ → Past → Type 0

@@ -4,9 +4,10 @@ use crate::stop::Stop;
 use std::alloc::AllocError;
 use thiserror::Error;
 
-/// Why a desk refuses a call. After each of them the desk is as it was.
+/// Why a desk refuses a call. After each of them the desk is as it was, but for what a look in the directory of ended
+/// processes leaves: `NoProc` is noted in the journal, and before `Worn` and `Memory` the desk may have looked.
 ///
-/// Where several could be given it is the first of: `Gone`, `Myself`, `Worn`, `Full`, `Memory`.
+/// Where several could be given it is the first of: `Gone`, `Myself`, `NoProc`, `Worn`, `Full`, `Memory`.
 #[derive(Clone, Copy, Debug, PartialEq, Eq, Error)]
 pub enum Fault {
     /// No slot is free for a new process.
@@ -24,6 +25,9 @@ pub enum Fault {
     /// A process cannot monitor itself.
     #[error("a process cannot monitor itself")]
     Myself,
+    /// The other process is seen to have ended.
+    #[error("the other process has ended")]
+    NoProc,
 }
 
 impl From<AllocError> for Fault {

@@ -38,7 +38,9 @@
 //! A call is refused by a `Fault`, and the shard is then exactly as it was. Where several could be given it is the
 //! first of `Gone` (the acting process is not alive here), `Myself` (a monitor of oneself), `Worn` (the call has an
 //! event to write, and the clock stands at 2^62), `Full` (no slot for a birth) and `Memory` (the call has an event
-//! to write, and a growth was refused). A call that has no event to write takes no memory and needs no clock.
+//! to write, and a growth was refused). A call that has no event to write takes no memory and needs no clock. `NoProc`
+//! is the answer of [`Shard::refuse`] alone, which notes a call that the desk does not make, since it sees that the
+//! other process has ended.
 //!
 //! # Cost
 //!

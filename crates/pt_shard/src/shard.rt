@@ -11,7 +11,7 @@ ghost use Rattle.pt_shard.specs.Known.{knows};
 ghost use Rattle.pt_shard.specs.Extends.{Extends};
 ghost use Rattle.pt_shard.specs.Fit.{IsFit};
 ghost use Rattle.pt_shard.specs.Outbox.{sent_on, holding, count_pending};
-ghost use Rattle.pt_shard.specs.Calls.{Calls, Monitors, Bears, BearsChild, link_event, unlink_event, first_match, take_event, demonitor_event, held_by, new_ref};
+ghost use Rattle.pt_shard.specs.Calls.{Calls, Monitors, Bears, BearsChild, link_event, unlink_event, first_match, take_event, demonitor_event, held_by, new_ref, Refuses};
 ghost use Rattle.pt_shard.specs.Plain.{IsPlain};
 ghost use Rattle.pt_signal.specs.Process.{answer_of_dead};
 ghost use Rattle.std.specs.List.{find};
@@ -300,6 +300,29 @@ impl Shard {
             return Err(Fault::Gone);
         };
         ask(&mut self.ledger, p, t)
+    }
+
+    /// Refuses a call of p to t, of whose end at this stamp the desk has seen: t is not sent anything, and the journal
+    /// notes it, stamped above that end too.
+    ///
+    /// The answer is `NoProc`, or `Worn` where that stamp would pass the limit of clocks, else `Memory`; after these two
+    /// the desk is as it was.
+    #[cold]
+    #[inline(never)]
+    pub fn refuse(&mut self, p: Pid, t: Pid, seen: u64) -> Fault
+        requires alive { lives self.old p ≡ true }
+        requires known { knows self.old t ≡ true }
+        ensures does { Refuses p t seen self.old result self.new }
+        ensures extends { Extends self.old self.new }
+        ensures fit { IsFit self.new }
+    {
+        match self.ledger.prepare(seen) {
+            Ok(()) => {
+                self.ledger.write(seen, Event::Refused(p, t));
+                Fault::NoProc
+            }
+            Err(stop) => stop.into(),
+        }
     }
 
     /// Ends p with this reason: Erlang's `exit/1`, section Process Termination.

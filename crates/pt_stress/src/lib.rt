@@ -13,6 +13,8 @@ mod crowd;
 #[cfg(test)]
 mod dice;
 #[cfg(test)]
+mod ended;
+#[cfg(test)]
 mod node;
 #[cfg(test)]
 mod opening;

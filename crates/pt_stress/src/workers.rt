@@ -22,13 +22,13 @@ const ROUNDS: u64 = 10;
 
 /// A place where two workers look for each other.
 #[derive(Drop)]
-struct Meeting {
+pub(crate) struct Meeting {
     here: [AtomicU64; 2],
     seen: AtomicU64,
 }
 
 impl Meeting {
-    fn new() -> Meeting {
+    pub(crate) fn new() -> Meeting {
         Meeting {
             here: [AtomicU64::new(0), AtomicU64::new(0)],
             seen: AtomicU64::new(0),
@@ -36,7 +36,7 @@ impl Meeting {
     }
 
     /// Says that the worker of the desk is here, and looks for the other one.
-    fn meet(&self, desk: u8) {
+    pub(crate) fn meet(&self, desk: u8) {
         let me = usize::from(desk) % 2;
         self.here[me].store(1, Ordering::SeqCst);
         for _ in 0..LOOKS {
@@ -206,7 +206,7 @@ impl Work for Stepping {
 }
 
 /// The desks of a new node.
-fn two_desks<R: Abort>(rt: &R, alloc: Global, start: u64) -> Vec<Desk>
+pub(crate) fn two_desks<R: Abort>(rt: &R, alloc: Global, start: u64) -> Vec<Desk>
     ensures { AreDesks result.items }
 {
     let config = Config {
@@ -223,7 +223,7 @@ fn two_desks<R: Abort>(rt: &R, alloc: Global, start: u64) -> Vec<Desk>
 }
 
 /// The desks, each with its work.
-fn paired<R: Abort, W: Drop>(
+pub(crate) fn paired<R: Abort, W: Drop>(
     rt: &R,
     alloc: Global,
     desks: Vec<Desk>,
@@ -246,7 +246,11 @@ fn paired<R: Abort, W: Drop>(
 }
 
 /// The desks brought together, and what their workers did.
-fn gathered_again<R: Abort, W: Drop>(rt: &R, alloc: Global, ran: Ran<W>) -> (Gathered, Vec<W>)
+pub(crate) fn gathered_again<R: Abort, W: Drop>(
+    rt: &R,
+    alloc: Global,
+    ran: Ran<W>,
+) -> (Gathered, Vec<W>)
     requires { AreDesks (map (λ p. p.0) ran.desks.items) }
 {
     let Ran { desks: mut pairs } = ran;
@@ -295,7 +299,7 @@ fn workers_meet(rt: HostRuntime) -> Result<(), Fail> {
 
 /// A process on each of two desks.
 #[tactic(auto, using(pt_node::proofs::StillDesks::still_desks))]
-fn two_players<R: Abort>(rt: &R, desks: &mut Vec<Desk>) -> [Pid; 2]
+pub(crate) fn two_players<R: Abort>(rt: &R, desks: &mut Vec<Desk>) -> [Pid; 2]
     requires { AreDesks desks.old.items }
     ensures { AreDesks desks.new.items }
 {

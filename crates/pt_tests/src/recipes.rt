@@ -54,6 +54,7 @@ enum Play {
     OneForAll,
     Game,
     Texts,
+    LostTexts,
 }
 
 /// Plays on a new node, and gathers it.
@@ -82,6 +83,7 @@ fn on_desk<R: Abort>(rt: &R, alloc: Global, desk: &mut Desk, play: Play) -> Resu
         Play::OneForAll => one_for_all(rt, alloc, desk),
         Play::Game => duel(rt, alloc, desk),
         Play::Texts => greet(rt, alloc, desk),
+        Play::LostTexts => lose(rt, alloc, desk),
     }
 }
 
@@ -200,6 +202,26 @@ fn greet<R: Abort>(rt: &R, alloc: Global, desk: &mut Desk) -> Result<(), Fail>
     Ok(())
 }
 
+/// A text to a process that has ended goes, and one to a process that lives stays.
+fn lose<R: Abort>(rt: &R, alloc: Global, desk: &mut Desk) -> Result<(), Fail>
+    ensures { IsStill desk.old desk.new }
+{
+    let mut texts = Texts::new(alloc);
+    let ada = desk.spawn()?;
+    let bob = desk.spawn()?;
+    let late = texts.send(desk, ada, bob, String::from_str(alloc, "late")?)?;
+    let eve = desk.spawn()?;
+    let hello = texts.send(desk, ada, eve, String::from_str(alloc, "hello")?)?;
+    texts.drop_lost(desk);
+    assert_eq!(rt; texts.kept.len(), 2);
+    fails(desk, bob)?;
+    texts.drop_lost(desk);
+    assert!(rt; texts.kept.get(late).is_none());
+    let kept = texts.kept.get(hello);
+    assert!(rt; kept.is_some_and(|sent| sent.to == eve && sent.text.as_str() == "hello"));
+    Ok(())
+}
+
 #[test]
 fn a_child_is_started_again_and_past_the_limit_the_supervisor_gives_up(
     rt: HostRuntime,
@@ -220,6 +242,11 @@ fn a_monster_without_health_ends(rt: HostRuntime) -> Result<(), Fail> {
 #[test]
 fn a_text_comes_with_its_message(rt: HostRuntime) -> Result<(), Fail> {
     played(&rt, rt.alloc(), Play::Texts)
+}
+
+#[test]
+fn a_text_to_a_process_that_has_ended_goes(rt: HostRuntime) -> Result<(), Fail> {
+    played(&rt, rt.alloc(), Play::LostTexts)
 }
 
 #[test]

@@ -5,8 +5,10 @@
 
 mod asks;
 mod bench;
+mod by_pid;
 mod desks;
 mod exits;
+mod fifty;
 mod known;
 mod limits;
 mod links;
@@ -14,6 +16,7 @@ mod messages;
 mod monitors;
 mod play;
 mod quiet;
+mod refused;
 mod settling;
 mod slots;
 mod workers;

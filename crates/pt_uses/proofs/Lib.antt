@@ -1,3 +1,4 @@
 pub mod Calling
 pub mod Doings
 pub mod Retained
+pub mod Exchanged

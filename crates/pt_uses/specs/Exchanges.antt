@@ -1,14 +1,18 @@
 -- Two processes of a desk that exchange a message each.
-use Rattle.std.specs.Prelude.{pos, Option, None}
+use Rattle.std.specs.Prelude.{◌≡◌, pos, List, length, slice_index_or, Option, None, Result, Ok}
 use Rattle.pt_signal.specs.declared.pid.Pid.{Pid}
 use Rattle.pt_signal.specs.declared.item.Item.{Item}
 use Rattle.pt_signal.specs.declared.item.Pick.{Pick}
 use Rattle.pt_signal.specs.declared.signal.Signal.{Signal}
+use Rattle.pt_shard.specs.declared.config.Config.{Config}
+use Rattle.pt_shard.specs.declared.fault.Fault.{Fault}
+use Rattle.pt_shard.specs.Opening.{fresh}
 use Rattle.pt_shard.specs.ShardState.{ShardState}
 use Rattle.pt_shard.specs.Calls.{Calls, Bears, take_event, first_match}
 use Rattle.pt_desk.specs.DeskState.{DeskState, HasSameEnds}
 use Rattle.pt_desk.specs.Turns.{Turns}
 use Rattle.pt_desk.specs.declared.turned.Turned.{Turned}
+use Rattle.pt_gathered.specs.Gathered.{GatheredState, journals}
 use Rattle.pt_uses.specs.declared.two_processes.TheConstants.{ASK, ANSWER}
 use Rattle.pt_uses.specs.Doing.{Doing, Idles, AndThen}
 use Rattle.pt_uses.specs.Telling.{SaysTo, message}
@@ -34,3 +38,19 @@ Exchanges old r new =
     (λ ping first. AndThen (OnDesk (Bears None None) first)
     (λ pong both. AndThen (HandsOver ping pong (message ASK (pos 7)) (Pick.Kind ASK) both)
     (λ _ asked. AndThen (HandsOver pong ping (message ANSWER (pos 8)) (Pick.From pong) asked) (λ _. Idles (tt {0}))))) r new
+
+-- the exchange happened on the first of the desks
+abbrev pub ExchangesOnFirst : List DeskState → Result (Unit {0}) Fault → List DeskState → Type 0
+ExchangesOnFirst desks r then =
+    (old : DeskState) × (new : DeskState) × (old ≡ slice_index_or desks 0 old) × (new ≡ slice_index_or then 0 new)
+    × Exchanges old r new
+
+-- a node of one desk, on which nothing happened but the exchange
+pub record HasExchanged (g : GatheredState) : Type 0 where
+  pub config : Config
+  pub old : DeskState
+  pub new : DeskState
+  pub fresh : old.shard ≡ fresh config 0
+  pub exchanges : Exchanges old (Ok (tt {0})) new
+  pub desks : length g.shards ≡ 1
+  pub journal : journals g 0 ≡ new.shard.journal

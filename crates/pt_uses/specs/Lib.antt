@@ -4,3 +4,4 @@ pub mod Games
 pub mod Payloads
 pub mod Supervision
 pub mod Telling
+pub mod Rings

@@ -8,7 +8,6 @@ use Rattle.pt_signal.specs.declared.pid.Pid.{Pid}
 use Rattle.pt_signal.specs.declared.item.Item.{Item}
 use Rattle.pt_signal.specs.declared.item.Item.TheVariants.{User}
 use Rattle.pt_signal.specs.declared.item.Pick.{Pick}
-use Rattle.pt_events.specs.declared.event.Event.TheVariants.{Said}
 use Rattle.pt_shard.specs.declared.fault.Fault.{Fault}
 use Rattle.pt_shard.specs.ShardState.{ShardState, lives}
 use Rattle.pt_shard.specs.Known.{knows}
@@ -16,13 +15,19 @@ use Rattle.pt_shard.specs.Calls.{Calls, take_event, first_match}
 use Rattle.pt_uses.specs.declared.payloads.Sent.{Sent}
 use Rattle.pt_uses.specs.declared.payloads.TheConstants.{TEXT}
 use Rattle.pt_uses.specs.Doing.{Doing, OrNoMemory}
-use Rattle.pt_uses.specs.Telling.{message}
+use Rattle.pt_uses.specs.Telling.{SaysTo, message}
+
+-- the number, where the message that names it was not refused
+abbrev pub numbered : ℕ → Result (Unit {0}) Fault → Result ℕ Fault
+numbered key (Ok _) = Ok key
+numbered key (Err fault) = Err fault
 
 -- a message that names a number is said, and the answer is the number
 abbrev pub SaysNumber : Pid → Pid → Doing ShardState ℕ
 SaysNumber from to old r new =
     OrNoMemory
-    (λ old r new. (key : ℕ) × Calls from (Some (Said from to (message TEXT (pos key)))) key old r new) old r new
+    (λ old r new. (key : ℕ) × (answer : Result (Unit {0}) Fault) × SaysTo from to (message TEXT (pos key)) old answer new × (r ≡ numbered key answer))
+    old r new
 
 -- what is sent stands under a number that was free, and all else as before; after a refusal all is as before
 abbrev pub Stores : Sent → Result ℕ Fault → Slab Sent → Slab Sent → Type 0

@@ -20,9 +20,9 @@ pub struct Sender {
 }
 
 impl Work for Sender {
-    ghost use Rattle.std.specs.Prelude.{⊤};
+    ghost use Rattle.pt_uses.specs.Rings.{SaysNext};
 
-    ghost does = { λ _ _ _ _. ⊤ };
+    ghost does = { λ r old s new. SaysNext r old s new };
 
     #[tactic(auto, using(pt_node::proofs::GoingOn::stays))]
     fn step(&mut self, desk: &mut Desk) {

@@ -3,7 +3,7 @@
 //! Take it where a process has a state of its own. A desk keeps mailboxes and links and nothing else, so the state
 //! stands in a map by pid beside it, here the health of each monster. One with no health left ends.
 
-ghost use Rattle.std.specs.Prelude.{◌≡◌};
+ghost use Rattle.std.specs.Prelude.{◌≡◌, []};
 ghost use Rattle.pt_node.specs.Desks.{IsStill};
 ghost use Rattle.pt_uses.specs.Doing.{Repeats};
 ghost use Rattle.pt_uses.specs.Games.{EndsIfSpent, Enters, SeesTo, SeesToAll, TakesHit, Ticks, entered, hit_by};
@@ -26,7 +26,9 @@ pub struct Game {
 
 impl Game {
     /// A game without monsters.
-    pub fn new(alloc: Global) -> Game {
+    pub fn new(alloc: Global) -> Game
+        ensures { result.health.entries ≡ [] }
+    {
         let health = IndexMap::new(alloc);
         Game { health }
     }

@@ -6,13 +6,13 @@ ghost use Rattle.pt_gathered.specs.Lawful.{KeepsHeadline, IsLegalNode};
 ghost use Rattle.pt_node.specs.Desks.{AreDesks, IsStill};
 ghost use Rattle.pt_node.specs.Gathering.{HasJournalsOf};
 ghost use Rattle.pt_uses.specs.Supervision.{TakesEnd, whose_end};
-ghost use Rattle.pt_uses.specs.Telling.{SaysTo, message};
+ghost use Rattle.pt_uses.specs.Telling.{SaysTo, message, unheard};
 
 use crate::RecipeError;
 use pt_node::{Body, Desk, Fault, Gathered, Item, Pick, Pid, gather};
 use std::alloc::Global;
 
-/// Sends a message. One to a pid that the desk does not know is lost, as one to a process that ended.
+/// Sends a message. One to a pid that the desk does not know is lost, as one to a process that has ended.
 #[tactic(auto, using(pt_node::proofs::GoingOn::stays))]
 pub fn tell(desk: &mut Desk, from: Pid, to: Pid, kind: u32, num: i64) -> Result<(), Fault>
     ensures does { SaysTo from to (message kind num) desk.old.shard result desk.new.shard }
@@ -24,10 +24,20 @@ pub fn tell(desk: &mut Desk, from: Pid, to: Pid, kind: u32, num: i64) -> Result<
         num,
         who: None,
     };
-    if desk.knows(to) {
-        desk.send(from, to, body)?;
+    if !desk.knows(to) {
+        return Ok(());
     }
-    Ok(())
+    unheard(desk.send(from, to, body))
+}
+
+/// The answer to a message, where one to a process that is seen to have ended is lost without a word.
+fn unheard(answer: Result<(), Fault>) -> Result<(), Fault>
+    ensures { result ≡ unheard answer }
+{
+    match answer {
+        Err(Fault::NoProc) => Ok(()),
+        heard => heard,
+    }
 }
 
 /// Takes the oldest item out of the mailbox of p; whose end it tells of, if of one.

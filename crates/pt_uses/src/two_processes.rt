@@ -3,10 +3,10 @@
 //! Take it where one thread has a node of one desk. Each call of a process is made by the program; nothing arrives
 //! before a turn. Whatever became of the calls, the desks are gathered in the end.
 
-ghost use Rattle.std.specs.Prelude.{IfOk};
+ghost use Rattle.std.specs.Prelude.{◌≡◌, IfOk, vec_len};
 ghost use Rattle.pt_gathered.specs.Lawful.{KeepsHeadline, IsLegalNode};
 ghost use Rattle.pt_node.specs.Desks.{AreDesks, IsStill};
-ghost use Rattle.pt_uses.specs.Exchanges.{Exchanges};
+ghost use Rattle.pt_uses.specs.Exchanges.{Exchanges, ExchangesOnFirst, HasExchanged};
 
 use crate::RecipeError;
 use crate::steps::{gathered, tell};
@@ -23,6 +23,7 @@ pub const ANSWER: u32 = 2;
 pub fn two_processes(alloc: Global) -> Result<Gathered, RecipeError>
     ensures headline { IfOk result (λ g. KeepsHeadline g) }
     ensures legal { IfOk result (λ g. IsLegalNode g) }
+    ensures exchanged { IfOk result (λ g. HasExchanged g) }
 {
     let mut desks = open(
         alloc,
@@ -44,7 +45,9 @@ pub fn two_processes(alloc: Global) -> Result<Gathered, RecipeError>
 #[tactic(auto, using(pt_node::proofs::StillDesks::still_desks))]
 fn play(desks: &mut Vec<Desk>) -> Result<(), Fault>
     requires { AreDesks desks.old.items }
-    ensures { AreDesks desks.new.items }
+    ensures desks { AreDesks desks.new.items }
+    ensures count { vec_len desks.new ≡ vec_len desks.old }
+    ensures does { ExchangesOnFirst desks.old.items result desks.new.items }
 {
     exchange(&mut desks[0])
 }

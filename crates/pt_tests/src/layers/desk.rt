@@ -7,15 +7,17 @@ ghost use Rattle.pt_desk.specs.DeskState.{place};
 
 use pt_carrier::{open, reunite};
 use pt_desk::Desk;
+use pt_directory::Directory;
 use pt_shard::{Config, Fault, Shard};
 use pt_signal::{Body, Item, Pick, Pid, Reason, Ref};
 use std::alloc::Global;
 use std::process::Abort;
+use std::sync::Arc;
 
 fn config(lane: u32) -> Config
     requires { (1 ≤ lane) × (lane ≤ 65536) }
     ensures range { IsInRange result }
-    ensures desks { result.desks ≡ 2 }
+    ensures shape { (result.desks ≡ 2) × (result.slots ≡ 8) }
 {
     Config {
         desks: 2,
@@ -34,11 +36,14 @@ fn two_desks(rt: &impl Abort, alloc: Global, lane: u32) -> (Desk, Desk)
     let config = config(lane);
     let left = Shard::new(alloc, config, 0).expect(rt, "memory");
     let right = Shard::new(alloc, config, 1).expect(rt, "memory");
+    let (directory, mut seats) = Directory::open(alloc, 2, 8).expect(rt, "memory");
+    let directory = Arc::new(alloc, directory).expect(rt, "memory");
+    let other = directory.clone().expect(rt, "memory");
     let mut ends = open(alloc, 2, lane).expect(rt, "memory");
     let (outs, ins) = ends.remove(0);
-    let left = Desk::whole(left, outs, ins);
+    let left = Desk::whole(left, outs, ins, directory, seats.remove(0));
     let (outs, ins) = ends.remove(0);
-    let right = Desk::whole(right, outs, ins);
+    let right = Desk::whole(right, outs, ins, other, seats.remove(0));
     ends.destroy_empty();
     (left, right)
 }
@@ -48,9 +53,9 @@ fn spend(rt: &impl Abort, alloc: Global, left: Desk, right: Desk)
     requires { IsNode (place left ∷ place right ∷ []) }
 {
     let mut ends = Vec::with_capacity(alloc, 2).expect(rt, "memory");
-    let (_, outs, ins) = left.apart();
+    let (_, outs, ins, _, _) = left.apart();
     ends.push_reserved((outs, ins));
-    let (_, outs, ins) = right.apart();
+    let (_, outs, ins, _, _) = right.apart();
     ends.push_reserved((outs, ins));
     match reunite(alloc, ends) {
         Ok(_left_over) => {}

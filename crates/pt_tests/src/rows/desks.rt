@@ -3,9 +3,10 @@
 ghost use Rattle.pt_node.specs.Desks.{AreDesks};
 
 use crate::rows::bench;
-use crate::rows::known::{A, A1, B, B1, settings, two_desks};
+use crate::rows::fifty::{By, all_come};
+use crate::rows::known::{A, A1, settings, two_desks};
 use crate::rows::play::Call::*;
-use crate::rows::play::{Step, close, make, play, play_whole, run};
+use crate::rows::play::{Step, close, play, play_whole, run};
 use pt_node::{Config, Desk, Pick, Pid, Reason, Ref, open};
 use std::alloc::Global;
 use std::process::Abort;
@@ -218,59 +219,5 @@ fn play_three(rt: &impl Abort, alloc: Global, desks: &mut Vec<Desk>) -> Result<(
 
 #[test]
 fn a_narrow_lane_keeps_the_order_of_each_sender(rt: HostRuntime) -> Result<(), Fail> {
-    let mut desks = open(rt.alloc(), two_desks(1))?;
-    let played = play_fifty(&rt, rt.alloc(), &mut desks);
-    let gathered = close(rt.alloc(), desks, played)?;
-    assert!(rt; bench::judged(rt.alloc(), &gathered)?.is_some());
-    Ok(())
-}
-
-fn play_fifty(rt: &impl Abort, alloc: Global, desks: &mut Vec<Desk>) -> Result<(), Fail>
-    requires { AreDesks desks.old.items }
-    ensures { AreDesks desks.new.items }
-{
-    const BIRTHS: &[Step] = &[
-        (Spawn, "<0.0.1>"),
-        (SpawnOn(1), "<1.0.1>"),
-        (SpawnOn(1), "<1.1.1>"),
-    ];
-    run(rt, alloc, desks, BIRTHS)?;
-    let want = send_fifty(alloc, desks)?;
-    const FIRST: &[Step] = &[
-        (TurnOf(0, 16), "posted 1 handled 0"),
-        (TurnOf(1, 16), "posted 1 handled 2"),
-        (Pending(0), "49"),
-    ];
-    run(rt, alloc, desks, FIRST)?;
-    take_turns(alloc, desks)?;
-    let got = make(alloc, desks, Waiting(B1))?;
-    assert_eq!(rt; got.as_str(), want.as_str());
-    Ok(())
-}
-
-/// Two senders send fifty messages each, and what the receiver is to have in the end is told.
-pub fn send_fifty(alloc: Global, desks: &mut Vec<Desk>) -> Result<String, Fail>
-    requires { AreDesks desks.old.items }
-    ensures { AreDesks desks.new.items }
-{
-    let mut want = String::new(alloc);
-    for number in 0..50 {
-        let _ = make(alloc, desks, Send(A, B1, 1, number))?;
-        let _ = make(alloc, desks, Send(A1, B1, 2, number))?;
-        let next = format!(in alloc; "user <0.0.1> 1 {number};user <1.0.1> 2 {number};")?;
-        want.push_str(&next)?;
-    }
-    Ok(want)
-}
-
-/// Forty-nine further rounds of turns.
-fn take_turns(alloc: Global, desks: &mut Vec<Desk>) -> Result<(), Fail>
-    requires { AreDesks desks.old.items }
-    ensures { AreDesks desks.new.items }
-{
-    for _ in 0..49 {
-        let _ = make(alloc, desks, TurnOf(0, 16))?;
-        let _ = make(alloc, desks, TurnOf(1, 16))?;
-    }
-    Ok(())
+    all_come(&rt, rt.alloc(), By::Turns)
 }

@@ -23,13 +23,13 @@ fn a_link_to_oneself_or_made_twice_has_no_event(rt: HostRuntime) -> Result<(), F
 }
 
 #[test]
-fn a_link_to_a_dead_process_comes_back_as_noproc(rt: HostRuntime) -> Result<(), Fail> {
+fn a_link_that_finds_its_target_dead_comes_back_as_noproc(rt: HostRuntime) -> Result<(), Fail> {
     const STEPS: &[Step] = &[
         (Spawn, "<0.0.1>"),
         (Spawn, "<0.1.1>"),
-        (Exit(B, Reason::Normal), "ok"),
         (Trap(A, true), "false"),
         (Link(A, B), "ok"),
+        (Exit(B, Reason::Normal), "ok"),
         (Clock, "5"),
         (Turn(16), "posted 1 handled 1"),
         (Clock, "6"),
@@ -213,25 +213,24 @@ fn an_exit_of_an_old_link_leaves_a_new_one(rt: HostRuntime) -> Result<(), Fail> 
         (Spawn, "<0.1.1>"),
         (Link(A, B), "ok"),
         (Turn(16), "posted 1 handled 1"),
-        (Exit(B, Reason::Shutdown), "ok"),
-        (Clock, "5"),
         (Unlink(A, B), "ok"),
         (Link(A, B), "ok"),
+        (Exit(B, Reason::Shutdown), "ok"),
         (Clock, "7"),
         (Turn(16), "posted 3 handled 3"),
+        (Event(8), "8@0 came <0.0.1> -> <0.1.1> unlink ~0.3"),
+        (Event(9), "9@0 came <0.0.1> -> <0.1.1> link ~0.6"),
         (
-            Event(8),
-            "8@0 came <0.1.1> -> <0.0.1> link-exit ~0.3 shutdown",
+            Event(10),
+            "10@0 came <0.1.1> -> <0.0.1> link-exit ~0.3 shutdown",
         ),
-        (Event(9), "9@0 came <0.0.1> -> <0.1.1> unlink ~0.3"),
-        (Event(10), "10@0 came <0.0.1> -> <0.1.1> link ~0.7"),
         (Events, "10"),
         (Alive(A), "true"),
-        (Linked(A, B), "~0.7"),
+        (Linked(A, B), "~0.6"),
         (Turn(16), "posted 1 handled 1"),
         (
             Event(11),
-            "11@0 came <0.1.1> -> <0.0.1> link-exit ~0.7 noproc",
+            "11@0 came <0.1.1> -> <0.0.1> link-exit ~0.6 noproc",
         ),
         (Events, "11"),
         (Ended(A), "noproc"),

@@ -25,16 +25,16 @@ fn a_down_is_received_by_its_reference(rt: HostRuntime) -> Result<(), Fail> {
 }
 
 #[test]
-fn a_monitor_of_a_dead_process_is_answered_noproc(rt: HostRuntime) -> Result<(), Fail> {
+fn a_monitor_that_finds_its_target_dead_is_answered_noproc(rt: HostRuntime) -> Result<(), Fail> {
     const STEPS: &[Step] = &[
         (Spawn, "<0.0.1>"),
         (Spawn, "<0.1.1>"),
+        (Monitor(A, B), "#0.3"),
         (Exit(B, Reason::Shutdown), "ok"),
-        (Clock, "3"),
-        (Monitor(A, B), "#0.4"),
+        (Clock, "4"),
         (Turn(16), "posted 1 handled 1"),
         (Turn(16), "posted 1 handled 1"),
-        (Receive(A, Pick::Any), "down #0.4 <0.1.1> noproc"),
+        (Receive(A, Pick::Any), "down #0.3 <0.1.1> noproc"),
         (Receive(A, Pick::Any), "none"),
     ];
     play(&rt, rt.alloc(), settings(8), STEPS)

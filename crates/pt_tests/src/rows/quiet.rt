@@ -214,8 +214,8 @@ fn what_was_taken_and_what_was_left_is_counted(rt: HostRuntime) -> Result<(), Fa
         (Turn(16), "posted 4 handled 4"),
         (Receive(B, Pick::Kind(3)), "user <0.0.1> 3 40"),
         (Receive(B, Pick::Any), "user <0.0.1> 1 10"),
-        (Exit(B, Reason::Normal), "ok"),
         (Send(A, B, 1, 50), "ok"),
+        (Exit(B, Reason::Normal), "ok"),
     ];
     const LIVE: &[Told] = &[(Ask::Account(B), "alive arrived 4 taken 2 waiting 2")];
     const ENDED: &[Told] = &[

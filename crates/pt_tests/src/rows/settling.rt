@@ -3,7 +3,7 @@
 ghost use Rattle.pt_node.specs.Desks.{AreDesks};
 
 use crate::rows::bench::{Settled, load, look_after, settle};
-use crate::rows::desks::send_fifty;
+use crate::rows::fifty::send_fifty;
 use crate::rows::known::{A, A1, B, B1, C, D, E, settings, two_desks};
 use crate::rows::play::Call::*;
 use crate::rows::play::{Step, close, make, play_on, run};

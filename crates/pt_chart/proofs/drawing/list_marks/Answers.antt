@@ -1,4 +1,4 @@
-use Rattle.std.proofs.Common.{rules, arith}
+use Rattle.std.proofs.Common.{arith}
 use Rattle.pt_chart.specs.Drawing.{mark}
 use Rattle.pt_chart.proofs.Numbering.{one_more_event}
 use Rattle.pt_chart.proofs.drawing.list_marks.Goals as goal

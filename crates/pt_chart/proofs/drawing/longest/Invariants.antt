@@ -1,6 +1,6 @@
-use Rattle.std.proofs.Common.{◌≤◌, All, length, take}
-use Rattle.pt_events.specs.Text.{stamped_text}
+use Rattle.std.proofs.Common.{◌≡◌, take}
+use Rattle.pt_chart.specs.Drawing.{longest_line}
 use Rattle.pt_chart.proofs.drawing.longest.Given as goal
 
 abbrev pub invariant-loop-stamped : goal.invariant-loop-stamped
-invariant-loop-stamped l = All (λ s. length (stamped_text s) ≤ l.longest) (take l.stamped-index l.events)
+invariant-loop-stamped l = l.longest ≡ longest_line (take l.stamped-index l.events)

@@ -6,11 +6,11 @@ use Rattle.pt_desk.proofs.desk.Desk.journal.Goals as goal
 pub returns-clause-posted : goal.returns-clause-posted
 returns-clause-posted c =
     let d = c.args.self.now in
-    let whole = subst IsDesk c.self.view_is c.self.invariant in
+    let whole = subst IsDesk c.self.view_is c.self.invariant.0 in
     posted_to_every d.shard d.outs d.ins whole.fit whole.accounts
 
 pub returns-clause-collected : goal.returns-clause-collected
 returns-clause-collected c =
     let d = c.args.self.now in
-    let whole = subst IsDesk c.self.view_is c.self.invariant in
+    let whole = subst IsDesk c.self.view_is c.self.invariant.0 in
     collected_from_every d.shard d.outs d.ins whole.fit whole.accounts

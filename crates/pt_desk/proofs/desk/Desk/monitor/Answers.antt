@@ -1,8 +1,22 @@
-use Rattle.pt_desk.proofs.Calling.{monitors_step, step_accounted}
+use Rattle.std.proofs.Common.{subst}
+use Rattle.std.specs.Arc.{arc_value}
+use Rattle.pt_desk.specs.DeskState.{GoesOn}
+use Rattle.pt_desk.proofs.Posted.{of_parts}
+use Rattle.pt_desk.proofs.Turning.{goes_on_then, shard_goes_on}
+use Rattle.pt_desk.proofs.Calling.{step_whole, monitors_step}
+use Rattle.pt_desk.proofs.Seating.{sight_of}
 use Rattle.pt_desk.proofs.desk.Desk.monitor.Goals as goal
 
 pub invariant_of-self : goal.invariant_of-self
 invariant_of-self c =
-    let s = c.self.inside.shard in
-    let does = c.monitor.ensures.does in
-    step_accounted s c.monitor.new.self c.self.inside.outs c.self.inside.ins (monitors_step c.args.w c.args.t s c.monitor.result c.monitor.new.self does) c.self.invariant c.monitor.ensures.fit
+    let i = c.self.inside in
+    let s = i.shard in
+    step_whole s c.monitor.new.self i.outs i.ins (sight_of (arc_value i.directory) i.seat) i.seat
+    (monitors_step c.args.w c.args.t s c.monitor.result c.monitor.new.self c.monitor.ensures.does) c.self.invariant c.monitor.ensures.fit
+
+pub returns-clause-goes_on : goal.returns-clause-goes_on
+returns-clause-goes_on c =
+    let i = c.self.inside in
+    let new = of_parts c.monitor.new.self i.outs i.ins (sight_of (arc_value i.directory) i.seat) in
+    goes_on_then c.args.self.now c.reach.new.self new c.in_ok-reach.ensures.goes_on
+    (subst (λ d. GoesOn d new) c.self.view_is (shard_goes_on i.shard c.monitor.new.self i.outs i.ins (sight_of (arc_value i.directory) i.seat) c.monitor.ensures.extends))

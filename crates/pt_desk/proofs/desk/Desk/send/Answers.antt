@@ -1,11 +1,24 @@
-use Rattle.std.proofs.Common.{Some}
+use Rattle.std.proofs.Common.{Some, subst}
+use Rattle.std.specs.Arc.{arc_value}
 use Rattle.pt_signal.specs.declared.signal.Signal.TheVariants.{Message}
 use Rattle.pt_events.specs.declared.event.Event.TheVariants.{Said}
-use Rattle.pt_desk.proofs.Calling.{calls_step, step_accounted, own_said}
+use Rattle.pt_desk.specs.DeskState.{GoesOn}
+use Rattle.pt_desk.proofs.Posted.{of_parts}
+use Rattle.pt_desk.proofs.Turning.{goes_on_then, shard_goes_on}
+use Rattle.pt_desk.proofs.Calling.{step_whole, calls_step, own_said}
+use Rattle.pt_desk.proofs.Seating.{sight_of}
 use Rattle.pt_desk.proofs.desk.Desk.send.Goals as goal
 
 pub invariant_of-self : goal.invariant_of-self
 invariant_of-self c =
-    let s = c.self.inside.shard in
-    let does = c.send.ensures.does in
-    step_accounted s c.send.new.self c.self.inside.outs c.self.inside.ins (calls_step c.args.from (Some (Said c.args.from c.args.to (Message c.args.body))) tt s c.send.result c.send.new.self (own_said _ _ _) does) c.self.invariant c.send.ensures.fit
+    let i = c.self.inside in
+    let s = i.shard in
+    step_whole s c.send.new.self i.outs i.ins (sight_of (arc_value i.directory) i.seat) i.seat
+    (calls_step c.args.from (Some (Said c.args.from c.args.to (Message c.args.body))) tt s c.send.result c.send.new.self (own_said _ _ _) c.send.ensures.does) c.self.invariant c.send.ensures.fit
+
+pub returns-clause-goes_on : goal.returns-clause-goes_on
+returns-clause-goes_on c =
+    let i = c.self.inside in
+    let new = of_parts c.send.new.self i.outs i.ins (sight_of (arc_value i.directory) i.seat) in
+    goes_on_then c.args.self.now c.reach.new.self new c.in_ok-reach.ensures.goes_on
+    (subst (λ d. GoesOn d new) c.self.view_is (shard_goes_on i.shard c.send.new.self i.outs i.ins (sight_of (arc_value i.directory) i.seat) c.send.ensures.extends))

@@ -1,9 +1,12 @@
 use Rattle.std.proofs.Common.{None}
-use Rattle.pt_desk.proofs.Calling.{bears_step, step_accounted}
+use Rattle.std.specs.Arc.{arc_value}
+use Rattle.pt_desk.proofs.Calling.{bears_step, step_whole}
+use Rattle.pt_desk.proofs.Seating.{sight_of}
 use Rattle.pt_desk.proofs.desk.Desk.spawn.Goals as goal
 
 pub invariant_of-self : goal.invariant_of-self
 invariant_of-self c =
     let s = c.self.inside.shard in
     let does = c.spawn.ensures.does in
-    step_accounted s c.spawn.new.self c.self.inside.outs c.self.inside.ins (bears_step None None s c.spawn.result c.spawn.new.self does) c.self.invariant c.spawn.ensures.fit
+    step_whole s c.spawn.new.self c.self.inside.outs c.self.inside.ins (sight_of (arc_value c.self.inside.directory) c.self.inside.seat) c.self.inside.seat
+    (bears_step None None s c.spawn.result c.spawn.new.self c.self.invariant.0.fit does) c.self.invariant c.spawn.ensures.fit

@@ -2,8 +2,10 @@ use Rattle.std.proofs.Common.{◌≡◌, length, ap, subst, refl, ◌∙◌, ari
 use Rattle.std.proofs.lemmas.List.{length-map}
 use Rattle.pt_desk.proofs.Turning.{goes_on_then}
 use Rattle.pt_node.proofs.GoingOn.{stays}
-use Rattle.pt_runner.specs.Acting.{EachActs, Table, acting, table, living}
+use Rattle.pt_runner.specs.Acting.{EachActs, EachDoesNext, Table, acting, table, living}
+use Rattle.pt_runner.specs.Stepping.{Steps, processes_of}
 use Rattle.pt_runner.proofs.Acting.{each_acts_then}
+use Rattle.pt_runner.proofs.Stepping.{steps, idle}
 use Rattle.pt_runner.proofs.runner.RunnerWork.step.Goals as goal
 
 pub loop-index-init : goal.loop-index-init
@@ -33,8 +35,13 @@ pub returns : goal.returns
 returns c =
     let old = c.args.desk.now.shard in
     let inv = c.loop-index.invariant in
+    let new = c.loop-index.desk.shard in
     let last : c.loop-index.index ≡ length (living old (table c.args.self.now)).actors = omega (arith, c.loop-index-test.false, inv.count) in
+    let does : EachDoesNext (table c.args.self.now) old (table c.loop-index.self) new = subst (λ n. EachActs n (living old (table c.args.self.now)) old (table c.loop-index.self) new) last inv.does in
+    let one : Steps (processes_of c.args.self.now) old (processes_of c.loop-index.self) new = steps c.args.self.now c.loop-index.self old new does in
     record {
-      does = (subst (λ n. EachActs n (living old (table c.args.self.now)) old (table c.loop-index.self) c.loop-index.desk.shard) last inv.does, inv.ends);
+      does = (does, inv.ends);
+      steps = one;
+      idle = idle (processes_of c.args.self.now) (processes_of c.loop-index.self) old new one;
       goes_on = inv.goes_on;
     }

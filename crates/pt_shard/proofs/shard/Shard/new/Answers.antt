@@ -1,4 +1,4 @@
-use Rattle.std.proofs.Common.{◌≡◌, ◌<◌, sym, ap, ◌∙◌, subst, arith}
+use Rattle.std.proofs.Common.{◌<◌, sym, ap, ◌∙◌, subst, arith}
 use Rattle.pt_shard.specs.Opening.{fresh}
 use Rattle.pt_shard.specs.Fit.{IsFit}
 use Rattle.pt_shard.proofs.Standing.{first_book, fresh_is, fresh_whole}

@@ -1,4 +1,4 @@
-use Rattle.std.proofs.Common.{◌≡◌, ◌<◌, length, arith, sym, subst}
+use Rattle.std.proofs.Common.{◌≡◌, ◌<◌, length, arith, subst}
 use Rattle.pt_node.proofs.StillDesks.{still_desks}
 use Rattle.pt_tests.proofs.rows.play.make.Goals as goal
 

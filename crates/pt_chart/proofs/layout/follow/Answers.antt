@@ -1,0 +1,23 @@
+use Rattle.std.proofs.Common.{None, arith}
+use Rattle.pt_events.specs.declared.event.Stamped.{Stamped}
+use Rattle.pt_events.specs.declared.event.Event.TheVariants.{Born}
+use Rattle.pt_chart.proofs.Tracing.{trace_row, traced}
+use Rattle.pt_chart.proofs.Rows.{past_rows}
+use Rattle.pt_chart.proofs.layout.follow.Goals as goal
+
+abbrev nothing : Stamped
+nothing = record { stamp = 0; desk = 0; event = Born (record { shard = 0; slot = 0; version = 0 }) None None }
+
+pub loop-row-preserved : goal.loop-row-preserved
+loop-row-preserved c = record {
+  rows = past_rows c.args.events.now c.loop-row.row nothing (omega arith) c.loop-row.invariant.rows;
+  traces =
+      trace_row c.args.events.now c.loop-row.row nothing c.args.pid c.loop-row.follower c.see.new.self c.args.sent.now.items c.loop-row.sent.items c.see.new.sent.items c.loop-row.ended c.noted-ended.result c.in_ok-reason.reason
+      (omega arith) c.loop-row.invariant.rows c.loop-row.invariant.traces c.in_ok-reason.ensures.state c.in_ok-reason.ensures.sent c.noted-ended.ensures c.in_ok-reason.ensures.ending;
+}
+
+pub returns-clause-sent : goal.returns-clause-sent
+returns-clause-sent c = λ anew. (traced c.args.events.now c.loop-row.row c.args.pid c.loop-row.follower c.args.sent.now.items c.loop-row.sent.items c.loop-row.ended (omega arith) c.loop-row.invariant.traces anew).sent
+
+pub returns-clause-ending : goal.returns-clause-ending
+returns-clause-ending c = λ anew. (traced c.args.events.now c.loop-row.row c.args.pid c.loop-row.follower c.args.sent.now.items c.loop-row.sent.items c.loop-row.ended (omega arith) c.loop-row.invariant.traces anew).end

@@ -1,0 +1,120 @@
+-- The seat of a desk, over what the desk does.
+use Rattle.std.proofs.Common.{◌≡◌, ℕ, ◌<◌, ◌≤◌, List, [], ◌∷◌, ◌++◌, inl, inr, Option, Some, None, refl, sym, ap, ◌∙◌, subst, append-nil}
+use mathlib.Core.Option.{some}
+use lib.ListN.{get_elem?}
+use Rattle.pt_signal.specs.declared.pid.Pid.{Pid}
+use Rattle.pt_events.specs.declared.event.Event.{Event}
+use Rattle.pt_events.specs.declared.event.Event.TheVariants.{Refused}
+use Rattle.pt_events.specs.declared.event.Stamped.{Stamped}
+use Rattle.atomic_table.proofs.Lists.{at_longer}
+use Rattle.pt_directory.proofs.Lists.{at_append, at_behind, at_single}
+use Rattle.pt_directory.specs.declared.view.Read.{Read}
+use Rattle.pt_directory.specs.Views.{new_read}
+use Rattle.pt_directory.specs.Seats.{DirectoryState, SeatState, add_death, death_of}
+use Rattle.pt_carrier.specs.Ends.{OutEnds, InEnds}
+use Rattle.pt_shard.specs.ShardState.{ShardState, past, written, ended_in}
+use Rattle.pt_desk.specs.Sight.{Sight, death_by, deaths_in, seat_of, IsSeen, AllSeen, IsSeated, HasWordsAt, AllHaveWords}
+use Rattle.pt_shard.specs.declared.config.Config.{Config}
+use Rattle.pt_shard.specs.Outbox.{sent_on}
+use Rattle.pt_shard.specs.Fit.{IsFit}
+use Rattle.pt_desk.specs.DeskState.{IsDesk, IsAccounted}
+use Rattle.pt_desk.proofs.Posted.{of_parts}
+
+abbrev pub sight_of : DirectoryState → SeatState → Sight
+sight_of directory seat = record { directory = directory; reads = seat.reads }
+
+-- what holds of a desk's parts
+abbrev pub IsWhole : ShardState → OutEnds → InEnds → Sight → SeatState → Type 0
+IsWhole s o i v seat = IsDesk (of_parts s o i v) × (seat ≡ seat_of s v)
+
+-- a desk after one more event --------------------------------------------------------
+
+-- with any pid vacant
+abbrev pub next_shard : ℕ → Event → Option Pid → ShardState → ShardState
+next_shard n event vacant s = record (written n event s) { vacant = vacant }
+
+pub seated_written : (s : ShardState) (v : Sight) (n : ℕ) (event : Event) (vacant : Option Pid) → IsSeated s v → IsSeen v.reads n event → HasWordsAt s.config.slots event → IsSeated (next_shard n event vacant s) v
+seated_written s v n event vacant h seen words = record { desks = h.desks; slots = h.slots; near = h.near; seen = (seen, h.seen); words = (words, h.words) }
+
+pub seat_written : (s : ShardState) (v : Sight) (n : ℕ) (event : Event) (vacant : Option Pid) → ended_in s.start (past s) event ≡ None → seat_of (next_shard n event vacant s) v ≡ seat_of s v
+seat_written s v n event vacant none =
+    ap (λ ds. record { name = v.directory.name; homes = s.number ∷ []; reads = v.reads; deaths = ds })
+    (ap (λ o. deaths_in s.start s.journal ++ death_by o n) none ∙ append-nil (deaths_in s.start s.journal))
+
+pub seat_ended : (s : ShardState) (v : Sight) (n : ℕ) (event : Event) (p : Pid) (vacant : Option Pid) → ended_in s.start (past s) event ≡ Some p
+    → seat_of (next_shard n event vacant s) v ≡ add_death (death_of p n) (seat_of s v)
+seat_ended s v n event p vacant ends =
+    ap (λ o. record { name = v.directory.name; homes = s.number ∷ []; reads = v.reads; deaths = deaths_in s.start s.journal ++ death_by o n }) ends
+
+-- a desk that posted, or took a letter into its hold or out of it -----------------------
+
+-- neither the sight nor the seat is touched where number, settings and journal stay
+pub record SameJournal (s s' : ShardState) : Type 0 where
+  pub start : s'.start ≡ s.start
+  pub number : s'.number ≡ s.number
+  pub config : s'.config ≡ s.config
+  pub journal : s'.journal ≡ s.journal
+
+pub same_seated : (s s' : ShardState) (v : Sight) → SameJournal s s' → IsSeated s v → IsSeated s' v
+same_seated s s' v same h = record {
+  desks = h.desks ∙ sym (ap (λ (c : Config). c.desks) same.config);
+  slots = h.slots ∙ sym (ap (λ (c : Config). c.slots) same.config);
+  near = λ k r at. subst (λ (c : Config). r.shard < c.desks) (sym same.config) (h.near k r at);
+  seen = subst (AllSeen v.reads) (sym same.journal) h.seen;
+  words = subst (λ j. AllHaveWords s'.config.slots j) (sym same.journal) (subst (λ (c : Config). AllHaveWords c.slots s.journal) (sym same.config) h.words);
+}
+
+pub same_seat : (s s' : ShardState) (v : Sight) → SameJournal s s' → seat_of s' v ≡ seat_of s v
+same_seat s s' v same i = record { name = v.directory.name; homes = same.number i ∷ []; reads = v.reads; deaths = deaths_in (same.start i) (same.journal i) }
+
+pub same_whole : (s s' : ShardState) (o o' : OutEnds) (i i' : InEnds) (v : Sight) (seat : SeatState) → SameJournal s s' → IsFit s' → IsAccounted s' o' i' → IsWhole s o i v seat → IsWhole s' o' i' v seat
+same_whole s s' o o' i i' v seat same fit accounts whole =
+    (record { fit = fit; accounts = accounts; seated = same_seated s s' v same whole.0.seated }, whole.1 ∙ sym (same_seat s s' v same))
+
+pub posted_whole : (s s' : ShardState) (o o' : OutEnds) (i : InEnds) (v : Sight) (seat : SeatState) (e : ℕ) → s' ≡ sent_on e s → IsFit s' → IsAccounted s' o' i → IsWhole s o i v seat → IsWhole s' o' i v seat
+posted_whole s s' o o' i v seat e after fit accounts whole =
+    same_whole s s' o o' i i v seat
+    (record {
+      start = ap (λ (z : ShardState). z.start) after;
+      number = ap (λ (z : ShardState). z.number) after;
+      config = ap (λ (z : ShardState). z.config) after;
+      journal = ap (λ (z : ShardState). z.journal) after;
+    })
+    fit accounts whole
+
+-- a desk after one more read ---------------------------------------------------------
+
+abbrev pub with_read : Read → Sight → Sight
+with_read r v = record { directory = v.directory; reads = v.reads ++ r ∷ [] }
+
+still_seen : (rs : List Read) (x : Read) (n : ℕ) (e : Event) → IsSeen rs n e → IsSeen (rs ++ x ∷ []) n e
+still_seen rs x n (Refused a b) (k, r, t, at, end, stamp, later) = (k, r, t, at_longer rs (x ∷ []) k r at, end, stamp, later)
+still_seen rs x n _ h = tt
+
+all_still_seen : (rs : List Read) (x : Read) (journal : List Stamped) → AllSeen rs journal → AllSeen (rs ++ x ∷ []) journal
+all_still_seen rs x [] h = tt
+all_still_seen rs x (s ∷ journal) h = (still_seen rs x s.stamp s.event h.0, all_still_seen rs x journal h.1)
+
+near_more : (desks : ℕ) (rs : List Read) (x : Read) → x.shard < desks → ((k : ℕ) (r : Read) → get_elem? rs k ≡ some r → r.shard < desks)
+    → (k : ℕ) (r : Read) → get_elem? (rs ++ x ∷ []) k ≡ some r → r.shard < desks
+near_more desks rs x here h k r at =
+    elim (at_append rs (x ∷ []) k r at) [
+      | inl before ↦ h k r before
+      | inr now ↦ subst (λ (y : Read). y.shard < desks) (at_single x r now.0 now.1) here
+    ]
+
+pub seated_read : (s : ShardState) (v : Sight) (x : Read) → x.shard < s.config.desks → IsSeated s v → IsSeated s (with_read x v)
+seated_read s v x here h = record {
+  desks = h.desks;
+  slots = h.slots;
+  near = near_more s.config.desks v.reads x here h.near;
+  seen = all_still_seen v.reads x s.journal h.seen;
+  words = h.words;
+}
+
+-- the read by which a call was refused
+pub seen_now : (rs : List Read) (p t : Pid) (found seen n : ℕ) → 0 < t.version → t.version ≤ found → seen < n → IsSeen (rs ++ new_read t.shard t.slot found (Some seen) ∷ []) n (Refused p t)
+seen_now rs p t found seen n issued version later =
+    let x = new_read t.shard t.slot found (Some seen) in
+    let last = at_behind rs (x ∷ []) 0 x refl in
+    (last.0, x, seen, last.1, record { shard = refl; slot = refl; issued = issued; version = version }, refl, later)

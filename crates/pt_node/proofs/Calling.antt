@@ -1,0 +1,57 @@
+-- A desk of a node is called: the desks stay those of the node.
+use Rattle.std.proofs.Common.{◌≡◌, ℕ, suc, ◌+◌, ◌<◌, true, List, Result, Ok, Err, length, map, get_or, set, refl, sym, subst, ◌∙◌, ap, arith}
+use Rattle.std.proofs.lemmas.List.{get_or-map, get_or_default, length-map}
+use Rattle.std.specs.Prelude.{IfOk}
+use Rattle.pt_carrier.specs.Ends.{Place}
+use Rattle.pt_signal.specs.declared.pid.Pid.{Pid}
+use Rattle.pt_shard.specs.Known.{knows}
+use Rattle.pt_shard.specs.declared.fault.Fault.{Fault}
+use Rattle.pt_desk.specs.DeskState.{DeskState, GoesOn, HasSameEnds, IsDesk, place}
+use Rattle.pt_desk.specs.declared.turned.Turned.{Turned}
+use Rattle.pt_desk.specs.Turns.{Turns}
+use Rattle.pt_node.specs.Desks.{AreDesks}
+use Rattle.pt_node.specs.declared.node_fault.NodeFault.{NodeFault}
+use Rattle.pt_node.specs.Node.{CallsTo, OnDesk, TurnsAll, answered, both_turned}
+use Rattle.pt_node.proofs.StillDesks.{still_desks}
+
+-- the desk `old` was read at place d
+module _ (desks : List DeskState) (d : ℕ) (old : DeskState) (within : d < length desks) (is : old ≡ get_or desks d old) where
+  was : (x : DeskState) → get_or desks d x ≡ old
+  was x = sym (is ∙ get_or_default desks d old x within)
+
+  turned_one : (budget : ℕ) (turned : Turned) (new : DeskState) → Turns budget old turned new → GoesOn old new → OnDesk d (λ x y. Turns budget x turned y) desks (set desks d new)
+  turned_one budget turned new turns goes = record { within = within; desk = new; does = rw (was new) turns; goes_on = rw (was new) goes; others = refl }
+
+  pub turns_more :
+      (budget : ℕ) (start : List DeskState) (before next : Turned) (new : DeskState) → TurnsAll budget d start before desks → Turns budget old next new → GoesOn old new
+      → (after : Turned) → after ≡ both_turned before next → TurnsAll budget (d + 1) start after (set desks d new)
+  turns_more budget start before next new so_far turns goes after is_both =
+      let e : suc d ≡ d + 1 = omega arith in
+      subst (λ k. TurnsAll budget k start after (set desks d new)) e (desks, before, next, so_far, turned_one budget next new turns goes, is_both)
+
+  pub called_desks : AreDesks desks → (new : DeskState) → GoesOn old new → AreDesks (set desks d new)
+  called_desks node new g = still_desks desks d old new node within is (g.place, g.shard.config, g.sight.directory)
+
+  pub number_is : AreDesks desks → IsDesk old → old.shard.number ≡ d
+  number_is node whole =
+      let at : get_or (map place desks) d (place old) ≡ place old = get_or-map place desks d old (place old) within ∙ sym (ap place is) in
+      sym whole.accounts.out_number ∙ sym (ap (λ (p : Place × Place). p.0.number) at) ∙ (node.1.node.numbers d (place old) (omega (arith, within, length-map desks place))).0
+
+  -- the desk's call, as the node's: `start` are the desks and k is d, as the contract names them
+  pub calls_to :
+      {A : Type 0} (to : Pid) (Does : DeskState → Result A Fault → DeskState → Type 0) (r : Result A Fault) (new : DeskState)
+      → knows old.shard to ≡ true → Does old r new → HasSameEnds old new → GoesOn old new
+      → (k : ℕ) → d ≡ k → (start : List DeskState) → start ≡ desks → (answer : Result A NodeFault) → answer ≡ answered r
+      → CallsTo k to Does start answer (set desks d new)
+  calls_to to Does r new known does ends goes k at start begins answer gives =
+      subst (λ n. CallsTo n to Does start answer (set desks d new)) at
+      (subst (λ s. CallsTo d to Does s answer (set desks d new)) (sym begins)
+      (subst (λ a. CallsTo d to Does desks a (set desks d new)) (sym gives) (by_answer r does)))
+    where
+      by_answer : (a : Result _ Fault) → Does old a new → CallsTo d to Does desks (answered a) (set desks d new)
+      by_answer (Ok a) h = record { within = within; desk = new; does = rw (was new) (known, h, ends); goes_on = rw (was new) goes; others = refl }
+      by_answer (Err f) h = record { within = within; desk = new; does = rw (was new) (known, h, ends); goes_on = rw (was new) goes; others = refl }
+
+pub answered_if : {A : Type 0} (P Q : A → Type 0) (r : Result A Fault) → ((a : A) → P a → Q a) → IfOk r P → IfOk (answered r) Q
+answered_if P Q (Ok a) f h = f a h
+answered_if P Q (Err e) f h = h

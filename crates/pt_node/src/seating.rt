@@ -1,0 +1,44 @@
+//! The seats of a node's desks in the directory of who has ended.
+
+ghost use Rattle.std.specs.Prelude.{◌<◌, map, IfOk, vec_len};
+ghost use Rattle.std.specs.Arc.{arc_value};
+ghost use Rattle.atomic_table.specs.Seated.{TableId};
+ghost use Rattle.pt_shard.specs.Opening.{IsInRange};
+ghost use Rattle.pt_node.specs.Seating.{AreFreshSeats, AreOf, AreAudited};
+
+use pt_directory::{Directory, Seat};
+use pt_shard::Config;
+use std::alloc::{AllocError, Global};
+use std::sync::Arc;
+
+/// A desk's seat, beside the directory of its node.
+pub(crate) type Seated = (Arc<Directory, Global>, Seat);
+
+/// The seats of a new node's desks, in order.
+pub(crate) fn fresh_seats(alloc: Global, config: Config) -> Result<Vec<Seated>, AllocError>
+    requires { IsInRange config }
+    ensures { IfOk result (λ v. AreFreshSeats config (map (λ p. (arc_value p.0, p.1)) v.items)) }
+{
+    let mut seated = Vec::with_capacity(alloc, usize::from(config.desks))?;
+    let (directory, mut seats) = Directory::open(alloc, config.desks, config.slots)?;
+    let directory = Arc::new(alloc, directory)?;
+    while seats.len() > 0 {
+        seated.push_reserved((directory.clone()?, seats.remove(0)));
+    }
+    Ok(seated)
+}
+
+/// Joins all seats, in order, and audits what they know together.
+pub(crate) fn audit_all(seats: Vec<Seated>)
+    requires some { 0 < vec_len seats }
+    requires one { (name : TableId) × AreOf name (map (λ p. (arc_value p.0, p.1)) seats.items) }
+    ensures { AreAudited (map (λ p. (arc_value p.0, p.1)) seats.items) }
+{
+    let mut seats = seats;
+    let (directory, mut seat) = seats.remove(0);
+    while seats.len() > 0 {
+        let (_directory, other) = seats.remove(0);
+        directory.join(&mut seat, other);
+    }
+    directory.audit(&mut seat);
+}

@@ -1,0 +1,84 @@
+//! A node that is called by the pids of its processes.
+
+use crate::rows::known::{A, A1, B, two_desks};
+use pt_node::{Body, Fault, Item, Node, NodeFault, Pick, Pid, Reason};
+use std::test::Fail;
+
+/// A message.
+const HELLO: Body = Body {
+    kind: 1,
+    num: 7,
+    who: None,
+};
+
+/// A pid of a desk that there is not.
+const FAR: Pid = Pid { shard: 2, ..A };
+
+#[test]
+fn a_call_is_made_on_the_desk_of_its_pid(rt: HostRuntime) -> Result<(), Fail> {
+    let mut node = Node::open(rt.alloc(), two_desks(8))?;
+    assert_eq!(rt; node.count(), 2);
+    assert_eq!(rt; node.vacant(1), Some(A1));
+    assert_eq!(rt; node.spawn(0), Ok(A));
+    assert_eq!(rt; node.spawn(1), Ok(A1));
+    assert_eq!(rt; node.spawn_child(A, true), Ok(B));
+    assert_eq!(rt; node.trap(A, true), Ok(false));
+    assert!(rt; node.monitor(A, A1).is_ok());
+    assert!(rt; node.ask_alive(A, A1).is_ok());
+    assert_eq!(rt; node.send(A, A1, HELLO), Ok(()));
+    let posted = node.turn_all(16);
+    assert_eq!(rt; posted.posted, 3);
+    assert_eq!(rt; posted.handled, 3);
+    assert_eq!(rt; node.receive(A1, Pick::Any), Ok(Some(Item::User(A, HELLO))));
+    assert_eq!(rt; node.exit(A1, Reason::Normal), Ok(()));
+    assert!(rt; !node.alive(A1));
+    assert_eq!(rt; node.turn_all(16).posted, 2);
+    assert_eq!(rt; node.turn_all(16).handled, 2);
+    let Some(waits) = node.waiting(A) else {
+        panic!(rt; "it does not live");
+    };
+    assert_eq!(rt; waits.len(), 2);
+    assert_eq!(rt; node.desks().len(), 2);
+    let gathered = node.gather()?;
+    assert_eq!(rt; gathered.left_over()?.len(), 0);
+    Ok(())
+}
+
+#[test]
+fn what_the_node_does_not_have_is_refused(rt: HostRuntime) -> Result<(), Fail> {
+    let mut node = Node::open(rt.alloc(), two_desks(8))?;
+    assert_eq!(rt; node.spawn(2), Err(NodeFault::NoDesk));
+    assert_eq!(rt; node.turn(2, 16), Err(NodeFault::NoDesk));
+    assert_eq!(rt; node.send(FAR, A, HELLO), Err(NodeFault::NoDesk));
+    assert_eq!(rt; node.spawn(0), Ok(A));
+    assert_eq!(rt; node.send(A, FAR, HELLO), Err(NodeFault::Unknown));
+    assert_eq!(rt; node.link(A, B), Err(NodeFault::Unknown));
+    assert_eq!(rt; node.unlink(A, B), Err(NodeFault::Unknown));
+    assert_eq!(rt; node.monitor(A, B), Err(NodeFault::Unknown));
+    assert_eq!(rt; node.ask_alive(A, B), Err(NodeFault::Unknown));
+    assert_eq!(rt;
+        node.exit_signal(A, B, Reason::Kill),
+        Err(NodeFault::Unknown)
+    );
+    assert_eq!(rt; node.clock(0), Some(1));
+    assert_eq!(rt; node.clock(2), None);
+    assert!(rt; node.journal(2).is_none());
+    assert!(rt; node.waiting(FAR).is_none());
+    assert!(rt; !node.alive(FAR));
+    assert_eq!(rt; node.exit(A, Reason::Normal), Ok(()));
+    assert_eq!(rt;
+        node.exit(A, Reason::Normal),
+        Err(NodeFault::Refused(Fault::Gone))
+    );
+    assert_eq!(rt; node.spawn(0), Ok(Pid { version: 2, ..A }));
+    Ok(())
+}
+
+#[test]
+fn the_desks_of_a_node_make_it_again(rt: HostRuntime) -> Result<(), Fail> {
+    let mut node = Node::open(rt.alloc(), two_desks(8))?;
+    assert_eq!(rt; node.spawn(1), Ok(A1));
+    let node = Node::of_desks(rt.alloc(), node.into_desks());
+    assert!(rt; node.alive(A1));
+    Ok(())
+}
