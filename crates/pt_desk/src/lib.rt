@@ -5,7 +5,7 @@
 //! calls of its processes, one after the other, and gives the desk its turns. A desk is used by one thread at a time,
 //! through `&mut`; desks of one node may be used by different threads at the same time.
 //!
-//! From the program `pt_hello`:
+//! A process watches another, and hears how it ended:
 //!
 //! ```text
 //! let watcher = desk.spawn()?;

@@ -1,10 +1,7 @@
 //! The program of the README: a process watches another, and hears how it ended.
-#![tactic(auto)]
 
-ghost use Rattle.pt_node.specs.Desks.{AreDesks, IsStill};
-
-use anyhow::{Result, bail};
-use pt_node::{Config, Desk, Fault, Item, Pick, Reason, gather, open};
+use anyhow::Result;
+use pt_node::{Config, Item, Node, NodeFault, Pick, Reason};
 
 /// One desk of eight slots.
 const SETTINGS: Config = Config {
@@ -16,41 +13,22 @@ const SETTINGS: Config = Config {
 };
 
 /// A worker ends, and its watcher gets the `DOWN`.
-fn watch(desk: &mut Desk) -> Result<Option<Item>, Fault>
-    ensures { IsStill desk.old desk.new }
-{
-    let watcher = desk.spawn()?;
-    let worker = desk.spawn()?;
-    let monitor = desk.monitor(watcher, worker)?;
-    let _ = desk.turn(16); // the monitor comes to the worker
-    desk.exit(worker, Reason::Other(7))?;
-    let _ = desk.turn(16); // its DOWN comes to the watcher
-    desk.receive(watcher, Pick::DownOf(monitor))
-}
-
-/// The same on the first desk of a node, which stays a desk of that node.
-#[tactic(auto, using(pt_node::proofs::StillDesks::still_desks))]
-fn play(desks: &mut Vec<Desk>) -> Result<Option<Item>, Fault>
-    requires { AreDesks desks.old.items }
-    ensures { AreDesks desks.new.items }
-{
-    watch(&mut desks[0])
+fn watch(node: &mut Node) -> Result<Option<Item>, NodeFault> {
+    let watcher = node.spawn(0)?;
+    let worker = node.spawn(0)?;
+    let monitor = node.monitor(watcher, worker)?;
+    let _ = node.turn_all(16); // the monitor comes to the worker
+    node.exit(worker, Reason::Other(7))?;
+    let _ = node.turn_all(16); // its DOWN comes to the watcher
+    node.receive(watcher, Pick::DownOf(monitor))
 }
 
 fn main(rt: HostRuntime) -> Result<()> {
-    let mut desks = open(rt.alloc(), SETTINGS)?;
-    let played = play(&mut desks);
-    let node = match gather(rt.alloc(), desks) {
-        Ok(node) => node,
-        Err(back) => {
-            back.abandon();
-            bail!("no memory to gather the node");
-        }
-    };
-    if let Some(down) = played? {
+    let mut node = Node::open(rt.alloc(), SETTINGS)?;
+    if let Some(down) = watch(&mut node)? {
         println!(rt; "{down}")?;
     }
-    for event in node.history()? {
+    for event in node.gather()?.history()? {
         println!(rt; "{event}")?;
     }
     Ok(())

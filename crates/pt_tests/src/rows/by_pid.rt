@@ -1,7 +1,9 @@
 //! A node that is called by the pids of its processes.
 
+use crate::rows::bench;
 use crate::rows::known::{A, A1, B, two_desks};
-use pt_node::{Body, Fault, Item, Node, NodeFault, Pick, Pid, Reason};
+use pt_node::{Body, Config, Fault, Item, Node, NodeFault, Pick, Pid, Reason};
+use std::process::Abort;
 use std::test::Fail;
 
 /// A message.
@@ -80,5 +82,70 @@ fn the_desks_of_a_node_make_it_again(rt: HostRuntime) -> Result<(), Fail> {
     assert_eq!(rt; node.spawn(1), Ok(A1));
     let node = Node::of_desks(rt.alloc(), node.into_desks());
     assert!(rt; node.alive(A1));
+    Ok(())
+}
+
+/// How many slots of each desk are used again and again, beside the first, and how often.
+const SLOTS: u32 = 20;
+const LIVES: u32 = 10;
+
+/// What a call to a process answers that is seen to have ended.
+const NO_PROC: Result<(), NodeFault> = Err(NodeFault::Refused(Fault::NoProc));
+
+#[test]
+fn slots_that_are_used_again_and_again_are_told_apart(rt: HostRuntime) -> Result<(), Fail> {
+    let config = Config {
+        slots: SLOTS + 1,
+        ..two_desks(8)
+    };
+    let mut node = Node::open(rt.alloc(), config)?;
+    assert_eq!(rt; node.spawn(0), Ok(A));
+    assert_eq!(rt; node.spawn(1), Ok(A1));
+    for life in 1..=LIVES {
+        use_once(&rt, &mut node, 0, life)?;
+        use_once(&rt, &mut node, 1, life)?;
+    }
+    let gathered = node.gather()?;
+    assert!(rt; bench::judged(rt.alloc(), &gathered)?.is_some());
+    Ok(())
+}
+
+/// The processes of a desk are born, and end.
+fn use_once(rt: &impl Abort, node: &mut Node, desk: u8, life: u32) -> Result<(), Fail> {
+    all_are_born(rt, node, desk, life)?;
+    all_end(rt, node, desk, life)
+}
+
+/// The process that a slot of a desk has in its so-manieth life.
+fn in_slot(desk: u8, slot: u32, life: u32) -> Pid {
+    Pid {
+        shard: desk,
+        slot,
+        version: life,
+    }
+}
+
+/// The slots are taken from the first on.
+fn all_are_born(rt: &impl Abort, node: &mut Node, desk: u8, life: u32) -> Result<(), Fail> {
+    for slot in 1..=SLOTS {
+        assert_eq!(rt; node.spawn(desk), Ok(in_slot(desk, slot, life)));
+    }
+    assert_eq!(rt; node.spawn(desk), Err(NodeFault::Refused(Fault::Full)));
+    Ok(())
+}
+
+/// The slots are given up from the last on, so that the first is the next that is taken. A process can be sent to until
+/// it ends, and not from then on, although the one before it and the next in its slot were or are.
+fn all_end(rt: &impl Abort, node: &mut Node, desk: u8, life: u32) -> Result<(), Fail> {
+    for back in 0..SLOTS {
+        let p = in_slot(desk, SLOTS - back, life);
+        assert_eq!(rt; node.send(A, p, HELLO), Ok(()));
+        assert_eq!(rt; node.exit(p, Reason::Normal), Ok(()));
+        assert_eq!(rt; node.send(A, p, HELLO), NO_PROC);
+        assert_eq!(rt; node.link(A1, p), NO_PROC);
+        let first = Pid { version: 1, ..p };
+        assert_eq!(rt; node.send(A1, first, HELLO), NO_PROC);
+        let _ = node.turn_all(16);
+    }
     Ok(())
 }

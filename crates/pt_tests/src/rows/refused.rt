@@ -3,7 +3,7 @@
 use crate::rows::known::{A, A1, B, settings, two_desks};
 use crate::rows::play::Call::*;
 use crate::rows::play::{Step, play};
-use pt_node::{Pid, Reason};
+use pt_node::{Pick, Pid, Reason};
 use std::test::Fail;
 
 #[test]
@@ -129,6 +129,78 @@ fn an_end_by_a_signal_is_seen(rt: HostRuntime) -> Result<(), Fail> {
         (TurnOf(1, 1), "posted 0 handled 1"),
         (Alive(A1), "false"),
         (Send(A, A1, 1, 30), "NoProc"),
+    ];
+    play(&rt, rt.alloc(), two_desks(8), STEPS)
+}
+
+#[test]
+fn nothing_reaches_the_next_process_of_a_slot(rt: HostRuntime) -> Result<(), Fail> {
+    const SECOND: Pid = Pid { version: 2, ..B };
+    const STEPS: &[Step] = &[
+        (Spawn, "<0.0.1>"),
+        (Spawn, "<0.1.1>"),
+        (Exit(B, Reason::Normal), "ok"),
+        (Clock, "3"),
+        (Spawn, "<0.1.2>"),
+        (Send(A, B, 1, 0), "NoProc"),
+        (Event(5), "5@0 refused <0.0.1> -> <0.1.1>"),
+        (Turn(16), "posted 0 handled 0"),
+        (Receive(SECOND, Pick::Any), "none"),
+        (Receive(B, Pick::Any), "Gone"),
+    ];
+    play(&rt, rt.alloc(), settings(2), STEPS)
+}
+
+#[test]
+fn a_process_that_ended_is_not_watched(rt: HostRuntime) -> Result<(), Fail> {
+    const STEPS: &[Step] = &[
+        (Spawn, "<0.0.1>"),
+        (Spawn, "<0.1.1>"),
+        (Exit(B, Reason::Shutdown), "ok"),
+        (Clock, "3"),
+        (Monitor(A, B), "NoProc"),
+        (Clock, "4"),
+        (Turn(16), "posted 0 handled 0"),
+        (Receive(A, Pick::Any), "none"),
+    ];
+    play(&rt, rt.alloc(), settings(8), STEPS)
+}
+
+#[test]
+fn a_process_that_ended_is_not_linked(rt: HostRuntime) -> Result<(), Fail> {
+    const STEPS: &[Step] = &[
+        (Spawn, "<0.0.1>"),
+        (Spawn, "<0.1.1>"),
+        (Exit(B, Reason::Normal), "ok"),
+        (Clock, "3"),
+        (Trap(A, true), "false"),
+        (Clock, "4"),
+        (Link(A, B), "NoProc"),
+        (Clock, "5"),
+        (Turn(16), "posted 0 handled 0"),
+        (Waiting(A), ""),
+    ];
+    play(&rt, rt.alloc(), settings(8), STEPS)
+}
+
+#[test]
+fn after_its_noproc_a_process_is_not_sent_to(rt: HostRuntime) -> Result<(), Fail> {
+    const STEPS: &[Step] = &[
+        (Spawn, "<0.0.1>"),
+        (SpawnOn(1), "<1.0.1>"),
+        (Monitor(A, A1), "#0.2"),
+        (Exit(A1, Reason::Normal), "ok"),
+        (ClockOf(1), "2"),
+        (TurnOf(0, 16), "posted 1 handled 0"),
+        (TurnOf(1, 16), "posted 0 handled 1"),
+        (ClockOf(1), "3"),
+        (TurnOf(1, 16), "posted 1 handled 0"),
+        (TurnOf(0, 16), "posted 0 handled 1"),
+        (ClockOf(0), "4"),
+        (Waiting(A), "down #0.2 <1.0.1> noproc;"),
+        (Send(A, A1, 1, 0), "NoProc"),
+        (ClockOf(0), "5"),
+        (EventOf(0, 5), "5@0 refused <0.0.1> -> <1.0.1>"),
     ];
     play(&rt, rt.alloc(), two_desks(8), STEPS)
 }
