@@ -1,6 +1,6 @@
 #!/usr/bin/env bash
 # bench/run.sh [ROUNDS [PART..]]: builds the programs to measure, runs them in turn, so many rounds (5), and prints the tables
-# of docs/SPEED.md. A PART is desk, growth, slots or lanes; with none, all.
+# of bench/RESULTS.md. A PART is desk, growth, slots or lanes; with none, all.
 #
 # It works in the folder that ROOM names (/tmp/pundewo-bench), never in the repository. Needed on the path: rt, cargo and
 # erl, and Debian's erlang-base, librust-slotmap-dev, librust-slab-dev, librust-indexmap-dev and

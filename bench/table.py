@@ -1,5 +1,5 @@
 #!/usr/bin/env python3
-"""table.py RAW: the tables of docs/SPEED.md from lines 'SETTING PROGRAM WORKLOAD PER_SECOND'.
+"""table.py RAW: the tables of bench/RESULTS.md from lines 'SETTING PROGRAM WORKLOAD PER_SECOND'.
 
 A figure is the best of all rounds, in millions a second. A ratio is that of the bests; behind it, in brackets, the least and
 the greatest ratio of one round, whose programs ran one after the other."""
