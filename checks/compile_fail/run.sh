@@ -1,7 +1,7 @@
 #!/usr/bin/env bash
 # Shows, in the compiler's words, that certain programs do not compile.
 #
-#   compile_fail/run.sh
+#   checks/compile_fail/run.sh
 #
 # Each line of cases.txt is 'PROGRAM | CRATES | WORDS': the program PROGRAM.rt.txt stands on those crates, and the
 # compiler must refuse it with those words. A line without words is a program that must compile and run, which shows
@@ -10,7 +10,7 @@
 set -euo pipefail
 
 here=$(cd "$(dirname "$0")" && pwd)
-source "$here/../.ci/copy"
+source "$here/../../.ci/copy"
 
 # Compiles a program and runs it: 0 where it is as its line says.
 try() {

@@ -1,7 +1,7 @@
 #!/usr/bin/env bash
 # Runs the program on each example, and compares what comes of it with what is stored.
 #
-#   examples/run.sh
+#   checks/examples/run.sh
 #
 # NAME.json is a script, and NAME.json.args has the words that it is run with, one a line. NAME.json.stdout is what the
 # program must print; its status is then 0. In refused/ it must print nothing: NAME.json.stderr is what must stand on
@@ -14,7 +14,7 @@ set -euo pipefail
 shopt -s nullglob
 
 here=$(cd "$(dirname "$0")" && pwd)
-source "$here/../.ci/copy"
+source "$here/../../.ci/copy"
 mkdir "$work/cases" "$work/said" "$work/built"
 
 compared=0

@@ -1,7 +1,7 @@
 #!/usr/bin/env bash
 # Shows that a call that is refused memory leaves all as it was, for each piece of memory that it takes.
 #
-#   refused/run.sh
+#   checks/refused/run.sh
 #
 # The program of calls/ makes each call that takes memory (calls.txt) on something that is made for it, with its Nth
 # growth refused, N = 1, 2, 3 and so on until nothing is refused. After each refusal all that can be read is compared,
@@ -16,7 +16,7 @@
 set -euo pipefail
 
 here=$(cd "$(dirname "$0")" && pwd)
-source "$here/../.ci/copy"
+source "$here/../../.ci/copy"
 "$here/over_heap" "$work"
 mkdir -p "$work"/crates/{pt_heap,pt_refused,pt_reading}/src "$work/cases"
 cp "$here/heap.rt.txt" "$work/crates/pt_heap/src/lib.rt"
