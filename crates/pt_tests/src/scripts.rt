@@ -4,6 +4,7 @@
 mod charts;
 mod command_lines;
 mod faults;
+mod lines;
 mod reports;
 mod runs;
 mod texts;

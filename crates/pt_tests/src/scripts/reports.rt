@@ -1,5 +1,6 @@
 //! `pt_report`: scripts that are run, and what is printed of them.
 
+use crate::scripts::lines::compare;
 use pt_options::{Mode, Options, Show};
 use pt_report::{ReportFault, report};
 use std::alloc::Global;
@@ -48,7 +49,7 @@ fn prints<R: Abort + Threads + Sync>(
 ) -> Result<(), Fail> {
     let mut out = Vec::new(alloc);
     report(rt, alloc, &asked(print, turns), script.as_bytes(), &mut out)?;
-    assert!(rt; out.as_slice() == text.as_bytes());
+    compare(rt, &String::from_utf8(out)?, text);
     Ok(())
 }
 
@@ -182,7 +183,7 @@ fn threads_give_the_ping_too(rt: HostRuntime) -> Result<(), Fail> {
     };
     let mut out = Vec::new(alloc);
     report(&rt, alloc, &many, PING.as_bytes(), &mut out)?;
-    assert!(rt; out.as_slice() == PING_HISTORY.as_bytes());
+    compare(&rt, &String::from_utf8(out)?, PING_HISTORY);
     Ok(())
 }
 

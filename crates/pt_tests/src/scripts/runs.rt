@@ -3,6 +3,7 @@
 ghost use Rattle.std.specs.Prelude.{◌≡◌, vec_len};
 ghost use Rattle.pt_node.specs.Desks.{AreDesks};
 
+use crate::scripts::lines::compare;
 use pt_node::{Desk, FreeGate, Gathered, Ran, assign, gather, open, release, run_single};
 use pt_runner::Runner;
 use pt_script::Script;
@@ -77,7 +78,7 @@ fn ping_and_pong(rt: HostRuntime) -> Result<(), Fail> {
     let births = "1@0 born <0.0.1>
 2@0 born <0.1.1>
 ";
-    assert_eq!(rt; history_of(&rt, rt.alloc(), PING, 0)?.as_str(), births);
+    compare(&rt, &history_of(&rt, rt.alloc(), PING, 0)?, births);
     let all = "1@0 born <0.0.1>
 2@0 born <0.1.1>
 3@0 said <0.0.1> -> <0.1.1> message 1 7
@@ -89,7 +90,7 @@ fn ping_and_pong(rt: HostRuntime) -> Result<(), Fail> {
 9@0 left <0.1.1> normal
 10@0 left <0.0.1> normal
 ";
-    assert_eq!(rt; history_of(&rt, rt.alloc(), PING, 8)?.as_str(), all);
+    compare(&rt, &history_of(&rt, rt.alloc(), PING, 8)?, all);
     Ok(())
 }
 
@@ -107,7 +108,7 @@ fn a_supervisor_hears_of_its_child(rt: HostRuntime) -> Result<(), Fail> {
 6@0 took <0.0.1> exit-of <0.1.1> = exit <0.1.1> other:7
 7@0 left <0.0.1> normal
 ";
-    assert_eq!(rt; history_of(&rt, rt.alloc(), script, 5)?.as_str(), all);
+    compare(&rt, &history_of(&rt, rt.alloc(), script, 5)?, all);
     Ok(())
 }
 
@@ -138,7 +139,7 @@ fn a_process_watches_one_of_another_desk(rt: HostRuntime) -> Result<(), Fail> {
 12@0 took <0.0.1> down-of #0.2 = down #0.2 <1.0.1> normal
 13@0 left <0.0.1> normal
 ";
-    assert_eq!(rt; history_of(&rt, rt.alloc(), script, 20)?.as_str(), all);
+    compare(&rt, &history_of(&rt, rt.alloc(), script, 20)?, all);
     Ok(())
 }
 
@@ -157,7 +158,7 @@ fn a_refusal_ends_its_process(rt: HostRuntime) -> Result<(), Fail> {
 3@0 left <0.0.1> other:1
 4@0 left <0.1.1> other:5
 ";
-    assert_eq!(rt; history_of(&rt, rt.alloc(), script, 9)?.as_str(), all);
+    compare(&rt, &history_of(&rt, rt.alloc(), script, 9)?, all);
     Ok(())
 }
 
@@ -185,6 +186,6 @@ fn a_child_starts_in_the_next_step(rt: HostRuntime) -> Result<(), Fail> {
 12@0 came <0.0.1> -> <0.2.1> link-exit ~0.8 normal
 13@0 left <0.2.1> normal
 ";
-    assert_eq!(rt; history_of(&rt, rt.alloc(), script, 9)?.as_str(), all);
+    compare(&rt, &history_of(&rt, rt.alloc(), script, 9)?, all);
     Ok(())
 }
