@@ -6,7 +6,8 @@ use Rattle.pt_signal.specs.declared.letter.Letter.{Letter}
 use Rattle.pt_carrier.specs.Lanes.{Sending, Receiving}
 use Rattle.pt_carrier.specs.Ends.{Place, OutEnds, InEnds, out_ends, in_ends, GoOutFrom, ComeInTo}
 use Rattle.pt_carrier.specs.Node.{places, IsNode, kept, entry}
-use Rattle.pt_carrier.specs.Reunion.{Meets, IsWhole, out_kept, in_kept, MeetAt, WholeAt}
+use Rattle.pt_carrier.specs.Meeting.{Meets, IsWhole, out_kept, in_kept}
+use Rattle.pt_carrier.specs.Reunion.{MeetAt, WholeAt}
 use Rattle.pt_carrier.proofs.Places.{out_number, in_number, out_lanes, in_lanes, kept_posted, kept_collected}
 use Rattle.pt_carrier.proofs.Lists.{map-set_same, get_or-map_read, get_or-map_set_same, get_or-map_set_other}
 

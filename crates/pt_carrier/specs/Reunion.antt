@@ -2,26 +2,8 @@
 use Rattle.std.specs.Prelude.{◌≡◌, ◌≢◌, ◌⊎◌, ℕ, ◌<◌, ◌≤◌, List, [], ◌++◌, length, map, slice_index_or, Vec}
 use Rattle.std.specs.Vec.{vec_capacity}
 use Rattle.pt_signal.specs.declared.letter.Letter.{Letter}
-use Rattle.pt_carrier.specs.Lanes.{Ring}
-use Rattle.pt_carrier.specs.Ends.{Place, OutEnds, InEnds}
+use Rattle.pt_carrier.specs.Ends.{OutEnds, InEnds}
 use Rattle.pt_carrier.specs.Node.{kept, all_posted, all_collected, entry}
-
--- what a look at the lanes leaves of one desk's ends
-abbrev pub out_kept : OutEnds → Place × List (List Letter) × List ℕ
-out_kept o = (o.place, o.posted, o.capacity)
-
-abbrev pub in_kept : InEnds → Place × ℕ × List (List Letter)
-in_kept i = (i.place, i.cursor, i.collected)
-
--- there is a lane from the one's desk to the other's
-pub record Meets (o : OutEnds) (i : InEnds) : Type 0 where
-  pub has_out : i.place.number < length o.place.rings
-  pub has_into : o.place.number < length i.place.rings
-  pub ring : (r : Ring) → slice_index_or o.place.rings i.place.number r ≡ slice_index_or i.place.rings o.place.number r
-
--- all that was posted in that lane was collected or is known to wait
-abbrev pub IsWhole : OutEnds → InEnds → Type 0
-IsWhole o i = slice_index_or o.posted i.place.number [] ≡ slice_index_or i.collected o.place.number [] ++ slice_index_or i.known o.place.number []
 
 -- what is known to wait at each desk from each desk
 abbrev pub all_known : List (OutEnds × InEnds) → List (List (List Letter))

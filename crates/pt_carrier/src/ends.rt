@@ -5,7 +5,8 @@ ghost use Rattle.pt_signal.specs.declared.letter.Letter.{Letter};
 ghost use Rattle.pt_carrier.specs.declared.ends.TheConstants.{MAX_DESKS};
 ghost use Rattle.pt_carrier.specs.Ends.{OutEnds, InEnds, out_ends, in_ends, GoOutFrom, ComeInTo, one_more, IsFull, LooksAt, Collects, Shows, ShowNone, IsFirstFromCursor, IsFront};
 ghost use Rattle.pt_carrier.specs.Node.{lists};
-ghost use Rattle.pt_carrier.specs.Reunion.{out_kept, in_kept, Meets, IsWhole, HasRoom, room_at};
+ghost use Rattle.pt_carrier.specs.Meeting.{HaveMet, Meets};
+ghost use Rattle.pt_carrier.specs.Reunion.{HasRoom, room_at};
 
 use crate::lane::{InLane, OutLane};
 use pt_signal::Letter;
@@ -267,13 +268,13 @@ impl Ins {
         self.lanes[usize::from(from)].collected()
     }
 
-    /// Looks at the lane from the other desk, beside its other end.
-    pub(crate) fn meet(&mut self, outs: &mut Outs)
+    /// Looks at the lane from the other desk, from both its ends.
+    ///
+    /// This end then knows each letter that stands in the lane, and the other end knows how many were collected; of
+    /// the other lanes nothing more is known. It is for whoever has both desks, and takes no memory.
+    pub fn meet(&mut self, outs: &mut Outs)
         requires { Meets outs.old self.old }
-        ensures outs { out_kept outs.new ≡ out_kept outs.old }
-        ensures kept { in_kept self.new ≡ in_kept self.old }
-        ensures others { (k : ℕ) → k ≢ outs.old.place.number → slice_index_or self.new.known k [] ≡ slice_index_or self.old.known k [] }
-        ensures whole { IsWhole outs.new self.new }
+        ensures { HaveMet outs.old self.old outs.new self.new }
     {
         let from = usize::from(outs.number);
         let to = usize::from(self.number);

@@ -27,7 +27,7 @@ impl Model for OutLane {
 
     ghost view = { λ a. record { ring = sending_ring a.ring; from = a.from; to = a.to; posted = map (on_lane a.from a.to) (sent a.ring); capacity = producer_capacity a.ring; seen = (length (sent a.ring) + known_free a.ring) - producer_capacity a.ring } };
 
-    ghost invariant = { λ a. (a.count ≡ min (length (sent a.ring)) (2 ^ 64 - 1)) × (producer_capacity a.ring ≤ length (sent a.ring) + known_free a.ring) };
+    ghost invariant = { λ a. (a.count ≡ min (length (sent a.ring)) (2 ^ 64 - 1)) × (producer_capacity a.ring ≤ length (sent a.ring) + known_free a.ring) × (0 < producer_capacity a.ring) };
 }
 
 /// The end that receives.
@@ -92,13 +92,17 @@ impl InLane {
         self.count
     }
 
-    /// Looks at the lane beside its other end: what was posted is what was collected, then what is known.
+    /// Looks at the lane beside its other end, from both ends: what was posted is what was collected, then what is
+    /// known, and the end that sends knows all that was collected.
     pub(crate) fn meet(&mut self, other: &mut OutLane)
         requires { (other.old.ring ≡ self.old.ring) × (other.old.from ≡ self.old.from) × (other.old.to ≡ self.old.to) }
         ensures same { (self.new.ring ≡ self.old.ring) × (self.new.from ≡ self.old.from) × (self.new.to ≡ self.old.to) × (self.new.collected ≡ self.old.collected) }
         ensures other { (other.new.ring ≡ other.old.ring) × (other.new.from ≡ other.old.from) × (other.new.to ≡ other.old.to) × (other.new.posted ≡ other.old.posted) × (other.new.capacity ≡ other.old.capacity) }
         ensures whole { other.new.posted ≡ self.new.collected ++ self.new.known }
+        ensures seen { length self.new.collected ≤ other.new.seen }
+        ensures places { 0 < other.new.capacity }
     {
+        other.ring.slots_beside(&mut self.ring);
         self.ring.slots_beside(&mut other.ring);
     }
 
@@ -165,6 +169,7 @@ pub(crate) fn make(
     to: u8,
     capacity: usize,
 ) -> Result<(OutLane, InLane), AllocError>
+    requires { 1 ≤ capacity }
     ensures out { IfOk result (λ r. r.0 ≡ new_sending r.0.ring from to capacity) }
     ensures into { IfOk result (λ r. r.1 ≡ new_receiving r.0.ring from to) }
 {

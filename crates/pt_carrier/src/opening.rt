@@ -34,6 +34,7 @@ fn all_lanes(
     desks: u8,
     capacity: u32,
 ) -> Result<(Vec<Vec<OutLane>>, Vec<Vec<InLane>>), AllocError>
+    requires { 1 ≤ capacity }
     ensures { IfOk result (λ r. AreLanes desks desks capacity (lists r.0.items) (lists r.1.items)) }
 {
     let mut columns = empty_columns(alloc, desks)?;
@@ -63,7 +64,8 @@ fn lanes_from(
     capacity: u32,
     columns: &mut Vec<Vec<InLane>>,
 ) -> Result<Vec<OutLane>, AllocError>
-    requires { vec_len columns.old ≡ desks }
+    requires columns { vec_len columns.old ≡ desks }
+    requires capacity { 1 ≤ capacity }
     ensures desks { IfOk result (λ row. (vec_len row ≡ desks) × (vec_len columns.new ≡ desks)) }
     ensures row { IfOk result (λ row. (e : ℕ) (x : Sending) → e < desks → slice_index_or row.items e x ≡ new_sending (slice_index_or row.items e x).ring d e capacity) }
     ensures columns { IfOk result (λ row. (e : ℕ) (x : Sending) → e < desks → slice_index_or (lists columns.new.items) e [] ≡ slice_index_or (lists columns.old.items) e [] ++ new_receiving (slice_index_or row.items e x).ring d e ∷ []) }

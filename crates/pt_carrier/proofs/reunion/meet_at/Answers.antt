@@ -27,7 +27,7 @@ returns-then-d-e c =
     rw (← c.if-d-e.true) (subst (λ new. MeetAt pairs new d d) (set-set pairs d q (c.meet.new.outs, c.meet.new.self))
     (MeetAt-met pairs d d p q l l c.meet.new.outs c.meet.new.self p_is (sym (get_or-set_same pairs d q q l))
     (out_number places pairs c.requires.node d p l p_is) (in_number places pairs c.requires.node d p l p_is)
-    c.meet.ensures.outs c.meet.ensures.kept c.meet.ensures.others c.meet.ensures.whole))
+    c.meet.ensures.outs c.meet.ensures.ins c.meet.ensures.known c.meet.ensures.whole))
 
 pub meet-requires-then-d-e-2 : goal.meet-requires-then-d-e-2
 meet-requires-then-d-e-2 c =
@@ -63,7 +63,7 @@ returns-then-d-e-2 c =
     rw (cut.value, set_parts front back e cut.front_len d (o, p.1) (q.0, i) c.if-d-e-2.true)
     (MeetAt-met (front ++ back) d e p q within.0 within.1 o i p_is (q_is ∙ sym (get_or-set_other (front ++ back) d e (o, p.1) q apart))
     (out_number places (front ++ back) node d p within.0 p_is) (in_number places (front ++ back) node e q within.1 q_is)
-    c.meet-then-d-e-2.ensures.outs c.meet-then-d-e-2.ensures.kept c.meet-then-d-e-2.ensures.others c.meet-then-d-e-2.ensures.whole)
+    c.meet-then-d-e-2.ensures.outs c.meet-then-d-e-2.ensures.ins c.meet-then-d-e-2.ensures.known c.meet-then-d-e-2.ensures.whole)
 
 pub meet-requires-else-d-e-2 : goal.meet-requires-else-d-e-2
 meet-requires-else-d-e-2 c =
@@ -99,4 +99,4 @@ returns-else-d-e-2 c =
     rw (cut.value, set_parts_back front back d cut.front_len e (q.0, i) (o, p.1) below)
     (MeetAt-met (front ++ back) d e p q within.0 within.1 o i p_is (q_is ∙ sym (get_or-set_other (front ++ back) d e (o, p.1) q apart))
     (out_number places (front ++ back) node d p within.0 p_is) (in_number places (front ++ back) node e q within.1 q_is)
-    c.meet-else-d-e-2.ensures.outs c.meet-else-d-e-2.ensures.kept c.meet-else-d-e-2.ensures.others c.meet-else-d-e-2.ensures.whole)
+    c.meet-else-d-e-2.ensures.outs c.meet-else-d-e-2.ensures.ins c.meet-else-d-e-2.ensures.known c.meet-else-d-e-2.ensures.whole)

@@ -1,7 +1,8 @@
-use Rattle.std.proofs.Common.{◌≡◌, [], get_or, ◌∙◌, ap}
-use Rattle.pt_carrier.specs.Lanes.{Receiving}
-use Rattle.pt_carrier.proofs.Lists.{get_or-map_set_other}
-use Rattle.pt_carrier.proofs.Meeting.{same_ring, same_from, same_to, outs_kept, ins_kept, is_whole}
+use Rattle.std.proofs.Common.{◌≡◌, List, [], length, get_or, ◌∙◌, ap, arith}
+use Rattle.pt_signal.specs.declared.letter.Letter.{Letter}
+use Rattle.pt_carrier.specs.Lanes.{Sending, Receiving}
+use Rattle.pt_carrier.proofs.Lists.{get_or-map_set_other, get_or-map_set_same}
+use Rattle.pt_carrier.proofs.Meeting.{xs_within, ys_within, same_ring, same_from, same_to, outs_kept, ins_kept, is_whole}
 use Rattle.pt_carrier.proofs.ends.Ins.meet.Goals as goal
 
 pub meet-requires : goal.meet-requires
@@ -39,7 +40,13 @@ returns c =
     let whole = c.meet.ensures.whole in
     rw (← c.outs.view_is, ← c.self.view_is, c.from-from.ensures, c.from-to.ensures) (record {
       outs = outs_kept a b cursor xs ys out into m x y x_is y_is v w other.0 other.3 other.4 same.0 same.3 whole;
-      kept = ins_kept a b cursor xs ys out into m x y x_is y_is v w other.0 other.3 other.4 same.0 same.3 whole;
-      others = λ k n. get_or-map_set_other (λ (s : Receiving). s.known) ys a k w [] n;
+      ins = ins_kept a b cursor xs ys out into m x y x_is y_is v w other.0 other.3 other.4 same.0 same.3 whole;
+      known = λ k n. get_or-map_set_other (λ (s : Receiving). s.known) ys a k w [] n;
+      seen = λ k n. get_or-map_set_other (λ (s : Sending). s.seen) xs b k v 0 n;
       whole = is_whole a b cursor xs ys out into m x y x_is y_is v w other.0 other.3 other.4 same.0 same.3 whole;
+      collected =
+          omega
+          (arith, ap (λ (z : List Letter). length z) (get_or-map_set_same (λ (s : Receiving). s.collected) ys a w [] (ys_within a b cursor xs ys out into m)),
+          get_or-map_set_same (λ (s : Sending). s.seen) xs b v 0 (xs_within a b cursor xs ys out into m), c.meet.ensures.seen);
+      places = omega (arith, get_or-map_set_same (λ (s : Sending). s.capacity) xs b v 0 (xs_within a b cursor xs ys out into m), c.meet.ensures.places);
     })
