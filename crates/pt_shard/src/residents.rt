@@ -70,6 +70,7 @@ impl Residents {
     }
 
     /// The latest version of a slot.
+    #[inline(always)]
     pub fn issued(&self, slot: u32) -> u32
         ensures { result ≡ issued self.now.table slot }
     {

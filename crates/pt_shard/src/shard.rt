@@ -141,6 +141,7 @@ impl Shard {
 
     /// Whether p may be the target of a call: its numbers are in the node's ranges, and if it is of this desk,
     /// its version was issued.
+    #[inline(always)]
     pub fn knows(&self, p: Pid) -> bool
         ensures { result ≡ knows self.now p }
     {
@@ -149,6 +150,18 @@ impl Shard {
             && p.version >= 1
             && p.version <= self.config.top_version
             && (p.shard != self.house.desk() || p.version <= self.house.issued(p.slot))
+    }
+
+    /// The target of a call is known: its caller has proved so.
+    ///
+    /// A trial run has proved nothing: it stops here, and names the call. A built program tests nothing, since the test is
+    /// inlined and cannot fail.
+    #[inline(always)]
+    pub fn expect_known(&self, target: Pid)
+        requires { knows self.now target ≡ true }
+    {
+        let known = self.knows(target);
+        prove!(known);
     }
 
     /// The pid that the next birth on this desk has, or `None` exactly where no slot is free: a birth is then
@@ -169,6 +182,7 @@ impl Shard {
         ensures extends { Extends self.old self.new }
         ensures fit { IsFit self.new }
     {
+        self.expect_known(to);
         self.say(from, to, Signal::Message(body))
     }
 
@@ -183,6 +197,7 @@ impl Shard {
         ensures extends { Extends self.old self.new }
         ensures fit { IsFit self.new }
     {
+        self.expect_known(to);
         self.say(from, to, Signal::Exit(reason))
     }
 
@@ -196,6 +211,7 @@ impl Shard {
         ensures extends { Extends self.old self.new }
         ensures fit { IsFit self.new }
     {
+        self.expect_known(to);
         let Some(process) = self.house.find_mut(p) else {
             return Err(Fault::Gone);
         };
@@ -212,6 +228,7 @@ impl Shard {
         ensures extends { Extends self.old self.new }
         ensures fit { IsFit self.new }
     {
+        self.expect_known(to);
         let Some(process) = self.house.find_mut(p) else {
             return Err(Fault::Gone);
         };
@@ -260,6 +277,7 @@ impl Shard {
         ensures extends { Extends self.old self.new }
         ensures fit { IsFit self.new }
     {
+        self.expect_known(t);
         let Some(process) = self.house.find_mut(w) else {
             return Err(Fault::Gone);
         };
@@ -296,6 +314,7 @@ impl Shard {
         ensures extends { Extends self.old self.new }
         ensures fit { IsFit self.new }
     {
+        self.expect_known(t);
         let Some(_process) = self.house.find(p) else {
             return Err(Fault::Gone);
         };
