@@ -1,5 +1,5 @@
 -- The accounts of a desk, over what it does.
-use Rattle.std.proofs.Common.{◌≡◌, ◌≢◌, ℕ, ◌+◌, ◌<◌, ◌≤◌, ◌==◌, Bool, true, false, cond, [], ◌∷◌, ◌++◌, length, max, map, filter, drop, get_or, set, Option, Some, None, refl, sym, ap, ◌∙◌, subst, append_assoc, append-nil, ⊎_elim, arith}
+use Rattle.std.proofs.Common.{◌≡◌, ◌≢◌, ℕ, ◌+◌, ◌<◌, ◌≤◌, ◌==◌, Bool, true, false, cond, List, [], ◌∷◌, ◌++◌, length, max, map, filter, drop, get_or, set, Option, Some, None, refl, sym, ap, ◌∙◌, subst, append_assoc, append-nil, ⊎_elim, arith}
 use Rattle.std.specs.Prelude.{IfSome}
 use Rattle.std.proofs.lemmas.Bool.{eqb-true, eq-eqb, ne_eqb, both_ways, cases_lt}
 use Rattle.std.proofs.lemmas.List.{get_or_past, get_or-set_same, get_or-set_other, length-set}
@@ -9,8 +9,9 @@ use Rattle.pt_signal.specs.Process.{sent}
 use Rattle.pt_events.specs.declared.event.Event.{Event}
 use Rattle.pt_events.specs.History.{sent_by}
 use Rattle.pt_events.specs.Journal.{letter, letters, posts, gots, Agrees}
-use Rattle.pt_carrier.specs.Ends.{OutEnds, InEnds, one_more, Collects}
-use Rattle.pt_shard.specs.ShardState.{ShardState, past, written, handled, came}
+use Rattle.pt_carrier.specs.Ends.{Place, OutEnds, InEnds, one_more, Collects}
+use Rattle.pt_carrier.specs.Meeting.{out_kept, in_kept}
+use Rattle.pt_shard.specs.ShardState.{ShardState, box, past, written, handled, came}
 use Rattle.pt_shard.specs.Outbox.{sent_on, holding, held_from}
 use Rattle.pt_shard.specs.Fit.{IsFit}
 use Rattle.pt_desk.specs.DeskState.{IsAccounted}
@@ -125,3 +126,16 @@ module _ (s : ShardState) (o : OutEnds) (i : InEnds) (fit : IsFit s) (acc : IsAc
   collected_from_every d = ⊎_elim (acc.collected d)
       (λ far. rw (get_or_past i.collected d [] (omega (arith, far, acc.collected_desks)), fit.gots_near d far, held_far d s.hold far fit.held) refl)
       (cases_lt d s.config.desks)
+
+-- ends that looked at each other keep the accounts
+pub accounted_met : (s : ShardState) (o o' : OutEnds) (i i' : InEnds) → IsAccounted s o i → out_kept o' ≡ out_kept o → in_kept i' ≡ in_kept i → IsAccounted s o' i'
+accounted_met s o o' i i' acc p q = record {
+  out_number = ap (λ (k : Place × List (List Letter) × List ℕ). k.0.number) p ∙ acc.out_number;
+  in_number = ap (λ (k : Place × ℕ × List (List Letter)). k.0.number) q ∙ acc.in_number;
+  out_desks = ap (λ (k : Place × List (List Letter) × List ℕ). length k.0.rings) p ∙ acc.out_desks;
+  in_desks = ap (λ (k : Place × ℕ × List (List Letter)). length k.0.rings) q ∙ acc.in_desks;
+  posted_desks = ap (λ (k : Place × List (List Letter) × List ℕ). length k.1) p ∙ acc.posted_desks;
+  collected_desks = ap (λ (k : Place × ℕ × List (List Letter)). length k.2) q ∙ acc.collected_desks;
+  posted = λ e l. acc.posted e l ∙ ap (λ (k : Place × List (List Letter) × List ℕ). get_or k.1 e [] ++ box s e) (sym p);
+  collected = λ d l. subst (λ (k : Place × ℕ × List (List Letter)). Agrees (get_or k.2 d []) (gots s.journal d) (held_from d s.hold)) (sym q) (acc.collected d l);
+}

@@ -36,6 +36,7 @@ posts_one s s' o o' i v e l e_in fit acc first after more place capacity looks =
       ins = refl;
       sight = refl;
     };
+    seen = looks.more;
     counted = ap total more ∙ total_more o.posted e l (omega (arith, e_in, acc.posted_desks));
   },
 )
@@ -44,6 +45,7 @@ pub same_lanes : (d : DeskState) (e : ℕ) → PostsSome e 0 d d
 same_lanes d e = record {
   others = λ k n. record { posted = refl; waits = refl; seen = refl };
   only = record { shard = refl; place = refl; capacity = refl; ins = refl; sight = refl };
+  seen = omega arith;
   counted = omega arith;
 }
 
@@ -64,6 +66,7 @@ some_then old mid new e m n a b = record {
     seen = (b.others k d).seen ∙ (a.others k d).seen;
   };
   only = only_then old mid new a.only b.only;
+  seen = omega (arith, a.seen, b.seen);
   counted = omega (arith, a.counted, b.counted);
 }
 
@@ -93,7 +96,7 @@ front_one old mid new e n front (l, first, posted, left, some) = record {
 
 pub front_stops : (old mid new : DeskState) (e n : ℕ) → PostsFront e n old mid → PostsOne e mid false new → PostsTo e old new × PostsSome e n old new
 front_stops old mid new e n front (full, posted, left, some) = (
-  record { count = n; posted = posted ∙ front.posted; left = left ∙ front.left; full = elim full [ inl none ↦ inl (left ∙ none) | inr f ↦ inr f ] },
+  record { count = n; posted = posted ∙ front.posted; left = left ∙ front.left; full = elim full [ inl none ↦ inl (left ∙ none) | inr f ↦ inr f ]; seen = omega (arith, front.some.seen, some.seen) },
   subst (λ k. PostsSome e k old new) (omega arith) (some_then old mid new e n 0 front.some some),
 )
 
@@ -103,6 +106,7 @@ front_whole old new e n all front = record {
   posted = front.posted;
   left = front.left;
   full = inl (front.left ∙ drop_all n (waits_for old e) (omega arith));
+  seen = front.some.seen;
 }
 
 -- one desk after the other
@@ -118,6 +122,7 @@ to_then old mid new e a only b = record {
     | inl none ↦ inl (b.waits ∙ none)
     | inr full ↦ inr (ap length b.posted ∙ full ∙ ap (λ c. get_or c e 0 + get_or mid.outs.seen e 0) (sym only.capacity) ∙ ap (λ n. get_or new.outs.capacity e 0 + n) (sym b.seen))
   ];
+  seen = omega (arith, a.seen, b.seen);
 }
 
 pub then_to : (old mid new : DeskState) (e : ℕ) → SameLane e old mid → PostsTo e mid new → PostsTo e old new
@@ -126,6 +131,7 @@ then_to old mid new e a b = record {
   posted = b.posted ∙ ap (λ z. z ++ take b.count (waits_for mid e)) a.posted ∙ ap (λ z. posted_to old e ++ take b.count z) a.waits;
   left = b.left ∙ ap (drop b.count) a.waits;
   full = b.full;
+  seen = omega (arith, a.seen, b.seen);
 }
 
 -- the desks below `to` had their turn, and the others not yet

@@ -12,12 +12,14 @@ use Rattle.pt_directory.specs.declared.view.Read.{Read}
 use Rattle.pt_directory.specs.Views.{new_read}
 use Rattle.pt_directory.specs.Seats.{DirectoryState, SeatState, add_death, death_of}
 use Rattle.pt_carrier.specs.Ends.{OutEnds, InEnds}
+use Rattle.pt_carrier.specs.Meeting.{out_kept, in_kept}
 use Rattle.pt_shard.specs.ShardState.{ShardState, past, written, ended_in}
 use Rattle.pt_desk.specs.Sight.{Sight, death_by, deaths_in, seat_of, IsSeen, AllSeen, IsSeated, HasWordsAt, AllHaveWords}
 use Rattle.pt_shard.specs.declared.config.Config.{Config}
 use Rattle.pt_shard.specs.Outbox.{sent_on}
 use Rattle.pt_shard.specs.Fit.{IsFit}
 use Rattle.pt_desk.specs.DeskState.{IsDesk, IsAccounted}
+use Rattle.pt_desk.proofs.Accounts.{accounted_met}
 use Rattle.pt_desk.proofs.Posted.{of_parts}
 
 abbrev pub sight_of : DirectoryState → SeatState → Sight
@@ -81,6 +83,11 @@ posted_whole s s' o o' i v seat e after fit accounts whole =
       journal = ap (λ (z : ShardState). z.journal) after;
     })
     fit accounts whole
+
+-- a desk whose ends looked at each other
+pub met_whole : (s : ShardState) (o o' : OutEnds) (i i' : InEnds) (v : Sight) (seat : SeatState) → out_kept o' ≡ out_kept o → in_kept i' ≡ in_kept i → IsWhole s o i v seat → IsWhole s o' i' v seat
+met_whole s o o' i i' v seat outs ins whole =
+    (record { fit = whole.0.fit; accounts = accounted_met s o o' i i' whole.0.accounts outs ins; seated = whole.0.seated }, whole.1)
 
 -- a desk after one more read ---------------------------------------------------------
 

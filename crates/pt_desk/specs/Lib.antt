@@ -4,3 +4,4 @@ pub mod Posting
 pub mod Reaching
 pub mod Sight
 pub mod Turns
+pub mod Meeting

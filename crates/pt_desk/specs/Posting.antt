@@ -1,5 +1,5 @@
 -- How a desk posts.
-use Rattle.std.specs.Prelude.{◌≡◌, ◌≢◌, ℕ, ◌+◌, ◌<◌, ◌⊎◌, Bool, true, false, List, [], ◌∷◌, ◌++◌, length, sum_by, take, drop, slice_index_or}
+use Rattle.std.specs.Prelude.{◌≡◌, ◌≢◌, ℕ, ◌+◌, ◌<◌, ◌≤◌, ◌⊎◌, Bool, true, false, List, [], ◌∷◌, ◌++◌, length, sum_by, take, drop, slice_index_or}
 use Rattle.pt_signal.specs.declared.letter.Letter.{Letter}
 use Rattle.pt_carrier.specs.Ends.{IsFull}
 use Rattle.pt_desk.specs.DeskState.{DeskState, posted_to, waits_for}
@@ -15,6 +15,8 @@ pub record PostsTo (e : ℕ) (old new : DeskState) : Type 0 where
   pub posted : posted_to new e ≡ posted_to old e ++ take count (waits_for old e)
   pub left : waits_for new e ≡ drop count (waits_for old e)
   pub full : (waits_for new e ≡ []) ⊎ IsFull new.outs e
+  -- none of the letters that were known to be collected is forgotten
+  pub seen : slice_index_or old.outs.seen e 0 ≤ slice_index_or new.outs.seen e 0
 
 -- all but what is posted, what waits and what is known of the lanes out of the desk
 pub record OnlyPosts (old new : DeskState) : Type 0 where
@@ -39,6 +41,7 @@ pub record SameLane (e : ℕ) (old new : DeskState) : Type 0 where
 pub record PostsSome (e count : ℕ) (old new : DeskState) : Type 0 where
   pub others : (k : ℕ) → k ≢ e → SameLane k old new
   pub only : OnlyPosts old new
+  pub seen : slice_index_or old.outs.seen e 0 ≤ slice_index_or new.outs.seen e 0
   pub counted : total new.outs.posted ≡ total old.outs.posted + count
 
 -- the oldest letter that waits for desk e is posted; else none waits, or the lane is full

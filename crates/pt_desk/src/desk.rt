@@ -5,6 +5,7 @@ ghost use Rattle.std.specs.Option.{option_copied};
 ghost use Rattle.pt_signal.specs.declared.signal.Signal.{Signal};
 ghost use Rattle.pt_events.specs.declared.event.Event.{Event};
 ghost use Rattle.pt_events.specs.Journal.{IsLocal, Agrees, posts, gots, clock};
+ghost use Rattle.pt_carrier.specs.Meeting.{Meets};
 ghost use Rattle.pt_shard.specs.ShardState.{lives, state_in};
 ghost use Rattle.pt_shard.specs.Known.{knows};
 ghost use Rattle.pt_shard.specs.Outbox.{count_pending, held_from};
@@ -13,6 +14,7 @@ ghost use Rattle.pt_shard.specs.Calls.{Calls, Monitors, Bears, BearsChild, link_
 ghost use Rattle.std.specs.Arc.{arc_value};
 ghost use Rattle.pt_directory.specs.Seats.{add_death, death_of};
 ghost use Rattle.pt_desk.specs.DeskState.{IsDesk, IsAccounted, HasSameEnds, GoesOn, posted_to, waits_for, collected_from};
+ghost use Rattle.pt_desk.specs.Meeting.{DesksMeet, MeetsItself};
 ghost use Rattle.pt_desk.specs.Sight.{IsSeated, seat_of};
 ghost use Rattle.pt_desk.specs.Reaching.{LooksFirst, Reaches, has_link_to_make, has_monitor_to_make};
 ghost use Rattle.pt_desk.specs.Posting.{PostsOne, PostsTo, PostsSome, Posts, total};
@@ -172,6 +174,25 @@ impl Desk {
         ensures { result ≡ min (count_pending self.now.shard) (2 ^ 64 - 1) }
     {
         self.shard.pending()
+    }
+
+    /// Looks at the lane that comes here from another desk of the node, from both its ends.
+    ///
+    /// This desk then knows each letter that stands in the lane, and the other desk how many were collected; of the other
+    /// lanes they know no more than before, and nothing else of them changes. A turn looks from its own end alone.
+    pub fn meet(&mut self, from: &mut Desk)
+        requires { Meets from.old.outs self.old.ins }
+        ensures { DesksMeet from.old self.old from.new self.new }
+    {
+        self.ins.meet(&mut from.outs);
+    }
+
+    /// The same of the lane from this desk to itself.
+    pub fn meet_itself(&mut self)
+        requires { Meets self.old.outs self.old.ins }
+        ensures { MeetsItself self.old self.new }
+    {
+        self.ins.meet(&mut self.outs);
     }
 
     /// Whether p may be the target of a call: its numbers are in the node's ranges, and if it is of this desk,
@@ -407,6 +428,7 @@ impl Desk {
         ensures ends { HasSameEnds self.old self.new }
         ensures goes_on { GoesOn self.old self.new }
     {
+        self.shard.expect_known(t);
         match self.directory.probe(&mut self.seat, t) {
             Some(seen) => Err(self.shard.refuse(p, t, seen)),
             None => Ok(()),

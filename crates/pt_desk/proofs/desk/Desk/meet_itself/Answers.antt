@@ -1,0 +1,15 @@
+use Rattle.std.proofs.Common.{refl}
+use Rattle.std.specs.Arc.{arc_value}
+use Rattle.pt_desk.proofs.Seating.{sight_of, met_whole}
+use Rattle.pt_desk.proofs.desk.Desk.meet_itself.Goals as goal
+
+pub meet-requires : goal.meet-requires
+meet-requires c = rw (← c.self.view_is) at c.requires
+
+pub invariant_of-self : goal.invariant_of-self
+invariant_of-self c =
+    let i = c.self.inside in
+    met_whole i.shard i.outs c.meet.new.outs i.ins c.meet.new.self (sight_of (arc_value i.directory) i.seat) i.seat c.meet.ensures.outs c.meet.ensures.ins c.self.invariant
+
+pub returns : goal.returns
+returns c = rw (← c.self.view_is) (record { kept = refl; met = c.meet.ensures })
