@@ -7,3 +7,10 @@ pub mod GoingOn
 pub mod StillDesks
 pub mod Rounding
 pub mod Calling
+pub mod Idle
+pub mod Burning
+pub mod Resting
+pub mod Meeting
+pub mod AtRest
+pub mod RoundByRound
+pub mod Leftless

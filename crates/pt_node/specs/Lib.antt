@@ -4,3 +4,4 @@ pub mod Gathering
 pub mod Running
 pub mod Seating
 pub mod Node
+pub mod Stillness

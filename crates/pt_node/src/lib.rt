@@ -45,6 +45,7 @@ mod opening;
 mod pairs;
 mod running;
 mod seating;
+mod stillness;
 
 pub use gathering::{DesksBack, gather};
 pub use node::{Node, NodeBack};
@@ -58,3 +59,4 @@ pub use pt_gathered::{Account, Gathered, LeftOver, Quiet, Unsettled};
 pub use pt_shard::{Config, Fault, MAX_DESKS, MAX_LANE, MAX_SLOTS, MAX_STAMP, OpenError, Stop};
 pub use pt_signal::{Body, Ids, Item, Letter, LinkId, Pick, Pid, Reason, Ref, Signal};
 pub use running::{FreeGate, Gate, Ran, Work, run, run_single};
+pub use stillness::{Rested, Stopped};

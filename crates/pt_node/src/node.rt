@@ -1,20 +1,23 @@
 //! A node that a program calls: it has its desks, and its processes are called by their pids.
 
-ghost use Rattle.std.specs.Prelude.{◌≡◌, Some, None, false, cond, is_some, length, map, IfOk, IfErr, IfSome};
+ghost use Rattle.std.specs.Prelude.{◌≡◌, ℕ, ◌-◌, ◌^◌, Some, None, false, cond, is_some, length, map, max, min, IfOk, IfErr, IfSome};
 ghost use Rattle.std.specs.Option.{option_copied, option_map};
 ghost use Rattle.pt_signal.specs.declared.signal.Signal.{Signal};
 ghost use Rattle.pt_events.specs.declared.event.Event.{Event};
 ghost use Rattle.pt_shard.specs.ShardState.{lives, state_in};
 ghost use Rattle.pt_shard.specs.Calls.{Calls, Monitors, Bears, BearsChild, link_event, unlink_event, first_match, take_event, demonitor_event, held_by, new_ref};
 ghost use Rattle.pt_gathered.specs.Lawful.{LanesKeep, KeepsHeadline, IsLegalNode, AnswersHold};
+ghost use Rattle.pt_gathered.specs.Settling.{NothingLeft};
 ghost use Rattle.pt_desk.specs.Reaching.{Reaches, has_link_to_make, has_monitor_to_make};
 ghost use Rattle.pt_node.specs.Desks.{AreDesks, AreDesksOf, desk_kept};
 ghost use Rattle.pt_node.specs.Gathering.{Gathers, HasJournalsOf, ReadsAreTrue};
 ghost use Rattle.pt_node.specs.Node.{CallsAt, CallsTo, Inside, OpensNode, ReadsAt, TurnsAll, TurnsAt, answered, both_turned};
+ghost use Rattle.pt_node.specs.Stillness.{AllDesksGoOn, AreStill, Rounds, StoppedAt, count_events};
 
 use crate::gathering::gather;
 use crate::node_fault::NodeFault;
 use crate::opening::open;
+use crate::stillness::{Rested, until_still};
 use pt_desk::{Desk, Turned};
 use pt_events::Journal;
 use pt_gathered::Gathered;
@@ -207,7 +210,8 @@ impl Node {
     }
 
     /// Brings the desks of the node together: [`gather`](crate::gather) says what holds then of the journals, the
-    /// messages and the letters left over.
+    /// messages and the letters left over. Of a node that is still, as
+    /// [`turn_until_still`](Node::turn_until_still) leaves it, none is left over.
     ///
     /// Where memory is refused the node comes back as it was; only what the ends of a lane know of each other may be
     /// more, which no call tells.
@@ -220,6 +224,7 @@ impl Node {
         ensures legal { IfOk result (λ g. IsLegalNode g) }
         ensures answers { IfOk result (λ g. AnswersHold g) }
         ensures reads { IfOk result (λ g. ReadsAreTrue self g) }
+        ensures still { AreStill self → IfOk result (λ g. NothingLeft g) }
         ensures back { IfErr result (λ b. map desk_kept b.node ≡ map desk_kept self) }
     {
         let Node { alloc, desks } = self;
@@ -468,6 +473,23 @@ impl Node {
         ensures { TurnsAll budget (length self.old) self.old result self.new }
     {
         turn_each(&mut self.desks, budget)
+    }
+
+    /// Rounds of turns over all desks, until no letter waits in an outbox, a lane or a hold, or a turn was stopped.
+    ///
+    /// It answers how many letters were handled, and which turn was stopped, if one was: where none was, the node is still.
+    /// Each has at most `budget` letters to a turn, and a budget of 0 counts as 1. A round goes on to its last desk, also
+    /// where a turn in it was stopped, so that no desk is held up by another. Nothing is refused: it ends, since each
+    /// letter takes a stamp of its desk's clock. It costs the letters handled, and for each round a look at each lane; two
+    /// rounds more than there were with a letter to handle, or one less, are all that it takes.
+    pub fn turn_until_still(&mut self, budget: u32) -> Rested
+        ensures rounds { (count : ℕ) × Rounds (max budget 1) count self.old result self.new }
+        ensures still { result.stopped ≡ None → AreStill self.new }
+        ensures stopped { IfSome result.stopped (λ s. StoppedAt (max budget 1) s self.new) }
+        ensures handled { result.handled ≡ min (count_events self.new - count_events self.old) (2 ^ 64 - 1) }
+        ensures goes_on { AllDesksGoOn self.old self.new }
+    {
+        until_still(&mut self.desks, budget.max(1))
     }
 }
 

@@ -1,0 +1,130 @@
+//! A node is turned until nothing waits in it.
+
+ghost use Rattle.std.specs.Prelude.{◌≡◌, ℕ, ◌<◌, length, map, Some, None};
+ghost use Rattle.pt_node.specs.Desks.{AreDesks, desk_kept};
+ghost use Rattle.pt_node.specs.Stillness.{AreMet, AreStill, MeetsAt, Rounds, TurnEach, both_rested, stop_at};
+
+use pt_desk::Desk;
+use pt_shard::Stop;
+
+/// What came of turning a node until it is still.
+#[derive(Clone, Copy, Debug, PartialEq, Eq)]
+pub struct Rested {
+    /// How many letters were handled, staying at `u64::MAX` once it is reached.
+    pub handled: u64,
+    /// The first turn that was stopped, which ended it; `None` where the node is still.
+    pub stopped: Option<Stopped>,
+}
+
+/// A turn that was stopped. The letter at which it stopped stays in the hold of its desk.
+#[derive(Clone, Copy, Debug, PartialEq, Eq)]
+pub struct Stopped {
+    /// The number of the desk that had the turn.
+    pub desk: u8,
+    /// Why it was stopped, as [`Turned::stopped`](crate::Turned::stopped) of that turn says.
+    pub cause: Stop,
+}
+
+/// Rounds of turns, each after a look at all lanes, until two in a row handled nothing, or a turn was stopped.
+///
+/// Two are needed. In the first each desk posts what its lanes take, and those before it in the round have had their turn
+/// by then; a desk has looked at each lane from both ends before the second, so whatever stands in a lane is handled in it.
+pub(crate) fn until_still(desks: &mut Vec<Desk>, budget: u32) -> Rested
+    requires some { 0 < budget }
+    requires node { AreDesks desks.old.items }
+    ensures node { AreDesks desks.new.items }
+    ensures rounds { (count : ℕ) × Rounds budget count desks.old.items result desks.new.items }
+    ensures still { result.stopped ≡ None → AreStill desks.new.items }
+{
+    let mut did = Rested {
+        handled: 0,
+        stopped: None,
+    };
+    let mut quiet: u8 = 0;
+    while quiet < 2 {
+        look(desks);
+        let round = turn_each(desks, budget);
+        did = both(did, round);
+        if did.stopped.is_some() {
+            return did;
+        }
+        quiet = if round.handled > 0 { 0 } else { quiet + 1 };
+    }
+    did
+}
+
+/// One turn of each desk, from desk 0 upwards. Each has its turn, whether one before it was stopped or not.
+fn turn_each(desks: &mut Vec<Desk>, budget: u32) -> Rested
+    requires { AreDesks desks.old.items }
+    ensures node { AreDesks desks.new.items }
+    ensures turns { TurnEach budget (length desks.old.items) desks.old.items result desks.new.items }
+{
+    let mut did = Rested {
+        handled: 0,
+        stopped: None,
+    };
+    for d in 0..desks[0].config().desks {
+        let turned = desks[usize::from(d)].turn(budget);
+        let turn = Rested {
+            handled: turned.handled,
+            stopped: at_desk(d, turned.stopped),
+        };
+        did = both(did, turn);
+    }
+    did
+}
+
+/// What was done, with what was done after it.
+fn both(before: Rested, next: Rested) -> Rested
+    ensures { result ≡ both_rested before next }
+{
+    let stopped = match before.stopped {
+        Some(first) => Some(first),
+        None => next.stopped,
+    };
+    Rested {
+        handled: before.handled.saturating_add(next.handled),
+        stopped,
+    }
+}
+
+/// The stop of a turn, with its desk.
+fn at_desk(desk: u8, stopped: Option<Stop>) -> Option<Stopped>
+    ensures { result ≡ stop_at desk stopped }
+{
+    match stopped {
+        Some(cause) => Some(Stopped { desk, cause }),
+        None => None,
+    }
+}
+
+/// Looks at every lane from both its ends.
+fn look(desks: &mut [Desk])
+    requires { AreDesks desks.old }
+    ensures kept { map desk_kept desks.new ≡ map desk_kept desks.old }
+    ensures met { AreMet desks.new }
+{
+    let count = desks.len();
+    for d in 0..count {
+        for e in 0..count {
+            meet_at(desks, d, e);
+        }
+    }
+}
+
+/// Looks at the lane from desk d to desk e, from both its ends.
+fn meet_at(desks: &mut [Desk], d: usize, e: usize)
+    requires node { AreDesks desks.old }
+    requires within { (d < length desks.old) × (e < length desks.old) }
+    ensures { MeetsAt d e desks.old desks.new }
+{
+    if d == e {
+        desks[d].meet_itself();
+    } else if d < e {
+        let (front, back) = desks.split_at_mut(e);
+        back[0].meet(&mut front[d]);
+    } else {
+        let (front, back) = desks.split_at_mut(d);
+        front[e].meet(&mut back[0]);
+    }
+}
