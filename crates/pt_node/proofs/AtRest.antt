@@ -1,19 +1,19 @@
 -- Two rounds that handled nothing leave a node still.
-use Rattle.std.proofs.Common.{◌≡◌, ℕ, suc, ◌+◌, ◌-◌, ◌^◌, ◌<◌, ◌≤◌, Bool, true, false, List, [], length, map, get_or, Option, Some, None, refl, sym, ap, ◌∙◌, subst, arith}
+use Rattle.std.proofs.Common.{◌≡◌, ℕ, suc, ◌+◌, ◌-◌, ◌^◌, ◌<◌, ◌≤◌, Bool, false, List, length, map, get_or, Option, Some, None, refl, sym, ap, ◌∙◌, arith}
 use Rattle.std.specs.Prelude.{is_some}
 use Rattle.std.specs.List.{sum, sum_by}
 use Rattle.std.proofs.lemmas.Bool.{both_ways}
 use Rattle.std.proofs.lemmas.List.{get_or_default}
 use Rattle.std.proofs.lemmas.List.Sums.{sum-map}
 use Rattle.std.proofs.lemmas.Simd.{map-map}
-use Rattle.pt_signal.specs.declared.letter.Letter.{Letter}
 use Rattle.pt_events.specs.declared.event.TheConstants.{MAX_STAMP}
 use Rattle.pt_carrier.proofs.Places.{in_lanes}
 use Rattle.pt_shard.specs.declared.config.Config.{Config}
 use Rattle.pt_shard.specs.ShardState.{ShardState, box}
 use Rattle.pt_desk.specs.DeskState.{DeskState, place}
 use Rattle.pt_node.specs.Desks.{AreDesks, desk_kept}
-use Rattle.pt_node.specs.Stillness.{AreMet, AreStill, Rounds, TurnEach, both_rested}
+use Rattle.pt_node.specs.Stillness.{AreStill, Rounds, TurnEach, both_rested}
+use Rattle.pt_node.specs.Looking.{AreMet}
 use Rattle.pt_node.specs.declared.stillness.Rested.{Rested}
 use Rattle.pt_node.specs.declared.stillness.Stopped.{Stopped}
 use Rattle.pt_node.proofs.Burning.{room}
@@ -57,14 +57,14 @@ two_quiet budget desks met new some was kept node are_met quiet = record {
       let d_was : d < length was.before = omega (arith, d_in, was.quiet.count) in
       let e_was : e < length was.before = omega (arith, e_in, was.quiet.count) in
       let lane = λ (x : DeskState).
-          let p = get_or met e x in
-          lane_still budget some d e (get_or was.before d x) (get_or desks d x) (get_or met d x) (get_or new d x) (get_or was.before e x) (get_or desks e x) p (get_or new e x)
-          (was.quiet.each d x d_was) (quiet.each d x d_met) (was.quiet.each e x e_was) (quiet.each e x e_met)
-          (omega (arith, e_was, desks_of was.before was.node d x d_was)) (omega (arith, e_met, desks_of met node d x d_met))
-          (omega (arith, d_met, in_lanes place met node.1.node e p e_met (get_or_default met e x p e_met)))
-          ((was.met d e d_was e_was).seen x) ((was.met d e d_was e_was).places x)
-          (kept_posted met desks kept d e x d_in) (ap (λ (s : ShardState). box s e) (kept_shard met desks kept d x d_in)) (kept_collected met desks kept e d x e_in)
-          ((are_met d e d_met e_met).whole x) in
+      let p = get_or met e x in
+      lane_still budget some d e (get_or was.before d x) (get_or desks d x) (get_or met d x) (get_or new d x) (get_or was.before e x) (get_or desks e x) p (get_or new e x)
+      (was.quiet.each d x d_was) (quiet.each d x d_met) (was.quiet.each e x e_was) (quiet.each e x e_met)
+      (omega (arith, e_was, desks_of was.before was.node d x d_was)) (omega (arith, e_met, desks_of met node d x d_met))
+      (omega (arith, d_met, in_lanes place met node.1.node e p e_met (get_or_default met e x p e_met)))
+      ((was.met d e d_was e_was).seen x) ((was.met d e d_was e_was).places x)
+      (kept_posted met desks kept d e x d_in) (ap (λ (s : ShardState). box s e) (kept_shard met desks kept d x d_in)) (kept_collected met desks kept e d x e_in)
+      ((are_met d e d_met e_met).whole x) in
       record { outbox = λ x. (lane x).0; lane = λ x. (lane x).1 };
 }
 

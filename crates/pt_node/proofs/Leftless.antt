@@ -1,10 +1,10 @@
 -- A node that is still has no letter left over once it is gathered.
-use Rattle.std.proofs.Common.{◌≡◌, ℕ, ◌+◌, ◌*◌, ◌<◌, List, [], ◌∷◌, ◌++◌, length, get_or, Option, None, refl, sym, ap, ◌∙◌, length-append, arith}
+use Rattle.std.proofs.Common.{◌≡◌, ℕ, ◌+◌, ◌*◌, ◌<◌, List, [], ◌∷◌, ◌++◌, length, get_or, None, sym, ap, ◌∙◌, length-append, arith}
 use Rattle.std.proofs.lemmas.List.{get_or-map, length-map, nil_from_length}
 use Rattle.pt_signal.specs.declared.letter.Letter.{Letter}
 use Rattle.pt_carrier.specs.Ends.{OutEnds, InEnds}
 use Rattle.pt_carrier.specs.Node.{all_posted, all_collected, entry}
-use Rattle.pt_shard.specs.ShardState.{ShardState, box}
+use Rattle.pt_shard.specs.ShardState.{ShardState}
 use Rattle.pt_shard.specs.Outbox.{held_from}
 use Rattle.pt_desk.specs.DeskState.{DeskState, posted_to, collected_from}
 use Rattle.pt_gathered.specs.Gathered.{GatheredState, box_at, hold_at}

@@ -1,9 +1,8 @@
 -- The ends of a lane between two desks of a node look at each other.
-use Rattle.std.proofs.Common.{◌≡◌, ◌≢◌, ◌⊎◌, inl, inr, ⊎_elim, ℕ, ◌+◌, ◌<◌, ◌≤◌, List, [], ◌++◌, length, map, get_or, set, refl, sym, ap, ◌∙◌, subst, arith}
+use Rattle.std.proofs.Common.{◌≡◌, ◌≢◌, ◌⊎◌, inl, inr, ⊎_elim, ℕ, ◌<◌, ◌≤◌, List, [], ◌++◌, length, map, get_or, set, sym, ap, ◌∙◌, subst, arith}
 use Rattle.std.proofs.lemmas.Bool.{cases_eq}
 use Rattle.std.proofs.lemmas.List.{get_or-map, get_or-set_same, get_or-set_other, get_or_default, length-map, length-set}
 use Rattle.pt_signal.specs.declared.letter.Letter.{Letter}
-use Rattle.pt_carrier.specs.Lanes.{Ring}
 use Rattle.pt_carrier.specs.Ends.{Place, OutEnds, InEnds}
 use Rattle.pt_carrier.specs.Meeting.{HaveMet, Meets, out_kept, in_kept}
 use Rattle.pt_carrier.proofs.Lists.{get_or-map_read, map-set_same}
@@ -13,7 +12,7 @@ use Rattle.pt_desk.specs.Sight.{Sight}
 use Rattle.pt_desk.specs.DeskState.{DeskState, place, posted_to, collected_from}
 use Rattle.pt_desk.specs.Meeting.{DesksMeet, MeetsItself}
 use Rattle.pt_node.specs.Desks.{AreDesks, desk_kept}
-use Rattle.pt_node.specs.Stillness.{MeetsAt, MetAt}
+use Rattle.pt_node.specs.Looking.{MeetsAt, MetAt}
 
 -- what a look keeps of a desk
 abbrev pub Kept : Type 0
@@ -153,9 +152,12 @@ module _ (desks : List DeskState) (node : AreDesks desks) (d e : ℕ) (p q p' q'
           ap (λ (z : OutEnds). get_or z.posted e []) (posted_at x) ∙ met_whole desks node d e p q d_in e_in p_is q_is p'.outs q'.ins meet.met
           ∙ sym (ap (λ (z : InEnds). get_or z.collected d [] ++ get_or z.known d []) (got_at x));
       seen = λ x.
-          omega
-          (arith, met_seen desks node d e p q d_in e_in p_is q_is p'.outs q'.ins meet.met, ap (λ (z : InEnds). length (get_or z.collected d [])) (got_at x),
-          ap (λ (z : OutEnds). get_or z.seen e 0) (posted_at x));
+          omega (
+            arith,
+            met_seen desks node d e p q d_in e_in p_is q_is p'.outs q'.ins meet.met,
+            ap (λ (z : InEnds). length (get_or z.collected d [])) (got_at x),
+            ap (λ (z : OutEnds). get_or z.seen e 0) (posted_at x),
+          );
       places = λ x. omega (arith, met_places desks node d e p q d_in e_in p_is q_is p'.outs q'.ins meet.met, ap (λ (z : OutEnds). get_or z.capacity e 0) (posted_at x));
     };
     known = λ i k x h.
@@ -199,9 +201,12 @@ module _ (desks : List DeskState) (node : AreDesks desks) (d : ℕ) (p p' : Desk
           ap (λ (z : DeskState). get_or z.outs.posted d []) (here_at x) ∙ met_whole desks node d d p p d_in d_in p_is p_is p'.outs p'.ins meet.met
           ∙ sym (ap (λ (z : DeskState). get_or z.ins.collected d [] ++ get_or z.ins.known d []) (here_at x));
       seen = λ x.
-          omega
-          (arith, met_seen desks node d d p p d_in d_in p_is p_is p'.outs p'.ins meet.met, ap (λ (z : DeskState). length (get_or z.ins.collected d [])) (here_at x),
-          ap (λ (z : DeskState). get_or z.outs.seen d 0) (here_at x));
+          omega (
+            arith,
+            met_seen desks node d d p p d_in d_in p_is p_is p'.outs p'.ins meet.met,
+            ap (λ (z : DeskState). length (get_or z.ins.collected d [])) (here_at x),
+            ap (λ (z : DeskState). get_or z.outs.seen d 0) (here_at x),
+          );
       places = λ x. omega (arith, met_places desks node d d p p d_in d_in p_is p_is p'.outs p'.ins meet.met, ap (λ (z : DeskState). get_or z.outs.capacity d 0) (here_at x));
     };
     known = λ i k x h.

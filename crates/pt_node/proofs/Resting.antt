@@ -1,21 +1,19 @@
 -- What turns of all desks add up to, round after round.
-use Rattle.std.proofs.Common.{◌≡◌, ◌≢◌, ℕ, zero, suc, ◌+◌, ◌-◌, ◌^◌, ◌<◌, ◌≤◌, ⊎_elim, List, length, map, min, get_or, set, Option, Some, None, refl, sym, ap, ◌∙◌, subst, arith}
+use Rattle.std.proofs.Common.{◌≡◌, ◌≢◌, ℕ, zero, suc, ◌+◌, ◌-◌, ◌^◌, ◌<◌, ◌≤◌, ⊎_elim, List, length, min, get_or, set, Option, Some, None, refl, sym, ap, ◌∙◌, subst, arith}
 use Rattle.std.specs.Prelude.{IfSome}
 use Rattle.std.proofs.lemmas.Bool.{cases_eq}
-use Rattle.std.proofs.lemmas.List.{get_or_default, get_or-set_same, get_or-set_other, length-set, get_or-map, length-map}
+use Rattle.std.proofs.lemmas.List.{get_or_default, get_or-set_same, get_or-set_other, length-set}
 use Rattle.pt_shard.specs.declared.stop.Stop.{Stop}
-use Rattle.pt_desk.specs.DeskState.{DeskState, GoesOn, place}
+use Rattle.pt_desk.specs.DeskState.{DeskState, GoesOn}
 use Rattle.pt_desk.specs.declared.turned.Turned.{Turned}
 use Rattle.pt_desk.specs.Turns.{Turns}
 use Rattle.pt_desk.proofs.Turning.{goes_on_then}
-use Rattle.pt_node.specs.Desks.{AreDesks, desk_kept}
 use Rattle.pt_node.specs.Node.{OnDesk}
-use Rattle.pt_node.specs.Stillness.{AllDesksGoOn, Rounds, StoppedAt, TurnEach, both_rested, count_events, first_stopped, stop_at}
+use Rattle.pt_node.specs.Stillness.{AllDesksGoOn, StoppedAt, TurnEach, both_rested, first_stopped, stop_at}
 use Rattle.pt_node.specs.declared.stillness.Rested.{Rested}
 use Rattle.pt_node.specs.declared.stillness.Stopped.{Stopped}
-use Rattle.pt_node.proofs.Burning.{AllBurn, Burns, burn_then, none_burns, one_burns, room, turn_burns}
+use Rattle.pt_node.proofs.Burning.{AllBurn, burn_then, none_burns, one_burns, turn_burns}
 use Rattle.pt_node.proofs.GoingOn.{stays}
-use Rattle.pt_node.proofs.Calling.{called_desks}
 
 -- the turn of one desk
 abbrev pub TurnAt : ℕ → ℕ → Turned → List DeskState → List DeskState → Type 0

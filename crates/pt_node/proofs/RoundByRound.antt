@@ -1,18 +1,16 @@
 -- What rounds add up to.
-use Rattle.std.proofs.Common.{◌≡◌, ℕ, zero, suc, ◌+◌, ◌-◌, ◌^◌, ◌<◌, ◌≤◌, List, length, map, min, get_or, Option, Some, None, refl, sym, ap, ◌∙◌, subst, arith}
+use Rattle.std.proofs.Common.{◌≡◌, ℕ, zero, suc, ◌-◌, ◌^◌, ◌<◌, List, length, map, min, get_or, Option, Some, None, sym, ap, ◌∙◌, subst, arith}
 use Rattle.std.specs.Prelude.{IfSome}
-use Rattle.pt_signal.specs.declared.letter.Letter.{Letter}
-use Rattle.pt_carrier.specs.Ends.{Place}
 use Rattle.pt_shard.specs.Extends.{Extends}
 use Rattle.pt_desk.specs.Sight.{SeesOn}
-use Rattle.pt_desk.specs.DeskState.{DeskState, GoesOn, place}
+use Rattle.pt_desk.specs.DeskState.{DeskState}
 use Rattle.pt_node.specs.Desks.{desk_kept}
-use Rattle.pt_node.specs.Stillness.{AllDesksGoOn, Rounds, StoppedAt, TurnEach, count_events, first_stopped}
+use Rattle.pt_node.specs.Stillness.{AllDesksGoOn, Rounds, StoppedAt, count_events, first_stopped}
 use Rattle.pt_node.specs.declared.stillness.Rested.{Rested}
 use Rattle.pt_node.specs.declared.stillness.Stopped.{Stopped}
 use Rattle.pt_node.proofs.GoingOn.{stays}
 use Rattle.pt_node.proofs.Burning.{AllBurn, burn_then, none_burns}
-use Rattle.pt_node.proofs.Meeting.{Kept, kept_at, kept_count, kept_shard}
+use Rattle.pt_node.proofs.Meeting.{Kept, kept_at, kept_count}
 use Rattle.pt_node.proofs.Resting.{all_stay, all_then, turn_stopped, turns_burn, turns_go_on}
 use Rattle.pt_node.proofs.AtRest.{kept_room, kept_sum}
 

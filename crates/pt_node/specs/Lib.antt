@@ -5,3 +5,4 @@ pub mod Running
 pub mod Seating
 pub mod Node
 pub mod Stillness
+pub mod Looking

@@ -1,6 +1,5 @@
 -- A node is turned until nothing waits in it.
-use Rattle.std.specs.Prelude.{◌≡◌, ◌≢◌, ℕ, zero, suc, ◌+◌, ◌-◌, ◌^◌, ◌<◌, ◌≤◌, ◌⊎◌, List, [], ◌++◌, length, map, sum_by, min, Option, Some, None, slice_index_or}
-use Rattle.pt_signal.specs.declared.letter.Letter.{Letter}
+use Rattle.std.specs.Prelude.{◌≡◌, ℕ, zero, suc, ◌+◌, ◌-◌, ◌^◌, ◌<◌, List, [], length, map, sum_by, min, Option, Some, None, slice_index_or}
 use Rattle.pt_shard.specs.declared.stop.Stop.{Stop}
 use Rattle.pt_desk.specs.DeskState.{DeskState, GoesOn, posted_to, waits_for, collected_from}
 use Rattle.pt_desk.specs.declared.turned.Turned.{Turned}
@@ -67,21 +66,3 @@ pub record StoppedAt (budget : ℕ) (stop : Stopped) (desks : List DeskState) : 
   pub turned : Turned
   pub turns : (x : DeskState) → Turns budget before turned (slice_index_or desks stop.desk x)
   pub stopped : turned.stopped ≡ Some stop.cause
-
--- the ends of the lanes, as they look at each other --------------------------------------
-
--- the end at desk e knows each letter that stands in the lane from desk d, whose end knows all that were collected
-pub record MetAt (desks : List DeskState) (d e : ℕ) : Type 0 where
-  pub whole : (x : DeskState) → posted_to (slice_index_or desks d x) e ≡ collected_from (slice_index_or desks e x) d ++ slice_index_or (slice_index_or desks e x).ins.known d []
-  pub seen : (x : DeskState) → length (collected_from (slice_index_or desks e x) d) ≤ slice_index_or (slice_index_or desks d x).outs.seen e 0
-  pub places : (x : DeskState) → 0 < slice_index_or (slice_index_or desks d x).outs.capacity e 0
-
-abbrev pub AreMet : List DeskState → Type 0
-AreMet desks = (d e : ℕ) → d < length desks → e < length desks → MetAt desks d e
-
--- the ends of the lane from desk d to desk e have looked at each other, and those of the other lanes know what they knew
-pub record MeetsAt (d e : ℕ) (old new : List DeskState) : Type 0 where
-  pub kept : map desk_kept new ≡ map desk_kept old
-  pub here : MetAt new d e
-  pub known : (i k : ℕ) (x : DeskState) → (i ≢ d) ⊎ (k ≢ e) → slice_index_or (slice_index_or new k x).ins.known i [] ≡ slice_index_or (slice_index_or old k x).ins.known i []
-  pub seen : (i k : ℕ) (x : DeskState) → (i ≢ d) ⊎ (k ≢ e) → slice_index_or (slice_index_or new i x).outs.seen k 0 ≡ slice_index_or (slice_index_or old i x).outs.seen k 0

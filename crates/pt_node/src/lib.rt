@@ -23,6 +23,9 @@
 //! the desk of that pid; no call asks anything of its caller. What it cannot do it refuses, by a [`NodeFault`]: so a
 //! target that the node cannot have had is [`Unknown`](NodeFault::Unknown), and nothing has happened then.
 //!
+//! Letters move in turns: of one desk, of each ([`turn_all`](Node::turn_all)), or of all until nothing
+//! waits ([`turn_until_still`](Node::turn_until_still)): a node that is gathered then has no letter left over.
+//!
 //! # Running
 //!
 //! [`run`] gives each desk a worker on a thread of its own, and [`run_single`] does the same turns on the calling

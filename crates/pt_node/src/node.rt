@@ -477,11 +477,14 @@ impl Node {
 
     /// Rounds of turns over all desks, until no letter waits in an outbox, a lane or a hold, or a turn was stopped.
     ///
-    /// It answers how many letters were handled, and which turn was stopped, if one was: where none was, the node is still.
-    /// Each has at most `budget` letters to a turn, and a budget of 0 counts as 1. A round goes on to its last desk, also
-    /// where a turn in it was stopped, so that no desk is held up by another. Nothing is refused: it ends, since each
-    /// letter takes a stamp of its desk's clock. It costs the letters handled, and for each round a look at each lane; two
-    /// rounds more than there were with a letter to handle, or one less, are all that it takes.
+    /// It answers how many letters were handled, and which turn was stopped, if one was: where none was, the node is
+    /// still. A turn handles at most `budget` letters; a budget of 0 counts as 1. A round goes on to its last desk where a
+    /// turn in it was stopped, so that no desk holds up another. It ends, since each letter takes a stamp of its desk's
+    /// clock; nothing is refused. It costs the letters, and a look at each lane a round; each round but the last two
+    /// handles a letter, or is followed by one that does.
+    ///
+    /// Whatever a program sends is handled, but not what it would send on receipt: a program that answers what it
+    /// receives goes on with `receive`, and turns again.
     pub fn turn_until_still(&mut self, budget: u32) -> Rested
         ensures rounds { (count : ℕ) × Rounds (max budget 1) count self.old result self.new }
         ensures still { result.stopped ≡ None → AreStill self.new }

@@ -2,7 +2,8 @@
 
 ghost use Rattle.std.specs.Prelude.{◌≡◌, ℕ, ◌<◌, length, map, Some, None};
 ghost use Rattle.pt_node.specs.Desks.{AreDesks, desk_kept};
-ghost use Rattle.pt_node.specs.Stillness.{AreMet, AreStill, MeetsAt, Rounds, TurnEach, both_rested, stop_at};
+ghost use Rattle.pt_node.specs.Stillness.{AreStill, Rounds, TurnEach, both_rested, stop_at};
+ghost use Rattle.pt_node.specs.Looking.{AreMet, MeetsAt};
 
 use pt_desk::Desk;
 use pt_shard::Stop;
@@ -27,8 +28,8 @@ pub struct Stopped {
 
 /// Rounds of turns, each after a look at all lanes, until two in a row handled nothing, or a turn was stopped.
 ///
-/// Two are needed. In the first each desk posts what its lanes take, and those before it in the round have had their turn
-/// by then; a desk has looked at each lane from both ends before the second, so whatever stands in a lane is handled in it.
+/// One does not do: what a desk posts in it may be for a desk that had its turn before. In the second whatever stands in a
+/// lane would be handled, since its ends have looked at each other; so nothing stands there, and no lane was full.
 pub(crate) fn until_still(desks: &mut Vec<Desk>, budget: u32) -> Rested
     requires some { 0 < budget }
     requires node { AreDesks desks.old.items }

@@ -19,4 +19,5 @@ mod quiet;
 mod refused;
 mod settling;
 mod slots;
+mod still;
 mod workers;

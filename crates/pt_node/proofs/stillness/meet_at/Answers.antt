@@ -1,6 +1,5 @@
-use Rattle.std.proofs.Common.{◌≡◌, ◌≢◌, ◌<◌, ◌++◌, get_or, sym, ap, subst, arith}
+use Rattle.std.proofs.Common.{◌≡◌, ◌≢◌, ◌<◌, ◌++◌, get_or, ap, arith}
 use Rattle.pt_carrier.proofs.Lists.{set_parts, set_parts_back, front_read, back_read}
-use Rattle.pt_node.specs.Stillness.{MeetsAt}
 use Rattle.pt_node.proofs.Meeting.{can_meet, one_meets, two_meet}
 use Rattle.pt_node.proofs.stillness.meet_at.Goals as goal
 

@@ -3,7 +3,6 @@ use Rattle.std.proofs.lemmas.List.{length-set}
 use Rattle.pt_shard.specs.declared.config.Config.{Config}
 use Rattle.pt_desk.specs.DeskState.{DeskState}
 use Rattle.pt_node.specs.Stillness.{both_rested}
-use Rattle.pt_node.specs.declared.stillness.Rested.{Rested}
 use Rattle.pt_node.proofs.Calling.{called_desks}
 use Rattle.pt_node.proofs.Resting.{turn_more}
 use Rattle.pt_node.proofs.stillness.turn_each.Goals as goal

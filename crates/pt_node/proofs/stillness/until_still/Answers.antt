@@ -1,8 +1,8 @@
-use Rattle.std.proofs.Common.{◌≡◌, ℕ, ◌+◌, ◌^◌, ◌<◌, ◌≤◌, ◌++◌, List, length, map, take, drop, None, refl, sym, ap, ◌∙◌, subst, arith}
+use Rattle.std.proofs.Common.{◌≡◌, ℕ, ◌++◌, List, length, map, take, drop, None, sym, ap, ◌∙◌, subst, arith}
 use Rattle.pt_carrier.proofs.Lists.{written}
 use Rattle.pt_desk.specs.DeskState.{DeskState}
 use Rattle.pt_node.specs.Desks.{AreDesks, desk_kept}
-use Rattle.pt_node.specs.Stillness.{AreStill, TurnEach}
+use Rattle.pt_node.specs.Stillness.{TurnEach}
 use Rattle.pt_node.specs.declared.stillness.Rested.{Rested}
 use Rattle.pt_node.proofs.StillDesks.{kept_desks}
 use Rattle.pt_node.proofs.Meeting.{kept_count}

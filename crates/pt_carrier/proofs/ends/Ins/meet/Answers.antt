@@ -45,8 +45,11 @@ returns c =
       seen = λ k n. get_or-map_set_other (λ (s : Sending). s.seen) xs b k v 0 n;
       whole = is_whole a b cursor xs ys out into m x y x_is y_is v w other.0 other.3 other.4 same.0 same.3 whole;
       collected =
-          omega
-          (arith, ap (λ (z : List Letter). length z) (get_or-map_set_same (λ (s : Receiving). s.collected) ys a w [] (ys_within a b cursor xs ys out into m)),
-          get_or-map_set_same (λ (s : Sending). s.seen) xs b v 0 (xs_within a b cursor xs ys out into m), c.meet.ensures.seen);
+          omega (
+            arith,
+            ap (λ (z : List Letter). length z) (get_or-map_set_same (λ (s : Receiving). s.collected) ys a w [] (ys_within a b cursor xs ys out into m)),
+            get_or-map_set_same (λ (s : Sending). s.seen) xs b v 0 (xs_within a b cursor xs ys out into m),
+            c.meet.ensures.seen,
+          );
       places = omega (arith, get_or-map_set_same (λ (s : Sending). s.capacity) xs b v 0 (xs_within a b cursor xs ys out into m), c.meet.ensures.places);
     })
