@@ -249,7 +249,7 @@ module _ (a : Parts) (whole : IsWhole a) (p : Pid) (found : Found a p) (ledger :
       → Acted (Unit {0}) a (told_with ledger'.book) p (Some (Said p to x)) (tt {0}) r
   said to x known plain r h =
       told (tt {0}) (Said p to x)
-      (λ can book wrote. said_known a whole p found can book a.house refl to x known (plain_may (past (shard_of a)) found.s p to x plain) (plain_new a.house.desk (a.book.clock + 1) p to x plain) wrote (plain_changes p to x a.house.table plain))
+      (λ can book wrote. said_known a whole p found can book a.house refl to x known (plain_may a.book.start (past (shard_of a)) found.s p to x plain) (plain_new a.house.desk (a.book.clock + 1) p to x plain) wrote (plain_changes p to x a.house.table plain))
       r h
 
   pub asked_alive : (t : Pid) → knows (shard_of a) t ≡ true → (r : Result Ref Fault) → Tells (Said p t (AliveAsk (ref_after ledger.book))) (ref_after ledger.book) ledger r ledger'

@@ -16,7 +16,7 @@ use Rattle.pt_signal.specs.Values.{same_pid, fits, without_first}
 use Rattle.pt_signal.specs.Process.{ProcessState, say, sent, estate}
 use Rattle.pt_events.specs.declared.event.Event.{Event}
 use Rattle.pt_events.specs.declared.event.Event.TheVariants.{Said, Took, Flag, Left}
-use Rattle.pt_events.specs.History.{living, is_living, life, touches, is_unborn, left_sends, sent_by, MaySay}
+use Rattle.pt_events.specs.History.{Start, living, is_living, life, touches, is_unborn, left_sends, sent_by, MaySay}
 use Rattle.pt_events.specs.Journal.{letter, IsHome, MayHere, IsNewAt, IsKnown}
 use Rattle.pt_events.proofs.Steps.{said, took, flagged, left}
 use Rattle.pt_slots.specs.declared.Key.{Key}
@@ -43,7 +43,8 @@ use Rattle.pt_events.specs.History.{made_link, made_ref}
 use Rattle.pt_shard.specs.Calls.{new_link, new_ref}
 use Rattle.pt_shard.specs.Sound.{Every}
 use Rattle.pt_shard.proofs.Fresh.{fresh_link, fresh_ref}
-use Rattle.pt_shard.proofs.Near.{near_life, not_open, open_at, IsNearPhase, IsOpen}
+use Rattle.pt_shard.specs.Begun.{IsNearPhase}
+use Rattle.pt_shard.proofs.Near.{near_life, not_open, open_at, IsOpen}
 use Rattle.pt_shard.proofs.Births.{is_any_birth, issued_kept, issued_same, known_near, known_born}
 use Rattle.pt_shard.proofs.Frames.{IsPut, put_one, lives_there}
 use Rattle.pt_shard.proofs.Vacancy.{same_place, offers_changed}
@@ -117,17 +118,17 @@ owes_is p r owing old new s stands ends = subst (λ o. IfSome o (λ x. owing ≡
 
 -- signals that may be said at any time -----------------------------------------------------
 
-pub plain_may : (past : List Event) (s : ProcessState) (a b : Pid) (x : Signal) → IsPlain x → MaySay [] past s a b x
-plain_may past s a b (Message body) h = tt
-plain_may past s a b (Signal.Exit reason) h = tt
-plain_may past s a b (Link i) h = absurd h
-plain_may past s a b (Unlink ids) h = absurd h
-plain_may past s a b (LinkExit ids r) h = absurd h
-plain_may past s a b (Monitor m) h = absurd h
-plain_may past s a b (Demonitor m) h = absurd h
-plain_may past s a b (Signal.Down m r) h = absurd h
-plain_may past s a b (AliveAsk m) h = absurd h
-plain_may past s a b (AliveSay m y) h = absurd h
+pub plain_may : (start : Start) (past : List Event) (s : ProcessState) (a b : Pid) (x : Signal) → IsPlain x → MaySay start past s a b x
+plain_may start past s a b (Message body) h = tt
+plain_may start past s a b (Signal.Exit reason) h = tt
+plain_may start past s a b (Link i) h = absurd h
+plain_may start past s a b (Unlink ids) h = absurd h
+plain_may start past s a b (LinkExit ids r) h = absurd h
+plain_may start past s a b (Monitor m) h = absurd h
+plain_may start past s a b (Demonitor m) h = absurd h
+plain_may start past s a b (Signal.Down m r) h = absurd h
+plain_may start past s a b (AliveAsk m) h = absurd h
+plain_may start past s a b (AliveSay m y) h = absurd h
 
 pub plain_new : (d n : ℕ) (a b : Pid) (x : Signal) → IsPlain x → IsNewAt d n (Said a b x)
 plain_new d n a b (Message body) h = tt
@@ -186,10 +187,10 @@ pub record Found (a : Parts) (p : Pid) : Type 0 where
   pub there : Some (me, s) ≡ resident_at a.house.desk a.house.table p
 
 module _ (a : Parts) (whole : IsWhole a) (p : Pid) (f : Found a p) where
-  pub both : (life [] (past (shard_of a)) p ≡ living f.s) × (f.me ≡ p)
-  both = lives_there (life [] (past (shard_of a)) p) p f.me f.s (sym (whole.sound.residents p) ∙ sym f.there)
+  pub both : (life a.book.start (past (shard_of a)) p ≡ living f.s) × (f.me ≡ p)
+  both = lives_there (life a.book.start (past (shard_of a)) p) p f.me f.s (sym (whole.sound.residents p) ∙ sym f.there)
 
-  pub lives_here : life [] (past (shard_of a)) p ≡ living f.s
+  pub lives_here : life a.book.start (past (shard_of a)) p ≡ living f.s
   lives_here = both.0
 
   pub alive : lives (shard_of a) p ≡ true
@@ -208,13 +209,13 @@ module _ (a : Parts) (whole : IsWhole a) (p : Pid) (f : Found a p) where
     pub alone : (q : Pid) → touches q e ≡ same_pid q p
     pub no_birth : is_any_birth e ≡ false
     pub home : IsHome a.house.desk e
-    pub may : MayHere [] (past (shard_of a)) e
+    pub may : MayHere a.book.start (past (shard_of a)) e
     pub new_at : IsNewAt a.house.desk (a.book.clock + 1) e
-    pub known : IsKnown [] a.house.desk a.config.top_version (past (shard_of a)) e
+    pub known : IsKnown a.book.start a.house.desk a.config.top_version (past (shard_of a)) e
     pub near : IsNear a.config.desks e
 
   module _ (can : a.book.clock < 2 ^ 62) (book : Book) (house : ResidentsState) (desk : house.desk ≡ a.house.desk) where
-    own_lawful : (e : Event) (own : IsOwn e) (v : Option (Pid × ProcessState)) → Puts p v a.house.table house.table → resident (e ∷ past (shard_of a)) p ≡ v → OffersTheFree house.table
+    own_lawful : (e : Event) (own : IsOwn e) (v : Option (Pid × ProcessState)) → Puts p v a.house.table house.table → resident a.book.start (e ∷ past (shard_of a)) p ≡ v → OffersTheFree house.table
         → IsLawful a whole (a.book.clock + 1) e house.table
     own_lawful e own v puts after offers = record {
       later = omega arith;
@@ -225,28 +226,28 @@ module _ (a : Parts) (whole : IsWhole a) (p : Pid) (f : Found a p) where
       known = own.known;
       near = own.near;
       residents =
-          put_one (past (shard_of a)) e p own.alone (resident_at a.house.desk a.house.table) (resident_at a.house.desk house.table) whole.sound.residents
+          put_one a.book.start (past (shard_of a)) e p own.alone (resident_at a.house.desk a.house.table) (resident_at a.house.desk house.table) whole.sound.residents
           (subst (λ x. IsPut p x (resident_at a.house.desk a.house.table) (resident_at a.house.desk house.table)) (sym after) (put_by_pid a.house.desk p v a.house.table house.table stands.0 puts));
-      issues = λ slot. puts.settings.issues slot ∙ whole.sound.issues slot ∙ sym (issued_same [] (past (shard_of a)) e slot own.no_birth);
-      born = issued_kept [] a.house.desk (past (shard_of a)) e own.no_birth whole.sound.born;
+      issues = λ slot. puts.settings.issues slot ∙ whole.sound.issues slot ∙ sym (issued_same a.book.start (past (shard_of a)) e slot own.no_birth);
+      born = issued_kept a.book.start a.house.desk (past (shard_of a)) e own.no_birth whole.sound.born;
       offers = offers;
       capacity = puts.settings.capacity;
       top_version = puts.settings.top_version;
     }
 
     -- p says a signal to a pid of the node, which was born if it is of this desk
-    pub said_to : (to : Pid) (x : Signal) → (to.shard ≡ a.house.desk → is_unborn (life [] (past (shard_of a)) to) ≡ false) → to.shard < a.config.desks
-        → MaySay [] (past (shard_of a)) f.s p to x → IsNewAt a.house.desk (a.book.clock + 1) (Said p to x)
+    pub said_to : (to : Pid) (x : Signal) → (to.shard ≡ a.house.desk → is_unborn (life a.book.start (past (shard_of a)) to) ≡ false) → to.shard < a.config.desks
+        → MaySay a.book.start (past (shard_of a)) f.s p to x → IsNewAt a.house.desk (a.book.clock + 1) (Said p to x)
         → book ≡ wrote (a.book.clock + 1) (Said p to x) (letter (a.book.clock + 1) (sent p to x) ∷ []) a.book
         → Changes p (λ me s. say s to x) a.house.table house.table
         → Outcome a (parts_of a.config book house) (a.book.clock + 1) (Said p to x)
     said_to to x born near may new is changes =
         let own : IsOwn (Said p to x) = record { alone = λ q. refl; no_birth = refl; home = stands.0; may = rw lives_here (refl, may); new_at = new; known = born; near = near } in
-        let after = ap (of_phase p) (said [] (past (shard_of a)) p f.s lives_here to x) ∙ sym (ap (changed (λ me s. say s to x)) stands.1) in
+        let after = ap (of_phase p) (said a.book.start (past (shard_of a)) p f.s lives_here to x) ∙ sym (ap (changed (λ me s. say s to x)) stands.1) in
         outcome a whole (a.book.clock + 1) (Said p to x) book house desk (own_lawful (Said p to x) own _ changes.puts after (offers_changed p _ a.house.table house.table whole.offers changes)) is (ap (option_pid a.house.desk) changes.next)
 
     pub said_known : (to : Pid) (x : Signal) → knows (shard_of a) to ≡ true
-        → MaySay [] (past (shard_of a)) f.s p to x → IsNewAt a.house.desk (a.book.clock + 1) (Said p to x)
+        → MaySay a.book.start (past (shard_of a)) f.s p to x → IsNewAt a.house.desk (a.book.clock + 1) (Said p to x)
         → book ≡ wrote (a.book.clock + 1) (Said p to x) (letter (a.book.clock + 1) (sent p to x) ∷ []) a.book
         → Changes p (λ me s. say s to x) a.house.table house.table
         → Outcome a (parts_of a.config book house) (a.book.clock + 1) (Said p to x)
@@ -257,7 +258,7 @@ module _ (a : Parts) (whole : IsWhole a) (p : Pid) (f : Found a p) where
         → Outcome a (parts_of a.config book house) (a.book.clock + 1) (Flag p on)
     set_flag on is changes =
         let own : IsOwn (Flag p on) = record { alone = λ q. refl; no_birth = refl; home = stands.0; may = rw lives_here refl; new_at = tt; known = tt; near = tt } in
-        let after = ap (of_phase p) (flagged [] (past (shard_of a)) p f.s lives_here on) ∙ sym (ap (changed (λ me s. record s { traps = on })) stands.1) in
+        let after = ap (of_phase p) (flagged a.book.start (past (shard_of a)) p f.s lives_here on) ∙ sym (ap (changed (λ me s. record s { traps = on })) stands.1) in
         outcome a whole (a.book.clock + 1) (Flag p on) book house desk (own_lawful (Flag p on) own _ changes.puts after (offers_changed p _ a.house.table house.table whole.offers changes)) is (ap (option_pid a.house.desk) changes.next)
 
     pub took_item : (k : Pick) (i : Item) → find (fits k) f.s.waiting ≡ Some i
@@ -266,7 +267,7 @@ module _ (a : Parts) (whole : IsWhole a) (p : Pid) (f : Found a p) where
         → Outcome a (parts_of a.config book house) (a.book.clock + 1) (Took p k i)
     took_item k i first is changes =
         let own : IsOwn (Took p k i) = record { alone = λ q. refl; no_birth = refl; home = stands.0; may = rw lives_here (refl, first); new_at = tt; known = tt; near = tt } in
-        let after = ap (of_phase p) (took [] (past (shard_of a)) p f.s lives_here k i) ∙ sym (ap (changed (λ me t. record t { waiting = without_first (fits k) t.waiting })) stands.1) in
+        let after = ap (of_phase p) (took a.book.start (past (shard_of a)) p f.s lives_here k i) ∙ sym (ap (changed (λ me t. record t { waiting = without_first (fits k) t.waiting })) stands.1) in
         outcome a whole (a.book.clock + 1) (Took p k i) book house desk (own_lawful (Took p k i) own _ changes.puts after (offers_changed p _ a.house.table house.table whole.offers changes)) is (ap (option_pid a.house.desk) changes.next)
 
     pub left_by : (r : Reason) (owing : Owing) → Ends p r owing a.house.table house.table
@@ -274,9 +275,9 @@ module _ (a : Parts) (whole : IsWhole a) (p : Pid) (f : Found a p) where
         → Outcome a (parts_of a.config book house) (a.book.clock + 1) (Left p r)
     left_by r owing ends wrote_is =
         let own : IsOwn (Left p r) = record { alone = λ q. refl; no_birth = refl; home = stands.0; may = rw lives_here refl; new_at = tt; known = tt; near = tt } in
-        let owes : owing.owed ≡ left_sends (life [] (past (shard_of a)) p) p r = ap (λ o. o.owed) (owes_is p r owing a.house.table house.table f.s stands.1 ends) ∙ sym (ap (λ x. left_sends x p r) lives_here) in
+        let owes : owing.owed ≡ left_sends (life a.book.start (past (shard_of a)) p) p r = ap (λ o. o.owed) (owes_is p r owing a.house.table house.table f.s stands.1 ends) ∙ sym (ap (λ x. left_sends x p r) lives_here) in
         outcome a whole (a.book.clock + 1) (Left p r) book house desk
-        (own_lawful (Left p r) own None ends.puts (ap (of_phase p) (left [] (past (shard_of a)) p f.s lives_here r)) ends.offers)
+        (own_lawful (Left p r) own None ends.puts (ap (of_phase p) (left a.book.start (past (shard_of a)) p f.s lives_here r)) ends.offers)
         (wrote_is ∙ ap (λ o. wrote (a.book.clock + 1) (Left p r) (map (letter (a.book.clock + 1)) o) a.book) owes)
         (vacant_next a.house.desk a.config.top_version p a.house.table house.table stands.0 whole.top_version ends.next)
 
@@ -290,31 +291,31 @@ ref_now a whole prepared same m is = is ∙ ap {A = Book} (λ b. record { desk =
 -- they were never made before
 pub link_new : (a : Parts) (whole : IsWhole a) (i : LinkId) → i ≡ new_link (shard_of a) → made_link (past (shard_of a)) i ≡ false
 link_new a whole i is =
-    fresh_link a.config.start a.config.top_version a.house.desk a.book.journal i whole.sound.fit.local (let k = whole.sound.fit.clock_is in let n = ap (λ (j : LinkId). j.number) is in omega (arith, k, n))
+    fresh_link a.book.start a.config.start a.config.top_version a.house.desk a.book.journal i whole.sound.fit.local (let k = whole.sound.fit.clock_is in let n = ap (λ (j : LinkId). j.number) is in omega (arith, k, n))
 
 pub ref_new : (a : Parts) (whole : IsWhole a) (m : Ref) → m ≡ new_ref (shard_of a) → made_ref (past (shard_of a)) m ≡ false
 ref_new a whole m is =
-    fresh_ref a.config.start a.config.top_version a.house.desk a.book.journal m whole.sound.fit.local (let k = whole.sound.fit.clock_is in let n = ap (λ (j : Ref). j.number) is in omega (arith, k, n))
+    fresh_ref a.book.start a.config.start a.config.top_version a.house.desk a.book.journal m whole.sound.fit.local (let k = whole.sound.fit.clock_is in let n = ap (λ (j : Ref). j.number) is in omega (arith, k, n))
 
 module _ (a : Parts) (whole : IsWhole a) (p : Pid) (f : Found a p) where
   -- what the process has open
-  watched : Every (IsOpen a.config.desks a.config.start a.house.desk a.book.journal) f.s.watching
+  watched : Every (IsOpen a.book.start a.config.desks a.config.start a.house.desk a.book.journal) f.s.watching
   watched =
-      let near = near_life a.config.desks a.config.start a.config.top_version a.house.desk a.book.journal whole.sound.fit.here whole.sound.fit.local whole.sound.near p in
-      (subst (IsNearPhase a.config.desks (IsOpen a.config.desks a.config.start a.house.desk a.book.journal)) (lives_here a whole p f) near).watching
+      let near = near_life a.book.start a.config.desks a.config.start a.config.top_version a.house.desk whole.sound.fit.begun a.book.journal whole.sound.fit.here whole.sound.fit.local whole.sound.near p in
+      (subst (IsNearPhase a.config.desks (IsOpen a.book.start a.config.desks a.config.start a.house.desk a.book.journal)) (lives_here a whole p f) near).watching
 
   -- a reference that is made now was not open before
   pub not_open_yet : (m : Ref) → m ≡ new_ref (shard_of a) → lookup (same_ref m) f.s.watching ≡ None
   not_open_yet m is =
-      not_open a.config.desks a.config.start a.config.top_version a.house.desk a.book.journal m (let k = whole.sound.fit.clock_is in let n = ap (λ (j : Ref). j.number) is in omega (arith, k, n)) f.s.watching watched
+      not_open a.book.start a.config.desks a.config.start a.config.top_version a.house.desk whole.sound.fit.begun a.book.journal m (let k = whole.sound.fit.clock_is in let n = ap (λ (j : Ref). j.number) is in omega (arith, k, n)) f.s.watching watched
 
-  pub open_target : (m : Ref) (t : Pid) → Some t ≡ lookup (same_ref m) f.s.watching → (t.shard < a.config.desks) × (t.shard ≡ a.house.desk → is_unborn (life [] (past (shard_of a)) t) ≡ false)
-  open_target m t found = open_at a.config.desks a.config.start a.config.top_version a.house.desk a.book.journal m t f.s.watching watched (sym found)
+  pub open_target : (m : Ref) (t : Pid) → Some t ≡ lookup (same_ref m) f.s.watching → (t.shard < a.config.desks) × (t.shard ≡ a.house.desk → is_unborn (life a.book.start (past (shard_of a)) t) ≡ false)
+  open_target m t found = open_at a.book.start a.config.desks a.config.start a.config.top_version a.house.desk whole.sound.fit.begun a.book.journal m t f.s.watching watched (sym found)
 
   -- what it owes at its end goes to desks of the node
   pub left_near : (r : Reason) (owing : Owing) (table : Table) → Ends p r owing a.house.table table → Every (λ l. l.to.shard < length a.book.outbox) owing.owed
   left_near r owing table ends =
-      let owes : owing.owed ≡ sent_by [] (past (shard_of a)) (Left p r)
+      let owes : owing.owed ≡ sent_by a.book.start (past (shard_of a)) (Left p r)
       = ap (λ o. o.owed) (owes_is p r owing a.house.table table f.s (stands a whole p f).1 ends) ∙ sym (ap (λ x. left_sends x p r) (lives_here a whole p f)) in
       subst (λ n. Every (λ l. l.to.shard < n) owing.owed) (sym whole.sound.fit.boxes)
       (subst (Every (λ l. l.to.shard < a.config.desks)) (sym owes) (sent_near a whole (Left p r) tt))
@@ -324,7 +325,7 @@ module _ (a : Parts) (whole : IsWhole a) (p : Pid) (f : Found a p) where
 
   pub peers_near : Every (λ q. q.shard < length a.book.outbox) (peers f.s)
   peers_near =
-      let owes : estate p f.s Normal ≡ sent_by [] (past (shard_of a)) (Left p Normal) = sym (ap (λ x. left_sends x p Normal) (lives_here a whole p f)) in
+      let owes : estate p f.s Normal ≡ sent_by a.book.start (past (shard_of a)) (Left p Normal) = sym (ap (λ x. left_sends x p Normal) (lives_here a whole p f)) in
       subst (Every (λ q. q.shard < length a.book.outbox)) (estate_peers p f.s Normal)
       (every_to (length a.book.outbox) (estate p f.s Normal)
       (subst (λ n. Every (λ l. l.to.shard < n) (estate p f.s Normal)) (sym whole.sound.fit.boxes)

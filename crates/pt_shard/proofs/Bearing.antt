@@ -12,7 +12,7 @@ use Rattle.pt_signal.specs.Values.{same_pid}
 use Rattle.pt_signal.specs.Process.{ProcessState, fresh}
 use Rattle.pt_signal.proofs.Same.{same_pid_is}
 use Rattle.pt_events.specs.declared.event.Event.TheVariants.{Born}
-use Rattle.pt_events.specs.History.{Past, Phase, unborn, living, ended, life, linked, while_living, is_the, is_ended, is_living, made_link, MayBear}
+use Rattle.pt_events.specs.History.{Past, Start, Phase, unborn, living, ended, life, linked, while_living, is_the, is_ended, is_living, made_link, MayBear}
 use Rattle.pt_events.specs.Journal.{IsLinkAt, IsOf}
 use Rattle.pt_slots.specs.declared.Key.{Key}
 use Rattle.pt_slots.specs.State.{at, issued, next_key}
@@ -52,17 +52,17 @@ linked_phase p q link (ended r s) = refl
 abbrev pub read_born : Pid → Option Pid → Option LinkId → Pid → Option (Pid × ProcessState) → Option (Pid × ProcessState)
 read_born q parent link p was = cond (same_pid p q) (Some (q, linked parent link fresh)) (cond (is_the p parent) (changed (adopts q link) was) was)
 
-birth_resident : (before : Past) (q : Pid) (parent : Option Pid) (link : Option LinkId) → life [] before q ≡ unborn
-    → (p : Pid) → resident (Born q parent link ∷ before) p ≡ read_born q parent link p (resident before p)
-birth_resident before q parent link new p = go (same_pid p q) refl (is_the p parent) refl
+birth_resident : (start : Start) (before : Past) (q : Pid) (parent : Option Pid) (link : Option LinkId) → life start before q ≡ unborn
+    → (p : Pid) → resident start (Born q parent link ∷ before) p ≡ read_born q parent link p (resident start before p)
+birth_resident start before q parent link new p = go (same_pid p q) refl (is_the p parent) refl
   where
     go : (a : Bool) → same_pid p q ≡ a → (b : Bool) → is_the p parent ≡ b
-        → resident (Born q parent link ∷ before) p ≡ read_born q parent link p (resident before p)
+        → resident start (Born q parent link ∷ before) p ≡ read_born q parent link p (resident start before p)
     go true h b k =
         let e = same_pid_is p q h in
-        let n : life [] before p ≡ unborn = ap (life [] before) e ∙ new in
+        let n : life start before p ≡ unborn = ap (life start before) e ∙ new in
         rw (h, n) (ap (λ x. Some (x, linked parent link fresh)) e)
-    go false h true k = rw (h, k) (linked_phase p q link (life [] before p))
+    go false h true k = rw (h, k) (linked_phase p q link (life start before p))
     go false h false k = rw (h, k) refl
 
 -- the slots before and after ---------------------------------------------------------------
@@ -127,26 +127,26 @@ module _ (a : Parts) (whole : IsWhole a) (key : Key) (r : Resident) (mid : Table
   abbrev child : Pid
   child = pid_at a.house.desk key
 
-  next_is : key.version ≡ issued_in [] (past (shard_of a)) key.slot + 1
+  next_is : key.version ≡ issued_in a.book.start (past (shard_of a)) key.slot + 1
   next_is = ins.version_is_next ∙ ap (λ n. n + 1) (whole.sound.issues key.slot)
 
-  not_yet : life [] (past (shard_of a)) child ≡ unborn
-  not_yet = is_unborn_is _ (next_unborn [] a.house.desk (past (shard_of a)) child whole.sound.born next_is)
+  not_yet : life a.book.start (past (shard_of a)) child ≡ unborn
+  not_yet = is_unborn_is _ (next_unborn a.book.start a.house.desk (past (shard_of a)) child whole.sound.born next_is)
 
   -- whoever had the slot before has ended
-  follows : 1 < key.version → is_ended (life [] (past (shard_of a)) (previous child)) ≡ true
+  follows : 1 < key.version → is_ended (life a.book.start (past (shard_of a)) (previous child)) ≡ true
   follows some =
       let empty : at a.house.table key.slot (pred key.version) ≡ None = offered_empty key r a.house.table mid ins (pred key.version) (other_version key.version (omega arith)) in
       let none : resident_at a.house.desk a.house.table (previous child) ≡ None = rw (eq-eqb a.house.desk a.house.desk refl, empty) refl in
-      ended_is (life [] (past (shard_of a)) (previous child)) (previous_born [] a.house.desk (past (shard_of a)) child whole.sound.born refl next_is some)
-      (lives_not (life [] (past (shard_of a)) (previous child)) (previous child) (sym (whole.sound.residents (previous child)) ∙ none))
+      ended_is (life a.book.start (past (shard_of a)) (previous child)) (previous_born a.book.start a.house.desk (past (shard_of a)) child whole.sound.born refl next_is some)
+      (lives_not (life a.book.start (past (shard_of a)) (previous child)) (previous child) (sym (whole.sound.residents (previous child)) ∙ none))
 
   module _ (parent : Option Pid) (link : Option LinkId) (table' : Table) where
     -- the slots after the birth
     pub record IsBirth : Type 0 where
       pub can : a.book.clock < 2 ^ 62
       pub home : IsOf a.house.desk parent
-      pub may : MayBear [] (past (shard_of a)) parent link
+      pub may : MayBear a.book.start (past (shard_of a)) parent link
       pub new_at : IsLinkAt a.house.desk (a.book.clock + 1) link
       pub reads : (p : Pid) → resident_at a.house.desk table' p ≡ read_born child parent link p (resident_at a.house.desk a.house.table p)
       pub issues : (slot : ℕ) → issued table' slot ≡ issued mid slot
@@ -154,7 +154,7 @@ module _ (a : Parts) (whole : IsWhole a) (key : Key) (r : Resident) (mid : Table
       pub capacity : table'.capacity ≡ mid.capacity
       pub top_version : table'.top_version ≡ mid.top_version
 
-    issued_now : (slot : ℕ) → issued mid slot ≡ issued_in [] (Born child parent link ∷ past (shard_of a)) slot
+    issued_now : (slot : ℕ) → issued mid slot ≡ issued_in a.book.start (Born child parent link ∷ past (shard_of a)) slot
     issued_now slot = ins.issues slot ∙ ap (cond (key.slot == slot) key.version) (whole.sound.issues slot)
 
     lawful : IsBirth → IsLawful a whole (a.book.clock + 1) (Born child parent link) table'
@@ -167,9 +167,9 @@ module _ (a : Parts) (whole : IsWhole a) (key : Key) (r : Resident) (mid : Table
       known = (let k = ins.version_is_next in omega arith, let k = ins.version_in_range in omega (arith, whole.top_version), follows);
       near = tt;
       residents = λ p.
-          b.reads p ∙ ap (read_born child parent link p) (whole.sound.residents p) ∙ sym (birth_resident (past (shard_of a)) child parent link not_yet p);
+          b.reads p ∙ ap (read_born child parent link p) (whole.sound.residents p) ∙ sym (birth_resident a.book.start (past (shard_of a)) child parent link not_yet p);
       issues = λ slot. b.issues slot ∙ issued_now slot;
-      born = issued_more [] a.house.desk (past (shard_of a)) child parent link refl next_is whole.sound.born;
+      born = issued_more a.book.start a.house.desk (past (shard_of a)) child parent link refl next_is whole.sound.born;
       offers = b.offers;
       capacity = b.capacity ∙ ins.settings.capacity;
       top_version = b.top_version ∙ ins.settings.top_version;
@@ -183,7 +183,7 @@ module _ (a : Parts) (whole : IsWhole a) (key : Key) (r : Resident) (mid : Table
       is = rw whole.home refl;
       here = refl;
       known =
-          let latest : issued_in [] (Born child parent link ∷ past (shard_of a)) key.slot ≡ key.version = rw (eq-eqb key.slot key.slot refl) refl in
+          let latest : issued_in a.book.start (Born child parent link ∷ past (shard_of a)) key.slot ≡ key.version = rw (eq-eqb key.slot key.slot refl) refl in
           knows_new (shard_of (parts_of a.config (wrote (a.book.clock + 1) (Born child parent link) [] a.book) (with_table a.house table'))) child refl whole.sound.fit.here
           (let k = ins.slot_in_range in omega (arith, whole.capacity)) (let k = ins.version_is_next in omega arith) (let k = ins.version_in_range in omega (arith, whole.top_version)) (omega (arith, latest));
     }
@@ -212,7 +212,7 @@ module _ (a : Parts) (whole : IsWhole a) (key : Key) (r : Resident) (mid : Table
   module _ (par : Pid) (f : Found a par) where
     -- the parent is not its child
     not_child : (p : Pid) → p ≡ par → p ≡ child → ⊥
-    not_child p h k = let both : living f.s ≡ unborn = sym (lives_here a whole par f) ∙ ap (life [] (past (shard_of a))) (sym h ∙ k) ∙ not_yet in cc
+    not_child p h k = let both : living f.s ≡ unborn = sym (lives_here a whole par f) ∙ ap (life a.book.start (past (shard_of a))) (sym h ∙ k) ∙ not_yet in cc
 
     pub still_there : same_pid par child ≡ false
     still_there = go (same_pid par child) refl
@@ -246,7 +246,7 @@ module _ (a : Parts) (whole : IsWhole a) (key : Key) (r : Resident) (mid : Table
               then_it ∙ rw (k, h) (ap (changed (adopts child link)) (parent_place ∙ ap (resident_at a.house.desk a.house.table) (sym (same_pid_is p par k))))
           go false h false k = then_it ∙ rw (k, h) (first ∙ rw h refl)
 
-      pub child_born : a.book.clock < 2 ^ 62 → MayBear [] (past (shard_of a)) (Some par) link → IsLinkAt a.house.desk (a.book.clock + 1) link → IsBirth (Some par) link table'
+      pub child_born : a.book.clock < 2 ^ 62 → MayBear a.book.start (past (shard_of a)) (Some par) link → IsLinkAt a.house.desk (a.book.clock + 1) link → IsBirth (Some par) link table'
       child_born can may new_at = record {
         can = can;
         home = (stands a whole par f).0;
@@ -273,7 +273,8 @@ same_whole a book house whole b d same =
         fit = record {
           settings = whole.sound.fit.settings;
           here = whole.sound.fit.here;
-          first = refl;
+          first = whole.sound.fit.first;
+          begun = whole.sound.fit.begun;
           clock_is = whole.sound.fit.clock_is;
           local = whole.sound.fit.local;
           vacant =
@@ -299,10 +300,10 @@ same_whole a book house whole b d same =
 
 -- the calls ----------------------------------------------------------------------------------
 
-may_link : (earlier : Past) (par : Pid) (s : ProcessState) → life [] earlier par ≡ living s → (asked : Bool) (i : LinkId) → made_link earlier i ≡ false
-    → MayBear [] earlier (Some par) (then_some asked i)
-may_link earlier par s lives true i new = (ap is_living lives, new)
-may_link earlier par s lives false i new = ap is_living lives
+may_link : (start : Start) (earlier : Past) (par : Pid) (s : ProcessState) → life start earlier par ≡ living s → (asked : Bool) (i : LinkId) → made_link earlier i ≡ false
+    → MayBear start earlier (Some par) (then_some asked i)
+may_link start earlier par s lives true i new = (ap is_living lives, new)
+may_link start earlier par s lives false i new = ap is_living lives
 
 link_at : (desk n : ℕ) (asked : Bool) → IsLinkAt desk n (then_some asked (record { desk = desk; number = n }))
 link_at desk n true = (refl, refl)
@@ -364,7 +365,7 @@ module _ (a : Parts) (whole : IsWhole a) (par : Pid) (f : Found a par) (q : Pid)
       → BirthOutcome (shard_of a) (parts_of a.config book last) q (Some par) link
   child_outcome can asked link is me state last desk'' changes book book_is =
       let new : made_link (past (shard_of a)) (new_link (shard_of a)) ≡ false = link_new a whole (new_link (shard_of a)) refl in
-      let may : MayBear [] (past (shard_of a)) (Some par) link = subst (MayBear [] (past (shard_of a)) (Some par)) (sym is) (may_link (past (shard_of a)) par f.s (lives_here a whole par f) asked (new_link (shard_of a)) new) in
+      let may : MayBear a.book.start (past (shard_of a)) (Some par) link = subst (MayBear a.book.start (past (shard_of a)) (Some par)) (sym is) (may_link a.book.start (past (shard_of a)) par f.s (lives_here a whole par f) asked (new_link (shard_of a)) new) in
       let new_at : IsLinkAt a.house.desk (a.book.clock + 1) link = subst (IsLinkAt a.house.desk (a.book.clock + 1)) (sym is) (link_at a.house.desk (a.book.clock + 1) asked) in
       let birth = child_born wide wide_whole picked.0 r mid.table picked.1.1 par wide_found link (me ∙ q_is) state last.table
       (subst (λ x. Changes par (adopts x link) mid.table last.table) q_is changes) can may new_at in

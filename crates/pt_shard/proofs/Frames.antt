@@ -5,7 +5,7 @@ use Rattle.pt_signal.specs.Values.{same_pid}
 use Rattle.pt_signal.specs.Process.{ProcessState}
 use Rattle.pt_signal.proofs.Same.{same_pid_is}
 use Rattle.pt_events.specs.declared.event.Event.{Event}
-use Rattle.pt_events.specs.History.{Past, Phase, unborn, living, ended, touches, is_living}
+use Rattle.pt_events.specs.History.{Past, Start, Phase, unborn, living, ended, touches, is_living}
 use Rattle.pt_events.proofs.Steps.{untouched}
 use Rattle.pt_shard.specs.Sound.{resident, of_phase}
 
@@ -16,23 +16,23 @@ Reading = Pid → Option (Pid × ProcessState)
 abbrev pub IsPut : Pid → Option (Pid × ProcessState) → Reading → Reading → Type 0
 IsPut p v read other = (q : Pid) → other q ≡ cond (same_pid q p) v (read q)
 
-module _ (before : Past) (e : Event) (p : Pid) (alone : (q : Pid) → touches q e ≡ same_pid q p) where
-  pub others : (q : Pid) → same_pid q p ≡ false → resident (e ∷ before) q ≡ resident before q
-  others q h = ap (of_phase q) (untouched [] before e q (alone q ∙ h))
+module _ (start : Start) (before : Past) (e : Event) (p : Pid) (alone : (q : Pid) → touches q e ≡ same_pid q p) where
+  pub others : (q : Pid) → same_pid q p ≡ false → resident start (e ∷ before) q ≡ resident start before q
+  others q h = ap (of_phase q) (untouched start before e q (alone q ∙ h))
 
-  pub put_one : (read other : Reading) → ((q : Pid) → read q ≡ resident before q) → IsPut p (resident (e ∷ before) p) read other → (q : Pid) → other q ≡ resident (e ∷ before) q
+  pub put_one : (read other : Reading) → ((q : Pid) → read q ≡ resident start before q) → IsPut p (resident start (e ∷ before) p) read other → (q : Pid) → other q ≡ resident start (e ∷ before) q
   put_one read other same put q = go (same_pid q p) refl (put q)
     where
-      go : (b : Bool) → same_pid q p ≡ b → other q ≡ cond (same_pid q p) (resident (e ∷ before) p) (read q) → other q ≡ resident (e ∷ before) q
-      go true h k = let at : other q ≡ resident (e ∷ before) p = rw h at k in at ∙ ap (resident (e ∷ before)) (sym (same_pid_is q p h))
+      go : (b : Bool) → same_pid q p ≡ b → other q ≡ cond (same_pid q p) (resident start (e ∷ before) p) (read q) → other q ≡ resident start (e ∷ before) q
+      go true h k = let at : other q ≡ resident start (e ∷ before) p = rw h at k in at ∙ ap (resident start (e ∷ before)) (sym (same_pid_is q p h))
       go false h k = let at : other q ≡ read q = rw h at k in at ∙ same q ∙ sym (others q h)
 
   -- nothing changes
-  pub put_none : (read : Reading) → ((q : Pid) → read q ≡ resident before q) → resident (e ∷ before) p ≡ resident before p → (q : Pid) → read q ≡ resident (e ∷ before) q
+  pub put_none : (read : Reading) → ((q : Pid) → read q ≡ resident start before q) → resident start (e ∷ before) p ≡ resident start before p → (q : Pid) → read q ≡ resident start (e ∷ before) q
   put_none read same still q = go (same_pid q p) refl
     where
-      go : (b : Bool) → same_pid q p ≡ b → read q ≡ resident (e ∷ before) q
-      go true h = subst (λ x. read x ≡ resident (e ∷ before) x) (sym (same_pid_is q p h)) (same p ∙ sym still)
+      go : (b : Bool) → same_pid q p ≡ b → read q ≡ resident start (e ∷ before) q
+      go true h = subst (λ x. read x ≡ resident start (e ∷ before) x) (sym (same_pid_is q p h)) (same p ∙ sym still)
       go false h = same q ∙ sym (others q h)
 
 abbrev state_or : ProcessState → Option (Pid × ProcessState) → ProcessState

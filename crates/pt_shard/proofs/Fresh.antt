@@ -8,7 +8,7 @@ use Rattle.pt_signal.specs.Values.{same_link, same_ref}
 use Rattle.pt_events.specs.declared.event.Event.{Event}
 use Rattle.pt_events.specs.declared.event.Event.TheVariants.{Born, Said}
 use Rattle.pt_events.specs.declared.event.Stamped.{Stamped}
-use Rattle.pt_events.specs.History.{makes_link, makes_ref, made_link, made_ref, is_this}
+use Rattle.pt_events.specs.History.{Start, makes_link, makes_ref, made_link, made_ref, is_this}
 use Rattle.pt_events.specs.Journal.{events, clock, IsLocal, IsNewAt, IsLinkAt}
 
 other_link : (i j : LinkId) (n : ℕ) → j.number ≡ n → n < i.number → same_link i j ≡ false
@@ -31,12 +31,12 @@ makes_no_ref m (Said a b (Monitor k)) d n at new = other_ref m k n at.1 new
 makes_no_ref m (Said a b (AliveAsk k)) d n at new = other_ref m k n at.1 new
 makes_no_ref m _ d n at new = refl
 
-pub fresh_link : (low top d : ℕ) (journal : List Stamped) (i : LinkId) → IsLocal [] low top d journal → clock low journal < i.number → made_link (events journal) i ≡ false
-fresh_link low top d [] i local new = refl
-fresh_link low top d (s ∷ journal) i local new =
-    rw (makes_no_link i s.event d s.stamp local.0.new_at new) (fresh_link low top d journal i local.1 (omega (arith, local.0.later)))
+pub fresh_link : (start : Start) (low top d : ℕ) (journal : List Stamped) (i : LinkId) → IsLocal start low top d journal → clock low journal < i.number → made_link (events journal) i ≡ false
+fresh_link start low top d [] i local new = refl
+fresh_link start low top d (s ∷ journal) i local new =
+    rw (makes_no_link i s.event d s.stamp local.0.new_at new) (fresh_link start low top d journal i local.1 (omega (arith, local.0.later)))
 
-pub fresh_ref : (low top d : ℕ) (journal : List Stamped) (m : Ref) → IsLocal [] low top d journal → clock low journal < m.number → made_ref (events journal) m ≡ false
-fresh_ref low top d [] m local new = refl
-fresh_ref low top d (s ∷ journal) m local new =
-    rw (makes_no_ref m s.event d s.stamp local.0.new_at new) (fresh_ref low top d journal m local.1 (omega (arith, local.0.later)))
+pub fresh_ref : (start : Start) (low top d : ℕ) (journal : List Stamped) (m : Ref) → IsLocal start low top d journal → clock low journal < m.number → made_ref (events journal) m ≡ false
+fresh_ref start low top d [] m local new = refl
+fresh_ref start low top d (s ∷ journal) m local new =
+    rw (makes_no_ref m s.event d s.stamp local.0.new_at new) (fresh_ref start low top d journal m local.1 (omega (arith, local.0.later)))

@@ -76,22 +76,22 @@ module _ (a : Parts) (whole : IsWhole a) where
     pub later : a.book.clock < n
     pub fits : n ≤ 2 ^ 62
     pub home : IsHome a.house.desk e
-    pub may : MayHere [] (past before) e
+    pub may : MayHere a.book.start (past before) e
     pub new_at : IsNewAt a.house.desk n e
-    pub known : IsKnown [] a.house.desk a.config.top_version (past before) e
+    pub known : IsKnown a.book.start a.house.desk a.config.top_version (past before) e
     pub near : IsNear a.config.desks e
-    pub residents : (p : Pid) → resident_at a.house.desk table p ≡ resident (e ∷ past before) p
-    pub issues : (slot : ℕ) → issued table slot ≡ issued_in [] (e ∷ past before) slot
-    pub born : BornAreIssued [] a.house.desk (e ∷ past before)
+    pub residents : (p : Pid) → resident_at a.house.desk table p ≡ resident a.book.start (e ∷ past before) p
+    pub issues : (slot : ℕ) → issued table slot ≡ issued_in a.book.start (e ∷ past before) slot
+    pub born : BornAreIssued a.book.start a.house.desk (e ∷ past before)
     pub offers : OffersTheFree table
     pub capacity : table.capacity ≡ a.house.table.capacity
     pub top_version : table.top_version ≡ a.house.table.top_version
 
   -- what an event of the desk sends goes to desks of the node
-  pub sent_near : (e : Event) → IsNear a.config.desks e → Every (IsToNode a.config.desks) (sent_by [] (past before) e)
+  pub sent_near : (e : Event) → IsNear a.config.desks e → Every (IsToNode a.config.desks) (sent_by a.book.start (past before) e)
   sent_near e near =
-      near_sent a.config.desks (IsOpen a.config.desks a.config.start a.house.desk a.book.journal) (λ w k. k.0) (past before) e near
-      (near_life a.config.desks a.config.start a.config.top_version a.house.desk a.book.journal whole.sound.fit.here whole.sound.fit.local whole.sound.near)
+      near_sent a.config.desks (IsOpen a.book.start a.config.desks a.config.start a.house.desk a.book.journal) a.book.start (λ w k. k.0) (past before) e near
+      (near_life a.book.start a.config.desks a.config.start a.config.top_version a.house.desk whole.sound.fit.begun a.book.journal whole.sound.fit.here whole.sound.fit.local whole.sound.near)
 
   module _ (n : ℕ) (e : Event) (table : Table) (law : IsLawful n e table) where
     fit_boxed : (k : ℕ) → AreBetween a.house.desk k (get_or (put_out a.book.outbox (sends n e before)) k [])
@@ -101,18 +101,18 @@ module _ (a : Parts) (whole : IsWhole a) where
         go (inl within) =
             subst (AreBetween a.house.desk k) (sym (put_at a.book.outbox (sends n e before) k within))
             (between_append a.house.desk k (get_or a.book.outbox k []) _ (whole.sound.fit.boxed k)
-            (between_sent a.house.desk k n (sent_by [] (past before) e) (from_home [] (past before) a.house.desk e law.home)))
+            (between_sent a.house.desk k n (sent_by a.book.start (past before) e) (from_home a.book.start (past before) a.house.desk e law.home)))
         go (inr beyond) =
             subst (AreBetween a.house.desk k) (sym (get_or_past (put_out a.book.outbox (sends n e before)) k [] (omega (arith, beyond, put_count a.book.outbox (sends n e before))))) tt
 
     abbrev stamped_now : Stamped
     stamped_now = record { stamp = n; desk = a.house.desk; event = e }
 
-    fit_posts : (k : ℕ) → a.config.desks ≤ k → posts [] (stamped_now ∷ a.book.journal) k ≡ []
+    fit_posts : (k : ℕ) → a.config.desks ≤ k → posts a.book.start (stamped_now ∷ a.book.journal) k ≡ []
     fit_posts k far =
-        filter-append (λ x. x.to.shard == k) (letters [] a.book.journal) (sends n e before)
+        filter-append (λ x. x.to.shard == k) (letters a.book.start a.book.journal) (sends n e before)
         ∙ ap (λ z. z ++ filter (λ x. x.to.shard == k) (sends n e before)) (whole.sound.fit.posts_near k far)
-        ∙ none_far a.config.desks k n (sent_by [] (past before) e) (sent_near e law.near) far
+        ∙ none_far a.config.desks k n (sent_by a.book.start (past before) e) (sent_near e law.near) far
 
     fit_gots : (k : ℕ) → a.config.desks ≤ k → gots (stamped_now ∷ a.book.journal) k ≡ []
     fit_gots k far = ap (λ z. z ++ got_of k n e) (whole.sound.fit.gots_near k far) ∙ got_near a.config.desks k n e law.near far
@@ -121,7 +121,8 @@ module _ (a : Parts) (whole : IsWhole a) where
     fit_written = record {
       settings = whole.sound.fit.settings;
       here = whole.sound.fit.here;
-      first = refl;
+      first = whole.sound.fit.first;
+      begun = whole.sound.fit.begun;
       clock_is = refl;
       local = (record { here = refl; later = let k = whole.sound.fit.clock_is in omega (arith, law.later); within = law.fits; home = law.home; may = law.may; new_at = law.new_at; known = law.known }, whole.sound.fit.local);
       vacant =

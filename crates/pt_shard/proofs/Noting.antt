@@ -12,14 +12,14 @@ use Rattle.pt_shard.proofs.Births.{known_near}
 use Rattle.pt_shard.proofs.Acting.{Outcome, outcome, at_home}
 
 module _ (a : Parts) (whole : IsWhole a) (p : Pid) where
-  at_home_while : (f : Phase) → life [] (past (shard_of a)) p ≡ f → is_living f ≡ true → p.shard ≡ a.house.desk
+  at_home_while : (f : Phase) → life a.book.start (past (shard_of a)) p ≡ f → is_living f ≡ true → p.shard ≡ a.house.desk
   at_home_while unborn is h = absurd (cc)
   at_home_while (living s) is h = (at_home a.house.desk a.house.table p (p, s) (whole.sound.residents p ∙ ap (of_phase p) is)).0
   at_home_while (ended r s) is h = absurd (cc)
 
   -- who lives here is of this desk
   pub at_home_alive : lives (shard_of a) p ≡ true → p.shard ≡ a.house.desk
-  at_home_alive h = at_home_while (life [] (past (shard_of a)) p) refl h
+  at_home_alive h = at_home_while (life a.book.start (past (shard_of a)) p) refl h
 
   -- the desk after its note that a call of p to t was refused
   pub noted : lives (shard_of a) p ≡ true → (t : Pid) → knows (shard_of a) t ≡ true → (n : ℕ) → max a.book.clock n < 2 ^ 62 → (book : Book)

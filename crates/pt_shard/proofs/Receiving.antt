@@ -69,7 +69,7 @@ pub record Delivers (a : Parts) (l : Letter) (table : Table) : Type 0 where
   pub vacant : vacant_at a.house.desk table ≡ vacated a.config.top_version (cond (is_ended_by l (standing a l)) (Some l.to) None) (vacant_at a.house.desk a.house.table)
 
 module _ (a : Parts) (whole : IsWhole a) (l : Letter) (here : l.to.shard ≡ a.house.desk) (near : l.from.shard < a.config.desks) (can : max a.book.clock l.stamp < 2 ^ 62) where
-  there : standing a l ≡ of_phase l.to (life [] (past (shard_of a)) l.to)
+  there : standing a l ≡ of_phase l.to (life a.book.start (past (shard_of a)) l.to)
   there = whole.sound.residents l.to
 
   module _ (book : Book) (house : ResidentsState) (desk : house.desk ≡ a.house.desk) where
@@ -83,23 +83,23 @@ module _ (a : Parts) (whole : IsWhole a) (l : Letter) (here : l.to.shard ≡ a.h
       known = tt;
       near = near;
       residents =
-          let comes : resident (came l ∷ past (shard_of a)) l.to ≡ remains l (standing a l) = rw (same_pid_refl l.to, there) (gets_is l (life [] (past (shard_of a)) l.to)) in
-          put_one (past (shard_of a)) (came l) l.to (λ q. refl) (resident_at a.house.desk a.house.table) (resident_at a.house.desk house.table) whole.sound.residents
+          let comes : resident a.book.start (came l ∷ past (shard_of a)) l.to ≡ remains l (standing a l) = rw (same_pid_refl l.to, there) (gets_is l (life a.book.start (past (shard_of a)) l.to)) in
+          put_one a.book.start (past (shard_of a)) (came l) l.to (λ q. refl) (resident_at a.house.desk a.house.table) (resident_at a.house.desk house.table) whole.sound.residents
           (subst (λ v. IsPut l.to v (resident_at a.house.desk a.house.table) (resident_at a.house.desk house.table)) (sym comes) delivers.live);
-      issues = λ slot. delivers.settings.issues slot ∙ whole.sound.issues slot ∙ sym (issued_same [] (past (shard_of a)) (came l) slot refl);
-      born = issued_kept [] a.house.desk (past (shard_of a)) (came l) refl whole.sound.born;
+      issues = λ slot. delivers.settings.issues slot ∙ whole.sound.issues slot ∙ sym (issued_same a.book.start (past (shard_of a)) (came l) slot refl);
+      born = issued_kept a.book.start a.house.desk (past (shard_of a)) (came l) refl whole.sound.born;
       offers = delivers.offers;
       capacity = delivers.settings.capacity;
       top_version = delivers.settings.top_version;
     }
 
     ended_here : ended_by (shard_of a) (came l) ≡ cond (is_ended_by l (standing a l)) (Some l.to) None
-    ended_here = ap (λ b. cond b (Some l.to) None) (ends_is l (life [] (past (shard_of a)) l.to) ∙ sym (ap (is_ended_by l) there))
+    ended_here = ap (λ b. cond b (Some l.to) None) (ends_is l (life a.book.start (past (shard_of a)) l.to) ∙ sym (ap (is_ended_by l) there))
 
     delivered : Delivers a l house.table → book ≡ wrote (receipt_stamp a l) (came l) (map (letter (receipt_stamp a l)) (replies l (standing a l))) a.book
         → Outcome a (parts_of a.config book house) (receipt_stamp a l) (came l)
     delivered delivers is =
-        let replied : replies l (standing a l) ≡ sent_by [] (past (shard_of a)) (came l) = ap (replies l) there ∙ sym (got_is l (life [] (past (shard_of a)) l.to)) in
+        let replied : replies l (standing a l) ≡ sent_by a.book.start (past (shard_of a)) (came l) = ap (replies l) there ∙ sym (got_is l (life a.book.start (past (shard_of a)) l.to)) in
         outcome a whole (receipt_stamp a l) (came l) book house desk (lawful delivers)
         (is ∙ ap (λ o. wrote (receipt_stamp a l) (came l) (map (letter (receipt_stamp a l)) o) a.book) replied)
         (delivers.vacant ∙ ap (λ o. vacated a.config.top_version o (vacant_at a.house.desk a.house.table)) (sym ended_here))
@@ -182,8 +182,8 @@ module _ (a : Parts) (whole : IsWhole a) (l : Letter) (here : l.to.shard ≡ a.h
 
   pub owed_near : Every (λ x. x.to.shard < length a.book.outbox) owing.owed
   owed_near =
-      let sent_is : replies l (standing a l) ≡ sent_by [] (past (shard_of a)) (came l)
-      = ap (replies l) (whole.sound.residents l.to) ∙ sym (got_is l (life [] (past (shard_of a)) l.to)) in
+      let sent_is : replies l (standing a l) ≡ sent_by a.book.start (past (shard_of a)) (came l)
+      = ap (replies l) (whole.sound.residents l.to) ∙ sym (got_is l (life a.book.start (past (shard_of a)) l.to)) in
       subst (λ n. Every (λ x. x.to.shard < n) owing.owed) (sym whole.sound.fit.boxes)
       (subst (Every (λ x. x.to.shard < a.config.desks)) (sym (owed_is ∙ sent_is)) (sent_near a whole (came l) near))
 
@@ -229,11 +229,11 @@ module _ (a : Parts) (whole : IsWhole a) (l : Letter) (here : l.to.shard ≡ a.h
 module _ (a : Parts) (whole : IsWhole a) (l : Letter) where
   pub nobody_ends : resident_at a.house.desk a.house.table l.to ≡ None → None ≡ ended_by (shard_of a) (came l)
   nobody_ends none =
-      sym (ap (λ b. cond b (Some l.to) None) (ends_is l (life [] (past (shard_of a)) l.to) ∙ sym (ap (is_ended_by l) (whole.sound.residents l.to)) ∙ ap (is_ended_by l) none))
+      sym (ap (λ b. cond b (Some l.to) None) (ends_is l (life a.book.start (past (shard_of a)) l.to) ∙ sym (ap (is_ended_by l) (whole.sound.residents l.to)) ∙ ap (is_ended_by l) none))
 
   pub who_ends : (f : Found a l.to) (o : Option Reason) → (handle f.me f.s l.from l.signal).ending ≡ o → cond (is_some o) (Some l.to) None ≡ ended_by (shard_of a) (came l)
   who_ends f o is =
-      sym (ap (λ b. cond b (Some l.to) None) (ends_is l (life [] (past (shard_of a)) l.to) ∙ sym (ap (is_ended_by l) (whole.sound.residents l.to))
+      sym (ap (λ b. cond b (Some l.to) None) (ends_is l (life a.book.start (past (shard_of a)) l.to) ∙ sym (ap (is_ended_by l) (whole.sound.residents l.to))
       ∙ ap (is_ended_by l) (sym f.there) ∙ ap is_some is))
 
 -- what the ledger wrote -----------------------------------------------------------------------

@@ -31,7 +31,8 @@ module _ (a : Parts) (whole : IsWhole a) (outbox : List (List Letter)) (hold : O
       fit = record {
         settings = whole.sound.fit.settings;
         here = whole.sound.fit.here;
-        first = refl;
+        first = whole.sound.fit.first;
+        begun = whole.sound.fit.begun;
         clock_is = whole.sound.fit.clock_is;
         local = whole.sound.fit.local;
         vacant = whole.sound.fit.vacant;
@@ -85,7 +86,7 @@ module _ (a : Parts) (whole : IsWhole a) (to : ℕ) where
 -- nothing has happened ------------------------------------------------------------------------
 
 abbrev pub first_book : Config → ℕ → Book
-first_book config number = record { desk = number; clock = config.start; journal = []; outbox = replicate config.desks []; hold = None }
+first_book config number = record { start = []; desk = number; clock = config.start; journal = []; outbox = replicate config.desks []; hold = None }
 
 empty_boxed : (d n e : ℕ) → AreBetween d e (get_or (replicate n []) e [])
 empty_boxed d n e = go (cases_lt e n)
@@ -112,6 +113,7 @@ module _ (config : Config) (settings : IsInRange config) (house : ResidentsState
         settings = settings;
         here = inside;
         first = refl;
+        begun = record { own = tt; near = λ p. tt };
         clock_is = refl;
         local = tt;
         vacant = next_birth (shard_of (parts_of config (first_book config house.desk) house)) house.table nobody empty.none_issued empty.capacity_is empty.top_version_is empty.offers;

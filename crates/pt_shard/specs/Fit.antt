@@ -6,6 +6,7 @@ use Rattle.pt_events.specs.Journal.{clock, IsLocal, posts, gots}
 use Rattle.pt_shard.specs.ShardState.{ShardState, past, lives, box}
 use Rattle.pt_shard.specs.Known.{issued_in}
 use Rattle.pt_shard.specs.Opening.{IsInRange}
+use Rattle.pt_shard.specs.Begun.{IsBegun}
 
 -- from pids of desk d to pids of desk e
 abbrev pub AreBetween : ℕ → ℕ → List Letter → Type 0
@@ -35,6 +36,8 @@ pub record IsFit (d : ShardState) : Type 0 where
   pub here : d.number < d.config.desks
   -- nothing was before the journal
   pub first : d.start ≡ []
+  -- of what was before, what a desk knows
+  pub begun : IsBegun d.start d.config.desks d.config.start d.number
   pub clock_is : d.clock ≡ clock d.config.start d.journal
   pub local : IsLocal d.start d.config.start d.config.top_version d.number d.journal
   pub vacant : IsNextBirth d d.vacant

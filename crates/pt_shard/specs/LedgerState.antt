@@ -6,12 +6,15 @@ use Rattle.pt_signal.specs.declared.signal.Signal.{Signal}
 use Rattle.pt_events.specs.declared.event.Event.{Event}
 use Rattle.pt_events.specs.declared.event.Stamped.{Stamped}
 use Rattle.pt_events.specs.declared.event.TheConstants.{MAX_STAMP}
+use Rattle.pt_events.specs.History.{Start}
 use Rattle.pt_shard.specs.declared.stop.Stop.{Stop}
 use Rattle.pt_shard.specs.declared.stop.Stop.TheVariants.{Memory, Worn}
 use Rattle.pt_shard.specs.Boxes.{put_out}
 
 -- what is written down
 pub record Book : Type 0 where
+  -- what was before the journal
+  pub start : Start
   pub desk : ℕ
   pub clock : ℕ
   pub journal : List Stamped
@@ -32,6 +35,7 @@ IsUpTo n (s ∷ journal) = s.stamp ≤ n
 -- one more event, and letters
 abbrev pub wrote : ℕ → Event → List Letter → Book → Book
 wrote n e ls b = record {
+  start = b.start;
   desk = b.desk;
   clock = n;
   journal = record { stamp = n; desk = b.desk; event = e } ∷ b.journal;

@@ -1,4 +1,5 @@
 pub mod Boxes
+pub mod Begun
 pub mod ShardState
 pub mod Opening
 pub mod Known

@@ -8,11 +8,7 @@ use Rattle.pt_events.specs.History.{Past, Start, Phase, living, life, is_unborn}
 use Rattle.pt_shard.specs.ShardState.{ShardState, past}
 use Rattle.pt_shard.specs.Known.{issued_in}
 use Rattle.pt_shard.specs.Fit.{IsFit}
-
--- P holds of each
-abbrev pub Every : {X : Type 0} → (X → Type 0) → List X → Type 0
-Every P [] = ⊤
-Every P (x ∷ xs) = P x × Every P xs
+pub use Rattle.pt_shard.specs.Begun.{Every}
 
 -- p is of the desk, and its version is one that its slot had
 abbrev pub is_issued : Start → ℕ → Past → Pid → Bool
@@ -28,8 +24,8 @@ of_phase p (living s) = Some (p, s)
 of_phase p _ = None
 
 -- what the journal has of p
-abbrev pub resident : Past → Pid → Option (Pid × ProcessState)
-resident past p = of_phase p (life [] past p)
+abbrev pub resident : Start → Past → Pid → Option (Pid × ProcessState)
+resident start past p = of_phase p (life start past p)
 
 -- the other process of the event is of a desk of the node
 abbrev pub IsNear : ℕ → Event → Type 0
@@ -46,7 +42,7 @@ AllNear desks (e ∷ past) = IsNear desks e × AllNear desks past
 pub record IsSound (d : ShardState) (read : Pid → Option (Pid × ProcessState)) (issued : ℕ → ℕ) : Type 0 where
   pub fit : IsFit d
   -- each live process stands in its slot as the journal has it, and nothing else stands anywhere
-  pub residents : (p : Pid) → read p ≡ resident (past d) p
+  pub residents : (p : Pid) → read p ≡ resident d.start (past d) p
   pub issues : (slot : ℕ) → issued slot ≡ issued_in d.start (past d) slot
   pub born : BornAreIssued d.start d.number (past d)
   pub near : AllNear d.config.desks (past d)

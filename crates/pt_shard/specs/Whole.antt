@@ -1,5 +1,5 @@
 -- The parts of a desk, and what holds of them. No public clause cites this module.
-use Rattle.std.specs.Prelude.{◌≡◌, []}
+use Rattle.std.specs.Prelude.{◌≡◌}
 use Rattle.pt_slots.specs.State.{issued}
 use Rattle.pt_slots.specs.Offers.{OffersTheFree}
 use Rattle.pt_shard.specs.declared.config.Config.{Config}
@@ -18,7 +18,7 @@ parts_of config book house = record { config = config; book = book; house = hous
 
 abbrev pub shard_of : Parts → ShardState
 shard_of a = record {
-  start = [];
+  start = a.book.start;
   number = a.house.desk;
   config = a.config;
   clock = a.book.clock;

@@ -36,7 +36,7 @@ pub struct Ledger {
 }
 
 impl Model for Ledger {
-    ghost use Rattle.std.specs.Prelude.{map};
+    ghost use Rattle.std.specs.Prelude.{map, []};
     ghost use Rattle.pt_shard.specs.LettersState.{LettersState};
     ghost use Rattle.pt_shard.specs.LedgerState.{LedgerState, IsUpTo};
 
@@ -44,6 +44,7 @@ impl Model for Ledger {
 
     ghost view = { λ l. record {
       book = record {
+        start = [];
         desk = l.journal.desk;
         clock = l.clock;
         journal = l.journal.past;
@@ -89,7 +90,7 @@ fn reserve_owed(outbox: &mut Vec<Letters>, process: &mut Process) -> Result<(), 
 
 impl Ledger {
     pub fn new(alloc: Global, desk: u8, desks: u8, start: u64) -> Result<Ledger, AllocError>
-        ensures { IfOk result (λ l. l.book ≡ record { desk = desk; clock = start; journal = []; outbox = replicate desks []; hold = None }) }
+        ensures { IfOk result (λ l. l.book ≡ record { start = []; desk = desk; clock = start; journal = []; outbox = replicate desks []; hold = None }) }
     {
         Ok(Ledger {
             clock: start,
