@@ -17,7 +17,7 @@ use Rattle.pt_signal.proofs.Same.{same_pid_is}
 use Rattle.pt_events.specs.declared.event.Event.{Event}
 use Rattle.pt_events.specs.declared.event.Event.TheVariants.{Born, Said, Came, Took, Flag, Left}
 use Rattle.pt_events.specs.declared.event.Stamped.{Stamped}
-use Rattle.pt_events.specs.History.{Past, Phase, unborn, living, ended, life, state, state_of, gets, items_of, arrives, arrived_since, alive, is_living, while_living}
+use Rattle.pt_events.specs.History.{Past, Start, at_start, Phase, unborn, living, ended, life, state, state_of, gets, items_of, arrives, arrived_since, alive, is_living, while_living}
 use Rattle.pt_events.specs.Journal.{events, IsLocal, MayHere}
 use Rattle.pt_laws.specs.Taken.{taken, taken_by}
 use Rattle.pt_laws.proofs.order.Taken.{handle_queues}
@@ -80,48 +80,48 @@ module _ (p : Pid) where
   took q k i (ended r s) true h = absurd (false≢true (h refl).0)
   took q k i (living s) true h = record { sum = shorter k i s.waiting (h refl).1 ∙ sym (omega arith); one = omega arith }
 
-  moves : (past : Past) (e : Event) → MayHere [] past e → Moves (length (state [] past p).waiting) (length (state [] (e ∷ past) p).waiting) (length (taken_by p e)) (length (arrives [] past p e))
-  moves past (Born q parent link) may = same_number (life [] past p) (life [] (Born q parent link ∷ past) p) (born_keeps (λ s. s.waiting) (λ l s. refl) p q parent link (life [] past p))
-  moves past (Said a b x) may =
-      same_number (life [] past p) (life [] (Said a b x ∷ past) p)
-      (each_branch (λ g. (state_of g).waiting ≡ (state [] past p).waiting) (same_pid p a) _ _ (while_keeps (λ s. s.waiting) (λ s. say s b x) (say_keeps (λ s. s.waiting) (λ l s. refl) (λ l s. refl) b x) (life [] past p)) refl)
-  moves past (Came a b x) may = received a x (life [] past p) (same_pid p b)
-  moves past (Took q k i) may = took q k i (life [] past p) (same_pid p q) (λ e. subst (λ z. (alive [] past z ≡ true) × (find (fits k) (state [] past z).waiting ≡ Some i)) (sym (same_pid_is p q e)) may)
-  moves past (Flag q on) may =
-      same_number (life [] past p) (life [] (Flag q on ∷ past) p)
-      (each_branch (λ g. (state_of g).waiting ≡ (state [] past p).waiting) (same_pid p q) _ _ (while_keeps (λ s. s.waiting) (λ s. record s { traps = on }) (λ s. refl) (life [] past p)) refl)
-  moves past (Left q r) may =
-      same_number (life [] past p) (life [] (Left q r ∷ past) p)
-      (each_branch (λ g. (state_of g).waiting ≡ (state [] past p).waiting) (same_pid p q) _ _ (leaves_keeps (λ s. s.waiting) r (life [] past p)) refl)
-  moves past _ may = same_number (life [] past p) (life [] past p) refl
+  moves : (start : Start) (past : Past) (e : Event) → MayHere start past e → Moves (length (state start past p).waiting) (length (state start (e ∷ past) p).waiting) (length (taken_by p e)) (length (arrives start past p e))
+  moves start past (Born q parent link) may = same_number (life start past p) (life start (Born q parent link ∷ past) p) (born_keeps (λ s. s.waiting) (λ l s. refl) p q parent link (life start past p))
+  moves start past (Said a b x) may =
+      same_number (life start past p) (life start (Said a b x ∷ past) p)
+      (each_branch (λ g. (state_of g).waiting ≡ (state start past p).waiting) (same_pid p a) _ _ (while_keeps (λ s. s.waiting) (λ s. say s b x) (say_keeps (λ s. s.waiting) (λ l s. refl) (λ l s. refl) b x) (life start past p)) refl)
+  moves start past (Came a b x) may = received a x (life start past p) (same_pid p b)
+  moves start past (Took q k i) may = took q k i (life start past p) (same_pid p q) (λ e. subst (λ z. (alive start past z ≡ true) × (find (fits k) (state start past z).waiting ≡ Some i)) (sym (same_pid_is p q e)) may)
+  moves start past (Flag q on) may =
+      same_number (life start past p) (life start (Flag q on ∷ past) p)
+      (each_branch (λ g. (state_of g).waiting ≡ (state start past p).waiting) (same_pid p q) _ _ (while_keeps (λ s. s.waiting) (λ s. record s { traps = on }) (λ s. refl) (life start past p)) refl)
+  moves start past (Left q r) may =
+      same_number (life start past p) (life start (Left q r ∷ past) p)
+      (each_branch (λ g. (state_of g).waiting ≡ (state start past p).waiting) (same_pid p q) _ _ (leaves_keeps (λ s. s.waiting) r (life start past p)) refl)
+  moves start past _ may = same_number (life start past p) (life start past p) refl
 
   -- over a local journal
-  pub balance : (low top d : ℕ) (journal : List Stamped) → IsLocal [] low top d journal
-      → (length (taken (events journal) p) + length (state [] (events journal) p).waiting ≡ length (arrived_since [] (events journal) p)) × (length (arrived_since [] (events journal) p) ≤ length journal)
-  balance low top d [] h = (refl, omega arith)
-  balance low top d (s ∷ journal) h =
+  pub balance : (start : Start) (low top d : ℕ) (journal : List Stamped) → IsLocal start low top d journal
+      → (length (taken (events journal) p) + length (state start (events journal) p).waiting ≡ length (state_of (at_start start p)).waiting + length (arrived_since start (events journal) p)) × (length (arrived_since start (events journal) p) ≤ length journal)
+  balance start low top d [] h = (omega arith, omega arith)
+  balance start low top d (s ∷ journal) h =
       let past = events journal in
-      let ih = balance low top d journal h.1 in
-      let m = moves past s.event h.0.may in
+      let ih = balance start low top d journal h.1 in
+      let m = moves start past s.event h.0.may in
       let a : length (taken (s.event ∷ past) p) ≡ length (taken past p) + length (taken_by p s.event) = length-append (taken past p) (taken_by p s.event) in
-      let b : length (arrived_since [] (s.event ∷ past) p) ≡ length (arrived_since [] past p) + length (arrives [] past p s.event) = length-append (arrived_since [] past p) (arrives [] past p s.event) in
-      (step _ _ _ _ _ _ _ _ a b m.sum ih.0, most _ _ _ _ b m.one ih.1)
+      let b : length (arrived_since start (s.event ∷ past) p) ≡ length (arrived_since start past p) + length (arrives start past p s.event) = length-append (arrived_since start past p) (arrives start past p s.event) in
+      (step _ _ _ _ _ _ _ _ _ a b m.sum ih.0, most _ _ _ _ b m.one ih.1)
     where
-      step : (t t' y w w' n n' z : ℕ) → t' ≡ t + y → n' ≡ n + z → w' + y ≡ w + z → t + w ≡ n → t' + w' ≡ n'
-      step t t' y w w' n n' z a b m h = omega arith
+      step : (t t' y w w' n n' z v : ℕ) → t' ≡ t + y → n' ≡ n + z → w' + y ≡ w + z → t + w ≡ v + n → t' + w' ≡ v + n'
+      step t t' y w w' n n' z v a b m h = omega arith
 
       most : (n n' z l : ℕ) → n' ≡ n + z → z ≤ 1 → n ≤ l → n' ≤ suc l
       most n n' z l b m h = omega arith
 
 -- so no count passes its limit
-pub counted : (desk : ℕ) (journal : List Stamped) (slots : Slots) → IsDeskJournal desk journal → length journal < 2 ^ 64 → AreTold desk slots (events journal) → AreCounted slots
-counted desk journal slots local few told s v = go (at slots s v) (subst (Tells (events journal) one) (found_here desk slots one refl) (told one))
+pub counted : (desk : ℕ) (journal : List Stamped) (slots : Slots) → IsDeskJournal [] desk journal → length journal < 2 ^ 64 → AreTold [] desk slots (events journal) → AreCounted slots
+counted desk journal slots local few told s v = go (at slots s v) (subst (Tells [] (events journal) one) (found_here desk slots one refl) (told one))
   where
     one : Pid
     one = record { shard = desk; slot = s; version = v }
 
-    go : (o : Option LifeState) → Tells (events journal) one o → IfSome o (λ l. (account_of l).arrived < 2 ^ 64)
+    go : (o : Option LifeState) → Tells [] (events journal) one o → IfSome o (λ l. (account_of l).arrived < 2 ^ 64)
     go None h = tt
     go (Some l) h =
-        let b = balance one local.0 local.1 desk journal local.2 in
+        let b = balance one [] local.0 local.1 desk journal local.2 in
         subst (λ l. (account_of l).arrived < 2 ^ 64) (sym h.0) (omega (arith, b.0, b.1))

@@ -3,7 +3,7 @@ use Rattle.std.proofs.Common.{◌≡◌, ℕ, zero, suc, ◌+◌, ◌<◌, ◌�
 use Rattle.std.specs.Prelude.{⊤}
 use Rattle.std.proofs.lemmas.Bool.{both_ways}
 use Rattle.pt_signal.specs.declared.pid.Pid.{Pid}
-use Rattle.pt_events.specs.History.{Past, life, is_unborn}
+use Rattle.pt_events.specs.History.{Past, Start, life, is_unborn}
 use Rattle.pt_lives.specs.LifeState.{LifeState}
 use Rattle.pt_lives.specs.Table.{Slots, of_version, slot_at, at, Tells, AreTold}
 use Rattle.pt_lives.specs.DeskLives.{pids_of, pids_in}
@@ -32,12 +32,12 @@ placed d s (lives ∷ slots) h = (
   placed d (s + 1) slots (λ i k l e. h (suc i) k l e ∙ ap (λ n. pid_at d n (k + 1)) (omega arith)),
 )
 
-told_placed : (d : ℕ) (slots : Slots) (past : Past) → AreTold d slots past → Placed d 0 slots
-told_placed d slots past told = placed d 0 slots (λ i k l e. here i k l e ∙ ap (λ n. pid_at d n (k + 1)) (omega arith))
+told_placed : (start : Start) (d : ℕ) (slots : Slots) (past : Past) → AreTold start d slots past → Placed d 0 slots
+told_placed start d slots past told = placed d 0 slots (λ i k l e. here i k l e ∙ ap (λ n. pid_at d n (k + 1)) (omega arith))
   where
     here : (i k : ℕ) (l : LifeState) → slice_get (slot_at slots i) k ≡ Some l → l.pid ≡ pid_at d i (k + 1)
     here i k l e =
-        let h = subst (Tells past (pid_at d i (suc k))) (found_here d slots (pid_at d i (suc k)) refl ∙ e) (told (pid_at d i (suc k))) in
+        let h = subst (Tells start past (pid_at d i (suc k))) (found_here d slots (pid_at d i (suc k)) refl ∙ e) (told (pid_at d i (suc k))) in
         ap (λ l. l.pid) h.0 ∙ ap (pid_at d i) (omega arith)
 
 -- so they rise --------------------------------------------------------------------------------------
@@ -75,8 +75,8 @@ placed_rises : (d s : ℕ) (slots : Slots) → Placed d s slots → AreRising (p
 placed_rises d s [] h = tt
 placed_rises d s (lives ∷ slots) h = slot_rises d s 1 lives slots h.0 h.1 (placed_rises d (s + 1) slots h.1)
 
-pub pids_rise : (d : ℕ) (slots : Slots) (past : Past) → AreTold d slots past → AreRising (pids_in slots)
-pids_rise d slots past told = placed_rises d 0 slots (told_placed d slots past told)
+pub pids_rise : (start : Start) (d : ℕ) (slots : Slots) (past : Past) → AreTold start d slots past → AreRising (pids_in slots)
+pids_rise start d slots past told = placed_rises d 0 slots (told_placed start d slots past told)
 
 -- and are those that were born -----------------------------------------------------------------------
 
@@ -121,19 +121,19 @@ of_slots (lives ∷ slots) p h =
       | inr k ↦ let r = of_slots slots p k in (suc r.0, r.1, r.2, r.3, r.4)
     ]
 
-pub listed_born : (d : ℕ) (slots : Slots) (past : Past) (p : Pid) → AreTold d slots past → IsIn p (pids_in slots) → (p.shard ≡ d) × (is_unborn (life [] past p) ≡ false)
-listed_born d slots past p told h =
+pub listed_born : (start : Start) (d : ℕ) (slots : Slots) (past : Past) (p : Pid) → AreTold start d slots past → IsIn p (pids_in slots) → (p.shard ≡ d) × (is_unborn (life start past p) ≡ false)
+listed_born start d slots past p told h =
     let r = of_slots slots p h in
     let here = pid_at d r.0 (suc r.1) in
-    let t = subst (Tells past here) (found_here d slots here refl ∙ r.3) (told here) in
+    let t = subst (Tells start past here) (found_here d slots here refl ∙ r.3) (told here) in
     let same : here ≡ p = sym (r.4 ∙ ap (λ l. l.pid) t.0) in
-    (ap (λ p. p.shard) (sym same), subst (λ p. is_unborn (life [] past p) ≡ false) same t.1)
+    (ap (λ p. p.shard) (sym same), subst (λ p. is_unborn (life start past p) ≡ false) same t.1)
 
-pub born_listed : (d : ℕ) (slots : Slots) (past : Past) (p : Pid) → AreTold d slots past → p.shard ≡ d → is_unborn (life [] past p) ≡ false → IsIn p (pids_in slots)
-born_listed d slots past p told home born = go p.version (at slots p.slot p.version) refl refl (subst (Tells past p) (found_here d slots p home) (told p))
+pub born_listed : (start : Start) (d : ℕ) (slots : Slots) (past : Past) (p : Pid) → AreTold start d slots past → p.shard ≡ d → is_unborn (life start past p) ≡ false → IsIn p (pids_in slots)
+born_listed start d slots past p told home born = go p.version (at slots p.slot p.version) refl refl (subst (Tells start past p) (found_here d slots p home) (told p))
   where
-    go : (v : ℕ) (o : Option LifeState) → p.version ≡ v → at slots p.slot p.version ≡ o → Tells past p o → IsIn p (pids_in slots)
-    go v None n e t = let k : is_unborn (life [] past p) ≡ true = ap is_unborn t.0 in absurd (both_ways _ born k)
+    go : (v : ℕ) (o : Option LifeState) → p.version ≡ v → at slots p.slot p.version ≡ o → Tells start past p o → IsIn p (pids_in slots)
+    go v None n e t = let k : is_unborn (life start past p) ≡ true = ap is_unborn t.0 in absurd (both_ways _ born k)
     go zero (Some l) n e t = let k : of_version (slot_at slots p.slot) 0 ≡ Some l = rw n at e in absurd (cc)
     go (suc k) (Some l) n e t =
         let at_k : slice_get (slot_at slots p.slot) k ≡ Some l = rw n at e in

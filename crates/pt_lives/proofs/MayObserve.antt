@@ -126,10 +126,10 @@ few_taken (e ∷ past) p = let h = few_taken past p in let k = takes_one p e in 
 -- who sees the event -------------------------------------------------------------------------------
 
 pub may_show : (desk : ℕ) (old : Slots) (past : Past) (e : Event) (t : Pid) → t.shard ≡ desk → touches t e ≡ true → length past + 1 < 2 ^ 64
-    → (is_unborn (life [] past t) ≡ false → MayMeet t (life [] past t) e) → AreTold desk old past → MayShow old t e
-may_show desk old past e t home own few meets told = go (at old t.slot t.version) (subst (Tells past t) (found_here desk old t home) (told t))
+    → (is_unborn (life [] past t) ≡ false → MayMeet t (life [] past t) e) → AreTold [] desk old past → MayShow old t e
+may_show desk old past e t home own few meets told = go (at old t.slot t.version) (subst (Tells [] past t) (found_here desk old t home) (told t))
   where
-    go : (o : Option LifeState) → Tells past t o → IfSome o (MaySee e)
+    go : (o : Option LifeState) → Tells [] past t o → IfSome o (MaySee e)
     go None h = tt
     go (Some l) h = let k = few_taken past t in subst (MaySee e) (sym h.0) (record { own = own; may = meets h.1; few = omega arith })
 
@@ -175,17 +175,17 @@ not_unborn : (f : Phase) → is_ended f ≡ true → f ≡ unborn → ⊥
 not_unborn f h e = let k : is_ended f ≡ false = ap is_ended e in both_ways _ k h
 
 pub next_version : (desk : ℕ) (old : Slots) (past : Past) (q : Pid) → q.shard ≡ desk → life [] past q ≡ unborn → 0 < q.version
-    → (1 < q.version → is_ended (life [] past (record q { version = pred q.version })) ≡ true) → AreTold desk old past → q.version ≡ length (slot_at old q.slot) + 1
+    → (1 < q.version → is_ended (life [] past (record q { version = pred q.version })) ≡ true) → AreTold [] desk old past → q.version ≡ length (slot_at old q.slot) + 1
 next_version desk old past q home u pos before told =
-    version_next (slot_at old q.slot) q.version pos (sym (found_here desk old q home) ∙ (none_unborn past q (found desk old q) (told q) u).0)
-    (λ l none. not_unborn (life [] past one) (before l) (subst (Tells past one) (found_here desk old one home ∙ none) (told one)).0)
+    version_next (slot_at old q.slot) q.version pos (sym (found_here desk old q home) ∙ (none_unborn [] past q (found desk old q) (told q) u).0)
+    (λ l none. not_unborn (life [] past one) (before l) (subst (Tells [] past one) (found_here desk old one home ∙ none) (told one)).0)
   where
     one : Pid
     one = record { shard = q.shard; slot = q.slot; version = pred q.version }
 
 -- all events ---------------------------------------------------------------------------------------
 
-module _ (low top desk : ℕ) (old : Slots) (past : Past) (few : length past + 1 < 2 ^ 64) (told : AreTold desk old past) where
+module _ (low top desk : ℕ) (old : Slots) (past : Past) (few : length past + 1 < 2 ^ 64) (told : AreTold [] desk old past) where
   parents : (q : Pid) (parent : Option Pid) (link : Option LinkId) → IsOf desk parent → life [] past q ≡ unborn → MayBear [] past parent link → may_show_parent old parent (Born q parent link)
   parents q None link home u may = tt
   parents q (Some t) link home u may =
@@ -232,14 +232,14 @@ module _ (low top desk : ℕ) (old : Slots) (past : Past) (few : length past + 1
   homes None h = tt
   homes (Some t) h = h
 
-  pub told_next : (new : Slots) (e : Event) → IsHome desk e → MayHere [] past e → Observes e old new → AreTold desk new (e ∷ past)
-  told_next new (Born q parent link) home may h = told_born desk old h.0 new past q parent link home.0 (homes parent home.1) may.0 h.1 h.2 told
-  told_next new (Said a b x) home may h = told_changed desk old new past (Said a b x) a home (λ p. refl) (λ p u. (each_branch (λ f. f ≡ unborn) (touches p (Said a b x)) unborn unborn refl refl, refl)) h told
-  told_next new (Came a b x) home may h = told_changed desk old new past (Came a b x) b home (λ p. refl) (λ p u. (each_branch (λ f. f ≡ unborn) (touches p (Came a b x)) unborn unborn refl refl, refl)) h told
-  told_next new (Took q k i) home may h = told_changed desk old new past (Took q k i) q home (λ p. refl) (λ p u. (each_branch (λ f. f ≡ unborn) (touches p (Took q k i)) unborn unborn refl refl, takes_alive p q k i may.0 u)) h told
-  told_next new (Flag q on) home may h = told_changed desk old new past (Flag q on) q home (λ p. refl) (λ p u. (each_branch (λ f. f ≡ unborn) (touches p (Flag q on)) unborn unborn refl refl, refl)) h told
-  told_next new (Left q r) home may h = told_changed desk old new past (Left q r) q home (λ p. refl) (λ p u. (each_branch (λ f. f ≡ unborn) (touches p (Left q r)) unborn unborn refl refl, refl)) h told
-  told_next new (Refused a b) home may h = λ p. subst (λ z. Tells (Refused a b ∷ past) p (found desk z p)) (sym h) (tells_still past p (Refused a b) (found desk old p) refl (told p))
+  pub told_next : (new : Slots) (e : Event) → IsHome desk e → MayHere [] past e → Observes e old new → AreTold [] desk new (e ∷ past)
+  told_next new (Born q parent link) home may h = told_born [] desk old h.0 new past q parent link home.0 (homes parent home.1) may.0 h.1 h.2 told
+  told_next new (Said a b x) home may h = told_changed [] desk old new past (Said a b x) a home (λ p. refl) (λ p u. (each_branch (λ f. f ≡ unborn) (touches p (Said a b x)) unborn unborn refl refl, refl)) h told
+  told_next new (Came a b x) home may h = told_changed [] desk old new past (Came a b x) b home (λ p. refl) (λ p u. (each_branch (λ f. f ≡ unborn) (touches p (Came a b x)) unborn unborn refl refl, refl)) h told
+  told_next new (Took q k i) home may h = told_changed [] desk old new past (Took q k i) q home (λ p. refl) (λ p u. (each_branch (λ f. f ≡ unborn) (touches p (Took q k i)) unborn unborn refl refl, takes_alive p q k i may.0 u)) h told
+  told_next new (Flag q on) home may h = told_changed [] desk old new past (Flag q on) q home (λ p. refl) (λ p u. (each_branch (λ f. f ≡ unborn) (touches p (Flag q on)) unborn unborn refl refl, refl)) h told
+  told_next new (Left q r) home may h = told_changed [] desk old new past (Left q r) q home (λ p. refl) (λ p u. (each_branch (λ f. f ≡ unborn) (touches p (Left q r)) unborn unborn refl refl, refl)) h told
+  told_next new (Refused a b) home may h = λ p. subst (λ z. Tells [] (Refused a b ∷ past) p (found desk z p)) (sym h) (tells_still [] past p (Refused a b) (found desk old p) refl (told p))
 
 -- the journal, read from its first event -----------------------------------------------------------
 
@@ -261,25 +261,25 @@ local_next low top desk evs i o s local within read =
 length_before : (evs : List Stamped) (i : ℕ) → i < length evs → length (events (reverse (take i evs))) ≡ i
 length_before evs i h = simp (length-map, length-reverse, length-take) (omega arith)
 
-pub walk_may : (desk : ℕ) (evs : List Stamped) (i : ℕ) (o s : Stamped) (slots : Slots) → IsDeskJournal desk (reverse evs) → i < length evs → s ≡ get_or evs i o → length evs < 2 ^ 64
-    → AreTold desk slots (events (reverse (take i evs))) → MayObserve slots s.event
+pub walk_may : (desk : ℕ) (evs : List Stamped) (i : ℕ) (o s : Stamped) (slots : Slots) → IsDeskJournal [] desk (reverse evs) → i < length evs → s ≡ get_or evs i o → length evs < 2 ^ 64
+    → AreTold [] desk slots (events (reverse (take i evs))) → MayObserve slots s.event
 walk_may desk evs i o s slots local within read few told =
     let n = local_next local.0 local.1 desk evs i o s local.2 within read in
     let l = length_before evs i within in
     may_observe local.0 local.1 desk slots (events (reverse (take i evs))) (omega arith) told s.event n.home n.may n.known
 
-pub walk_told : (desk : ℕ) (evs : List Stamped) (i : ℕ) (o s : Stamped) (slots new : Slots) → IsDeskJournal desk (reverse evs) → i < length evs → s ≡ get_or evs i o → length evs < 2 ^ 64
-    → AreTold desk slots (events (reverse (take i evs))) → Observes s.event slots new → AreTold desk new (events (reverse (take (i + 1) evs)))
+pub walk_told : (desk : ℕ) (evs : List Stamped) (i : ℕ) (o s : Stamped) (slots new : Slots) → IsDeskJournal [] desk (reverse evs) → i < length evs → s ≡ get_or evs i o → length evs < 2 ^ 64
+    → AreTold [] desk slots (events (reverse (take i evs))) → Observes s.event slots new → AreTold [] desk new (events (reverse (take (i + 1) evs)))
 walk_told desk evs i o s slots new local within read few told h =
     let n = local_next local.0 local.1 desk evs i o s local.2 within read in
     let l = length_before evs i within in
-    subst (λ j. AreTold desk new (events j)) (sym (next_of desk evs i o s within read))
+    subst (λ j. AreTold [] desk new (events j)) (sym (next_of desk evs i o s within read))
     (told_next local.0 local.1 desk slots (events (reverse (take i evs))) (omega arith) told new s.event n.home n.may h)
 
-pub local_of : (desk here : ℕ) (past evs : List Stamped) → here ≡ desk → evs ≡ reverse past → IsDeskJournal desk past → IsDeskJournal here (reverse evs)
+pub local_of : (desk here : ℕ) (past evs : List Stamped) → here ≡ desk → evs ≡ reverse past → IsDeskJournal [] desk past → IsDeskJournal [] here (reverse evs)
 local_of desk here past evs e f h =
-    subst (λ d. IsDeskJournal d (reverse evs)) (sym e) (subst (IsDeskJournal desk) (sym (ap reverse f ∙ reverse-reverse past)) h)
+    subst (λ d. IsDeskJournal [] d (reverse evs)) (sym e) (subst (IsDeskJournal [] desk) (sym (ap reverse f ∙ reverse-reverse past)) h)
 
 -- the whole journal was read
-pub told_all : (desk : ℕ) (evs : List Stamped) (i : ℕ) (slots : Slots) → length evs ≤ i → AreTold desk slots (events (reverse (take i evs))) → AreTold desk slots (events (reverse evs))
-told_all desk evs i slots h told = subst (λ z. AreTold desk slots (events (reverse z))) (take_all i evs h) told
+pub told_all : (desk : ℕ) (evs : List Stamped) (i : ℕ) (slots : Slots) → length evs ≤ i → AreTold [] desk slots (events (reverse (take i evs))) → AreTold [] desk slots (events (reverse evs))
+told_all desk evs i slots h told = subst (λ z. AreTold [] desk slots (events (reverse z))) (take_all i evs h) told

@@ -2,7 +2,7 @@
 use Rattle.std.proofs.Common.{◌≡◌, ℕ, zero, suc, ◌+◌, ◌<◌, ◌≤◌, inl, inr, List, [], ◌∷◌, ◌++◌, length, get_or, refl, ap, sym, ◌∙◌, subst, arith, false, true}
 use Rattle.std.proofs.lemmas.Bool.{cases_lt, both_ways}
 use Rattle.pt_signal.specs.declared.pid.Pid.{Pid}
-use Rattle.pt_events.specs.History.{life, is_unborn}
+use Rattle.pt_events.specs.History.{Start, life, is_unborn}
 use Rattle.pt_events.specs.Journal.{Journals, events}
 use Rattle.pt_laws.specs.JournalLaws.{JournalsSay}
 use Rattle.pt_lives.specs.Pids.{IsBeforeAll, AreRising, IsIn}
@@ -61,35 +61,35 @@ of_all (x ∷ tables) p h =
     ]
 
 -- the tables of a node, whose journals they tell
-module _ (journals : Journals) (lives : Lives) (of : AreLivesOf journals lives) where
+module _ (start : Start) (journals : Journals) (lives : Lives) (of : AreLivesOf start journals lives) where
   homes : AreHome 0 lives
   homes i t p l h =
       let k = of.told i t l in
-      (listed_born i (get_or lives i t).slots (events (journals i)) p k.1 h).0 ∙ omega arith
+      (listed_born start i (get_or lives i t).slots (events (journals i)) p k.1 h).0 ∙ omega arith
 
   rise : EachRises lives
-  rise i t l = pids_rise i (get_or lives i t).slots (events (journals i)) (of.told i t l).1
+  rise i t l = pids_rise start i (get_or lives i t).slots (events (journals i)) (of.told i t l).1
 
-  was_born : (p : Pid) → IsIn p (all_pids lives) → is_unborn (life [] (events (journals p.shard)) p) ≡ false
+  was_born : (p : Pid) → IsIn p (all_pids lives) → is_unborn (life start (events (journals p.shard)) p) ≡ false
   was_born p h =
       let r = of_all lives p h in
-      let k = listed_born r.0 (get_or lives r.0 r.1).slots (events (journals r.0)) p (of.told r.0 r.1 r.2).1 r.3 in
-      subst (λ d. is_unborn (life [] (events (journals d)) p) ≡ false) (sym k.0) k.1
+      let k = listed_born start r.0 (get_or lives r.0 r.1).slots (events (journals r.0)) p (of.told r.0 r.1 r.2).1 r.3 in
+      subst (λ d. is_unborn (life start (events (journals d)) p) ≡ false) (sym k.0) k.1
 
-  is_listed : (t : DeskTable) (p : Pid) → is_unborn (life [] (events (journals p.shard)) p) ≡ false → IsIn p (all_pids lives)
+  is_listed : (t : DeskTable) (p : Pid) → is_unborn (life start (events (journals p.shard)) p) ≡ false → IsIn p (all_pids lives)
   is_listed t p h =
       elim (cases_lt p.shard (length lives)) [
-        | inl l ↦ in_all lives p.shard t p l (born_listed p.shard (get_or lives p.shard t).slots (events (journals p.shard)) p (of.told p.shard t l).1 refl h)
-        | inr g ↦ (let u : is_unborn (life [] (events (journals p.shard)) p) ≡ true = ap is_unborn (tells_none journals lives p p.shard of refl g).0 in absurd (both_ways _ h u))
+        | inl l ↦ in_all lives p.shard t p l (born_listed start p.shard (get_or lives p.shard t).slots (events (journals p.shard)) p (of.told p.shard t l).1 refl h)
+        | inr g ↦ (let u : is_unborn (life start (events (journals p.shard)) p) ≡ true = ap is_unborn (tells_none start journals lives p p.shard of refl g).0 in absurd (both_ways _ h u))
       ]
 
-  all_are : JournalsSay → InEveryMerge journals (λ past. AreAllPids past (all_pids lives))
+  all_are : JournalsSay → InEveryMerge journals (λ past. AreAllPids start past (all_pids lives))
   all_are say merged m = (
     node_rises 0 lives homes rise,
     λ p.
-        let same = (say [] of.desks.low of.desks.top journals merged p of.desks.local m).0 in
+        let same = (say start of.desks.low of.desks.top journals merged p of.desks.local m).0 in
         (λ i. ap is_unborn (sym same) ∙ was_born p i, λ b. is_listed (record { desk = 0; slots = [] }) p (ap is_unborn same ∙ b)),
   )
 
-pub all_listed : (lives : Lives) (pids seen : List Pid) → pids ≡ all_pids lives → seen ≡ pids → JournalsSay → Tell lives (λ past. AreAllPids past seen)
-all_listed lives pids seen h s say journals of = subst (λ z. InEveryMerge journals (λ past. AreAllPids past z)) (sym (s ∙ h)) (all_are journals lives of say)
+pub all_listed : (lives : Lives) (pids seen : List Pid) → pids ≡ all_pids lives → seen ≡ pids → JournalsSay → Tell lives (λ start past. AreAllPids start past seen)
+all_listed lives pids seen h s say start journals of = subst (λ z. InEveryMerge journals (λ past. AreAllPids start past z)) (sym (s ∙ h)) (all_are start journals lives of say)

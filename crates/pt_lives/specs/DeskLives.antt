@@ -8,7 +8,7 @@ use Rattle.pt_signal.specs.declared.ids.Ids.{Ids}
 use Rattle.pt_signal.specs.Values.{same_ref}
 use Rattle.pt_signal.specs.Process.{held}
 use Rattle.pt_events.specs.declared.event.Stamped.{Stamped}
-use Rattle.pt_events.specs.History.{Past, state_of, open_monitors}
+use Rattle.pt_events.specs.History.{Past, Start, state_of, open_monitors}
 use Rattle.pt_events.specs.Journal.{IsLocal}
 use Rattle.pt_lives.specs.LifeState.{LifeState, account_of}
 use Rattle.pt_lives.specs.Table.{Slots, at, found, AreTold}
@@ -25,13 +25,13 @@ AreCounted slots = (s v : ℕ) → IfSome (at slots s v) (λ l. (account_of l).a
 abbrev pub life_in : DeskTable → Pid → Option LifeState
 life_in t p = found t.desk t.slots p
 
--- the table is of the desk, and has what the history says
-abbrev pub IsTableOf : ℕ → Past → DeskTable → Type 0
-IsTableOf desk past t = (t.desk ≡ desk) × AreTold desk t.slots past
+-- the table is of the desk, and has what the history says that goes on from the start
+abbrev pub IsTableOf : Start → ℕ → Past → DeskTable → Type 0
+IsTableOf start desk past t = (t.desk ≡ desk) × AreTold start desk t.slots past
 
--- some desk's journal, whatever its start and its top version
-abbrev pub IsDeskJournal : ℕ → List Stamped → Type 0
-IsDeskJournal d journal = (low : ℕ) × (top : ℕ) × IsLocal [] low top d journal
+-- some desk's journal over the start, whatever its lowest stamp and its top version
+abbrev pub IsDeskJournal : Start → ℕ → List Stamped → Type 0
+IsDeskJournal start d journal = (low : ℕ) × (top : ℕ) × IsLocal start low top d journal
 
 abbrev pub linked_in : Option LifeState → Pid → Option Ids
 linked_in None q = None

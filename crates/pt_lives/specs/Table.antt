@@ -1,7 +1,7 @@
 -- The processes of one desk by slot and version, from the first version of each slot on.
 use Rattle.std.specs.Prelude.{◌≡◌, ℕ, zero, suc, ◌==◌, cond, List, [], length, slice_get, slice_index_or, Option, Some, None, false}
 use Rattle.pt_signal.specs.declared.pid.Pid.{Pid}
-use Rattle.pt_events.specs.History.{Past, unborn, life, is_unborn}
+use Rattle.pt_events.specs.History.{Past, Start, unborn, life, is_unborn}
 use Rattle.pt_laws.specs.Taken.{taken}
 use Rattle.pt_lives.specs.LifeState.{LifeState}
 
@@ -24,9 +24,9 @@ abbrev pub found : ℕ → Slots → Pid → Option LifeState
 found desk slots p = cond (p.shard == desk) (at slots p.slot p.version) None
 
 -- what the table has for p is what the history says of p
-abbrev pub Tells : Past → Pid → Option LifeState → Type 0
-Tells past p None = (life [] past p ≡ unborn) × (taken past p ≡ [])
-Tells past p (Some l) = (l ≡ record { pid = p; phase = life [] past p; taken = length (taken past p) }) × (is_unborn (life [] past p) ≡ false)
+abbrev pub Tells : Start → Past → Pid → Option LifeState → Type 0
+Tells start past p None = (life start past p ≡ unborn) × (taken past p ≡ [])
+Tells start past p (Some l) = (l ≡ record { pid = p; phase = life start past p; taken = length (taken past p) }) × (is_unborn (life start past p) ≡ false)
 
-abbrev pub AreTold : ℕ → Slots → Past → Type 0
-AreTold desk slots past = (p : Pid) → Tells past p (found desk slots p)
+abbrev pub AreTold : Start → ℕ → Slots → Past → Type 0
+AreTold start desk slots past = (p : Pid) → Tells start past p (found desk slots p)

@@ -1,6 +1,6 @@
 //! The processes of one desk.
 
-ghost use Rattle.std.specs.Prelude.{◌≡◌, ◌+◌, ◌<◌, ◌++◌, ℕ, length, OnOk, IfOk};
+ghost use Rattle.std.specs.Prelude.{◌≡◌, [], ◌+◌, ◌<◌, ◌++◌, ℕ, length, OnOk, IfOk};
 ghost use Rattle.std.specs.Option.{option_map};
 ghost use Rattle.pt_events.specs.Journal.{events};
 ghost use Rattle.pt_lives.specs.LifeState.{account_of};
@@ -95,8 +95,8 @@ fn observe(alloc: Global, slots: &mut Vec<Slot>, event: Event) -> Result<(), All
 impl DeskLives {
     /// Reads the journal from its first event to its last.
     pub fn of(alloc: Global, journal: &Journal) -> Result<DeskLives, AllocError>
-        requires { IsDeskJournal journal.now.desk journal.now.past }
-        ensures { IfOk result (λ lives. IsTableOf journal.now.desk (events journal.now.past) lives) }
+        requires { IsDeskJournal [] journal.now.desk journal.now.past }
+        ensures { IfOk result (λ lives. IsTableOf [] journal.now.desk (events journal.now.past) lives) }
     {
         let desk = journal.desk();
         let stamped = journal.events();

@@ -52,7 +52,7 @@ impl Lives {
 
     /// These, and those of the next desk, whose journal is read from its first event to its last.
     pub fn with(self, alloc: Global, journal: &Journal) -> Result<Lives, AllocError>
-        requires local { IsDeskJournal journal.now.desk journal.now.past }
+        requires local { IsDeskJournal [] journal.now.desk journal.now.past }
         requires next { journal.now.desk ≡ length self }
         ensures { IfOk result (λ lives. Adds journal.now self lives) }
     {
@@ -68,7 +68,7 @@ impl Lives {
 
     /// The pids of all processes that were born, by shard, slot and version.
     pub fn pids(&self) -> &[Pid]
-        ensures { Tell self.now (λ past. AreAllPids past result.now) }
+        ensures { Tell self.now (λ start past. AreAllPids start past result.now) }
     {
         laws::journals_tell_their_pids();
         self.pids.as_slice()
@@ -76,7 +76,7 @@ impl Lives {
 
     /// What is told of the process, or `None` where it was never born.
     pub fn account(&self, pid: Pid) -> Option<Account>
-        ensures { Tell self.now (λ past. result ≡ account_in past pid) }
+        ensures { Tell self.now (λ start past. result ≡ account_in start past pid) }
     {
         laws::journals_tell_their_pids();
         let desk = usize::from(pid.shard);
@@ -89,7 +89,7 @@ impl Lives {
 
     /// The ids under which it is linked with the other process, or was just after its end.
     pub fn linked(&self, pid: Pid, peer: Pid) -> Option<Ids>
-        ensures { Tell self.now (λ past. result ≡ held (state [] past pid).links peer) }
+        ensures { Tell self.now (λ start past. result ≡ held (state start past pid).links peer) }
     {
         laws::journals_tell_their_pids();
         let desk = usize::from(pid.shard);
@@ -102,7 +102,7 @@ impl Lives {
 
     /// Whether it keeps a watch of this reference, or did just after its end.
     pub fn kept(&self, target: Pid, monitor: Ref) -> bool
-        ensures { Tell self.now (λ past. result ≡ list_any (λ k. same_ref monitor k.0) (state [] past target).kept) }
+        ensures { Tell self.now (λ start past. result ≡ list_any (λ k. same_ref monitor k.0) (state start past target).kept) }
     {
         laws::journals_tell_their_pids();
         let desk = usize::from(target.shard);
@@ -115,7 +115,7 @@ impl Lives {
 
     /// Whether its monitor of this reference is open; none is once it has ended.
     pub fn watching(&self, watcher: Pid, monitor: Ref) -> bool
-        ensures { Tell self.now (λ past. result ≡ is_some (lookup (same_ref monitor) (open_monitors (life [] past watcher)))) }
+        ensures { Tell self.now (λ start past. result ≡ is_some (lookup (same_ref monitor) (open_monitors (life start past watcher)))) }
     {
         laws::journals_tell_their_pids();
         let desk = usize::from(watcher.shard);
