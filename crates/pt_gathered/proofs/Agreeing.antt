@@ -7,13 +7,14 @@ use Rattle.std.proofs.lemmas.List.Elements.{filter-append}
 use Rattle.pt_signal.specs.declared.letter.Letter.{Letter}
 use Rattle.pt_signal.specs.Process.{Sent, sent}
 use Rattle.pt_events.specs.declared.event.Stamped.{Stamped}
-use Rattle.pt_events.specs.History.{sent_by}
+use Rattle.pt_events.specs.History.{Start, sent_by}
 use Rattle.pt_events.specs.Journal.{events, letter, letters, posts, gots, Agrees, IsLocal}
 use Rattle.pt_events.proofs.Homes.{AllFrom, from_home}
 use Rattle.pt_events.proofs.Agreeing.{Agrees-posted, Agrees-got}
 use Rattle.pt_shard.specs.declared.config.Config.{Config}
 use Rattle.pt_shard.specs.ShardState.{ShardState, came}
-use Rattle.pt_gathered.specs.Gathered.{GatheredState, IsGathered, IsShardOf, journals, over_in}
+use Rattle.pt_gathered.specs.Gathered.{GatheredState, IsGathered, IsShardOf, begins, journals, over_in}
+use Rattle.pt_gathered.proofs.Starts.{begins_empty}
 use Rattle.pt_gathered.specs.Settling.{receipt, replies_to, Receives}
 
 -- letters of a lane -------------------------------------------------------------------
@@ -31,11 +32,11 @@ AllOf-sent : (d n : ℕ) (ls : List Sent) → AllFrom d ls → AllOf d (map (let
 AllOf-sent d n [] h = tt
 AllOf-sent d n (l ∷ ls) h = (h.0, AllOf-sent d n ls h.1)
 
-pub AllOf-letters : (low top d : ℕ) (journal : List Stamped) → IsLocal [] low top d journal → AllOf d (letters [] journal)
-AllOf-letters low top d [] h = tt
-AllOf-letters low top d (s ∷ journal) h =
-    AllOf-append d (letters [] journal) _ (AllOf-letters low top d journal h.1)
-    (AllOf-sent d s.stamp (sent_by [] (events journal) s.event) (from_home [] (events journal) d s.event h.0.home))
+pub AllOf-letters : (start : Start) (low top d : ℕ) (journal : List Stamped) → IsLocal start low top d journal → AllOf d (letters start journal)
+AllOf-letters start low top d [] h = tt
+AllOf-letters start low top d (s ∷ journal) h =
+    AllOf-append d (letters start journal) _ (AllOf-letters start low top d journal h.1)
+    (AllOf-sent d s.stamp (sent_by start (events journal) s.event) (from_home start (events journal) d s.event h.0.home))
 
 -- all letters are from desk d to desk e
 abbrev pub AllBetween : ℕ → ℕ → List Letter → Type 0
@@ -68,33 +69,33 @@ local_as config k s w =
     (subst (λ n. IsLocal [] s.config.start s.config.top_version n s.journal) w.number (subst (λ b. IsLocal b s.config.start s.config.top_version s.number s.journal) w.fit.first w.fit.local))
 
 module _ (g : GatheredState) (whole : IsGathered g) (d e : ℕ) (d_in : d < length g.shards) (e_in : e < length g.shards) where
-  pub local_at : (k : ℕ) → k < length g.shards → IsLocal [] g.config.start g.config.top_version k (journals g k)
-  local_at k h = at_map (λ (s : ShardState). s.journal) (IsLocal [] g.config.start g.config.top_version k) g.shards k [] h (λ x. local_as g.config k _ (whole.shards k x h))
+  pub local_at : (k : ℕ) → k < length g.shards → IsLocal (begins g) g.config.start g.config.top_version k (journals g k)
+  local_at k h = at_map (λ (s : ShardState). s.journal) (IsLocal (begins g) g.config.start g.config.top_version k) g.shards k [] h (λ x. subst (λ b. IsLocal b g.config.start g.config.top_version k (get_or g.shards k x).journal) (sym (begins_empty g whole)) (local_as g.config k _ (whole.shards k x h)))
 
   pub between_ends : AllBetween d e (over_in g.shards g.lanes d e)
   between_ends =
-      between_over d e (posts [] (journals g d) e) (gots (journals g e) d) (over_in g.shards g.lanes d e)
-      (between_filter d e (letters [] (journals g d)) (AllOf-letters g.config.start g.config.top_version d (journals g d) (local_at d d_in)))
+      between_over d e (posts (begins g) (journals g d) e) (gots (journals g e) d) (over_in g.shards g.lanes d e)
+      (between_filter d e (letters (begins g) (journals g d)) (AllOf-letters (begins g) g.config.start g.config.top_version d (journals g d) (local_at d d_in)))
       (whole.agree d e d_in e_in)
 
 module _ (old new : GatheredState) (whole : IsGathered old) (d e : ℕ) (l : Letter) (r : Receives d e l old new) (d_in : d < length old.shards) (e_in : e < length old.shards) where
   ends : (l.from.shard ≡ d) × (l.to.shard ≡ e)
   ends = (r.from, r.to)
 
-  posts_step : (i k : ℕ) → i < length old.shards → posts [] (journals new i) k ≡ posts [] (journals old i) k ++ cond (i == e) (replies_to old.config.start e l (journals old e) k) []
+  posts_step : (i k : ℕ) → i < length old.shards → posts (begins old) (journals new i) k ≡ posts (begins old) (journals old i) k ++ cond (i == e) (replies_to (begins old) old.config.start e l (journals old e) k) []
   posts_step i k h = go (i == e) refl (r.journal i h)
     where
       go : (b : Bool) → (i == e) ≡ b → journals new i ≡ cond (i == e) (receipt old.config.start e l (journals old e) ∷ journals old i) (journals old i)
-          → posts [] (journals new i) k ≡ posts [] (journals old i) k ++ cond (i == e) (replies_to old.config.start e l (journals old e) k) []
+          → posts (begins old) (journals new i) k ≡ posts (begins old) (journals old i) k ++ cond (i == e) (replies_to (begins old) old.config.start e l (journals old e) k) []
       go true q j =
           let is : i ≡ e = eqb-true i e q in
           let j1 : journals new i ≡ receipt old.config.start e l (journals old e) ∷ journals old i = rw q at j in
-          rw q (ap (λ z. posts [] z k) j1
-          ∙ filter-append (λ x. x.to.shard == k) (letters [] (journals old i)) (map (letter (receipt old.config.start e l (journals old e)).stamp) (sent_by [] (events (journals old i)) (came l)))
-          ∙ ap (λ z. posts [] (journals old i) k ++ filter (λ x. x.to.shard == k) (map (letter (receipt old.config.start e l (journals old e)).stamp) (sent_by [] (events (journals old z)) (came l)))) is)
+          rw q (ap (λ z. posts (begins old) z k) j1
+          ∙ filter-append (λ x. x.to.shard == k) (letters (begins old) (journals old i)) (map (letter (receipt old.config.start e l (journals old e)).stamp) (sent_by (begins old) (events (journals old i)) (came l)))
+          ∙ ap (λ z. posts (begins old) (journals old i) k ++ filter (λ x. x.to.shard == k) (map (letter (receipt old.config.start e l (journals old e)).stamp) (sent_by (begins old) (events (journals old z)) (came l)))) is)
       go false q j =
           let j1 : journals new i ≡ journals old i = rw q at j in
-          rw q (ap (λ z. posts [] z k) j1 ∙ sym (append-nil (posts [] (journals old i) k)))
+          rw q (ap (λ z. posts (begins old) z k) j1 ∙ sym (append-nil (posts (begins old) (journals old i) k)))
 
   the_got : Letter
   the_got = letter (receipt old.config.start e l (journals old e)).stamp (sent l.from l.to l.signal)
@@ -118,29 +119,30 @@ module _ (old new : GatheredState) (whole : IsGathered old) (d e : ℕ) (l : Let
       go false q true c j = let j1 : journals new k ≡ journals old k = rw q at j in rw (q, c) (ap (λ z. gots z i) j1 ∙ sym (append-nil (gots (journals old k) i)))
       go false q false c j = let j1 : journals new k ≡ journals old k = rw q at j in rw (q, c) (ap (λ z. gots z i) j1 ∙ sym (append-nil (gots (journals old k) i)))
 
-  pub agree_step : (i k : ℕ) → i < length old.shards → k < length old.shards → Agrees (posts [] (journals new i) k) (gots (journals new k) i) (over_in new.shards new.lanes i k)
+  pub agree_step : (i k : ℕ) → i < length old.shards → k < length old.shards → Agrees (posts (begins new) (journals new i) k) (gots (journals new k) i) (over_in new.shards new.lanes i k)
   agree_step i k hi hk =
-      subst (λ z. Agrees z (gots (journals new k) i) (over_in new.shards new.lanes i k)) (sym (posts_step i k hi))
-      (subst (λ z. Agrees (posts [] (journals old i) k ++ more) z (over_in new.shards new.lanes i k)) (sym (gots_step i k hk))
-      (subst (λ z. Agrees (posts [] (journals old i) k ++ more) (gots (journals old k) i ++ cond ((i == d) && (k == e)) (got1 ∷ []) []) z) (sym (r.left i k hi hk))
-      (Agrees-posted (posts [] (journals old i) k) (gots (journals old k) i ++ cond ((i == d) && (k == e)) (got1 ∷ []) []) _ more (front (i == d) refl (k == e) refl))))
+      subst (λ b. Agrees (posts b (journals new i) k) (gots (journals new k) i) (over_in new.shards new.lanes i k)) (sym r.start)
+      (      subst (λ z. Agrees z (gots (journals new k) i) (over_in new.shards new.lanes i k)) (sym (posts_step i k hi))
+      (subst (λ z. Agrees (posts (begins old) (journals old i) k ++ more) z (over_in new.shards new.lanes i k)) (sym (gots_step i k hk))
+      (subst (λ z. Agrees (posts (begins old) (journals old i) k ++ more) (gots (journals old k) i ++ cond ((i == d) && (k == e)) (got1 ∷ []) []) z) (sym (r.left i k hi hk))
+      (Agrees-posted (posts (begins old) (journals old i) k) (gots (journals old k) i ++ cond ((i == d) && (k == e)) (got1 ∷ []) []) _ more (front (i == d) refl (k == e) refl)))))
     where
       more : List Letter
-      more = cond (i == e) (replies_to old.config.start e l (journals old e) k) []
+      more = cond (i == e) (replies_to (begins old) old.config.start e l (journals old e) k) []
 
       got1 : Letter
       got1 = letter (receipt old.config.start e l (journals old e)).stamp (sent l.from l.to l.signal)
 
       front : (p : Bool) → (i == d) ≡ p → (q : Bool) → (k == e) ≡ q
-          → Agrees (posts [] (journals old i) k) (gots (journals old k) i ++ cond ((i == d) && (k == e)) (letter (receipt old.config.start e l (journals old e)).stamp (sent l.from l.to l.signal) ∷ []) [])
+          → Agrees (posts (begins old) (journals old i) k) (gots (journals old k) i ++ cond ((i == d) && (k == e)) (letter (receipt old.config.start e l (journals old e)).stamp (sent l.from l.to l.signal) ∷ []) [])
           (cond ((i == d) && (k == e)) (drop 1 (over_in old.shards old.lanes i k)) (over_in old.shards old.lanes i k))
       front true pe true qe =
           let at : over_in old.shards old.lanes i k ≡ l ∷ drop 1 (over_in old.shards old.lanes i k)
           = subst (λ x. over_in old.shards old.lanes x k ≡ l ∷ drop 1 (over_in old.shards old.lanes x k)) (sym (eqb-true i d pe))
           (subst (λ x. over_in old.shards old.lanes d x ≡ l ∷ drop 1 (over_in old.shards old.lanes d x)) (sym (eqb-true k e qe)) r.first) in
           rw (pe, qe)
-          (Agrees-got (posts [] (journals old i) k) (gots (journals old k) i) l got1 (drop 1 (over_in old.shards old.lanes i k)) (refl, omega arith)
-          (subst (Agrees (posts [] (journals old i) k) (gots (journals old k) i)) at (whole.agree i k hi hk)))
+          (Agrees-got (posts (begins old) (journals old i) k) (gots (journals old k) i) l got1 (drop 1 (over_in old.shards old.lanes i k)) (refl, omega arith)
+          (subst (Agrees (posts (begins old) (journals old i) k) (gots (journals old k) i)) at (whole.agree i k hi hk)))
       front true pe false qe = rw (pe, qe, append-nil (gots (journals old k) i)) (whole.agree i k hi hk)
       front false pe q qe = rw (pe, append-nil (gots (journals old k) i)) (whole.agree i k hi hk)
 

@@ -1,41 +1,49 @@
 -- The laws of histories, at a node whose desks were gathered.
-use Rattle.std.proofs.Common.{◌≡◌, ℕ, ◌<◌, ◌≤◌, List, [], length, map, get_or, refl, sym, ap, ◌∙◌, subst, arith, ⊎_elim}
+use Rattle.std.proofs.Common.{◌≡◌, ℕ, ◌<◌, ◌≤◌, true, false, List, [], length, map, get_or, refl, sym, ap, ◌∙◌, subst, arith, ⊎_elim}
 use Rattle.std.proofs.lemmas.Bool.{cases_lt}
 use Rattle.std.proofs.lemmas.List.{get_or_past, length-map}
 use Rattle.pt_signal.specs.declared.letter.Letter.{Letter}
+use Rattle.pt_signal.specs.Values.{same_pid}
 use Rattle.pt_events.specs.declared.event.Stamped.{Stamped}
+use Rattle.pt_events.specs.History.{Start, at_start, unborn, alive, IsLegal}
+use Rattle.pt_events.specs.Refusals.{RefusalsAreTrue}
 use Rattle.pt_events.specs.Journal.{events, content, posts, gots, Agrees, LanesAgree, IsLocal, IsMerge}
 use Rattle.pt_laws.specs.Asking.{AnswersAreTrue, QuietAnswers}
 use Rattle.pt_laws.specs.Headline.{HeadlineHolds}
 use Rattle.pt_laws.specs.Laws.{MergeLegal}
 use Rattle.pt_laws.specs.LinkLaws.{MergeLinks}
-use Rattle.pt_laws.specs.Load.{load}
+use Rattle.pt_laws.specs.Links.{LinksAgree}
+use Rattle.pt_laws.specs.Load.{IsQuiet, load}
 use Rattle.pt_laws.specs.LoadLaws.{EmptyIsQuiet, HasDesks, LoadByDesk}
-use Rattle.pt_laws.specs.MonitorLaws.{EmptyHasOldRefs, QuietMonitor, QuietWatch}
+use Rattle.pt_laws.specs.MonitorLaws.{HasOldRefs, EmptyHasOldRefs, QuietMonitor, QuietWatch}
 use Rattle.pt_shard.specs.ShardState.{ShardState}
 use Rattle.pt_shard.specs.Fit.{IsFit}
-use Rattle.pt_gathered.specs.Gathered.{GatheredState, IsGathered, journals, over}
+use Rattle.pt_gathered.specs.Gathered.{GatheredState, IsGathered, begins, journals, over}
 use Rattle.pt_gathered.specs.Settling.{load_of, Settles, NothingLeft}
-use Rattle.pt_gathered.specs.Lawful.{IsLegalNode, KeepsHeadline, IsQuietNode, IsBounded, LinksStand, WatchesStand, AnswersHold, QuestionsAnswered}
+use Rattle.pt_gathered.specs.Lawful.{StandsAt, IsLegalNode, KeepsHeadline, IsQuietNode, IsBounded, LinksStand, WatchesStand, AnswersHold, QuestionsAnswered}
+use Rattle.pt_gathered.proofs.Starts.{begins_empty}
 use Rattle.pt_gathered.proofs.Agreeing.{local_at, at_map}
 use Rattle.pt_gathered.proofs.Overs.{over_both, over_left, over_right}
 
 module _ (g : GatheredState) (whole : IsGathered g) where
+  none : begins g ≡ []
+  none = begins_empty g whole
+
   -- the journals of desks that the node has not are empty
   pub past_end : (d : ℕ) → length g.shards ≤ d → journals g d ≡ []
   past_end d h = get_or_past (map (λ (s : ShardState). s.journal) g.shards) d [] (omega (arith, length-map g.shards (λ (s : ShardState). s.journal)))
 
-  pub locals : (d : ℕ) → IsLocal [] g.config.start g.config.top_version d (journals g d)
+  pub locals : (d : ℕ) → IsLocal (begins g) g.config.start g.config.top_version d (journals g d)
   locals d = ⊎_elim (λ (h : d < length g.shards). local_at g whole d d h h d h) (λ (h : length g.shards ≤ d). rw (past_end d h) tt) (cases_lt d (length g.shards))
 
   beyond : (d : ℕ) (x : ShardState) → d < length g.shards → (e : ℕ) → length g.shards ≤ e → (get_or g.shards d x).config.desks ≤ e
   beyond d x h e k = let a = ap (λ c. c.desks) (whole.shards d x h).config_is in let b = whole.desks in omega arith
 
-  posts_near_of : (s : ShardState) → IsFit s → (e : ℕ) → s.config.desks ≤ e → posts [] s.journal e ≡ []
-  posts_near_of s fit e h = subst (λ b. posts b s.journal e ≡ []) fit.first (fit.posts_near e h)
+  posts_near_of : (s : ShardState) → IsFit s → (e : ℕ) → s.config.desks ≤ e → posts (begins g) s.journal e ≡ []
+  posts_near_of s fit e h = subst (λ b. posts b s.journal e ≡ []) (fit.first ∙ sym none) (fit.posts_near e h)
 
-  posts_out : (d e : ℕ) → d < length g.shards → length g.shards ≤ e → posts [] (journals g d) e ≡ []
-  posts_out d e h k = at_map (λ (s : ShardState). s.journal) (λ j. posts [] j e ≡ []) g.shards d [] h (λ x. posts_near_of (get_or g.shards d x) (whole.shards d x h).fit e (beyond d x h e k))
+  posts_out : (d e : ℕ) → d < length g.shards → length g.shards ≤ e → posts (begins g) (journals g d) e ≡ []
+  posts_out d e h k = at_map (λ (s : ShardState). s.journal) (λ j. posts (begins g) j e ≡ []) g.shards d [] h (λ x. posts_near_of (get_or g.shards d x) (whole.shards d x h).fit e (beyond d x h e k))
 
   gots_out : (e d : ℕ) → e < length g.shards → length g.shards ≤ d → gots (journals g e) d ≡ []
   gots_out e d h k = at_map (λ (s : ShardState). s.journal) (λ j. gots j d ≡ []) g.shards e [] h (λ x. (whole.shards e x h).fit.gots_near d (beyond e x h d k))
@@ -43,30 +51,30 @@ module _ (g : GatheredState) (whole : IsGathered g) where
   none_of : (posted gots over : List Letter) → posted ≡ [] → gots ≡ [] → over ≡ [] → Agrees posted gots over
   none_of posted gots over a b c = rw (a, b, c) refl
 
-  pub lanes_agree : LanesAgree [] (journals g) (over g)
+  pub lanes_agree : LanesAgree (begins g) (journals g) (over g)
   lanes_agree d e =
       ⊎_elim
       (λ (h : d < length g.shards).
-      ⊎_elim (λ (k : e < length g.shards). subst (Agrees (posts [] (journals g d) e) (gots (journals g e) d)) (sym (over_both g d e h k)) (whole.agree d e h k))
-      (λ (k : length g.shards ≤ e). none_of (posts [] (journals g d) e) (gots (journals g e) d) (over g d e) (posts_out d e h k) (ap (λ j. gots j d) (past_end e k)) (over_right g d e k))
+      ⊎_elim (λ (k : e < length g.shards). subst (Agrees (posts (begins g) (journals g d) e) (gots (journals g e) d)) (sym (over_both g d e h k)) (whole.agree d e h k))
+      (λ (k : length g.shards ≤ e). none_of (posts (begins g) (journals g d) e) (gots (journals g e) d) (over g d e) (posts_out d e h k) (ap (λ j. gots j d) (past_end e k)) (over_right g d e k))
       (cases_lt e (length g.shards)))
       (λ (h : length g.shards ≤ d).
-      none_of (posts [] (journals g d) e) (gots (journals g e) d) (over g d e) (ap (λ j. posts [] j e) (past_end d h))
+      none_of (posts (begins g) (journals g d) e) (gots (journals g e) d) (over g d e) (ap (λ j. posts (begins g) j e) (past_end d h))
       (⊎_elim (λ (k : e < length g.shards). gots_out e d k h) (λ (k : length g.shards ≤ e). ap (λ j. gots j d) (past_end e k)) (cases_lt e (length g.shards))) (over_left g d e h))
       (cases_lt d (length g.shards))
 
   pub keeps_headline : HeadlineHolds → EmptyHasOldRefs → KeepsHeadline g
-  keeps_headline law empty = law [] g.config.start g.config.top_version (journals g) (over g) (empty g.config.start) locals lanes_agree
+  keeps_headline law empty = law (begins g) g.config.start g.config.top_version (journals g) (over g) (subst (HasOldRefs g.config.start) (sym none) (empty g.config.start)) locals lanes_agree
 
   pub legal_node : MergeLegal → IsLegalNode g
-  legal_node law merged m = law [] g.config.start g.config.top_version (journals g) (over g) merged locals lanes_agree whole.refusals m
+  legal_node law merged m = law (begins g) g.config.start g.config.top_version (journals g) (over g) merged locals lanes_agree whole.refusals m
 
-  has_desks : HasDesks (length g.shards) [] (journals g) (over g)
-  has_desks = record { journals = past_end; lanes = over_right g; begun = λ p h. refl }
+  has_desks : HasDesks (length g.shards) (begins g) (journals g) (over g)
+  has_desks = record { journals = past_end; lanes = over_right g; begun = λ p h. subst (λ b. at_start b p ≡ unborn) (sym none) refl }
 
   -- the load desk by desk is that of the history
-  pub load_is : LoadByDesk → (merged : List Stamped) → IsMerge (journals g) merged → load_of g ≡ load [] (events merged)
-  load_is law merged m = law [] g.config.start g.config.top_version (length g.shards) (journals g) (over g) merged locals lanes_agree whole.refusals m has_desks
+  pub load_is : LoadByDesk → (merged : List Stamped) → IsMerge (journals g) merged → load_of g ≡ load (begins g) (events merged)
+  load_is law merged m = law (begins g) g.config.start g.config.top_version (length g.shards) (journals g) (over g) merged locals lanes_agree whole.refusals m has_desks
 
   nothing_over : NothingLeft g → (d e : ℕ) → over g d e ≡ []
   nothing_over none d e =
@@ -76,22 +84,29 @@ module _ (g : GatheredState) (whole : IsGathered g) where
   pub quiet_node : MergeLegal → EmptyIsQuiet → NothingLeft g → IsQuietNode g
   quiet_node law empty none merged m =
       let l = legal_node law merged m in
-      (l.0, empty [] (events merged) (λ d e. l.1 d e ∙ ap (map content) (nothing_over none d e)))
+      (l.0, empty (begins g) (events merged) (λ d e. l.1 d e ∙ ap (map content) (nothing_over none d e)))
 
   pub links_stand : IsQuietNode g → MergeLinks → LinksStand g
-  links_stand quiet links merged p q m other lives =
-      links g.config.start g.config.top_version (journals g) (over g) merged p q locals lanes_agree whole.refusals m (quiet merged m).1 other lives
+  links_stand quiet links merged p q m =
+      let Links : Start → Type 0
+      = λ b. ((d : ℕ) → IsLocal b g.config.start g.config.top_version d (journals g d)) → LanesAgree b (journals g) (over g) → RefusalsAreTrue b (journals g) → IsQuiet b (events merged)
+      → same_pid p q ≡ false → alive b (events merged) p ≡ true → LinksAgree b (events merged) p q in
+      let law : Links [] = λ local lanes refusals still. links g.config.start g.config.top_version (journals g) (over g) merged p q local lanes refusals m still in
+      subst Links (sym none) law locals lanes_agree whole.refusals (quiet merged m).1
 
   pub watches_stand : IsQuietNode g → QuietMonitor → QuietWatch → WatchesStand g
   watches_stand quiet monitors watches merged w t m is =
-      let q = quiet merged is in
-      (λ lives said. monitors (events merged) w t m q.0 q.1 lives said, λ gone. watches (events merged) w t m q.0 q.1 gone)
+      let Watches : Start → Type 0
+      = λ b. IsLegal b (events merged) → IsQuiet b (events merged) → StandsAt b (events merged) w t m in
+      let law : Watches []
+      = λ legal still. (λ lives made. monitors (events merged) w t m legal still lives (omega (arith, made)), λ gone. watches (events merged) w t m legal still gone) in
+      subst Watches (sym none) law (quiet merged is).0 (quiet merged is).1
 
   pub answers_hold : MergeLegal → AnswersAreTrue → AnswersHold g
-  answers_hold legal law merged q t m x is arrived = law [] (events merged) q t m x (legal_node legal merged is).0 arrived
+  answers_hold legal law merged q t m x is arrived = law (begins g) (events merged) q t m x (legal_node legal merged is).0 arrived
 
   pub questions_answered : IsQuietNode g → QuietAnswers → QuestionsAnswered g
-  questions_answered quiet law merged q t m is lives = let k = quiet merged is in law [] (events merged) q t m k.0 k.1 lives
+  questions_answered quiet law merged q t m is lives = let k = quiet merged is in law (begins g) (events merged) q t m k.0 k.1 lives
 
 pub is_bounded : LoadByDesk → (old new : GatheredState) → IsGathered old → Settles old new → IsBounded old new
 is_bounded law old new whole s merged m = let a = load_is old whole law merged m in let b = s.bound in omega arith

@@ -1,4 +1,5 @@
 pub mod Overs
+pub mod Starts
 pub mod Loads
 pub mod Agreeing
 pub mod Ordering

@@ -4,7 +4,7 @@ use Rattle.std.specs.Prelude.{Err, replicate}
 use Rattle.std.proofs.lemmas.List.{length-append, length-set, get_or-set_same, get_or-set_other}
 use Rattle.std.proofs.lemmas.Bool.{eqb-true, eq-eqb, ne_eqb, both_ways}
 use Rattle.pt_signal.specs.declared.letter.Letter.{Letter}
-use Rattle.pt_gathered.specs.Gathered.{GatheredState, box_at, journals, over_in}
+use Rattle.pt_gathered.specs.Gathered.{GatheredState, begins, box_at, journals, over_in}
 use Rattle.pt_shard.specs.declared.stop.Stop.{Stop}
 use Rattle.pt_gathered.specs.Settling.{Receives, replies_to, Steps, NothingTo}
 use Rattle.pt_gathered.specs.Order.{InTurn, Comes, LaneComes, LaneStops, DeskComes}
@@ -33,7 +33,7 @@ module _ (d e : ℕ) (l : Letter) (old new : GatheredState) (r : Receives d e l 
       → over_in new.shards new.lanes i k ≡ cond ((i == d) && (k == e)) (drop 1 (over_in old.shards old.lanes i k)) (over_in old.shards old.lanes i k)
   plain i k hi hk ne =
       r.left i k hi hk
-      ∙ ap (λ b. cond ((i == d) && (k == e)) (drop 1 (over_in old.shards old.lanes i k)) (over_in old.shards old.lanes i k) ++ cond b (replies_to old.config.start e l (journals old e) k) []) (ne_eqb i e ne)
+      ∙ ap (λ b. cond ((i == d) && (k == e)) (drop 1 (over_in old.shards old.lanes i k)) (over_in old.shards old.lanes i k) ++ cond b (replies_to (begins old) old.config.start e l (journals old e) k) []) (ne_eqb i e ne)
       ∙ append-nil (cond ((i == d) && (k == e)) (drop 1 (over_in old.shards old.lanes i k)) (over_in old.shards old.lanes i k))
 
   one_same : Same e (λ i k. (i ≡ d) × (k ≡ e)) old new
@@ -121,7 +121,7 @@ module _ (d e : ℕ) where
       let n = comes_count d e m old c.0 c.1 in
       let before = comes_left m old c.0 c.1 d_in e_in in
       let left = c.2.1.left d e (omega arith) (omega arith) in
-      let more : List Letter = cond (d == e) (replies_to c.0.config.start e c.2.0 (journals c.0 e) e) [] in
+      let more : List Letter = cond (d == e) (replies_to (begins c.0) c.0.config.start e c.2.0 (journals c.0 e) e) [] in
       let at : over_in new.shards new.lanes d e ≡ drop 1 (over_in c.0.shards c.0.lanes d e) ++ more
       = left ∙ rw (eq-eqb d d refl, eq-eqb e e refl) refl in
       let count = ap length at ∙ length-append (drop 1 (over_in c.0.shards c.0.lanes d e)) more in

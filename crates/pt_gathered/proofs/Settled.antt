@@ -10,9 +10,9 @@ use Rattle.pt_events.specs.History.{Past}
 use Rattle.pt_events.specs.Journal.{events}
 use Rattle.pt_laws.specs.LoadLaws.{AllCame}
 use Rattle.pt_shard.specs.declared.stop.Stop.{Stop}
-use Rattle.pt_gathered.specs.Gathered.{GatheredState, journals}
+use Rattle.pt_gathered.specs.Gathered.{GatheredState, begins, journals}
 use Rattle.pt_gathered.specs.Settling.{load_of, event_count, receipt, Receives, Follows, Settles, Runs, Moves, Steps, NothingBelow, NothingLeft}
-use Rattle.pt_laws.specs.Load.{below}
+use Rattle.pt_laws.specs.Load.{below, IsStart}
 use Rattle.pt_laws.proofs.Sums.{below_shift, below_zero, below_at}
 use Rattle.pt_gathered.proofs.Loads.{load_lowered}
 
@@ -32,11 +32,12 @@ follows_along a b c f g = record {
 }
 
 pub settles_same : (g : GatheredState) → Settles g g
-settles_same g = record { config = refl; count = refl; journals_follow = λ d h. follows_same (journals g d); grows = le_refl (event_count g); bound = le_refl (event_count g + load_of g) }
+settles_same g = record { config = refl; start = refl; count = refl; journals_follow = λ d h. follows_same (journals g d); grows = le_refl (event_count g); bound = le_refl (event_count g + load_of g) }
 
 pub settles_along : (a b c : GatheredState) → Settles a b → Settles b c → Settles a c
 settles_along a b c f g = record {
   config = g.config ∙ f.config;
+  start = g.start ∙ f.start;
   count = g.count ∙ f.count;
   journals_follow = λ d h. follows_along (journals a d) (journals b d) (journals c d) (f.journals_follow d h) (g.journals_follow d (omega (arith, f.count)));
   grows = let x = f.grows in let y = g.grows in omega arith;
@@ -81,20 +82,21 @@ module _ (old new : GatheredState) (d e : ℕ) (l : Letter) (r : Receives d e l 
           record { more = receipt old.config.start e l (journals old e) ∷ []; is = j1; receipts = tt }
       go false q j = let j1 : journals new k ≡ journals old k = rw q at j in record { more = []; is = j1; receipts = tt }
 
-  pub step_settles : Settles old new
-  step_settles = record {
+  pub step_settles : IsStart (begins old) → Settles old new
+  step_settles once = record {
     config = r.config;
+    start = r.start;
     count = r.count;
     journals_follow = follows_one;
     grows = let o = one_more in omega arith;
-    bound = let o = one_more in let f = load_lowered old new d e l r d_in e_in in omega arith;
+    bound = let o = one_more in let f = load_lowered old new d e l r d_in e_in once in omega arith;
   }
 
   pub step_moves : event_count old < event_count new
   step_moves = let o = one_more in omega arith
 
-  pub step_runs : (n : ℕ) → Runs old n new (min (n + 1) (2 ^ 64 - 1))
-  step_runs n = record { settles = step_settles; counts = let o = one_more in omega arith }
+  pub step_runs : IsStart (begins old) → (n : ℕ) → Runs old n new (min (n + 1) (2 ^ 64 - 1))
+  step_runs once n = record { settles = step_settles once; counts = let o = one_more in omega arith }
 
 -- lane after lane, and pass after pass
 module _ (a g g' : GatheredState) (P : ℕ → GatheredState → Type 0) (d : ℕ) where

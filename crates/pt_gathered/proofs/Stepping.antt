@@ -17,7 +17,8 @@ use Rattle.pt_shard.specs.declared.stop.Stop.TheVariants.{Memory, Worn}
 use Rattle.pt_shard.specs.ShardState.{ShardState, put_out, handled, Handles}
 use Rattle.pt_shard.specs.Outbox.{held_from}
 use Rattle.pt_shard.specs.Fit.{IsFit}
-use Rattle.pt_gathered.specs.Gathered.{GatheredState, IsGathered, IsShardOf, journal_at, box_at, hold_at, over_in}
+use Rattle.pt_gathered.proofs.Starts.{nobody_before, same_starts}
+use Rattle.pt_gathered.specs.Gathered.{GatheredState, start_of, IsGathered, IsShardOf, journal_at, box_at, hold_at, over_in}
 use Rattle.pt_gathered.specs.Settling.{receipt, replies, replies_to, Receives, Steps}
 use Rattle.pt_gathered.specs.Taking.{bare, AreShards, TakesOut}
 use Rattle.pt_gathered.specs.Waits.{posted_in, StepsPosted}
@@ -231,6 +232,9 @@ module _ (config : Config) (shards : List ShardState) (lanes : List (List Letter
   abbrev old_node : GatheredState
   old_node = record { config = config; shards = shards; lanes = lanes }
 
+  nobody : start_of shards ≡ []
+  nobody = nobody_before config shards whole.shards
+
   desk : IsShardOf config e s
   desk = subst (IsShardOf config e) (sym is) (whole.shards e s e_in)
 
@@ -260,6 +264,10 @@ module _ (config : Config) (shards : List ShardState) (lanes : List (List Letter
     count2 : length shards2 ≡ length shards
     count2 = length-map_same bare shards2 (set shards e s') took.bare_same ∙ count1
 
+    same_begins : start_of shards2 ≡ start_of shards
+    same_begins =
+        same_starts shards shards2 (map-through bare (λ (z : ShardState). z.start) shards2 (set shards e s') took.bare_same ∙ map-set_same (λ (z : ShardState). z.start) shards e s s' e_in is (ap (λ (z : ShardState). z.start) after))
+
     stamp_is : (receipt config.start e l (journal_at shards e)).stamp ≡ max s.clock l.stamp + 1
     stamp_is = ap (λ n. n + 1) (sym worn_at)
 
@@ -276,45 +284,45 @@ module _ (config : Config) (shards : List ShardState) (lanes : List (List Letter
         go false q = rw q refl
 
     -- the letters after the receipt, before the first is taken out
-    box_one : (i k : ℕ) → k < length shards → box_at (set shards e s') i k ≡ box_at shards i k ++ cond (i == e) (replies_to config.start e l (journal_at shards e) k) []
+    box_one : (i k : ℕ) → k < length shards → box_at (set shards e s') i k ≡ box_at shards i k ++ cond (i == e) (replies_to (start_of shards) config.start e l (journal_at shards e) k) []
     box_one i k hk = ap (λ z. get_or z k []) (read_set (λ (z : ShardState). z.outbox) shards e s' i [] e_in) ∙ go (i == e) refl
       where
         room : k < length s.outbox
         room = omega (arith, hk, desk.fit.boxes, ap (λ c. c.desks) desk.config_is, whole.desks)
 
-        new_box : s'.outbox ≡ put_out s.outbox (replies config.start e l (journal_at shards e))
-        new_box = ap (λ (z : ShardState). z.outbox) after ∙ rw (stamp_is, journal_is, desk.fit.first) refl
+        new_box : s'.outbox ≡ put_out s.outbox (replies (start_of shards) config.start e l (journal_at shards e))
+        new_box = ap (λ (z : ShardState). z.outbox) after ∙ rw (stamp_is, journal_is, desk.fit.first, nobody) refl
 
         go : (b : Bool) → (i == e) ≡ b → get_or (cond (i == e) s'.outbox (get_or (map (λ (z : ShardState). z.outbox) shards) i [])) k []
-            ≡ box_at shards i k ++ cond (i == e) (replies_to config.start e l (journal_at shards e) k) []
+            ≡ box_at shards i k ++ cond (i == e) (replies_to (start_of shards) config.start e l (journal_at shards e) k) []
         go true q =
             let at : get_or s.outbox k [] ≡ box_at shards i k = sym (box_is shards e k s e_in is) ∙ ap (λ z. box_at shards z k) (sym (eqb-true i e q)) in
-            rw q (ap (λ z. get_or z k []) new_box ∙ put_at s.outbox (replies config.start e l (journal_at shards e)) k room ∙ ap (λ z. z ++ replies_to config.start e l (journal_at shards e) k) at)
+            rw q (ap (λ z. get_or z k []) new_box ∙ put_at s.outbox (replies (start_of shards) config.start e l (journal_at shards e)) k room ∙ ap (λ z. z ++ replies_to (start_of shards) config.start e l (journal_at shards e) k) at)
         go false q = rw q (sym (append-nil (box_at shards i k)))
 
     holds_one : map (λ (z : ShardState). z.hold) (set shards e s') ≡ map (λ (z : ShardState). z.hold) shards
     holds_one = map-set_same (λ (z : ShardState). z.hold) shards e s s' e_in is (ap (λ (z : ShardState). z.hold) after)
 
-    over_one : (i k : ℕ) → k < length shards → over_in (set shards e s') lanes i k ≡ over_in shards lanes i k ++ cond (i == e) (replies_to config.start e l (journal_at shards e) k) []
+    over_one : (i k : ℕ) → k < length shards → over_in (set shards e s') lanes i k ≡ over_in shards lanes i k ++ cond (i == e) (replies_to (start_of shards) config.start e l (journal_at shards e) k) []
     over_one i k hk =
         ap (λ h. held_from i (get_or h k None) ++ get_or lanes (i * length (set shards e s') + k) [] ++ box_at (set shards e s') i k) holds_one
         ∙ ap (λ n. held_from i (hold_at shards k) ++ get_or lanes (i * n + k) [] ++ box_at (set shards e s') i k) count1
         ∙ ap (λ z. held_from i (hold_at shards k) ++ get_or lanes (i * length shards + k) [] ++ z) (box_one i k hk)
-        ∙ sym (append_assoc (held_from i (hold_at shards k) ++ get_or lanes (i * length shards + k) []) (box_at shards i k) (cond (i == e) (replies_to config.start e l (journal_at shards e) k) []))
+        ∙ sym (append_assoc (held_from i (hold_at shards k) ++ get_or lanes (i * length shards + k) []) (box_at shards i k) (cond (i == e) (replies_to (start_of shards) config.start e l (journal_at shards e) k) []))
 
     over_two : (i k : ℕ) → i < length shards → k < length shards
-        → over_in shards2 lanes2 i k ≡ cond ((i == d) && (k == e)) (drop 1 (over_in shards lanes i k)) (over_in shards lanes i k) ++ cond (i == e) (replies_to config.start e l (journal_at shards e) k) []
+        → over_in shards2 lanes2 i k ≡ cond ((i == d) && (k == e)) (drop 1 (over_in shards lanes i k)) (over_in shards lanes i k) ++ cond (i == e) (replies_to (start_of shards) config.start e l (journal_at shards e) k) []
     over_two i k hi hk = took.over i k (omega (arith, hi, count1)) (omega (arith, hk, count1)) ∙ go (i == d) refl (k == e) refl
       where
         more : List Letter
-        more = cond (i == e) (replies_to config.start e l (journal_at shards e) k) []
+        more = cond (i == e) (replies_to (start_of shards) config.start e l (journal_at shards e) k) []
 
         dropped : (xs ys zs : List Letter) → xs ≡ l ∷ zs → drop 1 (xs ++ ys) ≡ drop 1 xs ++ ys
         dropped xs ys zs h = rw h refl
 
         go : (p : Bool) → (i == d) ≡ p → (q : Bool) → (k == e) ≡ q
             → cond ((i == d) && (k == e)) (drop 1 (over_in (set shards e s') lanes i k)) (over_in (set shards e s') lanes i k)
-            ≡ cond ((i == d) && (k == e)) (drop 1 (over_in shards lanes i k)) (over_in shards lanes i k) ++ cond (i == e) (replies_to config.start e l (journal_at shards e) k) []
+            ≡ cond ((i == d) && (k == e)) (drop 1 (over_in shards lanes i k)) (over_in shards lanes i k) ++ cond (i == e) (replies_to (start_of shards) config.start e l (journal_at shards e) k) []
         go true p true q =
             let at : over_in shards lanes i k ≡ l ∷ drop 1 (over_in shards lanes d e) = ap (λ z. over_in shards lanes z k) (eqb-true i d p) ∙ ap (over_in shards lanes d) (eqb-true k e q) ∙ first_is in
             rw (p, q) (ap (drop 1) (over_one i k hk) ∙ dropped (over_in shards lanes i k) more (drop 1 (over_in shards lanes d e)) at)
@@ -333,6 +341,7 @@ module _ (config : Config) (shards : List ShardState) (lanes : List (List Letter
     pub receives : Receives d e l old_node new_node
     receives = record {
       config = refl;
+      start = same_begins;
       count = count2;
       first = first_is;
       from = ends_are.0;
@@ -356,15 +365,19 @@ module _ (config : Config) (shards : List ShardState) (lanes : List (List Letter
         go false = refl
 
     -- a receipt is no refused call, and those that there are stay true
-    refusals_two : RefusalsAreTrue [] (journal_at shards2)
-    refusals_two k =
-        subst (AllTrueRefusals [] (journal_at shards2)) (sym (grew k))
-        (go (k == e) (still_true_refusals [] (journal_at shards) (journal_at shards2) more grew (journal_at shards k) (whole.refusals k)))
+    refusals_on : RefusalsAreTrue (start_of shards) (journal_at shards2)
+    refusals_on k =
+        subst (AllTrueRefusals (start_of shards) (journal_at shards2)) (sym (grew k))
+        (go (k == e) (still_true_refusals (start_of shards) (journal_at shards) (journal_at shards2) more grew (journal_at shards k) (whole.refusals k)))
       where
-        go : (b : Bool) → AllTrueRefusals [] (journal_at shards2) (journal_at shards k)
-            → AllTrueRefusals [] (journal_at shards2) (cond b (receipt config.start e l (journal_at shards e) ∷ []) [] ++ journal_at shards k)
+        go : (b : Bool) → AllTrueRefusals (start_of shards) (journal_at shards2) (journal_at shards k)
+            → AllTrueRefusals (start_of shards) (journal_at shards2) (cond b (receipt config.start e l (journal_at shards e) ∷ []) [] ++ journal_at shards k)
         go true h = (tt, h)
         go false h = h
+
+    refusals_two : RefusalsAreTrue (start_of shards2) (journal_at shards2)
+    refusals_two =
+        subst (λ b. RefusalsAreTrue b (journal_at shards2)) (sym same_begins) refusals_on
 
     pub gathered_after : AreShards config shards2 → IsGathered new_node
     gathered_after fit = record {

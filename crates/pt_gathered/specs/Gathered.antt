@@ -1,6 +1,8 @@
 -- The desks of a node without their lanes, and the letters left over.
 use Rattle.std.specs.Prelude.{◌≡◌, ℕ, ◌+◌, ◌*◌, ◌<◌, nat_lt, Bool, cond, List, [], ◌++◌, length, map, slice_index_or, Option, None}
+use Rattle.std.specs.List.{flat_map}
 use Rattle.pt_signal.specs.declared.letter.Letter.{Letter}
+use Rattle.pt_events.specs.History.{Start}
 use Rattle.pt_events.specs.Journal.{Journals, posts, gots, Agrees}
 use Rattle.pt_events.specs.Refusals.{RefusalsAreTrue}
 use Rattle.pt_shard.specs.declared.config.Config.{Config}
@@ -13,6 +15,14 @@ pub record GatheredState : Type 0 where
   pub config : Config
   pub shards : List ShardState
   pub lanes : List (List Letter)
+
+-- what was before the journals of all desks: what was before each, one desk after the other
+abbrev pub start_of : List ShardState → Start
+start_of shards = flat_map (λ (s : ShardState). s.start) shards
+
+-- what was before a node: the state that it was opened with, in which there is nobody
+abbrev pub begins : GatheredState → Start
+begins g = start_of g.shards
 
 abbrev pub journal_at : List ShardState → Journals
 journal_at shards d = slice_index_or (map (λ (s : ShardState). s.journal) shards) d []
@@ -46,5 +56,5 @@ pub record IsGathered (g : GatheredState) : Type 0 where
   pub desks : length g.shards ≡ g.config.desks
   pub lanes : length g.lanes ≡ length g.shards * length g.shards
   pub shards : (d : ℕ) (x : ShardState) → d < length g.shards → IsShardOf g.config d (slice_index_or g.shards d x)
-  pub agree : (d e : ℕ) → d < length g.shards → e < length g.shards → Agrees (posts [] (journals g d) e) (gots (journals g e) d) (over_in g.shards g.lanes d e)
-  pub refusals : RefusalsAreTrue [] (journals g)
+  pub agree : (d e : ℕ) → d < length g.shards → e < length g.shards → Agrees (posts (begins g) (journals g d) e) (gots (journals g e) d) (over_in g.shards g.lanes d e)
+  pub refusals : RefusalsAreTrue (begins g) (journals g)

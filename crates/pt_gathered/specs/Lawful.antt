@@ -1,11 +1,11 @@
 -- What the laws of histories say of a node whose desks were gathered, and of one that was settled.
-use Rattle.std.specs.Prelude.{◌≡◌, ◌+◌, ◌≤◌, Bool, true, false, List, [], Contains}
+use Rattle.std.specs.Prelude.{◌≡◌, ℕ, ◌+◌, ◌≤◌, Bool, true, false, List, Contains}
 use Rattle.pt_signal.specs.declared.pid.Pid.{Pid}
 use Rattle.pt_signal.specs.declared.ids.Ref.{Ref}
 use Rattle.pt_signal.specs.declared.item.Item.{Item}
 use Rattle.pt_signal.specs.Values.{same_pid}
 use Rattle.pt_events.specs.declared.event.Stamped.{Stamped}
-use Rattle.pt_events.specs.History.{IsLegal, life, alive, arrived}
+use Rattle.pt_events.specs.History.{Past, Start, at_start, IsLegal, life, alive, arrived_since}
 use Rattle.pt_events.specs.Journal.{events, LanesAgree, IsMerge}
 use Rattle.pt_laws.specs.Laws.{LegalWithLeftOver}
 use Rattle.pt_laws.specs.Load.{IsQuiet, load}
@@ -14,50 +14,56 @@ use Rattle.pt_laws.specs.Headline.{IsHeadline}
 use Rattle.pt_laws.specs.Watch.{count, said_to, is_monitor, open_in, kept_in}
 use Rattle.pt_laws.specs.MonitorLaws.{demonitors_and_downs}
 use Rattle.pt_laws.specs.Asking.{IsAnswer, is_question, is_answer}
-use Rattle.pt_gathered.specs.Gathered.{GatheredState, journals, over}
+use Rattle.pt_gathered.specs.Gathered.{GatheredState, begins, journals, over}
 use Rattle.pt_gathered.specs.Settling.{event_count}
 
 -- the merge is legal, and what is in flight in it is what is left over
 abbrev pub IsLegalNode : GatheredState → Type 0
-IsLegalNode g = (merged : List Stamped) → IsMerge (journals g) merged → LegalWithLeftOver [] merged (over g)
+IsLegalNode g = (merged : List Stamped) → IsMerge (journals g) merged → LegalWithLeftOver (begins g) merged (over g)
 
 -- what each desk sent each other is what came there, in order, and then what is left over
 abbrev pub LanesKeep : GatheredState → Type 0
-LanesKeep g = LanesAgree [] (journals g) (over g)
+LanesKeep g = LanesAgree (begins g) (journals g) (over g)
 
 -- the headline, of all mailboxes of the node
 abbrev pub KeepsHeadline : GatheredState → Type 0
-KeepsHeadline g = IsHeadline [] (journals g) (over g)
+KeepsHeadline g = IsHeadline (begins g) (journals g) (over g)
 
 -- the merge is legal and quiet
 abbrev pub IsQuietNode : GatheredState → Type 0
-IsQuietNode g = (merged : List Stamped) → IsMerge (journals g) merged → IsLegal [] (events merged) × IsQuiet [] (events merged)
+IsQuietNode g = (merged : List Stamped) → IsMerge (journals g) merged → IsLegal (begins g) (events merged) × IsQuiet (begins g) (events merged)
 
 -- the added events number at most the load of the history before
 abbrev pub IsBounded : GatheredState → GatheredState → Type 0
-IsBounded old new = (merged : List Stamped) → IsMerge (journals old) merged → event_count new ≤ event_count old + load [] (events merged)
+IsBounded old new = (merged : List Stamped) → IsMerge (journals old) merged → event_count new ≤ event_count old + load (begins old) (events merged)
 
 -- links stand at both ends, or at neither
 abbrev pub LinksStand : GatheredState → Type 0
 LinksStand g =
-    (merged : List Stamped) (p q : Pid) → IsMerge (journals g) merged → same_pid p q ≡ false → alive [] (events merged) p ≡ true → LinksAgree [] (events merged) p q
+    (merged : List Stamped) (p q : Pid) → IsMerge (journals g) merged → same_pid p q ≡ false → alive (begins g) (events merged) p ≡ true → LinksAgree (begins g) (events merged) p q
+
+-- how often w made the monitor m of t: before the start, where it was open there, or since
+abbrev pub times_made : Start → Past → Pid → Pid → Ref → ℕ
+times_made start past w t m = open_in w t m (at_start start w) + said_to w t (is_monitor m) past
 
 -- a monitor of a live w was demonitored, or had its one DOWN, or is open at w and kept by a live t; of a w that ended none is kept
-abbrev pub WatchesStand : GatheredState → Type 0
-WatchesStand g =
-    (merged : List Stamped) (w t : Pid) (m : Ref) → IsMerge (journals g) merged
-    → (alive [] (events merged) w ≡ true → said_to w t (is_monitor m) (events merged) ≡ 1
-    → (demonitors_and_downs [] (events merged) w m + kept_in w t m (life [] (events merged) t) ≡ 1) × (open_in w t m (life [] (events merged) w) ≡ kept_in w t m (life [] (events merged) t)))
-    × (alive [] (events merged) w ≡ false → kept_in w t m (life [] (events merged) t) ≡ 0)
+abbrev pub StandsAt : Start → Past → Pid → Pid → Ref → Type 0
+StandsAt start past w t m =
+    (alive start past w ≡ true → times_made start past w t m ≡ 1
+    → (demonitors_and_downs start past w m + kept_in w t m (life start past t) ≡ 1) × (open_in w t m (life start past w) ≡ kept_in w t m (life start past t)))
+    × (alive start past w ≡ false → kept_in w t m (life start past t) ≡ 0)
 
--- each answer that arrived is true, and all that the asker had sent before it asked came before its question did
+abbrev pub WatchesStand : GatheredState → Type 0
+WatchesStand g = (merged : List Stamped) (w t : Pid) (m : Ref) → IsMerge (journals g) merged → StandsAt (begins g) (events merged) w t m
+
+-- each answer that arrived since the start is true, and all that the asker had sent before it asked came before its question did
 abbrev pub AnswersHold : GatheredState → Type 0
 AnswersHold g =
     (merged : List Stamped) (q t : Pid) (m : Ref) (x : Bool) → IsMerge (journals g) merged
-    → Contains (arrived [] (events merged) q) (Item.Alive m t x) → IsAnswer [] (events merged) q t m x
+    → Contains (arrived_since (begins g) (events merged) q) (Item.Alive m t x) → IsAnswer (begins g) (events merged) q t m x
 
--- each question of a live process has its one answer
+-- each question of a live process since the start has its one answer
 abbrev pub QuestionsAnswered : GatheredState → Type 0
 QuestionsAnswered g =
-    (merged : List Stamped) (q t : Pid) (m : Ref) → IsMerge (journals g) merged → alive [] (events merged) q ≡ true
-    → count (is_answer m t) (arrived [] (events merged) q) ≡ said_to q t (is_question m) (events merged)
+    (merged : List Stamped) (q t : Pid) (m : Ref) → IsMerge (journals g) merged → alive (begins g) (events merged) q ≡ true
+    → count (is_answer m t) (arrived_since (begins g) (events merged) q) ≡ said_to q t (is_question m) (events merged)

@@ -2,7 +2,7 @@
 use Rattle.std.specs.Prelude.{⊤, ◌≡◌, ℕ, ◌+◌, ◌^◌, ◌<◌, ◌≤◌, ◌==◌, ◌&&◌, Bool, true, false, cond, List, [], ◌∷◌, ◌++◌, length, map, filter, max, min, ◌-◌, drop, Result, Ok, Err}
 use Rattle.pt_signal.specs.declared.letter.Letter.{Letter}
 use Rattle.pt_events.specs.declared.event.Stamped.{Stamped}
-use Rattle.pt_events.specs.History.{sent_by}
+use Rattle.pt_events.specs.History.{Start, sent_by}
 use Rattle.pt_events.specs.Journal.{events, letter, clock}
 use Rattle.pt_events.specs.declared.event.TheConstants.{MAX_STAMP}
 use Rattle.pt_laws.specs.Load.{below, load_by_desk}
@@ -10,26 +10,27 @@ use Rattle.pt_laws.specs.LoadLaws.{AllCame}
 use Rattle.pt_shard.specs.declared.stop.Stop.{Stop}
 use Rattle.pt_shard.specs.declared.stop.Stop.TheVariants.{Memory, Worn}
 use Rattle.pt_shard.specs.ShardState.{came}
-use Rattle.pt_gathered.specs.Gathered.{GatheredState, journals, over, over_in}
+use Rattle.pt_gathered.specs.Gathered.{GatheredState, begins, journals, over, over_in}
 
 -- the load, desk by desk
 abbrev pub load_of : GatheredState → ℕ
-load_of g = load_by_desk [] (journals g) (over g) (length g.shards)
+load_of g = load_by_desk (begins g) (journals g) (over g) (length g.shards)
 
 -- the receipt of the letter at desk e
 abbrev pub receipt : ℕ → ℕ → Letter → List Stamped → Stamped
 receipt low e l journal = record { stamp = max (clock low journal) l.stamp + 1; desk = e; event = came l }
 
 -- what the receipt sends
-abbrev pub replies : ℕ → ℕ → Letter → List Stamped → List Letter
-replies low e l journal = map (letter (receipt low e l journal).stamp) (sent_by [] (events journal) (came l))
+abbrev pub replies : Start → ℕ → ℕ → Letter → List Stamped → List Letter
+replies start low e l journal = map (letter (receipt low e l journal).stamp) (sent_by start (events journal) (came l))
 
-abbrev pub replies_to : ℕ → ℕ → Letter → List Stamped → ℕ → List Letter
-replies_to low e l journal k = filter (λ r. r.to.shard == k) (replies low e l journal)
+abbrev pub replies_to : Start → ℕ → ℕ → Letter → List Stamped → ℕ → List Letter
+replies_to start low e l journal k = filter (λ r. r.to.shard == k) (replies start low e l journal)
 
 -- the first letter left over from desk d to desk e came to its receiver, and nothing else happened
 pub record Receives (d e : ℕ) (l : Letter) (old new : GatheredState) : Type 0 where
   pub config : new.config ≡ old.config
+  pub start : begins new ≡ begins old
   pub count : length new.shards ≡ length old.shards
   pub first : over_in old.shards old.lanes d e ≡ l ∷ drop 1 (over_in old.shards old.lanes d e)
   pub from : l.from.shard ≡ d
@@ -38,7 +39,7 @@ pub record Receives (d e : ℕ) (l : Letter) (old new : GatheredState) : Type 0 
   pub journal : (k : ℕ) → k < length old.shards → journals new k ≡ cond (k == e) (receipt old.config.start e l (journals old e) ∷ journals old k) (journals old k)
   pub left : (i k : ℕ) → i < length old.shards → k < length old.shards
       → over_in new.shards new.lanes i k ≡ cond ((i == d) && (k == e)) (drop 1 (over_in old.shards old.lanes i k)) (over_in old.shards old.lanes i k)
-      ++ cond (i == e) (replies_to old.config.start e l (journals old e) k) []
+      ++ cond (i == e) (replies_to (begins old) old.config.start e l (journals old e) k) []
 
 -- a refusal: the stamp of the receipt would pass the limit, or else there was no memory for it
 abbrev pub IsRefused : Stop → ℕ → Letter → GatheredState → Type 0
@@ -64,6 +65,7 @@ event_count g = below (λ d. length (journals g d)) (length g.shards)
 -- the node after so many receipts
 pub record Settles (old new : GatheredState) : Type 0 where
   pub config : new.config ≡ old.config
+  pub start : begins new ≡ begins old
   pub count : length new.shards ≡ length old.shards
   pub journals_follow : (d : ℕ) → d < length old.shards → Follows (journals old d) (journals new d)
   pub grows : event_count old ≤ event_count new

@@ -4,10 +4,11 @@ ghost use Rattle.pt_carrier.specs.declared.ends.TheConstants.{MAX_DESKS};
 ghost use Rattle.std.specs.Prelude.{◌≡◌, ◌*◌, ◌<◌, ◌≤◌, ◌-◌, ◌^◌, ◌++◌, min, [], length, map, reverse, drop, slice_get, IfOk, OnOk, IfSome, IfNone};
 ghost use Rattle.pt_events.specs.Journal.{IsMerge};
 ghost use Rattle.pt_laws.specs.Laws.{LegalWithLeftOver};
+ghost use Rattle.pt_laws.specs.Load.{IsStart};
 ghost use Rattle.pt_lives.specs.LivesState.{AreLivesOf};
 ghost use Rattle.pt_merge.specs.Merging.{AreApart, journal_of};
 ghost use Rattle.pt_shard.specs.Outbox.{held_from};
-ghost use Rattle.pt_gathered.specs.Gathered.{IsGathered, box_at, hold_at, over, over_in, journals};
+ghost use Rattle.pt_gathered.specs.Gathered.{IsGathered, begins, box_at, hold_at, over, over_in, journals};
 ghost use Rattle.pt_gathered.specs.LeftOvers.{all_left, left_from, left_between};
 ghost use Rattle.pt_gathered.specs.Settling.{Steps};
 ghost use Rattle.pt_gathered.specs.Taking.{TakesOut, AreShards};
@@ -132,7 +133,7 @@ impl Gathered {
     /// and in its order, and in which the letters left over are those on their way.
     pub fn history(&self) -> Result<Vec<Stamped>, AllocError>
         ensures merge { IfOk result (λ h. IsMerge (journals self.now) (reverse h.items)) }
-        ensures legal { IfOk result (λ h. LegalWithLeftOver [] (reverse h.items) (over self.now)) }
+        ensures legal { IfOk result (λ h. LegalWithLeftOver (begins self.now) (reverse h.items) (over self.now)) }
     {
         laws_of(self);
         let journals = journals_of(self.alloc, self.config, self.shards.as_slice())?;
@@ -181,7 +182,7 @@ impl Gathered {
 
     /// What became of all processes, of which each journal tells by one reading of it.
     pub(crate) fn lives(&self) -> Result<Lives, AllocError>
-        ensures { IfOk result (λ lives. AreLivesOf (journals self.now) lives) }
+        ensures { IfOk result (λ lives. AreLivesOf (begins self.now) (journals self.now) lives) }
     {
         let mut lives = Lives::new(self.alloc);
         for which in 0..self.shards.len() {
@@ -232,6 +233,7 @@ impl Gathered {
         requires { (d < length self.old.shards) × (e < length self.old.shards) }
         ensures does { Steps d e self.old result self.new }
         ensures posted { StepsPosted d e self.old result self.new }
+        ensures begun { IsStart (begins self.old) }
     {
         let Some(letter) = letter_at(
             self.config,

@@ -21,7 +21,7 @@ loop-k-preserved c =
     let took = subst (λ b. StepsPosted d e g (Ok b) c.step.new.self) is c.in-Ok.ensures.posted in
     let d_in : d < length g.shards = omega (arith, c.requires.within.0, inv.runs.settles.count) in
     let e_in : e < length g.shards = omega (arith, c.requires.within.1, inv.runs.settles.count) in
-    let ran : Runs g c.loop-k.handled c.step.new.self c.saturating_add.result = rw c.saturating_add.ensures (step_runs g c.step.new.self d e did.0 did.1 d_in e_in c.loop-k.handled) in
+    let ran : Runs g c.loop-k.handled c.step.new.self c.saturating_add.result = rw c.saturating_add.ensures (step_runs g c.step.new.self d e did.0 did.1 d_in e_in c.step.ensures.begun c.loop-k.handled) in
     record {
       runs = runs_along c.args.gathered.now c.args.handled.now g c.loop-k.handled c.step.new.self c.saturating_add.result inv.runs ran;
       moved = omega (arith, inv.runs.settles.grows, step_moves g c.step.new.self d e did.0 did.1 d_in e_in);

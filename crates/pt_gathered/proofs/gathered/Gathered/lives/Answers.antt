@@ -26,7 +26,7 @@ loop-which-preserved c =
     let j = c.journal.result.now in
     let here = read_here inside c.args.self.now c.self.view_is c.self.invariant k c.index.result.now j (omega arith) c.index.ensures c.journal.ensures.desk c.journal.ensures.past in
     let inv = c.loop-which.invariant in
-    told_more c.args.self.now k j c.loop-which.lives c.in_ok-lives.lives here.1 inv.1 inv.0 c.in_ok-lives.ensures
+    told_more c.args.self.now here.0 k j c.loop-which.lives c.in_ok-lives.lives here.1 inv.1 inv.0 c.in_ok-lives.ensures
 
 pub returns : goal.returns
 returns c =

@@ -6,6 +6,7 @@ use Rattle.pt_gathered.specs.Settling.{Steps, Receives}
 use Rattle.pt_gathered.specs.Taking.{AreShards, TakesOut}
 use Rattle.pt_gathered.specs.Waits.{StepsPosted}
 use Rattle.pt_gathered.proofs.Stepping.{none_first, handle_here, posted_steps, receives, gathered_after, worn_at, handled_not, step_not, shards_after}
+use Rattle.pt_gathered.proofs.Starts.{begins_once}
 use Rattle.pt_gathered.proofs.gathered.Gathered.step.Goals as goal
 
 pub returns-in_default-clause-does : goal.returns-in_default-clause-does
@@ -153,3 +154,12 @@ returns-clause-posted c =
     = subst (λ k. TakesOut d e (set shards k s') c.take_out.new.shards.items lanes c.take_out.new.lanes.items) c.from.ensures c.take_out.ensures.takes in
     subst (λ n. StepsPosted d e n (Ok true) (record { config = config; shards = c.take_out.new.shards.items; lanes = c.take_out.new.lanes.items })) v
     (posted_steps config shards lanes c.self.invariant d e d_in e_in s s' s_is c.in-Some.letter first c.in-Ok.ensures.does.1 c.in-Ok.ensures.does.0 c.take_out.new.shards.items c.take_out.new.lanes.items took)
+
+pub returns-in_default-clause-begun : goal.returns-in_default-clause-begun
+returns-in_default-clause-begun c = begins_once c.args.self.now (subst IsGathered c.self.view_is c.self.invariant)
+
+pub returns-in-Err-clause-begun : goal.returns-in-Err-clause-begun
+returns-in-Err-clause-begun c = begins_once c.args.self.now (subst IsGathered c.self.view_is c.self.invariant)
+
+pub returns-clause-begun : goal.returns-clause-begun
+returns-clause-begun c = begins_once c.args.self.now (subst IsGathered c.self.view_is c.self.invariant)

@@ -1,13 +1,13 @@
-use Rattle.std.proofs.Common.{◌≡◌, subst, []}
+use Rattle.std.proofs.Common.{◌≡◌, subst}
 use Rattle.std.specs.List.{list_any}
 use Rattle.pt_signal.specs.Values.{same_ref}
 use Rattle.pt_events.specs.History.{state}
 use Rattle.pt_lives.specs.LivesState.{InEveryMerge}
-use Rattle.pt_gathered.specs.Gathered.{journals}
+use Rattle.pt_gathered.specs.Gathered.{begins, journals}
 use Rattle.pt_gathered.specs.Quiet.{QuietState}
 use Rattle.pt_gathered.proofs.quiet.Quiet.kept.Goals as goal
 
 pub returns : goal.returns
 returns c =
-    subst (λ (q : QuietState). InEveryMerge (journals q.gathered) (λ past. c.kept.result ≡ list_any (λ k. same_ref c.args.monitor k.0) (state [] past c.args.target).kept)) c.self.view_is
-    (c.kept.ensures (journals c.self.inside.gathered) c.self.invariant.lives_are)
+    subst (λ (q : QuietState). InEveryMerge (journals q.gathered) (λ past. c.kept.result ≡ list_any (λ k. same_ref c.args.monitor k.0) (state (begins q.gathered) past c.args.target).kept)) c.self.view_is
+    (c.kept.ensures (begins c.self.inside.gathered) (journals c.self.inside.gathered) c.self.invariant.lives_are)

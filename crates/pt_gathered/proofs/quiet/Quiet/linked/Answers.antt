@@ -1,12 +1,12 @@
-use Rattle.std.proofs.Common.{◌≡◌, subst, []}
+use Rattle.std.proofs.Common.{◌≡◌, subst}
 use Rattle.pt_signal.specs.Process.{held}
 use Rattle.pt_events.specs.History.{state}
 use Rattle.pt_lives.specs.LivesState.{InEveryMerge}
-use Rattle.pt_gathered.specs.Gathered.{journals}
+use Rattle.pt_gathered.specs.Gathered.{begins, journals}
 use Rattle.pt_gathered.specs.Quiet.{QuietState}
 use Rattle.pt_gathered.proofs.quiet.Quiet.linked.Goals as goal
 
 pub returns : goal.returns
 returns c =
-    subst (λ (q : QuietState). InEveryMerge (journals q.gathered) (λ past. c.linked.result ≡ held (state [] past c.args.pid).links c.args.peer)) c.self.view_is
-    (c.linked.ensures (journals c.self.inside.gathered) c.self.invariant.lives_are)
+    subst (λ (q : QuietState). InEveryMerge (journals q.gathered) (λ past. c.linked.result ≡ held (state (begins q.gathered) past c.args.pid).links c.args.peer)) c.self.view_is
+    (c.linked.ensures (begins c.self.inside.gathered) (journals c.self.inside.gathered) c.self.invariant.lives_are)

@@ -1,10 +1,10 @@
 use Rattle.std.proofs.Common.{subst}
 use Rattle.pt_lives.specs.LivesState.{InEveryMerge, AreAllPids}
-use Rattle.pt_gathered.specs.Gathered.{journals}
+use Rattle.pt_gathered.specs.Gathered.{begins, journals}
 use Rattle.pt_gathered.specs.Quiet.{QuietState}
 use Rattle.pt_gathered.proofs.quiet.Quiet.pids.Goals as goal
 
 pub returns : goal.returns
 returns c =
-    subst (λ (q : QuietState). InEveryMerge (journals q.gathered) (λ past. AreAllPids past c.pids.result.now)) c.self.view_is
-    (c.pids.ensures (journals c.self.inside.gathered) c.self.invariant.lives_are)
+    subst (λ (q : QuietState). InEveryMerge (journals q.gathered) (λ past. AreAllPids (begins q.gathered) past c.pids.result.now)) c.self.view_is
+    (c.pids.ensures (begins c.self.inside.gathered) (journals c.self.inside.gathered) c.self.invariant.lives_are)

@@ -1,13 +1,13 @@
-use Rattle.std.proofs.Common.{◌≡◌, subst, [], is_some}
+use Rattle.std.proofs.Common.{◌≡◌, subst, is_some}
 use Rattle.std.specs.Map.{lookup}
 use Rattle.pt_signal.specs.Values.{same_ref}
 use Rattle.pt_events.specs.History.{life, open_monitors}
 use Rattle.pt_lives.specs.LivesState.{InEveryMerge}
-use Rattle.pt_gathered.specs.Gathered.{journals}
+use Rattle.pt_gathered.specs.Gathered.{begins, journals}
 use Rattle.pt_gathered.specs.Quiet.{QuietState}
 use Rattle.pt_gathered.proofs.quiet.Quiet.watching.Goals as goal
 
 pub returns : goal.returns
 returns c =
-    subst (λ (q : QuietState). InEveryMerge (journals q.gathered) (λ past. c.watching.result ≡ is_some (lookup (same_ref c.args.monitor) (open_monitors (life [] past c.args.watcher))))) c.self.view_is
-    (c.watching.ensures (journals c.self.inside.gathered) c.self.invariant.lives_are)
+    subst (λ (q : QuietState). InEveryMerge (journals q.gathered) (λ past. c.watching.result ≡ is_some (lookup (same_ref c.args.monitor) (open_monitors (life (begins q.gathered) past c.args.watcher))))) c.self.view_is
+    (c.watching.ensures (begins c.self.inside.gathered) (journals c.self.inside.gathered) c.self.invariant.lives_are)
