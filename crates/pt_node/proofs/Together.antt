@@ -19,7 +19,8 @@ use Rattle.pt_carrier.specs.Node.{all_posted, all_collected, entry}
 use Rattle.pt_shard.specs.declared.config.Config.{Config}
 use Rattle.pt_shard.specs.ShardState.{ShardState}
 use Rattle.pt_shard.specs.Outbox.{held_from}
-use Rattle.pt_gathered.specs.Gathered.{GatheredState, IsGathered, IsShardOf, journal_at, box_at, hold_at, over_in}
+use Rattle.pt_gathered.specs.Gathered.{GatheredState, IsGathered, begins, IsShardOf, journal_at, box_at, hold_at, over_in}
+use Rattle.pt_gathered.proofs.Starts.{nobody_before}
 use Rattle.pt_events.proofs.Agreeing.{Agrees-posted}
 use Rattle.pt_directory.specs.declared.view.Read.{Read}
 use Rattle.pt_desk.specs.Sight.{HasEndOf, IsSeen, AllSeen}
@@ -82,56 +83,60 @@ module _ (desks : List DeskState) (g : GatheredState) (whole : AreWhole desks) (
   desks_at : (d : ℕ) (x : DeskState) → d < length desks → (get_or desks d x).shard.config.desks ≡ length desks
   desks_at d x h = ap (λ (c : Config). c.desks) (gathers.node.configs d x h) ∙ sym gathers.node.count
 
-  agree_at : (d e : ℕ) → d < length desks → e < length desks → Agrees (posts [] (journal_at g.shards d) e) (gots (journal_at g.shards e) d) (over_in g.shards g.lanes d e)
+  nobody : begins g ≡ []
+  nobody = nobody_before g.config g.shards (λ d y h. is_shard d y (omega (arith, h, count)))
+
+  agree_at : (d e : ℕ) → d < length desks → e < length desks → Agrees (posts (begins g) (journal_at g.shards d) e) (gots (journal_at g.shards e) d) (over_in g.shards g.lanes d e)
   agree_at d e h k =
       let x : DeskState = some_desk desks d h in
       let from = (whole d x h).accounts in
       let to = (whole e x k).accounts in
       let first = (whole d x h).fit.first in
-      let sent : posts [] (get_or desks d x).shard.journal e ≡ get_or (get_or desks d x).outs.posted e [] ++ get_or (get_or desks d x).shard.outbox e []
-      = subst (λ b. posts b (get_or desks d x).shard.journal e ≡ get_or (get_or desks d x).outs.posted e [] ++ get_or (get_or desks d x).shard.outbox e []) first (from.posted e (omega (arith, k, desks_at d x h))) in
+      let sent : posts (begins g) (get_or desks d x).shard.journal e ≡ get_or (get_or desks d x).outs.posted e [] ++ get_or (get_or desks d x).shard.outbox e []
+      = subst (λ b. posts b (get_or desks d x).shard.journal e ≡ get_or (get_or desks d x).outs.posted e [] ++ get_or (get_or desks d x).shard.outbox e []) (first ∙ sym nobody) (from.posted e (omega (arith, k, desks_at d x h))) in
       let got : Agrees (get_or (get_or desks e x).ins.collected d []) (gots (get_or desks e x).shard.journal d) (held_from d (get_or desks e x).shard.hold) = to.collected d (omega (arith, h, desks_at e x k)) in
       let left = gathers.left.lanes d e (omega (arith, h, ends_count)) (omega (arith, k, ends_count)) in
       let posted : get_or (get_or desks d x).outs.posted e [] ≡ get_or (get_or desks e x).ins.collected d [] ++ get_or g.lanes (d * length g.shards + e) []
       = sym (posted_at d e x h) ∙ left ∙ ap (λ z. z ++ get_or g.lanes (d * length (all_ends desks) + e) []) (collected_at e d x k)
       ∙ ap (λ n. get_or (get_or desks e x).ins.collected d [] ++ get_or g.lanes (d * n + e) []) (ends_count ∙ sym count) in
       rw (journal_of d x h, journal_of e x k, box_of d e x h, hold_of e x k)
-      (lane_agrees (posts [] (get_or desks d x).shard.journal e) (get_or (get_or desks d x).outs.posted e []) (get_or (get_or desks d x).shard.outbox e []) (get_or (get_or desks e x).ins.collected d [])
+      (lane_agrees (posts (begins g) (get_or desks d x).shard.journal e) (get_or (get_or desks d x).outs.posted e []) (get_or (get_or desks d x).shard.outbox e []) (get_or (get_or desks e x).ins.collected d [])
       (get_or g.lanes (d * length g.shards + e) []) (gots (get_or desks e x).shard.journal d) (held_from d (get_or desks e x).shard.hold)
       sent posted got)
 
   -- whoever was seen to have ended has
   seen_at : (d : ℕ) (x : DeskState) → d < length desks → (k : ℕ) (r : Read) → get_elem? (get_or desks d x).sight.reads k ≡ some r → (p : Pid) → HasEndOf p r
-      → (n : ℕ) → r.stamp ≡ Some n → (m : ℕ) → n < m → is_ended (life [] (events (stamped_below m (journal_at g.shards p.shard))) p) ≡ true
+      → (n : ℕ) → r.stamp ≡ Some n → (m : ℕ) → n < m → is_ended (life (begins g) (events (stamped_below m (journal_at g.shards p.shard))) p) ≡ true
   seen_at d x h k r at p ends n stamp m later =
       let t = true_read g.config desks gathers.node whole audited d x h k r at p ends n stamp m later in
-      subst (λ j. is_ended (life [] (events (stamped_below m j)) p) ≡ true) (sym (journal_of p.shard x t.0)) t.1
+      subst (λ j. is_ended (life (begins g) (events (stamped_below m j)) p) ≡ true) (sym (journal_of p.shard x t.0))
+      (subst (λ b. is_ended (life b (events (stamped_below m (get_or desks p.shard x).shard.journal)) p) ≡ true) (sym nobody) t.1)
 
   pub reads_true : ReadsAreTrue desks g
   reads_true d x h k r at p ends = go r.stamp refl
     where
-      go : (o : Option ℕ) → r.stamp ≡ o → MatchOption o (Unit {0}) (λ n. is_ended (life [] (events (stamped_below (n + 1) (journal_at g.shards p.shard))) p) ≡ true)
+      go : (o : Option ℕ) → r.stamp ≡ o → MatchOption o (Unit {0}) (λ n. is_ended (life (begins g) (events (stamped_below (n + 1) (journal_at g.shards p.shard))) p) ≡ true)
       go None stamp = tt
       go (Some n) stamp = seen_at d x h k r at p ends n stamp (n + 1) (omega arith)
 
   -- so each refused call was to such a one
-  refused_true : (d : ℕ) (x : DeskState) → d < length desks → (noted : List Stamped) → AllSeen (get_or desks d x).sight.reads noted → AllTrueRefusals [] (journal_at g.shards) noted
+  refused_true : (d : ℕ) (x : DeskState) → d < length desks → (noted : List Stamped) → AllSeen (get_or desks d x).sight.reads noted → AllTrueRefusals (begins g) (journal_at g.shards) noted
   refused_true d x h [] all = tt
   refused_true d x h (s ∷ noted) all = (one s.event all.0, refused_true d x h noted all.1)
     where
-      one : (e : Event) → IsSeen (get_or desks d x).sight.reads s.stamp e → IsTrueRefusal [] (journal_at g.shards) s.stamp e
+      one : (e : Event) → IsSeen (get_or desks d x).sight.reads s.stamp e → IsTrueRefusal (begins g) (journal_at g.shards) s.stamp e
       one (Refused a b) seen = seen_at d x h seen.0 seen.1 seen.3 b seen.4 seen.2 seen.5 s.stamp seen.6
       one _ seen = tt
 
-  refusals_at : RefusalsAreTrue [] (journal_at g.shards)
+  refusals_at : RefusalsAreTrue (begins g) (journal_at g.shards)
   refusals_at d =
       ⊎_elim
       (λ (h : d < length g.shards).
       let k : d < length desks = omega (arith, h, count) in
       let x : DeskState = some_desk desks d k in
-      subst (AllTrueRefusals [] (journal_at g.shards)) (sym (journal_of d x k)) (refused_true d x k (get_or desks d x).shard.journal (whole d x k).seated.seen))
+      subst (AllTrueRefusals (begins g) (journal_at g.shards)) (sym (journal_of d x k)) (refused_true d x k (get_or desks d x).shard.journal (whole d x k).seated.seen))
       (λ (h : length g.shards ≤ d).
-      subst (AllTrueRefusals [] (journal_at g.shards))
+      subst (AllTrueRefusals (begins g) (journal_at g.shards))
       (sym (get_or_past (map (λ (s : ShardState). s.journal) g.shards) d [] (omega (arith, length-map g.shards (λ (s : ShardState). s.journal))))) tt)
       (cases_lt d (length g.shards))
 

@@ -3,12 +3,12 @@ use Rattle.std.specs.Prelude.{◌≡◌, ℕ, ◌+◌, ◌<◌, true, List, [], 
 use mathlib.Core.Option.{some}
 use lib.ListN.{get_elem?}
 use Rattle.pt_signal.specs.declared.pid.Pid.{Pid}
-use Rattle.pt_events.specs.History.{is_ended, life}
+use Rattle.pt_events.specs.History.{Start, is_ended, life}
 use Rattle.pt_events.specs.Journal.{Journals, events}
 use Rattle.pt_events.specs.Refusals.{stamped_below}
 use Rattle.pt_directory.specs.declared.view.Read.{Read}
 use Rattle.pt_carrier.specs.Node.{AreLeft}
-use Rattle.pt_gathered.specs.Gathered.{GatheredState, journals}
+use Rattle.pt_gathered.specs.Gathered.{GatheredState, begins, journals}
 use Rattle.pt_desk.specs.DeskState.{DeskState}
 use Rattle.pt_desk.specs.Sight.{HasEndOf}
 use Rattle.pt_node.specs.Desks.{AreDesksOf, all_ends, all_shards}
@@ -25,12 +25,12 @@ HasJournalsOf desks g = (length g.shards ≡ length desks) × ((d : ℕ) → jou
 
 -- whatever a desk has read as an end was one: the pids of that slot, up to the version that it found, have ended by
 -- the events of their own desk, and none of these ends has a greater stamp
-abbrev pub IsTrueRead : Journals → Read → Type 0
-IsTrueRead journal r =
+abbrev pub IsTrueRead : Start → Journals → Read → Type 0
+IsTrueRead start journal r =
     (p : Pid) → HasEndOf p r
-    → MatchOption r.stamp (Unit {0}) (λ n. is_ended (life [] (events (stamped_below (n + 1) (journal p.shard))) p) ≡ true)
+    → MatchOption r.stamp (Unit {0}) (λ n. is_ended (life start (events (stamped_below (n + 1) (journal p.shard))) p) ≡ true)
 
 abbrev pub ReadsAreTrue : List DeskState → GatheredState → Type 0
 ReadsAreTrue desks g =
     (d : ℕ) (x : DeskState) → d < length desks → (k : ℕ) (r : Read) → get_elem? (slice_index_or desks d x).sight.reads k ≡ some r
-    → IsTrueRead (journals g) r
+    → IsTrueRead (begins g) (journals g) r

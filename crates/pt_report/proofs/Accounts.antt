@@ -5,7 +5,7 @@ use Rattle.std.proofs.lemmas.Grind.{flat_map-append}
 use Rattle.std.proofs.lemmas.List.{append-nil, take_all}
 use Rattle.std.specs.Io.KnownBytes.{Appends, Keeps}
 use Rattle.pt_signal.specs.declared.pid.Pid.{Pid}
-use Rattle.pt_events.specs.History.{Past}
+use Rattle.pt_events.specs.History.{Past, Start}
 use Rattle.pt_events.specs.Journal.{Journals, events}
 use Rattle.pt_lives.specs.declared.account.Account.{Account}
 use Rattle.pt_lives.specs.LivesState.{InEveryMerge, account_in}
@@ -16,29 +16,29 @@ use Rattle.pt_report.proofs.Writing.{appends_then, appends_keeps}
 pub told_line : (old new : Option (List ℕ)) (p : Pid) (a told : Option Account) → a ≡ told → Appends old new (account_line p a) → Appends old new (account_line p told)
 told_line old new p a told e h = subst (λ o. Appends old new (account_line p o)) e h
 
-one_more : (past : Past) (pids : List Pid) (i : ℕ) (d : Pid) → i < length pids
-    → account_lines past (take i pids) ++ account_line (get_or pids i d) (account_in past (get_or pids i d)) ≡ account_lines past (take (i + 1) pids)
-one_more past pids i d within =
-    let f : Pid → List ℕ = λ p. account_line p (account_in past p) in
+one_more : (start : Start) (past : Past) (pids : List Pid) (i : ℕ) (d : Pid) → i < length pids
+    → account_lines start past (take i pids) ++ account_line (get_or pids i d) (account_in start past (get_or pids i d)) ≡ account_lines start past (take (i + 1) pids)
+one_more start past pids i d within =
+    let f : Pid → List ℕ = λ p. account_line p (account_in start past p) in
     let last = f (get_or pids i d) in
-    ap (λ z. account_lines past (take i pids) ++ z) (sym (append-nil last))
+    ap (λ z. account_lines start past (take i pids) ++ z) (sym (append-nil last))
     ∙ sym (flat_map-append f (take i pids) (get_or pids i d ∷ []))
-    ∙ ap (account_lines past) (sym (take-suc pids i d within) ∙ ap (λ n. take n pids) (sym (add-one i)))
+    ∙ ap (account_lines start past) (sym (take-suc pids i d within) ∙ ap (λ n. take n pids) (sym (add-one i)))
 
-pub next_lines : (journals : Journals) (pids : List Pid) (i : ℕ) (d : Pid) (old mid new : Option (List ℕ)) → i < length pids
-    → InEveryMerge journals (λ past. Appends old mid (account_lines past (take i pids)))
-    → InEveryMerge journals (λ past. Appends mid new (account_line (get_or pids i d) (account_in past (get_or pids i d))))
-    → InEveryMerge journals (λ past. Appends old new (account_lines past (take (i + 1) pids)))
-next_lines journals pids i d old mid new within before line merged is =
-    subst (λ bs. Appends old new bs) (one_more (events merged) pids i d within) (appends_then old mid new _ _ (before merged is) (line merged is))
+pub next_lines : (start : Start) (journals : Journals) (pids : List Pid) (i : ℕ) (d : Pid) (old mid new : Option (List ℕ)) → i < length pids
+    → InEveryMerge journals (λ past. Appends old mid (account_lines start past (take i pids)))
+    → InEveryMerge journals (λ past. Appends mid new (account_line (get_or pids i d) (account_in start past (get_or pids i d))))
+    → InEveryMerge journals (λ past. Appends old new (account_lines start past (take (i + 1) pids)))
+next_lines start journals pids i d old mid new within before line merged is =
+    subst (λ bs. Appends old new bs) (one_more start (events merged) pids i d within) (appends_then old mid new _ _ (before merged is) (line merged is))
 
-pub all_lines : (past : Past) (pids : List Pid) (n : ℕ) (old new : Option (List ℕ)) → length pids ≤ n
-    → Appends old new (account_lines past (take n pids)) → Appends old new (account_lines past pids ++ [])
-all_lines past pids n old new all h =
-    subst (λ bs. Appends old new bs) (ap (account_lines past) (take_all n pids all) ∙ sym (append-nil (account_lines past pids))) h
+pub all_lines : (start : Start) (past : Past) (pids : List Pid) (n : ℕ) (old new : Option (List ℕ)) → length pids ≤ n
+    → Appends old new (account_lines start past (take n pids)) → Appends old new (account_lines start past pids ++ [])
+all_lines start past pids n old new all h =
+    subst (λ bs. Appends old new bs) (ap (account_lines start past) (take_all n pids all) ∙ sym (append-nil (account_lines start past pids))) h
 
 -- and then the totals, and what the writer held back is passed on
-pub then_totals : (past : Past) (pids : List Pid) (totals : List ℕ) (old mid new last : Option (List ℕ))
-    → Appends old mid (account_lines past pids ++ []) → Appends mid new totals → Keeps new last → Appends old last (account_lines past pids ++ totals)
-then_totals past pids totals old mid new last lines more kept =
-    appends_keeps old new last _ (appends_then old mid new (account_lines past pids) totals (subst (λ bs. Appends old mid bs) (append-nil (account_lines past pids)) lines) more) kept
+pub then_totals : (start : Start) (past : Past) (pids : List Pid) (totals : List ℕ) (old mid new last : Option (List ℕ))
+    → Appends old mid (account_lines start past pids ++ []) → Appends mid new totals → Keeps new last → Appends old last (account_lines start past pids ++ totals)
+then_totals start past pids totals old mid new last lines more kept =
+    appends_keeps old new last _ (appends_then old mid new (account_lines start past pids) totals (subst (λ bs. Appends old mid bs) (append-nil (account_lines start past pids)) lines) more) kept

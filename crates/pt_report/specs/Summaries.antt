@@ -3,10 +3,10 @@ use Rattle.std.specs.Prelude.{◌≡◌, ℕ, ◌-◌, ◌^◌, ◌++◌, min, L
 use Rattle.std.specs.List.{flat_map}
 use Rattle.std.specs.Io.KnownBytes.{Appends}
 use Rattle.pt_signal.specs.declared.pid.Pid.{Pid}
-use Rattle.pt_events.specs.History.{Past}
+use Rattle.pt_events.specs.History.{Past, Start}
 use Rattle.pt_lives.specs.declared.account.Account.{Account}
 use Rattle.pt_lives.specs.LivesState.{AreAllPids, InEveryMerge, account_in}
-use Rattle.pt_gathered.specs.Gathered.{GatheredState, journals}
+use Rattle.pt_gathered.specs.Gathered.{GatheredState, begins, journals}
 use Rattle.pt_gathered.specs.LeftOvers.{all_left}
 use Rattle.pt_gathered.specs.Quiet.{QuietState}
 use Rattle.pt_gathered.specs.Settling.{event_count, Settles, NothingLeft}
@@ -23,13 +23,13 @@ account_line p None = []
 account_line p (Some a) = account_text p a ++ codes "\n"
 
 -- the lines of these processes, with what the history says of each
-abbrev pub account_lines : Past → List Pid → List ℕ
-account_lines past pids = flat_map (λ p. account_line p (account_in past p)) pids
+abbrev pub account_lines : Start → Past → List Pid → List ℕ
+account_lines start past pids = flat_map (λ p. account_line p (account_in start past p)) pids
 
 -- a line a process that was ever born, by shard, slot and version, whichever merge of the journals is read, and then more
 abbrev pub AppendsAccounts : List ℕ → QuietState → Option (List ℕ) → Option (List ℕ) → Type 0
 AppendsAccounts more q old new =
-    (pids : List Pid) × InEveryMerge (journals q.gathered) (λ past. AreAllPids past pids × Appends old new (account_lines past pids ++ more))
+    (pids : List Pid) × InEveryMerge (journals q.gathered) (λ past. AreAllPids (begins q.gathered) past pids × Appends old new (account_lines (begins q.gathered) past pids ++ more))
 
 -- the totals of a gathered node, and of the same one settled
 pub record Totalled (g : GatheredState) (q : QuietState) (t : Totals) : Type 0 where

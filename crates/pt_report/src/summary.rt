@@ -5,7 +5,7 @@ ghost use Rattle.pt_gathered.specs.Settling.{event_count};
 ghost use Rattle.pt_report.specs.Lines.{totals_text};
 ghost use Rattle.std.specs.Io.KnownBytes.{Appends};
 ghost use Rattle.pt_lives.specs.LivesState.{InEveryMerge, account_in};
-ghost use Rattle.pt_gathered.specs.Gathered.{journals};
+ghost use Rattle.pt_gathered.specs.Gathered.{begins, journals};
 ghost use Rattle.pt_report.specs.Summaries.{Summarizes, AppendsAccounts, account_line};
 ghost use Rattle.pt_report.specs.Reports.{IsOfSummary};
 ghost use Rattle.pt_report.specs.declared.fault.ReportFault.TheVariants.{File};
@@ -76,7 +76,7 @@ fn write_accounts<W: Write>(out: &mut W, quiet: &Quiet) -> io::Result<()>
 /// Writes the line of a process, if it was born.
 #[tactic(auto, using(crate::proofs::Accounts::told_line))]
 fn write_account<W: Write>(out: &mut W, quiet: &Quiet, pid: Pid) -> io::Result<()>
-    ensures { OnOk result (InEveryMerge (journals quiet.now.gathered) (λ past. Appends (W.contents out.old) (W.contents out.new) (account_line pid (account_in past pid)))) }
+    ensures { OnOk result (InEveryMerge (journals quiet.now.gathered) (λ past. Appends (W.contents out.old) (W.contents out.new) (account_line pid (account_in (begins quiet.now.gathered) past pid)))) }
 {
     match quiet.account(pid) {
         Some(account) => {
