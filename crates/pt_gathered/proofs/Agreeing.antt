@@ -14,7 +14,8 @@ use Rattle.pt_events.proofs.Agreeing.{Agrees-posted, Agrees-got}
 use Rattle.pt_shard.specs.declared.config.Config.{Config}
 use Rattle.pt_shard.specs.ShardState.{ShardState, came}
 use Rattle.pt_gathered.specs.Gathered.{GatheredState, IsGathered, IsShardOf, begins, journals, over_in}
-use Rattle.pt_gathered.proofs.Starts.{begins_empty}
+use Rattle.pt_gathered.proofs.Starts.{start_same}
+use Rattle.pt_gathered.proofs.Owned.{local_same}
 use Rattle.pt_gathered.specs.Settling.{receipt, replies_to, Receives}
 
 -- letters of a lane -------------------------------------------------------------------
@@ -63,14 +64,17 @@ pub at_map : {X Y : Type 0} (f : X → Y) (P : Y → Type 0) (xs : List X) (k : 
 at_map f P [] k d h p = absurd (omega arith)
 at_map f P (x ∷ xs) k d h p = subst P (sym (get_or-map f (x ∷ xs) k x d h)) (p x)
 
-local_as : (config : Config) (k : ℕ) (s : ShardState) → IsShardOf config k s → IsLocal [] config.start config.top_version k s.journal
+pub local_as : (config : Config) (k : ℕ) (s : ShardState) → IsShardOf config k s → IsLocal s.start config.start config.top_version k s.journal
 local_as config k s w =
-    subst (λ c. IsLocal [] c.start c.top_version k s.journal) w.config_is
-    (subst (λ n. IsLocal [] s.config.start s.config.top_version n s.journal) w.number (subst (λ b. IsLocal b s.config.start s.config.top_version s.number s.journal) w.fit.first w.fit.local))
+    subst (λ c. IsLocal s.start c.start c.top_version k s.journal) w.config_is
+    (subst (λ n. IsLocal s.start s.config.start s.config.top_version n s.journal) w.number w.fit.local)
 
 module _ (g : GatheredState) (whole : IsGathered g) (d e : ℕ) (d_in : d < length g.shards) (e_in : e < length g.shards) where
   pub local_at : (k : ℕ) → k < length g.shards → IsLocal (begins g) g.config.start g.config.top_version k (journals g k)
-  local_at k h = at_map (λ (s : ShardState). s.journal) (IsLocal (begins g) g.config.start g.config.top_version k) g.shards k [] h (λ x. subst (λ b. IsLocal b g.config.start g.config.top_version k (get_or g.shards k x).journal) (sym (begins_empty g whole)) (local_as g.config k _ (whole.shards k x h)))
+  local_at k h =
+      at_map (λ (s : ShardState). s.journal) (IsLocal (begins g) g.config.start g.config.top_version k) g.shards k [] h (λ x.
+          let s : ShardState = get_or g.shards k x in
+          local_same s.start (begins g) k (start_same g.config g.shards whole.shards k x h) g.config.start g.config.top_version s.journal (local_as g.config k s (whole.shards k x h)))
 
   pub between_ends : AllBetween d e (over_in g.shards g.lanes d e)
   between_ends =

@@ -21,8 +21,9 @@ use Rattle.pt_shard.specs.Fit.{IsFit}
 use Rattle.pt_gathered.specs.Gathered.{GatheredState, IsGathered, begins, journals, over}
 use Rattle.pt_gathered.specs.Settling.{load_of, Settles, NothingLeft}
 use Rattle.pt_gathered.specs.Lawful.{StandsAt, IsLegalNode, KeepsHeadline, IsQuietNode, IsBounded, LinksStand, WatchesStand, AnswersHold, QuestionsAnswered}
-use Rattle.pt_gathered.proofs.Starts.{begins_empty}
-use Rattle.pt_gathered.proofs.Agreeing.{local_at, at_map}
+use Rattle.pt_gathered.proofs.Starts.{begins_empty, start_same, nobody_beyond}
+use Rattle.pt_gathered.proofs.Owned.{posts_same}
+use Rattle.pt_gathered.proofs.Agreeing.{local_at, local_as, at_map}
 use Rattle.pt_gathered.proofs.Overs.{over_both, over_left, over_right}
 
 module _ (g : GatheredState) (whole : IsGathered g) where
@@ -39,11 +40,12 @@ module _ (g : GatheredState) (whole : IsGathered g) where
   beyond : (d : ℕ) (x : ShardState) → d < length g.shards → (e : ℕ) → length g.shards ≤ e → (get_or g.shards d x).config.desks ≤ e
   beyond d x h e k = let a = ap (λ c. c.desks) (whole.shards d x h).config_is in let b = whole.desks in omega arith
 
-  posts_near_of : (s : ShardState) → IsFit s → (e : ℕ) → s.config.desks ≤ e → posts (begins g) s.journal e ≡ []
-  posts_near_of s fit e h = subst (λ b. posts b s.journal e ≡ []) (fit.first ∙ sym none) (fit.posts_near e h)
-
   posts_out : (d e : ℕ) → d < length g.shards → length g.shards ≤ e → posts (begins g) (journals g d) e ≡ []
-  posts_out d e h k = at_map (λ (s : ShardState). s.journal) (λ j. posts (begins g) j e ≡ []) g.shards d [] h (λ x. posts_near_of (get_or g.shards d x) (whole.shards d x h).fit e (beyond d x h e k))
+  posts_out d e h k =
+      at_map (λ (s : ShardState). s.journal) (λ j. posts (begins g) j e ≡ []) g.shards d [] h (λ x.
+          let s : ShardState = get_or g.shards d x in
+          sym (posts_same s.start (begins g) d (start_same g.config g.shards whole.shards d x h) g.config.start g.config.top_version s.journal (local_as g.config d s (whole.shards d x h)) e)
+          ∙ (whole.shards d x h).fit.posts_near e (beyond d x h e k))
 
   gots_out : (e d : ℕ) → e < length g.shards → length g.shards ≤ d → gots (journals g e) d ≡ []
   gots_out e d h k = at_map (λ (s : ShardState). s.journal) (λ j. gots j d ≡ []) g.shards e [] h (λ x. (whole.shards e x h).fit.gots_near d (beyond e x h d k))
@@ -70,7 +72,7 @@ module _ (g : GatheredState) (whole : IsGathered g) where
   legal_node law merged m = law (begins g) g.config.start g.config.top_version (journals g) (over g) merged locals lanes_agree whole.refusals m
 
   has_desks : HasDesks (length g.shards) (begins g) (journals g) (over g)
-  has_desks = record { journals = past_end; lanes = over_right g; begun = λ p h. subst (λ b. at_start b p ≡ unborn) (sym none) refl }
+  has_desks = record { journals = past_end; lanes = over_right g; begun = nobody_beyond g.config g.shards whole.shards }
 
   -- the load desk by desk is that of the history
   pub load_is : LoadByDesk → (merged : List Stamped) → IsMerge (journals g) merged → load_of g ≡ load (begins g) (events merged)

@@ -1,5 +1,6 @@
 pub mod Overs
 pub mod Starts
+pub mod Owned
 pub mod Loads
 pub mod Agreeing
 pub mod Ordering

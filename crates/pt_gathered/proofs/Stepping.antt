@@ -4,8 +4,10 @@ use Rattle.std.specs.Prelude.{slice_get, ◌⊎◌, Ok, Err}
 use Rattle.std.proofs.lemmas.Bool.{eqb-true, eq-eqb, ne_eqb, both_ways, cases_order}
 use Rattle.std.proofs.lemmas.List.{get_or_default, get_or-set_same, get_or-set_other, length-set}
 use Rattle.pt_signal.specs.declared.letter.Letter.{Letter}
+use Rattle.pt_signal.specs.declared.pid.Pid.{Pid}
 use Rattle.pt_events.specs.declared.event.Stamped.{Stamped}
-use Rattle.pt_events.specs.Journal.{clock}
+use Rattle.pt_events.specs.History.{at_start, sent_by}
+use Rattle.pt_events.specs.Journal.{events, letter, clock}
 use Rattle.pt_events.specs.Refusals.{AllTrueRefusals, RefusalsAreTrue}
 use Rattle.pt_events.proofs.Refusals.{still_true_refusals}
 use Rattle.pt_gathered.proofs.Boxes.{put_at}
@@ -14,10 +16,11 @@ use Rattle.pt_carrier.proofs.Rooms.{place_before}
 use Rattle.pt_shard.specs.declared.config.Config.{Config}
 use Rattle.pt_shard.specs.declared.stop.Stop.{Stop}
 use Rattle.pt_shard.specs.declared.stop.Stop.TheVariants.{Memory, Worn}
-use Rattle.pt_shard.specs.ShardState.{ShardState, put_out, handled, Handles}
+use Rattle.pt_shard.specs.ShardState.{ShardState, came, put_out, handled, Handles}
 use Rattle.pt_shard.specs.Outbox.{held_from}
 use Rattle.pt_shard.specs.Fit.{IsFit}
-use Rattle.pt_gathered.proofs.Starts.{nobody_before, same_starts}
+use Rattle.pt_gathered.proofs.Starts.{start_same, same_starts}
+use Rattle.pt_gathered.proofs.Owned.{sent_same}
 use Rattle.pt_gathered.specs.Gathered.{GatheredState, start_of, IsGathered, IsShardOf, journal_at, box_at, hold_at, over_in}
 use Rattle.pt_gathered.specs.Settling.{receipt, replies, replies_to, Receives, Steps}
 use Rattle.pt_gathered.specs.Taking.{bare, AreShards, TakesOut}
@@ -232,9 +235,6 @@ module _ (config : Config) (shards : List ShardState) (lanes : List (List Letter
   abbrev old_node : GatheredState
   old_node = record { config = config; shards = shards; lanes = lanes }
 
-  nobody : start_of shards ≡ []
-  nobody = nobody_before config shards whole.shards
-
   desk : IsShardOf config e s
   desk = subst (IsShardOf config e) (sym is) (whole.shards e s e_in)
 
@@ -268,6 +268,12 @@ module _ (config : Config) (shards : List ShardState) (lanes : List (List Letter
     same_begins =
         same_starts shards shards2 (map-through bare (λ (z : ShardState). z.start) shards2 (set shards e s') took.bare_same ∙ map-set_same (λ (z : ShardState). z.start) shards e s s' e_in is (ap (λ (z : ShardState). z.start) after))
 
+    -- what the receipt sends, by the start of its desk and by that of all
+    same_sent : sent_by s.start (events s.journal) (came l) ≡ sent_by (start_of shards) (events s.journal) (came l)
+    same_sent =
+        sent_same s.start (start_of shards) e (subst (λ (z : ShardState). (p : Pid) → p.shard ≡ e → at_start z.start p ≡ at_start (start_of shards) p) (sym is) (start_same config shards whole.shards e s e_in))
+        (events s.journal) (came l) ends_are.1
+
     stamp_is : (receipt config.start e l (journal_at shards e)).stamp ≡ max s.clock l.stamp + 1
     stamp_is = ap (λ n. n + 1) (sym worn_at)
 
@@ -291,7 +297,8 @@ module _ (config : Config) (shards : List ShardState) (lanes : List (List Letter
         room = omega (arith, hk, desk.fit.boxes, ap (λ c. c.desks) desk.config_is, whole.desks)
 
         new_box : s'.outbox ≡ put_out s.outbox (replies (start_of shards) config.start e l (journal_at shards e))
-        new_box = ap (λ (z : ShardState). z.outbox) after ∙ rw (stamp_is, journal_is, desk.fit.first, nobody) refl
+        new_box =
+            ap (λ (z : ShardState). z.outbox) after ∙ rw (stamp_is, journal_is) (ap (λ z. put_out s.outbox (map (letter (max s.clock l.stamp + 1)) z)) same_sent)
 
         go : (b : Bool) → (i == e) ≡ b → get_or (cond (i == e) s'.outbox (get_or (map (λ (z : ShardState). z.outbox) shards) i [])) k []
             ≡ box_at shards i k ++ cond (i == e) (replies_to (start_of shards) config.start e l (journal_at shards e) k) []

@@ -20,7 +20,10 @@ use Rattle.pt_shard.specs.declared.config.Config.{Config}
 use Rattle.pt_shard.specs.ShardState.{ShardState}
 use Rattle.pt_shard.specs.Outbox.{held_from}
 use Rattle.pt_gathered.specs.Gathered.{GatheredState, IsGathered, begins, IsShardOf, journal_at, box_at, hold_at, over_in}
-use Rattle.pt_gathered.proofs.Starts.{nobody_before}
+use Rattle.pt_gathered.specs.Taking.{AreShards}
+use Rattle.pt_gathered.proofs.Starts.{nobody_before, start_same}
+use Rattle.pt_gathered.proofs.Agreeing.{local_as}
+use Rattle.pt_gathered.proofs.Owned.{posts_same}
 use Rattle.pt_events.proofs.Agreeing.{Agrees-posted}
 use Rattle.pt_directory.specs.declared.view.Read.{Read}
 use Rattle.pt_desk.specs.Sight.{HasEndOf, IsSeen, AllSeen}
@@ -83,17 +86,23 @@ module _ (desks : List DeskState) (g : GatheredState) (whole : AreWhole desks) (
   desks_at : (d : ℕ) (x : DeskState) → d < length desks → (get_or desks d x).shard.config.desks ≡ length desks
   desks_at d x h = ap (λ (c : Config). c.desks) (gathers.node.configs d x h) ∙ sym gathers.node.count
 
+  are_shards : AreShards g.config g.shards
+  are_shards d y h = is_shard d y (omega (arith, h, count))
+
   nobody : begins g ≡ []
-  nobody = nobody_before g.config g.shards (λ d y h. is_shard d y (omega (arith, h, count)))
+  nobody = nobody_before g.config g.shards are_shards
 
   agree_at : (d e : ℕ) → d < length desks → e < length desks → Agrees (posts (begins g) (journal_at g.shards d) e) (gots (journal_at g.shards e) d) (over_in g.shards g.lanes d e)
   agree_at d e h k =
       let x : DeskState = some_desk desks d h in
       let from = (whole d x h).accounts in
       let to = (whole e x k).accounts in
-      let first = (whole d x h).fit.first in
+      let z : ShardState = get_or g.shards d x.shard in
+      let at : z ≡ (get_or desks d x).shard = shard_at d x x.shard h in
+      let own : posts z.start z.journal e ≡ posts (begins g) z.journal e
+      = posts_same z.start (begins g) d (start_same g.config g.shards are_shards d x.shard (omega (arith, h, count))) g.config.start g.config.top_version z.journal (local_as g.config d z (is_shard d x.shard h)) e in
       let sent : posts (begins g) (get_or desks d x).shard.journal e ≡ get_or (get_or desks d x).outs.posted e [] ++ get_or (get_or desks d x).shard.outbox e []
-      = subst (λ b. posts b (get_or desks d x).shard.journal e ≡ get_or (get_or desks d x).outs.posted e [] ++ get_or (get_or desks d x).shard.outbox e []) (first ∙ sym nobody) (from.posted e (omega (arith, k, desks_at d x h))) in
+      = subst (λ (s : ShardState). posts (begins g) s.journal e ≡ posts s.start s.journal e) at (sym own) ∙ from.posted e (omega (arith, k, desks_at d x h)) in
       let got : Agrees (get_or (get_or desks e x).ins.collected d []) (gots (get_or desks e x).shard.journal d) (held_from d (get_or desks e x).shard.hold) = to.collected d (omega (arith, h, desks_at e x k)) in
       let left = gathers.left.lanes d e (omega (arith, h, ends_count)) (omega (arith, k, ends_count)) in
       let posted : get_or (get_or desks d x).outs.posted e [] ≡ get_or (get_or desks e x).ins.collected d [] ++ get_or g.lanes (d * length g.shards + e) []
