@@ -8,3 +8,4 @@ pub mod Keeping
 pub mod Watching
 pub mod Monitors
 pub mod Quiet
+pub mod MadeBefore

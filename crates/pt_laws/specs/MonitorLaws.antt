@@ -4,7 +4,7 @@ use Rattle.pt_signal.specs.declared.pid.Pid.{Pid}
 use Rattle.pt_signal.specs.declared.ids.Ref.{Ref}
 use Rattle.pt_signal.specs.Values.{same_ref}
 use Rattle.pt_events.specs.declared.event.Stamped.{Stamped}
-use Rattle.pt_events.specs.History.{Past, Start, IsLegal, life, state, alive, arrived_since}
+use Rattle.pt_events.specs.History.{at_start, Past, Start, IsLegal, life, state, alive, arrived_since}
 use Rattle.pt_events.specs.Journal.{IsLocal, events}
 use Rattle.pt_laws.specs.Acts.{ActsMayCome}
 use Rattle.pt_laws.specs.Load.{IsQuiet}
@@ -71,3 +71,15 @@ abbrev pub QuietWatchOver : Type 0
 QuietWatchOver =
     (start : Start) (old past : Past) (w t : Pid) (m : Ref) → IsLeftBy start old → AllNewTo old past
     → IsLegal start past → IsQuiet start past → alive start past w ≡ false → kept_in w t m (life start past t) ≡ 0
+
+-- how often w made the monitor m of t: before the start, where it was open there, or since
+abbrev pub times_made : Start → Past → Pid → Pid → Ref → ℕ
+times_made start past w t m = open_in w t m (at_start start w) + said_to w t (is_monitor m) past
+
+-- so over every start that was left behind, where what was open there counts as made, and the DOWNs that arrived since count
+abbrev pub QuietMonitorSince : Type 0
+QuietMonitorSince =
+    (start : Start) (old past : Past) (w t : Pid) (m : Ref) → IsLeftBy start old → AllNewTo old past
+    → IsLegal start past → IsQuiet start past → alive start past w ≡ true → times_made start past w t m ≡ 1
+    → (demonitors_and_downs start past w m + kept_in w t m (life start past t) ≡ 1)
+    × (open_in w t m (life start past w) ≡ kept_in w t m (life start past t))

@@ -7,7 +7,7 @@ ghost use Rattle.pt_laws.specs.JournalLaws.{ReadLocally, SentLocally, JournalsSa
 ghost use Rattle.pt_laws.specs.Taken.{TakenByPosition};
 ghost use Rattle.pt_laws.specs.Laws.{CameOrFlies, SenderFront, MergeLegal};
 ghost use Rattle.pt_laws.specs.ResumedLaws.{ResumedLegal, ResumedSame, ResumedStart, ResumedTwice, EmptyIsLeft, LeftAgain, StampsNumber, BothNumber, StampsAreNew, OldRefsResumed};
-ghost use Rattle.pt_laws.specs.MonitorLaws.{OneDown, MadeOnce, MadeOnceLocal, EmptyHasOldRefs, MadeOnceOver, QuietMonitor, QuietWatch, QuietMonitorOver, QuietWatchOver};
+ghost use Rattle.pt_laws.specs.MonitorLaws.{OneDown, MadeOnce, MadeOnceLocal, EmptyHasOldRefs, MadeOnceOver, QuietMonitor, QuietWatch, QuietMonitorOver, QuietWatchOver, QuietMonitorSince};
 ghost use Rattle.pt_laws.specs.LoadLaws.{LoadFalls, ReceiptsBounded, QuietFlights, EmptyIsQuiet, OldestMayCome, OneReceipt, ReceiptLowers, LoadByDesk};
 ghost use Rattle.pt_laws.specs.Headline.{HeadlineHolds};
 ghost use Rattle.pt_laws.specs.Asking.{AnswersAreTrue, QuietAnswers};
@@ -148,12 +148,13 @@ pub fn load_by_desk_falls()
 
 /// In a quiet history each monitor of a live watcher was demonitored, or had its one `DOWN`, or is open and kept
 /// by its live target; no live target keeps a watch of a process that is not alive. The same holds over every
-/// start state that a legal and quiet history left behind.
+/// start state that a legal and quiet history left behind, counted from the very beginning, or since that start.
 pub fn quiet_monitors()
     ensures monitors { QuietMonitor }
     ensures watches { QuietWatch }
     ensures over_monitors { QuietMonitorOver }
     ensures over_watches { QuietWatchOver }
+    ensures since { QuietMonitorSince }
 {}
 
 /// A legal and quiet history, followed by one that is legal over its state and makes new link ids and references,

@@ -48,7 +48,7 @@ module _ (start : Start) (ok : IsStart start) (old : Past) (legal : IsLegal star
   pub keeps_once : KeepsEachOnce start → KeepsEachOnce (start_after start old)
   keeps_once h t w m = subst (λ f. count (same_watch m w) (state_of f).kept ≤ 1) (sym (started start ok old t)) (few (λ s. count (same_watch m w) s.kept) refl (life start old t) (kept_once start h t old w m))
 
-said_times-append : (w : Pid) (test : Signal → Bool) (new old : Past) → said_times w test (new ++ old) ≡ said_times w test new + said_times w test old
+pub said_times-append : (w : Pid) (test : Signal → Bool) (new old : Past) → said_times w test (new ++ old) ≡ said_times w test new + said_times w test old
 said_times-append w test [] old = omega arith
 said_times-append w test (e ∷ new) old = let ih = said_times-append w test new old in omega arith
 

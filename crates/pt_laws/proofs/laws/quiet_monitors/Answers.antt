@@ -3,9 +3,10 @@ use Rattle.pt_signal.specs.declared.pid.Pid.{Pid}
 use Rattle.pt_signal.specs.declared.ids.Ref.{Ref}
 use Rattle.pt_laws.specs.Resumed.{outcome, IsLeftBy}
 use Rattle.pt_events.specs.History.{Past, Start, Phase, unborn, living, ended, life}
-use Rattle.pt_laws.specs.MonitorLaws.{QuietMonitor, QuietWatch, demonitors_and_downs}
+use Rattle.pt_laws.specs.MonitorLaws.{QuietMonitor, QuietWatch, QuietMonitorOver, demonitors_and_downs}
 use Rattle.pt_laws.specs.Watch.{open_in, kept_in}
 use Rattle.pt_laws.proofs.monitoring.Quiet.{open_is_kept, kept_by_none, one_of_three}
+use Rattle.pt_laws.proofs.monitoring.MadeBefore.{since_start}
 use Rattle.pt_laws.proofs.living.Resumed.{over_legal, over_alive, over_outcome, over_living, over_flying}
 use Rattle.pt_laws.proofs.laws.quiet_monitors.Goals as goal
 
@@ -31,11 +32,17 @@ returns-clause-monitors c = monitors
 pub returns-clause-watches : goal.returns-clause-watches
 returns-clause-watches c = watches
 
-pub returns-clause-over_monitors : goal.returns-clause-over_monitors
-returns-clause-over_monitors c start old past w t m left fresh legal quiet lives said =
+over_monitors : QuietMonitorOver
+over_monitors start old past w t m left fresh legal quiet lives said =
     let r = monitors (past ++ old) w t m (over_legal [] start old left.legal left.quiet left.alike past fresh legal)
     (sym (over_flying [] start old left.legal left.quiet left.alike past) ∙ quiet) (sym (over_alive [] start old left.alike past w) ∙ lives) said in
     subst₂ (λ (k : ℕ) (g : Phase). (demonitors_and_downs [] (past ++ old) w m + k ≡ 1) × (open_in w t m g ≡ k)) (sym (same_kept start old past w t m left)) (sym (over_living [] start old left.alike past w lives)) r
+
+pub returns-clause-over_monitors : goal.returns-clause-over_monitors
+returns-clause-over_monitors c = over_monitors
+
+pub returns-clause-since : goal.returns-clause-since
+returns-clause-since c start old past w t m left fresh legal quiet lives made = since_start over_monitors start old past w t m left fresh legal quiet lives made
 
 pub returns-clause-over_watches : goal.returns-clause-over_watches
 returns-clause-over_watches c start old past w t m left fresh legal quiet gone =
