@@ -1,35 +1,30 @@
 -- The laws of histories, at a node whose desks were gathered.
-use Rattle.std.proofs.Common.{◌≡◌, ℕ, ◌<◌, ◌≤◌, true, false, List, [], length, map, get_or, refl, sym, ap, ◌∙◌, subst, arith, ⊎_elim}
+use Rattle.std.proofs.Common.{◌≡◌, ℕ, ◌<◌, ◌≤◌, List, [], length, map, get_or, refl, sym, ap, ◌∙◌, subst, arith, ⊎_elim}
 use Rattle.std.proofs.lemmas.Bool.{cases_lt}
 use Rattle.std.proofs.lemmas.List.{get_or_past, length-map}
 use Rattle.pt_signal.specs.declared.letter.Letter.{Letter}
-use Rattle.pt_signal.specs.Values.{same_pid}
 use Rattle.pt_events.specs.declared.event.Stamped.{Stamped}
-use Rattle.pt_events.specs.History.{Start, at_start, unborn, alive, IsLegal}
-use Rattle.pt_events.specs.Refusals.{RefusalsAreTrue}
 use Rattle.pt_events.specs.Journal.{events, content, posts, gots, Agrees, LanesAgree, IsLocal, IsMerge}
 use Rattle.pt_laws.specs.Asking.{AnswersAreTrue, QuietAnswers}
 use Rattle.pt_laws.specs.Headline.{HeadlineHolds}
 use Rattle.pt_laws.specs.Laws.{MergeLegal}
-use Rattle.pt_laws.specs.LinkLaws.{MergeLinks}
-use Rattle.pt_laws.specs.Links.{LinksAgree}
-use Rattle.pt_laws.specs.Load.{IsQuiet, load}
+use Rattle.pt_laws.specs.LinkLaws.{MergeLinksOver}
+use Rattle.pt_laws.specs.Load.{load}
 use Rattle.pt_laws.specs.LoadLaws.{EmptyIsQuiet, HasDesks, LoadByDesk}
-use Rattle.pt_laws.specs.MonitorLaws.{HasOldRefs, EmptyHasOldRefs, QuietMonitor, QuietWatch}
+use Rattle.pt_laws.specs.MonitorLaws.{QuietMonitorSince, QuietWatchOver}
+use Rattle.pt_laws.specs.Resumed.{AllNewTo}
+use Rattle.pt_laws.specs.ResumedLaws.{StampsAreNew}
 use Rattle.pt_shard.specs.ShardState.{ShardState}
 use Rattle.pt_shard.specs.Fit.{IsFit}
 use Rattle.pt_gathered.specs.Gathered.{GatheredState, IsGathered, begins, journals, over}
 use Rattle.pt_gathered.specs.Settling.{load_of, Settles, NothingLeft}
-use Rattle.pt_gathered.specs.Lawful.{StandsAt, IsLegalNode, KeepsHeadline, IsQuietNode, IsBounded, LinksStand, WatchesStand, AnswersHold, QuestionsAnswered}
-use Rattle.pt_gathered.proofs.Starts.{begins_empty, start_same, nobody_beyond}
+use Rattle.pt_gathered.specs.Lawful.{IsLegalNode, KeepsHeadline, IsQuietNode, IsBounded, LinksStand, WatchesStand, AnswersHold, QuestionsAnswered}
+use Rattle.pt_gathered.proofs.Starts.{start_same, nobody_beyond}
 use Rattle.pt_gathered.proofs.Owned.{posts_same}
 use Rattle.pt_gathered.proofs.Agreeing.{local_at, local_as, at_map}
 use Rattle.pt_gathered.proofs.Overs.{over_both, over_left, over_right}
 
 module _ (g : GatheredState) (whole : IsGathered g) where
-  none : begins g ≡ []
-  none = begins_empty g whole
-
   -- the journals of desks that the node has not are empty
   pub past_end : (d : ℕ) → length g.shards ≤ d → journals g d ≡ []
   past_end d h = get_or_past (map (λ (s : ShardState). s.journal) g.shards) d [] (omega (arith, length-map g.shards (λ (s : ShardState). s.journal)))
@@ -65,8 +60,8 @@ module _ (g : GatheredState) (whole : IsGathered g) where
       (⊎_elim (λ (k : e < length g.shards). gots_out e d k h) (λ (k : length g.shards ≤ e). ap (λ j. gots j d) (past_end e k)) (cases_lt e (length g.shards))) (over_left g d e h))
       (cases_lt d (length g.shards))
 
-  pub keeps_headline : HeadlineHolds → EmptyHasOldRefs → KeepsHeadline g
-  keeps_headline law empty = law (begins g) g.config.start g.config.top_version (journals g) (over g) (subst (HasOldRefs g.config.start) (sym none) (empty g.config.start)) locals lanes_agree
+  pub keeps_headline : HeadlineHolds → KeepsHeadline g
+  keeps_headline law = law (begins g) g.config.start g.config.top_version (journals g) (over g) whole.begun.refs locals lanes_agree
 
   pub legal_node : MergeLegal → IsLegalNode g
   legal_node law merged m = law (begins g) g.config.start g.config.top_version (journals g) (over g) merged locals lanes_agree whole.refusals m
@@ -88,21 +83,24 @@ module _ (g : GatheredState) (whole : IsGathered g) where
       let l = legal_node law merged m in
       (l.0, empty (begins g) (events merged) (λ d e. l.1 d e ∙ ap (map content) (nothing_over none d e)))
 
-  pub links_stand : IsQuietNode g → MergeLinks → LinksStand g
-  links_stand quiet links merged p q m =
-      let Links : Start → Type 0
-      = λ b. ((d : ℕ) → IsLocal b g.config.start g.config.top_version d (journals g d)) → LanesAgree b (journals g) (over g) → RefusalsAreTrue b (journals g) → IsQuiet b (events merged)
-      → same_pid p q ≡ false → alive b (events merged) p ≡ true → LinksAgree b (events merged) p q in
-      let law : Links [] = λ local lanes refusals still. links g.config.start g.config.top_version (journals g) (over g) merged p q local lanes refusals m still in
-      subst Links (sym none) law locals lanes_agree whole.refusals (quiet merged m).1
+  pub links_stand : IsQuietNode g → MergeLinksOver → LinksStand g
+  links_stand quiet links merged p q m other lives =
+      let b = whole.begun in
+      links (begins g) b.past g.config.start g.config.top_version (journals g) (over g) merged p q b.left b.known b.home b.numbered
+      locals lanes_agree whole.refusals m (quiet merged m).1 other lives
 
-  pub watches_stand : IsQuietNode g → QuietMonitor → QuietWatch → WatchesStand g
-  watches_stand quiet monitors watches merged w t m is =
-      let Watches : Start → Type 0
-      = λ b. IsLegal b (events merged) → IsQuiet b (events merged) → StandsAt b (events merged) w t m in
-      let law : Watches []
-      = λ legal still. (λ lives made. monitors (events merged) w t m legal still lives (omega (arith, made)), λ gone. watches (events merged) w t m legal still gone) in
-      subst Watches (sym none) law (quiet merged is).0 (quiet merged is).1
+  -- what the node made since it began is new to what was made before
+  made_new : StampsAreNew → (merged : List Stamped) → IsMerge (journals g) merged → AllNewTo whole.begun.past (events merged)
+  made_new law merged m = law (begins g) g.config.start g.config.top_version (journals g) merged whole.begun.past whole.begun.numbered locals m
+
+  pub watches_stand : IsQuietNode g → StampsAreNew → QuietMonitorSince → QuietWatchOver → WatchesStand g
+  watches_stand quiet stamps monitors watches merged w t m is =
+      let q = quiet merged is in
+      let b = whole.begun in
+      let new = made_new stamps merged is in (
+        λ lives made. monitors (begins g) b.past (events merged) w t m b.left new q.0 q.1 lives made,
+        λ gone. watches (begins g) b.past (events merged) w t m b.left new q.0 q.1 gone,
+      )
 
   pub answers_hold : MergeLegal → AnswersAreTrue → AnswersHold g
   answers_hold legal law merged q t m x is arrived = law (begins g) (events merged) q t m x (legal_node legal merged is).0 arrived

@@ -7,10 +7,10 @@ use Rattle.std.specs.List.{flat_map}
 use Rattle.pt_signal.specs.declared.pid.Pid.{Pid}
 use Rattle.pt_signal.specs.Values.{same_pid}
 use Rattle.pt_events.specs.History.{Start, at_start, phase_or_unborn, unborn}
-use Rattle.pt_laws.specs.Load.{IsStart}
 use Rattle.pt_shard.specs.declared.config.Config.{Config}
 use Rattle.pt_shard.specs.ShardState.{ShardState}
 use Rattle.pt_shard.specs.Begun.{Every}
+use Rattle.pt_gathered.specs.Beginning.{IsBeginning}
 use Rattle.pt_gathered.specs.Gathered.{GatheredState, IsGathered, start_of, begins}
 use Rattle.pt_gathered.specs.Taking.{AreShards}
 
@@ -94,6 +94,14 @@ same_starts old new same = of_starts new ∙ ap (flat_map (λ (b : Start). b)) s
     of_starts [] = refl
     of_starts (s ∷ shards) = ap (λ z. s.start ++ z) (of_starts shards)
 
--- each process stands there once
-pub begins_once : (g : GatheredState) → IsGathered g → IsStart (begins g)
-begins_once g whole = subst IsStart (sym (begins_empty g whole)) (λ p. refl)
+-- a node that is opened begins with nothing, which nothing has left behind
+pub from_nothing : (low : ℕ) → IsBeginning low []
+from_nothing low = record {
+  past = [];
+  left = record { legal = tt; quiet = refl; alike = λ p. refl };
+  known = tt;
+  home = tt;
+  numbered = (λ i h. refl, λ m h. refl);
+  once = λ p. refl;
+  refs = λ w m. (omega arith, λ h. refl);
+}

@@ -21,6 +21,7 @@ use Rattle.pt_shard.specs.Outbox.{held_from}
 use Rattle.pt_shard.specs.Fit.{IsFit}
 use Rattle.pt_gathered.proofs.Starts.{start_same, same_starts}
 use Rattle.pt_gathered.proofs.Owned.{sent_same}
+use Rattle.pt_gathered.specs.Beginning.{IsBeginning}
 use Rattle.pt_gathered.specs.Gathered.{GatheredState, start_of, IsGathered, IsShardOf, journal_at, box_at, hold_at, over_in}
 use Rattle.pt_gathered.specs.Settling.{receipt, replies, replies_to, Receives, Steps}
 use Rattle.pt_gathered.specs.Taking.{bare, AreShards, TakesOut}
@@ -393,6 +394,7 @@ module _ (config : Config) (shards : List ShardState) (lanes : List (List Letter
       shards = fit;
       agree = λ i k hi hk. agree_step old_node new_node whole d e l receives d_in e_in i k (omega (arith, hi, count2)) (omega (arith, hk, count2));
       refusals = refusals_two;
+      begun = subst (IsBeginning config.start) (sym same_begins) whole.begun;
     }
 
 -- the receiver and the sender of the first letter are of the two desks

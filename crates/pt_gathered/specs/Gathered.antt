@@ -9,6 +9,7 @@ use Rattle.pt_shard.specs.declared.config.Config.{Config}
 use Rattle.pt_shard.specs.ShardState.{ShardState}
 use Rattle.pt_shard.specs.Outbox.{held_from}
 use Rattle.pt_shard.specs.Fit.{IsFit}
+use Rattle.pt_gathered.specs.Beginning.{IsBeginning}
 
 -- the lane from desk d to desk e stands at d * desks + e
 pub record GatheredState : Type 0 where
@@ -58,3 +59,4 @@ pub record IsGathered (g : GatheredState) : Type 0 where
   pub shards : (d : ℕ) (x : ShardState) → d < length g.shards → IsShardOf g.config d (slice_index_or g.shards d x)
   pub agree : (d e : ℕ) → d < length g.shards → e < length g.shards → Agrees (posts (begins g) (journals g d) e) (gots (journals g e) d) (over_in g.shards g.lanes d e)
   pub refusals : RefusalsAreTrue (begins g) (journals g)
+  pub begun : IsBeginning g.config.start (begins g)

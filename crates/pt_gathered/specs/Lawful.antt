@@ -1,18 +1,18 @@
 -- What the laws of histories say of a node whose desks were gathered, and of one that was settled.
-use Rattle.std.specs.Prelude.{◌≡◌, ℕ, ◌+◌, ◌≤◌, Bool, true, false, List, Contains}
+use Rattle.std.specs.Prelude.{◌≡◌, ◌+◌, ◌≤◌, Bool, true, false, List, Contains}
 use Rattle.pt_signal.specs.declared.pid.Pid.{Pid}
 use Rattle.pt_signal.specs.declared.ids.Ref.{Ref}
 use Rattle.pt_signal.specs.declared.item.Item.{Item}
 use Rattle.pt_signal.specs.Values.{same_pid}
 use Rattle.pt_events.specs.declared.event.Stamped.{Stamped}
-use Rattle.pt_events.specs.History.{Past, Start, at_start, IsLegal, life, alive, arrived_since}
+use Rattle.pt_events.specs.History.{Past, Start, IsLegal, life, alive, arrived_since}
 use Rattle.pt_events.specs.Journal.{events, LanesAgree, IsMerge}
 use Rattle.pt_laws.specs.Laws.{LegalWithLeftOver}
 use Rattle.pt_laws.specs.Load.{IsQuiet, load}
 use Rattle.pt_laws.specs.Links.{LinksAgree}
 use Rattle.pt_laws.specs.Headline.{IsHeadline}
-use Rattle.pt_laws.specs.Watch.{count, said_to, is_monitor, open_in, kept_in}
-use Rattle.pt_laws.specs.MonitorLaws.{demonitors_and_downs}
+use Rattle.pt_laws.specs.Watch.{count, said_to, open_in, kept_in}
+use Rattle.pt_laws.specs.MonitorLaws.{demonitors_and_downs, times_made}
 use Rattle.pt_laws.specs.Asking.{IsAnswer, is_question, is_answer}
 use Rattle.pt_gathered.specs.Gathered.{GatheredState, begins, journals, over}
 use Rattle.pt_gathered.specs.Settling.{event_count}
@@ -41,10 +41,6 @@ IsBounded old new = (merged : List Stamped) → IsMerge (journals old) merged �
 abbrev pub LinksStand : GatheredState → Type 0
 LinksStand g =
     (merged : List Stamped) (p q : Pid) → IsMerge (journals g) merged → same_pid p q ≡ false → alive (begins g) (events merged) p ≡ true → LinksAgree (begins g) (events merged) p q
-
--- how often w made the monitor m of t: before the start, where it was open there, or since
-abbrev pub times_made : Start → Past → Pid → Pid → Ref → ℕ
-times_made start past w t m = open_in w t m (at_start start w) + said_to w t (is_monitor m) past
 
 -- a monitor of a live w was demonitored, or had its one DOWN, or is open at w and kept by a live t; of a w that ended none is kept
 abbrev pub StandsAt : Start → Past → Pid → Pid → Ref → Type 0

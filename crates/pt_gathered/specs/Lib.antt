@@ -1,3 +1,4 @@
+pub mod Beginning
 pub mod Gathered
 pub mod LeftOvers
 pub mod Text

@@ -20,12 +20,12 @@ pub fn laws_of(gathered: &Gathered)
     ensures questions { NothingLeft gathered.now → QuestionsAnswered gathered.now }
 {
     laws::headline_holds();
-    laws::one_down();
     laws::merge_is_legal();
     laws::load_by_desk_falls();
     laws::receipts_lower_the_load();
     laws::quiet_monitors();
+    laws::stamps_make_new_ids();
     laws::answers_are_true();
-    links::merge_links();
+    links::resumed_links();
     let _desks = gathered.desks();
 }

@@ -21,7 +21,8 @@ use Rattle.pt_shard.specs.ShardState.{ShardState}
 use Rattle.pt_shard.specs.Outbox.{held_from}
 use Rattle.pt_gathered.specs.Gathered.{GatheredState, IsGathered, begins, IsShardOf, journal_at, box_at, hold_at, over_in}
 use Rattle.pt_gathered.specs.Taking.{AreShards}
-use Rattle.pt_gathered.proofs.Starts.{nobody_before, start_same}
+use Rattle.pt_gathered.specs.Beginning.{IsBeginning}
+use Rattle.pt_gathered.proofs.Starts.{nobody_before, start_same, from_nothing}
 use Rattle.pt_gathered.proofs.Agreeing.{local_as}
 use Rattle.pt_gathered.proofs.Owned.{posts_same}
 use Rattle.pt_events.proofs.Agreeing.{Agrees-posted}
@@ -156,6 +157,7 @@ module _ (desks : List DeskState) (g : GatheredState) (whole : AreWhole desks) (
     shards = λ d x h. is_shard d x (omega (arith, h, count));
     agree = λ d e h k. agree_at d e (omega (arith, h, count)) (omega (arith, k, count));
     refusals = refusals_at;
+    begun = subst (IsBeginning g.config.start) (sym nobody) (from_nothing g.config.start);
   }
 
 pub same_journals : (desks : List DeskState) (g : GatheredState) → g.shards ≡ all_shards desks → HasJournalsOf desks g

@@ -5,7 +5,7 @@ pub returns-clause-lanes : goal.returns-clause-lanes
 returns-clause-lanes c = lanes_agree c.args.gathered.now c.desks-desks.ensures.gathered
 
 pub returns-clause-headline : goal.returns-clause-headline
-returns-clause-headline c = keeps_headline c.args.gathered.now c.desks-desks.ensures.gathered c.headline_holds.ensures c.one_down.ensures.empty
+returns-clause-headline c = keeps_headline c.args.gathered.now c.desks-desks.ensures.gathered c.headline_holds.ensures
 
 pub returns-clause-legal : goal.returns-clause-legal
 returns-clause-legal c = legal_node c.args.gathered.now c.desks-desks.ensures.gathered c.merge_is_legal.ensures
@@ -19,12 +19,12 @@ returns-clause-quiet c none = quiet_node c.args.gathered.now c.desks-desks.ensur
 pub returns-clause-links : goal.returns-clause-links
 returns-clause-links c none =
     let whole = c.desks-desks.ensures.gathered in
-    links_stand c.args.gathered.now whole (quiet_node c.args.gathered.now whole c.merge_is_legal.ensures c.receipts_lower_the_load.ensures.empty none) c.merge_links.ensures
+    links_stand c.args.gathered.now whole (quiet_node c.args.gathered.now whole c.merge_is_legal.ensures c.receipts_lower_the_load.ensures.empty none) c.resumed_links.ensures.merge
 
 pub returns-clause-watches : goal.returns-clause-watches
 returns-clause-watches c none =
     let whole = c.desks-desks.ensures.gathered in
-    watches_stand c.args.gathered.now whole (quiet_node c.args.gathered.now whole c.merge_is_legal.ensures c.receipts_lower_the_load.ensures.empty none) c.quiet_monitors.ensures.monitors c.quiet_monitors.ensures.watches
+    watches_stand c.args.gathered.now whole (quiet_node c.args.gathered.now whole c.merge_is_legal.ensures c.receipts_lower_the_load.ensures.empty none) c.stamps_make_new_ids.ensures.new c.quiet_monitors.ensures.since c.quiet_monitors.ensures.over_watches
 
 pub returns-clause-answers : goal.returns-clause-answers
 returns-clause-answers c = answers_hold c.args.gathered.now c.desks-desks.ensures.gathered c.merge_is_legal.ensures c.answers_are_true.ensures.told

@@ -6,7 +6,6 @@ use Rattle.pt_gathered.specs.Settling.{Steps, Receives}
 use Rattle.pt_gathered.specs.Taking.{AreShards, TakesOut}
 use Rattle.pt_gathered.specs.Waits.{StepsPosted}
 use Rattle.pt_gathered.proofs.Stepping.{none_first, handle_here, posted_steps, receives, gathered_after, worn_at, handled_not, step_not, shards_after}
-use Rattle.pt_gathered.proofs.Starts.{begins_once}
 use Rattle.pt_gathered.proofs.gathered.Gathered.step.Goals as goal
 
 pub returns-in_default-clause-does : goal.returns-in_default-clause-does
@@ -156,10 +155,10 @@ returns-clause-posted c =
     (posted_steps config shards lanes c.self.invariant d e d_in e_in s s' s_is c.in-Some.letter first c.in-Ok.ensures.does.1 c.in-Ok.ensures.does.0 c.take_out.new.shards.items c.take_out.new.lanes.items took)
 
 pub returns-in_default-clause-begun : goal.returns-in_default-clause-begun
-returns-in_default-clause-begun c = begins_once c.args.self.now (subst IsGathered c.self.view_is c.self.invariant)
+returns-in_default-clause-begun c = (subst IsGathered c.self.view_is c.self.invariant).begun.once
 
 pub returns-in-Err-clause-begun : goal.returns-in-Err-clause-begun
-returns-in-Err-clause-begun c = begins_once c.args.self.now (subst IsGathered c.self.view_is c.self.invariant)
+returns-in-Err-clause-begun c = (subst IsGathered c.self.view_is c.self.invariant).begun.once
 
 pub returns-clause-begun : goal.returns-clause-begun
-returns-clause-begun c = begins_once c.args.self.now (subst IsGathered c.self.view_is c.self.invariant)
+returns-clause-begun c = (subst IsGathered c.self.view_is c.self.invariant).begun.once

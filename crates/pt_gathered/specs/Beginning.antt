@@ -1,0 +1,18 @@
+-- The state that a node goes on from.
+use Rattle.std.specs.Prelude.{ℕ, []}
+use Rattle.pt_events.specs.History.{Past, Start}
+use Rattle.pt_laws.specs.Load.{IsStart}
+use Rattle.pt_laws.specs.Links.{IsKnownSaid, IsBornHome}
+use Rattle.pt_laws.specs.MonitorLaws.{HasOldRefs}
+use Rattle.pt_laws.specs.Resumed.{IsLeftBy, MadeUpTo}
+
+-- a legal and quiet history, as desks make them, has left it behind, and what was made before is numbered up to low
+pub record IsBeginning (low : ℕ) (start : Start) : Type 0 where
+  pub past : Past
+  pub left : IsLeftBy start past
+  pub known : IsKnownSaid [] past
+  pub home : IsBornHome past
+  pub numbered : MadeUpTo low past
+  -- each process stands in it once, and the references that are open in it are old
+  pub once : IsStart start
+  pub refs : HasOldRefs low start
