@@ -73,8 +73,8 @@ module _ (g : GatheredState) (whole : IsGathered g) (d e : ℕ) (d_in : d < leng
   pub local_at : (k : ℕ) → k < length g.shards → IsLocal (begins g) g.config.start g.config.top_version k (journals g k)
   local_at k h =
       at_map (λ (s : ShardState). s.journal) (IsLocal (begins g) g.config.start g.config.top_version k) g.shards k [] h (λ x.
-          let s : ShardState = get_or g.shards k x in
-          local_same s.start (begins g) k (start_same g.config g.shards whole.shards k x h) g.config.start g.config.top_version s.journal (local_as g.config k s (whole.shards k x h)))
+      let s : ShardState = get_or g.shards k x in
+      local_same s.start (begins g) k (start_same g.config g.shards whole.shards k x h) g.config.start g.config.top_version s.journal (local_as g.config k s (whole.shards k x h)))
 
   pub between_ends : AllBetween d e (over_in g.shards g.lanes d e)
   between_ends =
@@ -126,7 +126,7 @@ module _ (old new : GatheredState) (whole : IsGathered old) (d e : ℕ) (l : Let
   pub agree_step : (i k : ℕ) → i < length old.shards → k < length old.shards → Agrees (posts (begins new) (journals new i) k) (gots (journals new k) i) (over_in new.shards new.lanes i k)
   agree_step i k hi hk =
       subst (λ b. Agrees (posts b (journals new i) k) (gots (journals new k) i) (over_in new.shards new.lanes i k)) (sym r.start)
-      (      subst (λ z. Agrees z (gots (journals new k) i) (over_in new.shards new.lanes i k)) (sym (posts_step i k hi))
+      (subst (λ z. Agrees z (gots (journals new k) i) (over_in new.shards new.lanes i k)) (sym (posts_step i k hi))
       (subst (λ z. Agrees (posts (begins old) (journals old i) k ++ more) z (over_in new.shards new.lanes i k)) (sym (gots_step i k hk))
       (subst (λ z. Agrees (posts (begins old) (journals old i) k ++ more) (gots (journals old k) i ++ cond ((i == d) && (k == e)) (got1 ∷ []) []) z) (sym (r.left i k hi hk))
       (Agrees-posted (posts (begins old) (journals old i) k) (gots (journals old k) i ++ cond ((i == d) && (k == e)) (got1 ∷ []) []) _ more (front (i == d) refl (k == e) refl)))))

@@ -38,9 +38,9 @@ module _ (g : GatheredState) (whole : IsGathered g) where
   posts_out : (d e : ℕ) → d < length g.shards → length g.shards ≤ e → posts (begins g) (journals g d) e ≡ []
   posts_out d e h k =
       at_map (λ (s : ShardState). s.journal) (λ j. posts (begins g) j e ≡ []) g.shards d [] h (λ x.
-          let s : ShardState = get_or g.shards d x in
-          sym (posts_same s.start (begins g) d (start_same g.config g.shards whole.shards d x h) g.config.start g.config.top_version s.journal (local_as g.config d s (whole.shards d x h)) e)
-          ∙ (whole.shards d x h).fit.posts_near e (beyond d x h e k))
+      let s : ShardState = get_or g.shards d x in
+      sym (posts_same s.start (begins g) d (start_same g.config g.shards whole.shards d x h) g.config.start g.config.top_version s.journal (local_as g.config d s (whole.shards d x h)) e)
+      ∙ (whole.shards d x h).fit.posts_near e (beyond d x h e k))
 
   gots_out : (e d : ℕ) → e < length g.shards → length g.shards ≤ d → gots (journals g e) d ≡ []
   gots_out e d h k = at_map (λ (s : ShardState). s.journal) (λ j. gots j d ≡ []) g.shards e [] h (λ x. (whole.shards e x h).fit.gots_near d (beyond e x h d k))

@@ -74,8 +74,8 @@ at_own n (s ∷ shards) own (suc i) x h p e =
 owned : (config : Config) (shards : List ShardState) → AreShards config shards → Own 0 shards
 owned config shards all =
     own_each 0 shards (λ i x h.
-        let at : (get_or shards i x).number ≡ 0 + i = (all i x h).number ∙ omega arith in
-        subst (λ k. Every (λ b. b.0.shard ≡ k) (get_or shards i x).start) at (all i x h).fit.begun.own)
+    let at : (get_or shards i x).number ≡ 0 + i = (all i x h).number ∙ omega arith in
+    subst (λ k. Every (λ b. b.0.shard ≡ k) (get_or shards i x).start) at (all i x h).fit.begun.own)
 
 -- of its own processes a desk has what all have together
 pub start_same : (config : Config) (shards : List ShardState) → AreShards config shards → (d : ℕ) (x : ShardState) → d < length shards

@@ -32,9 +32,12 @@ pub read_here : (inside now : GatheredState) → inside ≡ now → IsGathered i
 read_here inside now e whole k s j h r d p = subst (λ (g : GatheredState). IsGathered g × IsJournal g k j) e (whole, is_journal inside whole k s j h r d p)
 
 pub may_be_read : (g : GatheredState) → IsGathered g → (k : ℕ) (j : JournalState) → IsJournal g k j → IsDeskJournal [] j.desk j.past
-may_be_read g whole k j is =
-    (g.config.start, g.config.top_version, subst (λ d. IsLocal [] g.config.start g.config.top_version d j.past) (sym is.desk) (subst (IsLocal [] g.config.start g.config.top_version k) (sym is.past)
-    (subst (λ b. IsLocal b g.config.start g.config.top_version k (journals g k)) (begins_empty g whole) (locals g whole k))))
+may_be_read g whole k j is = (
+  g.config.start,
+  g.config.top_version,
+  subst (λ d. IsLocal [] g.config.start g.config.top_version d j.past) (sym is.desk) (subst (IsLocal [] g.config.start g.config.top_version k) (sym is.past)
+      (subst (λ b. IsLocal b g.config.start g.config.top_version k (journals g k)) (begins_empty g whole) (locals g whole k))),
+)
 
 get_push : {X : Type 0} (xs : List X) (y d : X) (i : ℕ) → i < length (xs ++ y ∷ []) → ((i < length xs) × (get_or (xs ++ y ∷ []) i d ≡ get_or xs i d)) ⊎ ((i ≡ length xs) × (get_or (xs ++ y ∷ []) i d ≡ y))
 get_push [] y d zero h = inr (refl, refl)
