@@ -4,8 +4,7 @@ use Rattle.std.specs.Prelude.{IsSome}
 use Rattle.std.proofs.lemmas.Bool.Decides.{nat_tests}
 use Rattle.pt_signal.specs.declared.pid.Pid.{Pid}
 use Rattle.pt_events.specs.declared.event.Event.TheVariants.{Refused}
-use Rattle.pt_events.specs.History.{is_ended, life}
-use Rattle.pt_events.specs.Journal.{IsLocal}
+use Rattle.pt_events.specs.History.{is_ended}
 use mathlib.Core.Option.{some}
 use lib.ListN.{get_elem?}
 use Rattle.atomic_table.proofs.Lists.{at_longer}
@@ -51,10 +50,7 @@ module _ (s : ShardState) (o : OutEnds) (i : InEnds) (directory : DirectoryState
       -- whoever has ended here, its end is told
       own_end : (p : Pid) → is_ended (phase_of s p) ≡ true → HasToldOf p (seat_of s before)
       own_end p ends =
-          let fit = whole.0.fit in
-          subst (λ start. (k : ℕ) × (x : Death) × (get_elem? (deaths_in start s.journal) k ≡ some x) × (x.shard ≡ p.shard) × (x.slot ≡ p.slot) × (p.version ≤ x.version)) (sym fit.first)
-          (own_death s.config.start s.config.top_version s.number s.journal (subst (λ start. IsLocal start s.config.start s.config.top_version s.number s.journal) fit.first fit.local)
-          p (subst (λ start. is_ended (life start (past s) p) ≡ true) fit.first ends))
+          own_death s.start s.config.slots s.config.start s.config.top_version s.number whole.0.seated.old s.journal whole.0.fit.local p ends
 
       pub looked : (seat' : SeatState) (answer : Option ℕ) → Probes t seat answer seat' → (HasReadOf t seat → IsSome answer) → (HasToldOf t seat → IsSome answer)
           → Looks t (of_parts s o i before) answer (sight_of directory seat')

@@ -14,7 +14,7 @@ use Rattle.pt_directory.specs.Seats.{DirectoryState, SeatState, add_death, death
 use Rattle.pt_carrier.specs.Ends.{OutEnds, InEnds}
 use Rattle.pt_carrier.specs.Meeting.{out_kept, in_kept}
 use Rattle.pt_shard.specs.ShardState.{ShardState, past, written, ended_in}
-use Rattle.pt_desk.specs.Sight.{Sight, death_by, deaths_in, seat_of, IsSeen, AllSeen, IsSeated, HasWordsAt, AllHaveWords}
+use Rattle.pt_desk.specs.Sight.{Sight, death_by, deaths_in, seat_of, AreOldEnds, IsSeen, AllSeen, IsSeated, HasWordsAt, AllHaveWords}
 use Rattle.pt_shard.specs.declared.config.Config.{Config}
 use Rattle.pt_shard.specs.Outbox.{sent_on}
 use Rattle.pt_shard.specs.Fit.{IsFit}
@@ -36,17 +36,17 @@ abbrev pub next_shard : ℕ → Event → Option Pid → ShardState → ShardSta
 next_shard n event vacant s = record (written n event s) { vacant = vacant }
 
 pub seated_written : (s : ShardState) (v : Sight) (n : ℕ) (event : Event) (vacant : Option Pid) → IsSeated s v → IsSeen v.reads n event → HasWordsAt s.config.slots event → IsSeated (next_shard n event vacant s) v
-seated_written s v n event vacant h seen words = record { desks = h.desks; slots = h.slots; near = h.near; seen = (seen, h.seen); words = (words, h.words) }
+seated_written s v n event vacant h seen words = record { desks = h.desks; slots = h.slots; near = h.near; seen = (seen, h.seen); words = (words, h.words); old = h.old }
 
 pub seat_written : (s : ShardState) (v : Sight) (n : ℕ) (event : Event) (vacant : Option Pid) → ended_in s.start (past s) event ≡ None → seat_of (next_shard n event vacant s) v ≡ seat_of s v
 seat_written s v n event vacant none =
     ap (λ ds. record { name = v.directory.name; homes = s.number ∷ []; reads = v.reads; deaths = ds })
-    (ap (λ o. deaths_in s.start s.journal ++ death_by o n) none ∙ append-nil (deaths_in s.start s.journal))
+    (ap (λ o. deaths_in s.start s.config.start s.journal ++ death_by o n) none ∙ append-nil (deaths_in s.start s.config.start s.journal))
 
 pub seat_ended : (s : ShardState) (v : Sight) (n : ℕ) (event : Event) (p : Pid) (vacant : Option Pid) → ended_in s.start (past s) event ≡ Some p
     → seat_of (next_shard n event vacant s) v ≡ add_death (death_of p n) (seat_of s v)
 seat_ended s v n event p vacant ends =
-    ap (λ o. record { name = v.directory.name; homes = s.number ∷ []; reads = v.reads; deaths = deaths_in s.start s.journal ++ death_by o n }) ends
+    ap (λ o. record { name = v.directory.name; homes = s.number ∷ []; reads = v.reads; deaths = deaths_in s.start s.config.start s.journal ++ death_by o n }) ends
 
 -- a desk that posted, or took a letter into its hold or out of it -----------------------
 
@@ -64,10 +64,13 @@ same_seated s s' v same h = record {
   near = λ k r at. subst (λ (c : Config). r.shard < c.desks) (sym same.config) (h.near k r at);
   seen = subst (AllSeen v.reads) (sym same.journal) h.seen;
   words = subst (λ j. AllHaveWords s'.config.slots j) (sym same.journal) (subst (λ (c : Config). AllHaveWords c.slots s.journal) (sym same.config) h.words);
+  old =
+      subst (λ (c : Config). AreOldEnds s'.start c.slots c.start s'.number) (sym same.config)
+      (subst (λ n. AreOldEnds s'.start s.config.slots s.config.start n) (sym same.number) (subst (λ b. AreOldEnds b s.config.slots s.config.start s.number) (sym same.start) h.old));
 }
 
 pub same_seat : (s s' : ShardState) (v : Sight) → SameJournal s s' → seat_of s' v ≡ seat_of s v
-same_seat s s' v same i = record { name = v.directory.name; homes = same.number i ∷ []; reads = v.reads; deaths = deaths_in (same.start i) (same.journal i) }
+same_seat s s' v same i = record { name = v.directory.name; homes = same.number i ∷ []; reads = v.reads; deaths = deaths_in (same.start i) (same.config i).start (same.journal i) }
 
 pub same_whole : (s s' : ShardState) (o o' : OutEnds) (i i' : InEnds) (v : Sight) (seat : SeatState) → SameJournal s s' → IsFit s' → IsAccounted s' o' i' → IsWhole s o i v seat → IsWhole s' o' i' v seat
 same_whole s s' o o' i i' v seat same fit accounts whole =
@@ -117,6 +120,7 @@ seated_read s v x here h = record {
   near = near_more s.config.desks v.reads x here h.near;
   seen = all_still_seen v.reads x s.journal h.seen;
   words = h.words;
+  old = h.old;
 }
 
 -- the read by which a call was refused

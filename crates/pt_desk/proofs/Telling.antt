@@ -1,5 +1,5 @@
 -- A desk tells the directory of each end on it.
-use Rattle.std.proofs.Common.{◌≡◌, ℕ, ◌+◌, ◌<◌, Bool, true, false, List, [], ◌∷◌, max, Option, Some, None, refl, sym, ap, ◌∙◌, subst, arith}
+use Rattle.std.proofs.Common.{◌≡◌, ℕ, ◌+◌, ◌<◌, ◌≤◌, Bool, true, false, List, [], ◌∷◌, max, Option, Some, None, refl, sym, ap, ◌∙◌, subst, arith}
 use Rattle.std.specs.Prelude.{IfSome, cond}
 use Rattle.pt_signal.specs.declared.pid.Pid.{Pid}
 use Rattle.pt_signal.specs.declared.letter.Letter.{Letter}
@@ -7,13 +7,13 @@ use Rattle.pt_signal.proofs.Same.{same_pid_is}
 use Rattle.pt_events.specs.declared.event.Event.{Event}
 use Rattle.pt_events.specs.declared.event.Event.TheVariants.{Born}
 use Rattle.pt_events.specs.declared.event.Stamped.{Stamped}
-use Rattle.pt_events.specs.History.{Phase, unborn, living, ended, life, is_birth, is_unborn, is_living}
-use Rattle.pt_events.specs.Journal.{IsLocal, events}
+use Rattle.pt_events.specs.History.{Start, Phase, unborn, living, ended, life, is_birth, is_unborn, is_living}
+use Rattle.pt_events.specs.Journal.{clock, events}
 use Rattle.pt_directory.specs.Views.{deaths_at, last_version, last_stamp}
 use Rattle.pt_directory.specs.Seats.{DirectoryState, SeatState}
 use Rattle.pt_carrier.specs.Ends.{OutEnds, InEnds}
 use Rattle.pt_shard.specs.ShardState.{ShardState, past, lives, written, came, handled, is_ended_by, ended_in, ended_by}
-use Rattle.pt_desk.specs.Sight.{Sight, IsSeen, IsSeated, HasWordsAt, AllHaveWords, deaths_in, seat_of}
+use Rattle.pt_desk.specs.Sight.{Sight, AreOldEnds, IsSeen, IsSeated, HasWordsAt, AllHaveWords, deaths_in, seat_of}
 use Rattle.pt_shard.specs.Fit.{IsFit}
 use Rattle.pt_desk.specs.DeskState.{IsAccounted}
 use Rattle.pt_desk.specs.InPlace.{CanTell, told}
@@ -31,36 +31,27 @@ was_born unborn h = absurd (cc)
 was_born (living s) h = refl
 was_born (ended r s) h = refl
 
-slot_of_born : (slots : ℕ) (p : Pid) (journal : List Stamped) → AllHaveWords slots journal → is_unborn (life [] (events journal) p) ≡ false → p.slot < slots
-slot_of_born slots p [] words h = absurd (cc)
-slot_of_born slots p (s ∷ journal) words h = go (is_birth p s.event) refl (is_unborn (life [] (events journal) p)) refl (slot_of_born slots p journal words.1)
+slot_of_born : (start : Start) (slots low d : ℕ) → AreOldEnds start slots low d → (p : Pid) (journal : List Stamped) → AllHaveWords slots journal → is_unborn (life start (events journal) p) ≡ false → p.slot < slots
+slot_of_born start slots low d old p [] words h = (old.turns p h).slot
+slot_of_born start slots low d old p (s ∷ journal) words h = go (is_birth p s.event) refl (is_unborn (life start (events journal) p)) refl (slot_of_born start slots low d old p journal words.1)
   where
-    go : (b : Bool) → is_birth p s.event ≡ b → (u : Bool) → is_unborn (life [] (events journal) p) ≡ u → (is_unborn (life [] (events journal) p) ≡ false → p.slot < slots) → p.slot < slots
+    go : (b : Bool) → is_birth p s.event ≡ b → (u : Bool) → is_unborn (life start (events journal) p) ≡ u → (is_unborn (life start (events journal) p) ≡ false → p.slot < slots) → p.slot < slots
     go true e u k before = at_birth slots p s.event e words.0
     go false e false k before = before k
-    go false e true k before = let n = no_birth p s.event (life [] (events journal) p) e k in absurd (cc)
+    go false e true k before = let n = no_birth p s.event (life start (events journal) p) e k in absurd (cc)
 
 module _ (s : ShardState) (o : OutEnds) (i : InEnds) (directory : DirectoryState) (seat : SeatState) (whole : IsWhole s o i (sight_of directory seat) seat) where
-  local : IsLocal [] s.config.start s.config.top_version s.number s.journal
-  local = subst (λ start. IsLocal start s.config.start s.config.top_version s.number s.journal) whole.0.fit.first whole.0.fit.local
-
   module _ (p : Pid) (alive : lives s p ≡ true) (home : p.shard ≡ s.number) (n : ℕ) (later : s.clock < n) where
-    living_here : is_living (life [] (past s) p) ≡ true
-    living_here = subst (λ start. is_living (life start (past s) p) ≡ true) whole.0.fit.first alive
-
     -- the seat told of none of p's slot that is not earlier
+    rises : (last_version (deaths_at p.shard p.slot (deaths_in s.start s.config.start s.journal)) < p.version)
+        × (last_stamp (deaths_at p.shard p.slot (deaths_in s.start s.config.start s.journal)) ≤ clock s.config.start s.journal)
+    rises = deaths_rise s.start s.config.slots s.config.start s.config.top_version s.number whole.0.seated.old s.journal whole.0.fit.local p alive
+
     version_rises : last_version (deaths_at p.shard p.slot seat.deaths) < p.version
-    version_rises =
-        subst (λ (z : SeatState). last_version (deaths_at p.shard p.slot z.deaths) < p.version) (sym whole.1)
-        (subst (λ start. last_version (deaths_at p.shard p.slot (deaths_in start s.journal)) < p.version) (sym whole.0.fit.first)
-        (deaths_rise s.config.start s.config.top_version s.number s.journal local p living_here).0)
+    version_rises = subst (λ (z : SeatState). last_version (deaths_at p.shard p.slot z.deaths) < p.version) (sym whole.1) rises.0
 
     stamp_rises : last_stamp (deaths_at p.shard p.slot seat.deaths) < n
-    stamp_rises =
-        let low = (deaths_rise s.config.start s.config.top_version s.number s.journal local p living_here).1 in
-        subst (λ (z : SeatState). last_stamp (deaths_at p.shard p.slot z.deaths) < n) (sym whole.1)
-        (subst (λ start. last_stamp (deaths_at p.shard p.slot (deaths_in start s.journal)) < n) (sym whole.0.fit.first)
-        (omega (arith, low, later, whole.0.fit.clock_is)))
+    stamp_rises = subst (λ (z : SeatState). last_stamp (deaths_at p.shard p.slot z.deaths) < n) (sym whole.1) (omega (arith, rises.1, later, whole.0.fit.clock_is))
 
     -- so the end of a process that lives here may be told
     pub may_tell : CanTell directory seat n p
@@ -68,7 +59,7 @@ module _ (s : ShardState) (o : OutEnds) (i : InEnds) (directory : DirectoryState
       name = ap (λ (z : SeatState). z.name) whole.1;
       home = ap (λ (z : SeatState). z.homes) whole.1 ∙ ap (λ d. d ∷ []) (sym home);
       words =
-          let slot = slot_of_born s.config.slots p s.journal whole.0.seated.words (was_born (life [] (past s) p) living_here) in
+          let slot = slot_of_born s.start s.config.slots s.config.start s.number whole.0.seated.old p s.journal whole.0.seated.words (was_born (life s.start (past s) p) alive) in
           (omega (arith, home, whole.0.fit.here, whole.0.seated.desks), omega (arith, slot, whole.0.seated.slots));
       version = version_rises;
       stamp = stamp_rises;
