@@ -11,7 +11,7 @@ use Rattle.pt_signal.specs.declared.letter.Letter.{Letter}
 use Rattle.pt_events.specs.declared.event.Event.{Event}
 use Rattle.pt_events.specs.declared.event.Event.TheVariants.{Refused}
 use Rattle.pt_events.specs.declared.event.Stamped.{Stamped}
-use Rattle.pt_events.specs.History.{is_ended, life}
+use Rattle.pt_events.specs.History.{Past, is_ended, life}
 use Rattle.pt_events.specs.Journal.{events, Agrees, posts, gots}
 use Rattle.pt_events.specs.Refusals.{stamped_below, IsTrueRefusal, AllTrueRefusals, RefusalsAreTrue}
 use Rattle.pt_carrier.specs.Ends.{OutEnds, InEnds}
@@ -24,7 +24,7 @@ use Rattle.pt_gathered.specs.Taking.{AreShards}
 use Rattle.pt_gathered.specs.Beginning.{IsBeginning}
 use Rattle.pt_gathered.proofs.Starts.{nobody_before, start_same, from_nothing}
 use Rattle.pt_gathered.proofs.Agreeing.{local_as}
-use Rattle.pt_gathered.proofs.Owned.{posts_same}
+use Rattle.pt_gathered.proofs.Owned.{life_same, posts_same}
 use Rattle.pt_events.proofs.Agreeing.{Agrees-posted}
 use Rattle.pt_directory.specs.declared.view.Read.{Read}
 use Rattle.pt_desk.specs.Sight.{HasEndOf, IsSeen, AllSeen}
@@ -114,13 +114,20 @@ module _ (desks : List DeskState) (g : GatheredState) (whole : AreWhole desks) (
       (get_or g.lanes (d * length g.shards + e) []) (gots (get_or desks e x).shard.journal d) (held_from d (get_or desks e x).shard.hold)
       sent posted got)
 
+  -- a process is by the start of its desk what it is by that of all
+  own_life : (p : Pid) → p.shard < length desks → (x : DeskState) (past : Past) → life (begins g) past p ≡ life (get_or desks p.shard x).shard.start past p
+  own_life p h x past =
+      let z : ShardState = get_or g.shards p.shard x.shard in
+      let own : life z.start past p ≡ life (begins g) past p = life_same z.start (begins g) p.shard (start_same g.config g.shards are_shards p.shard x.shard (omega (arith, h, count))) past p refl in
+      sym own ∙ ap (λ (s : ShardState). life s.start past p) (shard_at p.shard x x.shard h)
+
   -- whoever was seen to have ended has
   seen_at : (d : ℕ) (x : DeskState) → d < length desks → (k : ℕ) (r : Read) → get_elem? (get_or desks d x).sight.reads k ≡ some r → (p : Pid) → HasEndOf p r
       → (n : ℕ) → r.stamp ≡ Some n → (m : ℕ) → n < m → is_ended (life (begins g) (events (stamped_below m (journal_at g.shards p.shard))) p) ≡ true
   seen_at d x h k r at p ends n stamp m later =
       let t = true_read g.config desks gathers.node whole audited d x h k r at p ends n stamp m later in
       subst (λ j. is_ended (life (begins g) (events (stamped_below m j)) p) ≡ true) (sym (journal_of p.shard x t.0))
-      (subst (λ b. is_ended (life b (events (stamped_below m (get_or desks p.shard x).shard.journal)) p) ≡ true) (sym nobody) t.1)
+      (ap is_ended (own_life p t.0 x (events (stamped_below m (get_or desks p.shard x).shard.journal))) ∙ t.1)
 
   pub reads_true : ReadsAreTrue desks g
   reads_true d x h k r at p ends = go r.stamp refl

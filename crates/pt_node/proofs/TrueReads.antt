@@ -9,18 +9,23 @@ use Rattle.atomic_table.proofs.Lists.{at_longer}
 use Rattle.pt_signal.specs.declared.pid.Pid.{Pid}
 use Rattle.pt_events.specs.declared.event.Stamped.{Stamped}
 use Rattle.pt_events.specs.History.{is_ended, life}
-use Rattle.pt_events.specs.Journal.{events, IsLocal}
+use Rattle.pt_events.specs.Journal.{events}
 use Rattle.pt_events.specs.Refusals.{stamped_below}
 use Rattle.pt_directory.specs.declared.view.Read.{Read}
 use Rattle.pt_directory.specs.declared.view.Death.{Death}
 use Rattle.pt_directory.specs.Views.{deaths_at, Covers}
 use Rattle.pt_directory.proofs.Lists.{at_append, at_behind, at_nothing, among, from_among, true-is_at}
 use Rattle.pt_shard.specs.declared.config.Config.{Config}
-use Rattle.pt_desk.specs.Sight.{deaths_in, HasEndOf}
+use Rattle.pt_shard.specs.ShardState.{ShardState}
+use Rattle.pt_desk.specs.Sight.{deaths_in, AreOldEnds, HasEndOf}
 use Rattle.pt_desk.specs.DeskState.{DeskState, place}
 use Rattle.pt_desk.proofs.Deaths.{told, ended_before}
 use Rattle.pt_node.specs.Desks.{AreDesksOf, AreWhole}
 use Rattle.pt_node.specs.Seating.{all_seats, together, AreAudited}
+
+-- the ends that a desk's seat was told of
+abbrev pub deaths_of : DeskState → List Death
+deaths_of d = deaths_in d.shard.start d.shard.config.start d.shard.journal
 
 -- what the seats know together --------------------------------------------------------
 
@@ -36,21 +41,21 @@ module _ (name : TableId) where
   read_in (y ∷ ys) zero x k r h at = (k, at_longer y.sight.reads (together name (all_seats ys)).reads k r at)
   read_in (y ∷ ys) (suc d) x k r h at = let t = read_in ys d x k r (omega arith) at in at_behind y.sight.reads (together name (all_seats ys)).reads t.0 r t.1
 
-  death_in : (desks : List DeskState) (d : ℕ) (x : DeskState) (k : ℕ) (z : Death) → d < length desks → get_elem? (deaths_in (get_or desks d x).shard.start (get_or desks d x).shard.journal) k ≡ some z
+  death_in : (desks : List DeskState) (d : ℕ) (x : DeskState) (k : ℕ) (z : Death) → d < length desks → get_elem? (deaths_of (get_or desks d x)) k ≡ some z
       → (m : ℕ) × (get_elem? (together name (all_seats desks)).deaths m ≡ some z)
   death_in [] d x k z h at = absurd (omega arith)
-  death_in (y ∷ ys) zero x k z h at = (k, at_longer (deaths_in y.shard.start y.shard.journal) (together name (all_seats ys)).deaths k z at)
-  death_in (y ∷ ys) (suc d) x k z h at = let t = death_in ys d x k z (omega arith) at in at_behind (deaths_in y.shard.start y.shard.journal) (together name (all_seats ys)).deaths t.0 z t.1
+  death_in (y ∷ ys) zero x k z h at = (k, at_longer (deaths_of y) (together name (all_seats ys)).deaths k z at)
+  death_in (y ∷ ys) (suc d) x k z h at = let t = death_in ys d x k z (omega arith) at in at_behind (deaths_of y) (together name (all_seats ys)).deaths t.0 z t.1
 
   death_from : (desks : List DeskState) (x : DeskState) (m : ℕ) (z : Death) → get_elem? (together name (all_seats desks)).deaths m ≡ some z
-      → (d : ℕ) × (k : ℕ) × (d < length desks) × (get_elem? (deaths_in (get_or desks d x).shard.start (get_or desks d x).shard.journal) k ≡ some z)
+      → (d : ℕ) × (k : ℕ) × (d < length desks) × (get_elem? (deaths_of (get_or desks d x)) k ≡ some z)
   death_from [] x m z at = absurd (at_nothing z m at)
   death_from (y ∷ ys) x m z at =
       ⊎_elim
-      (λ (here : get_elem? (deaths_in y.shard.start y.shard.journal) m ≡ some z). let first : 0 < length (y ∷ ys) = omega arith in (0, m, first, here))
-      (λ (t : (j : ℕ) × (get_elem? (together name (all_seats ys)).deaths j ≡ some z) × (m ≡ length (deaths_in y.shard.start y.shard.journal) + j)).
+      (λ (here : get_elem? (deaths_of y) m ≡ some z). let first : 0 < length (y ∷ ys) = omega arith in (0, m, first, here))
+      (λ (t : (j : ℕ) × (get_elem? (together name (all_seats ys)).deaths j ≡ some z) × (m ≡ length (deaths_of y) + j)).
       let u = death_from ys x t.0 z t.1 in let next : suc u.0 < length (y ∷ ys) = omega (arith, u.2) in (suc u.0, u.1, next, u.3))
-      (at_append (deaths_in y.shard.start y.shard.journal) (together name (all_seats ys)).deaths m z at)
+      (at_append (deaths_of y) (together name (all_seats ys)).deaths m z at)
 
 -- a desk is the one of its number
 pub number_at : (config : Config) (desks : List DeskState) → AreDesksOf config desks → AreWhole desks → (d : ℕ) (x : DeskState) → d < length desks → (get_or desks d x).shard.number ≡ d
@@ -63,15 +68,15 @@ module _ (config : Config) (desks : List DeskState) (node : AreDesksOf config de
   journal_of : ℕ → DeskState → List Stamped
   journal_of d x = (get_or desks d x).shard.journal
 
-  local_at : (d : ℕ) (x : DeskState) (h : d < length desks) → IsLocal [] (get_or desks d x).shard.config.start (get_or desks d x).shard.config.top_version (get_or desks d x).shard.number (get_or desks d x).shard.journal
-  local_at d x h =
-      let s = (get_or desks d x).shard in
-      let fit = (whole d x h).fit in
-      subst (λ b. IsLocal b s.config.start s.config.top_version s.number s.journal) fit.first fit.local
+  abbrev shard_of : ℕ → DeskState → ShardState
+  shard_of d x = (get_or desks d x).shard
+
+  ends_of : (d : ℕ) (x : DeskState) → d < length desks → AreOldEnds (shard_of d x).start (shard_of d x).config.slots (shard_of d x).config.start (shard_of d x).number
+  ends_of d x h = (whole d x h).seated.old
 
   -- the deaths of a slot that all seats know are those that its own desk told
   own_deaths : (d : ℕ) (x : DeskState) → d < length desks → (slot version n : ℕ) → Covers (deaths_at d slot (together audited.0 (all_seats desks)).deaths) version n
-      → Covers (deaths_at d slot (deaths_in [] (get_or desks d x).shard.journal)) version n
+      → Covers (deaths_at d slot (deaths_of (get_or desks d x))) version n
   own_deaths d x h slot version n covers =
       let all = (together audited.0 (all_seats desks)).deaths in
       let seen = covers.died in
@@ -80,25 +85,24 @@ module _ (config : Config) (desks : List DeskState) (node : AreDesksOf config de
       let is = true-is_at z d slot there.2 in
       let from = death_from audited.0 desks x there.0 z there.1 in
       let e = from.0 in
-      let first = (whole e x from.2).fit.first in
-      let here : get_elem? (deaths_in [] (get_or desks e x).shard.journal) from.1 ≡ some z
-      = subst (λ b. get_elem? (deaths_in b (get_or desks e x).shard.journal) from.1 ≡ some z) first from.3 in
-      let t = told (get_or desks e x).shard.config.start (get_or desks e x).shard.config.top_version (get_or desks e x).shard.number (get_or desks e x).shard.journal (local_at e x from.2) from.1 z here in
+      let here : get_elem? (deaths_of (get_or desks e x)) from.1 ≡ some z = from.3 in
+      let s = shard_of e x in
+      let t = told s.start s.config.slots s.config.start s.config.top_version s.number (ends_of e x from.2) s.journal (whole e x from.2).fit.local from.1 z here in
       let same : e ≡ d = sym (number_at config desks node whole e x from.2) ∙ sym t.shard ∙ is.0 in
-      let mine : get_elem? (deaths_in [] (get_or desks d x).shard.journal) from.1 ≡ some z = subst (λ i. get_elem? (deaths_in [] (get_or desks i x).shard.journal) from.1 ≡ some z) same here in
-      let found = among (deaths_in [] (get_or desks d x).shard.journal) from.1 z d slot mine there.2 in
+      let mine : get_elem? (deaths_of (get_or desks d x)) from.1 ≡ some z = subst (λ i. get_elem? (deaths_of (get_or desks i x)) from.1 ≡ some z) same here in
+      let found = among (deaths_of (get_or desks d x)) from.1 z d slot mine there.2 in
       record {
         died = (found.0, z, found.1, seen.3, seen.4);
         latest = λ k w at low.
-            let a = from_among (deaths_in [] (get_or desks d x).shard.journal) k w d slot at in
-            let b = death_in audited.0 desks d x a.0 w h (subst (λ b. get_elem? (deaths_in b (get_or desks d x).shard.journal) a.0 ≡ some w) (sym (whole d x h).fit.first) a.1) in
+            let a = from_among (deaths_of (get_or desks d x)) k w d slot at in
+            let b = death_in audited.0 desks d x a.0 w h a.1 in
             let c = among all b.0 w d slot b.1 a.2 in
             covers.latest c.0 w c.1 low;
       }
 
   -- a read of the end of p, or of a later process of its slot, at stamp n
   pub true_read : (d : ℕ) (x : DeskState) → d < length desks → (k : ℕ) (r : Read) → get_elem? (get_or desks d x).sight.reads k ≡ some r → (p : Pid) → HasEndOf p r
-      → (n : ℕ) → r.stamp ≡ Some n → (m : ℕ) → n < m → (p.shard < length desks) × (is_ended (life [] (events (stamped_below m (get_or desks p.shard x).shard.journal)) p) ≡ true)
+      → (n : ℕ) → r.stamp ≡ Some n → (m : ℕ) → n < m → (p.shard < length desks) × (is_ended (life (get_or desks p.shard x).shard.start (events (stamped_below m (get_or desks p.shard x).shard.journal)) p) ≡ true)
   true_read d x h k r at p ends n stamp m later =
       let near = (whole d x h).seated.near k r at in
       let q = p.shard in
@@ -113,5 +117,5 @@ module _ (config : Config) (desks : List DeskState) (node : AreDesksOf config de
       (subst (λ s. Covers (deaths_at s r.slot (together audited.0 (all_seats desks)).deaths) r.version n) ends.shard covers) in
       let s = (get_or desks p.shard x).shard in (
         within,
-        ended_before s.config.start s.config.top_version s.number s.journal (local_at p.shard x within) p r.version n m (own_deaths p.shard x within p.slot r.version n at_p) ends.issued ends.version later,
+        ended_before s.start s.config.slots s.config.start s.config.top_version s.number (ends_of p.shard x within) s.journal (whole p.shard x within).fit.local p r.version n m (own_deaths p.shard x within p.slot r.version n at_p) ends.issued ends.version later,
       )
