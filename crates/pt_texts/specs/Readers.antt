@@ -1,0 +1,113 @@
+-- A reader for each kind of value.
+use Rattle.std.specs.Prelude.{ℕ, Bool, true, false, List, codes, Option, Some, None}
+use Rattle.pt_signal.specs.declared.pid.Pid.{Pid}
+use Rattle.pt_signal.specs.declared.ids.Ref.{Ref}
+use Rattle.pt_signal.specs.declared.ids.LinkId.{LinkId}
+use Rattle.pt_signal.specs.declared.ids.Ids.{Ids}
+use Rattle.pt_signal.specs.declared.item.Body.{Body}
+use Rattle.pt_signal.specs.declared.reason.Reason.{Reason}
+use Rattle.pt_signal.specs.declared.reason.Reason.TheVariants.{Normal, Kill, Killed, Noproc, Shutdown, Other}
+use Rattle.pt_signal.specs.declared.item.Pick.{Pick}
+use Rattle.pt_signal.specs.declared.item.Item.{Item}
+use Rattle.pt_signal.specs.declared.item.Item.TheVariants.{User}
+use Rattle.pt_signal.specs.declared.signal.Signal.{Signal}
+use Rattle.pt_signal.specs.declared.signal.Signal.TheVariants.{Message, Link, Unlink, LinkExit, Monitor, Demonitor, AliveAsk, AliveSay}
+use Rattle.pt_signal.specs.declared.letter.Letter.{Letter}
+use Rattle.pt_events.specs.declared.event.Event.{Event}
+use Rattle.pt_events.specs.declared.event.Event.TheVariants.{Born, Said, Came, Took, Flag, Left, Refused}
+use Rattle.pt_events.specs.declared.event.Stamped.{Stamped}
+use Rattle.pt_texts.specs.Steps.{Reader, or_else, none_of_these, given, before, closed, pair, mapped, optional}
+use Rattle.pt_texts.specs.Numbers.{u8_at, u32_at, u64_at, i64_at}
+
+unfoldable pub pid_at : Reader Pid
+pid_at = mapped (λ x. record { shard = x.0; slot = x.1.0; version = x.1.1 })
+    (before (codes "<") (closed (pair u8_at (before (codes ".") (pair u32_at (before (codes ".") u32_at)))) (codes ">")))
+
+unfoldable pub ref_at : Reader Ref
+ref_at = mapped (λ x. record { desk = x.0; number = x.1 }) (before (codes "#") (pair u8_at (before (codes ".") u64_at)))
+
+unfoldable pub link_id_at : Reader LinkId
+link_id_at = mapped (λ x. record { desk = x.0; number = x.1 }) (before (codes "~") (pair u8_at (before (codes ".") u64_at)))
+
+unfoldable pub ids_at : Reader Ids
+ids_at = mapped (λ x. record { one = x.0; two = x.1 }) (pair link_id_at (optional (codes "+") link_id_at))
+
+unfoldable pub body_at : Reader Body
+body_at = mapped (λ x. record { kind = x.0; num = x.1.0; who = x.1.1 }) (pair u32_at (before (codes " ") (pair i64_at (optional (codes " who ") pid_at))))
+
+unfoldable pub reason_at : Reader Reason
+reason_at =
+    or_else (codes "normal") (given Normal)
+    (or_else (codes "killed") (given Killed)
+    (or_else (codes "kill") (given Kill)
+    (or_else (codes "noproc") (given Noproc)
+    (or_else (codes "shutdown") (given Shutdown)
+    (or_else (codes "other:") (mapped Other u32_at)
+    none_of_these)))))
+
+unfoldable pub yes_or_no_at : Reader Bool
+yes_or_no_at = or_else (codes "yes") (given true) (or_else (codes "no") (given false) none_of_these)
+
+unfoldable pub item_at : Reader Item
+item_at =
+    or_else (codes "user ") (mapped (λ x. User x.0 x.1) (pair pid_at (before (codes " ") body_at)))
+    (or_else (codes "exit ") (mapped (λ x. Item.Exit x.0 x.1) (pair pid_at (before (codes " ") reason_at)))
+    (or_else (codes "down ") (mapped (λ x. Item.Down x.0 x.1.0 x.1.1) (pair ref_at (before (codes " ") (pair pid_at (before (codes " ") reason_at)))))
+    (or_else (codes "alive ") (mapped (λ x. Item.Alive x.0 x.1.0 x.1.1) (pair ref_at (before (codes " ") (pair pid_at (before (codes " ") yes_or_no_at)))))
+    none_of_these)))
+
+unfoldable pub pick_at : Reader Pick
+pick_at =
+    or_else (codes "any") (given Pick.Any)
+    (or_else (codes "kind ") (mapped Pick.Kind u32_at)
+    (or_else (codes "from ") (mapped Pick.From pid_at)
+    (or_else (codes "exit-of ") (mapped Pick.ExitOf pid_at)
+    (or_else (codes "down-of ") (mapped Pick.DownOf ref_at)
+    (or_else (codes "alive-of ") (mapped Pick.AliveOf ref_at)
+    none_of_these)))))
+
+unfoldable pub signal_at : Reader Signal
+signal_at =
+    or_else (codes "message ") (mapped Message body_at)
+    (or_else (codes "link ") (mapped Link link_id_at)
+    (or_else (codes "unlink ") (mapped Unlink ids_at)
+    (or_else (codes "exit ") (mapped Signal.Exit reason_at)
+    (or_else (codes "link-exit ") (mapped (λ x. LinkExit x.0 x.1) (pair ids_at (before (codes " ") reason_at)))
+    (or_else (codes "monitor ") (mapped Monitor ref_at)
+    (or_else (codes "demonitor ") (mapped Demonitor ref_at)
+    (or_else (codes "down ") (mapped (λ x. Signal.Down x.0 x.1) (pair ref_at (before (codes " ") reason_at)))
+    (or_else (codes "alive-ask ") (mapped AliveAsk ref_at)
+    (or_else (codes "alive-say ") (mapped (λ x. AliveSay x.0 x.1) (pair ref_at (before (codes " ") yes_or_no_at)))
+    none_of_these)))))))))
+
+unfoldable pub route_at : Reader (Pid × Pid)
+route_at = pair pid_at (before (codes " -> ") pid_at)
+
+unfoldable pub letter_at : Reader Letter
+letter_at = mapped (λ x. record { from = x.0.0; to = x.0.1; signal = x.1.0; stamp = x.1.1 }) (pair route_at (before (codes " ") (pair signal_at (before (codes " @") u64_at))))
+
+unfoldable pub switch_at : Reader Bool
+switch_at = or_else (codes "on") (given true) (or_else (codes "off") (given false) none_of_these)
+
+abbrev pub parent_at : Reader (Option Pid)
+parent_at = optional (codes " by ") pid_at
+
+abbrev pub birth_link_at : Reader (Option LinkId)
+birth_link_at = optional (codes " link ") link_id_at
+
+unfoldable pub birth_at : Reader Event
+birth_at = mapped (λ x. Born x.0 x.1.0 x.1.1) (pair pid_at (pair parent_at birth_link_at))
+
+unfoldable pub event_at : Reader Event
+event_at =
+    or_else (codes "said ") (mapped (λ x. Said x.0.0 x.0.1 x.1) (pair route_at (before (codes " ") signal_at)))
+    (or_else (codes "came ") (mapped (λ x. Came x.0.0 x.0.1 x.1) (pair route_at (before (codes " ") signal_at)))
+    (or_else (codes "took ") (mapped (λ x. Took x.0 x.1.0 x.1.1) (pair pid_at (before (codes " ") (pair pick_at (before (codes " = ") item_at)))))
+    (or_else (codes "born ") birth_at
+    (or_else (codes "left ") (mapped (λ x. Left x.0 x.1) (pair pid_at (before (codes " ") reason_at)))
+    (or_else (codes "flag ") (mapped (λ x. Flag x.0 x.1) (pair pid_at (before (codes " ") switch_at)))
+    (or_else (codes "refused ") (mapped (λ x. Refused x.0 x.1) route_at)
+    none_of_these))))))
+
+unfoldable pub stamped_at : Reader Stamped
+stamped_at = mapped (λ x. record { stamp = x.0; desk = x.1.0; event = x.1.1 }) (pair u64_at (before (codes "@") (pair u8_at (before (codes " ") event_at))))

@@ -1,0 +1,11 @@
+//! Values and events read back from their printed texts.
+#![tactic(auto)]
+
+mod events;
+mod numbers;
+mod signals;
+mod steps;
+mod values;
+
+pub use events::stamped_at;
+pub use signals::letter_at;

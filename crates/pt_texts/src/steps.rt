@@ -1,0 +1,46 @@
+//! The first steps of reading a text from its front.
+
+ghost use Rattle.std.specs.Prelude.{◌≡◌, option_map};
+ghost use Rattle.pt_texts.specs.Steps.{Gives, behind, word_at, ended};
+
+/// A value and the text behind it, or how many bytes are left where reading stops.
+pub type Read<'a, T> = Result<(T, &'a [u8]), usize>;
+
+/// What stands behind the word, where the text begins with it.
+#[tactic(auto, using(crate::proofs::OneMore::behind_step, crate::proofs::OneMore::behind_short))]
+pub fn behind<'a>(word: &str, text: &'a [u8]) -> Option<&'a [u8]>
+    ensures { option_map (λ rest. rest.now) result ≡ behind word.now text.now }
+{
+    let word = word.as_bytes();
+    for place in 0..word.len() {
+        if place >= text.len() {
+            return None;
+        }
+        if word[place] != text[place] {
+            return None;
+        }
+    }
+    Some(&text[word.len()..])
+}
+
+/// What stands behind the word, which the text has to begin with.
+pub fn word_at<'a>(word: &str, text: &'a [u8]) -> Result<&'a [u8], usize>
+    ensures { Gives (λ rest. rest.now) result (word_at word.now text.now) }
+{
+    match behind(word, text) {
+        Some(rest) => Ok(rest),
+        None => Err(text.len()),
+    }
+}
+
+/// The value, where nothing stands behind it.
+pub fn ended<T: Copy>(read: (T, &[u8])) -> Result<T, usize>
+    ensures { result ≡ ended (read.entry.0, read.entry.1.now) }
+{
+    let (value, rest) = read;
+    if rest.len() == 0 {
+        Ok(value)
+    } else {
+        Err(rest.len())
+    }
+}
