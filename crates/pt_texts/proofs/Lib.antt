@@ -1,1 +1,6 @@
 pub mod OneMore
+pub mod Pieces
+pub mod Decimals
+pub mod Signed
+pub mod Printed
+pub mod Told

@@ -1,3 +1,5 @@
 pub mod Steps
 pub mod Numbers
 pub mod Readers
+pub mod Fits
+pub mod Text

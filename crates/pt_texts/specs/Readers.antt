@@ -16,6 +16,7 @@ use Rattle.pt_signal.specs.declared.letter.Letter.{Letter}
 use Rattle.pt_events.specs.declared.event.Event.{Event}
 use Rattle.pt_events.specs.declared.event.Event.TheVariants.{Born, Said, Came, Took, Flag, Left, Refused}
 use Rattle.pt_events.specs.declared.event.Stamped.{Stamped}
+use Rattle.pt_texts.specs.declared.left_over.LeftOver.{LeftOver}
 use Rattle.pt_texts.specs.Steps.{Reader, or_else, none_of_these, given, before, closed, pair, mapped, optional}
 use Rattle.pt_texts.specs.Numbers.{u8_at, u32_at, u64_at, i64_at}
 
@@ -111,3 +112,6 @@ event_at =
 
 unfoldable pub stamped_at : Reader Stamped
 stamped_at = mapped (λ x. record { stamp = x.0; desk = x.1.0; event = x.1.1 }) (pair u64_at (before (codes "@") (pair u8_at (before (codes " ") event_at))))
+
+unfoldable pub left_over_at : Reader LeftOver
+left_over_at = mapped (λ x. record { from_desk = x.0; to_desk = x.1.0; letter = x.1.1 }) (before (codes "left-over ") (pair u8_at (before (codes " -> ") (pair u8_at (before (codes " ") letter_at)))))

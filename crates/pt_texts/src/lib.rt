@@ -2,10 +2,11 @@
 #![tactic(auto)]
 
 mod events;
+mod left_over;
 mod numbers;
 mod signals;
 mod steps;
 mod values;
 
 pub use events::stamped_at;
-pub use signals::letter_at;
+pub use left_over::LeftOver;

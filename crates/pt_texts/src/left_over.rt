@@ -1,0 +1,35 @@
+//! A letter that was sent and did not come.
+
+ghost use Rattle.pt_texts.specs.Readers.{left_over_at};
+ghost use Rattle.pt_texts.specs.Steps.{Gives};
+
+use crate::numbers::u8_at;
+use crate::signals::letter_at;
+use crate::steps::{Read, word_at};
+use pt_signal::Letter;
+
+/// A letter that was sent and did not come before the desks were gathered, as the last lines of a printed history
+/// tell them.
+#[derive(Clone, Copy, Debug, PartialEq, Eq)]
+pub struct LeftOver {
+    /// The desk of its sender.
+    pub from_desk: u8,
+    /// The desk of its receiver.
+    pub to_desk: u8,
+    pub letter: Letter,
+}
+
+#[tactic(auto, unfolding(crate::specs::Readers::left_over_at))]
+pub fn left_over_at(text: &[u8]) -> Read<'_, LeftOver>
+    ensures { Gives (λ read. (read.0, read.1.now)) result (left_over_at text.now) }
+{
+    let (from_desk, rest) = u8_at(word_at("left-over ", text)?)?;
+    let (to_desk, rest) = u8_at(word_at(" -> ", rest)?)?;
+    let (letter, rest) = letter_at(word_at(" ", rest)?)?;
+    let left_over = LeftOver {
+        from_desk,
+        to_desk,
+        letter,
+    };
+    Ok((left_over, rest))
+}
