@@ -1,12 +1,12 @@
 -- The judgement of one event more.
-use Rattle.std.proofs.Common.{◌≡◌, ℕ, ◌+◌, ◌<◌, Option, Some, None, Ok, Err, List, [], take, reverse, length, get_or, sym, ap, ◌∙◌, subst}
+use Rattle.std.proofs.Common.{◌≡◌, ℕ, ◌+◌, ◌<◌, Option, Some, None, Result, Ok, Err, List, [], ◌++◌, append-nil, take, reverse, length, get_or, sym, ap, ◌∙◌, subst}
 use Rattle.std.proofs.lemmas.Option.{slice_get-get_or}
 use Rattle.pt_judge.specs.declared.cause.Cause.{Cause}
 use Rattle.pt_judge.specs.declared.cause.Cause.TheVariants.{BornTwice, NotAlive, NotFront, NotFirstMatch, Unlawful, Memory}
 use Rattle.pt_events.specs.declared.event.Event.{Event}
 use Rattle.pt_events.specs.declared.event.Event.TheVariants.{Born}
 use Rattle.pt_events.specs.History.{Past, Start, May, IsLegal}
-use Rattle.pt_judge.specs.Judge.{Refuses, IsCause, IsJudged, IsAfter, Judges, FailsAt, Fails}
+use Rattle.pt_judge.specs.Judge.{Refuses, IsCause, IsJudged, IsAfter, Judges, FailsAt, Fails, Replays, FailsAfter, ReplaysAfter}
 use Rattle.pt_judge.specs.Judging.{JudgeState, now_is, known, known_after, cause}
 use Rattle.pt_judge.proofs.Judge.{no_cause}
 use Rattle.pt_judge.proofs.Judged.{judged}
@@ -50,18 +50,28 @@ module _ (start : Start) where
   fails_at past e NotFirstMatch j = (λ m. no_cause start past e NotFirstMatch m j.0, j)
   fails_at past e Unlawful j = (λ m. no_cause start past e Unlawful m j.0, j)
 
-  pub failed : (h : List Event) (n : ℕ) (o : Event) (c : Cause) → n < length h → Judges start (reverse (take n h)) (get_or h n o) (Err c) → Fails start h n c
-  failed h n o c k j = (get_or h n o, slice_get-get_or h n o k, fails_at (reverse (take n h)) (get_or h n o) c j)
+  module _ (past : Past) where
+    pub failed : (h : List Event) (n : ℕ) (o : Event) (c : Cause) → n < length h → Judges start (reverse (take n h) ++ past) (get_or h n o) (Err c) → FailsAfter start past h n c
+    failed h n o c k j = (get_or h n o, slice_get-get_or h n o k, fails_at (reverse (take n h) ++ past) (get_or h n o) c j)
 
-  -- the judge has come to the place
-  pub record IsAtPlace (h : List Event) (n : ℕ) (s : JudgeState) : Type 0 where
-    pub is_after : IsAfter start (reverse (take n h)) s
-    pub legal : IsLegal start (reverse (take n h))
+    -- the judge has come to the place
+    pub record IsAtPlace (h : List Event) (n : ℕ) (s : JudgeState) : Type 0 where
+      pub is_after : IsAfter start (reverse (take n h) ++ past) s
+      pub legal : IsLegal start (reverse (take n h) ++ past)
 
-  pub next_place : (h : List Event) (n : ℕ) (o : Event) (s now : JudgeState) → n < length h → IsAtPlace h n s → Judges start (reverse (take n h)) (get_or h n o) (Ok now) → IsAtPlace h (n + 1) now
-  next_place h n o s now k a j =
-      let here = reverse_take h n o k in
-      record {
-        is_after = subst (λ z. IsAfter start z now) (sym here) j.1;
-        legal = subst (IsLegal start) (sym here) (j.0, a.legal);
-      }
+    pub next_place : (h : List Event) (n : ℕ) (o : Event) (s now : JudgeState) → n < length h → IsAtPlace h n s → Judges start (reverse (take n h) ++ past) (get_or h n o) (Ok now) → IsAtPlace h (n + 1) now
+    next_place h n o s now k a j =
+        let here = ap (λ z. z ++ past) (reverse_take h n o k) in
+        record {
+          is_after = subst (λ z. IsAfter start z now) (sym here) j.1;
+          legal = subst (IsLegal start) (sym here) (j.0, a.legal);
+        }
+
+  -- after no past
+  pub from_nothing : (h : List Event) (r : Result JudgeState (ℕ × Cause)) → ReplaysAfter start [] h r → Replays start h r
+  from_nothing h (Ok s) k = (subst (λ z. IsAfter start z s) (append-nil (reverse h)) k.0, subst (IsLegal start) (append-nil (reverse h)) k.1)
+  from_nothing h (Err stop) k = (
+    k.0,
+    subst (IsLegal start) (append-nil (reverse (take stop.0 h))) k.1,
+    (k.2.0, k.2.1, subst (λ z. FailsAt start z k.2.0 stop.1) (append-nil (reverse (take stop.0 h))) k.2.2),
+  )

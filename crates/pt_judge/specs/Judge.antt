@@ -1,5 +1,5 @@
 -- Why an event may not come.
-use Rattle.std.specs.Prelude.{◌≡◌, ℕ, ◌<◌, true, false, Option, Some, None, Ok, Err, List, ◌∷◌, length, reverse, take, slice_get}
+use Rattle.std.specs.Prelude.{◌≡◌, ℕ, ◌<◌, true, false, Option, Some, None, Ok, Err, List, ◌∷◌, ◌++◌, length, reverse, take, slice_get}
 use Rattle.std.specs.declared.result.Result.{Result}
 use Rattle.std.specs.List.{find}
 use Rattle.pt_signal.specs.declared.pid.Pid.{Pid}
@@ -81,3 +81,11 @@ module _ (start : Start) where
   abbrev pub Replays : List Event → Result JudgeState (ℕ × Cause) → Type 0
   Replays h (Ok s) = IsAfter (reverse h) s × IsLegal start (reverse h)
   Replays h (Err stop) = (stop.0 < length h) × IsLegal start (reverse (take stop.0 h)) × Fails h stop.0 stop.1
+
+  -- the same of events that come after a legal past
+  abbrev pub FailsAfter : Past → List Event → ℕ → Cause → Type 0
+  FailsAfter past h n c = (e : Event) × (slice_get h n ≡ Some e) × FailsAt (reverse (take n h) ++ past) e c
+
+  abbrev pub ReplaysAfter : Past → List Event → Result JudgeState (ℕ × Cause) → Type 0
+  ReplaysAfter past h (Ok s) = IsAfter (reverse h ++ past) s × IsLegal start (reverse h ++ past)
+  ReplaysAfter past h (Err stop) = (stop.0 < length h) × IsLegal start (reverse (take stop.0 h) ++ past) × FailsAfter past h stop.0 stop.1

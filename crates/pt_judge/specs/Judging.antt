@@ -1,10 +1,11 @@
 -- What the judge knows, and what its own functions say.
 use Rattle.std.specs.Prelude.{◌≡◌, Bool, true, false, cond, not, ◌&&◌, ◌||◌, Option, Some, None, is_some, is_none, List, [], ◌∷◌, ◌++◌}
 use Rattle.std.specs.Map.{lookup}
-use Rattle.std.specs.List.{find}
+use Rattle.std.specs.List.{find, list_any}
 use Rattle.std.specs.Option.{option_map}
 use Rattle.pt_signal.specs.declared.pid.Pid.{Pid}
 use Rattle.pt_signal.specs.declared.ids.LinkId.{LinkId}
+use Rattle.pt_signal.specs.declared.ids.Ref.{Ref}
 use Rattle.pt_signal.specs.declared.ids.Ids.{Ids}
 use Rattle.pt_signal.specs.declared.item.Item.{Item}
 use Rattle.pt_signal.specs.declared.reason.Reason.{Reason}
@@ -15,7 +16,7 @@ use Rattle.pt_judge.specs.declared.cause.Cause.{Cause}
 use Rattle.pt_judge.specs.declared.cause.Cause.TheVariants.{BornTwice, NotAlive, NotFront, NotFirstMatch, Unlawful}
 use Rattle.pt_events.specs.declared.event.Event.{Event}
 use Rattle.pt_events.specs.declared.event.Event.TheVariants.{Born, Said, Came, Took, Flag, Left, Refused}
-use Rattle.pt_signal.specs.Values.{same_pid, same_ref, fits}
+use Rattle.pt_signal.specs.Values.{same_pid, same_ref, same_link, fits}
 use Rattle.pt_signal.specs.Process.{ProcessState, held, handle, obey, verdict, Sent, sent, bounce}
 use Rattle.pt_events.specs.History.{Past, Start, Phase, unborn, is_birth, is_living, is_unborn, is_the, is_between, at_start, after, landed, reason_of, state_of, end_sends, life, flying, made_link, made_ref}
 use Rattle.pt_judge.specs.Same.{same_item, same_ids, same_signal}
@@ -45,6 +46,19 @@ known_after start past = record { past = past; is = life start past; flights = f
 -- the table lists those that were born, and no other
 abbrev pub ListsBorn : Start → Type 0
 ListsBorn lives = (p : Pid) → is_some (lookup (same_pid p) lives) ≡ not (is_unborn (at_start lives p))
+
+-- these are the link ids, and these the references, that the history made
+abbrev pub ListsLinks : List LinkId → Past → Type 0
+ListsLinks ids past = (i : LinkId) → list_any (same_link i) ids ≡ made_link past i
+
+abbrev pub ListsRefs : List Ref → Past → Type 0
+ListsRefs refs past = (m : Ref) → list_any (same_ref m) refs ≡ made_ref past m
+
+-- what is kept beside the history is what it made
+pub record IsKept (past : Past) (links : List LinkId) (refs : List Ref) (lives : Start) : Type 0 where
+  pub links_made : ListsLinks links past
+  pub refs_made : ListsRefs refs past
+  pub born : ListsBorn lives
 
 abbrev pub is_kill : Reason → Bool
 is_kill Kill = true

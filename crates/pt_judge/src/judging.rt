@@ -10,4 +10,4 @@ mod state;
 mod trial;
 
 pub use state::State;
-pub use trial::replay;
+pub use trial::{replay, replay_from};

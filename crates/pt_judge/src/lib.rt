@@ -12,4 +12,4 @@ mod cause;
 mod judging;
 
 pub use cause::Cause;
-pub use judging::{State, replay};
+pub use judging::{State, replay, replay_from};

@@ -4,3 +4,4 @@ pub mod Decimals
 pub mod Signed
 pub mod Printed
 pub mod Told
+pub mod Parsed

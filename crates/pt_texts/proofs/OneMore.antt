@@ -1,10 +1,9 @@
 -- One byte more of a word or a number.
-use Rattle.std.proofs.Common.{◌≡◌, ℕ, ◌+◌, ◌-◌, ◌*◌, ◌<◌, ◌≤◌, ◌==◌, Bool, true, false, Option, Some, None, Ok, Err, List, [], ◌∷◌, drop, length, get_or, refl, ap, sym, ◌∙◌, subst, arith, add-one, drop-cons}
+use Rattle.std.proofs.Common.{◌≡◌, ℕ, ◌+◌, ◌<◌, ◌≤◌, ◌==◌, None, List, ◌∷◌, drop, length, get_or, refl, ap, add-one, drop-cons}
 use Rattle.std.proofs.lemmas.List.{drop_all}
 use Rattle.std.specs.Prelude.{if◌then◌else◌}
-use Rattle.std.specs.Prelude.{nat_le}
-use Rattle.pt_texts.specs.Steps.{Read, behind}
-use Rattle.pt_texts.specs.Numbers.{is_digit, digits_at, number_at}
+use Rattle.pt_texts.specs.Steps.{behind}
+use Rattle.pt_texts.specs.Numbers.{digits_at}
 
 pub at_place : (xs : List ℕ) (p : ℕ) → p < length xs → drop p xs ≡ get_or xs p 0 ∷ drop (p + 1) xs
 at_place xs p h = rw add-one (drop-cons xs p 0 h)

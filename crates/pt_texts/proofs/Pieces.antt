@@ -1,6 +1,6 @@
 -- Readers of pieces, put together: what is read is what is printed, and what is printed is read again.
-use Rattle.std.proofs.Common.{◌≡◌, ℕ, ◌==◌, Bool, true, false, cond, Option, Some, None, Result, Ok, Err, List, [], ◌∷◌, ◌++◌, length, refl, ap, sym, ◌∙◌, subst, append_assoc, append-nil, eqb-true, eq-eqb}
-use Rattle.pt_texts.specs.Steps.{Read, Reader, ◌>>=◌, behind, expected, word_at, choose, or_else, none_of_these, given, before, closed, pair, mapped, optional, ended, whole}
+use Rattle.std.proofs.Common.{◌≡◌, ℕ, ◌==◌, Bool, true, false, cond, Option, Some, None, Result, Ok, Err, List, [], ◌∷◌, ◌++◌, refl, ap, sym, ◌∙◌, subst, append_assoc, append-nil, eqb-true, eq-eqb}
+use Rattle.pt_texts.specs.Steps.{Reader, ◌>>=◌, behind, expected, word_at, choose, or_else, none_of_these, given, before, closed, pair, mapped, optional, ended, whole}
 use Rattle.pt_texts.specs.Fits.{FitsIfAny}
 
 -- what is read is what such a value prints, and then the rest

@@ -1,12 +1,12 @@
 -- Each kind of value is read as it is printed.
-use Rattle.std.proofs.Common.{◌≡◌, ℕ, ℤ, ◌-◌, ◌^◌, ◌<◌, ◌≤◌, Bool, true, false, Option, Some, None, Ok, List, [], ◌∷◌, ◌++◌, decimal, codes, refl, ap, sym, ◌∙◌, append_assoc, append-nil, arith}
+use Rattle.std.proofs.Common.{◌≡◌, ℕ, ℤ, ◌-◌, ◌^◌, ◌<◌, Bool, true, false, Option, Some, None, Ok, List, [], ◌∷◌, ◌++◌, decimal, codes, refl, append_assoc, arith}
 use Rattle.std.specs.Fmt.{signed_decimal}
 use Rattle.pt_signal.specs.declared.pid.Pid.{Pid}
 use Rattle.pt_signal.specs.declared.ids.Ref.{Ref}
 use Rattle.pt_signal.specs.declared.ids.LinkId.{LinkId}
 use Rattle.pt_signal.specs.declared.ids.Ids.{Ids}
 use Rattle.pt_signal.specs.declared.item.Body.{Body}
-use Rattle.pt_signal.specs.Text.{pid_text, ref_text, link_id_text, ids_text, second_text, body_text, who_text, reason_text, yes_or_no_text, item_text, pick_text, signal_text, route_text, letter_text}
+use Rattle.pt_signal.specs.Text.{pid_text, ref_text, link_id_text, ids_text, body_text, reason_text, yes_or_no_text, item_text, pick_text, signal_text, route_text, letter_text}
 use Rattle.pt_signal.specs.declared.reason.Reason.{Reason}
 use Rattle.pt_signal.specs.declared.reason.Reason.TheVariants.{Normal, Kill, Killed, Noproc, Shutdown, Other}
 use Rattle.pt_signal.specs.declared.item.Pick.{Pick}
@@ -14,11 +14,10 @@ use Rattle.pt_signal.specs.declared.item.Item.{Item}
 use Rattle.pt_signal.specs.declared.item.Item.TheVariants.{User}
 use Rattle.pt_signal.specs.declared.signal.Signal.{Signal}
 use Rattle.pt_signal.specs.declared.signal.Signal.TheVariants.{Message, Link, Unlink, LinkExit, Monitor, Demonitor, AliveAsk, AliveSay}
-use Rattle.pt_signal.specs.declared.letter.Letter.{Letter}
-use Rattle.pt_texts.specs.Steps.{Read, Reader, behind, before, closed, pair, mapped, optional}
-use Rattle.pt_texts.specs.Numbers.{is_digit, u8_at, u32_at, u64_at, i64_at}
+use Rattle.pt_texts.specs.Steps.{Reader, behind, before, pair}
+use Rattle.pt_texts.specs.Numbers.{u8_at, u32_at, u64_at}
 use Rattle.pt_texts.specs.Readers.{pid_at, ref_at, link_id_at, ids_at, body_at, reason_at, yes_or_no_at, item_at, pick_at, signal_at, route_at, letter_at}
-use Rattle.pt_texts.specs.Fits.{FitsIfAny, FitsPid, FitsRef, FitsLinkId, FitsIds, FitsNumber, FitsBody, FitsReason, FitsItem, FitsPick, FitsSignal, FitsLetter}
+use Rattle.pt_texts.specs.Fits.{FitsPid, FitsRef, FitsLinkId, FitsIds, FitsBody, FitsReason, FitsItem, FitsPick, FitsSignal, FitsLetter}
 use Rattle.pt_texts.proofs.Pieces.{Reads, Takes, Anything, before_reads, closed_reads, mapped_reads, fit_as, print_as, stop_as, text_if_any, mapped_again, again_behind, optional_reads, pair_reads, none_takes, given_takes, or_takes}
 use Rattle.pt_texts.proofs.Decimals.{NoDigit, number_reads}
 use Rattle.pt_texts.proofs.Signed.{signed_reads}

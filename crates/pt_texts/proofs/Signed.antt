@@ -1,7 +1,7 @@
 -- Numbers with a sign are read as they are printed.
-use Rattle.std.proofs.Common.{◌≡◌, ℕ, zero, suc, ◌+◌, ◌-◌, ◌*◌, ◌^◌, ◌<◌, ◌≤◌, ◌==◌, ℤ, pos, negsuc, Bool, true, false, cond, Option, Some, None, Ok, Err, List, [], ◌∷◌, ◌++◌, length, decimal, codes, refl, ap, sym, ◌∙◌, subst, eqb-true, arith}
+use Rattle.std.proofs.Common.{◌≡◌, ℕ, zero, suc, ◌-◌, ◌^◌, ◌≤◌, ◌==◌, ℤ, pos, negsuc, Bool, true, false, cond, Option, Some, None, Ok, List, [], ◌∷◌, ◌++◌, decimal, codes, refl, ap, sym, ◌∙◌, subst, eqb-true, arith}
 use Rattle.std.specs.Fmt.{signed_decimal}
-use Rattle.pt_texts.specs.Steps.{Read, Reader, ◌>>=◌, behind, choose, mapped}
+use Rattle.pt_texts.specs.Steps.{◌>>=◌, behind, choose, mapped}
 use Rattle.pt_texts.specs.Numbers.{number_at, negated, i64_at}
 use Rattle.pt_texts.specs.Fits.{FitsNumber}
 use Rattle.pt_texts.proofs.Pieces.{Reads, ok_is, bound, behind_is}

@@ -1,21 +1,18 @@
 -- Events and letters left over are read as they are printed.
-use Rattle.std.proofs.Common.{◌≡◌, ℕ, ◌^◌, ◌<◌, Bool, true, false, Option, Some, None, Ok, List, [], ◌∷◌, ◌++◌, decimal, codes, refl, ap, sym, ◌∙◌, append_assoc, arith}
+use Rattle.std.proofs.Common.{◌≡◌, ℕ, Bool, true, false, Option, Some, None, Ok, List, [], ◌∷◌, ◌++◌, codes, refl, append_assoc}
 use Rattle.pt_signal.specs.declared.pid.Pid.{Pid}
 use Rattle.pt_signal.specs.declared.ids.LinkId.{LinkId}
 use Rattle.pt_signal.specs.declared.item.Item.{Item}
 use Rattle.pt_signal.specs.declared.item.Pick.{Pick}
-use Rattle.pt_signal.specs.declared.reason.Reason.{Reason}
 use Rattle.pt_signal.specs.declared.signal.Signal.{Signal}
 use Rattle.pt_events.specs.declared.event.Event.{Event}
 use Rattle.pt_events.specs.declared.event.Event.TheVariants.{Born, Said, Came, Took, Flag, Left, Refused}
-use Rattle.pt_events.specs.declared.event.Stamped.{Stamped}
-use Rattle.pt_signal.specs.Text.{pid_text, link_id_text, reason_text, item_text, pick_text, signal_text, route_text, letter_text}
+use Rattle.pt_signal.specs.Text.{pid_text, link_id_text, item_text, pick_text, signal_text, route_text}
 use Rattle.pt_events.specs.Text.{parent_text, link_text, switch_text, event_text, stamped_text}
 use Rattle.pt_texts.specs.Text.{left_over_text}
-use Rattle.pt_texts.specs.Steps.{Reader, behind, before, pair, mapped, optional}
-use Rattle.pt_texts.specs.Numbers.{u8_at, u64_at}
-use Rattle.pt_texts.specs.Readers.{pid_at, reason_at, item_at, pick_at, signal_at, route_at, switch_at, parent_at, birth_link_at, birth_at, event_at, stamped_at, left_over_at}
-use Rattle.pt_texts.specs.Fits.{FitsIfAny, FitsPid, FitsLinkId, FitsReason, FitsItem, FitsPick, FitsSignal, FitsEvent, FitsStamped, FitsLeftOver}
+use Rattle.pt_texts.specs.Steps.{behind, before, pair}
+use Rattle.pt_texts.specs.Readers.{pid_at, item_at, pick_at, signal_at, route_at, switch_at, parent_at, birth_link_at, birth_at, event_at, stamped_at, left_over_at}
+use Rattle.pt_texts.specs.Fits.{FitsIfAny, FitsPid, FitsLinkId, FitsItem, FitsPick, FitsSignal, FitsEvent, FitsStamped, FitsLeftOver}
 use Rattle.pt_texts.proofs.Pieces.{Reads, Takes, Anything, before_reads, mapped_reads, print_as, stop_as, text_if_any, again_behind, optional_reads, pair_reads, none_takes, given_takes, or_takes}
 use Rattle.pt_texts.proofs.Decimals.{NoDigit}
 use Rattle.pt_texts.proofs.Printed.{Fine, Blank, Ends, spaced, u8_reads, u64_reads, pid_reads, link_id_reads, pid_reason, item_reads, pick_reads, signal_reads, route_reads, letter_reads}

@@ -1,5 +1,5 @@
 -- The numbers of values are of their types.
-use Rattle.std.specs.Prelude.{ℕ, ◌<◌, ◌^◌, ℤ, Option, Some, None}
+use Rattle.std.specs.Prelude.{◌<◌, ◌^◌, ℤ, Option, Some, None}
 use lib.Signed.{mag}
 use Rattle.pt_signal.specs.declared.pid.Pid.{Pid}
 use Rattle.pt_signal.specs.declared.ids.Ref.{Ref}

@@ -1,7 +1,7 @@
 //! The first steps of reading a text from its front.
 
 ghost use Rattle.std.specs.Prelude.{◌≡◌, option_map};
-ghost use Rattle.pt_texts.specs.Steps.{Gives, behind, word_at, ended};
+ghost use Rattle.pt_texts.specs.Steps.{Gives, behind, word_at};
 
 /// A value and the text behind it, or how many bytes are left where reading stops.
 pub type Read<'a, T> = Result<(T, &'a [u8]), usize>;
@@ -30,17 +30,5 @@ pub fn word_at<'a>(word: &str, text: &'a [u8]) -> Result<&'a [u8], usize>
     match behind(word, text) {
         Some(rest) => Ok(rest),
         None => Err(text.len()),
-    }
-}
-
-/// The value, where nothing stands behind it.
-pub fn ended<T: Copy>(read: (T, &[u8])) -> Result<T, usize>
-    ensures { result ≡ ended (read.entry.0, read.entry.1.now) }
-{
-    let (value, rest) = read;
-    if rest.len() == 0 {
-        Ok(value)
-    } else {
-        Err(rest.len())
     }
 }

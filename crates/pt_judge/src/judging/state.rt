@@ -1,10 +1,11 @@
 //! What a legal history leads to.
 
-ghost use Rattle.std.specs.Prelude.{◌≡◌, ◌∷◌, [], Some, None, cond, reverse, length, is_some, IfOk};
+ghost use Rattle.std.specs.Prelude.{◌≡◌, ◌∷◌, [], Some, None, cond, reverse, length, is_some, ◌||◌, IfOk, OnOk};
+ghost use Rattle.indexmap.specs.IndexSet.{contains};
 ghost use Rattle.std.specs.Option.{option_map};
 ghost use Rattle.std.specs.Map.{lookup};
 ghost use Rattle.std.specs.List.{find};
-ghost use Rattle.pt_signal.specs.Values.{same_ref, fits};
+ghost use Rattle.pt_signal.specs.Values.{same_ref, same_link, fits};
 ghost use Rattle.pt_signal.specs.Process.{held};
 ghost use Rattle.pt_judge.specs.declared.cause.Cause.TheVariants.{NotAlive};
 ghost use Rattle.pt_events.specs.declared.event.Event.TheVariants.{Born, Said, Came, Took, Refused};
@@ -17,9 +18,10 @@ use crate::judging::holdings::Holdings;
 use crate::judging::links::{first_match, ids_with, target_of};
 use crate::judging::lives::{Life, holdings, is_known, is_living, lived, observe, reason};
 use crate::judging::same;
+use indexmap::IndexSet;
 use pt_events::Event;
 use pt_signal::{Ids, Item, LinkId, Pick, Pid, Reason, Ref, Signal};
-use std::alloc::{AllocError, Global};
+use std::alloc::{AllocError, AllocFailed, Global};
 use std::marker::Model;
 
 /// What a legal history leads to, for each pid that there could be.
@@ -29,68 +31,65 @@ use std::marker::Model;
 #[derive(Drop)]
 pub struct State {
     events: Vec<Event>,
+    /// The ids of links, and the references, that the events made.
+    links: IndexSet<LinkId>,
+    refs: IndexSet<Ref>,
     lives: Vec<Life>,
     flights: Vec<Flight>,
 }
 
 impl Model for State {
     ghost use Rattle.std.specs.Prelude.{reverse};
-    ghost use Rattle.pt_judge.specs.Judging.{JudgeState, ListsBorn};
+    ghost use Rattle.pt_judge.specs.Judging.{JudgeState, IsKept};
 
     ghost Value = { JudgeState };
 
     ghost view = { λ s. record { past = reverse s.events.items; lives = s.lives.items; flights = s.flights.items } };
 
-    ghost invariant = { λ s. ListsBorn s.lives.items };
+    ghost invariant = { λ s. IsKept (reverse s.events.items) s.links.keys s.refs.keys s.lives.items };
 }
 
-fn makes_link(id: LinkId, event: Event) -> bool
-    ensures { result ≡ makes_link id event }
+/// Adds the id of the link that the event makes, if it makes one.
+fn note_link(links: &mut IndexSet<LinkId>, event: Event) -> Result<(), AllocFailed<LinkId>>
+    ensures { OnOk result ((id : LinkId) → contains same_link links.new id ≡ makes_link id event || contains same_link links.old id) }
 {
     match event {
-        Event::Born(_, _, Some(made)) => id == made,
-        Event::Said(_, _, Signal::Link(made)) => id == made,
-        _ => false,
+        Event::Born(_, _, Some(made)) => {
+            links.insert(made)?;
+        }
+        Event::Said(_, _, Signal::Link(made)) => {
+            links.insert(made)?;
+        }
+        _ => {}
     }
+    Ok(())
 }
 
-fn makes_ref(monitor: Ref, event: Event) -> bool
-    ensures { result ≡ makes_ref monitor event }
+/// Adds the reference that the event makes, if it makes one.
+fn note_ref(refs: &mut IndexSet<Ref>, event: Event) -> Result<(), AllocFailed<Ref>>
+    ensures { OnOk result ((monitor : Ref) → contains same_ref refs.new monitor ≡ makes_ref monitor event || contains same_ref refs.old monitor) }
 {
     match event {
-        Event::Said(_, _, Signal::Monitor(made)) => monitor == made,
-        Event::Said(_, _, Signal::AliveAsk(made)) => monitor == made,
-        _ => false,
+        Event::Said(_, _, Signal::Monitor(made)) => {
+            refs.insert(made)?;
+        }
+        Event::Said(_, _, Signal::AliveAsk(made)) => {
+            refs.insert(made)?;
+        }
+        _ => {}
     }
-}
-
-fn made_link(events: &[Event], id: LinkId) -> bool
-    ensures { result ≡ made_link (reverse events.now) id }
-{
-    let mut made = false;
-    for place in 0..events.len() {
-        made = makes_link(id, events[place]) || made;
-    }
-    made
-}
-
-fn made_ref(events: &[Event], monitor: Ref) -> bool
-    ensures { result ≡ made_ref (reverse events.now) monitor }
-{
-    let mut made = false;
-    for place in 0..events.len() {
-        made = makes_ref(monitor, events[place]) || made;
-    }
-    made
+    Ok(())
 }
 
 impl State {
     /// The state before any event.
-    pub(super) fn new(alloc: Global) -> State
+    pub fn new(alloc: Global) -> State
         ensures { result ≡ record { past = []; lives = []; flights = [] } }
     {
         State {
             events: Vec::new(alloc),
+            links: IndexSet::new(alloc),
+            refs: IndexSet::new(alloc),
             lives: Vec::new(alloc),
             flights: Vec::new(alloc),
         }
@@ -188,13 +187,13 @@ impl State {
     fn made_link(&self, id: LinkId) -> bool
         ensures { result ≡ made_link self.now.past id }
     {
-        made_link(self.events.as_slice(), id)
+        self.links.contains(&id)
     }
 
     fn made_ref(&self, monitor: Ref) -> bool
         ensures { result ≡ made_ref self.now.past monitor }
     {
-        made_ref(self.events.as_slice(), monitor)
+        self.refs.contains(&monitor)
     }
 
     fn is_waiting_first(&self, pid: Pid, pick: Pick, item: Item) -> bool
@@ -368,6 +367,8 @@ impl State {
     {
         let State {
             mut events,
+            mut links,
+            mut refs,
             mut lives,
             mut flights,
         } = self;
@@ -375,9 +376,13 @@ impl State {
         observe(alloc, &mut lives, event)?;
         land(&mut flights, event);
         dispatch(&mut flights, lives.as_slice(), lived, event)?;
+        note_link(&mut links, event)?;
+        note_ref(&mut refs, event)?;
         events.push(event)?;
         Ok(State {
             events,
+            links,
+            refs,
             lives,
             flights,
         })

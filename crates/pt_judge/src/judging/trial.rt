@@ -1,8 +1,8 @@
 //! The judge.
 
 ghost use Rattle.std.specs.Prelude.{[]};
-ghost use Rattle.pt_events.specs.History.{Start, Past};
-ghost use Rattle.pt_judge.specs.Judge.{IsAfter, Judges, Replays};
+ghost use Rattle.pt_events.specs.History.{Start, Past, IsLegal};
+ghost use Rattle.pt_judge.specs.Judge.{IsAfter, Judges, Replays, ReplaysAfter};
 
 use crate::Cause;
 use crate::judging::state::State;
@@ -22,19 +22,17 @@ fn judge(alloc: Global, state: State, event: Event) -> Result<State, Cause>
     }
 }
 
-/// Judges a history, oldest event first: gives what it leads to where every event may come after those before it,
-/// and else the place of the first that may not, with the lowest cause that fits. Where memory is wanting for an
-/// event that may come, its place is given with `Cause::Memory`.
+/// Judges the events that come next after those that led to the state, oldest first: gives what they lead to where
+/// every one may come after those before it, and else the place of the first that may not, counted from the first of
+/// these events, with the lowest cause that fits. So a long history is judged piece by piece: the first from
+/// [`State::new`], each further one from the state that the pieces before it led to.
 ///
-/// The history begins with no process. What the judge does is written from the definitions, and shares with a desk
-/// what `pt_signal` has for its values alone: the tests for equal pids, references and ids, the methods of `Ids`,
-/// `Pick::fits`, and `Signal::answer_of_dead`.
-///
-/// It is plain and slow: the time grows with the square of the number of events.
-pub fn replay(alloc: Global, events: &[Event]) -> Result<State, (u64, Cause)>
-    ensures { Replays [] events.now result }
+/// Where memory is wanting for an event that may come, its place is given with `Cause::Memory`. The state goes with
+/// any refusal.
+pub fn replay_from(alloc: Global, state: State, events: &[Event]) -> Result<State, (u64, Cause)>
+    ensures { (start : Start) (past : Past) → IsAfter start past state → IsLegal start past → ReplaysAfter start past events.now result }
 {
-    let mut state = State::new(alloc);
+    let mut state = state;
     for place in 0..events.len() {
         match judge(alloc, state, events[place]) {
             Ok(next) => state = next,
@@ -42,4 +40,17 @@ pub fn replay(alloc: Global, events: &[Event]) -> Result<State, (u64, Cause)>
         }
     }
     Ok(state)
+}
+
+/// Judges a history, oldest event first: gives what it leads to where every event may come after those before it,
+/// and else the place of the first that may not, with the lowest cause that fits. Where memory is wanting for an
+/// event that may come, its place is given with `Cause::Memory`.
+///
+/// The history begins with no process. What the judge does is written from the definitions, and shares with a desk
+/// what `pt_signal` has for its values alone: the tests for equal pids, references and ids, the methods of `Ids`,
+/// `Pick::fits`, and `Signal::answer_of_dead`.
+pub fn replay(alloc: Global, events: &[Event]) -> Result<State, (u64, Cause)>
+    ensures { Replays [] events.now result }
+{
+    replay_from(alloc, State::new(alloc), events)
 }

@@ -1,5 +1,5 @@
-use Rattle.std.proofs.Common.{◌≡◌, None, ◌++◌, ◌∙◌, reverse, sym, ap, subst}
-use Rattle.pt_events.specs.History.{Start, landed}
+use Rattle.std.proofs.Common.{◌≡◌, ◌||◌, ◌∷◌, None, ◌++◌, ◌∙◌, reverse, sym, ap, subst}
+use Rattle.pt_events.specs.History.{Start, landed, makes_link, makes_ref, made_link, made_ref}
 use Rattle.pt_judge.specs.Judging.{JudgeState, IsObserved, IsStep, sends, lived, known, cause}
 use Rattle.pt_events.proofs.Orders.{reverse_push}
 use Rattle.pt_judge.proofs.KeptNext.{lists_next, may_be_born}
@@ -9,10 +9,18 @@ pub observe-requires : goal.observe-requires
 observe-requires c =
     let s = c.self.inside in
     let old : JudgeState = record { past = reverse s.events.items; lives = s.lives.items; flights = s.flights.items } in
-    may_be_born old c.args.event c.self.invariant (subst (λ z. cause (known z) c.args.event ≡ None) (sym c.self.view_is) c.requires)
+    may_be_born old c.args.event c.self.invariant.born (subst (λ z. cause (known z) c.args.event ≡ None) (sym c.self.view_is) c.requires)
 
 pub invariant_of-result : goal.invariant_of-result
-invariant_of-result c = lists_next c.self.inside.lives.items c.observe.new.lives.items c.args.event c.self.invariant c.in_ok-observe.ensures
+invariant_of-result c =
+    let s = c.self.inside in
+    let e = c.args.event in
+    let here : reverse c.push.new.self.items ≡ e ∷ reverse s.events.items = ap reverse c.in_ok-push.ensures.items ∙ reverse_push s.events.items e in
+    record {
+      links_made = λ i. c.in_ok-note_link.ensures i ∙ ap (λ b. makes_link i e || b) (c.self.invariant.links_made i) ∙ ap (λ z. made_link z i) (sym here);
+      refs_made = λ m. c.in_ok-note_ref.ensures m ∙ ap (λ b. makes_ref m e || b) (c.self.invariant.refs_made m) ∙ ap (λ z. made_ref z m) (sym here);
+      born = lists_next s.lives.items c.observe.new.lives.items e c.self.invariant.born c.in_ok-observe.ensures;
+    }
 
 pub returns : goal.returns
 returns c =

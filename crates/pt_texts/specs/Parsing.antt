@@ -1,0 +1,21 @@
+-- What parsing promises: a text is read as a value exactly where it is what the value prints.
+use Rattle.std.specs.Prelude.{◌≡◌, ℕ, ◌+◌, ◌-◌, List, length, Result, Ok, Err, IfOk}
+use Rattle.pt_texts.specs.declared.parse.Refused.{Refused}
+use Rattle.pt_texts.specs.Steps.{Read, Reader, ◌>>=◌, ended}
+
+-- the column, from 1 on, behind all that was read
+abbrev pub told : {A : Type 0} → List ℕ → Result A ℕ → Result A Refused
+told text (Ok v) = Ok v
+told text (Err left) = Err (record { column = length text - left + 1 })
+
+-- nothing may stand behind what a reader read
+abbrev pub finished : {A : Type 0} → List ℕ → Read A → Result A Refused
+finished text read = told text (read >>= ended)
+
+pub record Parses {A : Type 0} (Fits : A → Type 0) (print : A → List ℕ) (reader : Reader A) (text : List ℕ) (result : Result A Refused) : Type 0 where
+  -- the text is what the value prints that was found
+  pub found : IfOk result (λ v. (text ≡ print v) × Fits v)
+  -- no value that prints so is refused, or taken for another
+  pub only : (v : A) → Fits v → text ≡ print v → result ≡ Ok v
+  -- a refusal tells the column up to which the text was read
+  pub column : result ≡ finished text (reader text)
