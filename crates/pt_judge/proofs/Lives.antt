@@ -1,33 +1,27 @@
 -- The lives of all processes, as a table.
-use Rattle.std.proofs.Common.{◌≡◌, ℕ, zero, suc, ◌+◌, ◌<◌, Bool, true, false, cond, ◌||◌, Option, Some, None, is_some, List, [], ◌∷◌, ◌++◌, map, take, drop, set, get_or, length, refl, ap, sym, ◌∙◌, subst, arith}
+use Rattle.std.proofs.Common.{◌≡◌, ℕ, zero, suc, ◌+◌, ◌<◌, Bool, true, false, cond, ◌||◌, Option, Some, None, is_some, List, [], ◌∷◌, ◌++◌, map, take, drop, set, get_or, length, nat_lt, ltb-false, ◌≤◌, refl, ap, sym, ◌∙◌, subst, arith}
 use Rattle.std.proofs.lemmas.Bool.{both_ways}
 use Rattle.std.proofs.lemmas.List.{map-append, take_more, length-map}
 use Rattle.std.proofs.Common.{append_assoc, length-take, drop-cons, add-one}
-use Rattle.std.specs.Map.{lookup}
-use Rattle.std.specs.List.{find}
+use Rattle.std.specs.Map.{lookup, set_value, keys_of}
+use Rattle.std.specs.List.{find, list_any, position, position_or_len}
 use Rattle.std.specs.Option.{option_map}
 use denote.Ref.{Bor}
 use Rattle.pt_signal.specs.declared.pid.Pid.{Pid}
 use Rattle.pt_signal.specs.declared.ids.LinkId.{LinkId}
 use Rattle.pt_events.specs.declared.event.Event.{Event}
-use Rattle.pt_events.specs.declared.event.Event.TheVariants.{Born, Said, Came, Took, Flag, Left}
+use Rattle.pt_events.specs.declared.event.Event.TheVariants.{Born, Said, Came, Took, Flag, Left, Refused}
 use Rattle.pt_signal.specs.Values.{same_pid}
-use Rattle.pt_events.specs.History.{Start, Phase, unborn, at_start, phase_or_unborn, after, newborn, is_the, is_birth}
-use Rattle.pt_judge.specs.Judging.{shown, IsObserved}
+use Rattle.pt_events.specs.History.{Start, Phase, unborn, at_start, phase_or_unborn, after, newborn, touches, is_the, is_birth}
+use Rattle.pt_judge.specs.Judging.{shown, ShownTo, IsShownToParent, IsObserved}
 use Rattle.pt_signal.proofs.Same.{same_pid_is, same_pid_refl}
-use Rattle.pt_judge.proofs.FirstPlaces.{lookup_first}
+use Rattle.pt_judge.specs.Places.{first_place}
+use Rattle.indexmap.specs.IndexSet.{insert_key}
+use Rattle.std.proofs.lemmas.Map.Made.{is_some-lookup}
+use Rattle.pt_judge.proofs.FirstPlaces.{lookup_first, found, none_found, set_at_first}
 
 pub at_first : (start : Start) (p : Pid) → phase_or_unborn (option_map (λ e. e.1) (find (λ (e : Pid × Phase). same_pid p e.0) start)) ≡ at_start start p
 at_first start p = ap phase_or_unborn (lookup_first (same_pid p) start)
-
-lookup_shown : (e : Event) (start : Start) (p : Pid) → lookup (same_pid p) (map (shown e) start) ≡ option_map (after p e) (lookup (same_pid p) start)
-lookup_shown e [] p = refl
-lookup_shown e (l ∷ start) p = go (same_pid p l.0) refl (lookup_shown e start p)
-  where
-    go : (b : Bool) → same_pid p l.0 ≡ b → lookup (same_pid p) (map (shown e) start) ≡ option_map (after p e) (lookup (same_pid p) start)
-        → lookup (same_pid p) (map (shown e) (l ∷ start)) ≡ option_map (after p e) (lookup (same_pid p) (l ∷ start))
-    go true h ih = rw h (ap (λ q. Some (after q e l.1)) (sym (same_pid_is p l.0 h)))
-    go false h ih = rw h ih
 
 quiet_unborn : (b : Bool) → cond b unborn unborn ≡ unborn
 quiet_unborn true = refl
@@ -52,20 +46,6 @@ after_unborn p _ h = refl
 pub other_unborn : (p q : Pid) (parent : Option Pid) (link : Option LinkId) → same_pid p q ≡ false → after p (Born q parent link) unborn ≡ unborn
 other_unborn p q parent link h = rw h (quiet_unborn (is_the p parent))
 
-pub at_shown : (start : Start) (e : Event) (p : Pid) → after p e unborn ≡ unborn → at_start (map (shown e) start) p ≡ after p e (at_start start p)
-at_shown start e p h = ap phase_or_unborn (lookup_shown e start p) ∙ go (lookup (same_pid p) start)
-  where
-    go : (o : Option Phase) → phase_or_unborn (option_map (after p e) o) ≡ after p e (phase_or_unborn o)
-    go (Some f) = refl
-    go None = sym h
-
-pub known_shown : (start : Start) (e : Event) (p : Pid) → is_some (lookup (same_pid p) (map (shown e) start)) ≡ is_some (lookup (same_pid p) start)
-known_shown start e p = ap is_some (lookup_shown e start p) ∙ go (lookup (same_pid p) start)
-  where
-    go : (o : Option Phase) → is_some (option_map (after p e) o) ≡ is_some o
-    go (Some f) = refl
-    go None = refl
-
 not_same : (p q l : Pid) → same_pid p l ≡ true → same_pid q l ≡ false → same_pid p q ≡ false
 not_same p q l h k = go (same_pid p q) refl
   where
@@ -85,81 +65,104 @@ lookup_push (l ∷ start) p q f h = go (same_pid p l.0) refl (same_pid q l.0) re
     go false e false k ih = let n : is_some (lookup (same_pid q) start) ≡ false = rw k at h in rw e (ih n)
     go true e false k ih = rw (e, not_same p q l.0 e k) refl
 
-pub observed_other : (old : Start) (e : Event) → IsNoBirth e → IsObserved old (map (shown e) old) e
-observed_other old e h = record {
-  lives = λ p. at_shown old e p (after_unborn p e h);
-  known = λ p. known_shown old e p ∙ sym (no_more (is_some (lookup (same_pid p) old)) e p h);
-}
-  where
-    no_more : (b : Bool) (e : Event) (p : Pid) → IsNoBirth e → (b || is_birth p e) ≡ b
-    no_more true e p h = refl
-    no_more false (Born q parent link) p h = absurd h
-    no_more false _ p h = refl
+no_more : (b : Bool) (e : Event) (p : Pid) → IsNoBirth e → (b || is_birth p e) ≡ b
+no_more true e p h = refl
+no_more false (Born q parent link) p h = absurd h
+no_more false _ p h = refl
 
-pub observed_birth : (old : Start) (q : Pid) (parent : Option Pid) (link : Option LinkId) → is_some (lookup (same_pid q) old) ≡ false
-    → IsObserved old (map (shown (Born q parent link)) old ++ (q, newborn parent link unborn) ∷ []) (Born q parent link)
-observed_birth old q parent link h = record { lives = λ p. lives_of p (same_pid p q) refl; known = known_of }
+-- what happens to one process alone
+pub observed_one : (old new : Start) (q : Pid) (e : Event) → IsNoBirth e → ((p : Pid) → touches p e ≡ same_pid p q) → ShownTo q e old new → IsObserved old new e
+observed_one old new q e h own seen = record { lives = λ p. lives_of p (same_pid p q) refl (lookup (same_pid p) old) refl; known = λ p. ap is_some (seen p) ∙ known_of p (same_pid p q) (lookup (same_pid p) old) }
+  where
+    lives_of : (p : Pid) (b : Bool) → same_pid p q ≡ b → (o : Option Phase) → lookup (same_pid p) old ≡ o → at_start new p ≡ after p e (at_start old p)
+    lives_of p true f (Some g) k = ap phase_or_unborn (seen p) ∙ rw (f, k) refl
+    lives_of p true f None k = ap phase_or_unborn (seen p) ∙ rw (f, k) (sym (after_unborn p e h))
+    lives_of p false f o k =
+        let still : after p e (at_start old p) ≡ at_start old p = rw (own p, f) refl in
+        ap phase_or_unborn (seen p) ∙ ap (λ b. phase_or_unborn (cond b (option_map (after p e) (lookup (same_pid p) old)) (lookup (same_pid p) old))) f ∙ sym still
+
+    known_of : (p : Pid) (b : Bool) (o : Option Phase) → is_some (cond b (option_map (after p e) o) o) ≡ is_some o || is_birth p e
+    known_of p true (Some g) = sym (no_more true e p h)
+    known_of p true None = sym (no_more false e p h)
+    known_of p false (Some g) = sym (no_more true e p h)
+    known_of p false None = sym (no_more false e p h)
+
+pub observed_none : (old : Start) (a b : Pid) → IsObserved old old (Refused a b)
+observed_none old a b = record { lives = λ p. refl; known = λ p. sym (no_more (is_some (lookup (same_pid p) old)) (Refused a b) p tt) }
+
+-- the pid that is born was not listed, nor is it after its parent has seen the birth
+pub still_absent : (old mid : Start) (q : Pid) (parent : Option Pid) (e : Event) → is_some (lookup (same_pid q) old) ≡ false → IsShownToParent parent e old mid → is_some (lookup (same_pid q) mid) ≡ false
+still_absent old mid q parent e h seen = ap is_some (seen q) ∙ go (is_the q parent) (lookup (same_pid q) old) h
+  where
+    go : (b : Bool) (o : Option Phase) → is_some o ≡ false → is_some (cond b (option_map (after q e) o) o) ≡ false
+    go true (Some f) k = k
+    go true None k = refl
+    go false o k = k
+
+pub observed_birth : (old mid : Start) (q : Pid) (parent : Option Pid) (link : Option LinkId) → is_some (lookup (same_pid q) old) ≡ false → IsShownToParent parent (Born q parent link) old mid
+    → IsObserved old (mid ++ (q, newborn parent link unborn) ∷ []) (Born q parent link)
+observed_birth old mid q parent link h seen = record { lives = λ p. lives_of p (same_pid p q) refl (is_the p parent) refl (lookup (same_pid p) old) refl; known = known_of }
   where
     e : Event
     e = Born q parent link
 
-    absent : is_some (lookup (same_pid q) (map (shown e) old)) ≡ false
-    absent = known_shown old e q ∙ h
-
-    pushed : (p : Pid) → lookup (same_pid p) (map (shown e) old ++ (q, newborn parent link unborn) ∷ []) ≡ cond (same_pid p q) (Some (newborn parent link unborn)) (lookup (same_pid p) (map (shown e) old))
-    pushed p = lookup_push (map (shown e) old) p q (newborn parent link unborn) absent
+    pushed : (p : Pid) → lookup (same_pid p) (mid ++ (q, newborn parent link unborn) ∷ []) ≡ cond (same_pid p q) (Some (newborn parent link unborn)) (lookup (same_pid p) mid)
+    pushed p = lookup_push mid p q (newborn parent link unborn) (still_absent old mid q parent e h seen)
 
     none : (o : Option Phase) → is_some o ≡ false → phase_or_unborn o ≡ unborn
     none None h = refl
     none (Some f) h = absurd (cc)
 
-    lives_of : (p : Pid) (b : Bool) → same_pid p q ≡ b
-        → at_start (map (shown e) old ++ (q, newborn parent link unborn) ∷ []) p ≡ after p e (at_start old p)
-    lives_of p true f =
+    lives_of : (p : Pid) (b : Bool) → same_pid p q ≡ b → (c : Bool) → is_the p parent ≡ c → (o : Option Phase) → lookup (same_pid p) old ≡ o
+        → at_start (mid ++ (q, newborn parent link unborn) ∷ []) p ≡ after p e (at_start old p)
+    lives_of p true f c g o k =
         let same : p ≡ q = same_pid_is p q f in
         let was : at_start old p ≡ unborn = none (lookup (same_pid p) old) (subst (λ z. is_some (lookup (same_pid z) old) ≡ false) (sym same) h) in
         ap phase_or_unborn (pushed p) ∙ rw (f, was) refl
-    lives_of p false f =
-        ap phase_or_unborn (pushed p) ∙ ap phase_or_unborn (ap (λ b. cond b (Some (newborn parent link unborn)) (lookup (same_pid p) (map (shown e) old))) f) ∙ at_shown old e p (other_unborn p q parent link f)
+    lives_of p false f true g None k = ap phase_or_unborn (pushed p) ∙ rw f (ap phase_or_unborn (seen p) ∙ rw (g, k) refl)
+    lives_of p false f true g (Some x) k =
+        let before : phase_or_unborn (lookup (same_pid p) mid) ≡ after p e x =
+        ap phase_or_unborn (seen p)
+        ∙ ap (λ b. phase_or_unborn (cond b (option_map (after p e) (lookup (same_pid p) old)) (lookup (same_pid p) old))) g
+        ∙ ap (λ o. phase_or_unborn (option_map (after p e) o)) k
+        in
+        ap phase_or_unborn (pushed p)
+        ∙ ap (λ b. phase_or_unborn (cond b (Some (newborn parent link unborn)) (lookup (same_pid p) mid))) f
+        ∙ before
+        ∙ ap (λ o. after p e (phase_or_unborn o)) (sym k)
+    lives_of p false f false g o k = ap phase_or_unborn (pushed p) ∙ rw f (ap phase_or_unborn (seen p) ∙ rw g refl)
 
-    known_of : (p : Pid) → is_some (lookup (same_pid p) (map (shown e) old ++ (q, newborn parent link unborn) ∷ [])) ≡ is_some (lookup (same_pid p) old) || is_birth p e
-    known_of p = ap is_some (pushed p) ∙ go (same_pid p q) refl (is_some (lookup (same_pid p) old)) refl
+    known_of : (p : Pid) → is_some (lookup (same_pid p) (mid ++ (q, newborn parent link unborn) ∷ [])) ≡ is_some (lookup (same_pid p) old) || is_birth p e
+    known_of p = ap is_some (pushed p) ∙ go (same_pid p q) (is_the p parent) (lookup (same_pid p) old) (lookup (same_pid p) mid) (seen p)
       where
-        go : (b : Bool) → same_pid p q ≡ b → (c : Bool) → is_some (lookup (same_pid p) old) ≡ c
-            → is_some (cond (same_pid p q) (Some (newborn parent link unborn)) (lookup (same_pid p) (map (shown e) old))) ≡ is_some (lookup (same_pid p) old) || same_pid p q
-        go true f true g = rw (f, g) refl
-        go true f false g = rw (f, g) refl
-        go false f true g = rw f (known_shown old e p ∙ rw g refl)
-        go false f false g = rw f (known_shown old e p ∙ rw g refl)
+        go : (b c : Bool) (o m : Option Phase) → m ≡ cond c (option_map (after p e) o) o → is_some (cond b (Some (newborn parent link unborn)) m) ≡ is_some o || b
+        go true c (Some f) m k = refl
+        go true c None m k = refl
+        go false true (Some f) m k = ap is_some k
+        go false true None m k = ap is_some k
+        go false false (Some f) m k = ap is_some k
+        go false false None m k = ap is_some k
 
-pub no_birth : (e : Event) → ((q : Pid) (parent : Option Pid) (link : Option LinkId) → e ≡ Born q parent link → ⊥) → IsNoBirth e
-no_birth (Born q parent link) h = h q parent link refl
-no_birth _ h = tt
-
--- one more of a list has seen the event
-set_after : {X : Type 0} (xs ys : List X) (x y : X) (i : ℕ) → i ≡ length xs → set (xs ++ x ∷ ys) i y ≡ xs ++ y ∷ ys
-set_after [] ys x y i h = rw h refl
-set_after (z ∷ xs) ys x y zero h = absurd (omega arith)
-set_after (z ∷ xs) ys x y (suc i) h = ap (λ zs. z ∷ zs) (set_after xs ys x y i (omega arith))
-
-get_after : {X : Type 0} (xs ys : List X) (x d : X) (i : ℕ) → i ≡ length xs → get_or (xs ++ x ∷ ys) i d ≡ x
-get_after [] ys x d i h = rw h refl
-get_after (z ∷ xs) ys x d zero h = absurd (omega arith)
-get_after (z ∷ xs) ys x d (suc i) h = get_after xs ys x d i (omega arith)
-
-pub shown_more : (e : Event) (now was : Start) (i : ℕ) (o l : Pid × Phase) → i < length was → now ≡ map (shown e) (take i was) ++ drop i was
-    → l ≡ shown e (get_or now i o) → set now i l ≡ map (shown e) (take (i + 1) was) ++ drop (i + 1) was
-shown_more e now was i o l h k m =
-    let x = get_or was i o in
-    let len : i ≡ length (map (shown e) (take i was)) = simp (length-map, length-take) (omega arith) in
-    let split : now ≡ map (shown e) (take i was) ++ x ∷ drop (i + 1) was = k ∙ ap (λ z. map (shown e) (take i was) ++ z) (rw (add-one, drop-cons was i o) refl) in
-    let here : get_or now i o ≡ x = ap (λ z. get_or z i o) split ∙ get_after (map (shown e) (take i was)) (drop (i + 1) was) x o i len in
-    ap (λ z. set z i l) split
-    ∙ set_after (map (shown e) (take i was)) (drop (i + 1) was) x l i len
-    ∙ ap (λ z. map (shown e) (take i was) ++ z ∷ drop (i + 1) was) (m ∙ ap (shown e) here)
-    ∙ sym (append_assoc (map (shown e) (take i was)) (shown e x ∷ []) (drop (i + 1) was))
-    ∙ ap (λ z. z ++ drop (i + 1) was) (sym (map-append (shown e) (take i was) (x ∷ [])) ∙ ap (map (shown e)) (sym (take_more was i o h)))
-
+-- one value of the table is written
+value_written : (q p : Pid) (w : Phase) (es : Start) → lookup (same_pid p) (set_value (same_pid q) es w) ≡ cond (same_pid p q) (option_map (λ x. w) (lookup (same_pid p) es)) (lookup (same_pid p) es)
+value_written q p w [] = go (same_pid p q)
+  where
+    go : (b : Bool) → ◌≡◌ {A = Option Phase} None (cond b None None)
+    go true = refl
+    go false = refl
+value_written q p w (x ∷ es) = go (same_pid q x.0) refl (same_pid p q) refl (same_pid p x.0) refl (value_written q p w es)
+  where
+    go : (b : Bool) → same_pid q x.0 ≡ b → (c : Bool) → same_pid p q ≡ c → (d : Bool) → same_pid p x.0 ≡ d
+        → lookup (same_pid p) (set_value (same_pid q) es w) ≡ cond (same_pid p q) (option_map (λ x. w) (lookup (same_pid p) es)) (lookup (same_pid p) es)
+        → lookup (same_pid p) (set_value (same_pid q) (x ∷ es) w) ≡ cond (same_pid p q) (option_map (λ x. w) (lookup (same_pid p) (x ∷ es))) (lookup (same_pid p) (x ∷ es))
+    go true e c f true g ih =
+        let pq : p ≡ q = same_pid_is p x.0 g ∙ sym (same_pid_is q x.0 e) in
+        let h : same_pid p q ≡ true = subst (λ z. same_pid p z ≡ true) pq (same_pid_refl p) in
+        rw (e, g, h) refl
+    go true e true f false g ih = absurd (both_ways (same_pid p x.0) g (subst (λ z. same_pid z x.0 ≡ true) (sym (same_pid_is p q f)) e))
+    go true e false f false g ih = rw (e, g, f) refl
+    go false e c f true g ih = rw (e, g, not_same p q x.0 g e) refl
+    go false e c f false g ih = rw (e, g) ih
 both_first : (o : Option (Bor (Pid × Phase))) → option_map (λ (l : Bor (Pid × Phase)). l.now.1) o ≡ option_map (λ (l : Pid × Phase). l.1) (option_map (λ (l : Bor (Pid × Phase)). l.now) o)
 both_first None = refl
 both_first (Some l) = refl
@@ -179,3 +182,107 @@ found_none o start p e h = ap (option_map (λ (l : Bor (Pid × Phase)). l.now.1)
 pub found_known : (o : Option (Bor (Pid × Phase))) → is_some o ≡ is_some (option_map (λ (l : Bor (Pid × Phase)). l.now.1) o)
 found_known None = refl
 found_known (Some l) = refl
+
+-- places ------------------------------------------------------------------------------
+
+abbrev at_pid : Pid → Pid × Phase → Bool
+at_pid p life = same_pid p life.0
+
+first_is : (p : Pid) (es : Start) → position_or_len (same_pid p) (keys_of es) ≡ first_place (at_pid p) es
+first_is p [] = refl
+first_is p (e ∷ es) = go (same_pid p e.0) refl (first_is p es)
+  where
+    go : (b : Bool) → same_pid p e.0 ≡ b → position_or_len (same_pid p) (keys_of es) ≡ first_place (at_pid p) es → position_or_len (same_pid p) (keys_of (e ∷ es)) ≡ first_place (at_pid p) (e ∷ es)
+    go true h ih = rw h refl
+    go false h ih =
+        let more : 1 + position_or_len (same_pid p) (keys_of es) ≡ suc (first_place (at_pid p) es) = omega (arith, ih) in
+        rw h more
+
+first_within : (p : Pid) (es : Start) → first_place (at_pid p) es ≤ length es
+first_within p [] = omega arith
+first_within p (e ∷ es) = go (same_pid p e.0) refl (first_within p es)
+  where
+    go : (b : Bool) → same_pid p e.0 ≡ b → first_place (at_pid p) es ≤ length es → first_place (at_pid p) (e ∷ es) ≤ length (e ∷ es)
+    go true h ih = rw h (omega arith)
+    go false h ih = rw h (omega (arith, ih))
+
+some_is : (b : Bool) (n i : ℕ) → Some i ≡ cond b (Some n) None → i ≡ n
+some_is true n i h = cc
+some_is false n i h = absurd (cc)
+
+none_is : (n len : ℕ) → ◌≡◌ {A = Option ℕ} None (cond (nat_lt n len) (Some n) None) → len ≤ n
+none_is n len h = go (nat_lt n len) refl h
+  where
+    go : (b : Bool) → nat_lt n len ≡ b → ◌≡◌ {A = Option ℕ} None (cond b (Some n) None) → len ≤ n
+    go true e k = absurd (cc)
+    go false e k = ltb-false n len e
+
+pub place_found : (p : Pid) (es : Start) (keys : List Pid) (i : ℕ) → keys ≡ keys_of es → Some i ≡ position (same_pid p) keys → i ≡ first_place (at_pid p) es
+place_found p es keys i k h = some_is _ (position_or_len (same_pid p) keys) i h ∙ ap (position_or_len (same_pid p)) k ∙ first_is p es
+
+pub place_missing : (p : Pid) (es : Start) (keys : List Pid) → keys ≡ keys_of es → None ≡ position (same_pid p) keys → length es ≡ first_place (at_pid p) es
+place_missing p es keys k h =
+    let past : length keys ≤ position_or_len (same_pid p) keys = none_is (position_or_len (same_pid p) keys) (length keys) h in
+    let same : position_or_len (same_pid p) keys ≡ first_place (at_pid p) es = ap (position_or_len (same_pid p)) k ∙ first_is p es in
+    let long : length keys ≡ length es = ap length k ∙ simp (length-map) refl in
+    omega (arith, past, same, long, first_within p es)
+
+key_at : (q : Pid) (es : Start) (y : Pid × Phase) → first_place (at_pid q) es < length es → y ≡ get_or es (first_place (at_pid q) es) y → same_pid q y.0 ≡ true
+key_at q [] y h k = absurd (omega arith)
+key_at q (e ∷ es) y h k = go (same_pid q e.0) refl h k (key_at q es y)
+  where
+    go : (b : Bool) → same_pid q e.0 ≡ b → first_place (at_pid q) (e ∷ es) < length (e ∷ es) → y ≡ get_or (e ∷ es) (first_place (at_pid q) (e ∷ es)) y
+        → (first_place (at_pid q) es < length es → y ≡ get_or es (first_place (at_pid q) es) y → same_pid q y.0 ≡ true) → same_pid q y.0 ≡ true
+    go true f l m ih = let n : y ≡ e = rw f at m in ap (λ (z : Pid × Phase). same_pid q z.0) n ∙ f
+    go false f l m ih = let o : suc (first_place (at_pid q) es) < suc (length es) = rw f at l in let n : y ≡ get_or es (first_place (at_pid q) es) y = rw f at m in ih (omega arith) n
+
+pub found_at : (q : Pid) (es : Start) (n : ℕ) (y : Pid × Phase) → n ≡ first_place (at_pid q) es → n < length es → y ≡ get_or es n y → Some y.1 ≡ lookup (same_pid q) es
+found_at q es n y h k m =
+    ap (option_map (λ (e : Pid × Phase). e.1)) (found (at_pid q) es y (subst (λ z. z < length es) h k) (subst (λ z. y ≡ get_or es z y) h m)) ∙ lookup_first (same_pid q) es
+
+pub missing_at : (q : Pid) (es : Start) (n : ℕ) → n ≡ first_place (at_pid q) es → length es ≤ n → None ≡ lookup (same_pid q) es
+missing_at q es n h k = ap (option_map (λ (e : Pid × Phase). e.1)) (none_found (at_pid q) es (subst (λ z. length es ≤ z) h k)) ∙ lookup_first (same_pid q) es
+
+keys_written : (q : Pid) (es : Start) (w : Phase) → keys_of (set_value (same_pid q) es w) ≡ keys_of es
+keys_written q [] w = refl
+keys_written q (e ∷ es) w = go (same_pid q e.0) refl (keys_written q es w)
+  where
+    go : (b : Bool) → same_pid q e.0 ≡ b → keys_of (set_value (same_pid q) es w) ≡ keys_of es → keys_of (set_value (same_pid q) (e ∷ es) w) ≡ keys_of (e ∷ es)
+    go true h ih = rw h refl
+    go false h ih = rw h (ap (λ z. e.0 ∷ z) ih)
+
+-- the process at the place has seen the event
+module _ (q : Pid) (e : Event) (es : Start) (n : ℕ) (h : n ≡ first_place (at_pid q) es) where
+  written : (y : Pid × Phase) → n < length es → y ≡ get_or es n y → set es n (shown e y) ≡ set_value (same_pid q) es (after y.0 e y.1)
+  written y k m = ap (λ z. set es z (shown e y)) h ∙ set_at_first (same_pid q) es y.0 y.1 (after y.0 e y.1) (subst (λ z. z < length es) h k) (subst (λ z. y ≡ get_or es z y) h m)
+
+  pub keys_shown : (y z : Pid × Phase) → n < length es → y ≡ get_or es n y → z ≡ shown e y → keys_of es ≡ keys_of (set es n z)
+  keys_shown y z k m o = sym (ap (λ x. keys_of (set es n x)) o ∙ ap keys_of (written y k m) ∙ keys_written q es (after y.0 e y.1))
+
+  pub shown_at : (y z : Pid × Phase) → n < length es → y ≡ get_or es n y → z ≡ shown e y → ShownTo q e es (set es n z)
+  shown_at y z k m o p =
+      ap (λ x. lookup (same_pid p) (set es n x)) o ∙ ap (lookup (same_pid p)) (written y k m) ∙ value_written q p (after y.0 e y.1) es ∙ go (same_pid p q) refl
+    where
+      go : (b : Bool) → same_pid p q ≡ b → cond (same_pid p q) (option_map (λ x. after y.0 e y.1) (lookup (same_pid p) es)) (lookup (same_pid p) es)
+          ≡ cond (same_pid p q) (option_map (after p e) (lookup (same_pid p) es)) (lookup (same_pid p) es)
+      go false f = rw f refl
+      go true f =
+          let own : q ≡ y.0 = same_pid_is q y.0 (key_at q es y (subst (λ z. z < length es) h k) (subst (λ z. y ≡ get_or es z y) h m)) in
+          let pq : p ≡ q = same_pid_is p q f in
+          let has : lookup (same_pid p) es ≡ Some y.1 = ap (λ z. lookup (same_pid z) es) pq ∙ sym (found_at q es n y h k m) in
+          rw (f, has) (ap (λ z. Some (after z e y.1)) (sym (pq ∙ own)))
+
+  pub nobody_shown : length es ≤ n → ShownTo q e es es
+  nobody_shown k p = go (same_pid p q) refl
+    where
+      go : (b : Bool) → same_pid p q ≡ b → lookup (same_pid p) es ≡ cond (same_pid p q) (option_map (after p e) (lookup (same_pid p) es)) (lookup (same_pid p) es)
+      go false f = rw f refl
+      go true f =
+          let none : lookup (same_pid p) es ≡ None = ap (λ z. lookup (same_pid z) es) (same_pid_is p q f) ∙ sym (missing_at q es n h k) in
+          rw (f, none) refl
+
+-- one process more is listed
+pub one_listed : (keys : List Pid) (es : Start) (l : Pid × Phase) → keys ≡ keys_of es → is_some (lookup (same_pid l.0) es) ≡ false → insert_key same_pid keys l.0 ≡ keys_of (es ++ l ∷ [])
+one_listed keys es l k h =
+    let absent : list_any (same_pid l.0) keys ≡ false = ap (list_any (same_pid l.0)) k ∙ sym (is_some-lookup (same_pid l.0) es) ∙ h in
+    ap (λ b. cond b keys (keys ++ l.0 ∷ [])) absent ∙ ap (λ z. z ++ l.0 ∷ []) k ∙ sym (map-append (λ (e : Pid × Phase). e.0) es (l ∷ []))

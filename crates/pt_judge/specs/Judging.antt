@@ -1,6 +1,6 @@
 -- What the judge knows, and what its own functions say.
 use Rattle.std.specs.Prelude.{◌≡◌, Bool, true, false, cond, not, ◌&&◌, ◌||◌, Option, Some, None, is_some, is_none, List, [], ◌∷◌, ◌++◌}
-use Rattle.std.specs.Map.{lookup}
+use Rattle.std.specs.Map.{lookup, keys_of}
 use Rattle.std.specs.List.{find, list_any}
 use Rattle.std.specs.Option.{option_map}
 use Rattle.pt_signal.specs.declared.pid.Pid.{Pid}
@@ -86,6 +86,17 @@ shown e l = (l.0, after l.0 e l.1)
 abbrev pub MayBeBorn : Start → Event → Type 0
 MayBeBorn start (Born p parent link) = is_some (lookup (same_pid p) start) ≡ false
 MayBeBorn start _ = Unit {0}
+
+-- the process of the pid has seen the event, and no other has changed
+abbrev pub ShownTo : Pid → Event → Start → Start → Type 0
+ShownTo q e old new = (p : Pid) → lookup (same_pid p) new ≡ cond (same_pid p q) (option_map (after p e) (lookup (same_pid p) old)) (lookup (same_pid p) old)
+
+abbrev pub IsShownToParent : Option Pid → Event → Start → Start → Type 0
+IsShownToParent parent e old new = (p : Pid) → lookup (same_pid p) new ≡ cond (is_the p parent) (option_map (after p e) (lookup (same_pid p) old)) (lookup (same_pid p) old)
+
+-- the pids of the table, in its order
+abbrev pub ListsPids : List Pid → Start → Type 0
+ListsPids pids lives = pids ≡ keys_of lives
 
 -- the table after the event
 pub record IsObserved (old new : Start) (e : Event) : Type 0 where

@@ -10,7 +10,7 @@ ghost use Rattle.pt_judge.specs.Judging.{answered, owed, sends};
 
 use crate::judging::entries::{Test, first, take_out};
 use crate::judging::holdings::Holdings;
-use crate::judging::lives::{Life, holdings, reason};
+use crate::judging::lives::{Lives, holdings, reason};
 use pt_events::Event;
 use pt_signal::{Ids, Pid, Reason, Ref, Signal};
 use std::alloc::AllocError;
@@ -140,7 +140,7 @@ fn send_estate(
 }
 
 /// Sends what the process owes, if it has ended.
-fn send_end(flights: &mut Vec<Flight>, lives: &[Life], pid: Pid) -> Result<(), AllocError>
+fn send_end(flights: &mut Vec<Flight>, lives: &Lives, pid: Pid) -> Result<(), AllocError>
     ensures { OnOk result (flights.new.items ≡ flights.old.items ++ owed lives.now pid) }
 {
     match (reason(lives, pid), holdings(lives, pid)) {
@@ -182,7 +182,7 @@ fn send_answer(
 /// Sends what the event sends, where the lives are those after it, and its process lived before it or did not.
 pub fn dispatch(
     flights: &mut Vec<Flight>,
-    lives: &[Life],
+    lives: &Lives,
     lived: bool,
     event: Event,
 ) -> Result<(), AllocError>

@@ -1,14 +1,16 @@
 //! The lives of all processes.
 
-ghost use Rattle.std.specs.Prelude.{◌≡◌, map, is_some, IfOk, OnOk};
+ghost use Rattle.std.specs.Prelude.{◌≡◌, [], ◌∷◌, ◌++◌, false, is_some, IfOk, OnOk};
 ghost use Rattle.std.specs.Option.{option_map};
 ghost use Rattle.std.specs.Map.{lookup};
 ghost use Rattle.pt_signal.specs.Values.{same_pid};
-ghost use Rattle.pt_events.specs.History.{unborn, newborn, is_living, reason_of, state_of, touches, at_start};
-ghost use Rattle.pt_judge.specs.Judging.{shown, MayBeBorn, IsObserved, lived};
+ghost use Rattle.pt_events.specs.History.{Phase, unborn, newborn, is_living, reason_of, state_of, touches, at_start};
+ghost use Rattle.pt_judge.specs.Judging.{shown, ShownTo, IsShownToParent, MayBeBorn, IsObserved, lived};
+ghost use Rattle.pt_judge.specs.Places.{first_place};
+ghost use Rattle.pt_signal.specs.declared.pid.Pid.{Pid};
 
-use crate::judging::entries::{Test, first};
 use crate::judging::holdings::Holdings;
+use indexmap::IndexSet;
 use pt_events::Event;
 use pt_signal::{LinkId, Pid, Reason};
 use std::alloc::{AllocError, Global};
@@ -29,16 +31,6 @@ impl Model for Life {
     ghost Value = { Pid × Phase };
 
     ghost view = { λ l. (l.pid, live_or_end l.ended l.holdings) };
-}
-
-impl Test<Life> for Pid {
-    ghost use Rattle.pt_signal.specs.Values.{same_pid};
-
-    ghost passes = { λ pid life. same_pid pid life.0 };
-
-    fn passes(&self, life: &Life) -> bool {
-        *self == life.pid
-    }
 }
 
 /// Whether the event is one of the process's own.
@@ -113,72 +105,148 @@ impl Life {
     }
 }
 
-/// Shows the event to every process.
-fn show_all(lives: &mut Vec<Life>, event: Event) -> Result<(), AllocError>
-    ensures { OnOk result (lives.new.items ≡ map (shown event) lives.old.items) }
-{
-    for place in 0..lives.len() {
-        lives[place].live_through(event)?;
+/// All processes that were born, in order of birth.
+#[derive(Drop)]
+pub struct Lives {
+    /// The pids of the list, which tell the place of each.
+    pids: IndexSet<Pid>,
+    list: Vec<Life>,
+}
+
+impl Model for Lives {
+    ghost use Rattle.pt_events.specs.History.{Start};
+    ghost use Rattle.pt_judge.specs.Judging.{ListsPids};
+
+    ghost Value = { Start };
+
+    ghost view = { λ l. l.list.items };
+
+    ghost invariant = { λ l. ListsPids l.pids.keys l.list.items };
+}
+
+impl Lives {
+    /// Nobody.
+    pub fn new(alloc: Global) -> Lives
+        ensures { result ≡ [] }
+    {
+        Lives {
+            pids: IndexSet::new(alloc),
+            list: Vec::new(alloc),
+        }
     }
-    Ok(())
+
+    /// The place of the pid, or the length of the list.
+    fn place_of(&self, pid: Pid) -> usize
+        ensures { result ≡ first_place (λ (life : Pid × Phase). same_pid pid life.0) self.now }
+    {
+        match self.pids.get_index_of(&pid) {
+            Some(place) => place,
+            None => self.list.len(),
+        }
+    }
+
+    /// The life of the pid, if it was born.
+    fn found(&self, pid: Pid) -> Option<&Life>
+        ensures { option_map (λ life. life.now.1) result ≡ lookup (same_pid pid) self.now }
+    {
+        let place = self.place_of(pid);
+        if place < self.list.len() {
+            Some(&self.list[place])
+        } else {
+            None
+        }
+    }
+
+    /// The process of that pid sees the event.
+    fn shown(self, pid: Pid, event: Event) -> Result<Lives, AllocError>
+        ensures { IfOk result (λ lives. ShownTo pid event self lives) }
+    {
+        let place = self.place_of(pid);
+        let Lives { pids, mut list } = self;
+        if place < list.len() {
+            list[place].live_through(event)?;
+        }
+        Ok(Lives { pids, list })
+    }
+
+    /// One process more, whose pid none of them has.
+    fn with(self, life: Life) -> Result<Lives, AllocError>
+        requires { is_some (lookup (same_pid life.0) self) ≡ false }
+        ensures { IfOk result (λ lives. lives ≡ self ++ life ∷ []) }
+    {
+        let Lives { mut pids, mut list } = self;
+        let _ = pids.insert(life.pid)?;
+        list.push(life)?;
+        Ok(Lives { pids, list })
+    }
+}
+
+/// The parent sees the birth of its child.
+fn shown_to_parent(lives: Lives, parent: Option<Pid>, event: Event) -> Result<Lives, AllocError>
+    ensures { IfOk result (λ new. IsShownToParent parent event lives new) }
+{
+    match parent {
+        Some(parent) => lives.shown(parent, event),
+        None => Ok(lives),
+    }
 }
 
 /// The event happens.
-pub fn observe(alloc: Global, lives: &mut Vec<Life>, event: Event) -> Result<(), AllocError>
-    requires { MayBeBorn lives.old.items event }
-    ensures { OnOk result (IsObserved lives.old.items lives.new.items event) }
+pub fn observe(alloc: Global, lives: Lives, event: Event) -> Result<Lives, AllocError>
+    requires { MayBeBorn lives event }
+    ensures { IfOk result (λ new. IsObserved lives new event) }
 {
-    show_all(lives, event)?;
-    if let Event::Born(pid, parent, link) = event {
-        lives.push(Life::born(alloc, pid, parent, link)?)?;
+    match event {
+        Event::Born(pid, parent, link) => {
+            let lives = shown_to_parent(lives, parent, event)?;
+            Ok(lives.with(Life::born(alloc, pid, parent, link)?)?)
+        }
+        Event::Said(from, _, _) => lives.shown(from, event),
+        Event::Came(_, to, _) => lives.shown(to, event),
+        Event::Took(owner, _, _) => lives.shown(owner, event),
+        Event::Flag(owner, _) => lives.shown(owner, event),
+        Event::Left(owner, _) => lives.shown(owner, event),
+        Event::Refused(_, _) => Ok(lives),
     }
-    Ok(())
-}
-
-/// The life of the pid, if it was born.
-fn found(lives: &[Life], pid: Pid) -> Option<&Life>
-    ensures { option_map (λ life. life.now.1) result ≡ lookup (same_pid pid) lives.now }
-{
-    first(lives, &pid)
 }
 
 /// Whether the process was born.
-pub fn is_known(lives: &[Life], pid: Pid) -> bool
+pub fn is_known(lives: &Lives, pid: Pid) -> bool
     ensures { result ≡ is_some (lookup (same_pid pid) lives.now) }
 {
-    found(lives, pid).is_some()
+    lives.found(pid).is_some()
 }
 
-pub fn is_living(lives: &[Life], pid: Pid) -> bool
+pub fn is_living(lives: &Lives, pid: Pid) -> bool
     ensures { result ≡ is_living (at_start lives.now pid) }
 {
-    match found(lives, pid) {
+    match lives.found(pid) {
         Some(life) => life.is_living(),
         None => false,
     }
 }
 
-pub fn reason(lives: &[Life], pid: Pid) -> Option<Reason>
+pub fn reason(lives: &Lives, pid: Pid) -> Option<Reason>
     ensures { result ≡ reason_of (at_start lives.now pid) }
 {
-    match found(lives, pid) {
+    match lives.found(pid) {
         Some(life) => life.reason(),
         None => None,
     }
 }
 
 /// What the process holds, or held just after its end.
-pub fn holdings(lives: &[Life], pid: Pid) -> Option<&Holdings>
+pub fn holdings(lives: &Lives, pid: Pid) -> Option<&Holdings>
     ensures { option_map (λ held. held.now) result ≡ option_map state_of (lookup (same_pid pid) lives.now) }
 {
-    match found(lives, pid) {
+    match lives.found(pid) {
         Some(life) => Some(life.holdings()),
         None => None,
     }
 }
 
 /// Whether the receiver of what came, or who leaves, lives.
-pub fn lived(lives: &[Life], event: Event) -> bool
+pub fn lived(lives: &Lives, event: Event) -> bool
     ensures { result ≡ lived lives.now event }
 {
     match event {

@@ -16,7 +16,7 @@ use crate::Cause;
 use crate::judging::flights::{Flight, dispatch, land, oldest};
 use crate::judging::holdings::Holdings;
 use crate::judging::links::{first_match, ids_with, target_of};
-use crate::judging::lives::{Life, holdings, is_known, is_living, lived, observe, reason};
+use crate::judging::lives::{Lives, holdings, is_known, is_living, lived, observe, reason};
 use crate::judging::same;
 use indexmap::IndexSet;
 use pt_events::Event;
@@ -34,7 +34,7 @@ pub struct State {
     /// The ids of links, and the references, that the events made.
     links: IndexSet<LinkId>,
     refs: IndexSet<Ref>,
-    lives: Vec<Life>,
+    lives: Lives,
     flights: Vec<Flight>,
 }
 
@@ -44,9 +44,9 @@ impl Model for State {
 
     ghost Value = { JudgeState };
 
-    ghost view = { λ s. record { past = reverse s.events.items; lives = s.lives.items; flights = s.flights.items } };
+    ghost view = { λ s. record { past = reverse s.events.items; lives = s.lives; flights = s.flights.items } };
 
-    ghost invariant = { λ s. IsKept (reverse s.events.items) s.links.keys s.refs.keys s.lives.items };
+    ghost invariant = { λ s. IsKept (reverse s.events.items) s.links.keys s.refs.keys s.lives };
 }
 
 /// Adds the id of the link that the event makes, if it makes one.
@@ -90,7 +90,7 @@ impl State {
             events: Vec::new(alloc),
             links: IndexSet::new(alloc),
             refs: IndexSet::new(alloc),
-            lives: Vec::new(alloc),
+            lives: Lives::new(alloc),
             flights: Vec::new(alloc),
         }
     }
@@ -99,14 +99,14 @@ impl State {
     pub fn alive(&self, pid: Pid) -> bool
         ensures { result ≡ is_living (now_is self.now pid) }
     {
-        is_living(self.lives.as_slice(), pid)
+        is_living(&self.lives, pid)
     }
 
     /// Why the process ended, if it has.
     pub fn ended(&self, pid: Pid) -> Option<Reason>
         ensures { result ≡ reason_of (now_is self.now pid) }
     {
-        reason(self.lives.as_slice(), pid)
+        reason(&self.lives, pid)
     }
 
     /// What waits in the process's mailbox, oldest first, or `None` where it is not alive.
@@ -175,13 +175,13 @@ impl State {
     fn holdings(&self, pid: Pid) -> Option<&Holdings>
         ensures { IsHeldBy self.now pid (option_map (λ held. held.now) result) }
     {
-        holdings(self.lives.as_slice(), pid)
+        holdings(&self.lives, pid)
     }
 
     fn is_unborn(&self, pid: Pid) -> bool
         ensures { result ≡ is_unborn (now_is self.now pid) }
     {
-        !is_known(self.lives.as_slice(), pid)
+        !is_known(&self.lives, pid)
     }
 
     fn made_link(&self, id: LinkId) -> bool
@@ -369,13 +369,13 @@ impl State {
             mut events,
             mut links,
             mut refs,
-            mut lives,
+            lives,
             mut flights,
         } = self;
-        let lived = lived(lives.as_slice(), event);
-        observe(alloc, &mut lives, event)?;
+        let lived = lived(&lives, event);
+        let lives = observe(alloc, lives, event)?;
         land(&mut flights, event);
-        dispatch(&mut flights, lives.as_slice(), lived, event)?;
+        dispatch(&mut flights, &lives, lived, event)?;
         note_link(&mut links, event)?;
         note_ref(&mut refs, event)?;
         events.push(event)?;

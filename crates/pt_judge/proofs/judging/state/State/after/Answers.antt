@@ -8,7 +8,7 @@ use Rattle.pt_judge.proofs.judging.state.State.after.Goals as goal
 pub observe-requires : goal.observe-requires
 observe-requires c =
     let s = c.self.inside in
-    let old : JudgeState = record { past = reverse s.events.items; lives = s.lives.items; flights = s.flights.items } in
+    let old : JudgeState = record { past = reverse s.events.items; lives = s.lives; flights = s.flights.items } in
     may_be_born old c.args.event c.self.invariant.born (subst (λ z. cause (known z) c.args.event ≡ None) (sym c.self.view_is) c.requires)
 
 pub invariant_of-result : goal.invariant_of-result
@@ -19,16 +19,16 @@ invariant_of-result c =
     record {
       links_made = λ i. c.in_ok-note_link.ensures i ∙ ap (λ b. makes_link i e || b) (c.self.invariant.links_made i) ∙ ap (λ z. made_link z i) (sym here);
       refs_made = λ m. c.in_ok-note_ref.ensures m ∙ ap (λ b. makes_ref m e || b) (c.self.invariant.refs_made m) ∙ ap (λ z. made_ref z m) (sym here);
-      born = lists_next s.lives.items c.observe.new.lives.items e c.self.invariant.born c.in_ok-observe.ensures;
+      born = lists_next s.lives c.in_ok-lives.lives e c.self.invariant.born c.in_ok-lives.ensures;
     }
 
 pub returns : goal.returns
 returns c =
     let s = c.self.inside in
     let e = c.args.event in
-    let lives = c.observe.new.lives.items in
-    let seen : IsObserved s.lives.items lives e = c.in_ok-observe.ensures in
-    let old : JudgeState = record { past = reverse s.events.items; lives = s.lives.items; flights = s.flights.items } in
+    let lives = c.in_ok-lives.lives in
+    let seen : IsObserved s.lives lives e = c.in_ok-lives.ensures in
+    let old : JudgeState = record { past = reverse s.events.items; lives = s.lives; flights = s.flights.items } in
     let new : JudgeState = record { past = reverse c.push.new.self.items; lives = lives; flights = c.dispatch.new.flights.items } in
     let step : IsStep old e new =
     record {
@@ -36,9 +36,8 @@ returns c =
       lives = seen.lives;
       flights =
           c.in_ok-dispatch.ensures
-          ∙ ap (λ z. z ++ sends c.as_slice-2.result.now c.lived-lived.result e) c.land.ensures
-          ∙ ap (λ (table : Start). landed e s.flights.items ++ sends table c.lived-lived.result e) c.as_slice-2.ensures.value
-          ∙ ap (λ b. landed e s.flights.items ++ sends lives b e) (c.lived-lived.ensures ∙ ap (λ (table : Start). lived table e) c.as_slice.ensures.value);
+          ∙ ap (λ z. z ++ sends lives c.lived-lived.result e) c.land.ensures
+          ∙ ap (λ b. landed e s.flights.items ++ sends lives b e) c.lived-lived.ensures;
     }
     in
     subst (λ z. IsStep z e new) c.self.view_is step
