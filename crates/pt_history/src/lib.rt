@@ -28,9 +28,9 @@
 //! [`replay`] runs through a history from its first event. It answers the [`State`] after the last one exactly
 //! where each event may come after those before it, and else the place of the first that may not, with the lowest
 //! [`Cause`] that fits. It is written from the definitions, shares with a desk no more than the values of `pt_signal`
-//! with their methods, and is slow: use it to judge what another program wrote, or in tests. In a `State` the links,
-//! watches and flag of a process that ended are those that it had at its end; it has no open monitor and nothing
-//! waits.
+//! with their methods: use it to judge what another program wrote, or in tests. In a `State` the links, watches and
+//! flag of a process that ended are those that it had at its end; it has no open monitor and nothing waits.
+//! [`replay_from`] goes on from a state, so a long history is judged piece by piece.
 //!
 //! # Laws
 //!
@@ -44,10 +44,11 @@
 //! # Cost
 //!
 //! Adding an event takes constant time on average. `merge` takes two pieces of memory and for each event the
-//! logarithm of the number of journals. `replay` takes time that grows with the square of the number of events.
+//! logarithm of the number of journals. `replay` takes constant time for an event, but for a look through the letters on
+//! their way at each receipt, and through the lists of the one process that the event is of.
 #![tactic(auto)]
 
 pub use pt_events::{Event, Journal, Stamped};
-pub use pt_judge::{Cause, State, replay};
+pub use pt_judge::{Cause, State, replay, replay_from};
 pub use pt_laws::{laws, links};
 pub use pt_merge::merge;

@@ -1,8 +1,7 @@
 -- The lives of all processes, as a table.
-use Rattle.std.proofs.Common.{◌≡◌, ℕ, zero, suc, ◌+◌, ◌<◌, Bool, true, false, cond, ◌||◌, Option, Some, None, is_some, List, [], ◌∷◌, ◌++◌, map, take, drop, set, get_or, length, nat_lt, ltb-false, ◌≤◌, refl, ap, sym, ◌∙◌, subst, arith}
+use Rattle.std.proofs.Common.{◌≡◌, ℕ, suc, ◌+◌, ◌<◌, Bool, true, false, cond, ◌||◌, Option, Some, None, is_some, List, [], ◌∷◌, ◌++◌, set, get_or, length, nat_lt, ltb-false, ◌≤◌, refl, ap, sym, ◌∙◌, subst, arith}
 use Rattle.std.proofs.lemmas.Bool.{both_ways}
-use Rattle.std.proofs.lemmas.List.{map-append, take_more, length-map}
-use Rattle.std.proofs.Common.{append_assoc, length-take, drop-cons, add-one}
+use Rattle.std.proofs.lemmas.List.{map-append, length-map}
 use Rattle.std.specs.Map.{lookup, set_value, keys_of}
 use Rattle.std.specs.List.{find, list_any, position, position_or_len}
 use Rattle.std.specs.Option.{option_map}
@@ -163,6 +162,7 @@ value_written q p w (x ∷ es) = go (same_pid q x.0) refl (same_pid p q) refl (s
     go true e false f false g ih = rw (e, g, f) refl
     go false e c f true g ih = rw (e, g, not_same p q x.0 g e) refl
     go false e c f false g ih = rw (e, g) ih
+
 both_first : (o : Option (Bor (Pid × Phase))) → option_map (λ (l : Bor (Pid × Phase)). l.now.1) o ≡ option_map (λ (l : Pid × Phase). l.1) (option_map (λ (l : Bor (Pid × Phase)). l.now) o)
 both_first None = refl
 both_first (Some l) = refl

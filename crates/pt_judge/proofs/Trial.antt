@@ -6,7 +6,7 @@ use Rattle.pt_judge.specs.declared.cause.Cause.TheVariants.{BornTwice, NotAlive,
 use Rattle.pt_events.specs.declared.event.Event.{Event}
 use Rattle.pt_events.specs.declared.event.Event.TheVariants.{Born}
 use Rattle.pt_events.specs.History.{Past, Start, May, IsLegal}
-use Rattle.pt_judge.specs.Judge.{Refuses, IsCause, IsJudged, IsAfter, Judges, FailsAt, Fails, Replays, FailsAfter, ReplaysAfter}
+use Rattle.pt_judge.specs.Judge.{Refuses, IsCause, IsJudged, IsAfter, Judges, FailsAt, Replays, FailsAfter, ReplaysAfter}
 use Rattle.pt_judge.specs.Judging.{JudgeState, now_is, known, known_after, cause}
 use Rattle.pt_judge.proofs.Judge.{no_cause}
 use Rattle.pt_judge.proofs.Judged.{judged}

@@ -1,5 +1,5 @@
 //! The layers below a node, each called by itself: `pt_slots`, `pt_process`, `pt_carrier`, `pt_directory`,
-//! `pt_history` and `pt_desk`, a module a layer.
+//! `pt_history`, `pt_desk` and `pt_texts`, a module a layer.
 
 mod desk;
 mod directory;
@@ -7,3 +7,4 @@ mod history;
 mod lanes;
 mod process;
 mod slots;
+mod texts;

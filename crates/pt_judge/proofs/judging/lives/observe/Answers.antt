@@ -1,5 +1,4 @@
 use Rattle.std.proofs.Common.{◌≡◌, ◌∙◌, ◌++◌, ◌∷◌, [], sym, ap, subst, subst₂}
-use Rattle.pt_events.specs.declared.event.Event.TheVariants.{Born}
 use Rattle.pt_events.specs.History.{newborn, unborn}
 use Rattle.pt_judge.specs.Judging.{IsObserved, MayBeBorn}
 use Rattle.pt_judge.proofs.Lives.{observed_birth}

@@ -1,6 +1,6 @@
 use Rattle.std.proofs.Common.{◌≡◌, ◌||◌, ◌∷◌, None, ◌++◌, ◌∙◌, reverse, sym, ap, subst}
-use Rattle.pt_events.specs.History.{Start, landed, makes_link, makes_ref, made_link, made_ref}
-use Rattle.pt_judge.specs.Judging.{JudgeState, IsObserved, IsStep, sends, lived, known, cause}
+use Rattle.pt_events.specs.History.{landed, makes_link, makes_ref, made_link, made_ref}
+use Rattle.pt_judge.specs.Judging.{JudgeState, IsObserved, IsStep, sends, known, cause}
 use Rattle.pt_events.proofs.Orders.{reverse_push}
 use Rattle.pt_judge.proofs.KeptNext.{lists_next, may_be_born}
 use Rattle.pt_judge.proofs.judging.state.State.after.Goals as goal
