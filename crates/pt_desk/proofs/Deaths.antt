@@ -16,7 +16,7 @@ use Rattle.pt_directory.specs.Views.{deaths_at, last_version, last_stamp, Covers
 use Rattle.pt_directory.specs.Seats.{death_of}
 use Rattle.pt_directory.proofs.Lists.{at_append, at_behind, at_single, at_nothing, among, from_among, is_at-true, true-is_at}
 use Rattle.pt_shard.specs.ShardState.{ended_in}
-use Rattle.pt_desk.specs.Sight.{death_by, deaths_before, deaths_in, pid_of, AreOldEnds}
+use Rattle.pt_desk.specs.Sight.{death_by, deaths_before, deaths_in, pid_of, AreOldEnds, KnowsOldEnds}
 use Rattle.pt_desk.proofs.Ending.{ends, of_home, ended_by_it, no_birth, at_version, birth_known}
 
 born_ended : (f : Phase) → is_ended f ≡ true → is_unborn f ≡ false
@@ -61,6 +61,11 @@ died start low p new (s ∷ journal) h = go (is_ended (life start (events journa
 was_told : (start : Start) (low : ℕ) (journal : List Stamped) (k : ℕ) (x : Death) → get_elem? (deaths_before start low) k ≡ some x → get_elem? (deaths_in start low journal) k ≡ some x
 was_told start low [] k x at = at
 was_told start low (s ∷ journal) k x at = at_longer (deaths_in start low journal) (death_by (ended_in start (events journal) s.event) s.stamp) k x (was_told start low journal k x at)
+
+-- where nobody was before, nobody has ended
+pub old_ends : (start : Start) (slots low d : ℕ) → KnowsOldEnds start slots low d → AreOldEnds start slots low d
+old_ends [] slots low d h = record { told = λ k x at. absurd (at_nothing x k at); all = λ p e. absurd (cc); turns = λ p e. absurd (cc) }
+old_ends (b ∷ start) slots low d h = h
 
 -- who had ended before the journal has ended
 had_ended : (start : Start) (p : Pid) → is_ended (at_start start p) ≡ true → (past : Past) → is_ended (life start past p) ≡ true

@@ -7,8 +7,6 @@ use Rattle.pt_carrier.specs.Node.{places, IsNode, IsNew}
 use Rattle.pt_carrier.proofs.Places.{out_number, in_number, out_lanes, in_lanes}
 use Rattle.pt_shard.specs.declared.config.Config.{Config}
 use Rattle.pt_shard.specs.Opening.{fresh}
-use Rattle.pt_directory.proofs.Lists.{at_nothing}
-use Rattle.pt_desk.specs.Sight.{AreOldEnds}
 use Rattle.pt_desk.specs.DeskState.{IsAccounted}
 
 empty_box : (n e : ℕ) → get_or {A = List Letter} (replicate n []) e [] ≡ []
@@ -31,7 +29,3 @@ fresh_accounted c pairs capacity d x node count new d_in is =
       posted = λ e h. sym (rw (new.posted e, empty_box c.desks e) refl);
       collected = λ k h. new.collected k;
     }
-
--- where nobody was before, nobody has ended
-pub no_old_ends : (slots low d : ℕ) → AreOldEnds [] slots low d
-no_old_ends slots low d = record { told = λ k x at. absurd (at_nothing x k at); all = λ p h. absurd (cc); turns = λ p h. absurd (cc) }

@@ -24,7 +24,7 @@ use Rattle.pt_desk.specs.Reaching.{Looks}
 use Rattle.pt_desk.proofs.Posted.{of_parts}
 use Rattle.pt_desk.proofs.Seating.{IsWhole, sight_of, seated_read, seated_written, seat_written}
 use Rattle.pt_desk.proofs.Calling.{written_accounted}
-use Rattle.pt_desk.proofs.Deaths.{own_death}
+use Rattle.pt_desk.proofs.Deaths.{old_ends, own_death}
 
 known_range : (s : ShardState) (t : Pid) → knows s t ≡ true → (t.shard < s.config.desks) × (t.slot < s.config.slots) × (0 < t.version)
 known_range s t h = (grind (arith, nat_tests), grind (arith, nat_tests), grind (arith, nat_tests))
@@ -50,7 +50,7 @@ module _ (s : ShardState) (o : OutEnds) (i : InEnds) (directory : DirectoryState
       -- whoever has ended here, its end is told
       own_end : (p : Pid) → is_ended (phase_of s p) ≡ true → HasToldOf p (seat_of s before)
       own_end p ends =
-          own_death s.start s.config.slots s.config.start s.config.top_version s.number whole.0.seated.old s.journal whole.0.fit.local p ends
+          own_death s.start s.config.slots s.config.start s.config.top_version s.number (old_ends s.start s.config.slots s.config.start s.number whole.0.seated.old) s.journal whole.0.fit.local p ends
 
       pub looked : (seat' : SeatState) (answer : Option ℕ) → Probes t seat answer seat' → (HasReadOf t seat → IsSome answer) → (HasToldOf t seat → IsSome answer)
           → Looks t (of_parts s o i before) answer (sight_of directory seat')

@@ -14,7 +14,7 @@ use Rattle.pt_directory.specs.Seats.{DirectoryState, SeatState, add_death, death
 use Rattle.pt_carrier.specs.Ends.{OutEnds, InEnds}
 use Rattle.pt_carrier.specs.Meeting.{out_kept, in_kept}
 use Rattle.pt_shard.specs.ShardState.{ShardState, past, written, ended_in}
-use Rattle.pt_desk.specs.Sight.{Sight, death_by, deaths_in, seat_of, AreOldEnds, IsSeen, AllSeen, IsSeated, HasWordsAt, AllHaveWords}
+use Rattle.pt_desk.specs.Sight.{Sight, death_by, deaths_in, seat_of, KnowsOldEnds, IsSeen, AllSeen, IsSeated, HasWordsAt, AllHaveWords}
 use Rattle.pt_shard.specs.declared.config.Config.{Config}
 use Rattle.pt_shard.specs.Outbox.{sent_on}
 use Rattle.pt_shard.specs.Fit.{IsFit}
@@ -65,8 +65,8 @@ same_seated s s' v same h = record {
   seen = subst (AllSeen v.reads) (sym same.journal) h.seen;
   words = subst (λ j. AllHaveWords s'.config.slots j) (sym same.journal) (subst (λ (c : Config). AllHaveWords c.slots s.journal) (sym same.config) h.words);
   old =
-      subst (λ (c : Config). AreOldEnds s'.start c.slots c.start s'.number) (sym same.config)
-      (subst (λ n. AreOldEnds s'.start s.config.slots s.config.start n) (sym same.number) (subst (λ b. AreOldEnds b s.config.slots s.config.start s.number) (sym same.start) h.old));
+      subst (λ (c : Config). KnowsOldEnds s'.start c.slots c.start s'.number) (sym same.config)
+      (subst (λ n. KnowsOldEnds s'.start s.config.slots s.config.start n) (sym same.number) (subst (λ b. KnowsOldEnds b s.config.slots s.config.start s.number) (sym same.start) h.old));
 }
 
 pub same_seat : (s s' : ShardState) (v : Sight) → SameJournal s s' → seat_of s' v ≡ seat_of s v

@@ -19,7 +19,7 @@ use Rattle.pt_desk.specs.DeskState.{IsAccounted}
 use Rattle.pt_desk.specs.InPlace.{CanTell, told}
 use Rattle.pt_desk.proofs.Seating.{IsWhole, SameJournal, sight_of, seated_written, seat_written, seat_ended, same_seated, same_seat}
 use Rattle.pt_desk.proofs.Ending.{no_birth}
-use Rattle.pt_desk.proofs.Deaths.{deaths_rise}
+use Rattle.pt_desk.proofs.Deaths.{old_ends, deaths_rise}
 
 -- the slot of a process that was born
 at_birth : (slots : ℕ) (p : Pid) (e : Event) → is_birth p e ≡ true → HasWordsAt slots e → p.slot < slots
@@ -45,7 +45,7 @@ module _ (s : ShardState) (o : OutEnds) (i : InEnds) (directory : DirectoryState
     -- the seat told of none of p's slot that is not earlier
     rises : (last_version (deaths_at p.shard p.slot (deaths_in s.start s.config.start s.journal)) < p.version)
         × (last_stamp (deaths_at p.shard p.slot (deaths_in s.start s.config.start s.journal)) ≤ clock s.config.start s.journal)
-    rises = deaths_rise s.start s.config.slots s.config.start s.config.top_version s.number whole.0.seated.old s.journal whole.0.fit.local p alive
+    rises = deaths_rise s.start s.config.slots s.config.start s.config.top_version s.number (old_ends s.start s.config.slots s.config.start s.number whole.0.seated.old) s.journal whole.0.fit.local p alive
 
     version_rises : last_version (deaths_at p.shard p.slot seat.deaths) < p.version
     version_rises = subst (λ (z : SeatState). last_version (deaths_at p.shard p.slot z.deaths) < p.version) (sym whole.1) rises.0
@@ -59,7 +59,7 @@ module _ (s : ShardState) (o : OutEnds) (i : InEnds) (directory : DirectoryState
       name = ap (λ (z : SeatState). z.name) whole.1;
       home = ap (λ (z : SeatState). z.homes) whole.1 ∙ ap (λ d. d ∷ []) (sym home);
       words =
-          let slot = slot_of_born s.start s.config.slots s.config.start s.number whole.0.seated.old p s.journal whole.0.seated.words (was_born (life s.start (past s) p) alive) in
+          let slot = slot_of_born s.start s.config.slots s.config.start s.number (old_ends s.start s.config.slots s.config.start s.number whole.0.seated.old) p s.journal whole.0.seated.words (was_born (life s.start (past s) p) alive) in
           (omega (arith, home, whole.0.fit.here, whole.0.seated.desks), omega (arith, slot, whole.0.seated.slots));
       version = version_rises;
       stamp = stamp_rises;

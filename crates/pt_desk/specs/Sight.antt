@@ -87,6 +87,11 @@ pub record AreOldEnds (start : Start) (slots low d : ℕ) : Type 0 where
       → (k : ℕ) × (x : Death) × (get_elem? (deaths_before start low) k ≡ some x) × (x.shard ≡ p.shard) × (x.slot ≡ p.slot) × (p.version ≤ x.version)
   pub turns : (p : Pid) → is_unborn (at_start start p) ≡ false → WasInTurn start slots p
 
+-- where nobody was before, there is nothing to know
+abbrev pub KnowsOldEnds : Start → ℕ → ℕ → ℕ → Type 0
+KnowsOldEnds [] slots low d = ⊤
+KnowsOldEnds (b ∷ start) slots low d = AreOldEnds (b ∷ start) slots low d
+
 -- what holds of the sight of every desk
 pub record IsSeated (s : ShardState) (v : Sight) : Type 0 where
   pub desks : v.directory.desks ≡ s.config.desks
@@ -95,7 +100,7 @@ pub record IsSeated (s : ShardState) (v : Sight) : Type 0 where
   pub near : (k : ℕ) (r : Read) → get_elem? v.reads k ≡ some r → r.shard < s.config.desks
   pub seen : AllSeen v.reads s.journal
   pub words : AllHaveWords s.config.slots s.journal
-  pub old : AreOldEnds s.start s.config.slots s.config.start s.number
+  pub old : KnowsOldEnds s.start s.config.slots s.config.start s.number
 
 -- the sight later: of the same directory, and what it read stands where it stood
 pub record SeesOn (old new : Sight) : Type 0 where

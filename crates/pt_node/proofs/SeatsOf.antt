@@ -9,7 +9,6 @@ use Rattle.pt_shard.specs.ShardState.{ShardState}
 use Rattle.pt_shard.specs.Opening.{fresh}
 use Rattle.pt_desk.specs.DeskState.{DeskState}
 use Rattle.pt_directory.proofs.Lists.{at_nothing}
-use Rattle.pt_desk.proofs.Fresh.{no_old_ends}
 use Rattle.pt_node.specs.Desks.{AreWhole, all_shards}
 use Rattle.pt_node.specs.Opening.{AreFreshShards}
 use Rattle.pt_node.specs.Seating.{Seated, all_seats, IsSeatOf, AreSeated, AreFreshSeats, AreOf}
@@ -64,4 +63,4 @@ module _ (config : Config) (seats : List Seated) (are : AreFreshSeats config sea
       seated_each shards seats (new.count ∙ sym (count_from (λ n. (are.directory, new_seat are.directory.name n)) 0 config.desks) ∙ sym (ap length are.all)) (λ k s p h.
       subst (λ z. IsSeatOf z (get_or seats k p)) (sym (new.fresh_each k s h))
       (subst (IsSeatOf (fresh config k)) (sym (fresh_seat k p (omega (arith, h, new.count))))
-      (record { desks = are.desks; slots = are.slots; near = λ j r at. absurd (at_nothing r j at); seen = tt; words = tt; old = no_old_ends config.slots config.start k }, refl)))
+      (record { desks = are.desks; slots = are.slots; near = λ j r at. absurd (at_nothing r j at); seen = tt; words = tt; old = tt }, refl)))

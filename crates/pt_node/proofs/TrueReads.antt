@@ -19,7 +19,7 @@ use Rattle.pt_shard.specs.declared.config.Config.{Config}
 use Rattle.pt_shard.specs.ShardState.{ShardState}
 use Rattle.pt_desk.specs.Sight.{deaths_in, AreOldEnds, HasEndOf}
 use Rattle.pt_desk.specs.DeskState.{DeskState, place}
-use Rattle.pt_desk.proofs.Deaths.{told, ended_before}
+use Rattle.pt_desk.proofs.Deaths.{old_ends, told, ended_before}
 use Rattle.pt_node.specs.Desks.{AreDesksOf, AreWhole}
 use Rattle.pt_node.specs.Seating.{all_seats, together, AreAudited}
 
@@ -72,7 +72,7 @@ module _ (config : Config) (desks : List DeskState) (node : AreDesksOf config de
   shard_of d x = (get_or desks d x).shard
 
   ends_of : (d : ℕ) (x : DeskState) → d < length desks → AreOldEnds (shard_of d x).start (shard_of d x).config.slots (shard_of d x).config.start (shard_of d x).number
-  ends_of d x h = (whole d x h).seated.old
+  ends_of d x h = let s = shard_of d x in old_ends s.start s.config.slots s.config.start s.number (whole d x h).seated.old
 
   -- the deaths of a slot that all seats know are those that its own desk told
   own_deaths : (d : ℕ) (x : DeskState) → d < length desks → (slot version n : ℕ) → Covers (deaths_at d slot (together audited.0 (all_seats desks)).deaths) version n
