@@ -1,6 +1,6 @@
 #!/usr/bin/env bash
 # bench/run.sh [ROUNDS [PART..]]: builds the programs to measure, runs them in turn, so many rounds (5), and prints the tables
-# of bench/RESULTS.md. A PART is desk, growth, slots or lanes; with none, all.
+# of bench/RESULTS.md. A PART is desk, growth, slots, lanes or judge; with none, all.
 #
 # It works in the folder that ROOM names (/tmp/pundewo-bench), never in the repository. Needed on the path: rt, cargo and
 # erl, and Debian's erlang-base, librust-slotmap-dev, librust-slab-dev, librust-indexmap-dev and
@@ -11,7 +11,7 @@ repository=$(dirname "$here")
 room=${ROOM:-/tmp/pundewo-bench}
 rounds=${1:-5}
 shift
-parts=${*:-desk growth slots lanes}
+parts=${*:-desk growth slots lanes judge}
 ms=${MS:-20}
 raw=$room/raw
 wants() { [[ " $parts " == *" $1 "* ]]; }
@@ -44,6 +44,7 @@ build() {
     if wants desk || wants growth; then build_rattle pt_bench_desk; fi
     if wants slots; then build_rattle pt_bench_slots; fi
     if wants lanes; then build_rattle pt_bench_lanes; fi
+    if wants judge; then build_rattle pt_bench_judge; fi
     (cd "$here/rust" && CARGO_TARGET_DIR="$room/rust" cargo build --release --offline --quiet) || echo "not built: rust"
     mkdir -p "$room/erlang" && erlc -o "$room/erlang" "$here/erlang/bench.erl" || echo "not built: erlang"
 }
@@ -81,6 +82,10 @@ one_round() {
     if wants lanes; then
         run plain "$room/crates/pt_bench_lanes/out/pt_bench_lanes" 3
         run plain "$room/rust/release/channels" 3
+    fi
+    if wants judge; then
+        run plain "$room/crates/pt_bench_judge/out/pt_bench_judge" 125000
+        run plain "$room/crates/pt_bench_judge/out/pt_bench_judge" 1000000
     fi
 }
 

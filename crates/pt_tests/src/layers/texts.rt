@@ -3,8 +3,8 @@
 use pt_events::Stamped;
 use pt_signal::{Body, Ids, LinkId, Pid, Reason, Ref};
 use pt_texts::{
-    Refused, parse_body, parse_event, parse_ids, parse_item, parse_left_over, parse_letter, parse_link_id, parse_pick,
-    parse_pid, parse_reason, parse_ref, parse_signal, parse_stamped,
+    Refused, parse_body, parse_event, parse_ids, parse_item, parse_left_over, parse_letter,
+    parse_link_id, parse_pick, parse_pid, parse_reason, parse_ref, parse_signal, parse_stamped,
 };
 use std::alloc::AllocError;
 
@@ -40,7 +40,9 @@ const LINES: &[&str] = &[
 #[test]
 fn lines_are_read_back(rt: HostRuntime) -> Result<(), AllocError> {
     for line in LINES {
-        let read: Stamped = parse_stamped(line.as_bytes()).ok().expect(&rt, "a printed line");
+        let read: Stamped = parse_stamped(line.as_bytes())
+            .ok()
+            .expect(&rt, "a printed line");
         let printed = format!(in rt.alloc(); "{read}")?;
         assert_eq!(rt; printed.as_str(), *line);
     }
@@ -59,9 +61,22 @@ fn values_are_read(rt: HostRuntime) {
     assert_eq!(rt; parse_pid(b"<0.1.1>"), Ok(pid));
     assert_eq!(rt; parse_ref(b"#0.4"), Ok(Ref { desk: 0, number: 4 }));
     assert_eq!(rt; parse_link_id(b"~1.4"), Ok(two));
-    assert_eq!(rt; parse_ids(b"~0.6+~1.4"), Ok(Ids { one, two: Some(two) }));
+    assert_eq!(rt;
+        parse_ids(b"~0.6+~1.4"),
+        Ok(Ids {
+            one,
+            two: Some(two)
+        })
+    );
     assert_eq!(rt; parse_reason(b"killed"), Ok(Reason::Killed));
-    assert_eq!(rt; parse_body(b"1 -7"), Ok(Body { kind: 1, num: -7, who: None }));
+    assert_eq!(rt;
+        parse_body(b"1 -7"),
+        Ok(Body {
+            kind: 1,
+            num: -7,
+            who: None
+        })
+    );
     assert!(rt; parse_item(b"exit <0.1.1> killed").is_ok());
     assert!(rt; parse_pick(b"exit-of <0.1.1>").is_ok());
     assert!(rt; parse_signal(b"unlink ~0.6").is_ok());
@@ -85,7 +100,10 @@ const REFUSED: &[(&str, usize)] = &[
     ("1@0 born <0.0.1>\r", 17),
     ("1@0 born <0.0.1> ", 17),
     ("1@0 said <0.0.1> -> <0.1.1> message 1 -0", 40),
-    ("1@0 said <0.0.1> -> <0.1.1> message 1 9223372036854775808", 57),
+    (
+        "1@0 said <0.0.1> -> <0.1.1> message 1 9223372036854775808",
+        57,
+    ),
     ("1@0 left <0.0.1> kille", 22),
     ("1@0 left <0.0.1> other:", 24),
 ];
@@ -93,6 +111,10 @@ const REFUSED: &[(&str, usize)] = &[
 #[test]
 fn other_texts_are_refused(rt: HostRuntime) {
     for (text, column) in REFUSED {
-        assert_eq!(rt; parse_stamped(text.as_bytes()), Err(Refused { column: *column }), "{text}");
+        assert_eq!(rt;
+            parse_stamped(text.as_bytes()),
+            Err(Refused { column: *column }),
+            "{text}"
+        );
     }
 }
