@@ -9,12 +9,18 @@ is_digit c = nat_le 48 c && nat_le c 57
 -- the digits that follow those of n, which is not 0
 abbrev pub digits_at : ℕ → ℕ → Reader ℕ
 digits_at most n [] = Ok (n, [])
-digits_at most n (c ∷ text) = if is_digit c then (if nat_le (n * 10 + (c - 48)) most then digits_at most (n * 10 + (c - 48)) text else Err (length (c ∷ text))) else Ok (n, c ∷ text)
+digits_at most n (c ∷ text) =
+    if is_digit c
+    then (if nat_le (n * 10 + (c - 48)) most then digits_at most (n * 10 + (c - 48)) text else Err (length (c ∷ text)))
+    else Ok (n, c ∷ text)
 
 -- a number from 0 to most, which is 9 at least
 abbrev pub number_at : ℕ → Reader ℕ
 number_at most [] = Err 0
-number_at most (c ∷ text) = if c == 48 then Ok (0, text) else (if is_digit c then digits_at most (c - 48) text else Err (length (c ∷ text)))
+number_at most (c ∷ text) =
+    if c == 48
+    then Ok (0, text)
+    else (if is_digit c then digits_at most (c - 48) text else Err (length (c ∷ text)))
 
 -- numbers of 8, 32 and 64 bits
 abbrev pub u8_at : Reader ℕ
@@ -33,4 +39,7 @@ negated text (suc n, rest) = Ok (negsuc n, rest)
 
 -- a number of 64 bits with its sign
 abbrev pub i64_at : Reader ℤ
-i64_at text = choose (behind (codes "-") text) (λ rest. number_at (2 ^ 63) rest >>= negated rest) (mapped pos (number_at (2 ^ 63 - 1)) text)
+i64_at text =
+    choose (behind (codes "-") text)
+    (λ rest. number_at (2 ^ 63) rest >>= negated rest)
+    (mapped pos (number_at (2 ^ 63 - 1)) text)

@@ -25,16 +25,24 @@ pid_at = mapped (λ x. record { shard = x.0; slot = x.1.0; version = x.1.1 })
     (before (codes "<") (closed (pair u8_at (before (codes ".") (pair u32_at (before (codes ".") u32_at)))) (codes ">")))
 
 unfoldable pub ref_at : Reader Ref
-ref_at = mapped (λ x. record { desk = x.0; number = x.1 }) (before (codes "#") (pair u8_at (before (codes ".") u64_at)))
+ref_at =
+    mapped (λ x. record { desk = x.0; number = x.1 })
+    (before (codes "#") (pair u8_at (before (codes ".") u64_at)))
 
 unfoldable pub link_id_at : Reader LinkId
-link_id_at = mapped (λ x. record { desk = x.0; number = x.1 }) (before (codes "~") (pair u8_at (before (codes ".") u64_at)))
+link_id_at =
+    mapped (λ x. record { desk = x.0; number = x.1 })
+    (before (codes "~") (pair u8_at (before (codes ".") u64_at)))
 
 unfoldable pub ids_at : Reader Ids
-ids_at = mapped (λ x. record { one = x.0; two = x.1 }) (pair link_id_at (optional (codes "+") link_id_at))
+ids_at =
+    mapped (λ x. record { one = x.0; two = x.1 })
+    (pair link_id_at (optional (codes "+") link_id_at))
 
 unfoldable pub body_at : Reader Body
-body_at = mapped (λ x. record { kind = x.0; num = x.1.0; who = x.1.1 }) (pair u32_at (before (codes " ") (pair i64_at (optional (codes " who ") pid_at))))
+body_at =
+    mapped (λ x. record { kind = x.0; num = x.1.0; who = x.1.1 })
+    (pair u32_at (before (codes " ") (pair i64_at (optional (codes " who ") pid_at))))
 
 unfoldable pub reason_at : Reader Reason
 reason_at =
@@ -53,8 +61,10 @@ unfoldable pub item_at : Reader Item
 item_at =
     or_else (codes "user ") (mapped (λ x. User x.0 x.1) (pair pid_at (before (codes " ") body_at)))
     (or_else (codes "exit ") (mapped (λ x. Item.Exit x.0 x.1) (pair pid_at (before (codes " ") reason_at)))
-    (or_else (codes "down ") (mapped (λ x. Item.Down x.0 x.1.0 x.1.1) (pair ref_at (before (codes " ") (pair pid_at (before (codes " ") reason_at)))))
-    (or_else (codes "alive ") (mapped (λ x. Item.Alive x.0 x.1.0 x.1.1) (pair ref_at (before (codes " ") (pair pid_at (before (codes " ") yes_or_no_at)))))
+    (or_else (codes "down ")
+    (mapped (λ x. Item.Down x.0 x.1.0 x.1.1) (pair ref_at (before (codes " ") (pair pid_at (before (codes " ") reason_at)))))
+    (or_else (codes "alive ")
+    (mapped (λ x. Item.Alive x.0 x.1.0 x.1.1) (pair ref_at (before (codes " ") (pair pid_at (before (codes " ") yes_or_no_at)))))
     none_of_these)))
 
 unfoldable pub pick_at : Reader Pick
@@ -85,7 +95,9 @@ unfoldable pub route_at : Reader (Pid × Pid)
 route_at = pair pid_at (before (codes " -> ") pid_at)
 
 unfoldable pub letter_at : Reader Letter
-letter_at = mapped (λ x. record { from = x.0.0; to = x.0.1; signal = x.1.0; stamp = x.1.1 }) (pair route_at (before (codes " ") (pair signal_at (before (codes " @") u64_at))))
+letter_at =
+    mapped (λ x. record { from = x.0.0; to = x.0.1; signal = x.1.0; stamp = x.1.1 })
+    (pair route_at (before (codes " ") (pair signal_at (before (codes " @") u64_at))))
 
 unfoldable pub switch_at : Reader Bool
 switch_at = or_else (codes "on") (given true) (or_else (codes "off") (given false) none_of_these)
@@ -103,7 +115,8 @@ unfoldable pub event_at : Reader Event
 event_at =
     or_else (codes "said ") (mapped (λ x. Said x.0.0 x.0.1 x.1) (pair route_at (before (codes " ") signal_at)))
     (or_else (codes "came ") (mapped (λ x. Came x.0.0 x.0.1 x.1) (pair route_at (before (codes " ") signal_at)))
-    (or_else (codes "took ") (mapped (λ x. Took x.0 x.1.0 x.1.1) (pair pid_at (before (codes " ") (pair pick_at (before (codes " = ") item_at)))))
+    (or_else (codes "took ")
+    (mapped (λ x. Took x.0 x.1.0 x.1.1) (pair pid_at (before (codes " ") (pair pick_at (before (codes " = ") item_at)))))
     (or_else (codes "born ") birth_at
     (or_else (codes "left ") (mapped (λ x. Left x.0 x.1) (pair pid_at (before (codes " ") reason_at)))
     (or_else (codes "flag ") (mapped (λ x. Flag x.0 x.1) (pair pid_at (before (codes " ") switch_at)))
@@ -111,7 +124,11 @@ event_at =
     none_of_these))))))
 
 unfoldable pub stamped_at : Reader Stamped
-stamped_at = mapped (λ x. record { stamp = x.0; desk = x.1.0; event = x.1.1 }) (pair u64_at (before (codes "@") (pair u8_at (before (codes " ") event_at))))
+stamped_at =
+    mapped (λ x. record { stamp = x.0; desk = x.1.0; event = x.1.1 })
+    (pair u64_at (before (codes "@") (pair u8_at (before (codes " ") event_at))))
 
 unfoldable pub left_over_at : Reader LeftOver
-left_over_at = mapped (λ x. record { from_desk = x.0; to_desk = x.1.0; letter = x.1.1 }) (before (codes "left-over ") (pair u8_at (before (codes " -> ") (pair u8_at (before (codes " ") letter_at)))))
+left_over_at =
+    mapped (λ x. record { from_desk = x.0; to_desk = x.1.0; letter = x.1.1 })
+    (before (codes "left-over ") (pair u8_at (before (codes " -> ") (pair u8_at (before (codes " ") letter_at)))))

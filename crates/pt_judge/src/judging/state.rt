@@ -51,7 +51,8 @@ impl Model for State {
 
 /// Adds the id of the link that the event makes, if it makes one.
 fn note_link(links: &mut IndexSet<LinkId>, event: Event) -> Result<(), AllocFailed<LinkId>>
-    ensures { OnOk result ((id : LinkId) → contains same_link links.new id ≡ makes_link id event || contains same_link links.old id) }
+    ensures { OnOk result ((id : LinkId) →
+        contains same_link links.new id ≡ makes_link id event || contains same_link links.old id) }
 {
     match event {
         Event::Born(_, _, Some(made)) => {
@@ -67,7 +68,8 @@ fn note_link(links: &mut IndexSet<LinkId>, event: Event) -> Result<(), AllocFail
 
 /// Adds the reference that the event makes, if it makes one.
 fn note_ref(refs: &mut IndexSet<Ref>, event: Event) -> Result<(), AllocFailed<Ref>>
-    ensures { OnOk result ((monitor : Ref) → contains same_ref refs.new monitor ≡ makes_ref monitor event || contains same_ref refs.old monitor) }
+    ensures { OnOk result ((monitor : Ref) →
+        contains same_ref refs.new monitor ≡ makes_ref monitor event || contains same_ref refs.old monitor) }
 {
     match event {
         Event::Said(_, _, Signal::Monitor(made)) => {

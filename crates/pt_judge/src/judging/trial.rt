@@ -30,7 +30,8 @@ fn judge(alloc: Global, state: State, event: Event) -> Result<State, Cause>
 /// Where memory is wanting for an event that may come, its place is given with `Cause::Memory`. The state goes with
 /// any refusal.
 pub fn replay_from(alloc: Global, state: State, events: &[Event]) -> Result<State, (u64, Cause)>
-    ensures { (start : Start) (past : Past) → IsAfter start past state → IsLegal start past → ReplaysAfter start past events.now result }
+    ensures { (start : Start) (past : Past) → IsAfter start past state → IsLegal start past →
+        ReplaysAfter start past events.now result }
 {
     let mut state = state;
     for place in 0..events.len() {
