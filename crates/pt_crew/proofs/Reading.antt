@@ -1,0 +1,131 @@
+-- One more event of the journal is read.
+use Rattle.std.proofs.Common.{◌≡◌, ◌+◌, ◌<◌, ◌≤◌, Bool, true, false, ◌||◌, Result, Ok, Err, OnOk, List, [], ◌∷◌, ◌++◌, length, reverse, get_or, Some, refl, sym, ap, subst, ◌∙◌, append_assoc, length-append, arith}
+use Rattle.std.specs.Prelude.{is_err}
+use Rattle.std.proofs.lemmas.List.{reverse-append, reverse-reverse, length-reverse, get_or-append-add, get_or_default}
+use Rattle.std.proofs.lemmas.List.Folds.{list_any-append}
+use Rattle.pt_signal.specs.declared.pid.Pid.{Pid}
+use Rattle.pt_signal.specs.Values.{same_pid}
+use Rattle.pt_signal.proofs.Same.{same_pid_is}
+use Rattle.pt_events.specs.declared.event.Event.{Event}
+use Rattle.pt_events.specs.declared.event.Event.TheVariants.{Born, Said, Came, Took, Flag, Left, Refused}
+use Rattle.pt_events.specs.declared.event.Stamped.{Stamped}
+use Rattle.pt_shard.specs.ShardState.{ShardState}
+use Rattle.pt_crew.specs.declared.crew.Crew.{Crew}
+use Rattle.pt_crew.specs.Waking.{Knows, IsAwake, came_to, came_in, in_queue}
+use Rattle.pt_crew.specs.Crews.{members, KnowsDesk, IsSame, Wakes, WakesBy}
+use Rattle.pt_crew.proofs.Waking.{by_cases}
+use Rattle.pt_crew.proofs.Places.{same_pid_sym}
+
+-- the oldest of those that were not read
+pub record Oldest {X : Type 0} (more : List X) (seen : List X) (x : X) : Type 0 where
+  pub front : List X
+  pub is : more ≡ front ++ x ∷ []
+
+oldest_of : {X : Type 0} (more seen r : List X) (x : X) → reverse more ≡ r → x ≡ get_or (reverse (more ++ seen)) (length seen) x → 0 < length r → Oldest more seen x
+oldest_of more seen [] x e at some = absurd (omega (arith, some))
+oldest_of {X} more seen (y ∷ ys) x e at some = record {
+  front = reverse ys;
+  is = sym (reverse-reverse more) ∙ ap reverse e ∙ reverse-append (y ∷ []) ys ∙ ap (λ (z : X). reverse ys ++ z ∷ []) (sym x_is);
+}
+  where
+    x_is : x ≡ y
+    x_is =
+        at
+        ∙ ap (λ (l : List X). get_or l (length seen) x) (reverse-append more seen ∙ ap (λ (l : List X). reverse seen ++ l) e)
+        ∙ ap (λ n. get_or (reverse seen ++ y ∷ ys) n x) (let l = length-reverse seen in omega (arith, l))
+        ∙ get_or-append-add (reverse seen) (y ∷ ys) 0 x
+
+pub oldest : {X : Type 0} (more seen : List X) (x : X) → length seen < length (more ++ seen) → x ≡ get_or (reverse (more ++ seen)) (length seen) x → Oldest more seen x
+oldest more seen x within at = oldest_of more seen (reverse more) x refl at (omega (arith, within, length-append more seen, length-reverse more))
+
+or_nil : (b : Bool) → (b || false) ≡ b
+or_nil true = refl
+or_nil false = refl
+
+module _ {B : Type 0} (old new : Crew B) (d : ShardState) (s : Stamped) (k : KnowsDesk old d) (o : Oldest k.more k.seen s) where
+  quiet_front : (p : Pid) → came_in p o.front ≡ false → came_to p s.event ≡ false → came_in p k.more ≡ false
+  quiet_front p a b =
+      ap (came_in p) o.is
+      ∙ list_any-append (λ (t : Stamped). came_to p t.event) o.front (s ∷ [])
+      ∙ (λ j. a j || (b j || false))
+
+  journal_is : d.journal ≡ o.front ++ s ∷ k.seen
+  journal_is = k.journal ∙ ap (λ (l : List Stamped). l ++ k.seen) o.is ∙ append_assoc o.front (s ∷ []) k.seen
+
+  read_other : (e : Event) → s.event ≡ e → ((p : Pid) → came_to p e ≡ false) → IsSame old new → Knows (members new) new.queue.items (old.read + 1) d
+  read_other e is none same = record {
+    more = o.front;
+    seen = s ∷ k.seen;
+    journal = journal_is;
+    counted = let c = k.counted in omega (arith, c);
+    listed = λ p m at marked. subst (λ (q : List Pid). in_queue p q ≡ true) (sym same.queue) (k.listed p m (sym (same.members p) ∙ at) marked);
+    awake = λ p m at work quiet. k.awake p m (sym (same.members p) ∙ at) work (quiet_front p quiet (ap (came_to p) is ∙ none p));
+  }
+
+  read_came : (a b : Pid) → ((p : Pid) → came_to p s.event ≡ same_pid p b) → Wakes b old new → Knows (members new) new.queue.items (old.read + 1) d
+  read_came a b is wakes = record {
+    more = o.front;
+    seen = s ∷ k.seen;
+    journal = journal_is;
+    counted = let c = k.counted in omega (arith, c);
+    listed = wakes.listed k.listed;
+    awake = λ p m at work quiet. by_cases (same_pid b p)
+        (λ same. wakes.marked m (subst (λ (q : Pid). members new q ≡ Some m) (sym (same_pid_is b p same)) at))
+        (λ other. k.awake p m (sym (wakes.others p other) ∙ at) work (quiet_front p quiet (is p ∙ same_pid_sym p b ∙ other)));
+  }
+
+  pub read_event : (e : Event) → s.event ≡ e → WakesBy e old new → Knows (members new) new.queue.items (old.read + 1) d
+  read_event (Born p parent link) is h = read_other (Born p parent link) is (λ q. refl) h
+  read_event (Said a b x) is h = read_other (Said a b x) is (λ q. refl) h
+  read_event (Came a b x) is h = read_came a b (λ q. ap (came_to q) is) h
+  read_event (Took p q i) is h = read_other (Took p q i) is (λ q. refl) h
+  read_event (Flag p on) is h = read_other (Flag p on) is (λ q. refl) h
+  read_event (Left p r) is h = read_other (Left p r) is (λ q. refl) h
+  read_event (Refused a b) is h = read_other (Refused a b) is (λ q. refl) h
+
+-- the event at the place up to which was read
+pub read_next : {B : Type 0} (old new : Crew B) (d : ShardState) (s : Stamped) → old.read < length d.journal → s ≡ get_or (reverse d.journal) old.read s → WakesBy s.event old new → KnowsDesk old d → Knows (members new) new.queue.items (old.read + 1) d
+read_next old new d s within at h k =
+    let l : length d.journal ≡ length (k.more ++ k.seen) = ap length k.journal in
+    let c = k.counted in
+    let inside : length k.seen < length (k.more ++ k.seen) = omega (arith, l, c, within) in
+    let at2 : s ≡ get_or (reverse (k.more ++ k.seen)) (length k.seen) s = at ∙ (λ j. get_or (reverse (k.journal j)) (sym c j) s) in
+    read_event old new d s k (oldest k.more k.seen s inside at2) s.event refl h
+
+-- where all is read, whoever has something to do stands in the queue
+none_left : {X : Type 0} (more seen : List X) → length (more ++ seen) ≡ length seen → more ≡ []
+none_left [] seen h = refl
+none_left (x ∷ xs) seen h = absurd (omega (arith, h, length-append (x ∷ xs) seen))
+
+woke_read : {B : Type 0} (e : Event) (old new : Crew B) → WakesBy e old new → new.read ≡ old.read
+woke_read (Born p parent link) old new h = h.read
+woke_read (Said a b x) old new h = h.read
+woke_read (Came a b x) old new h = h.read
+woke_read (Took p q i) old new h = h.read
+woke_read (Flag p on) old new h = h.read
+woke_read (Left p r) old new h = h.read
+woke_read (Refused a b) old new h = h.read
+
+pub read_more : {B : Type 0} (old new : Crew B) (d : ShardState) (s : Stamped) → old.read < length d.journal → s ≡ get_or (reverse d.journal) old.read s → WakesBy s.event old new → KnowsDesk old d → Knows (members new) new.queue.items (new.read + 1) d
+read_more old new d s within at h k =
+    subst (λ n. Knows (members new) new.queue.items (n + 1) d) (sym (woke_read s.event old new h)) (read_next old new d s within at h k)
+
+pub on_ok : {A E : Type 0} (P : Type 0) (r : Result A E) → is_err r ≡ false → OnOk r P → P
+on_ok P (Ok a) e h = h
+on_ok P (Err x) e h = absurd (cc)
+
+pub awake_all : {B : Type 0} (c : Crew B) (d : ShardState) → length d.journal ≤ c.read → KnowsDesk c d → IsAwake (members c) c.queue.items d
+awake_all c d all k p m is work =
+    let l : length d.journal ≡ length (k.more ++ k.seen) = ap length k.journal in
+    let n = k.counted in
+    let a = length-append k.more k.seen in
+    let none : k.more ≡ [] = none_left k.more k.seen (omega (arith, l, n, a, all)) in
+    k.listed p m is (k.awake p m is work (ap (came_in p) none))
+
+pub look_next : {B A E : Type 0} (old new : Crew B) (d : ShardState) (shown : List Stamped) (x : Stamped) (r : Result A E) → shown ≡ reverse d.journal → old.read < length shown → is_err r ≡ false
+    → OnOk r (WakesBy (get_or shown old.read x).event old new) → KnowsDesk old d → Knows (members new) new.queue.items (new.read + 1) d
+look_next old new d shown x r is within ok h k =
+    let s = get_or shown old.read x in
+    let short : old.read < length d.journal = let e = ap length is in let l = length-reverse d.journal in omega (arith, within, e, l) in
+    let at : s ≡ get_or (reverse d.journal) old.read s = get_or_default shown old.read x s within ∙ ap (λ (l : List Stamped). get_or l old.read s) is in
+    read_more old new d s short at (on_ok (WakesBy s.event old new) r ok h) k

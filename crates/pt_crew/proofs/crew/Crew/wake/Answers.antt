@@ -1,0 +1,83 @@
+use Rattle.std.proofs.Common.{◌≡◌, List, [], ◌∷◌, ◌++◌, Bool, true, cond, ap, sym, subst, refl, ◌∙◌, append-nil, arith}
+use Rattle.pt_signal.specs.declared.pid.Pid.{Pid}
+use Rattle.pt_crew.specs.Waking.{in_queue}
+use Rattle.pt_crew.proofs.Waking.{woken, pushed, kept_in, same_back}
+use Rattle.pt_crew.proofs.Room.{unmarked_set, bare, on_err}
+use Rattle.pt_crew.specs.Crews.{members}
+use Rattle.pt_crew.proofs.Places.{held_at, written_at}
+use Rattle.pt_crew.proofs.crew.Crew.wake.Goals as goal
+
+pub returns-then-member-clause-wakes : goal.returns-then-member-clause-wakes
+returns-then-member-clause-wakes g c =
+    let m = c.args.self.now.members in
+    let p = c.args.p in
+    let i = c.in-Some.place in
+    let k = c.pair_mut-member.result.0.now in
+    let v = c.pair_mut-member.result.1.now in
+    let at = c.pair_mut-member.ensures.value in
+    let unique = c.pair_mut-member.ensures.unique in
+    let held = held_at m p i k v c.in-Some.ensures.index at unique in
+    woken p c.args.self.now _ v v held (written_at m p i k v c.in-Some.ensures.index at unique v).0 c.if-member.true refl refl
+    (λ listed. listed p v held c.if-member.true)
+    (λ q h. h)
+    ([], sym (append-nil c.args.self.now.queue.items))
+    refl
+
+pub returns-then-member-clause-room : goal.returns-then-member-clause-room
+returns-then-member-clause-room g c =
+    let v = c.pair_mut-member.result.1.now in
+    let s = unmarked_set c.args.self.now.members.entries c.in-Some.place c.pair_mut-member.result.0.now v v c.pair_mut-member.ensures.value in
+    λ room. (refl, omega (arith, s, room))
+
+pub returns-in_err-reserve-clause-refused : goal.returns-in_err-reserve-clause-refused
+returns-in_err-reserve-clause-refused g c =
+    let m = c.args.self.now.members in
+    let p = c.args.p in
+    let i = c.in-Some.place in
+    let k = c.pair_mut-member.result.0.now in
+    let v = c.pair_mut-member.result.1.now in
+    let at = c.pair_mut-member.ensures.value in
+    let unique = c.pair_mut-member.ensures.unique in
+    let held = held_at m p i k v c.in-Some.ensures.index at unique in
+    on_err _ c.from_residual.result (record {
+      members = λ q. (written_at m p i k v c.in-Some.ensures.index at unique v).0 q ∙ same_back (members c.args.self.now) p v held q;
+      queue = c.reserve.ensures.items;
+      read = refl;
+    })
+
+pub returns-in_err-reserve-clause-room : goal.returns-in_err-reserve-clause-room
+returns-in_err-reserve-clause-room g c =
+    let v = c.pair_mut-member.result.1.now in
+    let s = unmarked_set c.args.self.now.members.entries c.in-Some.place c.pair_mut-member.result.0.now v (record v { queued = true }) c.pair_mut-member.ensures.value in
+    let b : bare v ≡ 1 = ap (λ (x : Bool). cond x 0 1) c.if-member.false in
+    let full = c.in_err-reserve.ensures.full in
+    λ room. absurd (omega (arith, s, b, full, room))
+
+pub returns-clause-room : goal.returns-clause-room
+returns-clause-room g c =
+    let v = c.pair_mut-member.result.1.now in
+    let s = unmarked_set c.args.self.now.members.entries c.in-Some.place c.pair_mut-member.result.0.now v (record v { queued = true }) c.pair_mut-member.ensures.value in
+    let b : bare v ≡ 1 = ap (λ (x : Bool). cond x 0 1) c.if-member.false in
+    let l = c.push_back_reserved.ensures.len in
+    let z = c.push_back_reserved.ensures.capacity in
+    let n = c.reserve.ensures.len in
+    let y = c.reserve.ensures.capacity in
+    λ room. (refl, omega (arith, s, b, l, z, n, y, room))
+
+pub returns-clause-wakes : goal.returns-clause-wakes
+returns-clause-wakes g c =
+    let m = c.args.self.now.members in
+    let p = c.args.p in
+    let i = c.in-Some.place in
+    let k = c.pair_mut-member.result.0.now in
+    let v = c.pair_mut-member.result.1.now in
+    let at = c.pair_mut-member.ensures.value in
+    let unique = c.pair_mut-member.ensures.unique in
+    let held = held_at m p i k v c.in-Some.ensures.index at unique in
+    let w = record v { queued = true } in
+    let items = c.push_back_reserved.ensures.items ∙ ap (λ (ps : List Pid). ps ++ p ∷ []) c.reserve.ensures.items in
+    woken p c.args.self.now _ v w held (written_at m p i k v c.in-Some.ensures.index at unique w).0 refl refl refl
+    (λ listed. subst (λ (q : List Pid). in_queue p q ≡ true) (sym items) (pushed p c.args.self.now.queue.items))
+    (λ q h. subst (λ (ps : List Pid). in_queue q ps ≡ true) (sym items) (kept_in q p c.args.self.now.queue.items h))
+    (p ∷ [], items)
+    refl

@@ -1,0 +1,5 @@
+pub mod Waking
+pub mod Visiting
+pub mod Handing
+pub mod Crews
+pub mod Telling

@@ -1,0 +1,52 @@
+-- Who of a crew has something to do, and who of it stands in the queue.
+use Rattle.std.specs.Prelude.{◌≡◌, ℕ, Bool, true, false, List, length, ◌++◌, Option, Some, is_some}
+use Rattle.std.specs.List.{find, list_any}
+use Rattle.pt_signal.specs.declared.pid.Pid.{Pid}
+use Rattle.pt_signal.specs.Values.{same_pid, fits}
+use Rattle.pt_events.specs.declared.event.Event.{Event}
+use Rattle.pt_events.specs.declared.event.Event.TheVariants.{Came}
+use Rattle.pt_events.specs.declared.event.Stamped.{Stamped}
+use Rattle.pt_events.specs.History.{Phase, living}
+use Rattle.pt_shard.specs.ShardState.{ShardState, phase_of}
+use Rattle.pt_crew.specs.declared.behaviour.Next.{Next}
+use Rattle.pt_crew.specs.declared.behaviour.Next.TheVariants.{Wait, Stop}
+use Rattle.pt_crew.specs.declared.crew.Member.{Member}
+
+-- a process in this phase has something to do: an item that its pick fits stands in its mailbox, or it is to end
+abbrev pub has_work : Next → Phase → Bool
+has_work (Wait k) (living s) = is_some (find (fits k) s.waiting)
+has_work (Wait k) _ = false
+has_work (Stop r) f = true
+
+-- a signal came to p
+abbrev pub came_to : Pid → Event → Bool
+came_to p (Came a b x) = same_pid p b
+came_to p _ = false
+
+abbrev pub came_in : Pid → List Stamped → Bool
+came_in p journal = list_any (λ (s : Stamped). came_to p s.event) journal
+
+abbrev pub in_queue : Pid → List Pid → Bool
+in_queue p queue = list_any (same_pid p) queue
+
+-- the members by their pids
+abbrev pub Members : Type 0 → Type 0
+Members B = Pid → Option (Member B)
+
+-- whoever is marked stands in the queue
+abbrev pub IsListed : {B : Type 0} → Members B → List Pid → Type 0
+IsListed {B} members queue = (p : Pid) (m : Member B) → members p ≡ Some m → m.queued ≡ true → in_queue p queue ≡ true
+
+-- Of the journal, `seen` was read and `more` was not. Whoever has something to do is marked, unless a signal that was
+-- not read came to it.
+pub record Knows {B : Type 0} (members : Members B) (queue : List Pid) (read : ℕ) (d : ShardState) : Type 0 where
+  pub more : List Stamped
+  pub seen : List Stamped
+  pub journal : d.journal ≡ more ++ seen
+  pub counted : length seen ≡ read
+  pub listed : IsListed members queue
+  pub awake : (p : Pid) (m : Member B) → members p ≡ Some m → has_work m.next (phase_of d p) ≡ true → came_in p more ≡ false → m.queued ≡ true
+
+-- no lost wake-up: each member that has something to do stands in the queue
+abbrev pub IsAwake : {B : Type 0} → Members B → List Pid → ShardState → Type 0
+IsAwake {B} members queue d = (p : Pid) (m : Member B) → members p ≡ Some m → has_work m.next (phase_of d p) ≡ true → in_queue p queue ≡ true

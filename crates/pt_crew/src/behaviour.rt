@@ -1,0 +1,37 @@
+//! What a process does with the items of its mailbox.
+
+ghost use Rattle.std.specs.Prelude.{◌≡◌};
+ghost use Rattle.pt_desk.specs.DeskState.{GoesOn};
+ghost use Rattle.pt_signal.specs.declared.pid.Pid.{Pid};
+ghost use Rattle.pt_signal.specs.declared.item.Item.{Item};
+ghost use Rattle.pt_crew.specs.declared.behaviour.Next.{Next};
+ghost use Rattle.pt_crew.specs.Visiting.{takes};
+
+use pt_node::{Desk, Item, Pick, Pid, Reason};
+
+/// What a process does next.
+#[derive(Clone, Copy, Debug, PartialEq, Eq)]
+pub enum Next {
+    /// It waits for an item that this pick fits; the others stay in its mailbox, in order. `Pick::Any` fits each.
+    Wait(Pick),
+    /// It ends with this reason, when it is come to next.
+    Stop(Reason),
+}
+
+/// What a process does with the items of its mailbox: `handle_info` of Erlang's `gen_server`, with a pick in each answer
+/// as `receive` has its patterns.
+///
+/// Its state is a value of the program's own, one of each process. What it may answer is its ghost member `answers`, in
+/// whose terms a step of a crew says what it did.
+pub trait Behaviour {
+    ghost answers: { Self → Pid → Item → Next → Self → Type 0 };
+
+    /// Sees to one item, which was taken out of the mailbox of `me`. It takes no other item out of a mailbox.
+    ///
+    /// The calls of a desk in the form of [`tell`](crate::tell), [`watch`](crate::watch) and their like keep what is
+    /// asked here.
+    fn handle(&mut self, desk: &mut Desk, me: Pid, item: Item) -> Next
+        ensures answers { answers self.old me item result self.new }
+        ensures takes { takes desk.new.shard.journal ≡ takes desk.old.shard.journal }
+        ensures goes_on { GoesOn desk.old desk.new };
+}

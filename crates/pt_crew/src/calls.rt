@@ -1,0 +1,93 @@
+//! The calls of a desk for a behaviour: they ask nothing of their caller, and each is answered.
+//!
+//! A target that the desk does not know is answered as one that it sees to have ended. None of them takes an item out of
+//! a mailbox, so a behaviour that makes no other calls is what [`Behaviour`](crate::Behaviour) asks of it.
+
+ghost use Rattle.std.specs.Prelude.{◌≡◌, Some};
+ghost use Rattle.pt_signal.specs.declared.signal.Signal.{Signal};
+ghost use Rattle.pt_events.specs.declared.event.Event.{Event};
+ghost use Rattle.pt_shard.specs.Known.{knows};
+ghost use Rattle.pt_shard.specs.ShardState.{lives};
+ghost use Rattle.pt_shard.specs.Calls.{BearsChild, Calls, Monitors, link_event};
+ghost use Rattle.pt_desk.specs.DeskState.{GoesOn};
+ghost use Rattle.pt_desk.specs.Reaching.{Reaches, has_link_to_make, has_monitor_to_make};
+ghost use Rattle.pt_crew.specs.Telling.{IfKnown};
+ghost use Rattle.pt_crew.specs.Visiting.{takes};
+
+use pt_node::{Body, Desk, Fault, Pid, Reason, Ref};
+
+/// Sends a message (`!`).
+///
+/// `NoProc` where the desk does not know the target, and nothing has changed then; else it is refused as
+/// [`Desk::send`] is.
+#[tactic(auto, using(pt_node::proofs::GoingOn::stays, crate::proofs::Takes::sent_takes))]
+pub fn tell(desk: &mut Desk, me: Pid, to: Pid, body: Body) -> Result<(), Fault>
+    ensures does { IfKnown (knows desk.old.shard to) (Reaches (lives desk.old.shard me) me to (Calls me (Some (Event.Said me to (Signal.Message body))) tt desk.old.shard result desk.new.shard) desk.old result desk.new) desk.old result desk.new }
+    ensures takes { takes desk.new.shard.journal ≡ takes desk.old.shard.journal }
+    ensures goes_on { GoesOn desk.old desk.new }
+{
+    if !desk.knows(to) {
+        return Err(Fault::NoProc);
+    }
+    desk.send(me, to, body)
+}
+
+/// Watches a process for its end (`monitor`).
+///
+/// `NoProc` where the desk does not know the target, and nothing has changed then; else it is refused as
+/// [`Desk::monitor`] is.
+#[tactic(auto, using(pt_node::proofs::GoingOn::stays, crate::proofs::Takes::watched_takes))]
+pub fn watch(desk: &mut Desk, me: Pid, to: Pid) -> Result<Ref, Fault>
+    ensures does { IfKnown (knows desk.old.shard to) (Reaches (has_monitor_to_make desk.old.shard me to) me to (Monitors me to desk.old.shard result desk.new.shard) desk.old result desk.new) desk.old result desk.new }
+    ensures takes { takes desk.new.shard.journal ≡ takes desk.old.shard.journal }
+    ensures goes_on { GoesOn desk.old desk.new }
+{
+    if !desk.knows(to) {
+        return Err(Fault::NoProc);
+    }
+    desk.monitor(me, to)
+}
+
+/// Links itself with a process (`link`).
+///
+/// `NoProc` where the desk does not know the target, and nothing has changed then; else it is refused as
+/// [`Desk::link`] is.
+#[tactic(auto, using(pt_node::proofs::GoingOn::stays, crate::proofs::Takes::linked_takes))]
+pub fn join(desk: &mut Desk, me: Pid, to: Pid) -> Result<(), Fault>
+    ensures does { IfKnown (knows desk.old.shard to) (Reaches (has_link_to_make desk.old.shard me to) me to (Calls me (link_event desk.old.shard me to) tt desk.old.shard result desk.new.shard) desk.old result desk.new) desk.old result desk.new }
+    ensures takes { takes desk.new.shard.journal ≡ takes desk.old.shard.journal }
+    ensures goes_on { GoesOn desk.old desk.new }
+{
+    if !desk.knows(to) {
+        return Err(Fault::NoProc);
+    }
+    desk.link(me, to)
+}
+
+/// Sends an exit signal (`exit/2`).
+///
+/// `NoProc` where the desk does not know the target, and nothing has changed then; else it is refused as
+/// [`Desk::exit_signal`] is.
+#[tactic(auto, using(pt_node::proofs::GoingOn::stays, crate::proofs::Takes::said_takes))]
+pub fn bid_exit(desk: &mut Desk, me: Pid, to: Pid, reason: Reason) -> Result<(), Fault>
+    ensures does { IfKnown (knows desk.old.shard to) (Calls me (Some (Event.Said me to (Signal.Exit reason))) tt desk.old.shard result desk.new.shard) desk.old result desk.new }
+    ensures takes { takes desk.new.shard.journal ≡ takes desk.old.shard.journal }
+    ensures goes_on { GoesOn desk.old desk.new }
+{
+    if !desk.knows(to) {
+        return Err(Fault::NoProc);
+    }
+    desk.exit_signal(me, to, reason)
+}
+
+/// Bears a process on its own desk, linked with it where that is asked (`spawn`, `spawn_link`).
+///
+/// The child is not of the crew: its mailbox is the program's to see to. It is refused as [`Desk::spawn_child`] is.
+#[tactic(auto, using(crate::proofs::Takes::bore_takes))]
+pub fn bear(desk: &mut Desk, me: Pid, linked: bool) -> Result<Pid, Fault>
+    ensures does { BearsChild me linked desk.old.shard result desk.new.shard }
+    ensures takes { takes desk.new.shard.journal ≡ takes desk.old.shard.journal }
+    ensures goes_on { GoesOn desk.old desk.new }
+{
+    desk.spawn_child(me, linked)
+}

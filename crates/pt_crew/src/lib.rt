@@ -1,0 +1,13 @@
+//! Processes that run code: the crew of a desk.
+//!
+//! What a process does with an item of its mailbox is a [`Behaviour`]. A [`Crew`] has the processes of one desk with
+//! their behaviours, and is the desk's [`Work`](pt_node::Work), so `pt_node::run` and `run_single` run it.
+#![tactic(auto)]
+
+mod behaviour;
+mod calls;
+mod crew;
+
+pub use behaviour::{Behaviour, Next};
+pub use calls::{bear, bid_exit, join, tell, watch};
+pub use crew::Crew;
