@@ -11,6 +11,9 @@ use Rattle.pt_shard.specs.declared.fault.Fault.{Fault}
 use Rattle.pt_shard.specs.declared.fault.Fault.TheVariants.{Memory}
 use Rattle.pt_shard.specs.ShardState.{ShardState, phase_of}
 use Rattle.pt_shard.specs.Calls.{Bears}
+use Rattle.pt_desk.specs.DeskState.{DeskState}
+use Rattle.pt_desk.specs.Turns.{Turns}
+use Rattle.pt_desk.specs.declared.turned.Turned.{Turned}
 use Rattle.pt_crew.specs.declared.behaviour.Next.{Next}
 use Rattle.pt_crew.specs.declared.behaviour.Next.TheVariants.{Wait}
 use Rattle.pt_crew.specs.declared.crew.Member.{Member}
@@ -117,3 +120,7 @@ pub record CrewDoes {B : Type 0} (answers : Answers B) (old : Crew B) (d : Shard
   pub attends : Attends old d → Attends new e
   -- no wake-up is lost
   pub awake : Attends old d → IsAwake (members new) (queue new) e
+
+-- a step, and then a turn of the desk
+abbrev pub Works : {B : Type 0} → Answers B → ℕ → Crew B → DeskState → Turned → Crew B → DeskState → Type 0
+Works answers budget old d turned new e = (stepped : DeskState) × CrewDoes answers old d.shard new stepped.shard × Turns budget stepped turned e

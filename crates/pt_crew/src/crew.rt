@@ -1,14 +1,15 @@
 //! The crew of one desk.
 
-ghost use Rattle.std.specs.Prelude.{◌≡◌, ◌≤◌, ◌≢◌, OnOk, OnErr, IsOk, [], Some, length, is_some};
+ghost use Rattle.std.specs.Prelude.{◌≡◌, ◌≤◌, OnOk, OnErr, IsOk, [], None, length};
+ghost use Rattle.std.specs.Option.{option_copied, option_map};
 ghost use Rattle.pt_shard.specs.ShardState.{ShardState};
 ghost use Rattle.pt_desk.specs.DeskState.{GoesOn};
-ghost use Rattle.pt_crew.specs.Visiting.{SeesTo, Visits, AreSame};
-ghost use Rattle.pt_crew.specs.Crews.{Attends, CrewDoes, Enters, HasRoom, IsLonger, IsSame, KnowsDesk, Serves, Tends, Wakes, WakesBy, left_as, queue, roles};
+ghost use Rattle.pt_crew.specs.Visiting.{AreSame, SeesTo, Visits};
+ghost use Rattle.pt_crew.specs.Crews.{Attends, Enters, HasRoom, IsLonger, IsSame, KnowsDesk, Serves, Tends, Wakes, WakesBy, Works, left_as, queue, roles};
 
 use crate::behaviour::{Behaviour, Next};
 use indexmap::IndexMap;
-use pt_node::{Desk, Event, Fault, Pick, Pid, Work};
+use pt_node::{Desk, Event, Fault, Pick, Pid, Turned, Work};
 use std::alloc::{AllocError, Global};
 use std::collections::VecDeque;
 
@@ -77,6 +78,37 @@ impl<B: Behaviour + Drop> Crew<B> {
         ensures { result ≡ length (queue self.now) }
     {
         self.queue.len()
+    }
+
+    /// The behaviour of a process, or `None` where it is not of the crew.
+    pub fn behaviour(&self, p: Pid) -> Option<&B>
+        ensures { option_copied result ≡ option_map (λ r. r.0) (roles self.now p) }
+    {
+        match self.members.get(&p) {
+            Some(member) => Some(&member.behaviour),
+            None => None,
+        }
+    }
+
+    /// What a process does next, or `None` where it is not of the crew.
+    pub fn next(&self, p: Pid) -> Option<Next>
+        ensures { result ≡ option_map (λ r. r.1) (roles self.now p) }
+    {
+        match self.members.get(&p) {
+            Some(member) => Some(member.next),
+            None => None,
+        }
+    }
+
+    /// A step, and then a turn of the desk, as a run takes them; what the turn did.
+    #[tactic(auto, using(pt_desk::proofs::Turning::goes_on_then))]
+    pub fn work(&mut self, desk: &mut Desk, budget: u32) -> Turned
+        ensures does { Works B.answers budget self.old desk.old result self.new desk.new }
+        ensures attends { Attends self.old desk.old.shard → Attends self.new desk.new.shard }
+        ensures goes_on { GoesOn desk.old desk.new }
+    {
+        self.step(desk);
+        desk.turn(budget)
     }
 
     /// A process is born on the desk and enters the crew; at first it waits for what this pick fits.
