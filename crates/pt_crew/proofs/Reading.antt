@@ -62,8 +62,8 @@ module _ {B : Type 0} (old new : Crew B) (d : ShardState) (s : Stamped) (k : Kno
     awake = λ p m at work quiet. k.awake p m (sym (same.members p) ∙ at) work (quiet_front p quiet (ap (came_to p) is ∙ none p));
   }
 
-  read_came : (a b : Pid) → ((p : Pid) → came_to p s.event ≡ same_pid p b) → Wakes b old new → Knows (members new) new.queue.items (old.read + 1) d
-  read_came a b is wakes = record {
+  read_came : (b : Pid) → ((p : Pid) → same_pid b p ≡ false → came_to p s.event ≡ false) → Wakes b old new → Knows (members new) new.queue.items (old.read + 1) d
+  read_came b is wakes = record {
     more = o.front;
     seen = s ∷ k.seen;
     journal = journal_is;
@@ -71,16 +71,16 @@ module _ {B : Type 0} (old new : Crew B) (d : ShardState) (s : Stamped) (k : Kno
     listed = wakes.listed k.listed;
     awake = λ p m at work quiet. by_cases (same_pid b p)
         (λ same. wakes.marked m (subst (λ (q : Pid). members new q ≡ Some m) (sym (same_pid_is b p same)) at))
-        (λ other. k.awake p m (sym (wakes.others p other) ∙ at) work (quiet_front p quiet (is p ∙ same_pid_sym p b ∙ other)));
+        (λ other. k.awake p m (sym (wakes.others p other) ∙ at) work (quiet_front p quiet (is p other)));
   }
 
   pub read_event : (e : Event) → s.event ≡ e → WakesBy e old new → Knows (members new) new.queue.items (old.read + 1) d
   read_event (Born p parent link) is h = read_other (Born p parent link) is (λ q. refl) h
   read_event (Said a b x) is h = read_other (Said a b x) is (λ q. refl) h
-  read_event (Came a b x) is h = read_came a b (λ q. ap (came_to q) is) h
+  read_event (Came a b x) is h = read_came b (λ q other. ap (came_to q) is ∙ same_pid_sym q b ∙ other) h
   read_event (Took p q i) is h = read_other (Took p q i) is (λ q. refl) h
   read_event (Flag p on) is h = read_other (Flag p on) is (λ q. refl) h
-  read_event (Left p r) is h = read_other (Left p r) is (λ q. refl) h
+  read_event (Left p r) is h = read_came p (λ q other. ap (came_to q) is) h
   read_event (Refused a b) is h = read_other (Refused a b) is (λ q. refl) h
 
 -- the event at the place up to which was read

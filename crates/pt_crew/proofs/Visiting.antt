@@ -31,7 +31,7 @@ woke_roles (Said a b x) old new h = same_roles old new h
 woke_roles (Came a b x) old new h = h.roles
 woke_roles (Took p q i) old new h = same_roles old new h
 woke_roles (Flag p on) old new h = same_roles old new h
-woke_roles (Left p r) old new h = same_roles old new h
+woke_roles (Left p r) old new h = h.roles
 woke_roles (Refused a b) old new h = same_roles old new h
 
 pub woke_longer : {B : Type 0} (e : Event) (old new : Crew B) → WakesBy e old new → IsLonger (queue old) (queue new)
@@ -40,7 +40,7 @@ woke_longer (Said a b x) old new h = same_longer old new h
 woke_longer (Came a b x) old new h = h.longer
 woke_longer (Took p q i) old new h = same_longer old new h
 woke_longer (Flag p on) old new h = same_longer old new h
-woke_longer (Left p r) old new h = same_longer old new h
+woke_longer (Left p r) old new h = h.longer
 woke_longer (Refused a b) old new h = same_longer old new h
 
 pub same_then : {B : Type 0} (old mid new : Roles B) → AreSame old mid → AreSame mid new → AreSame old new

@@ -6,7 +6,7 @@ use Rattle.pt_signal.specs.declared.pid.Pid.{Pid}
 use Rattle.pt_signal.specs.declared.item.Pick.{Pick}
 use Rattle.pt_signal.specs.Values.{same_pid}
 use Rattle.pt_events.specs.declared.event.Event.{Event}
-use Rattle.pt_events.specs.declared.event.Event.TheVariants.{Came}
+use Rattle.pt_events.specs.declared.event.Event.TheVariants.{Came, Left}
 use Rattle.pt_shard.specs.declared.fault.Fault.{Fault}
 use Rattle.pt_shard.specs.declared.fault.Fault.TheVariants.{Memory}
 use Rattle.pt_shard.specs.ShardState.{ShardState, phase_of}
@@ -81,6 +81,7 @@ pub record Wakes {B : Type 0} (p : Pid) (old new : Crew B) : Type 0 where
 -- who is woken by the event
 abbrev pub WakesBy : {B : Type 0} → Event → Crew B → Crew B → Type 0
 WakesBy (Came a b x) old new = Wakes b old new
+WakesBy (Left p r) old new = Wakes p old new
 WakesBy _ old new = IsSame old new
 
 -- a process that is idle has nothing to do

@@ -159,7 +159,7 @@ impl<B: Behaviour + Drop> Crew<B> {
         Ok(())
     }
 
-    /// Wakes whoever the event brings something.
+    /// Wakes whoever the event brings something, or who ended by it: it leaves the crew when it is come to.
     fn note(&mut self, event: &Event) -> Result<(), AllocError>
         ensures wakes { OnOk result (WakesBy event.now self.old self.new) }
         ensures refused { OnErr result (IsSame self.old self.new) }
@@ -167,6 +167,7 @@ impl<B: Behaviour + Drop> Crew<B> {
     {
         match event {
             Event::Came(_, to, _) => self.wake(*to),
+            Event::Left(p, _) => self.wake(*p),
             _ => Ok(()),
         }
     }
