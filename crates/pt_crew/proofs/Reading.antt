@@ -12,7 +12,8 @@ use Rattle.pt_events.specs.declared.event.Stamped.{Stamped}
 use Rattle.pt_shard.specs.ShardState.{ShardState}
 use Rattle.pt_crew.specs.declared.crew.Crew.{Crew}
 use Rattle.pt_crew.specs.Waking.{Knows, IsAwake, came_to, came_in, in_queue}
-use Rattle.pt_crew.specs.Crews.{members, KnowsDesk, IsSame, Wakes, WakesBy}
+use Rattle.pt_crew.specs.Crews.{members, KnowsDesk, IsSame}
+use Rattle.pt_crew.specs.Parts.{Wakes, WakesBy}
 use Rattle.pt_crew.proofs.Waking.{by_cases}
 use Rattle.pt_crew.proofs.Places.{same_pid_sym}
 

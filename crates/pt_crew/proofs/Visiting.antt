@@ -11,7 +11,8 @@ use Rattle.pt_crew.specs.declared.crew.Member.{Member}
 use Rattle.pt_crew.specs.declared.crew.Crew.{Crew}
 use Rattle.pt_crew.specs.Waking.{Members}
 use Rattle.pt_crew.specs.Visiting.{Answers, Roles, AreSame, AreWith, ComesTo, SeesTo, VisitsOne, Visits}
-use Rattle.pt_crew.specs.Crews.{role, roles, queue, IsLonger, IsSame, WakesBy, Serves, VisitsAll}
+use Rattle.pt_crew.specs.Crews.{role, roles, queue, IsSame, VisitsAll}
+use Rattle.pt_crew.specs.Parts.{IsLonger, WakesBy, Serves}
 use Rattle.pt_crew.proofs.Waking.{by_cases, elsewhere, there}
 
 -- who reads what is new changes nobody ------------------------------------------------

@@ -13,7 +13,8 @@ use Rattle.pt_crew.specs.declared.behaviour.Next.{Next}
 use Rattle.pt_crew.specs.declared.crew.Member.{Member}
 use Rattle.pt_crew.specs.Waking.{Members, Knows, has_work, came_to, came_in, in_queue}
 use Rattle.pt_crew.specs.declared.crew.Crew.{Crew}
-use Rattle.pt_crew.specs.Crews.{members, role, queue, Listed, IsLonger, IsSame, Wakes}
+use Rattle.pt_crew.specs.Crews.{members, role, queue, IsSame}
+use Rattle.pt_crew.specs.Parts.{Listed, IsLonger, Wakes}
 use Rattle.std.specs.Option.{option_map}
 use Rattle.pt_signal.proofs.Same.{same_pid_refl, same_pid_is}
 use Rattle.pt_crew.proofs.Quiet.{quiet, neither}

@@ -1,15 +1,13 @@
 -- What a crew knows, and what each of its calls does.
-use Rattle.std.specs.Prelude.{◌≡◌, ◌⊎◌, ℕ, ◌+◌, ◌≤◌, true, false, cond, List, [], ◌∷◌, ◌++◌, Option, Some, None, Result, Ok, Err}
+use Rattle.std.specs.Prelude.{◌≡◌, ◌⊎◌, ℕ, ◌+◌, ◌≤◌, cond, List, [], ◌∷◌, ◌++◌, Some, None, Result, Ok, Err}
 use Rattle.std.specs.Option.{option_map}
 use Rattle.indexmap.specs.IndexMap.{get}
 use Rattle.pt_signal.specs.declared.pid.Pid.{Pid}
 use Rattle.pt_signal.specs.declared.item.Pick.{Pick}
 use Rattle.pt_signal.specs.Values.{same_pid}
-use Rattle.pt_events.specs.declared.event.Event.{Event}
-use Rattle.pt_events.specs.declared.event.Event.TheVariants.{Came, Left}
 use Rattle.pt_shard.specs.declared.fault.Fault.{Fault}
 use Rattle.pt_shard.specs.declared.fault.Fault.TheVariants.{Memory}
-use Rattle.pt_shard.specs.ShardState.{ShardState, phase_of}
+use Rattle.pt_shard.specs.ShardState.{ShardState}
 use Rattle.pt_shard.specs.Calls.{Bears}
 use Rattle.pt_desk.specs.DeskState.{DeskState}
 use Rattle.pt_desk.specs.Turns.{Turns}
@@ -18,10 +16,8 @@ use Rattle.pt_crew.specs.declared.behaviour.Next.{Next}
 use Rattle.pt_crew.specs.declared.behaviour.Next.TheVariants.{Wait}
 use Rattle.pt_crew.specs.declared.crew.Member.{Member}
 use Rattle.pt_crew.specs.declared.crew.Crew.{Crew}
-use Rattle.pt_crew.specs.declared.crew.Tended.{Tended}
-use Rattle.pt_crew.specs.declared.crew.Tended.TheVariants.{Idle, Again, Gone}
-use Rattle.pt_crew.specs.Waking.{Members, Knows, IsAwake, IsListed, has_work}
-use Rattle.pt_crew.specs.Visiting.{Answers, Roles, AreSame, AreWith, VisitsOne, Visits}
+use Rattle.pt_crew.specs.Waking.{Members, Knows, IsAwake}
+use Rattle.pt_crew.specs.Visiting.{Answers, Roles, AreWith, Visits}
 use Rattle.pt_crew.specs.Handing.{Handed}
 
 abbrev pub members : {B : Type 0} → Crew B → Members B
@@ -42,9 +38,6 @@ queue c = c.queue.items
 abbrev pub KnowsDesk : {B : Type 0} → Crew B → ShardState → Type 0
 KnowsDesk c d = Knows (members c) (queue c) c.read d
 
-abbrev pub Listed : {B : Type 0} → Crew B → Type 0
-Listed c = IsListed (members c) (queue c)
-
 -- how many of the entries are not marked
 abbrev pub unmarked : {B : Type 0} → List (Pid × Member B) → ℕ
 unmarked [] = 0
@@ -59,47 +52,11 @@ pub record Attends {B : Type 0} (c : Crew B) (d : ShardState) : Type 0 where
   pub knows : KnowsDesk c d
   pub room : HasRoom c
 
--- others stand behind the queue
-abbrev pub IsLonger : List Pid → List Pid → Type 0
-IsLonger old new = (more : List Pid) × (new ≡ old ++ more)
-
 -- nothing that is known has changed
 pub record IsSame {B : Type 0} (old new : Crew B) : Type 0 where
   pub members : (q : Pid) → members new q ≡ members old q
   pub queue : queue new ≡ queue old
   pub read : new.read ≡ old.read
-
--- p is marked, if it is of the crew; all else stays
-pub record Wakes {B : Type 0} (p : Pid) (old new : Crew B) : Type 0 where
-  pub others : (q : Pid) → same_pid p q ≡ false → members new q ≡ members old q
-  pub marked : (m : Member B) → members new p ≡ Some m → m.queued ≡ true
-  pub roles : AreSame (roles old) (roles new)
-  pub listed : Listed old → Listed new
-  pub longer : IsLonger (queue old) (queue new)
-  pub read : new.read ≡ old.read
-
--- who is woken by the event
-abbrev pub WakesBy : {B : Type 0} → Event → Crew B → Crew B → Type 0
-WakesBy (Came a b x) old new = Wakes b old new
-WakesBy (Left p r) old new = Wakes p old new
-WakesBy _ old new = IsSame old new
-
--- a process that is idle has nothing to do
-abbrev pub Tends : {B : Type 0} → Pid → Tended → Member B → ShardState → Type 0
-Tends p Idle new d = has_work new.next (phase_of d p) ≡ false
-Tends p Again new d = Unit {0}
-Tends p Gone new d = Unit {0}
-
--- what a process that was seen to is then
-abbrev pub left_as : {B : Type 0} → Tended → Member B → Option (B × Next)
-left_as Idle m = Some (role m)
-left_as Again m = Some (role m)
-left_as Gone m = None
-
--- the first of the queue is come to, and stands behind it then or nowhere
-abbrev pub Serves : {B : Type 0} → Answers B → List Pid → Roles B → ShardState → List Pid → Roles B → ShardState → Type 0
-Serves answers [] old d later new e = Unit {0}
-Serves answers (p ∷ rest) old d later new e = VisitsOne answers p old d new e × IsLonger rest later
 
 -- A process is born and enters the crew, behind its queue; or nothing has changed, where the desk refused the birth or
 -- there was no memory.

@@ -3,3 +3,4 @@ pub mod Visiting
 pub mod Handing
 pub mod Crews
 pub mod Telling
+pub mod Parts

@@ -5,7 +5,8 @@ ghost use Rattle.std.specs.Option.{option_copied, option_map};
 ghost use Rattle.pt_shard.specs.ShardState.{ShardState};
 ghost use Rattle.pt_desk.specs.DeskState.{GoesOn};
 ghost use Rattle.pt_crew.specs.Visiting.{AreSame, SeesTo, Visits};
-ghost use Rattle.pt_crew.specs.Crews.{Attends, Enters, HasRoom, IsLonger, IsSame, KnowsDesk, Serves, Tends, Wakes, WakesBy, Works, left_as, queue, roles};
+ghost use Rattle.pt_crew.specs.Crews.{Attends, Enters, HasRoom, IsSame, KnowsDesk, Works, queue, roles};
+ghost use Rattle.pt_crew.specs.Parts.{IsLonger, Serves, Tends, Wakes, WakesBy, left_as};
 
 use crate::behaviour::{Behaviour, Next};
 use indexmap::IndexMap;

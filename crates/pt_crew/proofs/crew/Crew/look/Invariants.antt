@@ -1,6 +1,7 @@
 use Rattle.std.proofs.Common.{◌-◌, length}
 use Rattle.pt_crew.specs.Visiting.{AreSame}
-use Rattle.pt_crew.specs.Crews.{KnowsDesk, HasRoom, IsLonger, queue, roles}
+use Rattle.pt_crew.specs.Crews.{KnowsDesk, HasRoom, queue, roles}
+use Rattle.pt_crew.specs.Parts.{IsLonger}
 use Rattle.pt_crew.proofs.crew.Crew.look.Given as goal
 
 abbrev pub invariant-loop-self : goal.invariant-loop-self
