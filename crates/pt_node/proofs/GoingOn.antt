@@ -14,6 +14,19 @@ use Rattle.pt_node.specs.Running.{AllGoOn}
 pub stays : (d : DeskState) → GoesOn d d
 stays d = record { shard = extends d.shard; place = refl; sight = record { directory = refl; reads = λ k r h. h } }
 
+-- several calls of a desk, one after the other
+pub goes_on_three : (a b c d : DeskState) → GoesOn a b → GoesOn b c → GoesOn c d → GoesOn a d
+goes_on_three a b c d f g h = goes_on_then a c d (goes_on_then a b c f g) h
+
+pub goes_on_four : (a b c d e : DeskState) → GoesOn a b → GoesOn b c → GoesOn c d → GoesOn d e → GoesOn a e
+goes_on_four a b c d e f g h i = goes_on_then a d e (goes_on_three a b c d f g h) i
+
+pub goes_on_five : (a b c d e f : DeskState) → GoesOn a b → GoesOn b c → GoesOn c d → GoesOn d e → GoesOn e f → GoesOn a f
+goes_on_five a b c d e f p q r s t = goes_on_then a e f (goes_on_four a b c d e p q r s) t
+
+-- for a module whose functions make up to five calls of a desk each: it is named there once, by `using(..)`
+pub ruleset goes_on = (stays, goes_on_then, goes_on_three, goes_on_four, goes_on_five)
+
 module _ {W : Type 0} where
   pub all_stay : (xs : List (DeskState × W)) → AllGoOn xs xs
   all_stay xs = record { count = refl; each = λ d x l. stays (get_or xs d x).0 }

@@ -3,13 +3,13 @@ use Rattle.std.proofs.Common.{◌≡◌, ◌≢◌, ℕ, zero, suc, ◌+◌, ◌
 use Rattle.std.proofs.lemmas.Bool.{eqb-true, eq-eqb, both_ways}
 use Rattle.std.proofs.lemmas.List.{get_or_default, get_or-set_same, get_or-set_other, length-set}
 use Rattle.pt_desk.specs.DeskState.{DeskState}
-use Rattle.pt_node.specs.Running.{AllGoOn, AllWork, HasTurn, HaveEnded, Round, Rounds, StepRelation, TakesOrEnds, TakesTurn, TakesTurns, Workers, Works}
+use Rattle.pt_node.specs.Running.{AllGoOn, AllWork, BeginRelation, HasTurn, HaveEnded, Round, Rounds, StepRelation, TakesOrEnds, TakesTurn, TakesTurns, Workers, Works}
 
-module _ {W : Type 0} (lets : ℕ → ℕ → Bool → Type 0) (does : StepRelation W) (budget : ℕ) where
+module _ {W : Type 0} (lets : BeginRelation W) (does : StepRelation W) (budget : ℕ) where
   -- one worker, before and after a turn of that number, and whether it has ended
   abbrev OneTurn : ℕ → DeskState × W → Bool → DeskState × W → Bool → Type 0
   OneTurn turn p ended p' ended' =
-      MatchBool ended ((p' ≡ p) × (ended' ≡ true)) ((begins : Bool) × lets p.0.shard.number turn begins × MatchBool begins (TakesTurn does budget p p') (p' ≡ p) × (ended' ≡ not begins))
+      MatchBool ended ((p' ≡ p) × (ended' ≡ true)) ((begins : Bool) × lets p.0.shard.number p.1 turn begins × MatchBool begins (TakesTurn does budget p p') (p' ≡ p) × (ended' ≡ not begins))
 
   -- the worker at place d has its turn
   module _ (turn d : ℕ) (old new : Workers W) (h : HasTurn lets does budget turn d old new) where
@@ -44,7 +44,7 @@ module _ {W : Type 0} (lets : ℕ → ℕ → Bool → Type 0) (does : StepRelat
             let same : get_or old.0 d t.pair ≡ get_or old.0 d x = get_or_default old.0 d t.pair x d_in in
             let took = subst (λ (p : DeskState × W). MatchBool t.begins (TakesTurn does budget (get_or old.0 d t.pair) p) (p ≡ get_or old.0 d t.pair)) (sym pair_is) t.takes in (
               t.begins,
-              subst (λ (p : DeskState × W). lets p.0.shard.number turn t.begins) same t.gate,
+              subst (λ (p : DeskState × W). lets p.0.shard.number p.1 turn t.begins) same t.gate,
               subst (λ (p : DeskState × W). MatchBool t.begins (TakesTurn does budget p (get_or new.0 d x)) (get_or new.0 d x ≡ p)) same took,
               ap (λ z. get_or z d false) t.ended ∙ get_or-set_same old.1 d (not t.begins) false room,
             )
@@ -90,7 +90,7 @@ module _ {W : Type 0} (lets : ℕ → ℕ → Bool → Type 0) (does : StepRelat
   -- what one worker took before the turn of that number
   abbrev pub SoFar : ℕ → DeskState × W → DeskState × W → Bool → Type 0
   SoFar turn old new ended =
-      MatchBool ended ((count : ℕ) × TakesTurns (lets old.0.shard.number) does budget count old new × (count < turn) × lets old.0.shard.number count false) (TakesTurns (lets old.0.shard.number) does budget turn old new)
+      MatchBool ended ((count : ℕ) × TakesTurns (lets old.0.shard.number) does budget count old new × (count < turn) × lets old.0.shard.number new.1 count false) (TakesTurns (lets old.0.shard.number) does budget turn old new)
 
   abbrev pub AllSoFar : ℕ → List (DeskState × W) → Workers W → Type 0
   AllSoFar turn start w = (d : ℕ) (x : DeskState × W) → d < length start → SoFar turn (get_or start d x) (get_or w.0 d x) (get_or w.1 d false)
@@ -111,11 +111,11 @@ module _ {W : Type 0} (lets : ℕ → ℕ → Bool → Type 0) (does : StepRelat
       subst (SoFar (suc turn) p0 p') (sym t.1) (subst (λ (z : DeskState × W). SoFar (suc turn) p0 z true) (sym t.0) here)
   one_more turn p0 p p' false ended' same s t = subst (SoFar (suc turn) p0 p') (sym t.3) (go t.0 t.1 t.2)
     where
-      go : (begins : Bool) → lets p.0.shard.number turn begins → MatchBool begins (TakesTurn does budget p p') (p' ≡ p) → SoFar (suc turn) p0 p' (not begins)
-      go true let_in took = (p, s, subst (λ n. lets n turn true) same let_in, took)
+      go : (begins : Bool) → lets p.0.shard.number p.1 turn begins → MatchBool begins (TakesTurn does budget p p') (p' ≡ p) → SoFar (suc turn) p0 p' (not begins)
+      go true let_in took = (p, s, subst (λ n. lets n p.1 turn true) same let_in, took)
       go false shut stays =
           let less : turn < suc turn = omega arith in
-          let here : SoFar (suc turn) p0 p true = (turn, s, less, subst (λ n. lets n turn false) same shut) in
+          let here : SoFar (suc turn) p0 p true = (turn, s, less, subst (λ n. lets n p.1 turn false) same shut) in
           subst (λ (z : DeskState × W). SoFar (suc turn) p0 z true) (sym stays) here
 
   pub all_one_more : (turn : ℕ) (start : List (DeskState × W)) (old new : Workers W) → AllGoOn start old.0 → length start ≤ length old.1 → AllSoFar turn start old → Round lets does budget turn (length start) old new → AllSoFar (turn + 1) start new
@@ -187,7 +187,7 @@ module _ {W : Type 0} (lets : ℕ → ℕ → Bool → Type 0) (does : StepRelat
 
   -- the turn of the worker at place d, read as p, which has not ended
   pub has_turn : (turn d : ℕ) (desks : List (DeskState × W)) (ended : List Bool) (p p' : DeskState × W) (begins : Bool) → d < length desks → p ≡ get_or desks d p → get_or ended d false ≡ false
-      → lets p.0.shard.number turn begins → MatchBool begins (TakesTurn does budget p p') (p' ≡ p) → HasTurn lets does budget turn d (desks, ended) (set desks d p', set ended d (not begins))
+      → lets p.0.shard.number p.1 turn begins → MatchBool begins (TakesTurn does budget p p') (p' ≡ p) → HasTurn lets does budget turn d (desks, ended) (set desks d p', set ended d (not begins))
   has_turn turn d desks ended p p' begins within is none gate takes =
       let old : Workers W = (desks, ended) in
       let new : Workers W = (set desks d p', set ended d (not begins)) in
@@ -196,7 +196,7 @@ module _ {W : Type 0} (lets : ℕ → ℕ → Bool → Type 0) (does : StepRelat
       = record {
         pair = p';
         begins = begins;
-        gate = subst (λ (z : DeskState × W). lets z.0.shard.number turn begins) same gate;
+        gate = subst (λ (z : DeskState × W). lets z.0.shard.number z.1 turn begins) same gate;
         takes = subst (λ (z : DeskState × W). MatchBool begins (TakesTurn does budget z p') (p' ≡ z)) same takes;
         desks = refl;
         ended = refl;

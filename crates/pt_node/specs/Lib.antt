@@ -6,3 +6,5 @@ pub mod Seating
 pub mod Node
 pub mod Stillness
 pub mod Looking
+pub mod NodeRunning
+pub mod Taking

@@ -3,10 +3,25 @@ use Rattle.std.specs.Prelude.{◌≡◌, ℕ, zero, suc, ◌<◌, ◌⊎◌, Boo
 use Rattle.pt_desk.specs.DeskState.{DeskState, GoesOn}
 use Rattle.pt_desk.specs.Turns.{Turns}
 use Rattle.pt_desk.specs.declared.turned.Turned.{Turned}
+use Rattle.pt_node.specs.declared.work.Standing.{Standing}
+use Rattle.pt_node.specs.declared.work.Standing.TheVariants.{Going, Done, Failed}
 
 -- the gate that is always open lets each turn begin
 abbrev pub always : ℕ → ℕ → Bool → Type 0
 always desk turn begins = begins ≡ true
+
+-- whether a worker's next turn begins, of the number of its desk, its work and the turn
+abbrev pub BeginRelation : Type 0 → Type 1
+BeginRelation W = ℕ → W → ℕ → Bool → Type 0
+
+-- it does not where the work has ended, and else as the gate says
+abbrev pub BeginsAs : Standing → (Bool → Type 0) → Bool → Type 0
+BeginsAs Going gate begins = gate begins
+BeginsAs Done gate begins = begins ≡ false
+BeginsAs Failed gate begins = begins ≡ false
+
+abbrev pub begins_by : {W : Type 0} → (W → Standing) → (ℕ → ℕ → Bool → Type 0) → BeginRelation W
+begins_by standing lets desk work turn begins = BeginsAs (standing work) (lets desk turn) begins
 
 -- what a step may do, of a work and its desk before it, and of the two after it
 abbrev pub StepRelation : Type 0 → Type 1
@@ -26,20 +41,20 @@ pub record TakesTurn {W : Type 0} (does : StepRelation W) (budget : ℕ) (old ne
   pub turned : Turned
   pub turn : Turns budget stepped turned new.0
 
--- so many turns, one after the other, each of which the gate let begin
-abbrev pub TakesTurns : {W : Type 0} → (ℕ → Bool → Type 0) → StepRelation W → ℕ → ℕ → DeskState × W → DeskState × W → Type 0
+-- so many turns, one after the other, each of which began
+abbrev pub TakesTurns : {W : Type 0} → (W → ℕ → Bool → Type 0) → StepRelation W → ℕ → ℕ → DeskState × W → DeskState × W → Type 0
 TakesTurns lets does budget zero old new = new ≡ old
 TakesTurns {W} lets does budget (suc count) old new =
-    (last : DeskState × W) × TakesTurns lets does budget count old last × lets count true × TakesTurn does budget last new
+    (last : DeskState × W) × TakesTurns lets does budget count old last × lets last.1 count true × TakesTurn does budget last new
 
--- a worker took all its turns, or those before the one that the gate did not let begin, and did nothing else
-pub record Works {W : Type 0} (lets : ℕ → Bool → Type 0) (does : StepRelation W) (turns budget : ℕ) (old new : DeskState × W) : Type 0 where
+-- a worker took all its turns, or those before the one that did not begin, and did nothing else
+pub record Works {W : Type 0} (lets : W → ℕ → Bool → Type 0) (does : StepRelation W) (turns budget : ℕ) (old new : DeskState × W) : Type 0 where
   pub count : ℕ
   pub took : TakesTurns lets does budget count old new
-  pub ends : (count ≡ turns) ⊎ ((count < turns) × lets count false)
+  pub ends : (count ≡ turns) ⊎ ((count < turns) × lets new.1 count false)
 
 -- so did each, where the gate tells the desks apart by their numbers
-abbrev pub AllWork : {W : Type 0} → (ℕ → ℕ → Bool → Type 0) → StepRelation W → ℕ → ℕ → List (DeskState × W) → List (DeskState × W) → Type 0
+abbrev pub AllWork : {W : Type 0} → BeginRelation W → StepRelation W → ℕ → ℕ → List (DeskState × W) → List (DeskState × W) → Type 0
 AllWork {W} lets does turns budget old new =
     (d : ℕ) (x : DeskState × W) → d < length old
     → Works (lets (slice_index_or old d x).0.shard.number) does turns budget (slice_index_or old d x) (slice_index_or new d x)
@@ -48,31 +63,31 @@ AllWork {W} lets does turns budget old new =
 abbrev pub Workers : Type 0 → Type 0
 Workers W = List (DeskState × W) × List Bool
 
--- the worker at place d takes the turn of that number, which its gate lets begin; or its gate does not, and it has ended
-pub record TakesOrEnds {W : Type 0} (lets : ℕ → ℕ → Bool → Type 0) (does : StepRelation W) (budget turn d : ℕ) (old new : Workers W) : Type 0 where
+-- the worker at place d takes the turn of that number, which begins; or it does not, and the worker has ended
+pub record TakesOrEnds {W : Type 0} (lets : BeginRelation W) (does : StepRelation W) (budget turn d : ℕ) (old new : Workers W) : Type 0 where
   pub pair : DeskState × W
   pub begins : Bool
-  pub gate : lets (slice_index_or old.0 d pair).0.shard.number turn begins
+  pub gate : lets (slice_index_or old.0 d pair).0.shard.number (slice_index_or old.0 d pair).1 turn begins
   pub takes : MatchBool begins (TakesTurn does budget (slice_index_or old.0 d pair) pair) (pair ≡ slice_index_or old.0 d pair)
   pub desks : new.0 ≡ slice_set old.0 d pair
   pub ended : new.1 ≡ slice_set old.1 d (not begins)
 
 -- so the worker at place d, unless it has ended: then nothing happens
-abbrev pub HasTurn : {W : Type 0} → (ℕ → ℕ → Bool → Type 0) → StepRelation W → ℕ → ℕ → ℕ → Workers W → Workers W → Type 0
+abbrev pub HasTurn : {W : Type 0} → BeginRelation W → StepRelation W → ℕ → ℕ → ℕ → Workers W → Workers W → Type 0
 HasTurn lets does budget turn d old new = MatchBool (slice_index_or old.1 d false) (new ≡ old) (TakesOrEnds lets does budget turn d old new)
 
 -- a round: the turn of that number of the first n workers, from desk 0 upwards
-abbrev pub Round : {W : Type 0} → (ℕ → ℕ → Bool → Type 0) → StepRelation W → ℕ → ℕ → ℕ → Workers W → Workers W → Type 0
+abbrev pub Round : {W : Type 0} → BeginRelation W → StepRelation W → ℕ → ℕ → ℕ → Workers W → Workers W → Type 0
 Round lets does budget turn zero old new = new ≡ old
 Round {W} lets does budget turn (suc d) old new = (mid : Workers W) × Round lets does budget turn d old mid × HasTurn lets does budget turn d mid new
 
 -- so many rounds of n workers, one after the other, that of turn 0 first
-abbrev pub Rounds : {W : Type 0} → (ℕ → ℕ → Bool → Type 0) → StepRelation W → ℕ → ℕ → ℕ → Workers W → Workers W → Type 0
+abbrev pub Rounds : {W : Type 0} → BeginRelation W → StepRelation W → ℕ → ℕ → ℕ → Workers W → Workers W → Type 0
 Rounds lets does budget n zero old new = new ≡ old
 Rounds {W} lets does budget n (suc turn) old new = (mid : Workers W) × Rounds lets does budget n turn old mid × Round lets does budget turn n mid new
 
 -- all rounds of all workers, of whom none has ended at first. A node has 64 desks at most
-abbrev pub InRounds : {W : Type 0} → (ℕ → ℕ → Bool → Type 0) → StepRelation W → ℕ → ℕ → List (DeskState × W) → List (DeskState × W) → Type 0
+abbrev pub InRounds : {W : Type 0} → BeginRelation W → StepRelation W → ℕ → ℕ → List (DeskState × W) → List (DeskState × W) → Type 0
 InRounds lets does turns budget old new = (ended : List Bool) × Rounds lets does budget (length old) turns (old, replicate 64 false) (new, ended)
 
 -- the first n workers have ended

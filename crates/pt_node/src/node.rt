@@ -11,13 +11,19 @@ ghost use Rattle.pt_gathered.specs.Settling.{NothingLeft};
 ghost use Rattle.pt_desk.specs.Reaching.{Reaches, has_link_to_make, has_monitor_to_make};
 ghost use Rattle.pt_node.specs.Desks.{AreDesks, AreDesksOf, desk_kept};
 ghost use Rattle.pt_node.specs.Gathering.{Gathers, HasJournalsOf, ReadsAreTrue};
+ghost use Rattle.pt_node.specs.NodeRunning.{RunsNode};
+ghost use Rattle.pt_node.specs.Running.{AllWork, InRounds, begins_by};
 ghost use Rattle.pt_node.specs.Node.{CallsAt, CallsTo, Inside, OpensNode, ReadsAt, TurnsAll, TurnsAt, answered, both_turned};
 ghost use Rattle.pt_node.specs.Stillness.{AllDesksGoOn, AreStill, Rounds, StoppedAt, count_events};
 
 use crate::gathering::gather;
 use crate::node_fault::NodeFault;
+use crate::node_running::{run_desks, run_desks_single};
 use crate::opening::open;
+use crate::run_fault::RunFault;
+use crate::running::Gate;
 use crate::stillness::{Rested, until_still};
+use crate::work::Task;
 use pt_desk::{Desk, Turned};
 use pt_events::Journal;
 use pt_gathered::Gathered;
@@ -27,6 +33,7 @@ use std::alloc::Global;
 use std::error::Error;
 use std::fmt;
 use std::marker::Model;
+use std::thread::Threads;
 
 /// The desks of one [`open`](Node::open), each once and in order, with calls of their processes by pid.
 ///
@@ -493,6 +500,46 @@ impl Node {
         ensures goes_on { AllDesksGoOn self.old self.new }
     {
         until_still(&mut self.desks, budget.max(1))
+    }
+}
+
+impl Node {
+    /// Lets each desk's worker do up to `turns` turns on a thread of its own, the desk at each place with the work at that
+    /// place: [`run`](crate::run) says what a turn is and when a worker ends.
+    ///
+    /// The works are lent, and come back as their steps made them, in order: [`Task::standing`] tells of each whether it is
+    /// done or has failed. Refused as `Works` exactly where there are not as many works as desks, else as `Memory` where
+    /// there is none.
+    pub fn run<R: Threads + Sync, G: Gate + Sync, W: Task + Send>(
+        &mut self,
+        rt: &R,
+        works: &mut Vec<W>,
+        turns: u64,
+        budget: u32,
+        gate: &G,
+    ) -> Result<(), RunFault>
+        ensures { RunsNode (AllWork (begins_by W.standing (G.lets gate.now)) W.does turns budget)
+            self.old works.old.items result self.new works.new.items }
+    {
+        run_desks(rt, self.alloc, &mut self.desks, works, turns, budget, gate)
+    }
+
+    /// The same turns on the calling thread, in rounds: each round is one turn of every worker that has not ended, from
+    /// desk 0 upwards.
+    ///
+    /// Refused as `Works` exactly where there are not as many works as desks, else as `Memory` where there is none.
+    pub fn run_single<G: Gate, W: Task>(
+        &mut self,
+        works: &mut Vec<W>,
+        turns: u64,
+        budget: u32,
+        gate: &G,
+    ) -> Result<(), RunFault>
+        ensures { RunsNode (λ old new. AllWork (begins_by W.standing (G.lets gate.now)) W.does turns budget old new
+            × InRounds (begins_by W.standing (G.lets gate.now)) W.does turns budget old new)
+            self.old works.old.items result self.new works.new.items }
+    {
+        run_desks_single(self.alloc, &mut self.desks, works, turns, budget, gate)
     }
 }
 

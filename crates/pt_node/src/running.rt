@@ -1,30 +1,15 @@
 //! Workers, each with a desk of a node.
 
-ghost use Rattle.std.specs.Prelude.{◌≡◌, ℕ, ◌<◌, ◌≤◌, Bool, false, MatchBool, length, map};
+ghost use Rattle.std.specs.Prelude.{◌≡◌, ℕ, ◌<◌, ◌≤◌, Bool, Some, None, false, MatchBool, length, map, slice_index_or};
 ghost use Rattle.pt_carrier.specs.declared.ends.TheConstants.{MAX_DESKS};
 ghost use Rattle.pt_desk.specs.DeskState.{DeskState, GoesOn};
 ghost use Rattle.pt_node.specs.Desks.{AreDesks};
-ghost use Rattle.pt_node.specs.Running.{AllGoOn, AllWork, HasTurn, HaveEnded, InRounds, Round, TakesTurn, Works};
+ghost use Rattle.pt_node.specs.Running.{AllGoOn, AllWork, HasTurn, HaveEnded, InRounds, Round, TakesTurn, Works, begins_by};
 
+use crate::work::{Standing, Task};
 use pt_desk::Desk;
 use std::thread;
 use std::thread::Threads;
-
-/// What a worker does with its desk in each of its turns, before the desk's own turn.
-///
-/// What a step does about a refusal of the desk is its own matter. It promises what each call of a desk does: the desk
-/// stays the same desk of the same node, and its journal begins with the one before.
-///
-/// What else a step may do is the ghost member `does`, of the work and the desk before it and the two after it: what a
-/// run promises of its workers is said in its terms.
-pub trait Work {
-    ghost does: { Self → DeskState → Self → DeskState → Type 0 };
-
-    /// One step.
-    fn step(&mut self, desk: &mut Desk)
-        ensures does { does self.old desk.old self.new desk.new }
-        ensures goes_on { GoesOn desk.old desk.new };
-}
 
 /// What stands before and after each turn of each worker.
 ///
@@ -65,17 +50,32 @@ pub struct Ran<W> {
     pub desks: Vec<(Desk, W)>,
 }
 
+impl<W: Task> Ran<W> {
+    /// What the work of that desk says of itself after the run, or `None` where there is no such desk.
+    pub fn standing(&self, desk: usize) -> Option<Standing>
+        ensures there { (p : DeskState × W) → desk < length self.now.desks.items
+            → result ≡ Some (W.standing (slice_index_or self.now.desks.items desk p).1) }
+        ensures beyond { length self.now.desks.items ≤ desk → result ≡ None }
+    {
+        if desk >= self.desks.len() {
+            return None;
+        }
+        let (_desk, work) = &self.desks[desk];
+        Some(work.standing())
+    }
+}
+
 /// Lets each desk's worker do up to `turns` turns on a thread of its own, and gives every desk back, in order.
 ///
 /// A worker's turn is `gate.before`, which may end it, the work's `step`, the desk's `turn` with that budget, and
-/// `gate.after`. The desks are lent, so none moves into a thread; where no thread can be made the workers run one
+/// `gate.after`. It ends too, before `gate.before`, where its work is done or has failed. The desks are lent, so none moves into a thread; where no thread can be made the workers run one
 /// after another. When `run` returns every worker has ended. An empty list is given back.
 ///
 /// Each desk that comes back is the one at its place in the list handed in, gone on. So the desks of one node are that
-/// still, and [`gather`](crate::gather) takes them. Each worker takes all its turns, or those before the first that its
-/// gate did not let begin: a turn of a desk that stops ends no worker. Its letter stays in the hold, and the worker's
+/// still, and [`gather`](crate::gather) takes them. Each worker takes all its turns, or those before the first that did
+/// not begin: a turn of a desk that stops ends no worker. Its letter stays in the hold, and the worker's
 /// next turn goes on with it.
-pub fn run<R: Threads + Sync, G: Gate + Sync, W: Work + Send>(
+pub fn run<R: Threads + Sync, G: Gate + Sync, W: Task + Send>(
     rt: &R,
     desks: Vec<(Desk, W)>,
     turns: u64,
@@ -83,7 +83,7 @@ pub fn run<R: Threads + Sync, G: Gate + Sync, W: Work + Send>(
     gate: &G,
 ) -> Ran<W>
     ensures each { AllGoOn desks.items result.desks.items }
-    ensures turns { AllWork (G.lets gate.now) W.does turns budget desks.items result.desks.items }
+    ensures turns { AllWork (begins_by W.standing (G.lets gate.now)) W.does turns budget desks.items result.desks.items }
     ensures desks { AreDesks (map (λ p. p.0) desks.items) → AreDesks (map (λ p. p.0) result.desks.items) }
 {
     let mut desks = desks;
@@ -97,15 +97,15 @@ pub fn run<R: Threads + Sync, G: Gate + Sync, W: Work + Send>(
 /// Each desk that comes back is the one at its place in the list handed in, gone on, and each worker takes the turns
 /// that [`run`] lets it take. A list of more than 64 desks is not of one node: its workers take all their turns one
 /// after another.
-pub fn run_single<G: Gate, W: Work>(
+pub fn run_single<G: Gate, W: Task>(
     desks: Vec<(Desk, W)>,
     turns: u64,
     budget: u32,
     gate: &G,
 ) -> Ran<W>
     ensures each { AllGoOn desks.items result.desks.items }
-    ensures turns { AllWork (G.lets gate.now) W.does turns budget desks.items result.desks.items }
-    ensures rounds { length desks.items ≤ MAX_DESKS → InRounds (G.lets gate.now) W.does turns budget desks.items result.desks.items }
+    ensures turns { AllWork (begins_by W.standing (G.lets gate.now)) W.does turns budget desks.items result.desks.items }
+    ensures rounds { length desks.items ≤ MAX_DESKS → InRounds (begins_by W.standing (G.lets gate.now)) W.does turns budget desks.items result.desks.items }
     ensures desks { AreDesks (map (λ p. p.0) desks.items) → AreDesks (map (λ p. p.0) result.desks.items) }
 {
     let mut desks = desks;
@@ -118,11 +118,11 @@ pub fn run_single<G: Gate, W: Work>(
 }
 
 /// All rounds, or those until every worker has ended.
-fn all_rounds<G: Gate, W: Work>(desks: &mut Vec<(Desk, W)>, turns: u64, budget: u32, gate: &G)
+fn all_rounds<G: Gate, W: Task>(desks: &mut Vec<(Desk, W)>, turns: u64, budget: u32, gate: &G)
     requires { length desks.old.items ≤ MAX_DESKS }
     ensures each { AllGoOn desks.old.items desks.new.items }
-    ensures turns { AllWork (G.lets gate.now) W.does turns budget desks.old.items desks.new.items }
-    ensures rounds { InRounds (G.lets gate.now) W.does turns budget desks.old.items desks.new.items }
+    ensures turns { AllWork (begins_by W.standing (G.lets gate.now)) W.does turns budget desks.old.items desks.new.items }
+    ensures rounds { InRounds (begins_by W.standing (G.lets gate.now)) W.does turns budget desks.old.items desks.new.items }
 {
     let mut ended = [false; 64];
     for turn in 0..turns {
@@ -133,7 +133,7 @@ fn all_rounds<G: Gate, W: Work>(desks: &mut Vec<(Desk, W)>, turns: u64, budget: 
 }
 
 /// A turn of every worker that has not ended, and whether one of them goes on.
-fn one_round<G: Gate, W: Work>(
+fn one_round<G: Gate, W: Task>(
     desks: &mut Vec<(Desk, W)>,
     ended: &mut [bool; 64],
     turn: u64,
@@ -142,7 +142,7 @@ fn one_round<G: Gate, W: Work>(
 ) -> bool
     requires { length desks.old.items ≤ MAX_DESKS }
     ensures each { AllGoOn desks.old.items desks.new.items }
-    ensures round { Round (G.lets gate.now) W.does budget turn (length desks.old.items) (desks.old.items, ended.old) (desks.new.items, ended.new) }
+    ensures round { Round (begins_by W.standing (G.lets gate.now)) W.does budget turn (length desks.old.items) (desks.old.items, ended.old) (desks.new.items, ended.new) }
     ensures none { result ≡ false → HaveEnded (length desks.old.items) ended.new }
 {
     let mut goes_on = false;
@@ -156,7 +156,7 @@ fn one_round<G: Gate, W: Work>(
 }
 
 /// A turn of the worker of desk d, if it has not ended.
-fn turn_at<G: Gate, W: Work>(
+fn turn_at<G: Gate, W: Task>(
     desks: &mut Vec<(Desk, W)>,
     ended: &mut [bool; 64],
     d: usize,
@@ -167,7 +167,7 @@ fn turn_at<G: Gate, W: Work>(
     requires desk { d < length desks.old.items }
     requires few { length desks.old.items ≤ MAX_DESKS }
     ensures each { AllGoOn desks.old.items desks.new.items }
-    ensures turn { HasTurn (G.lets gate.now) W.does budget turn d (desks.old.items, ended.old) (desks.new.items, ended.new) }
+    ensures turn { HasTurn (begins_by W.standing (G.lets gate.now)) W.does budget turn d (desks.old.items, ended.old) (desks.new.items, ended.new) }
 {
     if ended[d] {
         return;
@@ -176,9 +176,9 @@ fn turn_at<G: Gate, W: Work>(
 }
 
 /// All turns of each worker, one worker after another.
-fn one_by_one<G: Gate, W: Work>(desks: &mut Vec<(Desk, W)>, turns: u64, budget: u32, gate: &G)
+fn one_by_one<G: Gate, W: Task>(desks: &mut Vec<(Desk, W)>, turns: u64, budget: u32, gate: &G)
     ensures each { AllGoOn desks.old.items desks.new.items }
-    ensures turns { AllWork (G.lets gate.now) W.does turns budget desks.old.items desks.new.items }
+    ensures turns { AllWork (begins_by W.standing (G.lets gate.now)) W.does turns budget desks.old.items desks.new.items }
 {
     for d in 0..desks.len() {
         work_turns(&mut desks[d], turns, budget, gate);
@@ -186,7 +186,7 @@ fn one_by_one<G: Gate, W: Work>(desks: &mut Vec<(Desk, W)>, turns: u64, budget: 
 }
 
 /// The workers, each on a thread of its own as far as threads can be made.
-fn work_all<R: Threads + Sync, G: Gate + Sync, W: Work + Send>(
+fn work_all<R: Threads + Sync, G: Gate + Sync, W: Task + Send>(
     rt: &R,
     desks: &mut [(Desk, W)],
     turns: u64,
@@ -194,7 +194,7 @@ fn work_all<R: Threads + Sync, G: Gate + Sync, W: Work + Send>(
     gate: &G,
 )
     ensures each { AllGoOn desks.old desks.new }
-    ensures turns { AllWork (G.lets gate.now) W.does turns budget desks.old desks.new }
+    ensures turns { AllWork (begins_by W.standing (G.lets gate.now)) W.does turns budget desks.old desks.new }
 {
     let workers = desks.len();
     if workers > 0 {
@@ -210,9 +210,9 @@ fn work_all<R: Threads + Sync, G: Gate + Sync, W: Work + Send>(
 }
 
 /// The turns of one worker.
-fn work_turns<G: Gate, W: Work>(pair: &mut (Desk, W), turns: u64, budget: u32, gate: &G)
+fn work_turns<G: Gate, W: Task>(pair: &mut (Desk, W), turns: u64, budget: u32, gate: &G)
     ensures goes_on { GoesOn pair.old.0 pair.new.0 }
-    ensures turns { Works (G.lets gate.now pair.old.0.shard.number) W.does turns budget pair.old pair.new }
+    ensures turns { Works (begins_by W.standing (G.lets gate.now) pair.old.0.shard.number) W.does turns budget pair.old pair.new }
 {
     for turn in 0..turns {
         if !one_turn(pair, turn, budget, gate) {
@@ -221,19 +221,29 @@ fn work_turns<G: Gate, W: Work>(pair: &mut (Desk, W), turns: u64, budget: u32, g
     }
 }
 
-/// One turn of a worker, or false where the gate ends it.
-fn one_turn<G: Gate, W: Work>(pair: &mut (Desk, W), turn: u64, budget: u32, gate: &G) -> bool
+/// One turn of a worker, or false where it ends.
+fn one_turn<G: Gate, W: Task>(pair: &mut (Desk, W), turn: u64, budget: u32, gate: &G) -> bool
     ensures goes_on { GoesOn pair.old.0 pair.new.0 }
-    ensures lets { G.lets gate.now pair.old.0.shard.number turn result }
+    ensures lets { begins_by W.standing (G.lets gate.now) pair.old.0.shard.number pair.old.1 turn result }
     ensures takes { MatchBool result (TakesTurn W.does budget pair.old pair.new) (pair.new ≡ pair.old) }
 {
     let (desk, work) = pair;
     let number = desk.number();
-    if !gate.before(number, turn) {
+    if !turn_begins(work, number, turn, gate) {
         return false;
     }
     work.step(desk);
     let _ = desk.turn(budget);
     gate.after(number, turn);
     true
+}
+
+/// Whether the next turn of a worker begins: the gate is asked only where the work goes on.
+fn turn_begins<G: Gate, W: Task>(work: &W, desk: u8, turn: u64, gate: &G) -> bool
+    ensures { begins_by W.standing (G.lets gate.now) desk work.now turn result }
+{
+    match work.standing() {
+        Standing::Going => gate.before(desk, turn),
+        Standing::Done | Standing::Failed => false,
+    }
 }

@@ -40,8 +40,8 @@ runners_of pairs = map (λ (p : DeskState × Runner). p.1) pairs
 -- Desks were run as the options say: each took all its turns, in each of which the processes of its runner did their next
 -- operations, and then the desk its turn with this budget; on a single thread these came in rounds.
 pub record RunsAs (options : Options) (budget : ℕ) (old new : List (DeskState × Runner)) : Type 0 where
-  pub turns : AllWork always RunnerDoes options.turns budget old new
-  pub rounds : options.threads ≡ Single → InRounds always RunnerDoes options.turns budget old new
+  pub turns : AllWork (λ desk _. always desk) RunnerDoes options.turns budget old new
+  pub rounds : options.threads ≡ Single → InRounds (λ desk _. always desk) RunnerDoes options.turns budget old new
 
 -- The node is one on which the script was run: desks with its settings, on which its processes were born in order, and
 -- nothing else had happened, each with its runner; they were run, and gathered.

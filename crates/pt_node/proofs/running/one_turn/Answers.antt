@@ -8,8 +8,8 @@ returns-clause-goes_on g c = goes_on_then _ _ _ c.step.ensures.goes_on c.turn.en
 pub returns-clause-takes : goal.returns-clause-takes
 returns-clause-takes g c = record { stepped = c.step.new.desk; step = c.step.ensures.does; goes_on = c.step.ensures.goes_on; turned = c.turn.result; turn = c.turn.ensures.turns }
 
-pub returns-then-not-before-clause-lets : goal.returns-then-not-before-clause-lets
-returns-then-not-before-clause-lets g c = search rules
+pub returns-then-not-turn_begins-clause-lets : goal.returns-then-not-turn_begins-clause-lets
+returns-then-not-turn_begins-clause-lets g c = search rules
 
 pub returns-clause-lets : goal.returns-clause-lets
 returns-clause-lets g c = search rules

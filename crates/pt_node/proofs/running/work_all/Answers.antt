@@ -1,6 +1,6 @@
 use Rattle.std.proofs.Common.{rules, subst, get_or}
 use Rattle.pt_desk.specs.DeskState.{GoesOn}
-use Rattle.pt_node.specs.Running.{Works}
+use Rattle.pt_node.specs.Running.{Works, begins_by}
 use Rattle.pt_node.proofs.running.work_all.Goals as goal
 
 pub returns-then-workers-gt0-clause-each : goal.returns-then-workers-gt0-clause-each
@@ -16,6 +16,6 @@ returns-then-workers-gt0-clause-each g c =
 pub returns-then-workers-gt0-clause-turns : goal.returns-then-workers-gt0-clause-turns
 returns-then-workers-gt0-clause-turns g c = λ d x l.
     let at = (c.for_each_mut.ensures d x l).1 in
-    let called : Works (g.G.Gate.lets c.args.gate.now at.argument.now.0.shard.number) g.W.Work.does c.args.turns c.args.budget at.argument.now at.after_call.now = search rules in
-    subst (λ y. Works (g.G.Gate.lets c.args.gate.now (get_or c.args.desks.now d x).0.shard.number) g.W.Work.does c.args.turns c.args.budget (get_or c.args.desks.now d x) y) at.left
-    (subst (λ y. Works (g.G.Gate.lets c.args.gate.now y.0.shard.number) g.W.Work.does c.args.turns c.args.budget y at.after_call.now) at.argument_is called)
+    let called : Works (begins_by g.W.Task.standing (g.G.Gate.lets c.args.gate.now) at.argument.now.0.shard.number) g.W.Task.does c.args.turns c.args.budget at.argument.now at.after_call.now = search rules in
+    subst (λ y. Works (begins_by g.W.Task.standing (g.G.Gate.lets c.args.gate.now) (get_or c.args.desks.now d x).0.shard.number) g.W.Task.does c.args.turns c.args.budget (get_or c.args.desks.now d x) y) at.left
+    (subst (λ y. Works (begins_by g.W.Task.standing (g.G.Gate.lets c.args.gate.now) y.0.shard.number) g.W.Task.does c.args.turns c.args.budget y at.after_call.now) at.argument_is called)

@@ -1,0 +1,73 @@
+//! What workers do with their desks.
+
+ghost use Rattle.std.specs.Prelude.{◌≡◌, ⊤};
+ghost use Rattle.pt_desk.specs.DeskState.{DeskState, GoesOn};
+ghost use Rattle.pt_node.specs.declared.work.Standing.{Standing};
+ghost use Rattle.pt_node.specs.declared.work.Standing.TheVariants.{Going};
+
+use pt_desk::Desk;
+
+/// What a worker does with its desk in each of its turns, before the desk's own turn.
+///
+/// What a step does about a refusal of the desk is its own matter. It promises what each call of a desk does: the desk
+/// stays the same desk of the same node, and its journal begins with the one before.
+///
+/// What else a step may do is the ghost member `does`, of the work and the desk before it and the two after it: what a
+/// run promises of its workers is said in its terms. A work that says nothing there promises nothing else.
+///
+/// A work goes on for as many turns as it is asked for. One that can end by itself is a [`Task`].
+pub trait Work {
+    ghost does: { Self → DeskState → Self → DeskState → Type 0 } = { λ _ _ _ _. ⊤ };
+
+    /// One step.
+    fn step(&mut self, desk: &mut Desk)
+        ensures does { does self.old desk.old self.new desk.new }
+        ensures goes_on { GoesOn desk.old desk.new };
+}
+
+/// What a work says of itself.
+#[derive(Clone, Copy, Debug, PartialEq, Eq)]
+pub enum Standing {
+    /// It has more to do.
+    Going,
+    /// It has done all that it had to do.
+    Done,
+    /// It cannot do what it had to do. Why is in the work itself, which the run gives back.
+    Failed,
+}
+
+/// A work that can end: beside its step it says whether it goes on, is done, or has failed.
+///
+/// A worker asks before each of its turns. Where the work is done or has failed, the worker ends, and its gate is not
+/// asked any more; so what the last step did still has its turn of the desk. [`Ran::standing`](crate::Ran::standing)
+/// tells afterwards what each says.
+///
+/// What it says is the ghost member `standing`. Each [`Work`] is a task that goes on.
+pub trait Task {
+    ghost does: { Self → DeskState → Self → DeskState → Type 0 } = { λ _ _ _ _. ⊤ };
+
+    ghost standing: { Self → Standing };
+
+    /// One step, as [`Work::step`].
+    fn step(&mut self, desk: &mut Desk)
+        ensures does { does self.old desk.old self.new desk.new }
+        ensures goes_on { GoesOn desk.old desk.new };
+
+    /// Whether it goes on, is done, or has failed.
+    fn standing(&self) -> Standing
+        ensures { result ≡ standing self.now };
+}
+
+impl<W: Work> Task for W {
+    ghost does = { W.does };
+
+    ghost standing = { λ _. Going };
+
+    fn step(&mut self, desk: &mut Desk) {
+        Work::step(self, desk)
+    }
+
+    fn standing(&self) -> Standing {
+        Standing::Going
+    }
+}
