@@ -7,12 +7,14 @@
 //! | [`strategy`] | whom it starts again: one for one, or one for all |
 //! | [`game`] | a loop of ticks, with what belongs to each process in a map by its pid |
 //! | [`desks_on_threads`] | a desk a thread, and what is gathered of them |
+//! | [`chat`] | a room and its guests, each on a desk of a node that runs them: they join, talk and crash |
 //! | [`payloads`] | what does not fit into a message, kept beside the table and named by its number |
 //!
 //! What a recipe does to a desk keeps it a desk of its node (`IsStill`), so that [`gather`](pt_node::gather) takes it;
 //! what else it promises is what the calls of the desk promise.
 #![tactic(auto)]
 
+pub mod chat;
 pub mod desks_on_threads;
 mod error;
 pub mod game;

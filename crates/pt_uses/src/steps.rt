@@ -1,12 +1,13 @@
 //! Steps that the recipes share: a message, the oldest end that a mailbox tells of, and the desks gathered.
 
-ghost use Rattle.std.specs.Prelude.{◌≡◌, IfOk};
+ghost use Rattle.std.specs.Prelude.{◌≡◌, IfOk, length};
 ghost use Rattle.pt_desk.specs.DeskState.{GoesOn, HasSameEnds};
 ghost use Rattle.pt_gathered.specs.Lawful.{KeepsHeadline, IsLegalNode};
 ghost use Rattle.pt_node.specs.Desks.{AreDesks, IsStill};
 ghost use Rattle.pt_node.specs.Gathering.{HasJournalsOf};
 ghost use Rattle.pt_uses.specs.Supervision.{TakesEnd, whose_end};
-ghost use Rattle.pt_uses.specs.Telling.{SaysTo, message, unheard};
+ghost use Rattle.pt_uses.specs.Doing.{AtEach};
+ghost use Rattle.pt_uses.specs.Telling.{SaysAt, SaysTo, message, unheard};
 
 use crate::RecipeError;
 use pt_node::{Body, Desk, Fault, Gathered, Item, Pick, Pid, gather};
@@ -28,6 +29,18 @@ pub fn tell(desk: &mut Desk, from: Pid, to: Pid, kind: u32, num: i64) -> Result<
         return Ok(());
     }
     unheard(desk.send(from, to, body))
+}
+
+/// Sends a message to each of these, in order, until a call is refused.
+#[tactic(auto, using(pt_node::proofs::GoingOn::goes_on))]
+pub fn tell_each(desk: &mut Desk, from: Pid, to: &[Pid], kind: u32, num: i64) -> Result<(), Fault>
+    ensures does { AtEach (SaysAt from to.now (message kind num)) (length to.now) desk.old.shard result desk.new.shard }
+    ensures goes_on { GoesOn desk.old desk.new }
+{
+    for place in 0..to.len() {
+        tell(desk, from, to[place], kind, num)?;
+    }
+    Ok(())
 }
 
 /// The answer to a message, where one to a process that is seen to have ended is lost without a word.
