@@ -2,8 +2,9 @@
 
 ghost use Rattle.pt_node.specs.Desks.{AreDesks, IsStill};
 
-use pt_node::{Config, Desk, Event, OpenError, Pid, Reason, Signal, Stamped, open};
+use pt_node::{Config, Desk, Event, OpenError, Pid, Reason, Signal, Stamped, Standing, open};
 use pt_uses::RecipeError;
+use pt_uses::chat::{Seat, Who, chat};
 use pt_uses::desks_on_threads::ring;
 use pt_uses::game::{Game, HIT};
 use pt_uses::payloads::Texts;
@@ -291,5 +292,33 @@ fn a_node_without_desks_is_refused(rt: HostRuntime) -> Result<(), Fail> {
         text.as_str(),
         "the node does not open: a setting is out of its range"
     );
+    Ok(())
+}
+
+/// Who is on a seat has done all that it had to do: the room when all guests have left, and each guest has heard no more
+/// words than were said, and has none left.
+fn is_done<R: Abort>(rt: &R, seat: &Seat) {
+    assert_eq!(rt; seat.standing, Standing::Done);
+    match &seat.who {
+        Who::Room(room) => assert!(rt; room.awaited == 0 && room.guests.is_empty()),
+        Who::Guest(guest) => assert!(rt; guest.joined && guest.words == 0 && guest.heard <= 6),
+    }
+}
+
+#[test]
+fn guests_chat_and_crash(rt: HostRuntime) -> Result<(), Fail> {
+    let (node, seats) = chat(rt.alloc(), 40)?;
+    assert_eq!(rt; seats.len(), 4);
+    for seat in &seats {
+        is_done(&rt, seat);
+    }
+    let mut downs: u64 = 0;
+    for stamped in node.history()? {
+        if let Event::Came(_, _, Signal::Down(_, reason)) = stamped.event {
+            assert_eq!(rt; reason, Reason::Other(7));
+            downs = downs.saturating_add(1);
+        }
+    }
+    assert_eq!(rt; downs, 3);
     Ok(())
 }
