@@ -39,8 +39,8 @@ pub enum Standing {
 /// A work that can end: beside its step it says whether it goes on, is done, or has failed.
 ///
 /// A worker asks before each of its turns. Where the work is done or has failed, the worker ends, and its gate is not
-/// asked any more; so what the last step did still has its turn of the desk. [`Ran::standing`](crate::Ran::standing)
-/// tells afterwards what each says.
+/// asked any more; so what the last step did still has its turn of the desk, and what comes to the desk later waits.
+/// [`Ran::standing`](crate::Ran::standing) tells afterwards what each says.
 ///
 /// What it says is the ghost member `standing`. Each [`Work`] is a task that goes on.
 pub trait Task {

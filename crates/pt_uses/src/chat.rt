@@ -1,4 +1,4 @@
-//! A chat: a room on desk 0, and on each other desk a guest, who joins it, says some words, and then crashes. The room
+//! A chat: a room on desk 0, and on each other desk a guest, who joins it, says some words and then crashes. The room
 //! monitors its guests, so a `DOWN` tells it of each crash; when the last guest has left it is done.
 //!
 //! Take it where each desk does something by itself: what it does is a `Task`, which says when it is done or has failed,
@@ -111,13 +111,18 @@ impl Guest {
         take_each(desk, self.me, Pick::From(self.room), BUDGET, self)
     }
 
-    /// Joins, or says the next word. It crashes when none is left.
+    /// Joins, or says the next word. When none is left it crashes, but not before it has heard one: the room has it
+    /// among its guests then, and its monitor has come. For the worker of a task that is done takes no more turns, and a
+    /// monitor that came later would wait for its `DOWN`.
     fn speak(&mut self, desk: &mut Desk) -> Result<Standing, Fault>
         ensures { GoesOn desk.old desk.new }
     {
         if !self.joined {
             self.joined = true;
             tell(desk, self.me, self.room, JOIN, 0)?;
+            return Ok(Standing::Going);
+        }
+        if self.words == 0 && self.heard == 0 {
             return Ok(Standing::Going);
         }
         let Some(words) = self.words.checked_sub(1) else {
