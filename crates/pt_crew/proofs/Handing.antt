@@ -76,15 +76,21 @@ module _ {B : Type 0} (answers : Answers B) where
     took b k (Ok None) mid was calls h = stays (b, Wait k) was h.0 (ap (λ (x : ShardState). takes x.journal) h.1 ∙ none_taken p k d mid calls)
     took b k (Ok (Some i)) mid was calls h = record {
       taken = (p, i) ∷ [];
-      hands = (old, new, (λ q role is. is), record {
-        was = b;
-        pick = k;
-        waited = was;
-        now = h.0;
-        next = h.1;
-        answer = h.2;
-        after = subst (λ (o : Option (B × Next)). AreWith p o old new) h.3 with_p;
-      }, (λ q role is. is));
+      hands = (
+        old,
+        new,
+        (λ q role is. is),
+        record {
+          was = b;
+          pick = k;
+          waited = was;
+          now = h.0;
+          next = h.1;
+          answer = h.2;
+          after = subst (λ (o : Option (B × Next)). AreWith p o old new) h.3 with_p;
+        },
+        (λ q role is. is),
+      );
       takes = h.4 ∙ one_taken p k i d mid calls;
     }
     took b k (Err Gone) mid was calls h = gone h.0 (ap (λ (x : ShardState). takes x.journal) h.1 ∙ refused_taken p k Gone d mid calls)

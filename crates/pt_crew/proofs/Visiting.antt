@@ -53,8 +53,11 @@ module _ {B : Type 0} (answers : Answers B) where
   pub visited : (mem new : Members B) (p : Pid) (v : Member B) (w : Option (Member B)) (d e : ShardState) → mem p ≡ Some v
       → ((q : Pid) → new q ≡ cond (same_pid p q) w (mem q)) → SeesTo answers p v.behaviour v.next d (option_map role w) e
       → VisitsOne answers p (λ q. option_map role (mem q)) d (λ q. option_map role (new q)) e
-  visited mem new p v w d e held at sees = (with_p, subst (λ (o : Option _). ComesTo answers p o d (option_map role (new p)) e) (sym (ap (option_map role) held))
-      (subst (λ (o : Option _). ComesTo answers p (Some (role v)) d o e) (sym (ap (option_map role) (there mem new p w at p (same_pid_refl p)))) sees))
+  visited mem new p v w d e held at sees = (
+    with_p,
+    subst (λ (o : Option _). ComesTo answers p o d (option_map role (new p)) e) (sym (ap (option_map role) held))
+        (subst (λ (o : Option _). ComesTo answers p (Some (role v)) d o e) (sym (ap (option_map role) (there mem new p w at p (same_pid_refl p)))) sees),
+  )
     where
       with_p : AreWith p (option_map role (new p)) (λ q. option_map role (mem q)) (λ q. option_map role (new q))
       with_p q = by_cases (same_pid p q)

@@ -106,7 +106,7 @@ woken {B} p old new v w held at on same_next same_behaviour in_new stays longer 
   marked = λ m is. subst (λ (x : Member B). x.queued ≡ true) (is_w m is) on;
   roles = λ q. by_cases (same_pid p q)
       (λ same. ap (option_map role) (there (members old) (members new) p (Some w) at q same) ∙ same_role
-          ∙ ap (option_map role) (sym held ∙ ap (members old) (same_pid_is p q same)))
+      ∙ ap (option_map role) (sym held ∙ ap (members old) (same_pid_is p q same)))
       (λ other. ap (option_map role) (elsewhere (members old) (members new) p (Some w) at q other));
   longer = longer;
   listed = λ k q m is marked. by_cases (same_pid p q)

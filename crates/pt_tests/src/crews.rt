@@ -22,8 +22,11 @@ const ONE_DESK: Config = Config {
 
 /// What a guard is told to do with whoever tells it.
 const WATCH: u32 = 1;
+
 const JOIN: u32 = 2;
+
 const END: u32 = 3;
+
 const BEAR: u32 = 4;
 
 /// The processes of these tests.
@@ -94,7 +97,12 @@ fn echo(desk: &mut Desk, me: Pid, item: Item) -> Next
     if body.num <= 0 {
         return Next::Stop(Reason::Normal);
     }
-    let _ = tell(desk, me, from, message(body.kind, body.num.saturating_sub(1)));
+    let _ = tell(
+        desk,
+        me,
+        from,
+        message(body.kind, body.num.saturating_sub(1)),
+    );
     Next::Wait(Pick::Any)
 }
 
@@ -210,7 +218,10 @@ fn picks<R: Abort>(rt: &R, alloc: Global, desk: &mut Desk) -> Result<(), Fail>
     let mut crew = Crew::new(alloc, 1);
     let p = listener(&mut crew, desk, Pick::Kind(2))?;
     six_steps(&mut crew, desk);
-    assert_eq!(rt; crew.behaviour(p).copied(), Some(Player::Listener { digits: 121011 }));
+    assert_eq!(rt;
+        crew.behaviour(p).copied(),
+        Some(Player::Listener { digits: 121011 })
+    );
     Ok(())
 }
 
@@ -221,11 +232,17 @@ fn rounds<R: Abort>(rt: &R, alloc: Global, desk: &mut Desk) -> Result<(), Fail>
     let mut slow = Crew::new(alloc, 0);
     let p = listener(&mut slow, desk, Pick::Any)?;
     slow.step(desk);
-    assert_eq!(rt; slow.behaviour(p).copied(), Some(Player::Listener { digits: 10 }));
+    assert_eq!(rt;
+        slow.behaviour(p).copied(),
+        Some(Player::Listener { digits: 10 })
+    );
     let mut fast = Crew::new(alloc, 2);
     let q = listener(&mut fast, desk, Pick::Any)?;
     fast.step(desk);
-    assert_eq!(rt; fast.behaviour(q).copied(), Some(Player::Listener { digits: 1011 }));
+    assert_eq!(rt;
+        fast.behaviour(q).copied(),
+        Some(Player::Listener { digits: 1011 })
+    );
     assert_eq!(rt; fast.queued(), 1);
     Ok(())
 }
@@ -235,7 +252,14 @@ fn guards<R: Abort>(rt: &R, alloc: Global, desk: &mut Desk) -> Result<(), Fail>
     ensures { IsStill desk.old desk.new }
 {
     let mut crew = Crew::new(alloc, 4);
-    let g = crew.enter(desk, Player::Guard { ends: 0, refused: 0 }, Pick::Any)?;
+    let g = crew.enter(
+        desk,
+        Player::Guard {
+            ends: 0,
+            refused: 0,
+        },
+        Pick::Any,
+    )?;
     let first = desk.spawn()?;
     let second = desk.spawn()?;
     tell(desk, first, g, message(WATCH, 0))?;
@@ -244,7 +268,13 @@ fn guards<R: Abort>(rt: &R, alloc: Global, desk: &mut Desk) -> Result<(), Fail>
     tell(desk, second, g, message(JOIN, 0))?;
     six_steps(&mut crew, desk);
     assert!(rt; !desk.alive_here(first));
-    assert_eq!(rt; crew.behaviour(g).copied(), Some(Player::Guard { ends: 1, refused: 0 }));
+    assert_eq!(rt;
+        crew.behaviour(g).copied(),
+        Some(Player::Guard {
+            ends: 1,
+            refused: 0
+        })
+    );
     assert!(rt; desk.linked(second, g).is_some());
     desk.exit(second, Reason::Other(8))?;
     six_steps(&mut crew, desk);

@@ -87,6 +87,7 @@ fn the_desks_of_a_node_make_it_again(rt: HostRuntime) -> Result<(), Fail> {
 
 /// How many slots of each desk are used again and again, beside the first, and how often.
 const SLOTS: u32 = 20;
+
 const LIVES: u32 = 10;
 
 /// What a call to a process answers that is seen to have ended.

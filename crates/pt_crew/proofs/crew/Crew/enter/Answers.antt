@@ -14,7 +14,7 @@ use Rattle.pt_crew.proofs.crew.Crew.enter.Goals as goal
 pub returns-in_err-pid-clause-knows : goal.returns-in_err-pid-clause-knows
 returns-in_err-pid-clause-knows g c =
     λ k. knows_later _ _ c.args.self.now.read c.args.desk.now.shard c.spawn.new.self.shard c.spawn.ensures.goes_on.shard
-        (knows_same (members c.args.self.now) _ c.args.self.now.queue.items _ c.args.self.now.read c.args.desk.now.shard (λ q. ap (lookup (same_pid q)) c.reserve.ensures.entries) c.reserve-2.ensures.items k)
+    (knows_same (members c.args.self.now) _ c.args.self.now.queue.items _ c.args.self.now.read c.args.desk.now.shard (λ q. ap (lookup (same_pid q)) c.reserve.ensures.entries) c.reserve-2.ensures.items k)
 
 pub returns-in-Ok-clause-knows : goal.returns-in-Ok-clause-knows
 returns-in-Ok-clause-knows g c =
@@ -25,10 +25,10 @@ returns-in-Ok-clause-knows g c =
     let d = c.args.desk.now.shard in
     let mem : Pid → _ = λ q. lookup (same_pid q) c.reserve.new.self.entries in
     λ k. served mem _ p (Some _) rest c.push_back_reserved.new.self.items read d c.spawn.new.self.shard c.spawn.ensures.goes_on.shard c.in-Ok.ensures.updates.0
-        (λ q h. subst (λ (ps : List Pid). in_queue q ps ≡ true) (sym items) (kept_in q p rest h))
-        (λ m is marked. subst (λ (ps : List Pid). in_queue p ps ≡ true) (sym items) (pushed p rest))
-        (λ m is work. ap (λ (x : _). x.queued) (sym (same_some _ m is)))
-        (one_in_front mem p rest read d (knows_same (members c.args.self.now) mem c.args.self.now.queue.items rest read d (λ q. ap (lookup (same_pid q)) c.reserve.ensures.entries) c.reserve-2.ensures.items k))
+    (λ q h. subst (λ (ps : List Pid). in_queue q ps ≡ true) (sym items) (kept_in q p rest h))
+    (λ m is marked. subst (λ (ps : List Pid). in_queue p ps ≡ true) (sym items) (pushed p rest))
+    (λ m is work. ap (λ (x : _). x.queued) (sym (same_some _ m is)))
+    (one_in_front mem p rest read d (knows_same (members c.args.self.now) mem c.args.self.now.queue.items rest read d (λ q. ap (lookup (same_pid q)) c.reserve.ensures.entries) c.reserve-2.ensures.items k))
 
 pub returns-in-Ok-clause-room : goal.returns-in-Ok-clause-room
 returns-in-Ok-clause-room g c =

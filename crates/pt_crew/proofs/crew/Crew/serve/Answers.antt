@@ -20,8 +20,8 @@ returns-in_default-get_index_of-clause-knows g c =
     let d = c.args.desk.now.shard in
     let none = no_place c.get_index_of.result (mem p) c.in_default-get_index_of.is c.get_index_of.ensures.found in
     λ k. served mem mem p None rest rest c.args.self.now.read d d (extends d) (absent_at mem p none) (λ q h. h)
-        (λ m is. some_none None m refl is) (λ m is. some_none None m refl is)
-        (subst (λ (ps : List Pid). Knows mem ps c.args.self.now.read d) c.in-Some.ensures.items k)
+    (λ m is. some_none None m refl is) (λ m is. some_none None m refl is)
+    (subst (λ (ps : List Pid). Knows mem ps c.args.self.now.read d) c.in-Some.ensures.items k)
 
 pub returns-in-Idle-clause-knows : goal.returns-in-Idle-clause-knows
 returns-in-Idle-clause-knows g c =
@@ -33,9 +33,9 @@ returns-in-Idle-clause-knows g c =
     let w = record c.tend.new.member { queued = false } in
     let at = written_at map p c.in-Some-get_index_of.place c.pair_mut-member.result.0.now c.pair_mut-member.result.1.now c.in-Some-get_index_of.ensures.index c.pair_mut-member.ensures.value c.pair_mut-member.ensures.unique w in
     λ k. served mem _ p (Some w) rest rest c.args.self.now.read d c.tend.new.desk.shard c.tend.ensures.goes_on.shard at.0 (λ q h. h)
-        (λ m is marked. absurd (let e = same_some w m is in let f = ap (λ (x : _). x.queued) e in cc))
-        (λ m is work. absurd (let e = same_some w m is in let f = ap (λ (x : _). x.next) e in let idle = c.in-Idle.ensures.tends in cc))
-        (subst (λ (ps : List Pid). Knows mem ps c.args.self.now.read d) c.in-Some.ensures.items k)
+    (λ m is marked. absurd (let e = same_some w m is in let f = ap (λ (x : _). x.queued) e in cc))
+    (λ m is work. absurd (let e = same_some w m is in let f = ap (λ (x : _). x.next) e in let idle = c.in-Idle.ensures.tends in cc))
+    (subst (λ (ps : List Pid). Knows mem ps c.args.self.now.read d) c.in-Some.ensures.items k)
 
 pub returns-in-Again-clause-knows : goal.returns-in-Again-clause-knows
 returns-in-Again-clause-knows g c =
@@ -49,10 +49,10 @@ returns-in-Again-clause-knows g c =
     let items : queue ≡ rest ++ p ∷ [] = c.push_back_reserved.ensures.items in
     let at = written_at map p c.in-Some-get_index_of.place c.pair_mut-member.result.0.now c.pair_mut-member.result.1.now c.in-Some-get_index_of.ensures.index c.pair_mut-member.ensures.value c.pair_mut-member.ensures.unique w in
     λ k. served mem _ p (Some w) rest queue c.args.self.now.read d c.tend.new.desk.shard c.tend.ensures.goes_on.shard at.0
-        (λ q h. subst (λ (ps : List Pid). in_queue q ps ≡ true) (sym items) (kept_in q p rest h))
-        (λ m is marked. subst (λ (ps : List Pid). in_queue p ps ≡ true) (sym items) (pushed p rest))
-        (λ m is work. ap (λ (x : _). x.queued) (sym (same_some w m is)))
-        (subst (λ (ps : List Pid). Knows mem ps c.args.self.now.read d) c.in-Some.ensures.items k)
+    (λ q h. subst (λ (ps : List Pid). in_queue q ps ≡ true) (sym items) (kept_in q p rest h))
+    (λ m is marked. subst (λ (ps : List Pid). in_queue p ps ≡ true) (sym items) (pushed p rest))
+    (λ m is work. ap (λ (x : _). x.queued) (sym (same_some w m is)))
+    (subst (λ (ps : List Pid). Knows mem ps c.args.self.now.read d) c.in-Some.ensures.items k)
 
 pub returns-in-Gone-clause-knows : goal.returns-in-Gone-clause-knows
 returns-in-Gone-clause-knows g c =
@@ -64,8 +64,8 @@ returns-in-Gone-clause-knows g c =
     let w = c.tend.new.member in
     let at = written_at map p c.in-Some-get_index_of.place c.pair_mut-member.result.0.now c.pair_mut-member.result.1.now c.in-Some-get_index_of.ensures.index c.pair_mut-member.ensures.value c.pair_mut-member.ensures.unique w in
     λ k. served mem _ p None rest rest c.args.self.now.read d c.tend.new.desk.shard c.tend.ensures.goes_on.shard (out_at mem _ _ p (Some w) at.0 c.shift_remove.ensures.updates.0) (λ q h. h)
-        (λ m is. some_none None m refl is) (λ m is. some_none None m refl is)
-        (subst (λ (ps : List Pid). Knows mem ps c.args.self.now.read d) c.in-Some.ensures.items k)
+    (λ m is. some_none None m refl is) (λ m is. some_none None m refl is)
+    (subst (λ (ps : List Pid). Knows mem ps c.args.self.now.read d) c.in-Some.ensures.items k)
 
 pub returns-in-Idle-clause-room : goal.returns-in-Idle-clause-room
 returns-in-Idle-clause-room g c =
