@@ -7,10 +7,10 @@ use Rattle.clap.specs.ValueTests.{is_unsigned_in}
 use Rattle.clap.specs.declared.error.kind.ErrorKind.{ErrorKind}
 use Rattle.clap.specs.declared.error.kind.ErrorKind.TheVariants.{DisplayHelp, InvalidValue, ValueValidation}
 use Rattle.pt_options.specs.Choosing.{IsCommand, chosen_of, file_of}
-use Rattle.pt_options.specs.declared.choices.Mode.TheVariants.{Single, Many}
-use Rattle.pt_options.specs.declared.choices.Options.{Options}
-use Rattle.pt_options.specs.declared.choices.Show.TheVariants.{Summary, History, Chart}
-use Rattle.pt_options.specs.declared.choices.TheConstants.{MOST_TURNS}
+use Rattle.pt_choices.specs.declared.Mode.TheVariants.{Single, Many}
+use Rattle.pt_choices.specs.declared.Options.{Options}
+use Rattle.pt_choices.specs.declared.Show.TheVariants.{Summary, History, Chart}
+use Rattle.pt_choices.specs.declared.TheConstants.{MOST_TURNS}
 
 abbrev pub defaults : Options
 defaults = record { threads = Single; turns = 100; print = History }

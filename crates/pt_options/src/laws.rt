@@ -1,15 +1,6 @@
 //! What the command line makes of words: each is the contract of a function that does nothing.
 
-ghost use Rattle.std.specs.Prelude.{◌≡◌};
 ghost use Rattle.pt_options.specs.Laws.{DefaultsStand, FilesAreNamed, TurnsAreTold, WrongTurnsAreRefused, ModesAreTold, WrongModesAreRefused, PrintsAreTold, WrongPrintsAreRefused, HelpIsAsked};
-
-use crate::choices::MOST_TURNS;
-
-/// At most 1,000,000 turns can be asked for: the laws below cite this limit by its name alone. That 100 are taken where no
-/// number is named, [`defaults_stand`] tells.
-pub fn limits_stand()
-    ensures { MOST_TURNS ≡ 1000000 }
-{}
 
 /// Without words the script comes from standard input, on one thread, for 100 turns, and the history is printed.
 pub fn defaults_stand()

@@ -17,10 +17,10 @@ use Rattle.pt_node.specs.Running.{AllGoOn, AllWork, InRounds, always}
 use Rattle.pt_script.specs.Plans.{Whole}
 use Rattle.pt_script.specs.Scripts.{reading}
 use Rattle.pt_script.specs.Lists.{Refuses}
-use Rattle.pt_options.specs.declared.choices.Mode.TheVariants.{Single}
-use Rattle.pt_options.specs.declared.choices.Options.{Options}
-use Rattle.pt_options.specs.declared.choices.Show.{Show}
-use Rattle.pt_options.specs.declared.choices.Show.TheVariants.{Summary, History, Chart}
+use Rattle.pt_choices.specs.declared.Mode.TheVariants.{Single}
+use Rattle.pt_choices.specs.declared.Options.{Options}
+use Rattle.pt_choices.specs.declared.Show.{Show}
+use Rattle.pt_choices.specs.declared.Show.TheVariants.{Summary, History, Chart}
 use Rattle.pt_runner.specs.declared.runner.Runner.{Runner}
 use Rattle.pt_runner.specs.Acting.{RunnerDoes}
 use Rattle.pt_script.specs.Nodes.{config_of}

@@ -9,7 +9,7 @@ use crate::fault::ReportFault;
 use crate::history::print_history;
 use crate::running::run_script;
 use crate::summary::print_summary;
-use pt_options::{Options, Show};
+use pt_choices::{Options, Show};
 use pt_script::Script;
 use std::alloc::Global;
 use std::io::Write;

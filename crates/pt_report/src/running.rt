@@ -11,7 +11,7 @@ ghost use Rattle.pt_report.specs.Reports.{IsNodeOf, IsOfStart, RunsAs};
 
 use crate::fault::ReportFault;
 use pt_node::{Desk, FreeGate, Gathered, Ran, assign, gather, open, release, run, run_single};
-use pt_options::{Mode, Options};
+use pt_choices::{Mode, Options};
 use pt_runner::Runner;
 use pt_script::Script;
 use std::alloc::Global;

@@ -1,5 +1,5 @@
 use Rattle.std.proofs.Common.{◌≡◌, sym, ◌∙◌}
-use Rattle.pt_options.specs.declared.choices.Mode.TheVariants.{Single, Many}
+use Rattle.pt_choices.specs.declared.Mode.TheVariants.{Single, Many}
 use Rattle.pt_report.proofs.running.run_pairs.Goals as goal
 
 pub returns-in-Single-clause-runs : goal.returns-in-Single-clause-runs

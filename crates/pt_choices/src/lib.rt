@@ -1,4 +1,9 @@
-//! What the command line can ask for.
+//! What can be asked for when a script is run: how its desks are run, for how many turns, and what is printed.
+//!
+//! Whoever reads a command line makes these values, and whoever runs a script takes them; neither knows of the other.
+#![tactic(auto)]
+
+ghost use Rattle.std.specs.Prelude.{◌≡◌};
 
 /// The most turns that can be asked for.
 pub const MOST_TURNS: u64 = 1_000_000;
@@ -23,7 +28,7 @@ pub enum Show {
     Chart,
 }
 
-/// What the words of the command line ask for, the file apart.
+/// What is asked for, the script apart.
 #[derive(Clone, Copy, Debug, PartialEq, Eq)]
 pub struct Options {
     /// How the desks are run.
@@ -33,3 +38,8 @@ pub struct Options {
     /// What is printed.
     pub print: Show,
 }
+
+/// At most 1,000,000 turns can be asked for: other clauses cite this limit by its name alone.
+pub fn limits_stand()
+    ensures { MOST_TURNS ≡ 1000000 }
+{}
