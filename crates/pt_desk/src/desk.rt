@@ -77,6 +77,7 @@ impl Desk {
         requires seat { seat ≡ seat_of shard (record { directory = arc_value directory; reads = seat.reads }) }
         ensures { result ≡ record { shard = shard; outs = outs; ins = ins; sight = record { directory = arc_value directory; reads = seat.reads } } }
     {
+        // read for the proof alone: it says what holds of every shard
         let _ = shard.journal();
         Desk {
             shard,

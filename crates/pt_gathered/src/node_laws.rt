@@ -27,5 +27,6 @@ pub fn laws_of(gathered: &Gathered)
     laws::stamps_make_new_ids();
     laws::answers_are_true();
     links::resumed_links();
+    // read for the proof alone: it says what holds of every gathered node
     let _desks = gathered.desks();
 }

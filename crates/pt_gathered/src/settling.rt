@@ -129,9 +129,11 @@ fn pass(
     ensures order { OnOk result (Pass (length gathered.old.shards) 0 gathered.old gathered.new) }
     ensures stops { IfErr result (λ stop. PassStops (length gathered.old.shards) stop gathered.old gathered.new) }
 {
+    // kept for the proof alone, which names it
     let _before = *handled;
     let mut moved = false;
     for e in 0..gathered.desks() {
+        // a `match` and no `?`: the conversion of the error would be one more step of the proof
         match settle_desk(gathered, e, waits, least, handled) {
             Ok(some) => {
                 if some {
@@ -162,11 +164,14 @@ fn settle_desk(
     ensures order { OnOk result (DeskComes (length gathered.old.shards) e gathered.old gathered.new) }
     ensures stops { IfErr result (λ stop. DeskStops (length gathered.old.shards) e stop gathered.old gathered.new) }
 {
+    // kept for the proof alone, which names it
     let _before = *handled;
+    // read for the proof alone: it says what holds of every gathered node
     let _desks = gathered.desks();
     if !waits[usize::from(e)] {
         return Ok(false);
     }
+    // a `match` and no `?`: the conversion of the error would be one more step of the proof
     let moved = match settle_to(gathered, e, least[usize::from(e)], handled) {
         Ok(moved) => moved,
         Err(stop) => return Err(stop),
@@ -200,9 +205,11 @@ fn settle_to(gathered: &mut Gathered, e: u8, least: usize, handled: &mut u64) ->
     ensures keeps { OnOk result (KeepsNone gathered.old gathered.new) }
     ensures none { OnOk result (NonePosted e gathered.new) }
 {
+    // kept for the proof alone, which names it
     let _before = *handled;
     let mut moved = false;
     for d in 0..gathered.desks() {
+        // a `match` and no `?`: the conversion of the error would be one more step of the proof
         match settle_lane(gathered, d, e, least, handled) {
             Ok(some) => {
                 if some {
@@ -232,6 +239,7 @@ fn settle_lane(
     ensures keeps { OnOk result (KeepsNone gathered.old gathered.new) }
     ensures none { OnOk result (posted_in gathered.new.shards gathered.new.lanes d e ≡ []) }
 {
+    // kept for the proof alone, which names it
     let _before = *handled;
     if gathered.count_out(d, e) < least {
         return Ok(false);
@@ -239,6 +247,7 @@ fn settle_lane(
     let count = gathered.count_over(d, e);
     let mut moved = false;
     for _k in 0..count {
+        // a `match` and no `?`: the conversion of the error would be one more step of the proof
         let more = match gathered.step(d, e) {
             Ok(more) => more,
             Err(stop) => return Err(stop),

@@ -259,6 +259,7 @@ impl Node {
             return Err(NodeFault::NoDesk);
         }
         let at = &mut self.desks[d];
+        // read for the proof alone: it says what holds of every desk
         let _ = at.journal();
         called(at.spawn())
     }
@@ -277,6 +278,7 @@ impl Node {
             return Err(NodeFault::NoDesk);
         }
         let at = &mut self.desks[d];
+        // read for the proof alone: it says what holds of every desk
         let _ = at.journal();
         called(at.spawn_child(parent, linked))
     }

@@ -62,6 +62,7 @@ fn bear_on(desk: &mut Desk) -> Result<Pid, Fault>
     ensures goes_on { GoesOn desk.old desk.new }
 {
     let born = desk.spawn();
+    // read for the proof alone: it says what holds of every desk
     let _ = desk.journal();
     born
 }

@@ -102,6 +102,7 @@ impl Shard {
         ensures past { result.now.past ≡ self.now.journal }
         ensures fit { IsFit self.now }
     {
+        // looked at for the proof alone: what holds of the shard is said of all its fields
         let _ = &self.house;
         self.ledger.journal()
     }
@@ -458,6 +459,7 @@ impl Shard {
         requires { to < self.now.config.desks }
         ensures { result ≡ length (box self.now to) }
     {
+        // looked at for the proof alone: what holds of the shard is said of all its fields
         let _ = &self.house;
         self.ledger.count_out(to)
     }
@@ -475,6 +477,7 @@ impl Shard {
         requires { to < self.now.config.desks }
         ensures { result ≡ slice_get (box self.now to) place }
     {
+        // looked at for the proof alone: what holds of the shard is said of all its fields
         let _ = &self.house;
         self.ledger.out_at(to, place)
     }
