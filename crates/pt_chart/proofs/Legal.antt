@@ -1,6 +1,6 @@
 -- Every legal history opens its monitors anew: a reference that was never made is open nowhere.
-use Rattle.std.proofs.Common.{◌≡◌, List, [], ◌∷◌, ◌++◌, None, reverse, refl, ap, sym, subst, ◌∙◌, append-nil, append_assoc}
-use Rattle.std.specs.Prelude.{All, fold}
+use Rattle.std.proofs.Common.{◌≡◌, List, [], ◌∷◌, ◌++◌, Option, Some, None, reverse, refl, ap, sym, subst, ◌∙◌, append-nil, append_assoc}
+use Rattle.std.specs.Prelude.{All, IfSome, fold}
 use Rattle.std.specs.Map.{lookup}
 use Rattle.std.proofs.lemmas.List.{map-append, reverse-append}
 use Rattle.std.proofs.lemmas.List.Elements.{All-weaker}
@@ -17,17 +17,22 @@ use Rattle.pt_events.specs.History.{Past, Phase, unborn, living, ended, life, st
 use Rattle.pt_events.specs.Journal.{events}
 use Rattle.pt_lives.proofs.MayObserve.{unmade_closed}
 use Rattle.pt_chart.specs.declared.layout.Column.{Column}
-use Rattle.pt_chart.specs.Following.{followed, live_state, IsAnew, OpensAnew}
+use Rattle.pt_process.specs.Outcome.{IsAnew}
+use Rattle.pt_chart.specs.Following.{followed, live_state, OpensAnew}
 use Rattle.pt_chart.specs.Chart.{past_of, MonitorsAnew, IsLegalHistory, IsColumn, ShowsLife}
 
-closed_anew : (m : Ref) (f : Phase) → lookup (same_ref m) (state_of f).watching ≡ None → IsAnew (Monitor m) (live_state f)
+closed_anew : (m : Ref) (f : Phase) → lookup (same_ref m) (state_of f).watching ≡ None → IfSome (live_state f) (IsAnew (Monitor m))
 closed_anew m unborn h = tt
 closed_anew m (living s) h = h
 closed_anew m (ended r s) h = tt
 
-said_anew : (past : Past) (p a b : Pid) (x : Signal) (s : ProcessState) → MaySay [] past s a b x → IsAnew x (live_state (life [] past p))
+any_anew : (x : Signal) (o : Option ProcessState) → ((s : ProcessState) → IsAnew x s) → IfSome o (IsAnew x)
+any_anew x None h = tt
+any_anew x (Some s) h = h s
+
+said_anew : (past : Past) (p a b : Pid) (x : Signal) (s : ProcessState) → MaySay [] past s a b x → IfSome (live_state (life [] past p)) (IsAnew x)
 said_anew past p a b (Monitor m) s may = closed_anew m (life [] past p) (unmade_closed m past p may.0)
-said_anew past p a b _ s may = tt
+said_anew past p a b x s may = any_anew x (live_state (life [] past p)) (λ z. tt)
 
 opens_anew : (past : Past) (p : Pid) (e : Event) → May [] past e → OpensAnew e (followed p (life [] past p))
 opens_anew past p (Said a b x) may = said_anew past p a b x (state [] past a) may.1

@@ -1,17 +1,16 @@
 -- One process as a chart follows it: whether it was born, and what it holds while it lives.
-use Rattle.std.specs.Prelude.{◌≡◌, ℕ, Bool, true, not, cond, Option, Some, None, List, [], ◌∷◌, ◌++◌, ⊤}
+use Rattle.std.specs.Prelude.{◌≡◌, ℕ, Bool, true, not, cond, Option, Some, None, IfSome, List, [], ◌∷◌, ◌++◌, ⊤}
 use Rattle.std.specs.Option.{option_map}
-use Rattle.std.specs.Map.{lookup}
 use Rattle.pt_signal.specs.declared.pid.Pid.{Pid}
 use Rattle.pt_signal.specs.declared.ids.LinkId.{LinkId}
 use Rattle.pt_signal.specs.declared.reason.Reason.{Reason}
 use Rattle.pt_signal.specs.declared.signal.Signal.{Signal}
-use Rattle.pt_signal.specs.declared.signal.Signal.TheVariants.{Monitor}
-use Rattle.pt_signal.specs.Values.{same_pid, same_ref, fits, without_first}
+use Rattle.pt_signal.specs.Values.{same_pid, fits, without_first}
 use Rattle.pt_signal.specs.Process.{ProcessState, Sent, fresh, handle, say, sent, estate, bounce}
 use Rattle.pt_events.specs.declared.event.Event.{Event}
 use Rattle.pt_events.specs.declared.event.Event.TheVariants.{Born, Said, Came, Took, Flag, Left, Refused}
 use Rattle.pt_events.specs.History.{Phase, living, linked, is_the, is_unborn, end_sends}
+use Rattle.pt_process.specs.Outcome.{IsAnew}
 
 pub record Followed : Type 0 where
   pub me : Pid
@@ -88,10 +87,6 @@ noted row None before = before
 noted row (Some r) before = Some (row, r)
 
 -- it opens no monitor under a reference that it has open
-abbrev pub IsAnew : Signal → Option ProcessState → Type 0
-IsAnew (Monitor m) (Some s) = lookup (same_ref m) s.watching ≡ None
-IsAnew _ _ = ⊤
-
 abbrev pub OpensAnew : Event → Followed → Type 0
-OpensAnew (Said a b x) w = IsAnew x w.state
+OpensAnew (Said a b x) w = IfSome w.state (IsAnew x)
 OpensAnew _ w = ⊤

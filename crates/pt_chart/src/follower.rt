@@ -1,12 +1,13 @@
 //! A process that is followed through a history: what it sends, and when it ends.
 
-ghost use Rattle.std.specs.Prelude.{◌≡◌, ◌++◌, cond, map, Some, None, IfOk, OnOk};
+ghost use Rattle.std.specs.Prelude.{◌≡◌, ◌++◌, cond, map, Some, None, IfOk, IfSome, OnOk};
 ghost use Rattle.pt_signal.specs.Values.{same_pid, fits, without_first};
 ghost use Rattle.pt_signal.specs.Process.{fresh, handle, say};
 ghost use Rattle.pt_events.specs.declared.event.Event.TheVariants.{Born, Said, Came, Flag, Left};
 ghost use Rattle.pt_events.specs.History.{unborn, linked};
+ghost use Rattle.pt_process.specs.Outcome.{IsAnew};
 ghost use Rattle.pt_chart.specs.Chart.{in_row};
-ghost use Rattle.pt_chart.specs.Following.{followed, seen, sends, ends, OpensAnew, IsAnew, gets, got_sent, got_end, left_sent, left_end, begins, changes};
+ghost use Rattle.pt_chart.specs.Following.{followed, seen, sends, ends, OpensAnew, gets, got_sent, got_end, left_sent, left_end, begins, changes};
 ghost use Rattle.pt_chart.specs.Replying.{Replies};
 
 use crate::layout::Sending;
@@ -204,22 +205,12 @@ impl Follower {
     }
 
     fn say(&mut self, to: Pid, signal: Signal) -> Result<(), AllocError>
-        ensures { IsAnew signal self.old.state → OnOk result (self.new ≡ changes (λ s. say s to signal) self.old) }
+        ensures { IfSome self.old.state (IsAnew signal) → OnOk result (self.new ≡ changes (λ s. say s to signal) self.old) }
     {
-        let Some(process) = &mut self.process else {
-            return Ok(());
-        };
-        match signal {
-            Signal::Link(_) | Signal::Unlink(_) => {
-                let _ = process.accept(to, signal)?;
-            }
-            Signal::Monitor(monitor) => process.add_monitor(monitor, to)?,
-            Signal::Demonitor(monitor) => {
-                let _ = process.cut_monitor(monitor);
-            }
-            _ => {}
+        match &mut self.process {
+            Some(process) => process.say(to, signal),
+            None => Ok(()),
         }
-        Ok(())
     }
 
     fn take(&mut self, pick: Pick)

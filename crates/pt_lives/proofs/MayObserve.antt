@@ -8,7 +8,7 @@ use Rattle.pt_signal.specs.declared.pid.Pid.{Pid}
 use Rattle.pt_signal.specs.declared.ids.Ref.{Ref}
 use Rattle.pt_signal.specs.declared.ids.LinkId.{LinkId}
 use Rattle.pt_signal.specs.declared.signal.Signal.{Signal}
-use Rattle.pt_signal.specs.declared.signal.Signal.TheVariants.{Unlink, LinkExit, Monitor, Demonitor, AliveSay}
+use Rattle.pt_signal.specs.declared.signal.Signal.TheVariants.{LinkExit, Monitor, Demonitor}
 use Rattle.pt_signal.specs.Values.{same_pid, same_ref}
 use Rattle.pt_signal.specs.declared.item.Item.{Item}
 use Rattle.pt_signal.specs.declared.item.Pick.{Pick}
@@ -142,11 +142,7 @@ pub meet_said : (past : Past) (a b : Pid) (x : Signal) → alive [] past a ≡ t
 meet_said past a b x h may = meet_living a (Said a b x) (life [] past a) h (λ s e. does x s (ap state_of e) may)
   where
     does : (x : Signal) (s : ProcessState) → state [] past a ≡ s → MaySay [] past (state [] past a) a b x → MayDo a s (Said a b x)
-    does (Unlink ids) s e may = ap (λ z. held z.links b) (sym e) ∙ may
     does (Monitor m) s e may = ap (λ z. lookup (same_ref m) z.watching) (sym e) ∙ unmade_closed m past a may.0
-    does (LinkExit ids r) s e may = absurd may
-    does (Signal.Down m r) s e may = absurd may
-    does (AliveSay m y) s e may = absurd may
     does _ s e may = tt
 
 meet_came : (a b : Pid) (x : Signal) (f : Phase) → is_unborn f ≡ false → MayMeet b f (Came a b x)

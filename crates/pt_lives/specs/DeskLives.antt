@@ -1,5 +1,5 @@
 -- The lives of one desk's processes.
-use Rattle.std.specs.Prelude.{◌≡◌, ℕ, ◌<◌, ◌^◌, Bool, false, List, [], map, flat_map, is_some, Option, Some, None, IfSome}
+use Rattle.std.specs.Prelude.{◌≡◌, ℕ, ◌<◌, ◌^◌, Bool, false, List, map, flat_map, is_some, Option, Some, None, IfSome}
 use Rattle.std.specs.Map.{lookup}
 use Rattle.std.specs.List.{list_any}
 use Rattle.pt_signal.specs.declared.pid.Pid.{Pid}

@@ -1,13 +1,12 @@
 -- What an event does to the table of one desk's processes, and which event may come. No public clause cites this module.
 use Rattle.std.specs.Prelude.{◌≡◌, ℕ, ◌+◌, ◌<◌, ◌^◌, ◌==◌, ◌&&◌, Bool, true, false, cond, length, Option, Some, None, IfSome, ⊤}
 use Rattle.std.specs.Option.{option_map}
-use Rattle.std.specs.Map.{lookup}
 use Rattle.pt_signal.specs.declared.pid.Pid.{Pid}
-use Rattle.pt_signal.specs.declared.signal.Signal.TheVariants.{Unlink, Monitor}
 use Rattle.pt_events.specs.declared.event.Event.{Event}
 use Rattle.pt_events.specs.declared.event.Event.TheVariants.{Born, Said, Came, Took, Flag, Left, Refused}
-use Rattle.pt_signal.specs.Values.{same_pid, same_ref}
-use Rattle.pt_signal.specs.Process.{ProcessState, held}
+use Rattle.pt_signal.specs.Values.{same_pid}
+use Rattle.pt_signal.specs.Process.{ProcessState}
+use Rattle.pt_process.specs.Outcome.{IsAnew}
 use Rattle.pt_events.specs.History.{Phase, unborn, living, ended, newborn, after, touches}
 use Rattle.pt_laws.specs.Taken.{taken_by}
 use Rattle.pt_lives.specs.LifeState.{LifeState}
@@ -19,11 +18,10 @@ use Rattle.pt_lives.specs.Table.{Slots, slot_at, at}
 abbrev pub shown : Event → LifeState → LifeState
 shown e l = record { pid = l.pid; phase = after l.pid e l.phase; taken = l.taken + length (taken_by l.pid e) }
 
--- a live process does this only so: an Unlink names what is held, and a reference that is opened is not open
+-- a live process does this only so: a reference that is opened is not open, and nobody bears itself
 abbrev pub MayDo : Pid → ProcessState → Event → Type 0
 MayDo p s (Born q parent link) = same_pid p q ≡ false
-MayDo p s (Said a b (Unlink ids)) = held s.links b ≡ Some ids
-MayDo p s (Said a b (Monitor m)) = lookup (same_ref m) s.watching ≡ None
+MayDo p s (Said a b x) = IsAnew x s
 MayDo p s _ = ⊤
 
 -- one that was born, and takes only while it lives

@@ -4,11 +4,10 @@ ghost use Rattle.std.specs.Prelude.{◌≡◌, ◌+◌, ◌<◌, ◌^◌, is_som
 ghost use Rattle.std.specs.Map.{lookup};
 ghost use Rattle.std.specs.List.{list_any};
 ghost use Rattle.pt_signal.specs.Values.{same_ref};
-ghost use Rattle.pt_signal.specs.Process.{held, say};
+ghost use Rattle.pt_signal.specs.Process.{held};
 ghost use Rattle.pt_events.specs.History.{unborn, living, newborn, live_or_end, state_of, open_monitors, change};
 ghost use Rattle.pt_lives.specs.LifeState.{account_of};
 ghost use Rattle.pt_lives.specs.Steps.{shown, MaySee, MayDo};
-ghost use Rattle.pt_events.specs.declared.event.Event.TheVariants.{Said};
 
 use crate::Account;
 use crate::held::Held;
@@ -42,26 +41,6 @@ impl Model for Life {
     ghost invariant = { λ l. Stands l.ended l.held };
 }
 
-/// What the process says changes it so.
-fn say(process: &mut Process, to: Pid, signal: Signal) -> Result<(), AllocError>
-    requires { MayDo process.old.me process.old.state (Said process.old.me to signal) }
-    ensures me { process.new.me ≡ process.old.me }
-    ensures state { OnOk result (process.new.state ≡ say process.old.state to signal) }
-{
-    match signal {
-        Signal::Link(id) => process.add_link(to, id)?,
-        Signal::Unlink(_) => {
-            let _ = process.cut_link(to);
-        }
-        Signal::Monitor(monitor) => process.add_monitor(monitor, to)?,
-        Signal::Demonitor(monitor) => {
-            let _ = process.cut_monitor(monitor);
-        }
-        _ => {}
-    }
-    Ok(())
-}
-
 /// One of its own events happens to a live process; the reason with which it ends by that, if it does.
 fn meet(process: &mut Process, event: Event) -> Result<Option<Reason>, AllocError>
     requires { MayDo process.old.me process.old.state event }
@@ -71,7 +50,7 @@ fn meet(process: &mut Process, event: Event) -> Result<Option<Reason>, AllocErro
     match event {
         Event::Born(child, _, Some(link)) => process.add_link(child, link)?,
         Event::Born(_, _, None) => {}
-        Event::Said(_, to, signal) => say(process, to, signal)?,
+        Event::Said(_, to, signal) => process.say(to, signal)?,
         Event::Came(from, _, signal) => {
             if let Outcome::Ends(reason) = process.accept(from, signal)? {
                 return Ok(Some(reason));

@@ -1,8 +1,11 @@
--- What `accept` answers, and what the process is afterwards.
-use Rattle.std.specs.Prelude.{◌≡◌, ◌≢◌, ◌<◌, ◌⊎◌, Bool, true, false, List, [], ◌∷◌, length, is_some, Option, Some, None, Result, Ok, Err}
+-- What `accept` answers, what the process is afterwards, and what it may say.
+use Rattle.std.specs.Prelude.{◌≡◌, ◌≢◌, ◌<◌, ◌⊎◌, ⊤, Bool, true, false, List, [], ◌∷◌, length, is_some, Option, Some, None, Result, Ok, Err}
+use Rattle.std.specs.Map.{lookup}
 use Rattle.pt_signal.specs.declared.ids.Ids.{Ids}
 use Rattle.pt_signal.specs.declared.ids.Ref.{Ref}
-use Rattle.pt_signal.specs.declared.signal.Signal.TheVariants.{AliveSay}
+use Rattle.pt_signal.specs.declared.signal.Signal.{Signal}
+use Rattle.pt_signal.specs.declared.signal.Signal.TheVariants.{AliveSay, Monitor}
+use Rattle.pt_signal.specs.Values.{same_ref}
 use Rattle.pt_signal.specs.Process as one
 use Rattle.pt_signal.specs.Process.{ProcessState, Sent, Handled}
 use Rattle.pt_process.specs.declared.outcome.Outcome.{Outcome}
@@ -31,6 +34,11 @@ IsLonger old new =
 abbrev pub Accepts : {E : Type 0} → Resident → Handled → Result Outcome E → Resident → Type 0
 Accepts old h (Ok outcome) new = (new.me ≡ old.me) × (new.state ≡ h.state) × IsOutcome old.state h outcome
 Accepts old h (Err e) new = (new.me ≡ old.me) × (new.state ≡ old.state) × IsLonger old.state h.state
+
+-- a monitor is opened under a reference that is not open
+abbrev pub IsAnew : Signal → ProcessState → Type 0
+IsAnew (Monitor m) s = lookup (same_ref m) s.watching ≡ None
+IsAnew _ s = ⊤
 
 -- an entry that takes no third id
 abbrev pub has_two : Option Ids → Bool

@@ -5,7 +5,7 @@ ghost use Rattle.std.specs.List.{list_any};
 ghost use Rattle.std.specs.Map.{lookup, remove_entry};
 ghost use Rattle.pt_signal.specs.Values.{fits, same_pid, same_ref, without_first};
 ghost use Rattle.pt_signal.specs.Process.{fresh, held, holds_any, same_watch, cut, handle, queued, obey, verdict, say, estate};
-ghost use Rattle.pt_process.specs.Outcome.{Accepts, has_two, ruled};
+ghost use Rattle.pt_process.specs.Outcome.{Accepts, IsAnew, has_two, ruled};
 ghost use Rattle.pt_process.specs.Places.{IsFirst, IsFirstPlace};
 ghost use Rattle.pt_process.specs.Peers.{peers};
 
@@ -271,6 +271,27 @@ impl Process {
         ensures room { self.old.room ≤ self.new.room }
     {
         self.watching.remove(&monitor)
+    }
+
+    /// It says a signal to a process: a link is held, or held no more, a monitor is open, or open no more; nothing else
+    /// that it says changes it. A reference that is open already stays as it is.
+    ///
+    /// Memory is refused only where [`add_link`](Process::add_link) or [`add_monitor`](Process::add_monitor) refuses it.
+    pub fn say(&mut self, to: Pid, signal: Signal) -> Result<(), AllocError>
+        ensures me { self.new.me ≡ self.old.me }
+        ensures state { IsAnew signal self.old.state → OnOk result (self.new.state ≡ say self.old.state to signal) }
+        ensures err { OnErr result (self.new.state ≡ self.old.state) }
+    {
+        match signal {
+            Signal::Link(id) => self.add_link(to, id)?,
+            Signal::Unlink(ids) => self.cut_ids(to, ids),
+            Signal::Monitor(monitor) => self.add_monitor(monitor, to)?,
+            Signal::Demonitor(monitor) => {
+                let _ = self.cut_monitor(monitor);
+            }
+            _ => {}
+        }
+        Ok(())
     }
 
     /// Sets whether it traps exits, and answers whether it did.
