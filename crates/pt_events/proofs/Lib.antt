@@ -6,3 +6,4 @@ pub mod Orders
 pub mod InOrder
 pub mod Agreeing
 pub mod Refusals
+pub mod Leaving

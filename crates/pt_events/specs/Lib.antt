@@ -4,3 +4,4 @@ pub mod Locality
 pub mod JournalState
 pub mod Text
 pub mod Refusals
+pub mod Leaving

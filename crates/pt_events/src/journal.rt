@@ -1,6 +1,6 @@
 //! The events of one desk.
 
-ghost use Rattle.std.specs.Prelude.{◌≡◌, ◌<◌, [], ◌∷◌, reverse, OnOk, IfOk, IfErr, OnErr};
+ghost use Rattle.std.specs.Prelude.{◌≡◌, ◌+◌, ◌<◌, [], ◌∷◌, length, reverse, OnOk, IfOk, IfErr, OnErr};
 ghost use Rattle.std.specs.Bool.{MatchBool};
 ghost use Rattle.pt_events.specs.JournalState.{IsNewer, IsInOrder, is_next};
 
@@ -89,6 +89,15 @@ impl Journal {
         ensures past { self.new.past ≡ event ∷ self.old.past }
     {
         self.events.push_reserved(event);
+    }
+
+    /// Forgets all events, and keeps their memory as room for as many.
+    pub fn clear(&mut self)
+        ensures desk { self.new.desk ≡ self.old.desk }
+        ensures past { self.new.past ≡ [] }
+        ensures room { self.new.room ≡ self.old.room + length self.old.past }
+    {
+        self.events.clear();
     }
 }
 

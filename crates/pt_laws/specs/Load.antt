@@ -1,15 +1,15 @@
 -- Quiet histories, and what may still happen in one that is not.
-use Rattle.std.specs.Prelude.{◌≡◌, ℕ, zero, suc, ◌+◌, ◌==◌, Bool, true, false, cond, List, [], ◌∷◌, ◌++◌, length, map, filter}
+use Rattle.std.specs.Prelude.{◌≡◌, ℕ, zero, suc, ◌+◌, ◌==◌, Bool, true, false, cond, List, [], ◌∷◌, length, map, filter}
 use Rattle.std.specs.Map.{keys_of}
 use Rattle.pt_signal.specs.declared.pid.Pid.{Pid}
 use Rattle.pt_signal.specs.declared.signal.Signal.{Signal}
 use Rattle.pt_signal.specs.declared.signal.Signal.TheVariants.{Link, Monitor, AliveAsk}
 use Rattle.pt_signal.specs.declared.letter.Letter.{Letter}
-use Rattle.pt_events.specs.declared.event.Event.TheVariants.{Born}
 use Rattle.pt_signal.specs.Values.{same_pid}
 use Rattle.pt_signal.specs.Process.{Sent}
 use Rattle.pt_events.specs.History.{Past, Start, Phase, living, life, at_start, is_unborn, flying}
 use Rattle.pt_events.specs.Journal.{Journals, events, content}
+pub use Rattle.pt_events.specs.Leaving.{pids}
 
 -- no letter is in flight
 abbrev pub IsQuiet : Start → Past → Type 0
@@ -49,18 +49,12 @@ abbrev pub IsStart : Start → Type 0
 IsStart start = (p : Pid) → times p (keys_of start) ≡ cond (is_unborn (at_start start p)) 0 1
 
 module _ (start : Start) where
-  -- the pids born, in order of birth
-  abbrev pub pids : Past → List Pid
-  pids [] = keys_of start
-  pids (Born p parent link ∷ past) = pids past ++ cond (is_unborn (life start past p)) (p ∷ []) []
-  pids (e ∷ past) = pids past
-
   abbrev pub load : Past → ℕ
-  load past = weights (flying start past) + total (λ p. size (life start past p)) (pids past)
+  load past = weights (flying start past) + total (λ p. size (life start past p)) (pids start past)
 
   -- of the live processes of desk d: the link entries, kept watches and open references
   abbrev pub desk_sizes : ℕ → Past → ℕ
-  desk_sizes d past = total (λ p. size (life start past p)) (filter (λ p. p.shard == d) (pids past))
+  desk_sizes d past = total (λ p. size (life start past p)) (filter (λ p. p.shard == d) (pids start past))
 
 -- the load, desk by desk ---------------------------------------------------------------
 

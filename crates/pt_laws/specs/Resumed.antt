@@ -1,23 +1,14 @@
 -- A history that goes on from another one.
-use Rattle.std.specs.Prelude.{◌≡◌, ℕ, ◌<◌, false, Option, Some, None, [], ◌∷◌, map, ⊤}
+use Rattle.std.specs.Prelude.{◌≡◌, ℕ, ◌<◌, false, Option, Some, None, [], ◌∷◌, ⊤}
 use Rattle.pt_signal.specs.declared.pid.Pid.{Pid}
 use Rattle.pt_events.specs.declared.event.Event.{Event}
 use Rattle.pt_events.specs.declared.event.Event.TheVariants.{Born, Said}
 use Rattle.pt_signal.specs.declared.signal.Signal.TheVariants.{Link, Monitor, AliveAsk}
 use Rattle.pt_signal.specs.declared.ids.LinkId.{LinkId}
 use Rattle.pt_signal.specs.declared.ids.Ref.{Ref}
-use Rattle.pt_signal.specs.Process.{fresh}
-use Rattle.pt_events.specs.History.{Past, Start, Phase, ended, at_start, life, made_link, made_ref, IsLegal}
-use Rattle.pt_laws.specs.Load.{IsQuiet, pids}
-
--- of an ended process its reason, and nothing that it held
-abbrev pub outcome : Phase → Phase
-outcome (ended r s) = ended r fresh
-outcome f = f
-
--- what each pid is after the history, as the start of the next; of an ended one its reason and nothing else
-abbrev pub start_after : Start → Past → Start
-start_after start past = map (λ p. (p, outcome (life start past p))) (pids start past)
+use Rattle.pt_events.specs.History.{Past, Start, at_start, life, made_link, made_ref, IsLegal}
+pub use Rattle.pt_events.specs.Leaving.{outcome, start_after}
+use Rattle.pt_laws.specs.Load.{IsQuiet}
 
 -- the ids and references that the event makes were not made in the history
 abbrev pub IsNewLink : Past → Option LinkId → Type 0
