@@ -7,6 +7,8 @@ use Rattle.pt_events.specs.declared.event.Event.{Event}
 use Rattle.pt_events.specs.declared.event.Stamped.{Stamped}
 use Rattle.pt_events.specs.declared.event.TheConstants.{MAX_STAMP}
 use Rattle.pt_events.specs.History.{Start}
+use Rattle.pt_events.specs.Journal.{events}
+use Rattle.pt_events.specs.Leaving.{start_after}
 use Rattle.pt_shard.specs.declared.stop.Stop.{Stop}
 use Rattle.pt_shard.specs.declared.stop.Stop.TheVariants.{Memory, Worn}
 use Rattle.pt_shard.specs.Boxes.{put_out}
@@ -40,6 +42,17 @@ wrote n e ls b = record {
   clock = n;
   journal = record { stamp = n; desk = b.desk; event = e } ∷ b.journal;
   outbox = put_out b.outbox ls;
+  hold = b.hold;
+}
+
+-- an empty journal over what the one so far leaves behind
+abbrev pub restarted : ℕ → Book → Book
+restarted n b = record {
+  start = start_after b.start (events b.journal);
+  desk = b.desk;
+  clock = n;
+  journal = [];
+  outbox = b.outbox;
   hold = b.hold;
 }
 

@@ -10,7 +10,7 @@ ghost use Rattle.std.specs.Option.{option_to_list};
 ghost use Rattle.pt_shard.specs.ShardState.{came};
 ghost use Rattle.pt_carrier.specs.declared.ends.TheConstants.{MAX_DESKS};
 ghost use Rattle.pt_carrier.specs.Ends.{one_more};
-ghost use Rattle.pt_shard.specs.LedgerState.{Book, wrote, Prepares, HasNoNeed, HasRoomAt, HasRoomFor, HasRoomToAll, is_of};
+ghost use Rattle.pt_shard.specs.LedgerState.{Book, wrote, restarted, Prepares, HasNoNeed, HasRoomAt, HasRoomFor, HasRoomToAll, is_of};
 ghost use Rattle.pt_process.specs.Peers.{peers};
 ghost use Rattle.pt_shard.specs.LettersState.{LettersState};
 ghost use Rattle.pt_shard.specs.Outbox.{count_held};
@@ -19,6 +19,7 @@ ghost use Rattle.pt_shard.specs.Sound.{Every};
 use crate::letters::Letters;
 use crate::stop::Stop;
 use pt_events::{Event, Journal, MAX_STAMP, Stamped};
+use pt_origin::Origin;
 use pt_process::{Estate, Process};
 use pt_signal::{Letter, LinkId, Pid, Ref, Signal};
 use std::alloc::{AllocError, Global};
@@ -30,13 +31,15 @@ use std::marker::Model;
 #[derive(Drop)]
 pub struct Ledger {
     clock: u64,
+    // What was before the journal, for clauses alone.
+    origin: Origin,
     journal: Journal,
     outbox: Vec<Letters>,
     hold: Option<Letter>,
 }
 
 impl Model for Ledger {
-    ghost use Rattle.std.specs.Prelude.{map, []};
+    ghost use Rattle.std.specs.Prelude.{map};
     ghost use Rattle.pt_shard.specs.LettersState.{LettersState};
     ghost use Rattle.pt_shard.specs.LedgerState.{LedgerState, IsUpTo};
 
@@ -44,7 +47,7 @@ impl Model for Ledger {
 
     ghost view = { λ l. record {
       book = record {
-        start = [];
+        start = l.origin.start;
         desk = l.journal.desk;
         clock = l.clock;
         journal = l.journal.past;
@@ -94,10 +97,20 @@ impl Ledger {
     {
         Ok(Ledger {
             clock: start,
+            origin: Origin::new(),
             journal: Journal::new(alloc, desk),
             outbox: no_letters(alloc, desks)?,
             hold: None,
         })
+    }
+
+    /// Begins an empty journal over the start that the one so far leaves behind, with the clock at `start`.
+    pub fn restart(&mut self, start: u64)
+        ensures { self.new.book ≡ restarted start self.old.book }
+    {
+        self.origin = self.origin.left_behind(&self.journal);
+        self.journal.clear();
+        self.clock = start;
     }
 
     pub fn clock(&self) -> u64

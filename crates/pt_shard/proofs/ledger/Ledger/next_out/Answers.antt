@@ -1,4 +1,4 @@
-use Rattle.std.proofs.Common.{[], ap}
+use Rattle.std.proofs.Common.{ap}
 use Rattle.pt_shard.proofs.Ledgers.{popped_letters}
 use Rattle.pt_shard.proofs.ledger.Ledger.next_out.Goals as goal
 
@@ -6,5 +6,5 @@ pub returns-clause-rest : goal.returns-clause-rest
 returns-clause-rest c =
     let within = rw (← c.self.view_is) at c.requires in
     rw (← c.self.view_is)
-    (ap (λ o. record { start = []; desk = c.self.inside.journal.desk; clock = c.self.inside.clock; journal = c.self.inside.journal.past; outbox = o; hold = c.self.inside.hold })
+    (ap (λ o. record { start = c.self.inside.origin.start; desk = c.self.inside.journal.desk; clock = c.self.inside.clock; journal = c.self.inside.journal.past; outbox = o; hold = c.self.inside.hold })
     (popped_letters c.self.inside.outbox.items c.from.result c.args.to c.from.ensures within c.index_mut.result.now c.pop.new.self c.index_mut.ensures.value c.pop.ensures.rest))
