@@ -71,7 +71,7 @@ module _ (g : GatheredState) (whole : IsGathered g) where
 
   -- the load desk by desk is that of the history
   pub load_is : LoadByDesk → (merged : List Stamped) → IsMerge (journals g) merged → load_of g ≡ load (begins g) (events merged)
-  load_is law merged m = law (begins g) g.config.start g.config.top_version (length g.shards) (journals g) (over g) merged locals lanes_agree whole.refusals m has_desks
+  load_is law merged m = law (begins g) g.config.start g.config.top_version (length g.shards) (journals g) (over g) merged locals lanes_agree m has_desks
 
   nothing_over : NothingLeft g → (d e : ℕ) → over g d e ≡ []
   nothing_over none d e =

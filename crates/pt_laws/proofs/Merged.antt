@@ -323,48 +323,61 @@ module _ (start : Start) (low top : ℕ) where
           ∙ ap (λ z. map content (cond (s.desk == c.shard) (got_of a.shard s.stamp z) [])) (q ∙ r)
           ∙ rw (eq-eqb s.desk c.shard (sym home), eq-eqb a.shard a.shard refl) refl
 
+  -- one event more, and the lanes as they were before it
+  module _ (s : Stamped) (merged : List Stamped) (over : ℕ → ℕ → List Letter) (r : IsRising (s ∷ merged)) (h : AllLocal (s ∷ merged)) (a : LanesAgree start (λ d. of_desk d (s ∷ merged)) over) where
+    tail : AllLocal merged
+    tail = tail_local s merged h
+
+    next : IsNext start low top s.desk (of_desk s.desk merged) s
+    next = head_local s merged h
+
+    backs : (d e : ℕ) → Back (posts start (of_desk d merged) e) (new_posts s merged d e) (gots (of_desk e merged) d) (new_gots s d e) (over d e)
+    backs d e =
+        back s.stamp _ _ _ _ _ (AllAt-letters s.stamp (λ l. in_lane d e (content l)) (sent_by start (events merged) s.event)) (gots_up_to s merged d e r.0) (new_up_to s d e)
+        (subst (λ z. Agrees z (gots (of_desk e merged) d ++ new_gots s d e) (over d e)) (posts_step s merged d e next.home (all_home merged tail))
+        (subst (λ z. Agrees (posts start (of_desk d (s ∷ merged)) e) z (over d e)) (gots_step s merged d e) (a d e)))
+
+    before : ℕ → ℕ → List Letter
+    before d e = (backs d e).lead ++ (backs d e).rest
+
+    agreed : LanesAgree start (λ d. of_desk d merged) before
+    unfolding before
+    agreed d e = (backs d e).agrees
+
+    flies_more : ((d e : ℕ) → filter (in_lane d e) (flying start (events merged)) ≡ map content (before d e))
+        → (d e : ℕ) → filter (in_lane d e) (flying start (events (s ∷ merged))) ≡ map content (over d e)
+    unfolding before
+    flies_more f d e =
+        filter-append (in_lane d e) (landed s.event (flying start (events merged))) (sent_by start (events merged) s.event)
+        ∙ ap (λ z. z ++ filter (in_lane d e) (sent_by start (events merged) s.event))
+        (landed_lane s.desk d e s.stamp s.event (flying start (events merged)) (backs d e).lead (backs d e).rest next.home (f d e) (same_again d e))
+        ∙ ap (λ z. map content (backs d e).rest ++ z) (sym (contents s.stamp (in_lane d e) (sent_by start (events merged) s.event)))
+        ∙ sym (map-append content (backs d e).rest (new_posts s merged d e))
+        ∙ ap (map content) (sym (backs d e).left)
+      where
+        same_again : (d e : ℕ) → map content (backs d e).lead ≡ map content (cond (s.desk == e) (got_of d s.stamp s.event) [])
+        same_again d e = (backs d e).same
+
+    may_more : ((d e : ℕ) → filter (in_lane d e) (flying start (events merged)) ≡ map content (before d e))
+        → IsTrueRefusal start (λ d. of_desk d merged) s.stamp s.event → May start (events merged) s.event
+    unfolding before
+    may_more f true_one =
+        may_plain s merged r.0 tail s.event next.home next.new_at next.may true_one
+        (came_may s merged s.event refl (λ d e. (backs d e).lead) (λ d e. (backs d e).rest) next.home f (λ d e. (backs d e).same))
+
+  -- what flies, whether the refusals are true or not
+  pub merged_flies : (merged : List Stamped) (over : ℕ → ℕ → List Letter) → IsRising merged → AllLocal merged → LanesAgree start (λ d. of_desk d merged) over
+      → (d e : ℕ) → filter (in_lane d e) (flying start (events merged)) ≡ map content (over d e)
+  merged_flies [] over r h a d e = ap (map content) (a d e)
+  merged_flies (s ∷ merged) over r h a d e =
+      flies_more s merged over r h a (merged_flies merged (before s merged over r h a) r.1 (tail s merged over r h a) (agreed s merged over r h a)) d e
+
   pub merged_legal : (merged : List Stamped) (over : ℕ → ℕ → List Letter) → IsRising merged → AllLocal merged
       → LanesAgree start (λ d. of_desk d merged) over → AllTrueRefusals start (λ d. of_desk d merged) merged → IsMerged merged over
   merged_legal [] over r h a true_all = record { legal = tt; flies = λ d e. ap (map content) (a d e) }
-  merged_legal (s ∷ merged) over r h a true_all = step (merged_legal merged)
-    where
-      tail : AllLocal merged
-      tail = tail_local s merged h
-
-      next : IsNext start low top s.desk (of_desk s.desk merged) s
-      next = head_local s merged h
-
-      homes : AllHome merged
-      homes = all_home merged tail
-
-      backs : (d e : ℕ) → Back (posts start (of_desk d merged) e) (new_posts s merged d e) (gots (of_desk e merged) d) (new_gots s d e) (over d e)
-      backs d e =
-          back s.stamp _ _ _ _ _ (AllAt-letters s.stamp (λ l. in_lane d e (content l)) (sent_by start (events merged) s.event)) (gots_up_to s merged d e r.0) (new_up_to s d e)
-          (subst (λ z. Agrees z (gots (of_desk e merged) d ++ new_gots s d e) (over d e)) (posts_step s merged d e next.home homes)
-          (subst (λ z. Agrees (posts start (of_desk d (s ∷ merged)) e) z (over d e)) (gots_step s merged d e) (a d e)))
-
-      before : ℕ → ℕ → List Letter
-      before d e = (backs d e).lead ++ (backs d e).rest
-
-      step : ((over : ℕ → ℕ → List Letter) → IsRising merged → AllLocal merged → LanesAgree start (λ d. of_desk d merged) over
-          → AllTrueRefusals start (λ d. of_desk d merged) merged → IsMerged merged over)
-          → IsMerged (s ∷ merged) over
-      step ih =
-          let k = ih before r.1 tail (λ d e. (backs d e).agrees) (all_true_without s merged merged r.0 true_all.1) in
-          record {
-            legal = (
-              may_plain s merged r.0 tail s.event next.home next.new_at next.may (true_without s.stamp s merged s.event (le_refl s.stamp) true_all.0)
-                  (came_may s merged s.event refl (λ d e. (backs d e).lead) (λ d e. (backs d e).rest) next.home k.flies (λ d e. (backs d e).same)),
-              k.legal,
-            );
-            flies = λ d e.
-                filter-append (in_lane d e) (landed s.event (flying start (events merged))) (sent_by start (events merged) s.event)
-                ∙ ap (λ z. z ++ filter (in_lane d e) (sent_by start (events merged) s.event))
-                (landed_lane s.desk d e s.stamp s.event (flying start (events merged)) (backs d e).lead (backs d e).rest next.home (k.flies d e) (same_again d e))
-                ∙ ap (λ z. map content (backs d e).rest ++ z) (sym (contents s.stamp (in_lane d e) (sent_by start (events merged) s.event)))
-                ∙ sym (map-append content (backs d e).rest (new_posts s merged d e))
-                ∙ ap (map content) (sym (backs d e).left);
-          }
-        where
-          same_again : (d e : ℕ) → map content (backs d e).lead ≡ map content (cond (s.desk == e) (got_of d s.stamp s.event) [])
-          same_again d e = (backs d e).same
+  merged_legal (s ∷ merged) over r h a true_all =
+      let k = merged_legal merged (before s merged over r h a) r.1 (tail s merged over r h a) (agreed s merged over r h a) (all_true_without s merged merged r.0 true_all.1) in
+      record {
+        legal = (may_more s merged over r h a k.flies (true_without s.stamp s merged s.event (le_refl s.stamp) true_all.0), k.legal);
+        flies = merged_flies (s ∷ merged) over r h a;
+      }

@@ -7,7 +7,6 @@ use Rattle.pt_events.specs.declared.event.Event.TheVariants.{Came}
 use Rattle.pt_events.specs.declared.event.Stamped.{Stamped}
 use Rattle.pt_events.specs.History.{Past, Start, unborn, at_start, flight, sent_by, May, IsLegal}
 use Rattle.pt_events.specs.Journal.{Journals, IsLocal, LanesAgree, IsMerge, events, letter}
-use Rattle.pt_events.specs.Refusals.{RefusalsAreTrue}
 use Rattle.pt_laws.specs.Load.{IsStart, IsQuiet, weight, weights, desk_sizes, load, load_by_desk}
 use Rattle.pt_laws.specs.Laws.{LanesFly}
 
@@ -79,6 +78,5 @@ pub record HasDesks (n : ℕ) (start : Start) (journal : Journals) (over : ℕ �
 abbrev pub LoadByDesk : Type 0
 LoadByDesk =
     (start : Start) (low top n : ℕ) (journal : Journals) (over : ℕ → ℕ → List Letter) (merged : List Stamped)
-    → ((d : ℕ) → IsLocal start low top d (journal d)) → LanesAgree start journal over → RefusalsAreTrue start journal
-    → IsMerge journal merged → HasDesks n start journal over
+    → ((d : ℕ) → IsLocal start low top d (journal d)) → LanesAgree start journal over → IsMerge journal merged → HasDesks n start journal over
     → load_by_desk start journal over n ≡ load start (events merged)
