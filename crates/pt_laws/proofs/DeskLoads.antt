@@ -1,5 +1,5 @@
 -- The load desk by desk: a receipt lowers it, and it is the load of every merge.
-use Rattle.std.proofs.Common.{◌≡◌, ℕ, ◌+◌, ◌<◌, ◌≤◌, ◌==◌, ◌&&◌, Bool, true, false, cond, List, [], ◌∷◌, ◌++◌, map, filter, refl, sym, ap, ◌∙◌, subst, append-nil, ◌⊎◌, inl, inr, ⊎_elim, arith}
+use Rattle.std.proofs.Common.{◌≡◌, ℕ, ◌+◌, ◌<◌, ◌≤◌, ◌==◌, ◌&&◌, Bool, true, false, cond, List, [], ◌∷◌, ◌++◌, map, filter, refl, sym, ap, ◌∙◌, subst, subst₂, append-nil, ◌⊎◌, inl, inr, ⊎_elim, arith}
 use Rattle.std.proofs.lemmas.Bool.{eqb-true, eq-eqb, ne_eqb, both_ways, cases_lt}
 use Rattle.std.proofs.lemmas.List.Elements.{filter-append}
 use Rattle.pt_signal.specs.declared.pid.Pid.{Pid}
@@ -9,14 +9,15 @@ use Rattle.pt_events.specs.declared.event.Event.{Event}
 use Rattle.pt_events.specs.declared.event.Event.TheVariants.{Born, Came}
 use Rattle.pt_events.specs.declared.event.Stamped.{Stamped}
 use Rattle.pt_events.specs.History.{Past, Start, life, is_unborn, flying, sent_by}
-use Rattle.pt_events.specs.Journal.{Journals, LanesAgree, IsMerge, IsHome, Agrees, events, of_desk, letter, content, posts, gots, in_lane}
+use Rattle.pt_events.specs.Journal.{Journals, LanesAgree, IsMerge, IsLocal, IsHome, Agrees, events, of_desk, letter, content, posts, gots, in_lane}
 use Rattle.pt_events.specs.Locality.{AllHome}
 use Rattle.pt_laws.specs.Load.{weight, weights, size, total, pids, IsStart, load, desk_sizes, below, left_weight, load_by_desk}
 use Rattle.pt_laws.specs.Laws.{LanesFly}
-use Rattle.pt_laws.specs.LoadLaws.{OldestComes, HasDesks}
+use Rattle.pt_laws.specs.LoadLaws.{OldestComes, HasDesks, LoadByDesk}
 use Rattle.pt_events.proofs.Local.{life_local}
 use Rattle.pt_events.proofs.Homes.{life_home}
 use Rattle.pt_laws.proofs.lanes.Load.{one_receipt}
+use Rattle.pt_laws.proofs.Merged.{all_home, merged_flies}
 use Rattle.pt_laws.proofs.Sums.{below_shift, below_shift_le, below_same, below_zero, below_one, below_at, weigh-append, weigh_sent, weigh_apart}
 
 -- one receipt --------------------------------------------------------------------------
@@ -267,3 +268,9 @@ module _ (start : Start) (n : ℕ) (journal : Journals) (over : ℕ → ℕ → 
       (λ d h. below_same (λ e. weights (filter (in_lane d e) (flying start (events merged)))) (λ e. left_weight (over d e)) n (λ e k. ap weights (sym (flies d e)))) in
       let f = lanes_apart n (flying start (events merged)) out_of_lanes in
       omega arith
+
+pub merge_load : LoadByDesk
+merge_load start low top n journal over merged l a m has =
+    let locals : (d : ℕ) → IsLocal start low top d (of_desk d merged) = λ d. subst (IsLocal start low top d) (sym (m.1 d)) (l d) in
+    merged_load start n journal over merged a m has (all_home start low top merged locals)
+    (merged_flies start low top merged over m.0 locals (λ d e. subst₂ (λ x y. Agrees (posts start x e) (gots y d) (over d e)) (sym (m.1 d)) (sym (m.1 e)) (a d e)))

@@ -1,14 +1,16 @@
 -- Monitors of a history that goes on from another one: those that were open at its start count as made.
-use Rattle.std.proofs.Common.{◌≡◌, ◌+◌, ◌≤◌, Bool, true, false, [], ◌∷◌, ◌++◌, refl, ap, ◌∙◌, arith}
+use Rattle.std.proofs.Common.{◌≡◌, ℕ, ◌+◌, ◌≤◌, Bool, true, false, List, [], ◌∷◌, ◌++◌, refl, sym, ap, ◌∙◌, subst, arith, le_refl}
 use Rattle.std.proofs.lemmas.Bool.{and_parts, both_ways}
 use Rattle.pt_signal.specs.declared.pid.Pid.{Pid}
 use Rattle.pt_signal.specs.declared.ids.Ref.{Ref}
 use Rattle.pt_signal.specs.declared.signal.Signal.{Signal}
+use Rattle.pt_signal.specs.declared.reason.Reason.{Reason}
 use Rattle.pt_signal.specs.Values.{same_pid, same_ref}
-use Rattle.pt_events.specs.History.{Past, Start, Phase, unborn, living, ended, life, at_start, state, state_of, is_living, alive, IsLegal}
+use Rattle.pt_signal.specs.Process.{ProcessState, fresh}
+use Rattle.pt_events.specs.History.{Past, Start, Phase, unborn, living, ended, life, at_start, state, state_of, is_living, arrived_since, alive, IsLegal}
 use Rattle.pt_laws.specs.Load.{IsQuiet}
 use Rattle.pt_laws.specs.Resumed.{outcome, AllNewTo, IsLeftBy}
-use Rattle.pt_laws.specs.Watch.{is_monitor, said_to, is_open, open_in, kept_in}
+use Rattle.pt_laws.specs.Watch.{count, is_monitor, is_demonitor, is_down_item, said_times, said_to, is_open, open_in, kept_in}
 use Rattle.pt_laws.specs.MonitorLaws.{demonitors_and_downs, times_made, QuietMonitorOver}
 use Rattle.pt_laws.proofs.living.Acts.{legal_acts}
 use Rattle.pt_laws.proofs.living.Resumed.{over_legal, over_living, over_end}
