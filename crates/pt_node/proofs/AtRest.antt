@@ -1,5 +1,5 @@
 -- Two rounds that handled nothing leave a node still.
-use Rattle.std.proofs.Common.{◌≡◌, ℕ, suc, ◌+◌, ◌-◌, ◌^◌, ◌<◌, ◌≤◌, Bool, false, List, length, map, get_or, Option, Some, None, refl, sym, ap, ◌∙◌, arith}
+use Rattle.std.proofs.Common.{◌≡◌, ℕ, suc, ◌+◌, ◌-◌, ◌^◌, ◌<◌, ◌≤◌, Bool, true, false, List, length, map, get_or, Option, Some, None, refl, sym, ap, ◌∙◌, subst, arith}
 use Rattle.std.specs.Prelude.{is_some}
 use Rattle.std.specs.List.{sum, sum_by}
 use Rattle.std.proofs.lemmas.Bool.{both_ways}
@@ -12,7 +12,7 @@ use Rattle.pt_shard.specs.declared.config.Config.{Config}
 use Rattle.pt_shard.specs.ShardState.{ShardState, box}
 use Rattle.pt_desk.specs.DeskState.{DeskState, place}
 use Rattle.pt_node.specs.Desks.{AreDesks, desk_kept}
-use Rattle.pt_node.specs.Stillness.{AreStill, Rounds, TurnEach, both_rested}
+use Rattle.pt_node.specs.Stillness.{AreStill, LooksAgain, Rounds, TurnEach, both_rested}
 use Rattle.pt_node.specs.Looking.{AreMet}
 use Rattle.pt_node.specs.declared.stillness.Rested.{Rested}
 use Rattle.pt_node.specs.declared.stillness.Stopped.{Stopped}
@@ -81,6 +81,13 @@ kept_room xs ys kept = kept_sum (λ (k : Kept). MAX_STAMP - k.0.clock) xs ys kep
 pub none_stopped : (o : Option Stopped) (b : Bool) → b ≡ is_some o → b ≡ false → o ≡ None
 none_stopped None b h k = refl
 none_stopped (Some s) b h k = absurd (both_ways b k h)
+
+pub look_again : (o : Option Stopped) (b : Bool) (last new : List DeskState) → b ≡ is_some o → b ≡ true → map desk_kept new ≡ map desk_kept last → LooksAgain o last new
+look_again None b last new h k kept = absurd (both_ways b h k)
+look_again (Some s) b last new h k kept = kept
+
+pub no_look_again : (o : Option Stopped) (last : List DeskState) → o ≡ None → LooksAgain o last last
+no_look_again o last none = subst (λ o. LooksAgain o last last) (sym none) refl
 
 module _ (budget : ℕ) (desks met new : List DeskState) (round : Rested) (kept : map desk_kept met ≡ map desk_kept desks) (turns : TurnEach budget (length met) met round new) where
   pub rounds_more : (start : List DeskState) (did did' : Rested) → did.stopped ≡ None → did' ≡ both_rested did round → (count : ℕ) × Rounds budget count start did desks → (count : ℕ) × Rounds budget count start did' new

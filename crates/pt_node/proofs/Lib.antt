@@ -14,3 +14,7 @@ pub mod Meeting
 pub mod AtRest
 pub mod RoundByRound
 pub mod Leftless
+pub mod Weighing
+pub mod Receiving
+pub mod Bounding
+pub mod Laned

@@ -8,6 +8,7 @@ use Rattle.pt_desk.specs.DeskState.{DeskState, GoesOn}
 use Rattle.pt_desk.specs.declared.turned.Turned.{Turned}
 use Rattle.pt_desk.specs.Turns.{Turns}
 use Rattle.pt_desk.proofs.Turning.{goes_on_then}
+use Rattle.pt_node.specs.Desks.{desk_kept}
 use Rattle.pt_node.specs.Node.{OnDesk}
 use Rattle.pt_node.specs.Stillness.{AllDesksGoOn, StoppedAt, TurnEach, both_rested, first_stopped, stop_at}
 use Rattle.pt_node.specs.declared.stillness.Rested.{Rested}
@@ -32,16 +33,16 @@ stop_none d None h = refl
 stop_none d (Some s) h = absurd (cc)
 
 module _ (budget d : ℕ) (turned : Turned) (mid new : List DeskState) (on : TurnAt budget d turned mid new) where
-  now : (x : DeskState) → get_or new d x ≡ on.desk
+  pub now : (x : DeskState) → get_or new d x ≡ on.desk
   now x = ap (λ ds. get_or ds d x) on.others ∙ get_or-set_same mid d on.desk x on.within
 
-  was : (x : DeskState) → get_or mid d on.desk ≡ get_or mid d x
+  pub was : (x : DeskState) → get_or mid d on.desk ≡ get_or mid d x
   was x = get_or_default mid d on.desk x on.within
 
-  same_count : length new ≡ length mid
+  pub same_count : length new ≡ length mid
   same_count = ap length on.others ∙ length-set mid d on.desk
 
-  beside : (k : ℕ) (x : DeskState) → k ≢ d → get_or new k x ≡ get_or mid k x
+  pub beside : (k : ℕ) (x : DeskState) → k ≢ d → get_or new k x ≡ get_or mid k x
   beside k x apart = ap (λ ds. get_or ds k x) on.others ∙ get_or-set_other mid d k on.desk x apart
 
   turn_here : (x : DeskState) → Turns budget (get_or mid d x) turned (get_or new d x)
@@ -133,8 +134,10 @@ module _ (budget : ℕ) where
           within = omega (arith, on.within, count);
           before = get_or mid d on.desk;
           turned = turned;
-          turns = λ x. subst (Turns budget (get_or mid d on.desk) turned) (sym (now budget d turned mid new on x)) on.does;
+          left = on.desk;
+          turns = on.does;
           stopped = same;
+          kept = λ x. ap desk_kept (now budget d turned mid new on x);
         },
       )
       go (Some s) t same h = (
@@ -143,8 +146,10 @@ module _ (budget : ℕ) where
           within = omega (arith, h.1.within, count);
           before = h.1.before;
           turned = h.1.turned;
-          turns = λ x. subst (Turns budget h.1.before h.1.turned) (sym (beside budget d turned mid new on s.desk x (λ e. omega (arith, h.0, e)))) (h.1.turns x);
+          left = h.1.left;
+          turns = h.1.turns;
           stopped = h.1.stopped;
+          kept = λ x. ap desk_kept (beside budget d turned mid new on s.desk x (λ e. omega (arith, h.0, e))) ∙ h.1.kept x;
         },
       )
 

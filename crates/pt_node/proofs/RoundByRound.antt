@@ -5,7 +5,7 @@ use Rattle.pt_shard.specs.Extends.{Extends}
 use Rattle.pt_desk.specs.Sight.{SeesOn}
 use Rattle.pt_desk.specs.DeskState.{DeskState}
 use Rattle.pt_node.specs.Desks.{desk_kept}
-use Rattle.pt_node.specs.Stillness.{AllDesksGoOn, Rounds, StoppedAt, count_events, first_stopped}
+use Rattle.pt_node.specs.Stillness.{AllDesksGoOn, LooksAgain, Rounds, RunsRounds, StoppedAt, count_events, first_stopped}
 use Rattle.pt_node.specs.declared.stillness.Rested.{Rested}
 use Rattle.pt_node.specs.declared.stillness.Stopped.{Stopped}
 use Rattle.pt_node.proofs.GoingOn.{stays}
@@ -61,3 +61,32 @@ module _ (budget : ℕ) where
 
   pub rounds_count : budget < 2 ^ 64 → (n : ℕ) (old : List DeskState) (did : Rested) (new : List DeskState) → Rounds budget n old did new → did.handled ≡ min (count_events new - count_events old) (2 ^ 64 - 1)
   rounds_count fits n old did new h = let burn = rounds_burn fits n old did new h in omega (arith, burn.events, burn.counted)
+
+  -- a look more after the rounds, where a turn was stopped
+  looked_again : (stop : Option Stopped) (last new : List DeskState) → LooksAgain stop last new → map desk_kept new ≡ map desk_kept last
+  looked_again None last new h = ap (map desk_kept) h
+  looked_again (Some s) last new h = h
+
+  pub all_rounds_go_on : (old : List DeskState) (did : Rested) (new : List DeskState) → RunsRounds budget old did new → AllDesksGoOn old new
+  all_rounds_go_on old did new r = all_then old r.last new (rounds_go_on r.count old did r.last r.rounds) (kept_goes_on r.last new (looked_again did.stopped r.last new r.looks))
+
+  pub all_rounds_count : budget < 2 ^ 64 → (old : List DeskState) (did : Rested) (new : List DeskState) → RunsRounds budget old did new → did.handled ≡ min (count_events new - count_events old) (2 ^ 64 - 1)
+  all_rounds_count fits old did new r =
+      let counted = rounds_count fits r.count old did r.last r.rounds in
+      let same = kept_sum (λ (k : Kept). length k.0.journal) new r.last (looked_again did.stopped r.last new r.looks) in
+      omega (arith, counted, same)
+
+  pub all_rounds_stopped : (old : List DeskState) (did : Rested) (new : List DeskState) → RunsRounds budget old did new → IfSome did.stopped (λ s. StoppedAt budget s new)
+  all_rounds_stopped old did new r = go did.stopped (rounds_stopped r.count old did r.last r.rounds) (looked_again did.stopped r.last new r.looks)
+    where
+      go : (o : Option Stopped) → IfSome o (λ s. StoppedAt budget s r.last) → map desk_kept new ≡ map desk_kept r.last → IfSome o (λ s. StoppedAt budget s new)
+      go None h kept = tt
+      go (Some s) h kept = record {
+        within = omega (arith, h.within, kept_count new r.last kept);
+        before = h.before;
+        turned = h.turned;
+        left = h.left;
+        turns = h.turns;
+        stopped = h.stopped;
+        kept = λ x. kept_at new r.last kept s.desk x h.within ∙ h.kept x;
+      }

@@ -5,6 +5,7 @@ pub mod Running
 pub mod Seating
 pub mod Node
 pub mod Stillness
+pub mod Load
 pub mod Looking
 pub mod NodeRunning
 pub mod Taking

@@ -59,10 +59,24 @@ Rounds budget (suc n) old did new =
     (mid met : List DeskState) × (before round : Rested) × Rounds budget n old before mid × (before.stopped ≡ None)
     × (map desk_kept met ≡ map desk_kept mid) × TurnEach budget (length met) met round new × (did ≡ both_rested before round)
 
--- the desk is as it was left by a turn that was stopped for this cause
+-- where a turn was stopped the lanes are looked at once more
+abbrev pub LooksAgain : Option Stopped → List DeskState → List DeskState → Type 0
+LooksAgain None old new = new ≡ old
+LooksAgain (Some stop) old new = map desk_kept new ≡ map desk_kept old
+
+-- all rounds
+pub record RunsRounds (budget : ℕ) (old : List DeskState) (did : Rested) (new : List DeskState) : Type 0 where
+  pub count : ℕ
+  pub last : List DeskState
+  pub rounds : Rounds budget count old did last
+  pub looks : LooksAgain did.stopped last new
+
+-- the desk is as it was left by a turn that was stopped for this cause, but for what its ends know of the other end of each lane
 pub record StoppedAt (budget : ℕ) (stop : Stopped) (desks : List DeskState) : Type 0 where
   pub within : stop.desk < length desks
   pub before : DeskState
   pub turned : Turned
-  pub turns : (x : DeskState) → Turns budget before turned (slice_index_or desks stop.desk x)
+  pub left : DeskState
+  pub turns : Turns budget before turned left
   pub stopped : turned.stopped ≡ Some stop.cause
+  pub kept : (x : DeskState) → desk_kept (slice_index_or desks stop.desk x) ≡ desk_kept left

@@ -1,6 +1,6 @@
 //! A node that a program calls: it has its desks, and its processes are called by their pids.
 
-ghost use Rattle.std.specs.Prelude.{◌≡◌, ℕ, ◌-◌, ◌^◌, Some, None, false, cond, is_some, length, map, max, min, IfOk, IfErr, IfSome};
+ghost use Rattle.std.specs.Prelude.{◌≡◌, ◌-◌, ◌^◌, Some, None, false, cond, is_some, length, map, max, min, IfOk, IfErr, IfSome};
 ghost use Rattle.std.specs.Option.{option_copied, option_map};
 ghost use Rattle.pt_signal.specs.declared.signal.Signal.{Signal};
 ghost use Rattle.pt_events.specs.declared.event.Event.{Event};
@@ -14,9 +14,11 @@ ghost use Rattle.pt_node.specs.Gathering.{Gathers, HasJournalsOf, ReadsAreTrue};
 ghost use Rattle.pt_node.specs.NodeRunning.{RunsNode};
 ghost use Rattle.pt_node.specs.Running.{AllWork, InRounds, begins_by};
 ghost use Rattle.pt_node.specs.Node.{CallsAt, CallsTo, Inside, OpensNode, ReadsAt, TurnsAll, TurnsAt, answered, both_turned};
-ghost use Rattle.pt_node.specs.Stillness.{AllDesksGoOn, AreStill, Rounds, StoppedAt, count_events};
+ghost use Rattle.pt_node.specs.Load.{IsWithinLoad};
+ghost use Rattle.pt_node.specs.Stillness.{AllDesksGoOn, AreStill, RunsRounds, StoppedAt, count_events};
 
 use crate::gathering::gather;
+use crate::making::look;
 use crate::node_fault::NodeFault;
 use crate::node_running::{run_desks, run_desks_single};
 use crate::opening::open;
@@ -489,19 +491,28 @@ impl Node {
     /// It answers how many letters were handled, and which turn was stopped, if one was: where none was, the node is
     /// still. A turn handles at most `budget` letters; a budget of 0 counts as 1. A round goes on to its last desk where a
     /// turn in it was stopped, so that no desk holds up another. It ends, since each letter takes a stamp of its desk's
-    /// clock; nothing is refused. It costs the letters, and a look at each lane a round; each round but the last two
-    /// handles a letter, or is followed by one that does.
+    /// clock; nothing is refused. It costs the letters, and a look at each lane a round, with one more behind a turn that
+    /// was stopped; each round but the last two handles a letter, or is followed by one that does.
+    ///
+    /// No more letters are handled than the load of the history before, stopped or not: what the letters on their way
+    /// weigh, two for each `Link`, `Monitor` and question whether a process is alive and one for each other, and one for
+    /// each link entry, kept monitor and open monitor of a live process.
     ///
     /// Whatever a program sends is handled, but not what it would send on receipt: a program that answers what it
     /// receives goes on with `receive`, and turns again.
     pub fn turn_until_still(&mut self, budget: u32) -> Rested
-        ensures rounds { (count : ℕ) × Rounds (max budget 1) count self.old result self.new }
+        ensures rounds { RunsRounds (max budget 1) self.old result self.new }
         ensures still { result.stopped ≡ None → AreStill self.new }
         ensures stopped { IfSome result.stopped (λ s. StoppedAt (max budget 1) s self.new) }
         ensures handled { result.handled ≡ min (count_events self.new - count_events self.old) (2 ^ 64 - 1) }
+        ensures bound { IsWithinLoad self.old result.handled }
         ensures goes_on { AllDesksGoOn self.old self.new }
     {
-        until_still(&mut self.desks, budget.max(1))
+        // What holds of each desk, before and behind: its journal is local, and tells what it sent and what came.
+        look(self.desks.as_slice());
+        let rested = until_still(&mut self.desks, budget.max(1));
+        look(self.desks.as_slice());
+        rested
     }
 }
 

@@ -1,9 +1,9 @@
 //! A node is turned until nothing waits in it.
 
-ghost use Rattle.std.specs.Prelude.{◌≡◌, ℕ, ◌<◌, length, map, Some, None};
+ghost use Rattle.std.specs.Prelude.{◌≡◌, ◌<◌, length, map, Some, None};
 ghost use Rattle.pt_node.specs.Desks.{AreDesks, desk_kept};
-ghost use Rattle.pt_node.specs.Stillness.{AreStill, Rounds, TurnEach, both_rested, stop_at};
-ghost use Rattle.pt_node.specs.Looking.{AreMet, MeetsAt};
+ghost use Rattle.pt_node.specs.Stillness.{AreStill, RunsRounds, TurnEach, both_rested, stop_at};
+ghost use Rattle.pt_node.specs.Looking.{AreMet, HaveLanes, MeetsAt};
 
 use pt_desk::Desk;
 use pt_shard::Stop;
@@ -30,12 +30,15 @@ pub struct Stopped {
 ///
 /// One does not do: what a desk posts in it may be for a desk that had its turn before. In the second whatever stands in a
 /// lane would be handled, since its ends have looked at each other; so nothing stands there, and no lane was full.
+///
+/// Behind a turn that was stopped it looks once more: only so it is sure that each letter which was handled had been posted.
 pub(crate) fn until_still(desks: &mut Vec<Desk>, budget: u32) -> Rested
     requires some { 0 < budget }
     requires node { AreDesks desks.old.items }
     ensures node { AreDesks desks.new.items }
-    ensures rounds { (count : ℕ) × Rounds budget count desks.old.items result desks.new.items }
+    ensures rounds { RunsRounds budget desks.old.items result desks.new.items }
     ensures still { result.stopped ≡ None → AreStill desks.new.items }
+    ensures lanes { HaveLanes desks.old.items × HaveLanes desks.new.items }
 {
     let mut did = Rested {
         handled: 0,
@@ -47,6 +50,7 @@ pub(crate) fn until_still(desks: &mut Vec<Desk>, budget: u32) -> Rested
         let round = turn_each(desks, budget);
         did = both(did, round);
         if did.stopped.is_some() {
+            look(desks);
             return did;
         }
         quiet = if round.handled > 0 { 0 } else { quiet + 1 };

@@ -3,6 +3,7 @@ use Rattle.pt_node.specs.Desks.{AreDesks}
 use Rattle.pt_node.specs.Stillness.{AreStill, Rounds}
 use Rattle.pt_node.proofs.Burning.{room}
 use Rattle.pt_node.proofs.AtRest.{WasQuiet}
+use Rattle.pt_node.proofs.Laned.{Looked}
 use Rattle.pt_node.proofs.stillness.until_still.Given as goal
 
 abbrev pub invariant-loop-quiet : goal.invariant-loop-quiet
@@ -11,6 +12,7 @@ invariant-loop-quiet l = record {
   rounds : (count : ℕ) × Rounds l.budget count l.initial.desks.items l.did l.desks.items;
   on : l.did.stopped ≡ None;
   few : l.quiet ≤ 2;
+  lanes : Looked l.initial.desks.items l.desks.items l.quiet;
   once : 0 < l.quiet → WasQuiet l.budget l.desks.items;
   twice : l.quiet ≡ 2 → AreStill l.desks.items;
 }
