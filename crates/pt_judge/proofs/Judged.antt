@@ -120,7 +120,7 @@ module _ (start : Start) (past : Past) where
   say_false a b (AliveAsk m) h k = both_ways _ k (not_false _ h)
   say_false a b _ h k = k
 
-  bear_true : (parent : Option Pid) (link : Option LinkId) → lacks K parent ≡ false → unlawful_link past parent link ≡ false → MayBear start past parent link
+  bear_true : (parent : Option Pid) (link : Option LinkId) → lacks K parent ≡ false → unlawful_link K parent link ≡ false → MayBear start past parent link
   bear_true None None h k = tt
   bear_true None (Some i) h k = absurd (cc)
   bear_true (Some q) None h k = not_false (alive start past q) h
@@ -134,7 +134,7 @@ module _ (start : Start) (past : Past) where
   lacks_false None h k = k
   lacks_false (Some q) h k = both_ways _ k (not_false _ h)
 
-  link_true : (parent : Option Pid) (link : Option LinkId) → unlawful_link past parent link ≡ true → BadLink start past parent link
+  link_true : (parent : Option Pid) (link : Option LinkId) → unlawful_link K parent link ≡ true → BadLink start past parent link
   link_true parent None h = absurd (cc)
   link_true None (Some i) h = tt
   link_true (Some q) (Some i) h = h
@@ -149,9 +149,9 @@ module _ (start : Start) (past : Past) where
   below_none Memory h = omega arith
 
   birth_cause : (p : Pid) (parent : Option Pid) (link : Option LinkId) → IsJudged start past (Born p parent link) (cause K (Born p parent link))
-  birth_cause p parent link = go (is_unborn (life start past p)) refl (lacks K parent) refl (unlawful_link past parent link) refl
+  birth_cause p parent link = go (is_unborn (life start past p)) refl (lacks K parent) refl (unlawful_link K parent link) refl
     where
-      go : (b : Bool) → is_unborn (life start past p) ≡ b → (c : Bool) → lacks K parent ≡ c → (d : Bool) → unlawful_link past parent link ≡ d
+      go : (b : Bool) → is_unborn (life start past p) ≡ b → (c : Bool) → lacks K parent ≡ c → (d : Bool) → unlawful_link K parent link ≡ d
           → IsJudged start past (Born p parent link) (cond b (cond c (Some NotAlive) (cond d (Some Unlawful) None)) (Some BornTwice))
       go false e c f d g = (phase_not_unborn _ e, λ lower h. absurd (below_none lower h))
       go true e true f d g = (lacks_true parent f, below_alive)

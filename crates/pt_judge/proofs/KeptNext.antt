@@ -8,7 +8,7 @@ use Rattle.pt_events.specs.declared.event.Event.{Event}
 use Rattle.pt_events.specs.declared.event.Event.TheVariants.{Born, Came, Left}
 use Rattle.pt_signal.specs.Values.{same_pid}
 use Rattle.pt_signal.specs.Process.{ProcessState, handle, bounce}
-use Rattle.pt_events.specs.History.{Past, Start, Phase, unborn, living, ended, is_living, is_unborn, at_start, after, live_or_end, reason_of, state_of, end_sends, got_sends, left_sends, landed, life, flying, sent_by, is_birth}
+use Rattle.pt_events.specs.History.{Past, Start, Phase, unborn, living, ended, is_living, is_unborn, at_start, after, live_or_end, reason_of, state_of, end_sends, got_sends, left_sends, landed, life, flying, sent_by, is_birth, makes_link, makes_ref}
 use Rattle.pt_judge.specs.declared.cause.Cause.{Cause}
 use Rattle.pt_judge.specs.declared.cause.Cause.TheVariants.{BornTwice}
 use Rattle.pt_judge.specs.Judge.{IsAfter}
@@ -77,7 +77,8 @@ module _ (start : Start) (past : Past) (old new : JudgeState) (k : IsAfter start
 
   pub after_next : (e : Event) → IsStep old e new → IsAfter start (e ∷ past) new
   after_next e t = record {
-    past_is = t.past ∙ ap (λ z. e ∷ z) k.past_is;
+    links_made = λ i. t.links i ∙ ap (λ b. makes_link i e || b) (k.links_made i);
+    refs_made = λ m. t.refs m ∙ ap (λ b. makes_ref m e || b) (k.refs_made m);
     alike = λ p. t.lives p ∙ ap (after p e) (k.alike p);
     flies = t.flights ∙ ap (λ z. landed e z ++ sends new.lives (lived old.lives e) e) k.flies ∙ ap (λ z. landed e (flying start past) ++ z) (sent_next e t);
   }

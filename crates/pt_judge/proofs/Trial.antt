@@ -1,6 +1,8 @@
 -- The judgement of one event more.
 use Rattle.std.proofs.Common.{◌≡◌, ℕ, ◌+◌, ◌<◌, Option, Some, None, Result, Ok, Err, List, [], ◌++◌, append-nil, take, reverse, length, get_or, sym, ap, ◌∙◌, subst}
 use Rattle.std.proofs.lemmas.Option.{slice_get-get_or}
+use Rattle.std.specs.List.{list_any}
+use Rattle.pt_signal.specs.Values.{same_ref, same_link}
 use Rattle.pt_judge.specs.declared.cause.Cause.{Cause}
 use Rattle.pt_judge.specs.declared.cause.Cause.TheVariants.{BornTwice, NotAlive, NotFront, NotFirstMatch, Unlawful, Memory}
 use Rattle.pt_events.specs.declared.event.Event.{Event}
@@ -13,12 +15,12 @@ use Rattle.pt_judge.proofs.Judged.{judged}
 use Rattle.pt_events.proofs.InOrder.{reverse_take}
 
 -- before any event
-pub begins : (s : JudgeState) → s ≡ record { past = []; lives = []; flights = [] } → IsAfter [] [] s
-begins s h = record { past_is = ap (λ z. z.past) h; alike = λ p. ap (λ z. now_is z p) h; flies = ap (λ z. z.flights) h }
+pub begins : (s : JudgeState) → s ≡ record { links = []; refs = []; lives = []; flights = [] } → IsAfter [] [] s
+begins s h = record { links_made = λ i. ap (λ z. list_any (same_link i) z.links) h; refs_made = λ m. ap (λ z. list_any (same_ref m) z.refs) h; alike = λ p. ap (λ z. now_is z p) h; flies = ap (λ z. z.flights) h }
 
 module _ (start : Start) where
   same_known : (past : Past) (s : JudgeState) → IsAfter start past s → known s ≡ known_after start past
-  same_known past s k = λ i. record { past = k.past_is i; is = λ p. k.alike p i; flights = k.flies i }
+  same_known past s k = λ i. record { links = λ j. k.links_made j i; refs = λ m. k.refs_made m i; is = λ p. k.alike p i; flights = k.flies i }
 
   no_memory : (past : Past) (e : Event) → ¬ Refuses start past e Memory
   no_memory past (Born p parent link) h = h
@@ -34,6 +36,10 @@ module _ (start : Start) where
 
   told : (past : Past) (s : JudgeState) (e : Event) → IsAfter start past s → IsJudged start past e (cause (known s) e)
   told past s e k = subst (λ v. IsJudged start past e (cause v e)) (sym (same_known past s k)) (judged start past e)
+
+  -- so is what the judge finds for an event of that kind
+  pub judged_by : (past : Past) (s : JudgeState) (e v : Event) (o : Option Cause) → IsAfter start past s → e ≡ v → o ≡ cause (known s) v → IsJudged start past e o
+  judged_by past s e v o k h f = subst (λ z. IsJudged start past z o) (sym h) (subst (IsJudged start past v) (sym f) (told past s v k))
 
   pub judged_some : (past : Past) (s : JudgeState) (e : Event) (o : Option Cause) (c : Cause) → IsAfter start past s → o ≡ cause (known s) e → o ≡ Some c → Judges start past e (Err c)
   judged_some past s e o c k h f = refused past e c (subst (IsJudged start past e) (sym h ∙ f) (told past s e k))

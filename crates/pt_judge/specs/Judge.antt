@@ -10,7 +10,7 @@ use Rattle.pt_events.specs.declared.event.Event.{Event}
 use Rattle.pt_events.specs.declared.event.Event.TheVariants.{Born, Said, Came, Took, Flag, Left, Refused}
 use Rattle.pt_signal.specs.Values.{fits}
 use Rattle.pt_signal.specs.Process.{sent}
-use Rattle.pt_judge.specs.Judging.{JudgeState, now_is}
+use Rattle.pt_judge.specs.Judging.{JudgeState, now_is, ListsLinks, ListsRefs}
 use Rattle.pt_events.specs.History.{Past, Start, unborn, is_ended, life, alive, state, flying, is_between, made_link, MaySay, May, IsLegal}
 
 abbrev pub number : Cause → ℕ
@@ -58,7 +58,8 @@ module _ (start : Start) where
 
   -- what the judge knows is what the history leads to
   pub record IsAfter (past : Past) (s : JudgeState) : Type 0 where
-    pub past_is : s.past ≡ past
+    pub links_made : ListsLinks s.links past
+    pub refs_made : ListsRefs s.refs past
     pub alike : (p : Pid) → now_is s p ≡ life start past p
     pub flies : s.flights ≡ flying start past
 

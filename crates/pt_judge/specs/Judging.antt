@@ -18,12 +18,13 @@ use Rattle.pt_events.specs.declared.event.Event.{Event}
 use Rattle.pt_events.specs.declared.event.Event.TheVariants.{Born, Said, Came, Took, Flag, Left, Refused}
 use Rattle.pt_signal.specs.Values.{same_pid, same_ref, same_link, fits}
 use Rattle.pt_signal.specs.Process.{ProcessState, held, handle, obey, verdict, Sent, sent, bounce}
-use Rattle.pt_events.specs.History.{Past, Start, Phase, unborn, is_birth, is_living, is_unborn, is_the, is_between, at_start, after, landed, reason_of, state_of, end_sends, life, flying, made_link, made_ref}
+use Rattle.pt_events.specs.History.{Past, Start, Phase, unborn, is_birth, is_living, is_unborn, is_the, is_between, at_start, after, landed, reason_of, state_of, end_sends, life, flying, makes_link, makes_ref, made_link, made_ref}
 use Rattle.pt_judge.specs.Same.{same_item, same_ids, same_signal}
 
--- what the judge knows: the events that it judged, newest first; what each process is that was born; and what is on its way
+-- what the judge knows: the ids of links and the references that were made; what each process is that was born; and what is on its way
 pub record JudgeState : Type 0 where
-  pub past : Past
+  pub links : List LinkId
+  pub refs : List Ref
   pub lives : Start
   pub flights : List Sent
 
@@ -31,17 +32,18 @@ pub record JudgeState : Type 0 where
 abbrev pub now_is : JudgeState → Pid → Phase
 now_is s p = at_start s.lives p
 
--- what decides whether an event may come: the events so far, what each pid is, and what is on its way
+-- what decides whether an event may come: which ids of links and references were made, what each pid is, and what is on its way
 pub record Known : Type 0 where
-  pub past : Past
+  pub links : LinkId → Bool
+  pub refs : Ref → Bool
   pub is : Pid → Phase
   pub flights : List Sent
 
 abbrev pub known : JudgeState → Known
-known s = record { past = s.past; is = now_is s; flights = s.flights }
+known s = record { links = λ i. list_any (same_link i) s.links; refs = λ m. list_any (same_ref m) s.refs; is = now_is s; flights = s.flights }
 
 abbrev pub known_after : Start → Past → Known
-known_after start past = record { past = past; is = life start past; flights = flying start past }
+known_after start past = record { links = made_link past; refs = made_ref past; is = life start past; flights = flying start past }
 
 -- the table lists those that were born, and no other
 abbrev pub ListsBorn : Start → Type 0
@@ -53,12 +55,6 @@ ListsLinks ids past = (i : LinkId) → list_any (same_link i) ids ≡ made_link 
 
 abbrev pub ListsRefs : List Ref → Past → Type 0
 ListsRefs refs past = (m : Ref) → list_any (same_ref m) refs ≡ made_ref past m
-
--- what is kept beside the history is what it made
-pub record IsKept (past : Past) (links : List LinkId) (refs : List Ref) (lives : Start) : Type 0 where
-  pub links_made : ListsLinks links past
-  pub refs_made : ListsRefs refs past
-  pub born : ListsBorn lives
 
 abbrev pub is_kill : Reason → Bool
 is_kill Kill = true
@@ -127,7 +123,8 @@ sends start lived _ = []
 
 -- what the judge knows after the event
 pub record IsStep (old : JudgeState) (e : Event) (new : JudgeState) : Type 0 where
-  pub past : new.past ≡ e ∷ old.past
+  pub links : (i : LinkId) → list_any (same_link i) new.links ≡ makes_link i e || list_any (same_link i) old.links
+  pub refs : (m : Ref) → list_any (same_ref m) new.refs ≡ makes_ref m e || list_any (same_ref m) old.refs
   pub lives : (p : Pid) → now_is new p ≡ after p e (now_is old p)
   pub flights : new.flights ≡ landed e old.flights ++ sends new.lives (lived old.lives e) e
 
@@ -151,13 +148,13 @@ is_signal (Some y) x = same_signal y x
 abbrev pub may_say : Known → Pid → Pid → Signal → Bool
 may_say k a b (Message body) = true
 may_say k a b (Signal.Exit r) = true
-may_say k a b (Link i) = not (made_link k.past i) && is_none (held (state_of (k.is a)).links b) && not (same_pid a b)
+may_say k a b (Link i) = not (k.links i) && is_none (held (state_of (k.is a)).links b) && not (same_pid a b)
 may_say k a b (Unlink ids) = is_ids (held (state_of (k.is a)).links b) ids
-may_say k a b (Monitor m) = not (made_ref k.past m) && not (same_pid a b)
+may_say k a b (Monitor m) = not (k.refs m) && not (same_pid a b)
 may_say k a b (Demonitor m) = is_the b (lookup (same_ref m) (state_of (k.is a)).watching)
 may_say k a b (LinkExit ids r) = false
 may_say k a b (Signal.Down m r) = false
-may_say k a b (AliveAsk m) = not (made_ref k.past m)
+may_say k a b (AliveAsk m) = not (k.refs m)
 may_say k a b (AliveSay m x) = false
 
 -- a parent is named that is not alive
@@ -166,14 +163,14 @@ lacks k None = false
 lacks k (Some q) = not (is_living (k.is q))
 
 -- a link without a parent, or an id that was made before
-abbrev pub unlawful_link : Past → Option Pid → Option LinkId → Bool
-unlawful_link past parent None = false
-unlawful_link past None (Some i) = true
-unlawful_link past (Some q) (Some i) = made_link past i
+abbrev pub unlawful_link : Known → Option Pid → Option LinkId → Bool
+unlawful_link k parent None = false
+unlawful_link k None (Some i) = true
+unlawful_link k (Some q) (Some i) = k.links i
 
 -- why the event may not come next, by tests
 abbrev pub cause : Known → Event → Option Cause
-cause k (Born p parent link) = cond (is_unborn (k.is p)) (cond (lacks k parent) (Some NotAlive) (cond (unlawful_link k.past parent link) (Some Unlawful) None)) (Some BornTwice)
+cause k (Born p parent link) = cond (is_unborn (k.is p)) (cond (lacks k parent) (Some NotAlive) (cond (unlawful_link k parent link) (Some Unlawful) None)) (Some BornTwice)
 cause k (Said a b x) = cond (is_living (k.is a)) (cond (may_say k a b x) None (Some Unlawful)) (Some NotAlive)
 cause k (Came a b x) = cond (is_signal (option_map (λ l. l.signal) (find (is_between a b) k.flights)) x) None (Some NotFront)
 cause k (Took p j i) = cond (is_living (k.is p)) (cond (is_item (find (fits j) (state_of (k.is p)).waiting) i) None (Some NotFirstMatch)) (Some NotAlive)

@@ -1,9 +1,10 @@
 //! The signals on their way.
 
-ghost use Rattle.std.specs.Prelude.{◌≡◌, ◌++◌, ◌∷◌, [], map, OnOk};
+ghost use Rattle.std.specs.Prelude.{◌≡◌, ◌++◌, ◌∷◌, [], map, slice_get, OnOk};
 ghost use Rattle.std.specs.List.{find};
 ghost use Rattle.std.specs.Option.{option_map};
 ghost use Rattle.pt_signal.specs.declared.signal.Signal.TheVariants.{LinkExit, Down, Demonitor};
+ghost use Rattle.pt_signal.specs.Values.{without_first};
 ghost use Rattle.pt_signal.specs.Process.{sent, estate, bounce};
 ghost use Rattle.pt_events.specs.History.{is_between, landed};
 ghost use Rattle.pt_judge.specs.Judging.{answered, owed, sends};
@@ -64,12 +65,30 @@ pub fn oldest(flights: &[Flight], from: Pid, to: Pid) -> Option<Signal>
     }
 }
 
+/// The sender, the receiver and the signal of what has been on its way for longest.
+pub fn front(flights: &[Flight]) -> Option<(Pid, Pid, Signal)>
+    ensures { option_map (λ flight. sent flight.0 flight.1 flight.2) result ≡ slice_get flights.now 0 }
+{
+    if flights.is_empty() {
+        return None;
+    }
+    let flight = &flights[0];
+    Some((flight.from, flight.to, flight.signal))
+}
+
+/// The oldest signal from the one to the other is on its way no more.
+pub fn take_oldest(flights: &mut Vec<Flight>, from: Pid, to: Pid)
+    ensures { flights.new.items ≡ without_first (is_between from to) flights.old.items }
+{
+    take_out(flights, &Pair(from, to));
+}
+
 /// What came is on its way no more.
 pub fn land(flights: &mut Vec<Flight>, event: Event)
     ensures { flights.new.items ≡ landed event flights.old.items }
 {
     if let Event::Came(from, to, _) = event {
-        take_out(flights, &Pair(from, to));
+        take_oldest(flights, from, to);
     }
 }
 

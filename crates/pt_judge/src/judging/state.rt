@@ -1,19 +1,20 @@
 //! What a legal history leads to.
 
-ghost use Rattle.std.specs.Prelude.{◌≡◌, ◌∷◌, [], Some, None, cond, reverse, length, is_some, ◌||◌, IfOk, OnOk};
+ghost use Rattle.std.specs.Prelude.{◌≡◌, ◌∷◌, [], Some, None, cond, length, slice_get, is_some, ◌||◌, IfOk, OnOk};
 ghost use Rattle.indexmap.specs.IndexSet.{contains};
 ghost use Rattle.std.specs.Option.{option_map};
 ghost use Rattle.std.specs.Map.{lookup};
 ghost use Rattle.std.specs.List.{find};
-ghost use Rattle.pt_signal.specs.Values.{same_ref, same_link, fits};
-ghost use Rattle.pt_signal.specs.Process.{held};
+ghost use Rattle.pt_signal.specs.Values.{same_ref, same_link, fits, without_first};
+ghost use Rattle.pt_signal.specs.Process.{held, sent};
 ghost use Rattle.pt_judge.specs.declared.cause.Cause.TheVariants.{NotAlive};
 ghost use Rattle.pt_events.specs.declared.event.Event.TheVariants.{Born, Said, Came, Took, Refused};
-ghost use Rattle.pt_events.specs.History.{open_monitors, reason_of, state_of, is_living, is_unborn, is_the, is_between, makes_link, makes_ref, made_link, made_ref};
+ghost use Rattle.pt_events.specs.History.{Start, Past, open_monitors, reason_of, state_of, is_living, is_unborn, is_the, is_between, makes_link, makes_ref};
+ghost use Rattle.pt_judge.specs.Judge.{IsAfter, IsJudged};
 ghost use Rattle.pt_judge.specs.Judging.{now_is, known, cause, may_say, lacks, unlawful_link, is_item, is_ids, is_signal, IsHeldBy, IsStep};
 
 use crate::Cause;
-use crate::judging::flights::{Flight, dispatch, land, oldest};
+use crate::judging::flights::{Flight, dispatch, front, land, oldest, take_oldest};
 use crate::judging::holdings::Holdings;
 use crate::judging::links::{first_match, ids_with, target_of};
 use crate::judging::lives::{Lives, holdings, is_known, is_living, lived, observe, reason};
@@ -26,11 +27,10 @@ use std::marker::Model;
 
 /// What a legal history leads to, for each pid that there could be.
 ///
-/// Contracts see what each process is, the signals on their way, and the events that were judged, newest first. What
-/// these are after a history, [`replay`] says.
+/// Contracts see what each process is, the signals on their way, and the ids of links and the references that were made.
+/// What these are after a history, [`replay`] says. The events themselves are not kept.
 #[derive(Drop)]
 pub struct State {
-    events: Vec<Event>,
     /// The ids of links, and the references, that the events made.
     links: IndexSet<LinkId>,
     refs: IndexSet<Ref>,
@@ -39,14 +39,13 @@ pub struct State {
 }
 
 impl Model for State {
-    ghost use Rattle.std.specs.Prelude.{reverse};
-    ghost use Rattle.pt_judge.specs.Judging.{JudgeState, IsKept};
+    ghost use Rattle.pt_judge.specs.Judging.{JudgeState, ListsBorn};
 
     ghost Value = { JudgeState };
 
-    ghost view = { λ s. record { past = reverse s.events.items; lives = s.lives; flights = s.flights.items } };
+    ghost view = { λ s. record { links = s.links.keys; refs = s.refs.keys; lives = s.lives; flights = s.flights.items } };
 
-    ghost invariant = { λ s. IsKept (reverse s.events.items) s.links.keys s.refs.keys s.lives };
+    ghost invariant = { λ s. ListsBorn s.lives };
 }
 
 /// Adds the id of the link that the event makes, if it makes one.
@@ -86,10 +85,9 @@ fn note_ref(refs: &mut IndexSet<Ref>, event: Event) -> Result<(), AllocFailed<Re
 impl State {
     /// The state before any event.
     pub fn new(alloc: Global) -> State
-        ensures { result ≡ record { past = []; lives = []; flights = [] } }
+        ensures { result ≡ record { links = []; refs = []; lives = []; flights = [] } }
     {
         State {
-            events: Vec::new(alloc),
             links: IndexSet::new(alloc),
             refs: IndexSet::new(alloc),
             lives: Lives::new(alloc),
@@ -174,6 +172,51 @@ impl State {
         self.flights.len() as u64
     }
 
+    /// The oldest signal on its way from the one process to the other: the only one of the two that may come next.
+    pub fn oldest(&self, from: Pid, to: Pid) -> Option<Signal>
+        ensures { result ≡ option_map (λ flight. flight.signal) (find (is_between from to) self.now.flights) }
+    {
+        oldest(self.flights.as_slice(), from, to)
+    }
+
+    /// The sender, the receiver and the signal of what has been on its way for longest.
+    pub fn front(&self) -> Option<(Pid, Pid, Signal)>
+        ensures { option_map (λ flight. sent flight.0 flight.1 flight.2) result ≡ slice_get self.now.flights 0 }
+    {
+        front(self.flights.as_slice())
+    }
+
+    /// The first item waiting at the process that the pick fits: the only one that it may take by that pick next.
+    pub fn fitting(&self, pid: Pid, pick: Pick) -> Option<Item>
+        ensures { result ≡ find (fits pick) (state_of (now_is self.now pid)).waiting }
+    {
+        match self.holdings(pid) {
+            Some(held) => first_match(held.waiting(), pick),
+            None => None,
+        }
+    }
+
+    /// The state without the oldest signal on its way from the one process to the other. So the signals that a
+    /// history leaves on their way are compared with a list of them, one after the other. What is left is no longer
+    /// what a history leads to: no event is judged after it.
+    pub fn without_oldest(self, from: Pid, to: Pid) -> State
+        ensures { result ≡ record self { flights = without_first (is_between from to) self.flights } }
+    {
+        let State {
+            links,
+            refs,
+            lives,
+            mut flights,
+        } = self;
+        take_oldest(&mut flights, from, to);
+        State {
+            links,
+            refs,
+            lives,
+            flights,
+        }
+    }
+
     fn holdings(&self, pid: Pid) -> Option<&Holdings>
         ensures { IsHeldBy self.now pid (option_map (λ held. held.now) result) }
     {
@@ -187,13 +230,13 @@ impl State {
     }
 
     fn made_link(&self, id: LinkId) -> bool
-        ensures { result ≡ made_link self.now.past id }
+        ensures { result ≡ (known self.now).links id }
     {
         self.links.contains(&id)
     }
 
     fn made_ref(&self, monitor: Ref) -> bool
-        ensures { result ≡ made_ref self.now.past monitor }
+        ensures { result ≡ (known self.now).refs monitor }
     {
         self.refs.contains(&monitor)
     }
@@ -201,11 +244,8 @@ impl State {
     fn is_waiting_first(&self, pid: Pid, pick: Pick, item: Item) -> bool
         ensures { result ≡ is_item (find (fits pick) (state_of (now_is self.now pid)).waiting) item }
     {
-        match self.holdings(pid) {
-            Some(held) => match first_match(held.waiting(), pick) {
-                Some(first) => same::items(first, item),
-                None => false,
-            },
+        match self.fitting(pid, pick) {
+            Some(first) => same::items(first, item),
             None => false,
         }
     }
@@ -213,7 +253,7 @@ impl State {
     fn is_front(&self, from: Pid, to: Pid, signal: Signal) -> bool
         ensures { result ≡ is_signal (option_map (λ flight. flight.signal) (find (is_between from to) self.now.flights)) signal }
     {
-        match oldest(self.flights.as_slice(), from, to) {
+        match self.oldest(from, to) {
             Some(first) => same::signals(first, signal),
             None => false,
         }
@@ -269,7 +309,7 @@ impl State {
     }
 
     fn is_unlawful_link(&self, parent: Option<Pid>, link: Option<LinkId>) -> bool
-        ensures { result ≡ unlawful_link self.now.past parent link }
+        ensures { result ≡ unlawful_link (known self.now) parent link }
     {
         match (parent, link) {
             (_, None) => false,
@@ -347,9 +387,10 @@ impl State {
         None
     }
 
-    /// Why the event may not come next, if it may not; memory aside.
-    pub(super) fn cause(&self, event: Event) -> Option<Cause>
-        ensures { result ≡ cause (known self.now) event }
+    /// Why the event may not come next, if it may not: the lowest cause that fits, which is never memory.
+    pub fn cause(&self, event: Event) -> Option<Cause>
+        ensures is { result ≡ cause (known self.now) event }
+        ensures judged { (start : Start) (past : Past) → IsAfter start past self.now → IsJudged start past event result }
     {
         match event {
             Event::Born(pid, parent, link) => self.birth_cause(pid, parent, link),
@@ -362,13 +403,14 @@ impl State {
         }
     }
 
-    /// The state after an event that no cause refuses.
-    pub(super) fn after(self, alloc: Global, event: Event) -> Result<State, AllocError>
+    /// The state after an event that may come next: one that [`State::cause`] answers `None` for. Where memory is
+    /// wanting the state goes.
+    pub fn after(self, alloc: Global, event: Event) -> Result<State, AllocError>
         requires { cause (known self) event ≡ None }
-        ensures { IfOk result (λ state. IsStep self event state) }
+        ensures step { IfOk result (λ state. IsStep self event state) }
+        ensures goes_on { (start : Start) (past : Past) → IsAfter start past self → IfOk result (λ state. IsAfter start (event ∷ past) state) }
     {
         let State {
-            mut events,
             mut links,
             mut refs,
             lives,
@@ -380,9 +422,7 @@ impl State {
         dispatch(&mut flights, &lives, lived, event)?;
         note_link(&mut links, event)?;
         note_ref(&mut refs, event)?;
-        events.push(event)?;
         Ok(State {
-            events,
             links,
             refs,
             lives,
