@@ -134,7 +134,8 @@ fn fill(left: Vec<Vec<Letter>>, lanes: &mut Vec<Lane>)
     ensures { lanes.new.items ≡ lists left.items }
 {
     let mut left = left;
-    while left.len() > 0 {
-        lanes.push_reserved(Lane::of(left.remove(0)));
+    left.reverse();
+    while let Some(letters) = left.pop() {
+        lanes.push_reserved(Lane::of(letters));
     }
 }

@@ -17,8 +17,10 @@ pub fn assign<W>(desks: &mut Vec<Desk>, works: &mut Vec<W>, pairs: &mut Vec<(Des
     ensures empty { (desks.new.items ≡ []) × (works.new.items ≡ []) }
     ensures kept { (vec_capacity desks.new ≡ vec_capacity desks.old) × (vec_capacity works.new ≡ vec_capacity works.old) }
 {
-    while desks.len() > 0 {
-        pairs.push_reserved((desks.remove(0), works.remove(0)));
+    desks.reverse();
+    works.reverse();
+    while let Some(desk) = desks.pop() {
+        pairs.push_reserved((desk, works.pop().unwrap()));
     }
 }
 
@@ -32,8 +34,8 @@ pub fn release<W>(pairs: &mut Vec<(Desk, W)>, desks: &mut Vec<Desk>, works: &mut
     ensures works { works.new.items ≡ map (λ p. p.1) pairs.old.items }
     ensures empty { pairs.new.items ≡ [] }
 {
-    while pairs.len() > 0 {
-        let (desk, work) = pairs.remove(0);
+    pairs.reverse();
+    while let Some((desk, work)) = pairs.pop() {
         desks.push_reserved(desk);
         works.push_reserved(work);
     }

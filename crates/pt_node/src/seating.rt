@@ -22,8 +22,9 @@ pub(crate) fn fresh_seats(alloc: Global, config: Config) -> Result<Vec<Seated>, 
     let mut seated = Vec::with_capacity(alloc, usize::from(config.desks))?;
     let (directory, mut seats) = Directory::open(alloc, config.desks, config.slots)?;
     let directory = Arc::new(alloc, directory)?;
-    while seats.len() > 0 {
-        seated.push_reserved((directory.clone()?, seats.remove(0)));
+    seats.reverse();
+    while let Some(seat) = seats.pop() {
+        seated.push_reserved((directory.clone()?, seat));
     }
     Ok(seated)
 }
@@ -36,8 +37,8 @@ pub(crate) fn audit_all(seats: Vec<Seated>)
 {
     let mut seats = seats;
     let (directory, mut seat) = seats.remove(0);
-    while seats.len() > 0 {
-        let (_directory, other) = seats.remove(0);
+    seats.reverse();
+    while let Some((_directory, other)) = seats.pop() {
         directory.join(&mut seat, other);
     }
     directory.audit(&mut seat);

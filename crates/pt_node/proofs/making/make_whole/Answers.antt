@@ -1,26 +1,30 @@
-use Rattle.std.proofs.Common.{◌≡◌, ◌++◌, List, length, map, ap, arith}
+use Rattle.std.proofs.Common.{◌≡◌, ◌++◌, ◌∙◌, List, length, map, reverse, ap, sym, subst, arith}
 use Rattle.std.specs.Arc.{arc_value}
-use Rattle.std.proofs.lemmas.List.{length-map}
-use Rattle.pt_node.specs.Desks.{all_ends, all_shards}
-use Rattle.pt_node.specs.Seating.{Seated, all_seats}
+use Rattle.std.proofs.lemmas.List.{length-map, reverse-reverse}
+use Rattle.pt_node.specs.Desks.{AreAccounted, all_ends, all_shards}
+use Rattle.pt_node.specs.Seating.{AreSeated, Seated, all_seats}
 use Rattle.pt_node.proofs.Wholes.{accounted_count}
 use Rattle.pt_node.proofs.SeatsOf.{seated_count}
 use Rattle.pt_node.proofs.making.make_whole.Goals as goal
 
-pub loop-pairs-init : goal.loop-pairs-init
-loop-pairs-init c =
+pub loop-outs-init : goal.loop-outs-init
+loop-outs-init c =
     let none = c.requires.desks.0 in
     let shards = c.args.shards.items in
     let seats : List Seated = map (λ p. (arc_value p.0, p.1)) c.args.seats.items in
     let accounts = accounted_count shards c.args.pairs.items c.requires.accounted in
     let sits = seated_count shards seats c.requires.seated in
     let same : length seats ≡ length c.args.seats.items = length-map c.args.seats.items (λ p. (arc_value p.0, p.1)) in
-    let empty : length c.args.desks.now.items ≡ 0 = ap length none in record {
-      pairs = ap (λ z. all_ends z ++ c.args.pairs.items) none;
-      shards = ap (λ z. all_shards z ++ shards) none;
-      seats = ap (λ z. all_seats z ++ seats) none;
-      seated = c.requires.seated;
+    let empty : length c.args.desks.now.items ≡ 0 = ap length none in
+    let pairs_back : reverse c.reverse.new.self.items ≡ c.args.pairs.items = ap reverse c.reverse.ensures.items ∙ reverse-reverse c.args.pairs.items in
+    let shards_back : reverse c.reverse-2.new.self.items ≡ shards = ap reverse c.reverse-2.ensures.items ∙ reverse-reverse shards in
+    let seats_back : reverse c.reverse-3.new.self.items ≡ c.args.seats.items = ap reverse c.reverse-3.ensures.items ∙ reverse-reverse c.args.seats.items in record {
+      pairs = ap (λ z. all_ends z ++ reverse c.reverse.new.self.items) none ∙ pairs_back;
+      shards = ap (λ z. all_shards z ++ reverse c.reverse-2.new.self.items) none ∙ shards_back;
+      seats = ap (λ z. all_seats z ++ map (λ p. (arc_value p.0, p.1)) (reverse c.reverse-3.new.self.items)) none ∙ ap (map (λ p. (arc_value p.0, p.1))) seats_back;
+      seated = subst (λ z. AreSeated z (map (λ p. (arc_value p.0, p.1)) (reverse c.reverse-3.new.self.items))) (sym shards_back)
+          (subst (λ z. AreSeated shards (map (λ p. (arc_value p.0, p.1)) z)) (sym seats_back) c.requires.seated);
       as_many = (omega (arith, accounts, c.args.shards.ok.0, c.args.pairs.ok.0), omega (arith, accounts, sits, same, c.args.seats.ok.0, c.args.pairs.ok.0));
-      accounted = c.requires.accounted;
+      accounted = subst (λ z. AreAccounted z (reverse c.reverse.new.self.items)) (sym shards_back) (subst (AreAccounted shards) (sym pairs_back) c.requires.accounted);
       room = omega (arith, c.requires.desks.1, empty, c.args.desks.now.ok.0);
     }

@@ -1,4 +1,4 @@
-use Rattle.std.proofs.Common.{◌≡◌, ◌+◌, ◌≤◌, ◌++◌, map, vec_len}
+use Rattle.std.proofs.Common.{◌≡◌, ◌+◌, ◌≤◌, ◌++◌, map, reverse, vec_len}
 use Rattle.std.specs.Vec.{vec_capacity}
 use Rattle.std.specs.Arc.{arc_value}
 use Rattle.pt_directory.specs.Views.{up_from}
@@ -6,12 +6,12 @@ use Rattle.pt_directory.specs.Seats.{new_seat}
 use Rattle.pt_node.specs.Seating.{Seated}
 use Rattle.pt_node.proofs.seating.fresh_seats.Given as goal
 
-abbrev pub invariant-loop-seated : goal.invariant-loop-seated
-invariant-loop-seated l = record {
+abbrev pub invariant-loop-seat : goal.invariant-loop-seat
+invariant-loop-seat l = record {
   shape : ((arc_value l.directory).desks ≡ l.fn.config.desks) × ((arc_value l.directory).slots ≡ l.fn.config.slots);
-  all : ◌++◌ {A = Seated} (map (λ p. (arc_value p.0, p.1)) l.seated.items) (map (λ s. (arc_value l.directory, s)) l.seats.items) ≡ map (λ n. (arc_value l.directory, new_seat (arc_value l.directory).name n)) (up_from 0 l.fn.config.desks);
+  all : ◌++◌ {A = Seated} (map (λ p. (arc_value p.0, p.1)) l.seated.items) (map (λ s. (arc_value l.directory, s)) (reverse l.seats.items)) ≡ map (λ n. (arc_value l.directory, new_seat (arc_value l.directory).name n)) (up_from 0 l.fn.config.desks);
   room : vec_len l.seated + vec_len l.seats ≤ vec_capacity l.seated;
 }
 
-abbrev pub decreases-loop-seated : goal.decreases-loop-seated
-decreases-loop-seated l = vec_len l.seats
+abbrev pub decreases-loop-seat : goal.decreases-loop-seat
+decreases-loop-seat l = vec_len l.seats
