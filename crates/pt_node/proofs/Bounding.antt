@@ -55,9 +55,6 @@ module _ (config : Config) (desks : List DeskState) (node : AreDesksOf config de
 
   -- the shard of desk d
   module _ (d : ℕ) (h : d < length desks) where
-    abbrev here : ShardState
-    here = get_or (all_shards desks) d x.shard
-
     within : d < length (all_shards desks)
     within = omega (arith, h, shard_count)
 

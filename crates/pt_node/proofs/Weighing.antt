@@ -61,9 +61,6 @@ module _ (start : Start) (ok : IsStart start) (d low top : ℕ) where
 cell : (k w n : ℕ) → k < n → below (λ e. cond (k == e) w 0) n ≡ w
 cell k w n h = below_one (λ e. k == e) k w (λ e q. sym (eqb-true k e q)) (eq-eqb k k refl) n h
 
-abbrev to_desk : ℕ → List Letter → List Letter
-to_desk e ls = filter (λ l. l.to.shard == e) ls
-
 rest_to : (e : ℕ) (l : Letter) (ls : List Letter) → filter (λ l. l.to.shard == e) (l ∷ ls) ≡ [] → filter (λ l. l.to.shard == e) ls ≡ []
 rest_to e l ls h = go (l.to.shard == e) refl
   where

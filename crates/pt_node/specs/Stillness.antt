@@ -64,7 +64,7 @@ abbrev pub LooksAgain : Option Stopped → List DeskState → List DeskState →
 LooksAgain None old new = new ≡ old
 LooksAgain (Some stop) old new = map desk_kept new ≡ map desk_kept old
 
--- all rounds
+-- so many rounds, and what may come behind them
 pub record RunsRounds (budget : ℕ) (old : List DeskState) (did : Rested) (new : List DeskState) : Type 0 where
   pub count : ℕ
   pub last : List DeskState
