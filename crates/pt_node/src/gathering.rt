@@ -59,14 +59,23 @@ impl DesksBack {
 
     /// Gives up the desks, with their processes, their journals and the letters between them.
     pub fn abandon(self) {
-        let DesksBack { mut desks } = self;
-        while let Some(desk) = desks.pop() {
-            let (_shard, outs, ins, _directory, _seat) = desk.apart();
-            outs.close();
-            ins.close();
-        }
-        desks.destroy_empty();
+        let DesksBack { desks } = self;
+        abandon(desks);
     }
+}
+
+/// Gives up desks, with their processes, their journals and the letters between them, and nobody is told.
+///
+/// A desk cannot be dropped: so whoever has desks and does not gather them, as after an error of its own, says so by this.
+/// They need not be all desks of a node. It takes no memory, and nothing is claimed of what was given up.
+pub fn abandon(desks: Vec<Desk>) {
+    let mut desks = desks;
+    while let Some(desk) = desks.pop() {
+        let (_shard, outs, ins, _directory, _seat) = desk.apart();
+        outs.close();
+        ins.close();
+    }
+    desks.destroy_empty();
 }
 
 /// Brings the desks of a node together: all desks of one [`open`](crate::open), each once and in order.

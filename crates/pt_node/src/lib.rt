@@ -54,7 +54,7 @@ mod stillness;
 mod taking;
 mod work;
 
-pub use gathering::{DesksBack, gather};
+pub use gathering::{DesksBack, abandon, gather};
 pub use node::{Node, NodeBack};
 pub use node_fault::NodeFault;
 pub use opening::open;

@@ -17,7 +17,7 @@ ghost use Rattle.pt_node.specs.Node.{CallsAt, CallsTo, Inside, OpensNode, ReadsA
 ghost use Rattle.pt_node.specs.Load.{IsWithinLoad};
 ghost use Rattle.pt_node.specs.Stillness.{AllDesksGoOn, AreStill, RunsRounds, StoppedAt, count_events};
 
-use crate::gathering::gather;
+use crate::gathering::{abandon, gather};
 use crate::making::look;
 use crate::node_fault::NodeFault;
 use crate::node_running::{run_desks, run_desks_single};
@@ -62,16 +62,8 @@ impl Model for Node {
 
 impl Drop for Node {
     fn drop(self) {
-        let Node {
-            alloc: _,
-            mut desks,
-        } = self;
-        while let Some(desk) = desks.pop() {
-            let (_shard, outs, ins, _directory, _seat) = desk.apart();
-            outs.close();
-            ins.close();
-        }
-        desks.destroy_empty();
+        let Node { alloc: _, desks } = self;
+        abandon(desks);
     }
 }
 

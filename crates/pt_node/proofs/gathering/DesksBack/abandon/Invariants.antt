@@ -1,5 +1,0 @@
-use Rattle.std.proofs.Common.{vec_len}
-use Rattle.pt_node.proofs.gathering.DesksBack.abandon.Given as goal
-
-abbrev pub decreases-loop-desk : goal.decreases-loop-desk
-decreases-loop-desk l = vec_len l.desks
