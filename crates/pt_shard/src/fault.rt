@@ -1,7 +1,7 @@
 //! Why a call is refused.
 
 use crate::stop::Stop;
-use std::alloc::AllocError;
+use std::alloc::{AllocError, AllocFailed};
 use thiserror::Error;
 
 /// Why a desk refuses a call. After each of them the desk is as it was, but for what a look in the directory of ended
@@ -37,6 +37,17 @@ impl From<AllocError> for Fault {
     ghost from_gives = { λ _ f. f ≡ Memory };
 
     fn from(_error: AllocError) -> Fault {
+        Fault::Memory
+    }
+}
+
+impl<T: Drop> From<AllocFailed<T>> for Fault {
+    ghost use Rattle.std.specs.Prelude.{◌≡◌};
+    ghost use Rattle.pt_shard.specs.declared.fault.Fault.TheVariants.{Memory};
+
+    ghost from_gives = { λ _ f. f ≡ Memory };
+
+    fn from(_failed: AllocFailed<T>) -> Fault {
         Fault::Memory
     }
 }

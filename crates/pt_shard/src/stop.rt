@@ -1,6 +1,6 @@
 //! Why a letter is not handled.
 
-use std::alloc::AllocError;
+use std::alloc::{AllocError, AllocFailed};
 use thiserror::Error;
 
 /// Why a letter is not handled. The desk is then as it was.
@@ -21,6 +21,17 @@ impl From<AllocError> for Stop {
     ghost from_gives = { λ _ f. f ≡ Memory };
 
     fn from(_error: AllocError) -> Stop {
+        Stop::Memory
+    }
+}
+
+impl<T: Drop> From<AllocFailed<T>> for Stop {
+    ghost use Rattle.std.specs.Prelude.{◌≡◌};
+    ghost use Rattle.pt_shard.specs.declared.stop.Stop.TheVariants.{Memory};
+
+    ghost from_gives = { λ _ f. f ≡ Memory };
+
+    fn from(_failed: AllocFailed<T>) -> Stop {
         Stop::Memory
     }
 }
