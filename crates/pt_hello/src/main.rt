@@ -3,15 +3,6 @@
 use anyhow::Result;
 use pt_node::{Config, Item, Node, NodeFault, Pick, Reason};
 
-/// One desk of eight slots.
-const SETTINGS: Config = Config {
-    desks: 1,
-    slots: 8,
-    top_version: u32::MAX,
-    lane: 8,
-    start: 0,
-};
-
 /// A worker ends, and its watcher gets the `DOWN`.
 fn watch(node: &mut Node) -> Result<Option<Item>, NodeFault> {
     let watcher = node.spawn(0)?;
@@ -24,7 +15,7 @@ fn watch(node: &mut Node) -> Result<Option<Item>, NodeFault> {
 }
 
 fn main(rt: HostRuntime) -> Result<()> {
-    let mut node = Node::open(rt.alloc(), SETTINGS)?;
+    let mut node = Node::open(rt.alloc(), Config::DEFAULT.with_slots(8))?;
     if let Some(down) = watch(&mut node)? {
         println!(rt; "{down}")?;
     }

@@ -8,6 +8,7 @@ use Rattle.pt_shard.specs.declared.fault.Fault.{Fault}
 use Rattle.pt_shard.specs.declared.stop.Stop.{Stop}
 use Rattle.pt_shard.specs.Known.{knows}
 use Rattle.pt_shard.specs.Opening.{IsInRange}
+use Rattle.pt_shard.specs.Settings.{IsFirstOut}
 use Rattle.pt_shard.specs.ShardState.{ShardState}
 use Rattle.pt_desk.specs.DeskState.{DeskState, GoesOn, HasSameEnds}
 use Rattle.pt_desk.specs.declared.turned.Turned.{Turned}
@@ -19,7 +20,7 @@ use Rattle.pt_node.specs.declared.node_fault.NodeFault.TheVariants.{NoDesk, Unkn
 -- a new node has the desks of one opening, on which nothing has happened
 abbrev pub OpensNode : Config → Result (List DeskState) OpenError → Type 0
 OpensNode config (Ok desks) = IsInRange config × AreFresh config desks
-OpensNode config (Err Bounds) = ¬ IsInRange config
+OpensNode config (Err (Bounds setting)) = (¬ IsInRange config) × IsFirstOut config setting
 OpensNode config (Err Memory) = IsInRange config
 
 -- that was done to desk d, which goes on, and the others stayed

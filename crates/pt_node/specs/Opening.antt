@@ -6,6 +6,7 @@ use Rattle.pt_shard.specs.declared.config.OpenError.{OpenError}
 use Rattle.pt_shard.specs.declared.config.OpenError.TheVariants.{Bounds, Memory}
 use Rattle.pt_shard.specs.ShardState.{ShardState}
 use Rattle.pt_shard.specs.Opening.{IsInRange, fresh}
+use Rattle.pt_shard.specs.Settings.{IsFirstOut}
 use Rattle.pt_desk.specs.DeskState.{DeskState}
 use Rattle.pt_node.specs.Desks.{AreDesksOf}
 
@@ -22,5 +23,5 @@ pub record AreFresh (config : Config) (desks : List DeskState) : Type 0 where
 
 abbrev pub Opens : {A : Type 0} → Config → Result (Vec DeskState A) OpenError → Type 0
 Opens config (Ok desks) = IsInRange config × AreFresh config desks.items
-Opens config (Err Bounds) = ¬ IsInRange config
+Opens config (Err (Bounds setting)) = (¬ IsInRange config) × IsFirstOut config setting
 Opens config (Err Memory) = IsInRange config

@@ -63,7 +63,9 @@ pub use pt_carrier::Cause;
 pub use pt_desk::{Desk, Turned};
 pub use pt_events::{Event, Journal, Stamped};
 pub use pt_gathered::{Account, Gathered, LeftOver, Quiet, Unsettled};
-pub use pt_shard::{Config, Fault, MAX_DESKS, MAX_LANE, MAX_SLOTS, MAX_STAMP, OpenError, Stop};
+pub use pt_shard::{
+    Config, Fault, MAX_DESKS, MAX_LANE, MAX_SLOTS, MAX_STAMP, OpenError, Setting, Stop,
+};
 pub use pt_signal::{Body, Ids, Item, Letter, LinkId, Pick, Pid, Reason, Ref, Signal};
 pub use run_fault::RunFault;
 pub use running::{FreeGate, Gate, Ran, run, run_single};

@@ -91,7 +91,8 @@ impl Error for NodeBack {}
 impl Node {
     /// Opens a node on which nothing has happened.
     ///
-    /// Refused as `Bounds` exactly where a setting is out of its range, else as `Memory` where there is none.
+    /// Refused as `Bounds` exactly where a setting is out of its range, with the first such setting, else as `Memory`
+    /// where there is none.
     pub fn open(alloc: Global, config: Config) -> Result<Node, OpenError>
         ensures { OpensNode config result }
     {

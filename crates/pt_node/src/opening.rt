@@ -13,12 +13,13 @@ use std::alloc::{AllocError, Global};
 /// Opens a node: its desks, in order, on which nothing has happened, each with its ends of all lanes and its seat in one
 /// directory of who has ended.
 ///
-/// Refused as `Bounds` exactly where a setting is out of its range, else as `Memory` where there is none.
+/// Refused as `Bounds` exactly where a setting is out of its range, with the first such setting, else as `Memory` where
+/// there is none.
 pub fn open(alloc: Global, config: Config) -> Result<Vec<Desk>, OpenError>
     ensures { Opens config result }
 {
-    if !config.is_in_range() {
-        return Err(OpenError::Bounds);
+    if let Some(setting) = config.out_of_range() {
+        return Err(OpenError::Bounds(setting));
     }
     let Ok(shards) = fresh_shards(alloc, config) else {
         return Err(OpenError::Memory);

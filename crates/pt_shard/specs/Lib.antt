@@ -3,6 +3,7 @@ pub mod Begun
 pub mod ShardState
 pub mod Opening
 pub mod Known
+pub mod Settings
 pub mod Extends
 pub mod Fit
 pub mod Calls

@@ -1,9 +1,9 @@
-//! What one desk of a node knows, told of another, and the limit of slots, told as a number.
+//! What one desk of a node knows, told of another, and the limit of slots and the settings by default, told as numbers.
 
 ghost use Rattle.std.specs.Prelude.{◌≡◌};
 ghost use Rattle.pt_shard.specs.Known.{IsKnownToOthers};
 
-use crate::config::MAX_SLOTS;
+use crate::config::{Config, MAX_SLOTS};
 
 /// What one desk of a node knows, each other desk of it knows, but for the pids of that other desk, of which it knows
 /// those that it issued. So a pid that a birth answered may be the target of a call on every desk of the node, with no
@@ -20,4 +20,11 @@ pub fn known_to_others()
 /// It does nothing: the law is its contract.
 pub fn limits_stand()
     ensures { MAX_SLOTS ≡ 65536 }
+{}
+
+/// The settings that a node has where nobody asks for others.
+///
+/// It does nothing: the law is its contract.
+pub fn defaults_stand()
+    ensures { Config.DEFAULT ≡ record { desks = 1; slots = 1024; top_version = 4294967295; lane = 64; start = 0 } }
 {}

@@ -66,8 +66,8 @@ mod residents;
 mod shard;
 mod stop;
 
-pub use config::{Config, MAX_DESKS, MAX_LANE, MAX_SLOTS, MAX_STAMP, OpenError};
+pub use config::{Config, MAX_DESKS, MAX_LANE, MAX_SLOTS, MAX_STAMP, OpenError, Setting};
 pub use fault::Fault;
-pub use laws::{known_to_others, limits_stand};
+pub use laws::{defaults_stand, known_to_others, limits_stand};
 pub use shard::Shard;
 pub use stop::Stop;

@@ -1,6 +1,6 @@
 //! A node on which nothing happened, and settings out of their range.
 
-use pt_node::{Config, Gathered, OpenError, gather, open};
+use pt_node::{Config, Gathered, OpenError, Setting, gather, open};
 use std::alloc::Global;
 use std::process::Abort;
 use std::test::Fail;
@@ -59,33 +59,21 @@ fn an_empty_node_is_gathered_and_settled(rt: HostRuntime) -> Result<(), Fail> {
 
 #[test]
 fn settings_out_of_range_are_refused(rt: HostRuntime) -> Result<(), Fail> {
-    for settings in [
-        Config {
-            desks: 0,
-            ..SETTINGS
-        },
-        Config {
-            desks: 65,
-            ..SETTINGS
-        },
-        Config {
-            slots: 65_537,
-            ..SETTINGS
-        },
-        Config {
-            top_version: 0,
-            ..SETTINGS
-        },
-        Config {
-            lane: 0,
-            ..SETTINGS
-        },
-        Config {
-            start: 4_611_686_018_427_387_905,
-            ..SETTINGS
-        },
+    for (settings, setting) in [
+        (SETTINGS.with_desks(0), Setting::Desks),
+        (SETTINGS.with_desks(65), Setting::Desks),
+        (SETTINGS.with_slots(65_537), Setting::Slots),
+        (SETTINGS.with_top_version(0), Setting::TopVersion),
+        (SETTINGS.with_lane(0), Setting::Lane),
+        (
+            SETTINGS.with_start(4_611_686_018_427_387_905),
+            Setting::Start,
+        ),
     ] {
-        assert_eq!(rt; refusal(&rt, rt.alloc(), settings), OpenError::Bounds);
+        assert_eq!(rt;
+            refusal(&rt, rt.alloc(), settings),
+            OpenError::Bounds(setting)
+        );
     }
     Ok(())
 }

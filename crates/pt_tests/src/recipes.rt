@@ -2,7 +2,9 @@
 
 ghost use Rattle.pt_node.specs.Desks.{AreDesks, IsStill};
 
-use pt_node::{Config, Desk, Event, OpenError, Pid, Reason, Signal, Stamped, Standing, open};
+use pt_node::{
+    Config, Desk, Event, OpenError, Pid, Reason, Setting, Signal, Stamped, Standing, abandon, open,
+};
 use pt_uses::RecipeError;
 use pt_uses::chat::{Seat, Who, chat};
 use pt_uses::desks_on_threads::ring;
@@ -21,7 +23,7 @@ const ONE_DESK: Config = Config {
     slots: 8,
     top_version: u32::MAX,
     lane: 8,
-    start: 0,
+    ..Config::DEFAULT
 };
 
 /// The process in a slot of desk 0, under a version.
@@ -252,10 +254,7 @@ fn a_text_to_a_process_that_has_ended_goes(rt: HostRuntime) -> Result<(), Fail> 
 
 #[test]
 fn threads_lose_no_message(rt: HostRuntime) -> Result<(), Fail> {
-    let config = Config {
-        desks: 3,
-        ..ONE_DESK
-    };
+    let config = ONE_DESK.with_desks(3);
     let Ok(quiet) = ring(&rt, rt.alloc(), config, 20)?.settle() else {
         panic!(rt; "the node does not settle");
     };
@@ -279,18 +278,18 @@ fn came<R: Abort>(rt: &R, history: &[Stamped]) -> [i64; 3] {
 
 #[test]
 fn a_node_without_desks_is_refused(rt: HostRuntime) -> Result<(), Fail> {
-    let config = Config {
-        desks: 0,
-        ..ONE_DESK
-    };
+    let config = ONE_DESK.with_desks(0);
     let Err(refused) = ring(&rt, rt.alloc(), config, 1) else {
         panic!(rt; "the node opens");
     };
-    assert_eq!(rt; refused, RecipeError::Open(OpenError::Bounds));
+    assert_eq!(rt;
+        refused,
+        RecipeError::Open(OpenError::Bounds(Setting::Desks))
+    );
     let text = refused.to_string(rt.alloc())?;
     assert_eq!(rt;
         text.as_str(),
-        "the node does not open: a setting is out of its range"
+        "the node does not open: a setting is out of its range: desks"
     );
     Ok(())
 }

@@ -30,9 +30,7 @@ const BUDGET: u32 = 64;
 const SETTINGS: Config = Config {
     desks: 4,
     slots: 8,
-    top_version: u32::MAX,
-    lane: 8,
-    start: 0,
+    ..Config::DEFAULT
 };
 
 /// A room, who is in it, how many guests have still to leave, and what it was refused.

@@ -1,9 +1,12 @@
 //! Settings out of range, pids that a desk does not know, and a clock at its limit.
 
+ghost use Rattle.pt_node.specs.Desks.{AreDesks};
+
 use crate::rows::known::{A, settings};
 use crate::rows::play::Call::*;
 use crate::rows::play::{Step, play};
-use pt_node::{Config, OpenError, Pick, Pid, gather, open};
+use pt_node::{Config, Desk, Fault, Node, OpenError, Pick, Pid, Setting, Stop, abandon, open};
+use std::alloc::Global;
 use std::test::Fail;
 
 /// A pid of a second desk.
@@ -77,37 +80,89 @@ fn a_worn_clock_is_told_before_a_full_desk(rt: HostRuntime) -> Result<(), Fail> 
 fn settings_out_of_range_are_refused(rt: HostRuntime) -> Result<(), Fail> {
     let fine = settings(8);
     let refused = [
-        Config { desks: 0, ..fine },
-        Config { desks: 65, ..fine },
-        Config { slots: 0, ..fine },
-        Config {
-            slots: 65_537,
-            ..fine
-        },
-        Config {
-            top_version: 0,
-            ..fine
-        },
-        Config { lane: 0, ..fine },
-        Config {
-            lane: 65_537,
-            ..fine
-        },
-        Config {
-            start: 4_611_686_018_427_387_905,
-            ..fine
-        },
+        (fine.with_desks(0), Setting::Desks),
+        (fine.with_desks(65), Setting::Desks),
+        (fine.with_slots(0), Setting::Slots),
+        (fine.with_slots(65_537), Setting::Slots),
+        (fine.with_top_version(0), Setting::TopVersion),
+        (fine.with_lane(0), Setting::Lane),
+        (fine.with_lane(65_537), Setting::Lane),
+        (fine.with_start(4_611_686_018_427_387_905), Setting::Start),
+        (fine.with_slots(0).with_lane(0), Setting::Slots),
     ];
-    for config in refused {
+    for (config, setting) in refused {
         let refused = match open(rt.alloc(), config) {
             Ok(desks) => {
-                let _ = gather(rt.alloc(), desks).map_err(|back| back.abandon());
+                abandon(desks);
                 None
             }
             Err(error) => Some(error),
         };
-        assert_eq!(rt; refused, Some(OpenError::Bounds), "{config:?}");
+        assert_eq!(rt; refused, Some(OpenError::Bounds(setting)), "{config:?}");
+        assert_eq!(rt; config.out_of_range(), Some(setting));
     }
+    Ok(())
+}
+
+#[test]
+fn a_setting_out_of_range_is_named(rt: HostRuntime) -> Result<(), Fail> {
+    let texts = [
+        (Setting::Desks, "a setting is out of its range: desks"),
+        (Setting::Slots, "a setting is out of its range: slots"),
+        (
+            Setting::TopVersion,
+            "a setting is out of its range: top_version",
+        ),
+        (Setting::Lane, "a setting is out of its range: lane"),
+        (Setting::Start, "a setting is out of its range: start"),
+    ];
+    for (setting, text) in texts {
+        let told = OpenError::Bounds(setting).to_string(rt.alloc())?;
+        assert_eq!(rt; told.as_str(), text);
+    }
+    Ok(())
+}
+
+#[test]
+fn a_node_opens_with_the_settings_by_default(rt: HostRuntime) -> Result<(), Fail> {
+    assert_eq!(rt; Config::DEFAULT.out_of_range(), None);
+    let node = Node::open(rt.alloc(), Config::DEFAULT.with_desks(2))?;
+    assert_eq!(rt; node.count(), 2);
+    let settings = node.config();
+    assert_eq!(rt; settings.slots, 1_024);
+    assert_eq!(rt; settings.top_version, u32::MAX);
+    assert_eq!(rt; settings.lane, 64);
+    assert_eq!(rt; settings.start, 0);
+    Ok(())
+}
+
+/// Pushes with `?`, and makes calls of a desk with `?`.
+fn born_twice(alloc: Global, desks: &mut Vec<Desk>) -> Result<Vec<Pid>, Fault>
+    requires { AreDesks desks.old.items }
+{
+    let desk = &mut desks[0];
+    let mut born = Vec::new(alloc);
+    born.push(desk.spawn()?)?;
+    born.push(desk.spawn()?)?;
+    Ok(born)
+}
+
+/// The same where a turn may stop.
+fn counted(alloc: Global) -> Result<Vec<u32>, Stop> {
+    let mut counted = Vec::new(alloc);
+    counted.push(7)?;
+    Ok(counted)
+}
+
+#[test]
+fn want_of_memory_of_a_push_is_a_refusal(rt: HostRuntime) -> Result<(), Fail> {
+    let alloc = rt.alloc();
+    let mut desks = open(alloc, settings(8))?;
+    let born = born_twice(alloc, &mut desks);
+    abandon(desks);
+    let born = born?;
+    assert_eq!(rt; born.as_slice(), [A, Pid { slot: 1, ..A }]);
+    assert_eq!(rt; counted(alloc)?.as_slice(), [7]);
     Ok(())
 }
 

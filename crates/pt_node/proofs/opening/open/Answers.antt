@@ -23,6 +23,3 @@ returns c =
           c.make_whole.new.desks.items c.make_whole.ensures.pairs c.make_whole.ensures.shards
           (map (λ p. (arc_value p.0, p.1)) c.in-Ok-fresh_seats.seats.items) c.in-Ok-fresh_seats.ensures c.make_whole.ensures.seats,
     )
-
-pub returns-then-not-is_in_range : goal.returns-then-not-is_in_range
-returns-then-not-is_in_range c = search rules
