@@ -4,6 +4,7 @@ pub mod Phases
 pub mod Homes
 pub mod Orders
 pub mod InOrder
+pub mod Since
 pub mod Agreeing
 pub mod Refusals
 pub mod Leaving

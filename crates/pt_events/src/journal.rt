@@ -3,6 +3,7 @@
 ghost use Rattle.std.specs.Prelude.{◌≡◌, ◌+◌, ◌<◌, [], ◌∷◌, length, reverse, OnOk, IfOk, IfErr, OnErr};
 ghost use Rattle.std.specs.Bool.{MatchBool};
 ghost use Rattle.pt_events.specs.JournalState.{IsNewer, IsInOrder, is_next};
+ghost use Rattle.pt_events.specs.Since.{newer_than};
 
 use crate::Stamped;
 use std::alloc::{AllocError, Global};
@@ -68,6 +69,16 @@ impl Journal {
         ensures order { IsInOrder self.now.desk self.now.past }
     {
         self.events.as_slice()
+    }
+
+    /// The events stamped above this stamp, oldest first: what happened since then. It is found by halves, so a program
+    /// that looks again from the newest stamp that it saw pays for the new events alone.
+    pub fn since(&self, stamp: u64) -> &[Stamped]
+        ensures { result.now ≡ newer_than stamp (reverse self.now.past) }
+    {
+        let events = self.events.as_slice();
+        let seen = events.partition_point(|event| event.stamp <= stamp);
+        &events[seen..]
     }
 
     /// Makes room for one more event, so that the next `push_reserved` cannot fail. After a refusal the journal
