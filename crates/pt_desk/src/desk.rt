@@ -8,6 +8,7 @@ ghost use Rattle.pt_events.specs.Journal.{IsLocal, Agrees, posts, gots, clock};
 ghost use Rattle.pt_carrier.specs.Meeting.{Meets};
 ghost use Rattle.pt_shard.specs.ShardState.{lives, state_in};
 ghost use Rattle.pt_shard.specs.Known.{knows};
+ghost use Rattle.pt_shard.specs.Reading.{read_of};
 ghost use Rattle.pt_shard.specs.Outbox.{count_pending, held_from};
 ghost use Rattle.pt_shard.specs.Fit.{IsFit};
 ghost use Rattle.pt_shard.specs.Calls.{Calls, Monitors, Bears, BearsChild, link_event, unlink_event, first_match, take_event, demonitor_event, held_by, new_ref};
@@ -25,6 +26,7 @@ use crate::turned::Turned;
 use pt_carrier::{Ins, Outs};
 use pt_directory::{Directory, Seat};
 use pt_events::Journal;
+use pt_process::Process;
 use pt_shard::{Config, Fault, Shard, Stop};
 use pt_signal::{Body, Ids, Item, Pick, Pid, Reason, Ref};
 use std::alloc::Global;
@@ -168,6 +170,14 @@ impl Desk {
         ensures { result ≡ cond (lives self.now.shard p) (held_by self.now.shard p q) None }
     {
         self.shard.linked(p, q)
+    }
+
+    /// The process p, to be read: its links, its open monitors and its watchers by place, its mailbox and its flag; `None`
+    /// where it does not live here. Erlang's `process_info/2`, module `erlang`.
+    pub fn process(&self, p: Pid) -> Option<&Process>
+        ensures { read_of (option_copied result) ≡ cond (lives self.now.shard p) (Some (p, state_in self.now.shard p)) None }
+    {
+        self.shard.process(p)
     }
 
     /// How many letters wait in the outbox and the hold, staying at `u64::MAX` once it is reached.

@@ -63,6 +63,7 @@ pub use pt_carrier::Cause;
 pub use pt_desk::{Desk, Turned};
 pub use pt_events::{Event, Journal, Stamped};
 pub use pt_gathered::{Account, Gathered, LeftOver, Quiet, Unsettled};
+pub use pt_process::Process;
 pub use pt_shard::{
     Config, Fault, MAX_DESKS, MAX_LANE, MAX_SLOTS, MAX_STAMP, OpenError, Setting, Stop,
 };

@@ -5,6 +5,7 @@ ghost use Rattle.std.specs.Option.{option_copied, option_map};
 ghost use Rattle.pt_signal.specs.declared.signal.Signal.{Signal};
 ghost use Rattle.pt_events.specs.declared.event.Event.{Event};
 ghost use Rattle.pt_shard.specs.ShardState.{lives, state_in};
+ghost use Rattle.pt_shard.specs.Reading.{read_of};
 ghost use Rattle.pt_shard.specs.Calls.{Calls, Monitors, Bears, BearsChild, link_event, unlink_event, first_match, take_event, demonitor_event, held_by, new_ref};
 ghost use Rattle.pt_gathered.specs.Lawful.{LanesKeep, KeepsHeadline, IsLegalNode, AnswersHold};
 ghost use Rattle.pt_gathered.specs.Settling.{NothingLeft};
@@ -29,6 +30,7 @@ use crate::work::Task;
 use pt_desk::{Desk, Turned};
 use pt_events::Journal;
 use pt_gathered::Gathered;
+use pt_process::Process;
 use pt_shard::{Config, Fault, OpenError};
 use pt_signal::{Body, Ids, Item, Pick, Pid, Reason, Ref};
 use std::alloc::Global;
@@ -209,6 +211,18 @@ impl Node {
             return None;
         }
         self.desks[d].linked(p, q)
+    }
+
+    /// The process p, to be read: its links, its open monitors and its watchers by place, its mailbox and its flag; `None`
+    /// where it does not live. Erlang's `process_info/2`, module `erlang`.
+    pub fn process(&self, p: Pid) -> Option<&Process>
+        ensures { ReadsAt p.shard (λ x. cond (lives x.shard p) (Some (p, state_in x.shard p)) None) None self.now (read_of (option_copied result)) }
+    {
+        let d = usize::from(p.shard);
+        if d >= self.desks.len() {
+            return None;
+        }
+        self.desks[d].process(p)
     }
 
     /// Brings the desks of the node together: [`gather`](crate::gather) says what holds then of the journals, the

@@ -1,5 +1,5 @@
 -- Entries with gaps, and what is left of them.
-use Rattle.std.proofs.Common.{◌≡◌, ℕ, zero, suc, ◌-◌, ◌<◌, ◌≤◌, Bool, true, false, cond, List, [], ◌∷◌, ◌++◌, length, slice_get, refl, sym, ap, ◌∙◌, arith, append-nil, length-append, filter, Option, Some, None, Result, Ok, Err, OnErr, IsOk, is_some, unwrap_or, ◌&&◌, ◌||◌}
+use Rattle.std.proofs.Common.{◌≡◌, ℕ, zero, suc, ◌+◌, ◌-◌, ◌<◌, ◌≤◌, Bool, true, false, cond, List, [], ◌∷◌, ◌++◌, length, drop, slice_get, refl, sym, ap, ◌∙◌, arith, append-nil, length-append, filter, Option, Some, None, Result, Ok, Err, OnErr, IsOk, is_some, unwrap_or, ◌&&◌, ◌||◌}
 use Rattle.indexmap.specs.IndexMap.{insert_entry}
 use Rattle.std.proofs.lemmas.List.Elements.{filter_map-append}
 use Rattle.std.specs.Option.{option_flatten, option_to_list}
@@ -112,6 +112,13 @@ module _ {K V : Type 0} where
   row_at ((k, None) ∷ es) i e closed at = absurd (omega (arith, closed, length-present es))
   row_at ((k, Some v) ∷ es) zero e closed at = ap (λ o. standing (unwrap_or o e)) (sym at)
   row_at ((k, Some v) ∷ es) (suc i) e closed at = row_at es i e (omega (arith, closed)) at
+
+  -- what stands from a place on: what stands there, and what stands behind it
+  pub present_from : (es : List (K × Option V)) (i : ℕ) (e : K × Option V) → slice_get es i ≡ Some e → present (drop i es) ≡ option_to_list (standing e) ++ present (drop (i + 1) es)
+  present_from [] i e at = cc
+  present_from ((k, None) ∷ es) zero e at = rw (ap (λ o. unwrap_or o e) (sym at)) refl
+  present_from ((k, Some v) ∷ es) zero e at = rw (ap (λ o. unwrap_or o e) (sym at)) refl
+  present_from (d ∷ es) (suc i) e at = let more : suc i + 1 ≡ suc (i + 1) = omega arith in rw more (present_from es i e at)
 
   -- with no gap, a key with no entry has no place
   pub lookup-closed : (test : K → Bool) (es : List (K × Option V)) → length es ≤ length (present es) → lookup test (present es) ≡ None → lookup test es ≡ None

@@ -156,6 +156,16 @@ impl<K: Eq + Hash + Copy, V: Copy> Entries<K, V> {
         }
     }
 
+    /// The entry with this number, in order of entry, if there are so many. It walks over the gaps that it finds.
+    pub fn read(&self, i: usize) -> Option<(K, V)>
+        ensures { result ≡ slice_get self.now.entries i }
+    {
+        match &self.places {
+            Places::Few(few) => few.get(i).copied(),
+            Places::Many(many) => many.read(i),
+        }
+    }
+
     /// The entries alone, in order.
     pub fn into_rows(self) -> Rows<K, V>
         ensures { result ≡ self.entries }

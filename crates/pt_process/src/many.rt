@@ -1,9 +1,10 @@
 //! Entries by hash, in order of entry.
 
-ghost use Rattle.std.specs.Prelude.{◌≡◌, ◌+◌, ◌<◌, ◌≤◌, ◌^◌, ◌&&◌, ◌∷◌, ◌++◌, [], length, slice_get, is_some, Some, None, IsOk, IfOk, IsSome, OnOk};
+ghost use Rattle.std.specs.Prelude.{◌≡◌, ◌+◌, ◌<◌, ◌≤◌, ◌^◌, ◌&&◌, ◌∷◌, ◌++◌, [], drop, length, slice_get, is_some, Some, None, IsOk, IfOk, IsSome, OnOk};
 ghost use Rattle.std.specs.HashMap.{spare};
 ghost use Rattle.std.specs.List.{list_any, IsDistinct};
 ghost use Rattle.std.specs.Map.{lookup, remove_entry, set_value, keys_of};
+ghost use Rattle.std.specs.Option.{option_to_list};
 ghost use Rattle.pt_process.specs.Gaps.{present, value_at, AreCounted};
 
 use indexmap::IndexMap;
@@ -152,6 +153,19 @@ impl<K: Eq + Hash + Copy, V: Copy> Many<K, V> {
         let (key, value) = self.places.get_index(i).unwrap();
         (*key, value.unwrap())
     }
+
+    /// The entry with this number, in order of entry, if there are so many. Where there are gaps it walks to it.
+    pub fn read(&self, i: usize) -> Option<(K, V)>
+        ensures { result ≡ slice_get self.now.entries i }
+    {
+        if i >= self.count {
+            return None;
+        }
+        if self.places.len() == self.count {
+            return Some(self.at(i));
+        }
+        nth_present(&self.places, i)
+    }
 }
 
 impl<J: PartialEq + Eq + Hash + Copy, K: Eq + Hash + Copy, V: Copy> Many<(J, K), V> {
@@ -172,6 +186,40 @@ fn any_first<J: PartialEq + Eq + Hash + Copy, K: Eq + Hash + Copy, V: Copy>(
     places
         .iter()
         .any(|(key, value)| value.is_some() && first == key.0)
+}
+
+/// The entry with this number among those that stand at a place.
+fn nth_present<K: Eq + Hash + Copy, V: Copy>(
+    places: &IndexMap<K, Option<V>>,
+    i: usize,
+) -> Option<(K, V)>
+    ensures { result ≡ slice_get (present places.now.entries) i }
+{
+    let mut left = i;
+    for at in 0..places.len() {
+        if let Some(entry) = standing_at(places, at) {
+            if left == 0 {
+                return Some(entry);
+            }
+            left -= 1;
+        }
+    }
+    None
+}
+
+/// The entry at a place, unless a gap is there.
+fn standing_at<K: Eq + Hash + Copy, V: Copy>(
+    places: &IndexMap<K, Option<V>>,
+    at: usize,
+) -> Option<(K, V)>
+    requires { at < length places.now.entries }
+    ensures { present (drop at places.now.entries) ≡ option_to_list result ++ present (drop (at + 1) places.now.entries) }
+{
+    let (key, value) = places.get_index(at).unwrap();
+    match value {
+        Some(value) => Some((*key, *value)),
+        None => None,
+    }
 }
 
 /// The gap goes that the key left, if it left one.

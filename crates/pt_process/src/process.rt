@@ -103,6 +103,53 @@ impl Process {
         self.traps
     }
 
+    /// How many processes it is linked with.
+    pub fn links_len(&self) -> usize
+        ensures { result ≡ length self.now.state.links }
+    {
+        self.links.len()
+    }
+
+    /// The process that it is linked with in this place, in order of entry, and the ids of the link; `None` from
+    /// [`Process::links_len`] on.
+    pub fn link_at(&self, i: usize) -> Option<(Pid, Ids)>
+        ensures { result ≡ slice_get self.now.state.links i }
+    {
+        self.links.read(i)
+    }
+
+    /// How many monitors it has open.
+    pub fn monitors_len(&self) -> usize
+        ensures { result ≡ length self.now.state.watching }
+    {
+        self.watching.len()
+    }
+
+    /// The open monitor in this place, in order of entry, and whom it watches; `None` from [`Process::monitors_len`] on.
+    pub fn monitor_at(&self, i: usize) -> Option<(Ref, Pid)>
+        ensures { result ≡ slice_get self.now.state.watching i }
+    {
+        self.watching.read(i)
+    }
+
+    /// How many monitors others have of it.
+    pub fn watchers_len(&self) -> usize
+        ensures { result ≡ length self.now.state.kept }
+    {
+        self.kept.len()
+    }
+
+    /// The monitor that another has of it in this place, in order of entry, and whose it is; `None` from
+    /// [`Process::watchers_len`] on.
+    pub fn watcher_at(&self, i: usize) -> Option<(Ref, Pid)>
+        ensures { result ≡ slice_get self.now.state.kept i }
+    {
+        match self.kept.read(i) {
+            Some((watcher, ())) => Some(watcher),
+            None => None,
+        }
+    }
+
     /// How many signals it would owe at its end.
     pub fn owed_len(&self) -> usize
         ensures signals { (reason : Reason) → result ≡ length (estate self.now.me self.now.state reason) }

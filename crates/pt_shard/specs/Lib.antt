@@ -1,9 +1,10 @@
 pub mod Boxes
 pub mod Begun
 pub mod ShardState
+pub mod Reading
 pub mod Opening
-pub mod Known
 pub mod Settings
+pub mod Known
 pub mod Extends
 pub mod Fit
 pub mod Calls

@@ -8,6 +8,7 @@ ghost use Rattle.pt_carrier.specs.declared.ends.TheConstants.{MAX_DESKS};
 ghost use Rattle.pt_shard.specs.ShardState.{lives, state_in, box, Handles};
 ghost use Rattle.pt_shard.specs.Opening.{IsInRange, fresh};
 ghost use Rattle.pt_shard.specs.Known.{knows};
+ghost use Rattle.pt_shard.specs.Reading.{read_of};
 ghost use Rattle.pt_shard.specs.Extends.{Extends};
 ghost use Rattle.pt_shard.specs.Fit.{IsFit};
 ghost use Rattle.pt_shard.specs.Outbox.{sent_on, holding, count_pending};
@@ -131,6 +132,17 @@ impl Shard {
         ensures { result ≡ cond (lives self.now p) (held_by self.now p q) None }
     {
         self.house.find(p)?.linked(q)
+    }
+
+    /// The process p, to be read: its links, its open monitors and its watchers by place, its mailbox and its flag; `None`
+    /// where it does not live here.
+    pub fn process(&self, p: Pid) -> Option<&Process>
+        ensures { read_of (option_copied result) ≡ cond (lives self.now p) (Some (p, state_in self.now p)) None }
+    {
+        match self.house.find(p) {
+            Some(process) => Some(process),
+            None => None,
+        }
     }
 
     /// How many letters wait in the outbox and the hold, staying at `u64::MAX` once it is reached.

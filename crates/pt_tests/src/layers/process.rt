@@ -120,6 +120,22 @@ fn more_than_eight_entries_stand_in_order_of_entry(rt: HostRuntime) {
     stand(&rt, entries, 9, WANTED);
 }
 
+/// Read where they stand, with gaps between them.
+#[test]
+fn entries_are_read_over_gaps(rt: HostRuntime) {
+    let mut entries: Entries<u32, u32> = Entries::new(rt.alloc());
+    for key in 1..=12 {
+        enter(&rt, &mut entries, key, key + 10);
+    }
+    for key in [1, 4, 5] {
+        removes(&rt, &mut entries, key, Some(key + 10));
+    }
+    assert_eq!(rt; entries.read(0), Some((2, 12)));
+    assert_eq!(rt; entries.read(2), Some((6, 16)));
+    assert_eq!(rt; entries.read(8), Some((12, 22)));
+    assert_eq!(rt; entries.read(9), None);
+}
+
 #[test]
 fn entries_are_found_once_gaps_are_closed(rt: HostRuntime) {
     let mut entries: Entries<u32, u32> = Entries::new(rt.alloc());

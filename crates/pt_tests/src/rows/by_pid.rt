@@ -46,6 +46,57 @@ fn a_call_is_made_on_the_desk_of_its_pid(rt: HostRuntime) -> Result<(), Fail> {
     Ok(())
 }
 
+/// What a process tells of itself: its links, its open monitors and its watchers, in order of entry.
+#[test]
+fn a_process_tells_its_links_monitors_and_watchers(rt: HostRuntime) -> Result<(), Fail> {
+    let mut node = Node::open(rt.alloc(), two_desks(8))?;
+    assert_eq!(rt; node.spawn(0), Ok(A));
+    assert_eq!(rt; node.spawn(1), Ok(A1));
+    assert_eq!(rt; node.spawn_child(A, true), Ok(B));
+    assert_eq!(rt; node.link(A, A1), Ok(()));
+    let monitor = node.monitor(A, A1)?;
+    let watcher = node.monitor(A1, A)?;
+    let _ = node.turn_all(16);
+    let _ = node.turn_all(16);
+    let Some(told) = node.process(A) else {
+        panic!(rt; "it does not live");
+    };
+    assert_eq!(rt; told.links_len(), 2);
+    assert!(rt; told.link_at(0).is_some_and(|(peer, _ids)| peer == B));
+    assert!(rt; told.link_at(1).is_some_and(|(peer, _ids)| peer == A1));
+    assert!(rt; told.link_at(2).is_none());
+    assert_eq!(rt; told.monitors_len(), 1);
+    assert_eq!(rt; told.monitor_at(0), Some((monitor, A1)));
+    assert_eq!(rt; told.monitor_at(1), None);
+    assert_eq!(rt; told.watchers_len(), 1);
+    assert_eq!(rt; told.watcher_at(0), Some((watcher, A1)));
+    assert_eq!(rt; told.watcher_at(1), None);
+    assert!(rt; node.process(FAR).is_none());
+    assert!(rt; node.process(Pid { version: 2, ..A }).is_none());
+    Ok(())
+}
+
+#[test]
+fn a_program_reads_on_in_a_journal(rt: HostRuntime) -> Result<(), Fail> {
+    let mut node = Node::open(rt.alloc(), two_desks(8))?;
+    assert_eq!(rt; node.spawn(0), Ok(A));
+    assert_eq!(rt; node.spawn(0), Ok(B));
+    let seen = node.clock(0).unwrap_or(0);
+    assert_eq!(rt; node.send(A, B, HELLO), Ok(()));
+    let _ = node.turn(0, 16);
+    let Some(journal) = node.journal(0) else {
+        panic!(rt; "the node has the desk");
+    };
+    assert_eq!(rt; journal.since(0).len(), 4);
+    let [said, came] = *journal.since(seen) else {
+        panic!(rt; "two events are new");
+    };
+    assert_eq!(rt; said.stamp, 3);
+    assert_eq!(rt; came.stamp, 4);
+    assert!(rt; journal.since(4).is_empty());
+    Ok(())
+}
+
 #[test]
 fn what_the_node_does_not_have_is_refused(rt: HostRuntime) -> Result<(), Fail> {
     let mut node = Node::open(rt.alloc(), two_desks(8))?;
