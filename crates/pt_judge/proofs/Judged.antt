@@ -83,14 +83,14 @@ sent_is a b x l h k =
     let e2 : l.to ≡ b = sym (same_pid_is b l.to p.1) in
     λ i. record { from = e1 i; to = e2 i; signal = k i }
 
-front_found : (a b : Pid) (x : Signal) (flights : List Sent) → is_signal (option_map (λ (l : Sent). l.signal) (find (is_between a b) flights)) x ≡ true → find (is_between a b) flights ≡ Some (sent a b x)
+pub front_found : (a b : Pid) (x : Signal) (flights : List Sent) → is_signal (option_map (λ (l : Sent). l.signal) (find (is_between a b) flights)) x ≡ true → find (is_between a b) flights ≡ Some (sent a b x)
 front_found a b x flights h = go (find (is_between a b) flights) refl h
   where
     go : (o : Option Sent) → find (is_between a b) flights ≡ o → is_signal (option_map (λ (l : Sent). l.signal) o) x ≡ true → find (is_between a b) flights ≡ Some (sent a b x)
     go None e k = absurd (cc)
     go (Some l) e k = e ∙ ap (λ z. Some z) (sent_is a b x l (found_passes (is_between a b) flights l e) (signal_is l.signal x k))
 
-front_not_found : (a b : Pid) (x : Signal) (flights : List Sent) → is_signal (option_map (λ (l : Sent). l.signal) (find (is_between a b) flights)) x ≡ false → ¬ (find (is_between a b) flights ≡ Some (sent a b x))
+pub front_not_found : (a b : Pid) (x : Signal) (flights : List Sent) → is_signal (option_map (λ (l : Sent). l.signal) (find (is_between a b) flights)) x ≡ false → ¬ (find (is_between a b) flights ≡ Some (sent a b x))
 front_not_found a b x flights h e = both_ways _ h (ap (λ o. is_signal (option_map (λ (l : Sent). l.signal) o) x) e ∙ signal_refl x)
 
 module _ (start : Start) (past : Past) where

@@ -19,7 +19,7 @@ pub begins : (s : JudgeState) → s ≡ record { links = []; refs = []; lives = 
 begins s h = record { links_made = λ i. ap (λ z. list_any (same_link i) z.links) h; refs_made = λ m. ap (λ z. list_any (same_ref m) z.refs) h; alike = λ p. ap (λ z. now_is z p) h; flies = ap (λ z. z.flights) h }
 
 module _ (start : Start) where
-  same_known : (past : Past) (s : JudgeState) → IsAfter start past s → known s ≡ known_after start past
+  pub same_known : (past : Past) (s : JudgeState) → IsAfter start past s → known s ≡ known_after start past
   same_known past s k = λ i. record { links = λ j. k.links_made j i; refs = λ m. k.refs_made m i; is = λ p. k.alike p i; flights = k.flies i }
 
   no_memory : (past : Past) (e : Event) → ¬ Refuses start past e Memory

@@ -1,0 +1,73 @@
+use Rattle.std.proofs.Common.{◌≡◌, ◌+◌, ◌-◌, ◌^◌, ◌++◌, ◌∷◌, [], ◌∙◌, min, take, drop, get_or, refl, sym, subst, ap, length}
+use Rattle.std.proofs.lemmas.List.{take_all}
+use Rattle.pt_auditor.specs.declared.fault.Fault.{Fault}
+use Rattle.pt_auditor.specs.declared.fault.Why.TheVariants.{Long, Memory}
+use Rattle.pt_auditor.specs.Reading.{bare, OneMore, IsFault, IsRead, IsFaulty}
+use Rattle.pt_auditor.proofs.Read.{line_over, pushed, faulty, why_is, seam, next_byte, over_at, goes_on_at, plain_byte, pushed_items}
+use Rattle.pt_auditor.proofs.audit.Audit.read.Goals as goal
+
+pub returns-in-Err : goal.returns-in-Err
+returns-in-Err c text heard r =
+    let now = c.loop-place.invariant text heard r in
+    let n = c.loop-place.place in
+    let bytes = c.args.bytes.now in
+    let line = c.loop-place.line.items in
+    faulty (text ++ take n bytes) now.0 c.loop-place.hearing line c.loop-place.lines now.1 (text ++ bytes) (drop n bytes) _ (seam text bytes n) c.one_more.ensures
+    (why_is now.0 line (drop n bytes) c.in-Err.why
+    (over_at text bytes n (get_or bytes n 0) c.loop-place-test.true refl c.if-byte-eq10.true)
+    (subst (λ z. IsFault now.0 (bare z) c.in-Err.why) c.as_slice.ensures.value (c.in-Err.ensures now.0 now.1.heard)))
+
+pub loop-place-preserved-then-byte-eq10 : goal.loop-place-preserved-then-byte-eq10
+loop-place-preserved-then-byte-eq10 c text heard r =
+    let now = c.loop-place.invariant text heard r in
+    let n = c.loop-place.place in
+    let bytes = c.args.bytes.now in
+    let one = c.in-Ok.ensures now.0 now.1.heard in
+    let new = c.clear.new.self.items in (
+      one.0,
+      subst (λ z. IsRead z one.0 c.in-Ok.next new c.one_more-lines.result) (sym (next_byte text bytes n 10 c.loop-place-test.true (sym c.if-byte-eq10.true)))
+          (line_over (text ++ take n bytes) now.0 c.loop-place.hearing c.loop-place.line.items c.loop-place.lines now.1 one.0 c.in-Ok.next new c.one_more-lines.result
+          (subst (λ z. OneMore now.0 (bare z) one.0) c.as_slice.ensures.value one.1)
+          one.2 c.clear.ensures.items c.one_more-lines.ensures),
+    )
+
+pub returns-then-open-eq-MOST_LINE : goal.returns-then-open-eq-MOST_LINE
+returns-then-open-eq-MOST_LINE c text heard r =
+    let now = c.loop-place.invariant text heard r in
+    let n = c.loop-place.place in
+    let bytes = c.args.bytes.now in
+    let b = get_or bytes n 0 in
+    let f : Fault = record { line = min (c.loop-place.lines + 1) (2 ^ 64 - 1); why = Long } in
+    subst (IsFaulty (text ++ bytes)) (sym c.stop.ensures)
+    (faulty (text ++ take n bytes) now.0 c.loop-place.hearing c.loop-place.line.items c.loop-place.lines now.1 (text ++ bytes) (drop n bytes) f (seam text bytes n) refl
+    (sym (ap length c.as_slice-open.ensures.value) ∙ c.if-open-eq-MOST_LINE.true, goes_on_at text bytes n b c.loop-place-test.true refl (plain_byte b c.if-byte-eq10.false)))
+
+pub returns-then-is_err : goal.returns-then-is_err
+returns-then-is_err c text heard r =
+    let now = c.loop-place.invariant text heard r in
+    let n = c.loop-place.place in
+    let bytes = c.args.bytes.now in
+    let f : Fault = record { line = min (c.loop-place.lines + 1) (2 ^ 64 - 1); why = Memory } in
+    subst (IsFaulty (text ++ bytes)) (sym c.stop-then-is_err.ensures)
+    (faulty (text ++ take n bytes) now.0 c.loop-place.hearing c.loop-place.line.items c.loop-place.lines now.1 (text ++ bytes) (drop n bytes) f (seam text bytes n) refl tt)
+
+pub loop-place-preserved : goal.loop-place-preserved
+loop-place-preserved c text heard r =
+    let now = c.loop-place.invariant text heard r in
+    let n = c.loop-place.place in
+    let bytes = c.args.bytes.now in
+    let b = get_or bytes n 0 in
+    let new = c.push.new.self.items in (
+      now.0,
+      subst (λ z. IsRead z now.0 c.loop-place.hearing new c.loop-place.lines) (sym (next_byte text bytes n b c.loop-place-test.true refl))
+          (pushed (text ++ take n bytes) now.0 c.loop-place.hearing c.loop-place.line.items c.loop-place.lines now.1 b new (plain_byte b c.if-byte-eq10.false)
+          (c.push.ensures.items ∙ pushed_items c.push.result _ _ (sym c.is_err.ensures.value ∙ c.if-is_err.false))),
+    )
+
+pub returns : goal.returns
+returns c text heard r =
+    let now = c.loop-place.invariant text heard r in (
+      now.0,
+      subst (λ z. IsRead (text ++ z) now.0 c.loop-place.hearing c.loop-place.line.items c.loop-place.lines)
+          (take_all c.loop-place.place c.args.bytes.now c.loop-place-test.false) now.1,
+    )

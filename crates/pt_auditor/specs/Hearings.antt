@@ -1,0 +1,159 @@
+-- What was heard of a history, and what may be heard next.
+use Rattle.std.specs.Prelude.{◌≡◌, ℕ, ◌+◌, ◌-◌, ◌^◌, ◌==◌, min, max, nat_lt, Bool, true, false, ◌&&◌, ◌||◌, Option, Some, None, List, [], ◌∷◌, length, slice_get, Result, Ok, Err, ⊤}
+use Rattle.std.specs.List.{find}
+use Rattle.std.specs.Option.{option_map}
+use Rattle.pt_signal.specs.declared.pid.Pid.{Pid}
+use Rattle.pt_signal.specs.Values.{without_first}
+use Rattle.pt_signal.specs.Process.{Sent, sent}
+use Rattle.pt_events.specs.declared.event.Stamped.{Stamped}
+use Rattle.pt_events.specs.Journal.{events}
+use Rattle.pt_events.specs.History.{May, IsLegal, flying, is_between}
+use Rattle.pt_judge.specs.Judging.{known_after}
+use Rattle.pt_judge.specs.Judge.{IsCause, IsAfter}
+use Rattle.pt_texts.specs.declared.left_over.LeftOver.{LeftOver}
+use Rattle.pt_auditor.specs.declared.objection.Objection.{Objection}
+use Rattle.pt_auditor.specs.declared.objection.Objection.TheVariants.{Behind, Sinks, MayNot, OtherDesks, OtherLetter, Untold, Memory}
+use Rattle.pt_auditor.specs.declared.hearing.Hearing.{Hearing}
+use Rattle.pt_auditor.specs.declared.hearing.Verdict.{Verdict}
+use Rattle.pt_auditor.specs.Objecting.{contradiction}
+
+-- the events, the newest first, and the letters left over, the last told first
+pub record Heard : Type 0 where
+  pub events : List Stamped
+  pub left : List LeftOver
+
+-- the second comes after the first by stamp, and by desk where the stamps are the same
+abbrev pub follows : Stamped → Stamped → Bool
+follows t s = nat_lt t.stamp s.stamp || ((t.stamp == s.stamp) && nat_lt t.desk s.desk)
+
+abbrev pub newest : List Stamped → Option Stamped
+newest [] = None
+newest (s ∷ past) = Some s
+
+abbrev pub is_above : Option Stamped → Stamped → Bool
+is_above None s = true
+is_above (Some t) s = follows t s
+
+abbrev pub AreRising : List Stamped → Type 0
+AreRising [] = ⊤
+AreRising (s ∷ past) = (is_above (newest past) s ≡ true) × AreRising past
+
+-- one more than the greatest desk
+abbrev pub desks_of : List Stamped → ℕ
+desks_of [] = 0
+desks_of (s ∷ past) = max (desks_of past) (s.desk + 1)
+
+-- counts stop at the greatest number of 64 bits
+abbrev pub capped : ℕ → ℕ
+capped n = min n (2 ^ 64 - 1)
+
+-- the history leaves these on their way
+abbrev pub left_flying : List Stamped → List Sent
+left_flying past = flying [] (events past)
+
+-- what is on its way beside the letters that were told of
+abbrev pub still : List Sent → List LeftOver → List Sent
+still flights [] = flights
+still flights (l ∷ left) = without_first (is_between l.letter.from l.letter.to) (still flights left)
+
+-- the letter is the oldest on its way from its sender to its receiver
+abbrev pub IsOldest : List Sent → LeftOver → Type 0
+IsOldest flights l = find (is_between l.letter.from l.letter.to) flights ≡ Some (sent l.letter.from l.letter.to l.letter.signal)
+
+-- its desks are those of its sender and its receiver
+abbrev pub IsOfItsDesks : LeftOver → Type 0
+IsOfItsDesks l = (l.from_desk ≡ l.letter.from.shard) × (l.to_desk ≡ l.letter.to.shard)
+
+-- each letter is the oldest of those that were not told of before it
+abbrev pub AreTold : List Sent → List LeftOver → Type 0
+AreTold flights [] = ⊤
+AreTold flights (l ∷ left) = (IsOfItsDesks l × IsOldest (still flights left) l) × AreTold flights left
+
+-- what was heard may be as it is
+pub record IsStanding (t : Heard) : Type 0 where
+  pub legal : IsLegal [] (events t.events)
+  pub rising : AreRising t.events
+  pub told : AreTold (left_flying t.events) t.left
+
+-- the hearing heard this, and it may be as it is
+pub record IsHeard (t : Heard) (h : Hearing) : Type 0 where
+  pub stands : IsStanding t
+  -- what the judge knows is what the events lead to, without the letters that were told of
+  pub knows : IsAfter [] (events t.events) (record h.state { flights = left_flying t.events })
+  pub flies : h.state.flights ≡ still (left_flying t.events) t.left
+  pub last : h.last ≡ newest t.events
+  pub count : h.events ≡ capped (length t.events)
+  pub desks : h.desks ≡ desks_of t.events
+  pub letters : h.letters ≡ capped (length t.left)
+
+-- the event may be heard next: no letter was told of, it is above the event before, and it may come
+abbrev pub MayHear : Heard → Stamped → Type 0
+MayHear t s = (t.left ≡ []) × (is_above (newest t.events) s ≡ true) × May [] (events t.events) s.event
+
+abbrev pub with_event : Stamped → Heard → Heard
+with_event s t = record { events = s ∷ t.events; left = t.left }
+
+abbrev pub with_letter : LeftOver → Heard → Heard
+with_letter l t = record { events = t.events; left = l ∷ t.left }
+
+-- why the event may not be heard next: the first of these that holds, in this order
+abbrev pub IsObjection : Heard → Stamped → Objection → Type 0
+IsObjection t s Behind = ¬ (t.left ≡ [])
+IsObjection t s (Sinks last) = (t.left ≡ []) × (newest t.events ≡ Some last) × (follows last s ≡ false)
+IsObjection t s (MayNot c against) =
+    (t.left ≡ [])
+    × (is_above (newest t.events) s ≡ true)
+    × IsCause [] (events t.events) s.event c
+    × (against ≡ contradiction (known_after [] (events t.events)) s.event c)
+IsObjection t s Memory = MayHear t s
+IsObjection t s _ = ⊥
+
+abbrev pub Hears : Heard → Stamped → Result Hearing Objection → Type 0
+Hears t s (Ok h) = MayHear t s × IsHeard (with_event s t) h
+Hears t s (Err o) = IsObjection t s o
+
+-- why the letter may not be told of next
+abbrev pub IsMisfit : Heard → LeftOver → Objection → Type 0
+IsMisfit t l OtherDesks = ¬ IsOfItsDesks l
+IsMisfit t l (OtherLetter o) =
+    IsOfItsDesks l
+    × ¬ IsOldest (still (left_flying t.events) t.left) l
+    × (o ≡ option_map (λ f. f.signal) (find (is_between l.letter.from l.letter.to) (still (left_flying t.events) t.left)))
+IsMisfit t l _ = ⊥
+
+abbrev pub Tells : Heard → LeftOver → Result Hearing Objection → Type 0
+Tells t l (Ok h) = IsHeard (with_letter l t) h
+Tells t l (Err o) = IsMisfit t l o
+
+-- the counts of what was heard
+abbrev pub verdict_of : Heard → Verdict
+verdict_of t = record { events = capped (length t.events); desks = desks_of t.events; letters = capped (length t.left) }
+
+-- the letters told of are all that is on its way
+abbrev pub AllTold : Heard → Type 0
+AllTold t = still (left_flying t.events) t.left ≡ []
+
+-- what is on its way and was not told of, the oldest
+abbrev pub IsUntold : Heard → Objection → Type 0
+IsUntold t (Untold a b x) = slice_get (still (left_flying t.events) t.left) 0 ≡ Some (sent a b x)
+IsUntold t _ = ⊥
+
+abbrev pub Ends : Heard → Result Verdict Objection → Type 0
+Ends t (Ok v) = AllTold t × (v ≡ verdict_of t)
+Ends t (Err o) = IsUntold t o
+
+-- what the functions of the crate say of one event
+abbrev pub IsSunk : Option Stamped → Stamped → Option Stamped → Type 0
+IsSunk last s None = is_above last s ≡ true
+IsSunk last s (Some t) = (last ≡ Some t) × (follows t s ≡ false)
+
+abbrev pub Objects : Heard → Stamped → Option Objection → Type 0
+Objects t s None = MayHear t s
+Objects t s (Some o) = IsObjection t s o
+
+pub record IsWithout (a b : Pid) (old new : Hearing) : Type 0 where
+  pub state : new.state ≡ record old.state { flights = without_first (is_between a b) old.state.flights }
+  pub last : new.last ≡ old.last
+  pub count : new.events ≡ old.events
+  pub desks : new.desks ≡ old.desks
+  pub letters : new.letters ≡ min (old.letters + 1) (2 ^ 64 - 1)

@@ -1,0 +1,35 @@
+-- What an event that may not come contradicts.
+use Rattle.std.specs.Prelude.{Option, Some, None}
+use Rattle.std.specs.List.{find}
+use Rattle.std.specs.Option.{option_map}
+use Rattle.pt_signal.specs.declared.pid.Pid.{Pid}
+use Rattle.pt_signal.specs.Values.{fits}
+use Rattle.pt_events.specs.declared.event.Event.{Event}
+use Rattle.pt_events.specs.declared.event.Event.TheVariants.{Born, Said, Came, Took, Flag, Left, Refused}
+use Rattle.pt_events.specs.History.{reason_of, state_of, is_between}
+use Rattle.pt_judge.specs.declared.cause.Cause.{Cause}
+use Rattle.pt_judge.specs.declared.cause.Cause.TheVariants.{NotAlive, NotFront, NotFirstMatch}
+use Rattle.pt_judge.specs.Judging.{Known}
+use Rattle.pt_auditor.specs.declared.objection.Contradiction.{Contradiction}
+use Rattle.pt_auditor.specs.declared.objection.Contradiction.TheVariants.{Oldest, First, Dead, Nothing}
+
+-- who has to be alive for the event, if anyone
+abbrev pub author : Event → Option Pid
+author (Born p parent link) = parent
+author (Said a b x) = Some a
+author (Came a b x) = None
+author (Took p k i) = Some p
+author (Flag p on) = Some p
+author (Left p r) = Some p
+author (Refused a b) = Some a
+
+abbrev pub dead : Known → Option Pid → Contradiction
+dead k None = Nothing
+dead k (Some p) = Dead p (reason_of (k.is p))
+
+-- a receipt: the oldest signal on its way between the two; a take: the first item that fits; of one who is not alive its end
+abbrev pub contradiction : Known → Event → Cause → Contradiction
+contradiction k (Came a b x) NotFront = Oldest (option_map (λ l. l.signal) (find (is_between a b) k.flights))
+contradiction k (Took p j i) NotFirstMatch = First (find (fits j) (state_of (k.is p)).waiting)
+contradiction k e NotAlive = dead k (author e)
+contradiction k e c = Nothing

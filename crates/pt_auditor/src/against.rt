@@ -1,0 +1,50 @@
+//! What an event contradicts.
+
+ghost use Rattle.std.specs.Prelude.{◌≡◌};
+ghost use Rattle.pt_judge.specs.Judging.{known};
+ghost use Rattle.pt_auditor.specs.Objecting.{author, contradiction, dead};
+
+use crate::Contradiction;
+use pt_events::Event;
+use pt_judge::{Cause, State};
+use pt_signal::Pid;
+
+/// Who has to be alive for the event, if anyone.
+fn author(event: Event) -> Option<Pid>
+    ensures { result ≡ author event }
+{
+    match event {
+        Event::Born(_, parent, _) => parent,
+        Event::Said(from, _, _) => Some(from),
+        Event::Came(_, _, _) => None,
+        Event::Took(owner, _, _) => Some(owner),
+        Event::Flag(owner, _) => Some(owner),
+        Event::Left(owner, _) => Some(owner),
+        Event::Refused(from, _) => Some(from),
+    }
+}
+
+fn dead(state: &State, pid: Option<Pid>) -> Contradiction
+    ensures { result ≡ dead (known state.now) pid }
+{
+    match pid {
+        Some(pid) => Contradiction::Dead(pid, state.ended(pid)),
+        None => Contradiction::Nothing,
+    }
+}
+
+/// What the event contradicts, where it may not come for that cause.
+pub fn contradiction(state: &State, event: Event, cause: Cause) -> Contradiction
+    ensures { result ≡ contradiction (known state.now) event cause }
+{
+    match (cause, event) {
+        (Cause::NotFront, Event::Came(from, to, _)) => {
+            Contradiction::Oldest(state.oldest(from, to))
+        }
+        (Cause::NotFirstMatch, Event::Took(pid, pick, _)) => {
+            Contradiction::First(state.fitting(pid, pick))
+        }
+        (Cause::NotAlive, _) => dead(state, author(event)),
+        _ => Contradiction::Nothing,
+    }
+}

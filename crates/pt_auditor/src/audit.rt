@@ -1,0 +1,127 @@
+//! A history read from bytes.
+
+ghost use Rattle.std.specs.Prelude.{◌≡◌, ℕ, ◌+◌, ◌-◌, ◌^◌, [], List, min};
+ghost use Rattle.pt_auditor.specs.Hearings.{Heard, IsHeard};
+ghost use Rattle.pt_auditor.specs.Reading.{IsRead, Reads, Closes, Concludes};
+
+use crate::line::hear_line;
+use crate::{Fault, Hearing, MOST_LINE, Verdict, Why};
+use std::alloc::Global;
+
+/// A history as far as its text was read.
+///
+/// Contracts speak of the whole text so far, and of all that its lines tell, which no audit keeps.
+#[derive(Drop)]
+pub struct Audit {
+    hearing: Hearing,
+    /// What was read of the line that is not over.
+    line: Vec<u8>,
+    /// How many lines are over.
+    lines: u64,
+}
+
+fn one_more(count: u64) -> u64
+    ensures { result ≡ min (count + 1) (2 ^ 64 - 1) }
+{
+    count.saturating_add(1)
+}
+
+/// The verdict, where the text is over behind as many lines.
+fn conclude(hearing: Hearing, lines: u64) -> Result<Verdict, Fault>
+    ensures { (heard : Heard) → IsHeard heard hearing → Closes heard lines result }
+{
+    match hearing.end() {
+        Ok(verdict) => Ok(verdict),
+        Err(objection) => Err(Fault {
+            line: one_more(lines),
+            why: Why::Over(objection),
+        }),
+    }
+}
+
+/// The fault of the line behind as many lines. The hearing goes.
+fn stop(hearing: Hearing, lines: u64, why: Why) -> Fault
+    ensures { result ≡ record { line = min (lines + 1) (2 ^ 64 - 1); why = why } }
+{
+    let _ = hearing;
+    Fault {
+        line: one_more(lines),
+        why,
+    }
+}
+
+impl Audit {
+    /// Nothing was read.
+    pub fn new(alloc: Global) -> Audit
+        ensures { IsRead [] (record { events = []; left = [] }) result.hearing result.line.items result.lines }
+    {
+        Audit {
+            hearing: Hearing::new(alloc),
+            line: Vec::new(alloc),
+            lines: 0,
+        }
+    }
+
+    /// Reads the next bytes, of which any number may be given. The first line at fault is told, as soon as its line feed
+    /// is read, or the byte by which it is too long; the audit goes with it.
+    pub fn read(self, alloc: Global, bytes: &[u8]) -> Result<Audit, Fault>
+        ensures { (text : List ℕ) (heard : Heard) → IsRead text heard self.hearing self.line.items self.lines → Reads text bytes.now result }
+    {
+        let Audit {
+            mut hearing,
+            mut line,
+            mut lines,
+        } = self;
+        for place in 0..bytes.len() {
+            let byte = bytes[place];
+            if byte == 10 {
+                match hear_line(alloc, hearing, line.as_slice()) {
+                    Ok(next) => hearing = next,
+                    Err(why) => {
+                        return Err(Fault {
+                            line: one_more(lines),
+                            why,
+                        });
+                    }
+                }
+                line.clear();
+                lines = one_more(lines);
+                continue;
+            }
+            let open = line.as_slice();
+            if open.len() == MOST_LINE {
+                return Err(stop(hearing, lines, Why::Long));
+            }
+            if line.push(byte).is_err() {
+                return Err(stop(hearing, lines, Why::Memory));
+            }
+        }
+        Ok(Audit {
+            hearing,
+            line,
+            lines,
+        })
+    }
+
+    /// The verdict on the whole text, whose last line needs no line feed.
+    pub fn end(self, alloc: Global) -> Result<Verdict, Fault>
+        ensures { (text : List ℕ) (heard : Heard) → IsRead text heard self.hearing self.line.items self.lines → Concludes text result }
+    {
+        let Audit {
+            hearing,
+            line,
+            lines,
+        } = self;
+        let open = line.as_slice();
+        if open.len() == 0 {
+            return conclude(hearing, lines);
+        }
+        match hear_line(alloc, hearing, open) {
+            Ok(hearing) => conclude(hearing, one_more(lines)),
+            Err(why) => Err(Fault {
+                line: one_more(lines),
+                why,
+            }),
+        }
+    }
+}

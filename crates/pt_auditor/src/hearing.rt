@@ -1,0 +1,194 @@
+//! A history heard event by event.
+
+ghost use Rattle.std.specs.Prelude.{◌≡◌, ◌+◌, ◌-◌, ◌^◌, [], None, min, max};
+ghost use Rattle.pt_judge.specs.Judging.{cause, known};
+ghost use Rattle.pt_auditor.specs.Hearings.{Heard, IsHeard, Hears, Tells, Ends, IsSunk, IsWithout, Objects, follows};
+
+use crate::Objection;
+use crate::against::contradiction;
+use pt_events::{Event, Stamped};
+use pt_judge::State;
+use pt_signal::{Letter, Pid};
+use pt_texts::LeftOver;
+use std::alloc::Global;
+
+/// What is heard of a history: its events, and then the letters that it leaves over.
+///
+/// Contracts speak of all that was heard by `Heard`, which no hearing keeps. So a caller names what it has told a
+/// hearing, and each call says what was heard after it.
+#[derive(Drop)]
+pub struct Hearing {
+    state: State,
+    /// The event heard last.
+    last: Option<Stamped>,
+    events: u64,
+    /// One more than the greatest desk of an event.
+    desks: u16,
+    letters: u64,
+}
+
+/// What a history comes to that may be as it is. Counts stop at the greatest number of 64 bits.
+#[derive(Clone, Copy, Debug, PartialEq, Eq)]
+pub struct Verdict {
+    pub events: u64,
+    /// One more than the greatest number of a desk that has an event.
+    pub desks: u16,
+    /// The letters on their way at the end.
+    pub letters: u64,
+}
+
+/// One more, or the greatest number.
+fn one_more(count: u64) -> u64
+    ensures { result ≡ min (count + 1) (2 ^ 64 - 1) }
+{
+    count.saturating_add(1)
+}
+
+/// How many desks there are at least, beside those.
+fn desks_with(desks: u16, desk: u8) -> u16
+    ensures { result ≡ max desks (desk + 1) }
+{
+    let desk = desk as u16;
+    if desk < desks { desks } else { desk + 1 }
+}
+
+/// Whether the second comes after the first by its stamp and its desk.
+fn follows(last: Stamped, stamped: Stamped) -> bool
+    ensures { result ≡ follows last stamped }
+{
+    last.stamp < stamped.stamp || (last.stamp == stamped.stamp && last.desk < stamped.desk)
+}
+
+/// The event heard last, where the next does not follow it.
+fn sunk(last: Option<Stamped>, stamped: Stamped) -> Option<Stamped>
+    ensures { IsSunk last stamped result }
+{
+    match last {
+        Some(last) => {
+            if follows(last, stamped) {
+                None
+            } else {
+                Some(last)
+            }
+        }
+        None => None,
+    }
+}
+
+/// Why the event may not come next, if it may not.
+fn objection(hearing: &Hearing, stamped: Stamped) -> Option<Objection>
+    ensures objects { (heard : Heard) → IsHeard heard hearing.now → Objects heard stamped result }
+    ensures free { result ≡ None → cause (known hearing.now.state) stamped.event ≡ None }
+{
+    if hearing.letters > 0 {
+        return Some(Objection::Behind);
+    }
+    if let Some(last) = sunk(hearing.last, stamped) {
+        return Some(Objection::Sinks(last));
+    }
+    match hearing.state.cause(stamped.event) {
+        Some(cause) => {
+            let against = contradiction(&hearing.state, stamped.event, cause);
+            Some(Objection::MayNot(cause, against))
+        }
+        None => None,
+    }
+}
+
+impl Hearing {
+    /// Nothing was heard.
+    pub fn new(alloc: Global) -> Hearing
+        ensures { IsHeard (record { events = []; left = [] }) result }
+    {
+        Hearing {
+            state: State::new(alloc),
+            last: None,
+            events: 0,
+            desks: 0,
+            letters: 0,
+        }
+    }
+
+    /// Hears the next event. It is refused where a letter left over was told of before ([`Objection::Behind`]), where it
+    /// does not follow the event before by stamp and desk ([`Objection::Sinks`]), where it may not come
+    /// ([`Objection::MayNot`]), and where memory is wanting; the first of these is told. The hearing goes with a refusal.
+    pub fn hear(self, alloc: Global, stamped: Stamped) -> Result<Hearing, Objection>
+        ensures { (heard : Heard) → IsHeard heard self → Hears heard stamped result }
+    {
+        if let Some(objection) = objection(&self, stamped) {
+            return Err(objection);
+        }
+        let Hearing {
+            state,
+            events,
+            desks,
+            ..
+        } = self;
+        match state.after(alloc, stamped.event) {
+            Ok(state) => Ok(Hearing {
+                state,
+                last: Some(stamped),
+                events: one_more(events),
+                desks: desks_with(desks, stamped.desk),
+                letters: 0,
+            }),
+            Err(_) => Err(Objection::Memory),
+        }
+    }
+
+    /// Is told of the next letter left over. It is refused where its desks are not those of its sender and its receiver
+    /// ([`Objection::OtherDesks`]), and where it is not the oldest on its way between the two, of which was not told
+    /// before ([`Objection::OtherLetter`]). Its stamp is not compared: a state keeps none.
+    pub fn tell(self, left: LeftOver) -> Result<Hearing, Objection>
+        ensures { (heard : Heard) → IsHeard heard self → Tells heard left result }
+    {
+        let Letter {
+            from,
+            to,
+            signal,
+            ..
+        } = left.letter;
+        if left.from_desk != from.shard || left.to_desk != to.shard {
+            return Err(Objection::OtherDesks);
+        }
+        match self.state.cause(Event::Came(from, to, signal)) {
+            Some(_) => Err(Objection::OtherLetter(self.state.oldest(from, to))),
+            None => Ok(self.without_oldest(from, to)),
+        }
+    }
+
+    /// One letter less is on its way.
+    fn without_oldest(self, from: Pid, to: Pid) -> Hearing
+        ensures { IsWithout from to self result }
+    {
+        let Hearing {
+            state,
+            last,
+            events,
+            desks,
+            letters,
+        } = self;
+        Hearing {
+            state: state.without_oldest(from, to),
+            last,
+            events,
+            desks,
+            letters: one_more(letters),
+        }
+    }
+
+    /// The verdict, where nothing is on its way that was not told of; else the oldest that is
+    /// ([`Objection::Untold`]).
+    pub fn end(&self) -> Result<Verdict, Objection>
+        ensures { (heard : Heard) → IsHeard heard self.now → Ends heard result }
+    {
+        match self.state.front() {
+            Some((from, to, signal)) => Err(Objection::Untold(from, to, signal)),
+            None => Ok(Verdict {
+                events: self.events,
+                desks: self.desks,
+                letters: self.letters,
+            }),
+        }
+    }
+}
