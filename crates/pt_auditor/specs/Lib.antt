@@ -1,3 +1,4 @@
 pub mod Hearings
 pub mod Objecting
 pub mod Reading
+pub mod Text

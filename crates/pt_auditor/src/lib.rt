@@ -6,7 +6,7 @@
 //!
 //! An [`Audit`] reads the same from bytes, as a program prints a history: a line an event, then a line a letter left over.
 //! It takes the bytes in pieces of any size, keeps one line of them, and answers the first line at fault by its number.
-#![tactic(auto)]
+#![tactic(auto, unfolding(crate::specs::Text::verdict_text))]
 
 mod against;
 mod audit;
@@ -14,6 +14,7 @@ mod fault;
 mod hearing;
 mod line;
 mod objection;
+mod text;
 
 pub use audit::Audit;
 pub use fault::{Fault, MOST_LINE, Why};
