@@ -36,6 +36,9 @@ use std::alloc::{AllocError, Global};
 use std::marker::Model;
 
 /// A desk without its lanes: its processes, its clock and journal, and the letters that wait in it.
+///
+/// A call writes its event, changes the process that makes it, and puts letters out; what it is to the other process, in
+/// Erlang's words, the desk's call of the same name says.
 #[derive(Drop)]
 pub struct Shard {
     alloc: Global,
@@ -185,10 +188,9 @@ impl Shard {
         self.house.vacant()
     }
 
-    /// Sends a message: Erlang's `!`, chapter Processes, section Signals.
+    /// Writes that a process sends a message, and puts its letter out.
     ///
-    /// It comes to the receiver after all that the sender sent it before. A receiver that is not alive then loses
-    /// it, and nobody is told. Refused as `Gone`, `Worn` or `Memory`.
+    /// Refused as `Gone`, `Worn` or `Memory`.
     pub fn send(&mut self, from: Pid, to: Pid, body: Body) -> Result<(), Fault>
         requires { knows self.old to ≡ true }
         ensures does { Calls from (Some (Event.Said from to (Signal.Message body))) tt self.old result self.new }
@@ -199,11 +201,9 @@ impl Shard {
         self.say(from, to, Signal::Message(body))
     }
 
-    /// Sends an exit signal that no link carries: Erlang's `exit/2`, section Receiving Exit Signals.
+    /// Writes that a process sends an exit signal that no link carries, and puts its letter out.
     ///
-    /// `kill` ends its receiver whether it traps or not, with the reason `killed`. A receiver that traps gets any
-    /// other as an item. One that does not is ended by it, with that reason, except that `normal` ends it only where
-    /// it is the sender itself. Refused as `Gone`, `Worn` or `Memory`.
+    /// Refused as `Gone`, `Worn` or `Memory`.
     pub fn exit_signal(&mut self, from: Pid, to: Pid, reason: Reason) -> Result<(), Fault>
         requires { knows self.old to ≡ true }
         ensures does { Calls from (Some (Event.Said from to (Signal.Exit reason))) tt self.old result self.new }
@@ -214,10 +214,10 @@ impl Shard {
         self.say(from, to, Signal::Exit(reason))
     }
 
-    /// Links p with another process: Erlang's `link/1`, section Links.
+    /// Enters p's own half of a link, and puts the letter out that enters the other. Nothing happens where p is the target,
+    /// or holds a link with it.
     ///
-    /// Nothing happens where p is the target, or holds a link with it. A target that is not alive when the link
-    /// comes answers it by an exit signal with `noproc`. Refused as `Gone`, `Worn` or `Memory`.
+    /// Refused as `Gone`, `Worn` or `Memory`.
     pub fn link(&mut self, p: Pid, to: Pid) -> Result<(), Fault>
         requires { knows self.old to ≡ true }
         ensures does { Calls p (link_event self.old p to) tt self.old result self.new }
@@ -231,10 +231,9 @@ impl Shard {
         keep_link(process, &mut self.ledger, p, to)
     }
 
-    /// Takes the link of p with another process back: Erlang's `unlink/1`, section Links.
+    /// Takes p's own half of a link out, and puts the letter out that takes the other. Nothing happens where there is none.
     ///
-    /// Nothing happens where there is none. An exit signal that the link carries has no effect on p from here on: it
-    /// may still come, and is dropped. Refused as `Gone`, `Worn` or `Memory`.
+    /// Refused as `Gone`, `Worn` or `Memory`.
     pub fn unlink(&mut self, p: Pid, to: Pid) -> Result<(), Fault>
         requires { knows self.old to ≡ true }
         ensures does { Calls p (unlink_event self.old p to) tt self.old result self.new }
@@ -248,10 +247,9 @@ impl Shard {
         drop_link(process, &mut self.ledger, p, to)
     }
 
-    /// Sets whether p traps exits, and answers whether it did: Erlang's `process_flag(trap_exit, _)`, section
-    /// Receiving Exit Signals.
+    /// Writes that p traps exits from now on, or does not, and answers whether it did.
     ///
-    /// The flag counts when an exit signal comes, not when it is sent. Refused as `Gone`, `Worn` or `Memory`.
+    /// Refused as `Gone`, `Worn` or `Memory`.
     pub fn trap(&mut self, p: Pid, on: bool) -> Result<bool, Fault>
         ensures does { Calls p (Some (Event.Flag p on)) (state_in self.old p).traps self.old result self.new }
         ensures extends { Extends self.old self.new }
@@ -263,11 +261,10 @@ impl Shard {
         set_flag(process, &mut self.ledger, p, on)
     }
 
-    /// Takes the first item that fits out of the mailbox of p; the others stay, in order: Erlang's `receive`
-    /// with `after 0`, chapter Expressions, section Receive.
+    /// Takes the first item that fits out of the mailbox of p, and writes it down; `Ok(None)` says that nothing fits, and has
+    /// no event.
     ///
-    /// `Ok(None)` says that nothing fits; it has no event. Refused as `Gone`, or where an item fits, as `Worn` or
-    /// `Memory`.
+    /// Refused as `Gone`, or where an item fits, as `Worn` or `Memory`.
     pub fn receive(&mut self, p: Pid, pick: Pick) -> Result<Option<Item>, Fault>
         ensures does { Calls p (take_event self.old p pick) (first_match self.old p pick) self.old result self.new }
         ensures extends { Extends self.old self.new }
@@ -279,11 +276,9 @@ impl Shard {
         take(process, &mut self.ledger, p, pick)
     }
 
-    /// Watches another process: Erlang's `monitor/2`, section Monitors. It answers the reference, which the one
-    /// DOWN will have.
+    /// Opens a monitor of w under a new reference, which it answers, and puts the letter out that tells the target.
     ///
-    /// A target that is not alive when the monitor comes is answered by a DOWN with `noproc`. Refused as `Gone`,
-    /// as `Myself` where w is the target, as `Worn` or `Memory`.
+    /// Refused as `Gone`, as `Myself` where w is the target, as `Worn` or `Memory`.
     pub fn monitor(&mut self, w: Pid, t: Pid) -> Result<Ref, Fault>
         requires { knows self.old t ≡ true }
         ensures does { Monitors w t self.old result self.new }
@@ -300,11 +295,10 @@ impl Shard {
         open_monitor(process, &mut self.ledger, w, t)
     }
 
-    /// Gives a monitor of w up: Erlang's `demonitor/2`, section Monitors. It answers whether it wrote an event.
+    /// Closes a monitor of w and puts the letter out that tells the target, or takes its DOWN out of the mailbox, where
+    /// `flush` asks for it and it waits. It answers whether it wrote an event.
     ///
-    /// A monitor is open until its DOWN comes to w, or w gives it up or ends. Of an open one no DOWN joins the mailbox
-    /// any more. Of any other the DOWN is taken out of the mailbox, where `flush` asks for it and it waits. Refused as
-    /// `Gone`, or where there is an event to write, as `Worn` or `Memory`.
+    /// Refused as `Gone`, or where there is an event to write, as `Worn` or `Memory`.
     pub fn demonitor(&mut self, w: Pid, monitor: Ref, flush: bool) -> Result<bool, Fault>
         ensures does { Calls w (demonitor_event self.old w monitor flush) (is_some (demonitor_event self.old w monitor flush)) self.old result self.new }
         ensures extends { Extends self.old self.new }
@@ -316,11 +310,9 @@ impl Shard {
         close_monitor(process, &mut self.ledger, w, monitor, flush)
     }
 
-    /// Asks whether another process is alive: Erlang's `is_process_alive/1`, section Processes and Erlang's signals. It
-    /// answers the reference, which the answer will have.
+    /// Puts a question out, whether t is alive, under a new reference, which it answers; t may be p.
     ///
-    /// The answer comes as an item, after all that t sent p before; t may be p. Refused as `Gone`, `Worn` or
-    /// `Memory`.
+    /// Refused as `Gone`, `Worn` or `Memory`.
     pub fn ask_alive(&mut self, p: Pid, t: Pid) -> Result<Ref, Fault>
         requires { knows self.old t ≡ true }
         ensures does { Calls p (Some (Event.Said p t (Signal.AliveAsk (new_ref self.old)))) (new_ref self.old) self.old result self.new }
@@ -357,11 +349,11 @@ impl Shard {
         }
     }
 
-    /// Ends p with this reason: Erlang's `exit/1`, section Process Termination.
+    /// Takes p out of its slot, which is free for its next version, or retired where p had the top one, and puts out what it
+    /// owes: an exit signal to each linked process, a DOWN to each watcher, and to the target of each open monitor that it is
+    /// watched no more.
     ///
-    /// Each process that it holds a link with is sent an exit signal, then each watcher its DOWN, then each target of
-    /// an open monitor is told that it is watched no more. The items that wait are dropped. The slot is free for its
-    /// next version, or retired where p had the top one. Refused as `Gone`, `Worn` or `Memory`.
+    /// Refused as `Gone`, `Worn` or `Memory`.
     pub fn exit(&mut self, p: Pid, reason: Reason) -> Result<(), Fault>
         ensures does { Calls p (Some (Event.Left p reason)) tt self.old result self.new }
         ensures extends { Extends self.old self.new }
@@ -376,11 +368,9 @@ impl Shard {
         Ok(())
     }
 
-    /// Makes a process that no other one bears: Erlang's `spawn/1`, called from outside of the desk (section Process
-    /// Creation).
+    /// Puts a process into the slot that `vacant` tells, under its next version.
     ///
-    /// Its pid is the one that `vacant` tells, which no process had before. Refused as `Worn` where the clock is at
-    /// its limit, then as `Full` where no slot is free, then as `Memory`.
+    /// Refused as `Worn` where the clock is at its limit, then as `Full` where no slot is free, then as `Memory`.
     pub fn spawn(&mut self) -> Result<Pid, Fault>
         ensures does { Bears None None self.old result self.new }
         ensures known { IfOk result (λ p. (p.shard ≡ self.new.number) × (knows self.new p ≡ true)) }
@@ -399,11 +389,9 @@ impl Shard {
         Ok(pid)
     }
 
-    /// Makes a process that its parent bears, linked with it where that is asked: Erlang's `spawn/1` and
-    /// `spawn_link/1`, sections Process Creation and Links.
+    /// The same of a child; where it is linked both halves stand at once, without a letter.
     ///
-    /// Both halves of the link stand at once, without a letter. Refused as `Gone` where the parent is not alive here,
-    /// then as `Worn` where the clock is at its limit, then as `Full` where no slot is free, then as `Memory`.
+    /// Refused as `Gone` where the parent is not alive here, then as `spawn` refuses it.
     pub fn spawn_child(&mut self, parent: Pid, linked: bool) -> Result<Pid, Fault>
         ensures does { BearsChild parent linked self.old result self.new }
         ensures known { IfOk result (λ p. (p.shard ≡ self.new.number) × (knows self.new p ≡ true)) }
