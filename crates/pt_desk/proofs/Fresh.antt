@@ -20,6 +20,7 @@ pub fresh_accounted : (c : Config) (pairs : List (OutEnds × InEnds)) (capacity 
 fresh_accounted c pairs capacity d x node count new d_in is =
     let within : d < length pairs = omega arith in
     record {
+      first = refl;
       out_number = out_number places pairs node d x within is;
       in_number = in_number places pairs node d x within is;
       out_desks = out_lanes places pairs node d x within is ∙ count;

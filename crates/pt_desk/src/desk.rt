@@ -65,8 +65,9 @@ impl Desk {
     ///
     /// The ends are those of the shard's number, and the accounts agree: what the shard's journal sent to each desk is
     /// what was posted there and then what waits in its outbox, and what was collected from each desk is what its
-    /// journal received from there and then the letter in its hold. The seat is the home of this desk alone, and the ends
-    /// that it has told are those of the journal; of each refused call it had seen the end, at a lower stamp.
+    /// journal received from there and then the letter in its hold. Nothing was before the journal. The seat is the home
+    /// of this desk alone, and the ends that it has told are those of the journal; of each refused call it had seen the
+    /// end, at a lower stamp.
     pub fn whole(
         shard: Shard,
         outs: Outs,

@@ -15,15 +15,9 @@ use Rattle.pt_gathered.specs.Gathered.{GatheredState, IsGathered, start_of, begi
 use Rattle.pt_gathered.specs.Taking.{AreShards}
 
 -- the desks, which began with nothing, began together with nothing
-all_empty : (shards : List ShardState) → ((d : ℕ) (x : ShardState) → d < length shards → (get_or shards d x).start ≡ []) → start_of shards ≡ []
+pub all_empty : (shards : List ShardState) → ((d : ℕ) (x : ShardState) → d < length shards → (get_or shards d x).start ≡ []) → start_of shards ≡ []
 all_empty [] h = refl
 all_empty (s ∷ shards) h = rw (h 0 s (omega arith)) (all_empty shards (λ d x l. h (suc d) x (omega arith)))
-
-pub nobody_before : (config : Config) (shards : List ShardState) → AreShards config shards → start_of shards ≡ []
-nobody_before config shards all = all_empty shards (λ d x h. (all d x h).fit.first)
-
-pub begins_empty : (g : GatheredState) → IsGathered g → begins g ≡ []
-begins_empty g whole = nobody_before g.config g.shards whole.shards
 
 -- the processes of each desk, numbered from n on, are of that desk
 abbrev Own : ℕ → List ShardState → Type 0

@@ -395,6 +395,7 @@ module _ (config : Config) (shards : List ShardState) (lanes : List (List Letter
       agree = λ i k hi hk. agree_step old_node new_node whole d e l receives d_in e_in i k (omega (arith, hi, count2)) (omega (arith, hk, count2));
       refusals = refusals_two;
       begun = subst (IsBeginning config.start) (sym same_begins) whole.begun;
+      nobody = same_begins ∙ whole.nobody;
     }
 
 -- the receiver and the sender of the first letter are of the two desks

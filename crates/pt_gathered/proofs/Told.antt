@@ -8,7 +8,6 @@ use Rattle.pt_lives.specs.DeskLives.{DeskTable, IsDeskJournal, IsTableOf}
 use Rattle.pt_lives.specs.LivesState.{Lives, Adds, AreLivesOf}
 use Rattle.pt_shard.specs.ShardState.{ShardState}
 use Rattle.pt_gathered.specs.Gathered.{GatheredState, IsGathered, begins, journals}
-use Rattle.pt_gathered.proofs.Starts.{begins_empty}
 use Rattle.pt_gathered.proofs.Lawful.{locals, past_end}
 
 -- the tables made so far have what the journals say
@@ -36,7 +35,7 @@ may_be_read g whole k j is = (
   g.config.start,
   g.config.top_version,
   subst (λ d. IsLocal [] g.config.start g.config.top_version d j.past) (sym is.desk) (subst (IsLocal [] g.config.start g.config.top_version k) (sym is.past)
-      (subst (λ b. IsLocal b g.config.start g.config.top_version k (journals g k)) (begins_empty g whole) (locals g whole k))),
+      (subst (λ b. IsLocal b g.config.start g.config.top_version k (journals g k)) whole.nobody (locals g whole k))),
 )
 
 get_push : {X : Type 0} (xs : List X) (y d : X) (i : ℕ) → i < length (xs ++ y ∷ []) → ((i < length xs) × (get_or (xs ++ y ∷ []) i d ≡ get_or xs i d)) ⊎ ((i ≡ length xs) × (get_or (xs ++ y ∷ []) i d ≡ y))
@@ -54,7 +53,7 @@ told_more g whole k j lives new is n told adds = subst (λ z. AreTold g z × (le
 
     here : IsTableOf (begins g) k (events (journals g k)) t
     here =
-        subst (λ b. IsTableOf b k (events (journals g k)) t) (sym (begins_empty g whole))
+        subst (λ b. IsTableOf b k (events (journals g k)) t) (sym whole.nobody)
         (subst (λ z. IsTableOf [] k (events z) t) is.past (subst (λ d. IsTableOf [] d (events j.past) t) is.desk adds.1))
 
     more : AreTold g (lives ++ t ∷ [])
@@ -67,4 +66,4 @@ told_more g whole k j lives new is n told adds = subst (λ z. AreTold g z × (le
 -- all tables
 pub are_lives : (g : GatheredState) → IsGathered g → (lives : Lives) → length g.shards ≤ length lives → AreTold g lives → AreLivesOf (begins g) (journals g) lives
 are_lives g whole lives n told =
-    record { desks = record { low = g.config.start; top = g.config.top_version; local = locals g whole }; told = told; rest = λ d h. past_end g whole d (omega arith); nobody = λ p h. subst (λ b. at_start b p ≡ unborn) (sym (begins_empty g whole)) refl }
+    record { desks = record { low = g.config.start; top = g.config.top_version; local = locals g whole }; told = told; rest = λ d h. past_end g whole d (omega arith); nobody = λ p h. subst (λ b. at_start b p ≡ unborn) (sym whole.nobody) refl }

@@ -60,3 +60,5 @@ pub record IsGathered (g : GatheredState) : Type 0 where
   pub agree : (d e : ℕ) → d < length g.shards → e < length g.shards → Agrees (posts (begins g) (journals g d) e) (gots (journals g e) d) (over_in g.shards g.lanes d e)
   pub refusals : RefusalsAreTrue (begins g) (journals g)
   pub begun : IsBeginning g.config.start (begins g)
+  -- nothing was before any journal
+  pub nobody : begins g ≡ []

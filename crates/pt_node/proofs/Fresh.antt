@@ -39,6 +39,7 @@ module _ (config : Config) (shards : List ShardState) (pairs : List (OutEnds × 
           let fresh_ends = new k p in_desks in
           let all : length (map places pairs) ≡ config.desks = length-map pairs places ∙ count in
           subst (λ z. IsAccounted z (get_or pairs k p).0 (get_or pairs k p).1) (sym (are.fresh_each k s h)) (record {
+            first = refl;
             out_number = ap (λ (z : Place × Place). z.0.number) (sym at) ∙ numbers.0;
             in_number = ap (λ (z : Place × Place). z.1.number) (sym at) ∙ numbers.1;
             out_desks = ap (λ (z : Place × Place). length z.0.rings) (sym at) ∙ rings.0 ∙ all;

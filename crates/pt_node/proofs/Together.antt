@@ -22,7 +22,7 @@ use Rattle.pt_shard.specs.Outbox.{held_from}
 use Rattle.pt_gathered.specs.Gathered.{GatheredState, IsGathered, begins, IsShardOf, journal_at, box_at, hold_at, over_in}
 use Rattle.pt_gathered.specs.Taking.{AreShards}
 use Rattle.pt_gathered.specs.Beginning.{IsBeginning}
-use Rattle.pt_gathered.proofs.Starts.{nobody_before, start_same, from_nothing}
+use Rattle.pt_gathered.proofs.Starts.{all_empty, start_same, from_nothing}
 use Rattle.pt_gathered.proofs.Agreeing.{local_as}
 use Rattle.pt_gathered.proofs.Owned.{life_same, posts_same}
 use Rattle.pt_events.proofs.Agreeing.{Agrees-posted}
@@ -91,7 +91,11 @@ module _ (desks : List DeskState) (g : GatheredState) (whole : AreWhole desks) (
   are_shards d y h = is_shard d y (omega (arith, h, count))
 
   nobody : begins g ≡ []
-  nobody = nobody_before g.config g.shards are_shards
+  nobody =
+      all_empty g.shards (λ d y h.
+      let d_in : d < length desks = omega (arith, h, count) in
+      let x : DeskState = some_desk desks d d_in in
+      ap (λ (s : ShardState). s.start) (shard_at d x y d_in) ∙ (whole d x d_in).accounts.first)
 
   agree_at : (d e : ℕ) → d < length desks → e < length desks → Agrees (posts (begins g) (journal_at g.shards d) e) (gots (journal_at g.shards e) d) (over_in g.shards g.lanes d e)
   agree_at d e h k =
@@ -165,6 +169,7 @@ module _ (desks : List DeskState) (g : GatheredState) (whole : AreWhole desks) (
     agree = λ d e h k. agree_at d e (omega (arith, h, count)) (omega (arith, k, count));
     refusals = refusals_at;
     begun = subst (IsBeginning g.config.start) (sym nobody) (from_nothing g.config.start);
+    nobody = nobody;
   }
 
 pub same_journals : (desks : List DeskState) (g : GatheredState) → g.shards ≡ all_shards desks → HasJournalsOf desks g

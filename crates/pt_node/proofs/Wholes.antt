@@ -34,6 +34,7 @@ kept_accounted s p q k a =
     let in_place : p.1.place ≡ q.1.place = ap (λ z. z.1.0) k in
     let collected : p.1.collected ≡ q.1.collected = ap (λ z. z.1.2) k in
     record {
+      first = a.first;
       out_number = ap (λ (z : Place). z.number) (sym out_place) ∙ a.out_number;
       in_number = ap (λ (z : Place). z.number) (sym in_place) ∙ a.in_number;
       out_desks = ap (λ (z : Place). length z.rings) (sym out_place) ∙ a.out_desks;

@@ -273,7 +273,6 @@ same_whole a book house whole b d same =
         fit = record {
           settings = whole.sound.fit.settings;
           here = whole.sound.fit.here;
-          first = whole.sound.fit.first;
           begun = whole.sound.fit.begun;
           clock_is = whole.sound.fit.clock_is;
           local = whole.sound.fit.local;

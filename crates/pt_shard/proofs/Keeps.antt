@@ -121,7 +121,6 @@ module _ (a : Parts) (whole : IsWhole a) where
     fit_written = record {
       settings = whole.sound.fit.settings;
       here = whole.sound.fit.here;
-      first = whole.sound.fit.first;
       begun = whole.sound.fit.begun;
       clock_is = refl;
       local = (record { here = refl; later = let k = whole.sound.fit.clock_is in omega (arith, law.later); within = law.fits; home = law.home; may = law.may; new_at = law.new_at; known = law.known }, whole.sound.fit.local);

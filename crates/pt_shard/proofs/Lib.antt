@@ -13,6 +13,8 @@ mod Receiving
 mod Outcomes
 mod Bearing
 mod Standing
+mod Left
+mod Restarting
 mod Acted
 mod Taken
 mod Vacancy

@@ -31,7 +31,6 @@ module _ (a : Parts) (whole : IsWhole a) (outbox : List (List Letter)) (hold : O
       fit = record {
         settings = whole.sound.fit.settings;
         here = whole.sound.fit.here;
-        first = whole.sound.fit.first;
         begun = whole.sound.fit.begun;
         clock_is = whole.sound.fit.clock_is;
         local = whole.sound.fit.local;
@@ -112,7 +111,6 @@ module _ (config : Config) (settings : IsInRange config) (house : ResidentsState
       fit = record {
         settings = settings;
         here = inside;
-        first = refl;
         begun = record { own = tt; near = λ p. tt };
         clock_is = refl;
         local = tt;

@@ -34,8 +34,6 @@ IsNextBirth d None =
 pub record IsFit (d : ShardState) : Type 0 where
   pub settings : IsInRange d.config
   pub here : d.number < d.config.desks
-  -- nothing was before the journal
-  pub first : d.start ≡ []
   -- of what was before, what a desk knows
   pub begun : IsBegun d.start d.config.desks d.config.start d.number
   pub clock_is : d.clock ≡ clock d.config.start d.journal

@@ -46,8 +46,8 @@ wrote n e ls b = record {
 }
 
 -- an empty journal over what the one so far leaves behind
-abbrev pub restarted : ℕ → Book → Book
-restarted n b = record {
+abbrev pub restarted_book : ℕ → Book → Book
+restarted_book n b = record {
   start = start_after b.start (events b.journal);
   desk = b.desk;
   clock = n;

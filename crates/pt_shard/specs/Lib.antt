@@ -7,6 +7,7 @@ pub mod Settings
 pub mod Known
 pub mod Extends
 pub mod Fit
+pub mod Restart
 pub mod Calls
 pub mod Outbox
 pub mod Faults

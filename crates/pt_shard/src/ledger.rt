@@ -10,7 +10,7 @@ ghost use Rattle.std.specs.Option.{option_to_list};
 ghost use Rattle.pt_shard.specs.ShardState.{came};
 ghost use Rattle.pt_carrier.specs.declared.ends.TheConstants.{MAX_DESKS};
 ghost use Rattle.pt_carrier.specs.Ends.{one_more};
-ghost use Rattle.pt_shard.specs.LedgerState.{Book, wrote, restarted, Prepares, HasNoNeed, HasRoomAt, HasRoomFor, HasRoomToAll, is_of};
+ghost use Rattle.pt_shard.specs.LedgerState.{Book, wrote, restarted_book, Prepares, HasNoNeed, HasRoomAt, HasRoomFor, HasRoomToAll, is_of};
 ghost use Rattle.pt_process.specs.Peers.{peers};
 ghost use Rattle.pt_shard.specs.LettersState.{LettersState};
 ghost use Rattle.pt_shard.specs.Outbox.{count_held};
@@ -106,7 +106,7 @@ impl Ledger {
 
     /// Begins an empty journal over the start that the one so far leaves behind, with the clock at `start`.
     pub fn restart(&mut self, start: u64)
-        ensures { self.new.book ≡ restarted start self.old.book }
+        ensures { self.new.book ≡ restarted_book start self.old.book }
     {
         self.origin = self.origin.left_behind(&self.journal);
         self.journal.clear();

@@ -5,7 +5,10 @@ ghost use Rattle.std.specs.Option.{option_copied};
 ghost use Rattle.pt_signal.specs.declared.signal.Signal.{Signal};
 ghost use Rattle.pt_events.specs.declared.event.Event.{Event};
 ghost use Rattle.pt_carrier.specs.declared.ends.TheConstants.{MAX_DESKS};
-ghost use Rattle.pt_shard.specs.ShardState.{lives, state_in, box, Handles};
+ghost use Rattle.pt_shard.specs.ShardState.{phase_of, lives, state_in, box, Handles};
+ghost use Rattle.pt_shard.specs.Restart.{restarted};
+ghost use Rattle.pt_events.specs.Leaving.{outcome};
+ghost use Rattle.pt_signal.specs.declared.pid.Pid.{Pid};
 ghost use Rattle.pt_shard.specs.Opening.{IsInRange, fresh};
 ghost use Rattle.pt_shard.specs.Known.{knows};
 ghost use Rattle.pt_shard.specs.Reading.{read_of};
@@ -74,6 +77,31 @@ impl Shard {
             ledger: Ledger::new(alloc, number, config.desks, config.start)?,
             house: Residents::new(alloc, number, config.slots, config.top_version)?,
         })
+    }
+
+    /// The desk that goes on: its journal is empty, over the start that the one so far leaves behind, and its clock
+    /// stands at `start`, which is no earlier than it was. The processes are as they were.
+    pub fn restart(self, start: u64) -> Shard
+        requires later { self.clock ≤ start }
+        requires within { start ≤ MAX_STAMP }
+        ensures restarted { result ≡ restarted start self }
+        ensures processes { (p : Pid) → phase_of result p ≡ outcome (phase_of self p) }
+        ensures known { (p : Pid) → knows result p ≡ knows self p }
+        ensures fit { IsFit result }
+    {
+        let Shard {
+            alloc,
+            config,
+            mut ledger,
+            house,
+        } = self;
+        ledger.restart(start);
+        Shard {
+            alloc,
+            config: Config { start, ..config },
+            ledger,
+            house,
+        }
     }
 
     /// The number of the desk.
