@@ -17,7 +17,7 @@ use Rattle.pt_gathered.specs.Settling.{Follows}
 use Rattle.pt_gathered.specs.Taking.{AreShards}
 use Rattle.pt_gathered.proofs.Agreeing.{local_as}
 use Rattle.pt_gathered.proofs.Owned.{local_same, posts_same}
-use Rattle.pt_gathered.proofs.Starts.{from_nothing, nobody_before, nobody_beyond, same_starts, start_same}
+use Rattle.pt_gathered.proofs.Starts.{all_empty, from_nothing, nobody_beyond, same_starts, start_same}
 use Rattle.pt_desk.specs.DeskState.{DeskState, collected_from, posted_to, waits_for}
 use Rattle.pt_node.specs.Desks.{AreDesks, AreDesksOf, AreWhole, all_shards}
 use Rattle.pt_node.specs.Load.{IsWithinLoad}
@@ -143,9 +143,15 @@ module _ (config : Config) (desks : List DeskState) (node : AreDesksOf config de
   local_at : (d : ℕ) → IsLocal (start_of (all_shards desks)) config.start config.top_version d (journal_at (all_shards desks) d)
   local_at d = ⊎_elim (λ (h : d < length desks). local_here d h) (λ (h : length desks ≤ d). rw (past_end d h) tt) (cases_lt d (length desks))
 
+  nobody : start_of (all_shards desks) ≡ []
+  nobody =
+      all_empty (all_shards desks) (λ d y h.
+      let here : d < length desks = omega (arith, h, shard_count) in
+      ap (λ (s : ShardState). s.start) (shard_at d y here) ∙ (whole d x here).accounts.first)
+
   -- what was before is a start: nobody, with whom each desk begins
   pub begins_once : IsStart (start_of (all_shards desks))
-  begins_once = subst IsStart (sym (nobody_before config (all_shards desks) are_shards)) (from_nothing config.start).once
+  begins_once = subst IsStart (sym nobody) (from_nothing config.start).once
 
   pub load_is : (merged : List Stamped) → IsMerge (journal_at (all_shards desks)) merged
       → load_by_desk (start_of (all_shards desks)) (journal_at (all_shards desks)) over (length desks) ≡ load (start_of (all_shards desks)) (events merged)
