@@ -30,7 +30,9 @@ const BUDGET: u32 = 64;
 const SETTINGS: Config = Config {
     desks: 4,
     slots: 8,
-    ..Config::DEFAULT
+    top_version: u32::MAX,
+    lane: 8,
+    start: 0,
 };
 
 /// A room, who is in it, how many guests have still to leave, and what it was refused.

@@ -25,7 +25,16 @@ pub fn two_processes(alloc: Global) -> Result<Gathered, RecipeError>
     ensures legal { IfOk result (λ g. IsLegalNode g) }
     ensures exchanged { IfOk result (λ g. HasExchanged g) }
 {
-    let mut desks = open(alloc, Config::DEFAULT.with_slots(8))?;
+    let mut desks = open(
+        alloc,
+        Config {
+            desks: 1,
+            slots: 8,
+            top_version: u32::MAX,
+            lane: 8,
+            start: 0,
+        },
+    )?;
     let played = play(&mut desks);
     let gathered = gathered(alloc, desks)?;
     played?;
