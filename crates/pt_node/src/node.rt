@@ -515,7 +515,7 @@ impl Node {
         ensures bound { IsWithinLoad self.old result.handled }
         ensures goes_on { AllDesksGoOn self.old self.new }
     {
-        // What holds of each desk, before and behind: its journal is local, and tells what it sent and what came.
+        // read for the proof alone: it says what holds of every desk, here and behind the rounds
         look(self.desks.as_slice());
         let rested = until_still(&mut self.desks, budget.max(1));
         look(self.desks.as_slice());
