@@ -15,7 +15,7 @@ use Rattle.pt_events.specs.declared.event.Event.TheVariants.{Said}
 use Rattle.pt_events.specs.declared.event.Stamped.{Stamped}
 use Rattle.pt_events.specs.History.{Past, Phase, unborn, living, ended, life, state, state_of, May, MaySay, IsLegal}
 use Rattle.pt_events.specs.Journal.{events}
-use Rattle.pt_lives.proofs.MayObserve.{unmade_closed}
+use Rattle.pt_accounts.proofs.MayObserve.{unmade_closed}
 use Rattle.pt_chart.specs.declared.layout.Column.{Column}
 use Rattle.pt_process.specs.Outcome.{IsAnew}
 use Rattle.pt_chart.specs.Following.{followed, live_state, OpensAnew}

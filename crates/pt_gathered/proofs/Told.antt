@@ -4,8 +4,8 @@ use Rattle.std.proofs.lemmas.List.{get_or-map, length-append}
 use Rattle.pt_events.specs.History.{at_start, unborn}
 use Rattle.pt_events.specs.Journal.{events, IsLocal}
 use Rattle.pt_events.specs.JournalState.{JournalState}
-use Rattle.pt_lives.specs.DeskLives.{DeskTable, IsDeskJournal, IsTableOf}
-use Rattle.pt_lives.specs.LivesState.{Lives, Adds, AreLivesOf}
+use Rattle.pt_accounts.specs.DeskLives.{DeskTable, IsDeskJournal, IsTableOf}
+use Rattle.pt_accounts.specs.LivesState.{Lives, Adds, AreLivesOf}
 use Rattle.pt_shard.specs.ShardState.{ShardState}
 use Rattle.pt_gathered.specs.Gathered.{GatheredState, IsGathered, begins, journals}
 use Rattle.pt_gathered.proofs.Lawful.{locals, past_end}

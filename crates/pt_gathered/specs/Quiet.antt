@@ -1,6 +1,6 @@
 -- A node in which no letter is left over, as its callers see it.
 use Rattle.std.specs.Prelude.{ℕ}
-use Rattle.pt_lives.specs.LivesState.{Lives, AreLivesOf}
+use Rattle.pt_accounts.specs.LivesState.{Lives, AreLivesOf}
 use Rattle.pt_gathered.specs.Gathered.{GatheredState, begins, journals}
 use Rattle.pt_gathered.specs.Settling.{NothingLeft}
 

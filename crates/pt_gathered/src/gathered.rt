@@ -5,7 +5,7 @@ ghost use Rattle.std.specs.Prelude.{◌≡◌, ◌*◌, ◌<◌, ◌≤◌, ◌-
 ghost use Rattle.pt_events.specs.Journal.{IsMerge};
 ghost use Rattle.pt_laws.specs.Laws.{LegalWithLeftOver};
 ghost use Rattle.pt_laws.specs.Load.{IsStart};
-ghost use Rattle.pt_lives.specs.LivesState.{AreLivesOf};
+ghost use Rattle.pt_accounts.specs.LivesState.{AreLivesOf};
 ghost use Rattle.pt_merge.specs.Merging.{AreApart, journal_of};
 ghost use Rattle.pt_shard.specs.Outbox.{held_from};
 ghost use Rattle.pt_gathered.specs.Gathered.{IsGathered, begins, box_at, hold_at, over, over_in, journals};
@@ -18,7 +18,7 @@ ghost use Rattle.pt_gathered.specs.Waits.{StepsPosted};
 use crate::left_over::LeftOver;
 use crate::node_laws::laws_of;
 use pt_events::{Journal, Stamped};
-use pt_lives::Lives;
+use pt_accounts::Lives;
 use pt_merge::merge;
 use pt_shard::{Config, Shard, Stop};
 use pt_signal::Letter;

@@ -55,6 +55,6 @@ mod settling;
 pub use gathered::{Gathered, Lane};
 pub use left_over::LeftOver;
 pub use node_laws::laws_of;
-pub use pt_lives::Account;
+pub use pt_accounts::Account;
 pub use quiet::Quiet;
 pub use settling::Unsettled;

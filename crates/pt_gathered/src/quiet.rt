@@ -9,7 +9,7 @@ ghost use Rattle.pt_events.specs.History.{life, state, open_monitors};
 ghost use Rattle.pt_events.specs.Journal.{IsMerge, events};
 ghost use Rattle.pt_laws.specs.Laws.{LegalWithLeftOver};
 ghost use Rattle.pt_laws.specs.Load.{IsQuiet};
-ghost use Rattle.pt_lives.specs.LivesState.{AreAllPids, InEveryMerge, account_in};
+ghost use Rattle.pt_accounts.specs.LivesState.{AreAllPids, InEveryMerge, account_in};
 ghost use Rattle.pt_gathered.specs.Gathered.{begins, journals, over};
 ghost use Rattle.pt_gathered.specs.Quiet.{IsSettled};
 ghost use Rattle.pt_gathered.specs.Settling.{NothingLeft};
@@ -18,7 +18,7 @@ ghost use Rattle.pt_gathered.specs.Lawful.{LanesKeep, KeepsHeadline, IsQuietNode
 use crate::gathered::Gathered;
 use crate::node_laws::laws_of;
 use pt_events::Stamped;
-use pt_lives::{Account, Lives};
+use pt_accounts::{Account, Lives};
 use pt_signal::{Ids, Pid, Ref};
 use std::alloc::AllocError;
 use std::marker::Model;

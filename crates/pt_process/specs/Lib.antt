@@ -1,4 +1,4 @@
-pub mod Resident
+pub mod ProcessView
 pub mod Outcome
 pub mod Places
 pub mod Peers

@@ -12,7 +12,7 @@ use Rattle.pt_process.specs.declared.outcome.Outcome.{Outcome}
 use Rattle.pt_process.specs.declared.outcome.Outcome.TheVariants.{Queued, Changed, Dropped, Asked, Ends}
 use Rattle.pt_process.specs.declared.verdict.Verdict.{Verdict}
 use Rattle.pt_process.specs.declared.verdict.Verdict.TheVariants as code
-use Rattle.pt_process.specs.Resident.{Resident}
+use Rattle.pt_process.specs.ProcessView.{ProcessView}
 
 -- what goes back is the answer yes to this question, and nothing else
 abbrev pub IsYes : Ref → List Sent → Type 0
@@ -31,7 +31,7 @@ IsLonger old new =
     (length old.waiting < length new.waiting) ⊎ (length old.links < length new.links) ⊎ (length old.kept < length new.kept)
 
 -- memory is refused only where a list would grow, and nothing has changed then
-abbrev pub Accepts : {E : Type 0} → Resident → Handled → Result Outcome E → Resident → Type 0
+abbrev pub Accepts : {E : Type 0} → ProcessView → Handled → Result Outcome E → ProcessView → Type 0
 Accepts old h (Ok outcome) new = (new.me ≡ old.me) × (new.state ≡ h.state) × IsOutcome old.state h outcome
 Accepts old h (Err e) new = (new.me ≡ old.me) × (new.state ≡ old.state) × IsLonger old.state h.state
 

@@ -22,7 +22,7 @@ impl Model for Estate {
     ghost use Rattle.std.specs.Prelude.{[], false};
     ghost use Rattle.std.specs.Map.{keys_of};
     ghost use Rattle.pt_signal.specs.Process.{estate};
-    ghost use Rattle.pt_process.specs.Resident.{Owing};
+    ghost use Rattle.pt_process.specs.ProcessView.{Owing};
 
     ghost Value = { Owing };
 

@@ -30,9 +30,9 @@ pub struct Process {
 
 impl Model for Process {
     ghost use Rattle.std.specs.Map.{keys_of};
-    ghost use Rattle.pt_process.specs.Resident.{Resident};
+    ghost use Rattle.pt_process.specs.ProcessView.{ProcessView};
 
-    ghost Value = { Resident };
+    ghost Value = { ProcessView };
 
     ghost view = { λ p. record { me = p.me; state = record { waiting = p.waiting; links = p.links.entries; watching = p.watching.entries; kept = keys_of p.kept.entries; traps = p.traps }; room = p.links.room } };
 }

@@ -7,8 +7,8 @@ use Rattle.std.specs.Io.KnownBytes.{Appends, Keeps}
 use Rattle.pt_signal.specs.declared.pid.Pid.{Pid}
 use Rattle.pt_events.specs.History.{Past, Start}
 use Rattle.pt_events.specs.Journal.{Journals, events}
-use Rattle.pt_lives.specs.declared.account.Account.{Account}
-use Rattle.pt_lives.specs.LivesState.{InEveryMerge, account_in}
+use Rattle.pt_accounts.specs.declared.account.Account.{Account}
+use Rattle.pt_accounts.specs.LivesState.{InEveryMerge, account_in}
 use Rattle.pt_report.specs.Summaries.{account_line, account_lines}
 use Rattle.pt_report.proofs.Writing.{appends_then, appends_keeps}
 

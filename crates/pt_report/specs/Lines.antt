@@ -6,7 +6,7 @@ use Rattle.pt_signal.specs.declared.reason.Reason.{Reason}
 use Rattle.pt_signal.specs.Text.{pid_text, reason_text}
 use Rattle.pt_events.specs.declared.event.Stamped.{Stamped}
 use Rattle.pt_events.specs.Text.{stamped_text}
-use Rattle.pt_lives.specs.declared.account.Account.{Account}
+use Rattle.pt_accounts.specs.declared.account.Account.{Account}
 use Rattle.pt_gathered.specs.declared.left_over.LeftOver.{LeftOver}
 use Rattle.pt_gathered.specs.Text.{left_over_text}
 use Rattle.pt_report.specs.declared.totals.Totals.{Totals}

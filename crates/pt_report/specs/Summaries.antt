@@ -4,8 +4,8 @@ use Rattle.std.specs.List.{flat_map}
 use Rattle.std.specs.Io.KnownBytes.{Appends}
 use Rattle.pt_signal.specs.declared.pid.Pid.{Pid}
 use Rattle.pt_events.specs.History.{Past, Start}
-use Rattle.pt_lives.specs.declared.account.Account.{Account}
-use Rattle.pt_lives.specs.LivesState.{AreAllPids, InEveryMerge, account_in}
+use Rattle.pt_accounts.specs.declared.account.Account.{Account}
+use Rattle.pt_accounts.specs.LivesState.{AreAllPids, InEveryMerge, account_in}
 use Rattle.pt_gathered.specs.Gathered.{GatheredState, begins, journals}
 use Rattle.pt_gathered.specs.LeftOvers.{all_left}
 use Rattle.pt_gathered.specs.Quiet.{QuietState}

@@ -4,7 +4,7 @@ ghost use Rattle.std.specs.Prelude.{◌≡◌, ◌≢◌, ◌-◌, ◌^◌, ◌+
 ghost use Rattle.pt_gathered.specs.Settling.{event_count};
 ghost use Rattle.pt_report.specs.Lines.{totals_text};
 ghost use Rattle.std.specs.Io.KnownBytes.{Appends};
-ghost use Rattle.pt_lives.specs.LivesState.{InEveryMerge, account_in};
+ghost use Rattle.pt_accounts.specs.LivesState.{InEveryMerge, account_in};
 ghost use Rattle.pt_gathered.specs.Gathered.{begins, journals};
 ghost use Rattle.pt_report.specs.Summaries.{Summarizes, AppendsAccounts, account_line};
 ghost use Rattle.pt_report.specs.Reports.{IsOfSummary};

@@ -24,7 +24,7 @@ use Rattle.pt_events.specs.Journal.{letter}
 use Rattle.pt_slots.specs.declared.Key.{Key}
 use Rattle.pt_slots.specs.State.{next_key}
 use Rattle.pt_slots.specs.Calls.{Inserted}
-use Rattle.pt_process.specs.Resident.{Resident, Owing}
+use Rattle.pt_process.specs.ProcessView.{ProcessView, Owing}
 use Rattle.pt_process.specs.Peers.{peers}
 use Rattle.pt_shard.specs.Sound.{Every}
 use Rattle.pt_shard.specs.Backs.{living_back}
@@ -40,13 +40,13 @@ use Rattle.pt_shard.specs.Extends.{Extends}
 use Rattle.pt_shard.specs.Fit.{IsFit}
 use Rattle.pt_shard.specs.Faults.{fault_of}
 use Rattle.pt_shard.specs.LedgerState.{Book, LedgerState, HasRoomToAll, Prepares, wrote}
-use Rattle.pt_shard.specs.Residents.{ResidentsState, living_at, with_process, in_place, pid_at, vacant_at, Changes, Ends, IsSameTable, HasRoomFor}
+use Rattle.pt_shard.specs.Processes.{ProcessesState, living_at, with_process, in_place, pid_at, vacant_at, Changes, Ends, IsSameTable, HasRoomFor}
 use Rattle.pt_shard.specs.Whole.{Parts, parts_of, shard_of, IsWhole}
 use Rattle.pt_shard.specs.Plain.{IsPlain}
 use Rattle.pt_shard.specs.Acts.{Acts, Tells, HasOnlyMoreRoom, PreparesBirth, IsStopped, TakesIn, done, posted, link_after, ref_after, taking, linking, unlinking, giving_up, giving_up_at}
 use Rattle.pt_shard.proofs.Acting.{Outcome, Found, own_book, alive, lives_here, is_there, said_to, said_known, plain_may, plain_new, plain_changes, left_alone, set_flag, took_item, link_now, link_new, ref_now, ref_new, not_open_yet, open_target, peers_near, left_by, left_from, left_near, left_peers}
 use Rattle.pt_shard.proofs.Outcomes.{not_prepared, same_book}
-use Rattle.pt_shard.proofs.Bearing.{Unchanged, unchanged, same_table, BirthOutcome, adopts, child_outcome, room_stays, parent_is_there}
+use Rattle.pt_shard.proofs.Bearing.{Unchanged, unchanged, same_table, BirthOutcome, links_parent, child_outcome, room_stays, parent_is_there}
 use Rattle.pt_shard.proofs.Receiving.{receipt_stamp, receipt_book, taken_in, living_back_is}
 use Rattle.pt_shard.proofs.Lent.{there, given_back, unharmed, roomy, ends_after}
 
@@ -62,26 +62,26 @@ giving_up_is : (d : ShardState) (p : Pid) (m : Ref) (flush : Bool) (o : Option P
 giving_up_is d p m flush None = refl
 giving_up_is d p m flush (Some t) = refl
 
-module _ (a : Parts) (whole : IsWhole a) (p : Pid) (was : Resident) (found : Some was ≡ living_at a.house.desk a.house.table p) where
+module _ (a : Parts) (whole : IsWhole a) (p : Pid) (was : ProcessView) (found : Some was ≡ living_at a.processes.desk a.processes.table p) where
   abbrev pub acting : Found a p
-  acting = record { me = was.me; s = was.state; there = there a.house.desk a.house.table p was found }
+  acting = record { me = was.me; s = was.state; there = there a.processes.desk a.processes.table p was found }
 
   -- the desk after the process was given back
-  abbrev pub left_with : Book → Resident → Parts
-  left_with book now = parts_of a.config book (with_process a.house p now)
+  abbrev pub left_with : Book → ProcessView → Parts
+  left_with book now = parts_of a.config book (with_process a.processes p now)
 
-  pub kept_still : (book : Book) (now : Resident) → now.me ≡ was.me → now.state ≡ was.state → book ≡ a.book → Unchanged a (left_with book now)
-  kept_still book now me state same = unchanged a whole book (with_process a.house p now) same refl (unharmed a.house.desk a.house.table p was found now me state)
+  pub kept_still : (book : Book) (now : ProcessView) → now.me ≡ was.me → now.state ≡ was.state → book ≡ a.book → Unchanged a (left_with book now)
+  kept_still book now me state same = unchanged a whole book (with_process a.processes p now) same refl (unharmed a.processes.desk a.processes.table p was found now me state)
 
   -- an event, if there is one, makes of the desk what it is afterwards
   abbrev pub IsLaw : Option Event → Type 0
   IsLaw None = ⊤
   IsLaw (Some e) =
-      a.book.clock < 2 ^ 62 → (book : Book) (house : ResidentsState) → house.desk ≡ a.house.desk
-      → book ≡ wrote (a.book.clock + 1) e (posted (a.book.clock + 1) e) a.book → Changes p (λ me s. done e s) a.house.table house.table
-      → Outcome a (parts_of a.config book house) (a.book.clock + 1) e
+      a.book.clock < 2 ^ 62 → (book : Book) (processes : ProcessesState) → processes.desk ≡ a.processes.desk
+      → book ≡ wrote (a.book.clock + 1) e (posted (a.book.clock + 1) e) a.book → Changes p (λ me s. done e s) a.processes.table processes.table
+      → Outcome a (parts_of a.config book processes) (a.book.clock + 1) e
 
-  module _ {A : Type 0} (answer : A) (ledger : LedgerState) (is : ledger.book ≡ a.book) (now : Resident) (ledger' : LedgerState) where
+  module _ {A : Type 0} (answer : A) (ledger : LedgerState) (is : ledger.book ≡ a.book) (now : ProcessView) (ledger' : LedgerState) where
     still_one : (event : Option Event) (r : Result A Fault) → HasOnlyMoreRoom was ledger now ledger' → Calls p event answer (shard_of a) r (shard_of a)
         → Acted A a (left_with ledger'.book now) p event answer r
     still_one event r still calls =
@@ -95,7 +95,7 @@ module _ (a : Parts) (whole : IsWhole a) (p : Pid) (was : Resident) (found : Som
     acted (Some e) law (Ok x) h =
         let can : a.book.clock < 2 ^ 62 = subst (λ (b : Book). b.clock < 2 ^ 62) is h.0 in
         let book : ledger'.book ≡ wrote (a.book.clock + 1) e (posted (a.book.clock + 1) e) a.book = h.4 ∙ ap (λ (b : Book). wrote (b.clock + 1) e (posted (b.clock + 1) e) b) is in
-        let o = law can ledger'.book (with_process a.house p now) refl book (given_back a.house.desk a.house.table p was found (λ me s. done e s) now h.2 h.3) in
+        let o = law can ledger'.book (with_process a.processes p now) refl book (given_back a.processes.desk a.processes.table p was found (λ me s. done e s) now h.2 h.3) in
         record { whole = o.whole; fit = o.fit; extends = o.extends; does = (alive a whole p acting, can, h.1, o.is) }
     acted (Some e) law (Err fault.Worn) h =
         still_one (Some e) (Err fault.Worn) h.1 (alive a whole p acting, refl, subst (λ (b : Book). 2 ^ 62 ≤ b.clock) is h.0, refl)
@@ -109,14 +109,14 @@ module _ (a : Parts) (whole : IsWhole a) (p : Pid) (was : Resident) (found : Som
   -- what its events make of the desk ------------------------------------------------------------
 
   flagging_law : (on : Bool) → IsLaw (Some (Flag p on))
-  flagging_law on = λ can book house desk is changes. set_flag a whole p acting can book house desk on is changes
+  flagging_law on = λ can book processes desk is changes. set_flag a whole p acting can book processes desk on is changes
 
   taking_law : (k : Pick) → IsLaw (taking p k was.state)
   taking_law k = go (find (fits k) was.state.waiting) refl
     where
       go : (o : Option Item) → find (fits k) was.state.waiting ≡ o → IsLaw (option_map (Took p k) o)
       go None h = tt
-      go (Some i) h = λ can book house desk is changes. took_item a whole p acting can book house desk k i h is changes
+      go (Some i) h = λ can book processes desk is changes. took_item a whole p acting can book processes desk k i h is changes
 
   linking_law : (to : Pid) → knows (shard_of a) to ≡ true → IsLaw (linking p to a.book was.state)
   linking_law to known = go (same_pid p to) refl (held was.state.links to) refl
@@ -127,8 +127,8 @@ module _ (a : Parts) (whole : IsWhole a) (p : Pid) (was : Resident) (found : Som
       go : (b : Bool) → same_pid p to ≡ b → (o : Option Ids) → held was.state.links to ≡ o → IsLaw (cond (b || is_some o) None (Some (Said p to (Link (link_after a.book)))))
       go true e o h = tt
       go false e (Some ids) h = tt
-      go false e None h = λ can book house desk is changes.
-          said_known a whole p acting can book house desk to (Link (link_after a.book)) known (link_new a whole (link_after a.book) now, h, e)
+      go false e None h = λ can book processes desk is changes.
+          said_known a whole p acting can book processes desk to (Link (link_after a.book)) known (link_new a whole (link_after a.book) now, h, e)
           (ap (λ (j : LinkId). j.desk) now, ap (λ (j : LinkId). j.number) now) is changes
 
   unlinking_law : (to : Pid) → knows (shard_of a) to ≡ true → IsLaw (unlinking p to was.state)
@@ -136,13 +136,13 @@ module _ (a : Parts) (whole : IsWhole a) (p : Pid) (was : Resident) (found : Som
     where
       go : (o : Option Ids) → held was.state.links to ≡ o → IsLaw (option_map (λ ids. Said p to (Unlink ids)) o)
       go None h = tt
-      go (Some ids) h = λ can book house desk is changes. said_known a whole p acting can book house desk to (Unlink ids) known h tt is changes
+      go (Some ids) h = λ can book processes desk is changes. said_known a whole p acting can book processes desk to (Unlink ids) known h tt is changes
 
   watching_law : (t : Pid) → knows (shard_of a) t ≡ true → same_pid p t ≡ false → IsLaw (Some (Said p t (Monitor (ref_after a.book))))
   watching_law t known other =
       let now : ref_after a.book ≡ new_ref (shard_of a) = ref_now a whole a.book refl (ref_after a.book) refl in
-      λ can book house desk is changes.
-      said_known a whole p acting can book house desk t (Monitor (ref_after a.book)) known (ref_new a whole (ref_after a.book) now, other)
+      λ can book processes desk is changes.
+      said_known a whole p acting can book processes desk t (Monitor (ref_after a.book)) known (ref_new a whole (ref_after a.book) now, other)
       (ap (λ (j : Ref). j.desk) now, ap (λ (j : Ref). j.number) now) is changes
 
   giving_up_law : (m : Ref) (flush : Bool) → IsLaw (giving_up p m flush was.state)
@@ -156,7 +156,7 @@ module _ (a : Parts) (whole : IsWhole a) (p : Pid) (was : Resident) (found : Som
       go None h = asked flush
       go (Some t) h =
           let target = open_target a whole p acting m t (sym h) in
-          λ can book house desk is changes. said_to a whole p acting can book house desk t (Demonitor m) target.1 target.0 h tt is changes
+          λ can book processes desk is changes. said_to a whole p acting can book processes desk t (Demonitor m) target.1 target.0 h tt is changes
 
   -- what is asked of those that say it ----------------------------------------------------------------
 
@@ -172,7 +172,7 @@ module _ (a : Parts) (whole : IsWhole a) (p : Pid) (was : Resident) (found : Som
 
   -- the calls -----------------------------------------------------------------------------------------
 
-  module _ (ledger : LedgerState) (is : ledger.book ≡ a.book) (now : Resident) (ledger' : LedgerState) where
+  module _ (ledger : LedgerState) (is : ledger.book ≡ a.book) (now : ProcessView) (ledger' : LedgerState) where
     -- as the call tells it
     called : {A : Type 0} (event event' : Option Event) (answer answer' : A) (r : Result A Fault) → event' ≡ event → answer' ≡ answer → IsLaw event
         → Acts event answer was ledger r now ledger' → Acted A a (left_with ledger'.book now) p event' answer' r
@@ -224,12 +224,12 @@ module _ (a : Parts) (whole : IsWhole a) (p : Pid) (was : Resident) (found : Som
 -- an event that changes nothing in its process
 module _ (a : Parts) (whole : IsWhole a) (p : Pid) (found : Found a p) (ledger : LedgerState) (is : ledger.book ≡ a.book) (ledger' : LedgerState) where
   abbrev pub told_with : Book → Parts
-  told_with book = parts_of a.config book a.house
+  told_with book = parts_of a.config book a.processes
 
   module _ {A : Type 0} (answer : A) (e : Event) where
     untold : (r : Result A Fault) → ledger'.book ≡ ledger.book → Calls p (Some e) answer (shard_of a) r (shard_of a) → Acted A a (told_with ledger'.book) p (Some e) answer r
     untold r same calls =
-        let u = unchanged a whole ledger'.book a.house (same ∙ is) refl (same_table a.house.table) in
+        let u = unchanged a whole ledger'.book a.processes (same ∙ is) refl (same_table a.processes.table) in
         record { whole = u.whole; fit = u.fit; extends = u.extends; does = subst (λ d. Calls p (Some e) answer (shard_of a) r d) (sym u.is) calls }
 
     told : (a.book.clock < 2 ^ 62 → (book : Book) → book ≡ wrote (a.book.clock + 1) e (posted (a.book.clock + 1) e) a.book → Outcome a (told_with book) (a.book.clock + 1) e)
@@ -249,7 +249,7 @@ module _ (a : Parts) (whole : IsWhole a) (p : Pid) (found : Found a p) (ledger :
       → Acted (Unit {0}) a (told_with ledger'.book) p (Some (Said p to x)) (tt {0}) r
   said to x known plain r h =
       told (tt {0}) (Said p to x)
-      (λ can book wrote. said_known a whole p found can book a.house refl to x known (plain_may a.book.start (past (shard_of a)) found.s p to x plain) (plain_new a.house.desk (a.book.clock + 1) p to x plain) wrote (plain_changes p to x a.house.table plain))
+      (λ can book wrote. said_known a whole p found can book a.processes refl to x known (plain_may a.book.start (past (shard_of a)) found.s p to x plain) (plain_new a.processes.desk (a.book.clock + 1) p to x plain) wrote (plain_changes p to x a.processes.table plain))
       r h
 
   pub asked_alive : (t : Pid) → knows (shard_of a) t ≡ true → (r : Result Ref Fault) → Tells (Said p t (AliveAsk (ref_after ledger.book))) (ref_after ledger.book) ledger r ledger'
@@ -258,45 +258,45 @@ module _ (a : Parts) (whole : IsWhole a) (p : Pid) (found : Found a p) (ledger :
       let m = new_ref (shard_of a) in
       let now : ref_after ledger.book ≡ m = ap ref_after is ∙ ref_now a whole a.book refl (ref_after a.book) refl in
       told m (Said p t (AliveAsk m))
-      (λ can book wrote. said_known a whole p found can book a.house refl t (AliveAsk m) known (ref_new a whole m refl) (refl, refl) wrote (left_alone p a.house.table))
+      (λ can book wrote. said_known a whole p found can book a.processes refl t (AliveAsk m) known (ref_new a whole m refl) (refl, refl) wrote (left_alone p a.processes.table))
       r (subst (λ j. Tells (Said p t (AliveAsk j)) j ledger r ledger') now h)
 
 -- a letter to a live process
-module _ (a : Parts) (whole : IsWhole a) (l : Letter) (was : Resident) (found : Some was ≡ living_at a.house.desk a.house.table l.to)
-    (here : l.to.shard ≡ a.house.desk) (near : l.from.shard < a.config.desks) (ledger : LedgerState) (is : ledger.book ≡ a.book) (now : Resident) (ledger' : LedgerState) where
+module _ (a : Parts) (whole : IsWhole a) (l : Letter) (was : ProcessView) (found : Some was ≡ living_at a.processes.desk a.processes.table l.to)
+    (here : l.to.shard ≡ a.processes.desk) (near : l.from.shard < a.config.desks) (ledger : LedgerState) (is : ledger.book ≡ a.book) (now : ProcessView) (ledger' : LedgerState) where
   -- it could not be handled
-  pub stopped : (s : Stop) → IsStopped l s was ledger now ledger' → Unchanged a (parts_of a.config ledger'.book (with_process a.house l.to now))
+  pub stopped : (s : Stop) → IsStopped l s was ledger now ledger' → Unchanged a (parts_of a.config ledger'.book (with_process a.processes l.to now))
   stopped Worn h = kept_still a whole l.to was found ledger'.book now h.1.0 h.1.1 (h.1.2 ∙ is)
   stopped Memory h = kept_still a whole l.to was found ledger'.book now h.1.0 h.1.1 (h.1.2 ∙ is)
 
   pub stops : (s : Stop) → IsStopped l s was ledger now ledger' → (r : Result (Option Pid) Stop) → IsErr r × IsErrAnd r (λ f. f ≡ s)
-      → Handles l (shard_of a) r (shard_of (parts_of a.config ledger'.book (with_process a.house l.to now)))
+      → Handles l (shard_of a) r (shard_of (parts_of a.config ledger'.book (with_process a.processes l.to now)))
   stops Worn h (Ok x) err = absurd (cc)
   stops Memory h (Ok x) err = absurd (cc)
   stops Worn h (Err f) err =
-      subst (λ x. Handles l (shard_of a) (Err x) (shard_of (parts_of a.config ledger'.book (with_process a.house l.to now)))) (sym err.1)
+      subst (λ x. Handles l (shard_of a) (Err x) (shard_of (parts_of a.config ledger'.book (with_process a.processes l.to now)))) (sym err.1)
       (subst (λ (b : Book). 2 ^ 62 ≤ max b.clock l.stamp) is h.0, (stopped Worn h).is)
   stops Memory h (Err f) err =
-      subst (λ x. Handles l (shard_of a) (Err x) (shard_of (parts_of a.config ledger'.book (with_process a.house l.to now)))) (sym err.1)
+      subst (λ x. Handles l (shard_of a) (Err x) (shard_of (parts_of a.config ledger'.book (with_process a.processes l.to now)))) (sym err.1)
       (subst (λ (b : Book). max b.clock l.stamp < 2 ^ 62) is h.0, (stopped Memory h).is)
 
   -- the letter did to it what its signal does
   pub after_letter : now.me ≡ was.me → now.state ≡ (handle was.me was.state l.from l.signal).state
-      → Changes l.to (λ me s. (handle me s l.from l.signal).state) a.house.table (with_process a.house l.to now).table
-  after_letter me state = given_back a.house.desk a.house.table l.to was found (λ me s. (handle me s l.from l.signal).state) now me state
+      → Changes l.to (λ me s. (handle me s l.from l.signal).state) a.processes.table (with_process a.processes l.to now).table
+  after_letter me state = given_back a.processes.desk a.processes.table l.to was found (λ me s. (handle me s l.from l.signal).state) now me state
 
   -- the process lives on
   pub took_in : (handle was.me was.state l.from l.signal).ending ≡ None → TakesIn l was ledger (Ok (tt {0})) now ledger'
-      → Outcome a (parts_of a.config ledger'.book (with_process a.house l.to now)) (receipt_stamp a l) (came l)
+      → Outcome a (parts_of a.config ledger'.book (with_process a.processes l.to now)) (receipt_stamp a l) (came l)
   took_in goes_on h =
       let can : max a.book.clock l.stamp < 2 ^ 62 = subst (λ (b : Book). max b.clock l.stamp < 2 ^ 62) is h.0 in
-      taken_in a whole l here near can ledger'.book (with_process a.house l.to now) refl (acting a whole l.to was found) goes_on
-      (given_back a.house.desk a.house.table l.to was found (λ me s. (handle me s l.from l.signal).state) now h.1 h.2)
+      taken_in a whole l here near can ledger'.book (with_process a.processes l.to now) refl (acting a whole l.to was found) goes_on
+      (given_back a.processes.desk a.processes.table l.to was found (λ me s. (handle me s l.from l.signal).state) now h.1 h.2)
       (receipt_book a l ledger.book ledger'.book (living_back l.signal) is h.3
       ∙ ap (λ o. wrote (receipt_stamp a l) (came l) (map (letter (receipt_stamp a l)) o) a.book) (living_back_is l.to l.from l.signal))
 
 -- an end
-module _ (a : Parts) (whole : IsWhole a) (p : Pid) (was : Resident) (found : Some was ≡ living_at a.house.desk a.house.table p) where
+module _ (a : Parts) (whole : IsWhole a) (p : Pid) (was : ProcessView) (found : Some was ≡ living_at a.processes.desk a.processes.table p) where
   -- what it owes goes to desks of the node
   pub near_peers : Every (λ q. q.shard < length a.book.outbox) (peers was.state)
   near_peers = peers_near a whole p (acting a whole p was found)
@@ -305,19 +305,19 @@ module _ (a : Parts) (whole : IsWhole a) (p : Pid) (was : Resident) (found : Som
   few_boxes = let k = whole.sound.fit.boxes in let n = whole.sound.fit.settings.desks in omega (arith, k, n)
 
   -- it was given back as it was
-  module _ (now : Resident) (me : now.me ≡ was.me) (state : now.state ≡ was.state) where
-    same_after : IsSameTable a.house.table (with_process a.house p now).table
-    same_after = unharmed a.house.desk a.house.table p was found now me state
+  module _ (now : ProcessView) (me : now.me ≡ was.me) (state : now.state ≡ was.state) where
+    same_after : IsSameTable a.processes.table (with_process a.processes p now).table
+    same_after = unharmed a.processes.desk a.processes.table p was found now me state
 
-    pub still_there : IsSome (in_place (with_process a.house p now).table p)
+    pub still_there : IsSome (in_place (with_process a.processes p now).table p)
     still_there = subst IsSome (sym (same_after.live p.slot p.version)) (is_there a whole p (acting a whole p was found))
 
     -- and then taken out
-    pub ends_too : (r : Reason) (owing : Owing) (last : ResidentsState) → Ends p r owing (with_process a.house p now).table last.table → Ends p r owing a.house.table last.table
-    ends_too r owing last ends = ends_after p r owing a.house.table (with_process a.house p now).table last.table same_after ends
+    pub ends_too : (r : Reason) (owing : Owing) (last : ProcessesState) → Ends p r owing (with_process a.processes p now).table last.table → Ends p r owing a.processes.table last.table
+    ends_too r owing last ends = ends_after p r owing a.processes.table (with_process a.processes p now).table last.table same_after ends
 
     -- what it owed then finds room
-    pub owing_fits : (r : Reason) (owing : Owing) (last : ResidentsState) → Ends p r owing (with_process a.house p now).table last.table → (ledger : LedgerState) → ledger.book ≡ a.book → HasRoomToAll (peers was.state) ledger
+    pub owing_fits : (r : Reason) (owing : Owing) (last : ProcessesState) → Ends p r owing (with_process a.processes p now).table last.table → (ledger : LedgerState) → ledger.book ≡ a.book → HasRoomToAll (peers was.state) ledger
         → (owing.from ≡ p) × Every (λ l. l.to.shard < length ledger.book.outbox) owing.owed × HasRoomToAll (map (λ l. l.to) owing.owed) ledger
     owing_fits r owing last ends ledger is room =
         let f = acting a whole p was found in
@@ -327,7 +327,7 @@ module _ (a : Parts) (whole : IsWhole a) (p : Pid) (was : Resident) (found : Som
           subst (λ qs. HasRoomToAll qs ledger) (sym (left_peers a whole p f r owing last.table e)) room,
         )
 
-    pub exited : (r : Reason) (owing : Owing) (last : ResidentsState) → last.desk ≡ a.house.desk → Ends p r owing (with_process a.house p now).table last.table
+    pub exited : (r : Reason) (owing : Owing) (last : ProcessesState) → last.desk ≡ a.processes.desk → Ends p r owing (with_process a.processes p now).table last.table
         → a.book.clock < 2 ^ 62 → (prepared book : Book) → prepared ≡ a.book → book ≡ wrote (max prepared.clock 0 + 1) (Left p r) (map (letter (max prepared.clock 0 + 1)) owing.owed) prepared
         → Acted (Unit {0}) a (parts_of a.config book last) p (Some (Left p r)) (tt {0}) (Ok (tt {0}))
     exited r owing last desk ends can prepared book same is =
@@ -354,10 +354,10 @@ vacant_key desk None free = free
 vacant_key desk (Some key) free = refl
 
 -- a parent, before the birth
-module _ (a : Parts) (whole : IsWhole a) (par : Pid) (was : Resident) (found : Some was ≡ living_at a.house.desk a.house.table par)
-    (asked : Bool) (ledger : LedgerState) (is : ledger.book ≡ a.book) (now : Resident) (ledger' : LedgerState) where
+module _ (a : Parts) (whole : IsWhole a) (par : Pid) (was : ProcessView) (found : Some was ≡ living_at a.processes.desk a.processes.table par)
+    (asked : Bool) (ledger : LedgerState) (is : ledger.book ≡ a.book) (now : ProcessView) (ledger' : LedgerState) where
   abbrev before : Parts
-  before = parts_of a.config ledger'.book (with_process a.house par now)
+  before = parts_of a.config ledger'.book (with_process a.processes par now)
 
   -- there was no room
   pub no_room : (f : Fault) → PreparesBirth asked was ledger (Err f) now ledger' → Unchanged a before
@@ -368,7 +368,7 @@ module _ (a : Parts) (whole : IsWhole a) (par : Pid) (was : Resident) (found : S
   no_room fault.Myself h = absurd h
   no_room fault.NoProc h = absurd h
 
-  pub bears_none : IsSome (vacant_at a.house.desk a.house.table) → (f : Fault) → PreparesBirth asked was ledger (Err f) now ledger'
+  pub bears_none : IsSome (vacant_at a.processes.desk a.processes.table) → (f : Fault) → PreparesBirth asked was ledger (Err f) now ledger'
       → (r : Result Pid Fault) → IsErr r × IsErrAnd r (λ g. g ≡ f) → BearsChild par asked (shard_of a) r (shard_of before)
   bears_none free fault.Worn h (Ok q) err = absurd (cc)
   bears_none free fault.Memory h (Ok q) err = absurd (cc)
@@ -394,26 +394,26 @@ module _ (a : Parts) (whole : IsWhole a) (par : Pid) (was : Resident) (found : S
     pub can_bear : a.book.clock < 2 ^ 62
     can_bear = subst (λ (b : Book). b.clock < 2 ^ 62) is h.0
 
-    pub same_before : IsSameTable a.house.table (with_process a.house par now).table
+    pub same_before : IsSameTable a.processes.table (with_process a.processes par now).table
     same_before = same_after a whole par was found now h.2.0 h.2.1
 
     -- a slot is free as it was
-    pub stays_vacant : IsSome (vacant_at a.house.desk a.house.table) → IsSome (next_key (with_process a.house par now).table)
-    stays_vacant free = subst IsSome (sym same_before.next) (vacant_key a.house.desk (next_key a.house.table) free)
+    pub stays_vacant : IsSome (vacant_at a.processes.desk a.processes.table) → IsSome (next_key (with_process a.processes par now).table)
+    stays_vacant free = subst IsSome (sym same_before.next) (vacant_key a.processes.desk (next_key a.processes.table) free)
 
-    module _ (q : Pid) (free : Some q ≡ vacant_at a.house.desk a.house.table) (child : Resident) (mid : ResidentsState) (desk : mid.desk ≡ a.house.desk)
-        (inserts : IfSome (next_key (with_process a.house par now).table) (λ key. Inserted child key (with_process a.house par now).table mid.table)) where
+    module _ (q : Pid) (free : Some q ≡ vacant_at a.processes.desk a.processes.table) (child : ProcessView) (mid : ProcessesState) (desk : mid.desk ≡ a.processes.desk)
+        (inserts : IfSome (next_key (with_process a.processes par now).table) (λ key. Inserted child key (with_process a.processes par now).table mid.table)) where
       pub parent_lives : IsSome (in_place mid.table par)
-      parent_lives = parent_is_there a whole par (acting a whole par was found) q free (with_process a.house par now) refl same_before child mid desk inserts
+      parent_lives = parent_is_there a whole par (acting a whole par was found) q free (with_process a.processes par now) refl same_before child mid desk inserts
 
       pub parent_has_room : HasRoomFor link par mid.table
       parent_has_room =
-          room_stays a whole par (acting a whole par was found) q free (with_process a.house par now) refl same_before child mid desk inserts link
-          (roomy a.house.desk a.house.table par was found now link h.4)
+          room_stays a whole par (acting a whole par was found) q free (with_process a.processes par now) refl same_before child mid desk inserts link
+          (roomy a.processes.desk a.processes.table par was found now link h.4)
 
-      pub bore : child.me ≡ q → child.state ≡ linked_to (Some par) link fresh → (last : ResidentsState) → last.desk ≡ mid.desk → Changes par (adopts q link) mid.table last.table
+      pub bore : child.me ≡ q → child.state ≡ linked_to (Some par) link fresh → (last : ProcessesState) → last.desk ≡ mid.desk → Changes par (links_parent q link) mid.table last.table
           → (book : Book) → book ≡ wrote (max ledger'.book.clock 0 + 1) (Born q (Some par) link) [] ledger'.book → BirthOutcome (shard_of a) (parts_of a.config book last) q (Some par) link
       bore me state last desk' changes book book_is =
-          child_outcome a whole par (acting a whole par was found) q free (with_process a.house par now) refl same_before child mid desk inserts can_bear asked link
+          child_outcome a whole par (acting a whole par was found) q free (with_process a.processes par now) refl same_before child mid desk inserts can_bear asked link
           (h.1 ∙ ap (λ (b : Book). then_some asked (link_after b)) is ∙ ap (then_some asked) (link_now a whole a.book refl (link_after a.book) refl))
           me state last desk' changes book (own_book (Born q (Some par) link) (λ n. []) ledger'.book a.book book (h.2.2 ∙ is) book_is)

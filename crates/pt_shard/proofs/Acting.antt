@@ -23,7 +23,7 @@ use Rattle.pt_slots.specs.declared.Key.{Key}
 use Rattle.pt_slots.specs.State.{at, next_key}
 use Rattle.pt_slots.specs.Offers.{OffersTheFree}
 use Rattle.pt_signal.specs.declared.reason.Reason.TheVariants.{Normal}
-use Rattle.pt_process.specs.Resident.{Owing}
+use Rattle.pt_process.specs.ProcessView.{Owing}
 use Rattle.pt_process.specs.Peers.{peers}
 use Rattle.pt_shard.proofs.Endings.{estate_peers, every_to}
 use Rattle.pt_shard.specs.ShardState.{past, lives, written, vacated, ended_by, sends}
@@ -32,8 +32,8 @@ use Rattle.pt_shard.specs.Fit.{IsFit}
 use Rattle.pt_shard.specs.Plain.{IsPlain}
 use Rattle.pt_shard.specs.Known.{knows}
 use Rattle.pt_shard.specs.LedgerState.{Book, wrote}
-use Rattle.pt_shard.specs.Sound.{IsNear, of_phase, resident}
-use Rattle.pt_shard.specs.Residents.{Table, ResidentsState, seen, resident_at, in_place, changed, is_place_of, pid_at, vacant_at, Puts, Changes, Ends, SameSettings}
+use Rattle.pt_shard.specs.Sound.{IsNear, of_phase, live_process}
+use Rattle.pt_shard.specs.Processes.{Table, ProcessesState, seen, process_at, in_place, changed, is_place_of, pid_at, vacant_at, Puts, Changes, Ends, SameSettings}
 use Rattle.pt_shard.specs.Whole.{Parts, parts_of, shard_of, IsWhole}
 use Rattle.pt_signal.specs.declared.ids.Ref.{Ref}
 use Rattle.pt_signal.specs.declared.ids.LinkId.{LinkId}
@@ -58,17 +58,17 @@ place_is p q desk here there = grind (arith, nat_tests)
 place_not : (p q : Pid) (desk : ℕ) → p.shard ≡ desk → (q.shard == desk) ≡ false → same_pid q p ≡ false
 place_not p q desk here there = grind (arith, nat_tests)
 
-pub put_by_pid : (desk : ℕ) (p : Pid) (v : Option (Pid × ProcessState)) (old new : Table) → p.shard ≡ desk → Puts p v old new → IsPut p v (resident_at desk old) (resident_at desk new)
+pub put_by_pid : (desk : ℕ) (p : Pid) (v : Option (Pid × ProcessState)) (old new : Table) → p.shard ≡ desk → Puts p v old new → IsPut p v (process_at desk old) (process_at desk new)
 put_by_pid desk p v old new here puts q = go (q.shard == desk) refl
   where
-    go : (b : Bool) → (q.shard == desk) ≡ b → resident_at desk new q ≡ cond (same_pid q p) v (resident_at desk old q)
+    go : (b : Bool) → (q.shard == desk) ≡ b → process_at desk new q ≡ cond (same_pid q p) v (process_at desk old q)
     go true h = rw (h, puts.live q.slot q.version, place_is p q desk here (eqb-true q.shard desk h))
     go false h = rw (h, place_not p q desk here h)
 
-pub at_home : (desk : ℕ) (table : Table) (p : Pid) (r : Pid × ProcessState) → resident_at desk table p ≡ Some r → (p.shard ≡ desk) × (in_place table p ≡ Some r)
+pub at_home : (desk : ℕ) (table : Table) (p : Pid) (r : Pid × ProcessState) → process_at desk table p ≡ Some r → (p.shard ≡ desk) × (in_place table p ≡ Some r)
 at_home desk table p r h = go (p.shard == desk) refl h
   where
-    go : (b : Bool) → (p.shard == desk) ≡ b → resident_at desk table p ≡ Some r → (p.shard ≡ desk) × (in_place table p ≡ Some r)
+    go : (b : Bool) → (p.shard == desk) ≡ b → process_at desk table p ≡ Some r → (p.shard ≡ desk) × (in_place table p ≡ Some r)
     go true e k = (eqb-true p.shard desk e, let j : in_place table p ≡ Some r = rw e at k in j)
     go false e k = let j : None ≡ Some r = rw e at k in absurd (cc)
 
@@ -163,14 +163,14 @@ pub record Outcome (a b : Parts) (n : ℕ) (e : Event) : Type 0 where
   pub extends : Extends (shard_of a) (shard_of b)
   pub is : shard_of b ≡ written n e (shard_of a)
 
-pub outcome : (a : Parts) (whole : IsWhole a) (n : ℕ) (e : Event) (book : Book) (house : ResidentsState) → house.desk ≡ a.house.desk
-    → IsLawful a whole n e house.table → book ≡ wrote n e (sends n e (shard_of a)) a.book
-    → vacant_at a.house.desk house.table ≡ vacated a.config.top_version (ended_by (shard_of a) e) (vacant_at a.house.desk a.house.table)
-    → Outcome a (parts_of a.config book house) n e
-outcome a whole n e book house desk law is vacant =
-    subst (λ b. Outcome a (parts_of a.config b house) n e) (sym is)
-    (subst (λ h. Outcome a (parts_of a.config (wrote n e (sends n e (shard_of a)) a.book) h) n e) (sym (same_desk a.house house desk))
-    (record { whole = whole_next a whole n e house.table law; fit = fit_next a whole n e house.table law; extends = extends_next a whole n e house.table law; is = next_is a whole n e house.table vacant }))
+pub outcome : (a : Parts) (whole : IsWhole a) (n : ℕ) (e : Event) (book : Book) (processes : ProcessesState) → processes.desk ≡ a.processes.desk
+    → IsLawful a whole n e processes.table → book ≡ wrote n e (sends n e (shard_of a)) a.book
+    → vacant_at a.processes.desk processes.table ≡ vacated a.config.top_version (ended_by (shard_of a) e) (vacant_at a.processes.desk a.processes.table)
+    → Outcome a (parts_of a.config book processes) n e
+outcome a whole n e book processes desk law is vacant =
+    subst (λ b. Outcome a (parts_of a.config b processes) n e) (sym is)
+    (subst (λ h. Outcome a (parts_of a.config (wrote n e (sends n e (shard_of a)) a.book) h) n e) (sym (same_desk a.processes processes desk))
+    (record { whole = whole_next a whole n e processes.table law; fit = fit_next a whole n e processes.table law; extends = extends_next a whole n e processes.table law; is = next_is a whole n e processes.table vacant }))
 
 -- the clock is above no floor, and the ledger was prepared
 pub own_book : (e : Event) (ls : ℕ → List Letter) (prepared book book' : Book) → prepared ≡ book
@@ -184,11 +184,11 @@ own_book e ls prepared book book' same is =
 pub record Found (a : Parts) (p : Pid) : Type 0 where
   pub me : Pid
   pub s : ProcessState
-  pub there : Some (me, s) ≡ resident_at a.house.desk a.house.table p
+  pub there : Some (me, s) ≡ process_at a.processes.desk a.processes.table p
 
 module _ (a : Parts) (whole : IsWhole a) (p : Pid) (f : Found a p) where
   pub both : (life a.book.start (past (shard_of a)) p ≡ living f.s) × (f.me ≡ p)
-  both = lives_there (life a.book.start (past (shard_of a)) p) p f.me f.s (sym (whole.sound.residents p) ∙ sym f.there)
+  both = lives_there (life a.book.start (past (shard_of a)) p) p f.me f.s (sym (whole.sound.processes p) ∙ sym f.there)
 
   pub lives_here : life a.book.start (past (shard_of a)) p ≡ living f.s
   lives_here = both.0
@@ -196,27 +196,27 @@ module _ (a : Parts) (whole : IsWhole a) (p : Pid) (f : Found a p) where
   pub alive : lives (shard_of a) p ≡ true
   alive = ap is_living lives_here
 
-  pub stands : (p.shard ≡ a.house.desk) × (in_place a.house.table p ≡ Some (p, f.s))
+  pub stands : (p.shard ≡ a.processes.desk) × (in_place a.processes.table p ≡ Some (p, f.s))
   stands =
-      let h = at_home a.house.desk a.house.table p (f.me, f.s) (sym f.there) in
+      let h = at_home a.processes.desk a.processes.table p (f.me, f.s) (sym f.there) in
       (h.0, h.1 ∙ ap (λ x. Some (x, f.s)) both.1)
 
-  pub is_there : IsSome (in_place a.house.table p)
+  pub is_there : IsSome (in_place a.processes.table p)
   is_there = subst IsSome (sym stands.1) refl
 
   -- an event of p that is neither a birth nor a receipt
   pub record IsOwn (e : Event) : Type 0 where
     pub alone : (q : Pid) → touches q e ≡ same_pid q p
     pub no_birth : is_any_birth e ≡ false
-    pub home : IsHome a.house.desk e
+    pub home : IsHome a.processes.desk e
     pub may : MayHere a.book.start (past (shard_of a)) e
-    pub new_at : IsNewAt a.house.desk (a.book.clock + 1) e
-    pub known : IsKnown a.book.start a.house.desk a.config.top_version (past (shard_of a)) e
+    pub new_at : IsNewAt a.processes.desk (a.book.clock + 1) e
+    pub known : IsKnown a.book.start a.processes.desk a.config.top_version (past (shard_of a)) e
     pub near : IsNear a.config.desks e
 
-  module _ (can : a.book.clock < 2 ^ 62) (book : Book) (house : ResidentsState) (desk : house.desk ≡ a.house.desk) where
-    own_lawful : (e : Event) (own : IsOwn e) (v : Option (Pid × ProcessState)) → Puts p v a.house.table house.table → resident a.book.start (e ∷ past (shard_of a)) p ≡ v → OffersTheFree house.table
-        → IsLawful a whole (a.book.clock + 1) e house.table
+  module _ (can : a.book.clock < 2 ^ 62) (book : Book) (processes : ProcessesState) (desk : processes.desk ≡ a.processes.desk) where
+    own_lawful : (e : Event) (own : IsOwn e) (v : Option (Pid × ProcessState)) → Puts p v a.processes.table processes.table → live_process a.book.start (e ∷ past (shard_of a)) p ≡ v → OffersTheFree processes.table
+        → IsLawful a whole (a.book.clock + 1) e processes.table
     own_lawful e own v puts after offers = record {
       later = omega arith;
       fits = omega (arith, can);
@@ -225,61 +225,61 @@ module _ (a : Parts) (whole : IsWhole a) (p : Pid) (f : Found a p) where
       new_at = own.new_at;
       known = own.known;
       near = own.near;
-      residents =
-          put_one a.book.start (past (shard_of a)) e p own.alone (resident_at a.house.desk a.house.table) (resident_at a.house.desk house.table) whole.sound.residents
-          (subst (λ x. IsPut p x (resident_at a.house.desk a.house.table) (resident_at a.house.desk house.table)) (sym after) (put_by_pid a.house.desk p v a.house.table house.table stands.0 puts));
+      processes =
+          put_one a.book.start (past (shard_of a)) e p own.alone (process_at a.processes.desk a.processes.table) (process_at a.processes.desk processes.table) whole.sound.processes
+          (subst (λ x. IsPut p x (process_at a.processes.desk a.processes.table) (process_at a.processes.desk processes.table)) (sym after) (put_by_pid a.processes.desk p v a.processes.table processes.table stands.0 puts));
       issues = λ slot. puts.settings.issues slot ∙ whole.sound.issues slot ∙ sym (issued_same a.book.start (past (shard_of a)) e slot own.no_birth);
-      born = issued_kept a.book.start a.house.desk (past (shard_of a)) e own.no_birth whole.sound.born;
+      born = issued_kept a.book.start a.processes.desk (past (shard_of a)) e own.no_birth whole.sound.born;
       offers = offers;
       capacity = puts.settings.capacity;
       top_version = puts.settings.top_version;
     }
 
     -- p says a signal to a pid of the node, which was born if it is of this desk
-    pub said_to : (to : Pid) (x : Signal) → (to.shard ≡ a.house.desk → is_unborn (life a.book.start (past (shard_of a)) to) ≡ false) → to.shard < a.config.desks
-        → MaySay a.book.start (past (shard_of a)) f.s p to x → IsNewAt a.house.desk (a.book.clock + 1) (Said p to x)
+    pub said_to : (to : Pid) (x : Signal) → (to.shard ≡ a.processes.desk → is_unborn (life a.book.start (past (shard_of a)) to) ≡ false) → to.shard < a.config.desks
+        → MaySay a.book.start (past (shard_of a)) f.s p to x → IsNewAt a.processes.desk (a.book.clock + 1) (Said p to x)
         → book ≡ wrote (a.book.clock + 1) (Said p to x) (letter (a.book.clock + 1) (sent p to x) ∷ []) a.book
-        → Changes p (λ me s. say s to x) a.house.table house.table
-        → Outcome a (parts_of a.config book house) (a.book.clock + 1) (Said p to x)
+        → Changes p (λ me s. say s to x) a.processes.table processes.table
+        → Outcome a (parts_of a.config book processes) (a.book.clock + 1) (Said p to x)
     said_to to x born near may new is changes =
         let own : IsOwn (Said p to x) = record { alone = λ q. refl; no_birth = refl; home = stands.0; may = rw lives_here (refl, may); new_at = new; known = born; near = near } in
         let after = ap (of_phase p) (said a.book.start (past (shard_of a)) p f.s lives_here to x) ∙ sym (ap (changed (λ me s. say s to x)) stands.1) in
-        outcome a whole (a.book.clock + 1) (Said p to x) book house desk (own_lawful (Said p to x) own _ changes.puts after (offers_changed p _ a.house.table house.table whole.offers changes)) is (ap (option_pid a.house.desk) changes.next)
+        outcome a whole (a.book.clock + 1) (Said p to x) book processes desk (own_lawful (Said p to x) own _ changes.puts after (offers_changed p _ a.processes.table processes.table whole.offers changes)) is (ap (option_pid a.processes.desk) changes.next)
 
     pub said_known : (to : Pid) (x : Signal) → knows (shard_of a) to ≡ true
-        → MaySay a.book.start (past (shard_of a)) f.s p to x → IsNewAt a.house.desk (a.book.clock + 1) (Said p to x)
+        → MaySay a.book.start (past (shard_of a)) f.s p to x → IsNewAt a.processes.desk (a.book.clock + 1) (Said p to x)
         → book ≡ wrote (a.book.clock + 1) (Said p to x) (letter (a.book.clock + 1) (sent p to x) ∷ []) a.book
-        → Changes p (λ me s. say s to x) a.house.table house.table
-        → Outcome a (parts_of a.config book house) (a.book.clock + 1) (Said p to x)
+        → Changes p (λ me s. say s to x) a.processes.table processes.table
+        → Outcome a (parts_of a.config book processes) (a.book.clock + 1) (Said p to x)
     said_known to x known = said_to to x (known_born (shard_of a) to whole.sound.born known) (known_near (shard_of a) to known)
 
     pub set_flag : (on : Bool) → book ≡ wrote (a.book.clock + 1) (Flag p on) [] a.book
-        → Changes p (λ me s. record s { traps = on }) a.house.table house.table
-        → Outcome a (parts_of a.config book house) (a.book.clock + 1) (Flag p on)
+        → Changes p (λ me s. record s { traps = on }) a.processes.table processes.table
+        → Outcome a (parts_of a.config book processes) (a.book.clock + 1) (Flag p on)
     set_flag on is changes =
         let own : IsOwn (Flag p on) = record { alone = λ q. refl; no_birth = refl; home = stands.0; may = rw lives_here refl; new_at = tt; known = tt; near = tt } in
         let after = ap (of_phase p) (flagged a.book.start (past (shard_of a)) p f.s lives_here on) ∙ sym (ap (changed (λ me s. record s { traps = on })) stands.1) in
-        outcome a whole (a.book.clock + 1) (Flag p on) book house desk (own_lawful (Flag p on) own _ changes.puts after (offers_changed p _ a.house.table house.table whole.offers changes)) is (ap (option_pid a.house.desk) changes.next)
+        outcome a whole (a.book.clock + 1) (Flag p on) book processes desk (own_lawful (Flag p on) own _ changes.puts after (offers_changed p _ a.processes.table processes.table whole.offers changes)) is (ap (option_pid a.processes.desk) changes.next)
 
     pub took_item : (k : Pick) (i : Item) → find (fits k) f.s.waiting ≡ Some i
         → book ≡ wrote (a.book.clock + 1) (Took p k i) [] a.book
-        → Changes p (λ me t. record t { waiting = without_first (fits k) t.waiting }) a.house.table house.table
-        → Outcome a (parts_of a.config book house) (a.book.clock + 1) (Took p k i)
+        → Changes p (λ me t. record t { waiting = without_first (fits k) t.waiting }) a.processes.table processes.table
+        → Outcome a (parts_of a.config book processes) (a.book.clock + 1) (Took p k i)
     took_item k i first is changes =
         let own : IsOwn (Took p k i) = record { alone = λ q. refl; no_birth = refl; home = stands.0; may = rw lives_here (refl, first); new_at = tt; known = tt; near = tt } in
         let after = ap (of_phase p) (took a.book.start (past (shard_of a)) p f.s lives_here k i) ∙ sym (ap (changed (λ me t. record t { waiting = without_first (fits k) t.waiting })) stands.1) in
-        outcome a whole (a.book.clock + 1) (Took p k i) book house desk (own_lawful (Took p k i) own _ changes.puts after (offers_changed p _ a.house.table house.table whole.offers changes)) is (ap (option_pid a.house.desk) changes.next)
+        outcome a whole (a.book.clock + 1) (Took p k i) book processes desk (own_lawful (Took p k i) own _ changes.puts after (offers_changed p _ a.processes.table processes.table whole.offers changes)) is (ap (option_pid a.processes.desk) changes.next)
 
-    pub left_by : (r : Reason) (owing : Owing) → Ends p r owing a.house.table house.table
+    pub left_by : (r : Reason) (owing : Owing) → Ends p r owing a.processes.table processes.table
         → book ≡ wrote (a.book.clock + 1) (Left p r) (map (letter (a.book.clock + 1)) owing.owed) a.book
-        → Outcome a (parts_of a.config book house) (a.book.clock + 1) (Left p r)
+        → Outcome a (parts_of a.config book processes) (a.book.clock + 1) (Left p r)
     left_by r owing ends wrote_is =
         let own : IsOwn (Left p r) = record { alone = λ q. refl; no_birth = refl; home = stands.0; may = rw lives_here refl; new_at = tt; known = tt; near = tt } in
-        let owes : owing.owed ≡ left_sends (life a.book.start (past (shard_of a)) p) p r = ap (λ o. o.owed) (owes_is p r owing a.house.table house.table f.s stands.1 ends) ∙ sym (ap (λ x. left_sends x p r) lives_here) in
-        outcome a whole (a.book.clock + 1) (Left p r) book house desk
+        let owes : owing.owed ≡ left_sends (life a.book.start (past (shard_of a)) p) p r = ap (λ o. o.owed) (owes_is p r owing a.processes.table processes.table f.s stands.1 ends) ∙ sym (ap (λ x. left_sends x p r) lives_here) in
+        outcome a whole (a.book.clock + 1) (Left p r) book processes desk
         (own_lawful (Left p r) own None ends.puts (ap (of_phase p) (left a.book.start (past (shard_of a)) p f.s lives_here r)) ends.offers)
         (wrote_is ∙ ap (λ o. wrote (a.book.clock + 1) (Left p r) (map (letter (a.book.clock + 1)) o) a.book) owes)
-        (vacant_next a.house.desk a.config.top_version p a.house.table house.table stands.0 whole.top_version ends.next)
+        (vacant_next a.processes.desk a.config.top_version p a.processes.table processes.table stands.0 whole.top_version ends.next)
 
 -- the id and the reference of the next event
 pub link_now : (a : Parts) (whole : IsWhole a) (prepared : Book) → prepared ≡ a.book → (i : LinkId) → i ≡ record { desk = prepared.desk; number = prepared.clock + 1 } → i ≡ new_link (shard_of a)
@@ -291,37 +291,37 @@ ref_now a whole prepared same m is = is ∙ ap {A = Book} (λ b. record { desk =
 -- they were never made before
 pub link_new : (a : Parts) (whole : IsWhole a) (i : LinkId) → i ≡ new_link (shard_of a) → made_link (past (shard_of a)) i ≡ false
 link_new a whole i is =
-    fresh_link a.book.start a.config.start a.config.top_version a.house.desk a.book.journal i whole.sound.fit.local (let k = whole.sound.fit.clock_is in let n = ap (λ (j : LinkId). j.number) is in omega (arith, k, n))
+    fresh_link a.book.start a.config.start a.config.top_version a.processes.desk a.book.journal i whole.sound.fit.local (let k = whole.sound.fit.clock_is in let n = ap (λ (j : LinkId). j.number) is in omega (arith, k, n))
 
 pub ref_new : (a : Parts) (whole : IsWhole a) (m : Ref) → m ≡ new_ref (shard_of a) → made_ref (past (shard_of a)) m ≡ false
 ref_new a whole m is =
-    fresh_ref a.book.start a.config.start a.config.top_version a.house.desk a.book.journal m whole.sound.fit.local (let k = whole.sound.fit.clock_is in let n = ap (λ (j : Ref). j.number) is in omega (arith, k, n))
+    fresh_ref a.book.start a.config.start a.config.top_version a.processes.desk a.book.journal m whole.sound.fit.local (let k = whole.sound.fit.clock_is in let n = ap (λ (j : Ref). j.number) is in omega (arith, k, n))
 
 module _ (a : Parts) (whole : IsWhole a) (p : Pid) (f : Found a p) where
   -- what the process has open
-  watched : Every (IsOpen a.book.start a.config.desks a.config.start a.house.desk a.book.journal) f.s.watching
+  watched : Every (IsOpen a.book.start a.config.desks a.config.start a.processes.desk a.book.journal) f.s.watching
   watched =
-      let near = near_life a.book.start a.config.desks a.config.start a.config.top_version a.house.desk whole.sound.fit.begun a.book.journal whole.sound.fit.here whole.sound.fit.local whole.sound.near p in
-      (subst (IsNearPhase a.config.desks (IsOpen a.book.start a.config.desks a.config.start a.house.desk a.book.journal)) (lives_here a whole p f) near).watching
+      let near = near_life a.book.start a.config.desks a.config.start a.config.top_version a.processes.desk whole.sound.fit.begun a.book.journal whole.sound.fit.here whole.sound.fit.local whole.sound.near p in
+      (subst (IsNearPhase a.config.desks (IsOpen a.book.start a.config.desks a.config.start a.processes.desk a.book.journal)) (lives_here a whole p f) near).watching
 
   -- a reference that is made now was not open before
   pub not_open_yet : (m : Ref) → m ≡ new_ref (shard_of a) → lookup (same_ref m) f.s.watching ≡ None
   not_open_yet m is =
-      not_open a.book.start a.config.desks a.config.start a.config.top_version a.house.desk whole.sound.fit.begun a.book.journal m (let k = whole.sound.fit.clock_is in let n = ap (λ (j : Ref). j.number) is in omega (arith, k, n)) f.s.watching watched
+      not_open a.book.start a.config.desks a.config.start a.config.top_version a.processes.desk whole.sound.fit.begun a.book.journal m (let k = whole.sound.fit.clock_is in let n = ap (λ (j : Ref). j.number) is in omega (arith, k, n)) f.s.watching watched
 
-  pub open_target : (m : Ref) (t : Pid) → Some t ≡ lookup (same_ref m) f.s.watching → (t.shard < a.config.desks) × (t.shard ≡ a.house.desk → is_unborn (life a.book.start (past (shard_of a)) t) ≡ false)
-  open_target m t found = open_at a.book.start a.config.desks a.config.start a.config.top_version a.house.desk whole.sound.fit.begun a.book.journal m t f.s.watching watched (sym found)
+  pub open_target : (m : Ref) (t : Pid) → Some t ≡ lookup (same_ref m) f.s.watching → (t.shard < a.config.desks) × (t.shard ≡ a.processes.desk → is_unborn (life a.book.start (past (shard_of a)) t) ≡ false)
+  open_target m t found = open_at a.book.start a.config.desks a.config.start a.config.top_version a.processes.desk whole.sound.fit.begun a.book.journal m t f.s.watching watched (sym found)
 
   -- what it owes at its end goes to desks of the node
-  pub left_near : (r : Reason) (owing : Owing) (table : Table) → Ends p r owing a.house.table table → Every (λ l. l.to.shard < length a.book.outbox) owing.owed
+  pub left_near : (r : Reason) (owing : Owing) (table : Table) → Ends p r owing a.processes.table table → Every (λ l. l.to.shard < length a.book.outbox) owing.owed
   left_near r owing table ends =
       let owes : owing.owed ≡ sent_by a.book.start (past (shard_of a)) (Left p r)
-      = ap (λ o. o.owed) (owes_is p r owing a.house.table table f.s (stands a whole p f).1 ends) ∙ sym (ap (λ x. left_sends x p r) (lives_here a whole p f)) in
+      = ap (λ o. o.owed) (owes_is p r owing a.processes.table table f.s (stands a whole p f).1 ends) ∙ sym (ap (λ x. left_sends x p r) (lives_here a whole p f)) in
       subst (λ n. Every (λ l. l.to.shard < n) owing.owed) (sym whole.sound.fit.boxes)
       (subst (Every (λ l. l.to.shard < a.config.desks)) (sym owes) (sent_near a whole (Left p r) tt))
 
-  pub left_peers : (r : Reason) (owing : Owing) (table : Table) → Ends p r owing a.house.table table → map (λ l. l.to) owing.owed ≡ peers f.s
-  left_peers r owing table ends = ap (λ o. map (λ l. l.to) o.owed) (owes_is p r owing a.house.table table f.s (stands a whole p f).1 ends) ∙ estate_peers p f.s r
+  pub left_peers : (r : Reason) (owing : Owing) (table : Table) → Ends p r owing a.processes.table table → map (λ l. l.to) owing.owed ≡ peers f.s
+  left_peers r owing table ends = ap (λ o. map (λ l. l.to) o.owed) (owes_is p r owing a.processes.table table f.s (stands a whole p f).1 ends) ∙ estate_peers p f.s r
 
   pub peers_near : Every (λ q. q.shard < length a.book.outbox) (peers f.s)
   peers_near =
@@ -331,5 +331,5 @@ module _ (a : Parts) (whole : IsWhole a) (p : Pid) (f : Found a p) where
       (subst (λ n. Every (λ l. l.to.shard < n) (estate p f.s Normal)) (sym whole.sound.fit.boxes)
       (subst (Every (λ l. l.to.shard < a.config.desks)) (sym owes) (sent_near a whole (Left p Normal) tt))))
 
-  pub left_from : (r : Reason) (owing : Owing) (table : Table) → Ends p r owing a.house.table table → owing.from ≡ p
-  left_from r owing table ends = ap (λ o. o.from) (owes_is p r owing a.house.table table f.s (stands a whole p f).1 ends)
+  pub left_from : (r : Reason) (owing : Owing) (table : Table) → Ends p r owing a.processes.table table → owing.from ≡ p
+  left_from r owing table ends = ap (λ o. o.from) (owes_is p r owing a.processes.table table f.s (stands a whole p f).1 ends)

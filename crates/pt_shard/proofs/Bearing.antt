@@ -18,7 +18,7 @@ use Rattle.pt_slots.specs.declared.Key.{Key}
 use Rattle.pt_slots.specs.State.{at, issued, next_key}
 use Rattle.pt_slots.specs.Offers.{OffersTheFree}
 use Rattle.pt_slots.specs.Calls.{Inserted, names}
-use Rattle.pt_process.specs.Resident.{Resident}
+use Rattle.pt_process.specs.ProcessView.{ProcessView}
 use Rattle.pt_shard.specs.declared.fault.Fault.{Fault}
 use Rattle.pt_shard.specs.declared.fault.Fault.TheVariants.{Memory}
 use Rattle.pt_shard.specs.Calls.{BearsChild, CanWrite, birth_link, new_link}
@@ -27,8 +27,8 @@ use Rattle.pt_shard.specs.Known.{knows, issued_in}
 use Rattle.pt_shard.specs.Extends.{Extends}
 use Rattle.pt_shard.specs.Fit.{IsFit}
 use Rattle.pt_shard.specs.LedgerState.{Book, wrote}
-use Rattle.pt_shard.specs.Sound.{resident, of_phase}
-use Rattle.pt_shard.specs.Residents.{Table, ResidentsState, seen, resident_at, in_place, changed, vacant_at, pid_at, Changes, IsSameTable, HasRoomFor}
+use Rattle.pt_shard.specs.Sound.{live_process, of_phase}
+use Rattle.pt_shard.specs.Processes.{Table, ProcessesState, seen, process_at, in_place, changed, vacant_at, pid_at, Changes, IsSameTable, HasRoomFor}
 use Rattle.pt_shard.specs.Whole.{Parts, parts_of, shard_of, IsWhole}
 use Rattle.pt_shard.proofs.Births.{issued_more, next_unborn, previous, previous_born, is_unborn_is, ended_is}
 use Rattle.pt_shard.proofs.Frames.{lives_not}
@@ -40,24 +40,24 @@ use Rattle.pt_shard.proofs.Acting.{Found, lives_here, stands, put_by_pid, link_n
 -- what a birth changes in the journal's reading --------------------------------------------
 
 -- the parent's state with its half of the link
-abbrev pub adopts : Pid → Option LinkId → Pid → ProcessState → ProcessState
-adopts child link me s = linked (Some child) link s
+abbrev pub links_parent : Pid → Option LinkId → Pid → ProcessState → ProcessState
+links_parent child link me s = linked (Some child) link s
 
-linked_phase : (p q : Pid) (link : Option LinkId) (f : Phase) → of_phase p (while_living (linked (Some q) link) f) ≡ changed (adopts q link) (of_phase p f)
+linked_phase : (p q : Pid) (link : Option LinkId) (f : Phase) → of_phase p (while_living (linked (Some q) link) f) ≡ changed (links_parent q link) (of_phase p f)
 linked_phase p q link unborn = refl
 linked_phase p q link (living s) = refl
 linked_phase p q link (ended r s) = refl
 
 -- what is read for p after the birth of q, where `was` was read before
 abbrev pub read_born : Pid → Option Pid → Option LinkId → Pid → Option (Pid × ProcessState) → Option (Pid × ProcessState)
-read_born q parent link p was = cond (same_pid p q) (Some (q, linked parent link fresh)) (cond (is_the p parent) (changed (adopts q link) was) was)
+read_born q parent link p was = cond (same_pid p q) (Some (q, linked parent link fresh)) (cond (is_the p parent) (changed (links_parent q link) was) was)
 
-birth_resident : (start : Start) (before : Past) (q : Pid) (parent : Option Pid) (link : Option LinkId) → life start before q ≡ unborn
-    → (p : Pid) → resident start (Born q parent link ∷ before) p ≡ read_born q parent link p (resident start before p)
-birth_resident start before q parent link new p = go (same_pid p q) refl (is_the p parent) refl
+birth_process : (start : Start) (before : Past) (q : Pid) (parent : Option Pid) (link : Option LinkId) → life start before q ≡ unborn
+    → (p : Pid) → live_process start (Born q parent link ∷ before) p ≡ read_born q parent link p (live_process start before p)
+birth_process start before q parent link new p = go (same_pid p q) refl (is_the p parent) refl
   where
     go : (a : Bool) → same_pid p q ≡ a → (b : Bool) → is_the p parent ≡ b
-        → resident start (Born q parent link ∷ before) p ≡ read_born q parent link p (resident start before p)
+        → live_process start (Born q parent link ∷ before) p ≡ read_born q parent link p (live_process start before p)
     go true h b k =
         let e = same_pid_is p q h in
         let n : life start before p ≡ unborn = ap (life start before) e ∙ new in
@@ -82,15 +82,15 @@ other_version : (n : ℕ) → 0 < n → (n == pred n) ≡ false
 other_version n some = grind (arith, nat_tests)
 
 -- what a pid reads in the slots after an insertion
-inserted_reading : (desk : ℕ) (key : Key) (r : Resident) (table mid : Table) → Inserted r key table mid
-    → (p : Pid) → resident_at desk mid p ≡ cond (same_pid p (pid_at desk key)) (Some (r.me, r.state)) (resident_at desk table p)
+inserted_reading : (desk : ℕ) (key : Key) (r : ProcessView) (table mid : Table) → Inserted r key table mid
+    → (p : Pid) → process_at desk mid p ≡ cond (same_pid p (pid_at desk key)) (Some (r.me, r.state)) (process_at desk table p)
 inserted_reading desk key r table mid ins p = go (p.shard == desk) refl
   where
     placed : (b : Bool) → names key p.slot p.version ≡ b → seen (at mid p.slot p.version) ≡ cond b (Some (r.me, r.state)) (seen (at table p.slot p.version))
     placed true n = rw (ins.live p.slot p.version, n) refl
     placed false n = rw (ins.live p.slot p.version, n) refl
 
-    go : (a : Bool) → (p.shard == desk) ≡ a → resident_at desk mid p ≡ cond (same_pid p (pid_at desk key)) (Some (r.me, r.state)) (resident_at desk table p)
+    go : (a : Bool) → (p.shard == desk) ≡ a → process_at desk mid p ≡ cond (same_pid p (pid_at desk key)) (Some (r.me, r.state)) (process_at desk table p)
     go true h =
         let same = names_is key p desk (eqb-true p.shard desk h) in
         subst (λ b. cond b (seen (at mid p.slot p.version)) None ≡ cond (same_pid p (pid_at desk key)) (Some (r.me, r.state)) (cond b (seen (at table p.slot p.version)) None)) (sym h)
@@ -98,7 +98,7 @@ inserted_reading desk key r table mid ins p = go (p.shard == desk) refl
     go false h = rw h refl
 
 -- the slot that is offered has nobody
-offered_empty : (key : Key) (r : Resident) (table mid : Table) → Inserted r key table mid
+offered_empty : (key : Key) (r : ProcessView) (table mid : Table) → Inserted r key table mid
     → (version : ℕ) → (key.version == version) ≡ false → at table key.slot version ≡ None
 offered_empty key r table mid ins version h =
     let moved : at mid key.slot version ≡ at table key.slot version = ins.live key.slot version ∙ rw (names_slot key version h) refl in
@@ -111,7 +111,7 @@ pub record BirthOutcome (d : ShardState) (b : Parts) (p : Pid) (parent : Option 
   pub fit : IsFit (shard_of b)
   pub extends : Extends d (shard_of b)
   pub is : shard_of b ≡ record (after (Born p parent link) d) { vacant = (shard_of b).vacant }
-  pub here : p.shard ≡ b.house.desk
+  pub here : p.shard ≡ b.processes.desk
   pub known : knows (shard_of b) p ≡ true
 
 -- the key of the pid that was offered
@@ -123,32 +123,32 @@ offered_key desk (Some other) key q h k = cc
 knows_new : (d : ShardState) (p : Pid) → p.shard ≡ d.number → d.number < d.config.desks → p.slot < d.config.slots → 0 < p.version → p.version ≤ d.config.top_version → p.version ≤ issued_in d.start (past d) p.slot → knows d p ≡ true
 knows_new d p here inside slot some top issued = grind (arith, nat_tests)
 
-module _ (a : Parts) (whole : IsWhole a) (key : Key) (r : Resident) (mid : Table) (ins : Inserted r key a.house.table mid) where
+module _ (a : Parts) (whole : IsWhole a) (key : Key) (r : ProcessView) (mid : Table) (ins : Inserted r key a.processes.table mid) where
   abbrev child : Pid
-  child = pid_at a.house.desk key
+  child = pid_at a.processes.desk key
 
   next_is : key.version ≡ issued_in a.book.start (past (shard_of a)) key.slot + 1
   next_is = ins.version_is_next ∙ ap (λ n. n + 1) (whole.sound.issues key.slot)
 
   not_yet : life a.book.start (past (shard_of a)) child ≡ unborn
-  not_yet = is_unborn_is _ (next_unborn a.book.start a.house.desk (past (shard_of a)) child whole.sound.born next_is)
+  not_yet = is_unborn_is _ (next_unborn a.book.start a.processes.desk (past (shard_of a)) child whole.sound.born next_is)
 
   -- whoever had the slot before has ended
   follows : 1 < key.version → is_ended (life a.book.start (past (shard_of a)) (previous child)) ≡ true
   follows some =
-      let empty : at a.house.table key.slot (pred key.version) ≡ None = offered_empty key r a.house.table mid ins (pred key.version) (other_version key.version (omega arith)) in
-      let none : resident_at a.house.desk a.house.table (previous child) ≡ None = rw (eq-eqb a.house.desk a.house.desk refl, empty) refl in
-      ended_is (life a.book.start (past (shard_of a)) (previous child)) (previous_born a.book.start a.house.desk (past (shard_of a)) child whole.sound.born refl next_is some)
-      (lives_not (life a.book.start (past (shard_of a)) (previous child)) (previous child) (sym (whole.sound.residents (previous child)) ∙ none))
+      let empty : at a.processes.table key.slot (pred key.version) ≡ None = offered_empty key r a.processes.table mid ins (pred key.version) (other_version key.version (omega arith)) in
+      let none : process_at a.processes.desk a.processes.table (previous child) ≡ None = rw (eq-eqb a.processes.desk a.processes.desk refl, empty) refl in
+      ended_is (life a.book.start (past (shard_of a)) (previous child)) (previous_born a.book.start a.processes.desk (past (shard_of a)) child whole.sound.born refl next_is some)
+      (lives_not (life a.book.start (past (shard_of a)) (previous child)) (previous child) (sym (whole.sound.processes (previous child)) ∙ none))
 
   module _ (parent : Option Pid) (link : Option LinkId) (table' : Table) where
     -- the slots after the birth
     pub record IsBirth : Type 0 where
       pub can : a.book.clock < 2 ^ 62
-      pub home : IsOf a.house.desk parent
+      pub home : IsOf a.processes.desk parent
       pub may : MayBear a.book.start (past (shard_of a)) parent link
-      pub new_at : IsLinkAt a.house.desk (a.book.clock + 1) link
-      pub reads : (p : Pid) → resident_at a.house.desk table' p ≡ read_born child parent link p (resident_at a.house.desk a.house.table p)
+      pub new_at : IsLinkAt a.processes.desk (a.book.clock + 1) link
+      pub reads : (p : Pid) → process_at a.processes.desk table' p ≡ read_born child parent link p (process_at a.processes.desk a.processes.table p)
       pub issues : (slot : ℕ) → issued table' slot ≡ issued mid slot
       pub offers : OffersTheFree table'
       pub capacity : table'.capacity ≡ mid.capacity
@@ -166,16 +166,16 @@ module _ (a : Parts) (whole : IsWhole a) (key : Key) (r : Resident) (mid : Table
       new_at = b.new_at;
       known = (let k = ins.version_is_next in omega arith, let k = ins.version_in_range in omega (arith, whole.top_version), follows);
       near = tt;
-      residents = λ p.
-          b.reads p ∙ ap (read_born child parent link p) (whole.sound.residents p) ∙ sym (birth_resident a.book.start (past (shard_of a)) child parent link not_yet p);
+      processes = λ p.
+          b.reads p ∙ ap (read_born child parent link p) (whole.sound.processes p) ∙ sym (birth_process a.book.start (past (shard_of a)) child parent link not_yet p);
       issues = λ slot. b.issues slot ∙ issued_now slot;
-      born = issued_more a.book.start a.house.desk (past (shard_of a)) child parent link refl next_is whole.sound.born;
+      born = issued_more a.book.start a.processes.desk (past (shard_of a)) child parent link refl next_is whole.sound.born;
       offers = b.offers;
       capacity = b.capacity ∙ ins.settings.capacity;
       top_version = b.top_version ∙ ins.settings.top_version;
     }
 
-    born_parts : IsBirth → BirthOutcome (shard_of a) (parts_of a.config (wrote (a.book.clock + 1) (Born child parent link) [] a.book) (with_table a.house table')) child parent link
+    born_parts : IsBirth → BirthOutcome (shard_of a) (parts_of a.config (wrote (a.book.clock + 1) (Born child parent link) [] a.book) (with_table a.processes table')) child parent link
     born_parts b = record {
       whole = whole_next a whole (a.book.clock + 1) (Born child parent link) table' (lawful b);
       fit = fit_next a whole (a.book.clock + 1) (Born child parent link) table' (lawful b);
@@ -184,16 +184,16 @@ module _ (a : Parts) (whole : IsWhole a) (key : Key) (r : Resident) (mid : Table
       here = refl;
       known =
           let latest : issued_in a.book.start (Born child parent link ∷ past (shard_of a)) key.slot ≡ key.version = rw (eq-eqb key.slot key.slot refl) refl in
-          knows_new (shard_of (parts_of a.config (wrote (a.book.clock + 1) (Born child parent link) [] a.book) (with_table a.house table'))) child refl whole.sound.fit.here
+          knows_new (shard_of (parts_of a.config (wrote (a.book.clock + 1) (Born child parent link) [] a.book) (with_table a.processes table'))) child refl whole.sound.fit.here
           (let k = ins.slot_in_range in omega (arith, whole.capacity)) (let k = ins.version_is_next in omega arith) (let k = ins.version_in_range in omega (arith, whole.top_version)) (omega (arith, latest));
     }
 
     pub born_outcome : IsBirth → (q : Pid) → q ≡ child → (book : Book) → book ≡ wrote (a.book.clock + 1) (Born q parent link) [] a.book
-        → (house : ResidentsState) → house.desk ≡ a.house.desk → house.table ≡ table' → BirthOutcome (shard_of a) (parts_of a.config book house) q parent link
-    born_outcome b q is book book_is house desk table_is =
-        subst (λ x. BirthOutcome (shard_of a) (parts_of a.config x house) q parent link) (sym book_is)
-        (subst (λ h. BirthOutcome (shard_of a) (parts_of a.config (wrote (a.book.clock + 1) (Born q parent link) [] a.book) h) q parent link) (sym (same_desk a.house house desk ∙ ap (with_table a.house) table_is))
-        (subst (λ x. BirthOutcome (shard_of a) (parts_of a.config (wrote (a.book.clock + 1) (Born x parent link) [] a.book) (with_table a.house table')) x parent link) (sym is) (born_parts b)))
+        → (processes : ProcessesState) → processes.desk ≡ a.processes.desk → processes.table ≡ table' → BirthOutcome (shard_of a) (parts_of a.config book processes) q parent link
+    born_outcome b q is book book_is processes desk table_is =
+        subst (λ x. BirthOutcome (shard_of a) (parts_of a.config x processes) q parent link) (sym book_is)
+        (subst (λ h. BirthOutcome (shard_of a) (parts_of a.config (wrote (a.book.clock + 1) (Born q parent link) [] a.book) h) q parent link) (sym (same_desk a.processes processes desk ∙ ap (with_table a.processes) table_is))
+        (subst (λ x. BirthOutcome (shard_of a) (parts_of a.config (wrote (a.book.clock + 1) (Born x parent link) [] a.book) (with_table a.processes table')) x parent link) (sym is) (born_parts b)))
 
   -- a process without a parent
   pub alone_born : a.book.clock < 2 ^ 62 → r.me ≡ child → r.state ≡ fresh → IsBirth None None mid
@@ -202,7 +202,7 @@ module _ (a : Parts) (whole : IsWhole a) (key : Key) (r : Resident) (mid : Table
     home = tt;
     may = tt;
     new_at = tt;
-    reads = λ p. inserted_reading a.house.desk key r a.house.table mid ins p ∙ rw (me, state) refl;
+    reads = λ p. inserted_reading a.processes.desk key r a.processes.table mid ins p ∙ rw (me, state) refl;
     issues = λ slot. refl;
     offers = ins.offers;
     capacity = refl;
@@ -221,32 +221,32 @@ module _ (a : Parts) (whole : IsWhole a) (key : Key) (r : Resident) (mid : Table
         go true h = absurd (not_child par refl (same_pid_is par child h))
         go false h = h
 
-    parent_place : in_place mid par ≡ resident_at a.house.desk a.house.table par
+    parent_place : in_place mid par ≡ process_at a.processes.desk a.processes.table par
     parent_place =
-        let home : resident_at a.house.desk mid par ≡ in_place mid par = rw (eq-eqb par.shard a.house.desk (stands a whole par f).0) refl in
-        sym home ∙ inserted_reading a.house.desk key r a.house.table mid ins par ∙ rw still_there refl
+        let home : process_at a.processes.desk mid par ≡ in_place mid par = rw (eq-eqb par.shard a.processes.desk (stands a whole par f).0) refl in
+        sym home ∙ inserted_reading a.processes.desk key r a.processes.table mid ins par ∙ rw still_there refl
 
     pub parent_stays : IsSome (in_place mid par)
     parent_stays = subst IsSome (f.there ∙ sym parent_place) refl
 
-    module _ (link : Option LinkId) (me_is : r.me ≡ child) (state_is : r.state ≡ linked (Some par) link fresh) (table' : Table) (changes : Changes par (adopts child link) mid table') where
-      child_reads : (p : Pid) → resident_at a.house.desk table' p ≡ read_born child (Some par) link p (resident_at a.house.desk a.house.table p)
+    module _ (link : Option LinkId) (me_is : r.me ≡ child) (state_is : r.state ≡ linked (Some par) link fresh) (table' : Table) (changes : Changes par (links_parent child link) mid table') where
+      child_reads : (p : Pid) → process_at a.processes.desk table' p ≡ read_born child (Some par) link p (process_at a.processes.desk a.processes.table p)
       child_reads p = go (same_pid p child) refl (same_pid p par) refl
         where
-          first : resident_at a.house.desk mid p ≡ cond (same_pid p child) (Some (child, linked (Some par) link fresh)) (resident_at a.house.desk a.house.table p)
-          first = inserted_reading a.house.desk key r a.house.table mid ins p ∙ rw (me_is, state_is) refl
+          first : process_at a.processes.desk mid p ≡ cond (same_pid p child) (Some (child, linked (Some par) link fresh)) (process_at a.processes.desk a.processes.table p)
+          first = inserted_reading a.processes.desk key r a.processes.table mid ins p ∙ rw (me_is, state_is) refl
 
-          then_it : resident_at a.house.desk table' p ≡ cond (same_pid p par) (changed (adopts child link) (in_place mid par)) (resident_at a.house.desk mid p)
-          then_it = put_by_pid a.house.desk par _ mid table' (stands a whole par f).0 changes.puts p
+          then_it : process_at a.processes.desk table' p ≡ cond (same_pid p par) (changed (links_parent child link) (in_place mid par)) (process_at a.processes.desk mid p)
+          then_it = put_by_pid a.processes.desk par _ mid table' (stands a whole par f).0 changes.puts p
 
-          go : (x : Bool) → same_pid p child ≡ x → (y : Bool) → same_pid p par ≡ y → resident_at a.house.desk table' p ≡ read_born child (Some par) link p (resident_at a.house.desk a.house.table p)
+          go : (x : Bool) → same_pid p child ≡ x → (y : Bool) → same_pid p par ≡ y → process_at a.processes.desk table' p ≡ read_born child (Some par) link p (process_at a.processes.desk a.processes.table p)
           go true h true k = absurd (not_child p (same_pid_is p par k) (same_pid_is p child h))
           go true h false k = then_it ∙ rw (k, h) (first ∙ rw h refl)
           go false h true k =
-              then_it ∙ rw (k, h) (ap (changed (adopts child link)) (parent_place ∙ ap (resident_at a.house.desk a.house.table) (sym (same_pid_is p par k))))
+              then_it ∙ rw (k, h) (ap (changed (links_parent child link)) (parent_place ∙ ap (process_at a.processes.desk a.processes.table) (sym (same_pid_is p par k))))
           go false h false k = then_it ∙ rw (k, h) (first ∙ rw h refl)
 
-      pub child_born : a.book.clock < 2 ^ 62 → MayBear a.book.start (past (shard_of a)) (Some par) link → IsLinkAt a.house.desk (a.book.clock + 1) link → IsBirth (Some par) link table'
+      pub child_born : a.book.clock < 2 ^ 62 → MayBear a.book.start (past (shard_of a)) (Some par) link → IsLinkAt a.processes.desk (a.book.clock + 1) link → IsBirth (Some par) link table'
       child_born can may new_at = record {
         can = can;
         home = (stands a whole par f).0;
@@ -261,13 +261,13 @@ module _ (a : Parts) (whole : IsWhole a) (key : Key) (r : Resident) (mid : Table
 
 -- the slots with more room -----------------------------------------------------------------
 
-same_reading : (desk : ℕ) (table roomy : Table) → IsSameTable table roomy → (p : Pid) → resident_at desk roomy p ≡ resident_at desk table p
+same_reading : (desk : ℕ) (table roomy : Table) → IsSameTable table roomy → (p : Pid) → process_at desk roomy p ≡ process_at desk table p
 same_reading desk table roomy same p = ap (λ x. cond (p.shard == desk) x None) (same.live p.slot p.version)
 
-pub same_whole : (a : Parts) (book : Book) (house : ResidentsState) → IsWhole a → book ≡ a.book → house.desk ≡ a.house.desk → IsSameTable a.house.table house.table → IsWhole (parts_of a.config book house)
-same_whole a book house whole b d same =
-    subst (λ x. IsWhole (parts_of a.config x house)) (sym b)
-    (subst (λ h. IsWhole (parts_of a.config a.book h)) (sym (same_desk a.house house d))
+pub same_whole : (a : Parts) (book : Book) (processes : ProcessesState) → IsWhole a → book ≡ a.book → processes.desk ≡ a.processes.desk → IsSameTable a.processes.table processes.table → IsWhole (parts_of a.config book processes)
+same_whole a book processes whole b d same =
+    subst (λ x. IsWhole (parts_of a.config x processes)) (sym b)
+    (subst (λ h. IsWhole (parts_of a.config a.book h)) (sym (same_desk a.processes processes d))
     (record {
       sound = record {
         fit = record {
@@ -277,21 +277,21 @@ same_whole a book house whole b d same =
           clock_is = whole.sound.fit.clock_is;
           local = whole.sound.fit.local;
           vacant =
-              next_birth (shard_of (parts_of a.config a.book (with_table a.house house.table))) house.table (λ p. same_reading a.house.desk a.house.table house.table same p ∙ whole.sound.residents p)
+              next_birth (shard_of (parts_of a.config a.book (with_table a.processes processes.table))) processes.table (λ p. same_reading a.processes.desk a.processes.table processes.table same p ∙ whole.sound.processes p)
               (λ slot. same.settings.issues slot ∙ whole.sound.issues slot) (same.settings.capacity ∙ whole.capacity) (same.settings.top_version ∙ whole.top_version)
-              (offers_same a.house.table house.table whole.offers same);
+              (offers_same a.processes.table processes.table whole.offers same);
           boxes = whole.sound.fit.boxes;
           boxed = whole.sound.fit.boxed;
           held = whole.sound.fit.held;
           posts_near = whole.sound.fit.posts_near;
           gots_near = whole.sound.fit.gots_near;
         };
-        residents = λ p. same_reading a.house.desk a.house.table house.table same p ∙ whole.sound.residents p;
+        processes = λ p. same_reading a.processes.desk a.processes.table processes.table same p ∙ whole.sound.processes p;
         issues = λ slot. same.settings.issues slot ∙ whole.sound.issues slot;
         born = whole.sound.born;
         near = whole.sound.near;
       };
-      offers = offers_same a.house.table house.table whole.offers same;
+      offers = offers_same a.processes.table processes.table whole.offers same;
       home = whole.home;
       capacity = same.settings.capacity ∙ whole.capacity;
       top_version = same.settings.top_version ∙ whole.top_version;
@@ -308,48 +308,48 @@ link_at : (desk n : ℕ) (asked : Bool) → IsLinkAt desk n (then_some asked (re
 link_at desk n true = (refl, refl)
 link_at desk n false = tt
 
-inserted_if : (o : Option Key) (r : Resident) (old new : Table) → IfSome o (λ key. Inserted r key old new) → (q : Pid) (desk : ℕ) → Some q ≡ option_map (pid_at desk) o → (key : Key) × ((o ≡ Some key) × Inserted r key old new)
+inserted_if : (o : Option Key) (r : ProcessView) (old new : Table) → IfSome o (λ key. Inserted r key old new) → (q : Pid) (desk : ℕ) → Some q ≡ option_map (pid_at desk) o → (key : Key) × ((o ≡ Some key) × Inserted r key old new)
 inserted_if None r old new h q desk free = absurd (cc)
 inserted_if (Some key) r old new h q desk free = (key, (refl, h))
 
-pub spawned : (a : Parts) (whole : IsWhole a) (q : Pid) → Some q ≡ vacant_at a.house.desk a.house.table → a.book.clock < 2 ^ 62
-    → (r : Resident) → r.me ≡ q → r.state ≡ fresh → (house : ResidentsState) → house.desk ≡ a.house.desk → IfSome (next_key a.house.table) (λ key. Inserted r key a.house.table house.table)
-    → (book : Book) → book ≡ wrote (a.book.clock + 1) (Born q None None) [] a.book → BirthOutcome (shard_of a) (parts_of a.config book house) q None None
-spawned a whole q free can r me state house desk inserts book is =
-    let found = inserted_if (next_key a.house.table) r a.house.table house.table inserts q a.house.desk free in
-    let at : q ≡ pid_at a.house.desk found.0 = offered_key a.house.desk (next_key a.house.table) found.0 q found.1.0 free in
-    born_outcome a whole found.0 r house.table found.1.1 None None house.table
-    (alone_born a whole found.0 r house.table found.1.1 can (me ∙ at) state) q at book is house desk refl
+pub spawned : (a : Parts) (whole : IsWhole a) (q : Pid) → Some q ≡ vacant_at a.processes.desk a.processes.table → a.book.clock < 2 ^ 62
+    → (r : ProcessView) → r.me ≡ q → r.state ≡ fresh → (processes : ProcessesState) → processes.desk ≡ a.processes.desk → IfSome (next_key a.processes.table) (λ key. Inserted r key a.processes.table processes.table)
+    → (book : Book) → book ≡ wrote (a.book.clock + 1) (Born q None None) [] a.book → BirthOutcome (shard_of a) (parts_of a.config book processes) q None None
+spawned a whole q free can r me state processes desk inserts book is =
+    let found = inserted_if (next_key a.processes.table) r a.processes.table processes.table inserts q a.processes.desk free in
+    let at : q ≡ pid_at a.processes.desk found.0 = offered_key a.processes.desk (next_key a.processes.table) found.0 q found.1.0 free in
+    born_outcome a whole found.0 r processes.table found.1.1 None None processes.table
+    (alone_born a whole found.0 r processes.table found.1.1 can (me ∙ at) state) q at book is processes desk refl
 
 -- the parent keeps its room when its child is taken in
-room_kept : (a : Parts) (whole : IsWhole a) (par : Pid) (f : Found a par) (key : Key) (r : Resident) (mid : Table) → Inserted r key a.house.table mid
-    → (link : Option LinkId) → HasRoomFor link par a.house.table → HasRoomFor link par mid
+room_kept : (a : Parts) (whole : IsWhole a) (par : Pid) (f : Found a par) (key : Key) (r : ProcessView) (mid : Table) → Inserted r key a.processes.table mid
+    → (link : Option LinkId) → HasRoomFor link par a.processes.table → HasRoomFor link par mid
 room_kept a whole par f key r mid ins None room = tt
 room_kept a whole par f key r mid ins (Some i) room =
-    let other : names key par.slot par.version ≡ false = names_is key par a.house.desk (stands a whole par f).0 ∙ still_there a whole key r mid ins par f in
-    let kept : at mid par.slot par.version ≡ at a.house.table par.slot par.version = ins.live par.slot par.version ∙ rw other refl in
+    let other : names key par.slot par.version ≡ false = names_is key par a.processes.desk (stands a whole par f).0 ∙ still_there a whole key r mid ins par f in
+    let kept : at mid par.slot par.version ≡ at a.processes.table par.slot par.version = ins.live par.slot par.version ∙ rw other refl in
     subst (λ o. IfSome o (λ x. 0 < x.room)) (sym kept) room
 
-module _ (a : Parts) (whole : IsWhole a) (par : Pid) (f : Found a par) (q : Pid) (free : Some q ≡ vacant_at a.house.desk a.house.table)
-    (roomy : ResidentsState) (desk : roomy.desk ≡ a.house.desk) (same : IsSameTable a.house.table roomy.table)
-    (r : Resident) (mid : ResidentsState) (desk' : mid.desk ≡ roomy.desk) (inserts : IfSome (next_key roomy.table) (λ key. Inserted r key roomy.table mid.table)) where
+module _ (a : Parts) (whole : IsWhole a) (par : Pid) (f : Found a par) (q : Pid) (free : Some q ≡ vacant_at a.processes.desk a.processes.table)
+    (roomy : ProcessesState) (desk : roomy.desk ≡ a.processes.desk) (same : IsSameTable a.processes.table roomy.table)
+    (r : ProcessView) (mid : ProcessesState) (desk' : mid.desk ≡ roomy.desk) (inserts : IfSome (next_key roomy.table) (λ key. Inserted r key roomy.table mid.table)) where
   abbrev wide : Parts
-  wide = parts_of a.config a.book (with_table a.house roomy.table)
+  wide = parts_of a.config a.book (with_table a.processes roomy.table)
 
   wide_whole : IsWhole wide
-  wide_whole = same_whole a a.book (with_table a.house roomy.table) whole refl refl same
+  wide_whole = same_whole a a.book (with_table a.processes roomy.table) whole refl refl same
 
   wide_found : Found wide par
-  wide_found = record { me = f.me; s = f.s; there = f.there ∙ sym (same_reading a.house.desk a.house.table roomy.table same par) }
+  wide_found = record { me = f.me; s = f.s; there = f.there ∙ sym (same_reading a.processes.desk a.processes.table roomy.table same par) }
 
-  wide_free : Some q ≡ vacant_at a.house.desk roomy.table
-  wide_free = free ∙ ap (option_map (pid_at a.house.desk)) (sym same.next)
+  wide_free : Some q ≡ vacant_at a.processes.desk roomy.table
+  wide_free = free ∙ ap (option_map (pid_at a.processes.desk)) (sym same.next)
 
   picked : (key : Key) × ((next_key roomy.table ≡ Some key) × Inserted r key roomy.table mid.table)
-  picked = inserted_if (next_key roomy.table) r roomy.table mid.table inserts q a.house.desk wide_free
+  picked = inserted_if (next_key roomy.table) r roomy.table mid.table inserts q a.processes.desk wide_free
 
-  q_is : q ≡ pid_at a.house.desk picked.0
-  q_is = offered_key a.house.desk (next_key roomy.table) picked.0 q picked.1.0 wide_free
+  q_is : q ≡ pid_at a.processes.desk picked.0
+  q_is = offered_key a.processes.desk (next_key roomy.table) picked.0 q picked.1.0 wide_free
 
   pub room_stays : (link : Option LinkId) → HasRoomFor link par roomy.table → HasRoomFor link par mid.table
   room_stays link room = room_kept wide wide_whole par wide_found picked.0 r mid.table picked.1.1 link room
@@ -359,17 +359,17 @@ module _ (a : Parts) (whole : IsWhole a) (par : Pid) (f : Found a par) (q : Pid)
 
   pub child_outcome : a.book.clock < 2 ^ 62 → (asked : Bool) (link : Option LinkId) → link ≡ birth_link asked (shard_of a)
       → r.me ≡ q → r.state ≡ linked (Some par) link fresh
-      → (last : ResidentsState) → last.desk ≡ mid.desk → Changes par (adopts q link) mid.table last.table
+      → (last : ProcessesState) → last.desk ≡ mid.desk → Changes par (links_parent q link) mid.table last.table
       → (book : Book) → book ≡ wrote (a.book.clock + 1) (Born q (Some par) link) [] a.book
       → BirthOutcome (shard_of a) (parts_of a.config book last) q (Some par) link
   child_outcome can asked link is me state last desk'' changes book book_is =
       let new : made_link (past (shard_of a)) (new_link (shard_of a)) ≡ false = link_new a whole (new_link (shard_of a)) refl in
       let may : MayBear a.book.start (past (shard_of a)) (Some par) link = subst (MayBear a.book.start (past (shard_of a)) (Some par)) (sym is) (may_link a.book.start (past (shard_of a)) par f.s (lives_here a whole par f) asked (new_link (shard_of a)) new) in
-      let new_at : IsLinkAt a.house.desk (a.book.clock + 1) link = subst (IsLinkAt a.house.desk (a.book.clock + 1)) (sym is) (link_at a.house.desk (a.book.clock + 1) asked) in
+      let new_at : IsLinkAt a.processes.desk (a.book.clock + 1) link = subst (IsLinkAt a.processes.desk (a.book.clock + 1)) (sym is) (link_at a.processes.desk (a.book.clock + 1) asked) in
       let birth = child_born wide wide_whole picked.0 r mid.table picked.1.1 par wide_found link (me ∙ q_is) state last.table
-      (subst (λ x. Changes par (adopts x link) mid.table last.table) q_is changes) can may new_at in
+      (subst (λ x. Changes par (links_parent x link) mid.table last.table) q_is changes) can may new_at in
       let born = born_outcome wide wide_whole picked.0 r mid.table picked.1.1 (Some par) link last.table birth q q_is book book_is last (desk'' ∙ desk' ∙ desk) refl in
-      subst (λ v. BirthOutcome (record (shard_of a) { vacant = v }) (parts_of a.config book last) q (Some par) link) (ap (option_map (pid_at a.house.desk)) same.next) born
+      subst (λ v. BirthOutcome (record (shard_of a) { vacant = v }) (parts_of a.config book last) q (Some par) link) (ap (option_map (pid_at a.processes.desk)) same.next) born
 
 -- a refusal ------------------------------------------------------------------------------------
 
@@ -383,10 +383,10 @@ pub record Unchanged (a b : Parts) : Type 0 where
 pub same_table : (table : Table) → IsSameTable table table
 same_table table = record { live = λ slot version. refl; settings = same_settings table; next = refl }
 
-pub unchanged : (a : Parts) (whole : IsWhole a) (book : Book) (house : ResidentsState) → book ≡ a.book → house.desk ≡ a.house.desk → IsSameTable a.house.table house.table → Unchanged a (parts_of a.config book house)
-unchanged a whole book house b d same =
-    let w = same_whole a book house whole b d same in
-    record { whole = w; fit = w.sound.fit; extends = subst (Extends (shard_of a)) (sym (still a book house b d same)) (extends_itself a whole); is = still a book house b d same }
+pub unchanged : (a : Parts) (whole : IsWhole a) (book : Book) (processes : ProcessesState) → book ≡ a.book → processes.desk ≡ a.processes.desk → IsSameTable a.processes.table processes.table → Unchanged a (parts_of a.config book processes)
+unchanged a whole book processes b d same =
+    let w = same_whole a book processes whole b d same in
+    record { whole = w; fit = w.sound.fit; extends = subst (Extends (shard_of a)) (sym (still a book processes b d same)) (extends_itself a whole); is = still a book processes b d same }
 
 module _ (par : Pid) (asked : Bool) (old new : ShardState) (alive_par : lives old par ≡ true) (free : IsSome old.vacant) (left : new ≡ old) where
   pub child_no_memory : CanWrite old → (r : Result Pid Fault) → IsErr r × IsErrAnd r (λ f. f ≡ Memory) → BearsChild par asked old r new

@@ -7,7 +7,7 @@ use Rattle.pt_signal.proofs.Same.{same_pid_is}
 use Rattle.pt_events.specs.declared.event.Event.{Event}
 use Rattle.pt_events.specs.History.{Past, Start, Phase, unborn, living, ended, touches, is_living}
 use Rattle.pt_events.proofs.Steps.{untouched}
-use Rattle.pt_shard.specs.Sound.{resident, of_phase}
+use Rattle.pt_shard.specs.Sound.{live_process, of_phase}
 
 abbrev pub Reading : Type 0
 Reading = Pid → Option (Pid × ProcessState)
@@ -17,22 +17,22 @@ abbrev pub IsPut : Pid → Option (Pid × ProcessState) → Reading → Reading 
 IsPut p v read other = (q : Pid) → other q ≡ cond (same_pid q p) v (read q)
 
 module _ (start : Start) (before : Past) (e : Event) (p : Pid) (alone : (q : Pid) → touches q e ≡ same_pid q p) where
-  pub others : (q : Pid) → same_pid q p ≡ false → resident start (e ∷ before) q ≡ resident start before q
+  pub others : (q : Pid) → same_pid q p ≡ false → live_process start (e ∷ before) q ≡ live_process start before q
   others q h = ap (of_phase q) (untouched start before e q (alone q ∙ h))
 
-  pub put_one : (read other : Reading) → ((q : Pid) → read q ≡ resident start before q) → IsPut p (resident start (e ∷ before) p) read other → (q : Pid) → other q ≡ resident start (e ∷ before) q
+  pub put_one : (read other : Reading) → ((q : Pid) → read q ≡ live_process start before q) → IsPut p (live_process start (e ∷ before) p) read other → (q : Pid) → other q ≡ live_process start (e ∷ before) q
   put_one read other same put q = go (same_pid q p) refl (put q)
     where
-      go : (b : Bool) → same_pid q p ≡ b → other q ≡ cond (same_pid q p) (resident start (e ∷ before) p) (read q) → other q ≡ resident start (e ∷ before) q
-      go true h k = let at : other q ≡ resident start (e ∷ before) p = rw h at k in at ∙ ap (resident start (e ∷ before)) (sym (same_pid_is q p h))
+      go : (b : Bool) → same_pid q p ≡ b → other q ≡ cond (same_pid q p) (live_process start (e ∷ before) p) (read q) → other q ≡ live_process start (e ∷ before) q
+      go true h k = let at : other q ≡ live_process start (e ∷ before) p = rw h at k in at ∙ ap (live_process start (e ∷ before)) (sym (same_pid_is q p h))
       go false h k = let at : other q ≡ read q = rw h at k in at ∙ same q ∙ sym (others q h)
 
   -- nothing changes
-  pub put_none : (read : Reading) → ((q : Pid) → read q ≡ resident start before q) → resident start (e ∷ before) p ≡ resident start before p → (q : Pid) → read q ≡ resident start (e ∷ before) q
+  pub put_none : (read : Reading) → ((q : Pid) → read q ≡ live_process start before q) → live_process start (e ∷ before) p ≡ live_process start before p → (q : Pid) → read q ≡ live_process start (e ∷ before) q
   put_none read same still q = go (same_pid q p) refl
     where
-      go : (b : Bool) → same_pid q p ≡ b → read q ≡ resident start (e ∷ before) q
-      go true h = subst (λ x. read x ≡ resident start (e ∷ before) x) (sym (same_pid_is q p h)) (same p ∙ sym still)
+      go : (b : Bool) → same_pid q p ≡ b → read q ≡ live_process start (e ∷ before) q
+      go true h = subst (λ x. read x ≡ live_process start (e ∷ before) x) (sym (same_pid_is q p h)) (same p ∙ sym still)
       go false h = same q ∙ sym (others q h)
 
 abbrev state_or : ProcessState → Option (Pid × ProcessState) → ProcessState

@@ -20,9 +20,9 @@ use Rattle.pt_shard.specs.ShardState.{ShardState, past, sends, written, vacated,
 use Rattle.pt_shard.specs.Known.{issued_in}
 use Rattle.pt_shard.specs.Extends.{Extends}
 use Rattle.pt_shard.specs.Fit.{IsFit, AreBetween}
-use Rattle.pt_shard.specs.Sound.{Every, IsSound, BornAreIssued, IsNear, resident}
+use Rattle.pt_shard.specs.Sound.{Every, IsSound, BornAreIssued, IsNear, live_process}
 use Rattle.pt_shard.specs.LedgerState.{wrote}
-use Rattle.pt_shard.specs.Residents.{Table, ResidentsState, resident_at, vacant_at}
+use Rattle.pt_shard.specs.Processes.{Table, ProcessesState, process_at, vacant_at}
 use Rattle.pt_shard.specs.Whole.{Parts, parts_of, shard_of, IsWhole}
 use Rattle.pt_shard.proofs.Births.{stays_known}
 use Rattle.pt_shard.proofs.Vacancy.{next_birth}
@@ -57,10 +57,10 @@ got_near desks e n _ h far = refl
 
 -- one more event ------------------------------------------------------------------------
 
-abbrev pub with_table : ResidentsState → Table → ResidentsState
-with_table house table = record house { table = table }
+abbrev pub with_table : ProcessesState → Table → ProcessesState
+with_table processes table = record processes { table = table }
 
-pub same_desk : (old new : ResidentsState) → new.desk ≡ old.desk → new ≡ with_table old new.table
+pub same_desk : (old new : ProcessesState) → new.desk ≡ old.desk → new ≡ with_table old new.table
 same_desk old new h = λ i. record { desk = h i; table = new.table }
 
 module _ (a : Parts) (whole : IsWhole a) where
@@ -69,44 +69,44 @@ module _ (a : Parts) (whole : IsWhole a) where
 
   -- the parts after the event e, stamped n
   abbrev pub next_parts : ℕ → Event → Table → Parts
-  next_parts n e table = parts_of a.config (wrote n e (sends n e before) a.book) (with_table a.house table)
+  next_parts n e table = parts_of a.config (wrote n e (sends n e before) a.book) (with_table a.processes table)
 
   -- what must hold of an event that the desk writes, and of its slots afterwards
   pub record IsLawful (n : ℕ) (e : Event) (table : Table) : Type 0 where
     pub later : a.book.clock < n
     pub fits : n ≤ 2 ^ 62
-    pub home : IsHome a.house.desk e
+    pub home : IsHome a.processes.desk e
     pub may : MayHere a.book.start (past before) e
-    pub new_at : IsNewAt a.house.desk n e
-    pub known : IsKnown a.book.start a.house.desk a.config.top_version (past before) e
+    pub new_at : IsNewAt a.processes.desk n e
+    pub known : IsKnown a.book.start a.processes.desk a.config.top_version (past before) e
     pub near : IsNear a.config.desks e
-    pub residents : (p : Pid) → resident_at a.house.desk table p ≡ resident a.book.start (e ∷ past before) p
+    pub processes : (p : Pid) → process_at a.processes.desk table p ≡ live_process a.book.start (e ∷ past before) p
     pub issues : (slot : ℕ) → issued table slot ≡ issued_in a.book.start (e ∷ past before) slot
-    pub born : BornAreIssued a.book.start a.house.desk (e ∷ past before)
+    pub born : BornAreIssued a.book.start a.processes.desk (e ∷ past before)
     pub offers : OffersTheFree table
-    pub capacity : table.capacity ≡ a.house.table.capacity
-    pub top_version : table.top_version ≡ a.house.table.top_version
+    pub capacity : table.capacity ≡ a.processes.table.capacity
+    pub top_version : table.top_version ≡ a.processes.table.top_version
 
   -- what an event of the desk sends goes to desks of the node
   pub sent_near : (e : Event) → IsNear a.config.desks e → Every (IsToNode a.config.desks) (sent_by a.book.start (past before) e)
   sent_near e near =
-      near_sent a.config.desks (IsOpen a.book.start a.config.desks a.config.start a.house.desk a.book.journal) a.book.start (λ w k. k.0) (past before) e near
-      (near_life a.book.start a.config.desks a.config.start a.config.top_version a.house.desk whole.sound.fit.begun a.book.journal whole.sound.fit.here whole.sound.fit.local whole.sound.near)
+      near_sent a.config.desks (IsOpen a.book.start a.config.desks a.config.start a.processes.desk a.book.journal) a.book.start (λ w k. k.0) (past before) e near
+      (near_life a.book.start a.config.desks a.config.start a.config.top_version a.processes.desk whole.sound.fit.begun a.book.journal whole.sound.fit.here whole.sound.fit.local whole.sound.near)
 
   module _ (n : ℕ) (e : Event) (table : Table) (law : IsLawful n e table) where
-    fit_boxed : (k : ℕ) → AreBetween a.house.desk k (get_or (put_out a.book.outbox (sends n e before)) k [])
+    fit_boxed : (k : ℕ) → AreBetween a.processes.desk k (get_or (put_out a.book.outbox (sends n e before)) k [])
     fit_boxed k = go (cases_lt k (length a.book.outbox))
       where
-        go : (k < length a.book.outbox) ⊎ (length a.book.outbox ≤ k) → AreBetween a.house.desk k (get_or (put_out a.book.outbox (sends n e before)) k [])
+        go : (k < length a.book.outbox) ⊎ (length a.book.outbox ≤ k) → AreBetween a.processes.desk k (get_or (put_out a.book.outbox (sends n e before)) k [])
         go (inl within) =
-            subst (AreBetween a.house.desk k) (sym (put_at a.book.outbox (sends n e before) k within))
-            (between_append a.house.desk k (get_or a.book.outbox k []) _ (whole.sound.fit.boxed k)
-            (between_sent a.house.desk k n (sent_by a.book.start (past before) e) (from_home a.book.start (past before) a.house.desk e law.home)))
+            subst (AreBetween a.processes.desk k) (sym (put_at a.book.outbox (sends n e before) k within))
+            (between_append a.processes.desk k (get_or a.book.outbox k []) _ (whole.sound.fit.boxed k)
+            (between_sent a.processes.desk k n (sent_by a.book.start (past before) e) (from_home a.book.start (past before) a.processes.desk e law.home)))
         go (inr beyond) =
-            subst (AreBetween a.house.desk k) (sym (get_or_past (put_out a.book.outbox (sends n e before)) k [] (omega (arith, beyond, put_count a.book.outbox (sends n e before))))) tt
+            subst (AreBetween a.processes.desk k) (sym (get_or_past (put_out a.book.outbox (sends n e before)) k [] (omega (arith, beyond, put_count a.book.outbox (sends n e before))))) tt
 
     abbrev stamped_now : Stamped
-    stamped_now = record { stamp = n; desk = a.house.desk; event = e }
+    stamped_now = record { stamp = n; desk = a.processes.desk; event = e }
 
     fit_posts : (k : ℕ) → a.config.desks ≤ k → posts a.book.start (stamped_now ∷ a.book.journal) k ≡ []
     fit_posts k far =
@@ -117,7 +117,7 @@ module _ (a : Parts) (whole : IsWhole a) where
     fit_gots : (k : ℕ) → a.config.desks ≤ k → gots (stamped_now ∷ a.book.journal) k ≡ []
     fit_gots k far = ap (λ z. z ++ got_of k n e) (whole.sound.fit.gots_near k far) ∙ got_near a.config.desks k n e law.near far
 
-    fit_written : IsFit (record (written n e before) { vacant = vacant_at a.house.desk table })
+    fit_written : IsFit (record (written n e before) { vacant = vacant_at a.processes.desk table })
     fit_written = record {
       settings = whole.sound.fit.settings;
       here = whole.sound.fit.here;
@@ -125,7 +125,7 @@ module _ (a : Parts) (whole : IsWhole a) where
       clock_is = refl;
       local = (record { here = refl; later = let k = whole.sound.fit.clock_is in omega (arith, law.later); within = law.fits; home = law.home; may = law.may; new_at = law.new_at; known = law.known }, whole.sound.fit.local);
       vacant =
-          next_birth (record (written n e before) { vacant = vacant_at a.house.desk table }) table law.residents law.issues (law.capacity ∙ whole.capacity) (law.top_version ∙ whole.top_version) law.offers;
+          next_birth (record (written n e before) { vacant = vacant_at a.processes.desk table }) table law.processes law.issues (law.capacity ∙ whole.capacity) (law.top_version ∙ whole.top_version) law.offers;
       boxes = put_count a.book.outbox (sends n e before) ∙ whole.sound.fit.boxes;
       boxed = fit_boxed;
       held = whole.sound.fit.held;
@@ -133,10 +133,10 @@ module _ (a : Parts) (whole : IsWhole a) where
       gots_near = fit_gots;
     }
 
-    sound_written : IsSound (record (written n e before) { vacant = vacant_at a.house.desk table }) (resident_at a.house.desk table) (issued table)
+    sound_written : IsSound (record (written n e before) { vacant = vacant_at a.processes.desk table }) (process_at a.processes.desk table) (issued table)
     sound_written = record {
       fit = fit_written;
-      residents = law.residents;
+      processes = law.processes;
       issues = law.issues;
       born = law.born;
       near = (law.near, whole.sound.near);
@@ -148,7 +148,7 @@ module _ (a : Parts) (whole : IsWhole a) where
     -- the desk is whole after the event
     pub whole_next : IsWhole (next_parts n e table)
     whole_next =
-        subst (λ b. IsWhole (parts_of a.config b (with_table a.house table))) (sym same_book)
+        subst (λ b. IsWhole (parts_of a.config b (with_table a.processes table))) (sym same_book)
         (record { sound = sound_written; offers = law.offers; home = whole.home; capacity = law.capacity ∙ whole.capacity; top_version = law.top_version ∙ whole.top_version })
 
     pub fit_next : IsFit (shard_of (next_parts n e table))
@@ -157,18 +157,18 @@ module _ (a : Parts) (whole : IsWhole a) where
     -- and extends the one before
     pub extends_next : Extends before (shard_of (next_parts n e table))
     extends_next =
-        subst (λ b. Extends before (shard_of (parts_of a.config b (with_table a.house table)))) (sym same_book)
+        subst (λ b. Extends before (shard_of (parts_of a.config b (with_table a.processes table)))) (sym same_book)
         (record {
           start = refl;
           number = refl;
           config = refl;
           more = stamped_now ∷ [];
           journal = refl;
-          known = stays_known before (record (written n e before) { vacant = vacant_at a.house.desk table }) e refl refl refl refl whole.sound.born law.born;
+          known = stays_known before (record (written n e before) { vacant = vacant_at a.processes.desk table }) e refl refl refl refl whole.sound.born law.born;
         })
 
   -- it is the desk that the event makes of the one before
-  pub next_is : (n : ℕ) (e : Event) (table : Table) → vacant_at a.house.desk table ≡ vacated a.config.top_version (ended_by before e) (vacant_at a.house.desk a.house.table)
+  pub next_is : (n : ℕ) (e : Event) (table : Table) → vacant_at a.processes.desk table ≡ vacated a.config.top_version (ended_by before e) (vacant_at a.processes.desk a.processes.table)
       → shard_of (next_parts n e table) ≡ written n e before
   next_is n e table vacant = rw (vacant, whole.home) refl
 

@@ -14,7 +14,7 @@ use Rattle.pt_events.specs.declared.event.Event.{Event}
 use Rattle.pt_events.specs.declared.event.Stamped.{Stamped}
 use Rattle.pt_events.specs.Journal.{letter}
 use Rattle.pt_events.specs.JournalState.{IsNewer}
-use Rattle.pt_process.specs.Resident.{Owing}
+use Rattle.pt_process.specs.ProcessView.{Owing}
 use Rattle.pt_carrier.specs.Ends.{one_more}
 use Rattle.pt_shard.specs.Boxes.{put_out}
 use Rattle.pt_carrier.proofs.Boxes.{one_more_count}

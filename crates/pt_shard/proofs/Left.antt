@@ -17,7 +17,7 @@ use Rattle.pt_events.proofs.Leaving.{leaves_each}
 use Rattle.pt_events.proofs.Phases.{each_branch}
 use Rattle.pt_shard.specs.Begun.{Every, IsNearPhase, WasOpen, IsBegun}
 use Rattle.pt_shard.specs.Known.{issued_at, issued_in}
-use Rattle.pt_shard.specs.Sound.{is_issued, BornAreIssued, of_phase, resident, AllNear}
+use Rattle.pt_shard.specs.Sound.{is_issued, BornAreIssued, of_phase, live_process, AllNear}
 use Rattle.pt_shard.proofs.Near.{Every-append, IsOpen, near_life}
 
 outcome_unborn : (f : Phase) → is_unborn (outcome f) ≡ is_unborn f
@@ -95,7 +95,7 @@ module _ (start : Start) (desk : ℕ) (before : Past) (born : BornAreIssued star
   pub born_left : BornAreIssued (start_after start before) desk []
   born_left p = rw (issued_left p.slot) (after_unborn p ∙ born p)
 
-pub resident_left : (start : Start) (before : Past) (p : Pid) → resident (start_after start before) [] p ≡ resident start before p
+pub resident_left : (start : Start) (before : Past) (p : Pid) → live_process (start_after start before) [] p ≡ live_process start before p
 resident_left start before p = ap (of_phase p) (leaves_each start before p) ∙ outcome_resident p (life start before p)
 
 -- of whom the desk knows -----------------------------------------------------------------------

@@ -9,13 +9,13 @@ use Rattle.pt_signal.specs.Process.{ProcessState, estate}
 use Rattle.pt_slots.specs.State.{at, next_key, with_value}
 use Rattle.pt_slots.specs.Calls.{Written}
 use Rattle.pt_slots.proofs.Steps.{written}
-use Rattle.pt_process.specs.Resident.{Resident, Owing}
+use Rattle.pt_process.specs.ProcessView.{ProcessView, Owing}
 use Rattle.pt_shard.specs.Acts.{HasRoomIf}
-use Rattle.pt_shard.specs.Residents.{Table, seen, in_place, resident_at, living_at, key_at, changed, is_place_of, Changes, Ends, IsSameTable, HasRoomFor}
+use Rattle.pt_shard.specs.Processes.{Table, seen, in_place, process_at, living_at, key_at, changed, is_place_of, Changes, Ends, IsSameTable, HasRoomFor}
 use Rattle.pt_shard.proofs.Acting.{own_place}
 use Rattle.pt_shard.proofs.Vacancy.{same_place}
 
-module _ (desk : ℕ) (table : Table) (p : Pid) (was : Resident) (found : Some was ≡ living_at desk table p) where
+module _ (desk : ℕ) (table : Table) (p : Pid) (was : ProcessView) (found : Some was ≡ living_at desk table p) where
   here : (p.shard ≡ desk) × (at table p.slot p.version ≡ Some was)
   here = go (p.shard == desk) refl found
     where
@@ -23,11 +23,11 @@ module _ (desk : ℕ) (table : Table) (p : Pid) (was : Resident) (found : Some w
       go true e k = (eqb-true p.shard desk e, sym k)
       go false e k = absurd (cc)
 
-  pub there : Some (was.me, was.state) ≡ resident_at desk table p
+  pub there : Some (was.me, was.state) ≡ process_at desk table p
   there = let e = here in rw (eq-eqb p.shard desk e.0) (sym (ap seen e.1))
 
   -- given back with its state changed by f
-  module _ (f : Pid → ProcessState → ProcessState) (now : Resident) (me : now.me ≡ was.me) (state : now.state ≡ f was.me was.state) where
+  module _ (f : Pid → ProcessState → ProcessState) (now : ProcessView) (me : now.me ≡ was.me) (state : now.state ≡ f was.me was.state) where
     wrote_it : Written (key_at p) now table (with_value table (key_at p) now)
     wrote_it = written table (key_at p) was here.1 now
 
@@ -49,14 +49,14 @@ module _ (desk : ℕ) (table : Table) (p : Pid) (was : Resident) (found : Some w
         go false slot version h = let e = wrote_it.live slot version in rw h (ap seen e ∙ rw h refl)
 
   -- given back with room for one more link
-  pub roomy : (now : Resident) (link : Option LinkId) → HasRoomIf link now → HasRoomFor link p (with_value table (key_at p) now)
+  pub roomy : (now : ProcessView) (link : Option LinkId) → HasRoomIf link now → HasRoomFor link p (with_value table (key_at p) now)
   roomy now None room = tt
   roomy now (Some i) room =
       let stands : at (with_value table (key_at p) now) p.slot p.version ≡ Some now = (written table (key_at p) was here.1 now).live p.slot p.version ∙ rw (own_place p) refl in
       subst (λ o. IfSome o (λ r. 0 < r.room)) (sym stands) room
 
   -- given back as it was
-  pub unharmed : (now : Resident) → now.me ≡ was.me → now.state ≡ was.state → IsSameTable table (with_value table (key_at p) now)
+  pub unharmed : (now : ProcessView) → now.me ≡ was.me → now.state ≡ was.state → IsSameTable table (with_value table (key_at p) now)
   unharmed now me state =
       let back = given_back (λ q s. s) now me state in
       record { live = λ slot version. go (is_place_of p slot version) slot version refl; settings = back.puts.settings; next = back.next }
@@ -94,9 +94,9 @@ ends_after p r owing old mid new same ends = record {
 }
 
 -- a process that was not found
-pub nobody : (desk : ℕ) (table : Table) (p : Pid) → None ≡ living_at desk table p → resident_at desk table p ≡ None
+pub nobody : (desk : ℕ) (table : Table) (p : Pid) → None ≡ living_at desk table p → process_at desk table p ≡ None
 nobody desk table p none = go (p.shard == desk) refl none
   where
-    go : (b : Bool) → (p.shard == desk) ≡ b → None ≡ cond b (at table p.slot p.version) None → resident_at desk table p ≡ None
+    go : (b : Bool) → (p.shard == desk) ≡ b → None ≡ cond b (at table p.slot p.version) None → process_at desk table p ≡ None
     go true e k = rw e (sym (ap seen k))
     go false e k = rw e refl

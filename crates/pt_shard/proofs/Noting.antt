@@ -12,20 +12,20 @@ use Rattle.pt_shard.proofs.Births.{known_near}
 use Rattle.pt_shard.proofs.Acting.{Outcome, outcome, at_home}
 
 module _ (a : Parts) (whole : IsWhole a) (p : Pid) where
-  at_home_while : (f : Phase) → life a.book.start (past (shard_of a)) p ≡ f → is_living f ≡ true → p.shard ≡ a.house.desk
+  at_home_while : (f : Phase) → life a.book.start (past (shard_of a)) p ≡ f → is_living f ≡ true → p.shard ≡ a.processes.desk
   at_home_while unborn is h = absurd (cc)
-  at_home_while (living s) is h = (at_home a.house.desk a.house.table p (p, s) (whole.sound.residents p ∙ ap (of_phase p) is)).0
+  at_home_while (living s) is h = (at_home a.processes.desk a.processes.table p (p, s) (whole.sound.processes p ∙ ap (of_phase p) is)).0
   at_home_while (ended r s) is h = absurd (cc)
 
   -- who lives here is of this desk
-  pub at_home_alive : lives (shard_of a) p ≡ true → p.shard ≡ a.house.desk
+  pub at_home_alive : lives (shard_of a) p ≡ true → p.shard ≡ a.processes.desk
   at_home_alive h = at_home_while (life a.book.start (past (shard_of a)) p) refl h
 
   -- the desk after its note that a call of p to t was refused
   pub noted : lives (shard_of a) p ≡ true → (t : Pid) → knows (shard_of a) t ≡ true → (n : ℕ) → max a.book.clock n < 2 ^ 62 → (book : Book)
-      → book ≡ wrote (max a.book.clock n + 1) (Refused p t) [] a.book → Outcome a (parts_of a.config book a.house) (max a.book.clock n + 1) (Refused p t)
+      → book ≡ wrote (max a.book.clock n + 1) (Refused p t) [] a.book → Outcome a (parts_of a.config book a.processes) (max a.book.clock n + 1) (Refused p t)
   noted alive t known n can book is =
-      outcome a whole (max a.book.clock n + 1) (Refused p t) book a.house refl
+      outcome a whole (max a.book.clock n + 1) (Refused p t) book a.processes refl
       (record {
         later = omega arith;
         fits = omega (arith, can);
@@ -34,7 +34,7 @@ module _ (a : Parts) (whole : IsWhole a) (p : Pid) where
         new_at = tt;
         known = tt;
         near = known_near (shard_of a) t known;
-        residents = whole.sound.residents;
+        processes = whole.sound.processes;
         issues = whole.sound.issues;
         born = whole.sound.born;
         offers = whole.offers;

@@ -15,7 +15,7 @@ use Rattle.pt_shard.specs.Faults.{fault_of}
 use Rattle.pt_shard.specs.ShardState.{ShardState, lives, after}
 use Rattle.pt_shard.specs.declared.fault.Fault.{Fault}
 use Rattle.pt_shard.specs.LedgerState.{Book, LedgerState, Prepares}
-use Rattle.pt_shard.specs.Residents.{ResidentsState, IsSameTable}
+use Rattle.pt_shard.specs.Processes.{ProcessesState, IsSameTable}
 use Rattle.pt_shard.specs.Whole.{Parts, parts_of, shard_of}
 use Rattle.pt_shard.specs.Calls.{Calls, Monitors, CanWrite, CanWriteIf, after_if, new_ref}
 
@@ -40,8 +40,8 @@ same_book floor HasRoom old new stop.Worn h = h.0
 same_book floor HasRoom old new stop.Memory h = h.0
 
 -- a desk whose slots were only made roomier
-pub still : (a : Parts) (book : Book) (house : ResidentsState) → book ≡ a.book → house.desk ≡ a.house.desk → IsSameTable a.house.table house.table → shard_of (parts_of a.config book house) ≡ shard_of a
-still a book house b d same = rw (b, d, same.next) refl
+pub still : (a : Parts) (book : Book) (processes : ProcessesState) → book ≡ a.book → processes.desk ≡ a.processes.desk → IsSameTable a.processes.table processes.table → shard_of (parts_of a.config book processes) ≡ shard_of a
+still a book processes b d same = rw (b, d, same.next) refl
 
 -- a monitor of another process
 pub monitors : (w t : Pid) (old new : ShardState) → same_pid w t ≡ false → (r : Result Ref Fault)

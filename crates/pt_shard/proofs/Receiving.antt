@@ -12,12 +12,12 @@ use Rattle.pt_signal.proofs.Same.{same_pid_refl, same_pid_is}
 use Rattle.pt_signal.proofs.Handling.{living_answer, handle_answer}
 use Rattle.pt_events.specs.History.{Phase, unborn, living, ended, life, gets, live_or_end, got_sends, sent_by}
 use Rattle.pt_events.specs.Journal.{letter}
-use Rattle.pt_process.specs.Resident.{Owing}
+use Rattle.pt_process.specs.ProcessView.{Owing}
 use Rattle.pt_shard.specs.ShardState as shards
 use Rattle.pt_shard.specs.ShardState.{ShardState, past, came, handled, vacated, ended_by, sends}
 use Rattle.pt_shard.specs.LedgerState.{Book, wrote}
-use Rattle.pt_shard.specs.Sound.{of_phase, resident}
-use Rattle.pt_shard.specs.Residents.{Table, ResidentsState, resident_at, in_place, changed, vacant_at, Changes, Ends, SameSettings}
+use Rattle.pt_shard.specs.Sound.{of_phase, live_process}
+use Rattle.pt_shard.specs.Processes.{Table, ProcessesState, process_at, in_place, changed, vacant_at, Changes, Ends, SameSettings}
 use Rattle.pt_shard.specs.Deliveries.{Standing, unless_ended, remains, is_ended_by, replies}
 use Rattle.pt_shard.specs.Whole.{Parts, parts_of, shard_of, IsWhole}
 use Rattle.pt_shard.specs.Backs.{living_back}
@@ -59,21 +59,21 @@ abbrev pub receipt_stamp : Parts → Letter → ℕ
 receipt_stamp a l = max a.book.clock l.stamp + 1
 
 abbrev pub standing : Parts → Letter → Standing
-standing a l = resident_at a.house.desk a.house.table l.to
+standing a l = process_at a.processes.desk a.processes.table l.to
 
 -- what the receipt does to the slots
 pub record Delivers (a : Parts) (l : Letter) (table : Table) : Type 0 where
-  pub live : (q : Pid) → resident_at a.house.desk table q ≡ cond (same_pid q l.to) (remains l (standing a l)) (resident_at a.house.desk a.house.table q)
-  pub settings : SameSettings a.house.table table
+  pub live : (q : Pid) → process_at a.processes.desk table q ≡ cond (same_pid q l.to) (remains l (standing a l)) (process_at a.processes.desk a.processes.table q)
+  pub settings : SameSettings a.processes.table table
   pub offers : OffersTheFree table
-  pub vacant : vacant_at a.house.desk table ≡ vacated a.config.top_version (cond (is_ended_by l (standing a l)) (Some l.to) None) (vacant_at a.house.desk a.house.table)
+  pub vacant : vacant_at a.processes.desk table ≡ vacated a.config.top_version (cond (is_ended_by l (standing a l)) (Some l.to) None) (vacant_at a.processes.desk a.processes.table)
 
-module _ (a : Parts) (whole : IsWhole a) (l : Letter) (here : l.to.shard ≡ a.house.desk) (near : l.from.shard < a.config.desks) (can : max a.book.clock l.stamp < 2 ^ 62) where
+module _ (a : Parts) (whole : IsWhole a) (l : Letter) (here : l.to.shard ≡ a.processes.desk) (near : l.from.shard < a.config.desks) (can : max a.book.clock l.stamp < 2 ^ 62) where
   there : standing a l ≡ of_phase l.to (life a.book.start (past (shard_of a)) l.to)
-  there = whole.sound.residents l.to
+  there = whole.sound.processes l.to
 
-  module _ (book : Book) (house : ResidentsState) (desk : house.desk ≡ a.house.desk) where
-    lawful : Delivers a l house.table → IsLawful a whole (receipt_stamp a l) (came l) house.table
+  module _ (book : Book) (processes : ProcessesState) (desk : processes.desk ≡ a.processes.desk) where
+    lawful : Delivers a l processes.table → IsLawful a whole (receipt_stamp a l) (came l) processes.table
     lawful delivers = record {
       later = omega arith;
       fits = omega (arith, can);
@@ -82,12 +82,12 @@ module _ (a : Parts) (whole : IsWhole a) (l : Letter) (here : l.to.shard ≡ a.h
       new_at = tt;
       known = tt;
       near = near;
-      residents =
-          let comes : resident a.book.start (came l ∷ past (shard_of a)) l.to ≡ remains l (standing a l) = rw (same_pid_refl l.to, there) (gets_is l (life a.book.start (past (shard_of a)) l.to)) in
-          put_one a.book.start (past (shard_of a)) (came l) l.to (λ q. refl) (resident_at a.house.desk a.house.table) (resident_at a.house.desk house.table) whole.sound.residents
-          (subst (λ v. IsPut l.to v (resident_at a.house.desk a.house.table) (resident_at a.house.desk house.table)) (sym comes) delivers.live);
+      processes =
+          let comes : live_process a.book.start (came l ∷ past (shard_of a)) l.to ≡ remains l (standing a l) = rw (same_pid_refl l.to, there) (gets_is l (life a.book.start (past (shard_of a)) l.to)) in
+          put_one a.book.start (past (shard_of a)) (came l) l.to (λ q. refl) (process_at a.processes.desk a.processes.table) (process_at a.processes.desk processes.table) whole.sound.processes
+          (subst (λ v. IsPut l.to v (process_at a.processes.desk a.processes.table) (process_at a.processes.desk processes.table)) (sym comes) delivers.live);
       issues = λ slot. delivers.settings.issues slot ∙ whole.sound.issues slot ∙ sym (issued_same a.book.start (past (shard_of a)) (came l) slot refl);
-      born = issued_kept a.book.start a.house.desk (past (shard_of a)) (came l) refl whole.sound.born;
+      born = issued_kept a.book.start a.processes.desk (past (shard_of a)) (came l) refl whole.sound.born;
       offers = delivers.offers;
       capacity = delivers.settings.capacity;
       top_version = delivers.settings.top_version;
@@ -96,52 +96,52 @@ module _ (a : Parts) (whole : IsWhole a) (l : Letter) (here : l.to.shard ≡ a.h
     ended_here : ended_by (shard_of a) (came l) ≡ cond (is_ended_by l (standing a l)) (Some l.to) None
     ended_here = ap (λ b. cond b (Some l.to) None) (ends_is l (life a.book.start (past (shard_of a)) l.to) ∙ sym (ap (is_ended_by l) there))
 
-    delivered : Delivers a l house.table → book ≡ wrote (receipt_stamp a l) (came l) (map (letter (receipt_stamp a l)) (replies l (standing a l))) a.book
-        → Outcome a (parts_of a.config book house) (receipt_stamp a l) (came l)
+    delivered : Delivers a l processes.table → book ≡ wrote (receipt_stamp a l) (came l) (map (letter (receipt_stamp a l)) (replies l (standing a l))) a.book
+        → Outcome a (parts_of a.config book processes) (receipt_stamp a l) (came l)
     delivered delivers is =
         let replied : replies l (standing a l) ≡ sent_by a.book.start (past (shard_of a)) (came l) = ap (replies l) there ∙ sym (got_is l (life a.book.start (past (shard_of a)) l.to)) in
-        outcome a whole (receipt_stamp a l) (came l) book house desk (lawful delivers)
+        outcome a whole (receipt_stamp a l) (came l) book processes desk (lawful delivers)
         (is ∙ ap (λ o. wrote (receipt_stamp a l) (came l) (map (letter (receipt_stamp a l)) o) a.book) replied)
-        (delivers.vacant ∙ ap (λ o. vacated a.config.top_version o (vacant_at a.house.desk a.house.table)) (sym ended_here))
+        (delivers.vacant ∙ ap (λ o. vacated a.config.top_version o (vacant_at a.processes.desk a.processes.table)) (sym ended_here))
 
     -- a receiver that is not alive
-    pub bounced : house.table ≡ a.house.table → standing a l ≡ None → book ≡ wrote (receipt_stamp a l) (came l) (map (letter (receipt_stamp a l)) (bounce l.to l.from l.signal)) a.book
-        → Outcome a (parts_of a.config book house) (receipt_stamp a l) (came l)
+    pub bounced : processes.table ≡ a.processes.table → standing a l ≡ None → book ≡ wrote (receipt_stamp a l) (came l) (map (letter (receipt_stamp a l)) (bounce l.to l.from l.signal)) a.book
+        → Outcome a (parts_of a.config book processes) (receipt_stamp a l) (came l)
     bounced same none is =
         delivered
         (subst (Delivers a l) (sym same) (record {
           live = λ q. still q (same_pid q l.to) refl;
-          settings = same_settings a.house.table;
+          settings = same_settings a.processes.table;
           offers = whole.offers;
           vacant = rw none refl;
         }))
         (is ∙ ap (λ o. wrote (receipt_stamp a l) (came l) (map (letter (receipt_stamp a l)) (replies l o)) a.book) (sym none))
       where
-        still : (q : Pid) (b : Bool) → same_pid q l.to ≡ b → resident_at a.house.desk a.house.table q ≡ cond (same_pid q l.to) (remains l (standing a l)) (resident_at a.house.desk a.house.table q)
-        still q true h = rw (h, none) (ap (resident_at a.house.desk a.house.table) (same_pid_is q l.to h) ∙ none)
+        still : (q : Pid) (b : Bool) → same_pid q l.to ≡ b → process_at a.processes.desk a.processes.table q ≡ cond (same_pid q l.to) (remains l (standing a l)) (process_at a.processes.desk a.processes.table q)
+        still q true h = rw (h, none) (ap (process_at a.processes.desk a.processes.table) (same_pid_is q l.to h) ∙ none)
         still q false h = rw h refl
 
     module _ (f : Found a l.to) where
       stands_there : standing a l ≡ Some (l.to, f.s)
       stands_there = sym f.there ∙ ap (λ x. Some (x, f.s)) (both a whole l.to f).1
 
-      place : in_place a.house.table l.to ≡ Some (l.to, f.s)
+      place : in_place a.processes.table l.to ≡ Some (l.to, f.s)
       place = (stands a whole l.to f).1
 
       -- a live receiver that goes on
-      pub taken_in : (handle f.me f.s l.from l.signal).ending ≡ None → Changes l.to (λ me s. (handle me s l.from l.signal).state) a.house.table house.table
+      pub taken_in : (handle f.me f.s l.from l.signal).ending ≡ None → Changes l.to (λ me s. (handle me s l.from l.signal).state) a.processes.table processes.table
           → book ≡ wrote (receipt_stamp a l) (came l) (map (letter (receipt_stamp a l)) (living_answer l.to l.from l.signal)) a.book
-          → Outcome a (parts_of a.config book house) (receipt_stamp a l) (came l)
+          → Outcome a (parts_of a.config book processes) (receipt_stamp a l) (came l)
       taken_in goes_on changes is =
           let none : (handle l.to f.s l.from l.signal).ending ≡ None = ap (λ m. (handle m f.s l.from l.signal).ending) (sym (both a whole l.to f).1) ∙ goes_on in
-          let stays : remains l (standing a l) ≡ changed (λ me s. (handle me s l.from l.signal).state) (in_place a.house.table l.to) = rw (stands_there, place, none) refl in
+          let stays : remains l (standing a l) ≡ changed (λ me s. (handle me s l.from l.signal).state) (in_place a.processes.table l.to) = rw (stands_there, place, none) refl in
           let back : replies l (standing a l) ≡ living_answer l.to l.from l.signal = rw (stands_there, none, handle_answer l.to f.s l.from l.signal) (append-nil (living_answer l.to l.from l.signal)) in
           delivered
           (record {
-            live = subst (λ v. IsPut l.to v (resident_at a.house.desk a.house.table) (resident_at a.house.desk house.table)) (sym stays) (put_by_pid a.house.desk l.to _ a.house.table house.table here changes.puts);
+            live = subst (λ v. IsPut l.to v (process_at a.processes.desk a.processes.table) (process_at a.processes.desk processes.table)) (sym stays) (put_by_pid a.processes.desk l.to _ a.processes.table processes.table here changes.puts);
             settings = changes.puts.settings;
-            offers = offers_changed l.to _ a.house.table house.table whole.offers changes;
-            vacant = rw (stands_there, none) (ap (option_pid a.house.desk) changes.next);
+            offers = offers_changed l.to _ a.processes.table processes.table whole.offers changes;
+            vacant = rw (stands_there, none) (ap (option_pid a.processes.desk) changes.next);
           })
           (is ∙ ap (λ o. wrote (receipt_stamp a l) (came l) (map (letter (receipt_stamp a l)) o) a.book) (sym back))
 
@@ -159,10 +159,10 @@ ending_unanswered me s from (AliveAsk m) r h = absurd (cc)
 ending_unanswered me s from (AliveSay m y) r h = refl
 
 -- a live receiver that ends
-module _ (a : Parts) (whole : IsWhole a) (l : Letter) (here : l.to.shard ≡ a.house.desk) (near : l.from.shard < a.config.desks) (can : max a.book.clock l.stamp < 2 ^ 62)
+module _ (a : Parts) (whole : IsWhole a) (l : Letter) (here : l.to.shard ≡ a.processes.desk) (near : l.from.shard < a.config.desks) (can : max a.book.clock l.stamp < 2 ^ 62)
     (f : Found a l.to) (r : Reason) (ends_it : (handle f.me f.s l.from l.signal).ending ≡ Some r)
-    (mid last : ResidentsState) (desk : mid.desk ≡ a.house.desk) (desk' : last.desk ≡ mid.desk)
-    (changes : Changes l.to (λ me s. (handle me s l.from l.signal).state) a.house.table mid.table) (owing : Owing) (ends : Ends l.to r owing mid.table last.table) where
+    (mid last : ProcessesState) (desk : mid.desk ≡ a.processes.desk) (desk' : last.desk ≡ mid.desk)
+    (changes : Changes l.to (λ me s. (handle me s l.from l.signal).state) a.processes.table mid.table) (owing : Owing) (ends : Ends l.to r owing mid.table last.table) where
   stands_here : standing a l ≡ Some (l.to, f.s)
   stands_here = sym f.there ∙ ap (λ x. Some (x, f.s)) (both a whole l.to f).1
 
@@ -173,7 +173,7 @@ module _ (a : Parts) (whole : IsWhole a) (l : Letter) (here : l.to.shard ≡ a.h
   ending_is = ap (λ m. (handle m f.s l.from l.signal).ending) (sym (both a whole l.to f).1) ∙ ends_it
 
   in_mid : in_place mid.table l.to ≡ Some (l.to, after)
-  in_mid = put_there l.to _ a.house.table mid.table changes.puts ∙ ap (changed (λ me s. (handle me s l.from l.signal).state)) (stands a whole l.to f).1
+  in_mid = put_there l.to _ a.processes.table mid.table changes.puts ∙ ap (changed (λ me s. (handle me s l.from l.signal).state)) (stands a whole l.to f).1
 
   owed_is : owing.owed ≡ replies l (standing a l)
   owed_is =
@@ -183,7 +183,7 @@ module _ (a : Parts) (whole : IsWhole a) (l : Letter) (here : l.to.shard ≡ a.h
   pub owed_near : Every (λ x. x.to.shard < length a.book.outbox) owing.owed
   owed_near =
       let sent_is : replies l (standing a l) ≡ sent_by a.book.start (past (shard_of a)) (came l)
-      = ap (replies l) (whole.sound.residents l.to) ∙ sym (got_is l (life a.book.start (past (shard_of a)) l.to)) in
+      = ap (replies l) (whole.sound.processes l.to) ∙ sym (got_is l (life a.book.start (past (shard_of a)) l.to)) in
       subst (λ n. Every (λ x. x.to.shard < n) owing.owed) (sym whole.sound.fit.boxes)
       (subst (Every (λ x. x.to.shard < a.config.desks)) (sym (owed_is ∙ sent_is)) (sent_near a whole (came l) near))
 
@@ -211,29 +211,29 @@ module _ (a : Parts) (whole : IsWhole a) (l : Letter) (here : l.to.shard ≡ a.h
         };
         offers = ends.offers;
         vacant =
-            vacant_next a.house.desk a.config.top_version l.to mid.table last.table here (changes.puts.settings.top_version ∙ whole.top_version) ends.next
-            ∙ ap (vacated a.config.top_version (Some l.to)) (ap (option_pid a.house.desk) changes.next)
-            ∙ ap (λ b. vacated a.config.top_version (cond b (Some l.to) None) (vacant_at a.house.desk a.house.table)) (sym ends_now);
+            vacant_next a.processes.desk a.config.top_version l.to mid.table last.table here (changes.puts.settings.top_version ∙ whole.top_version) ends.next
+            ∙ ap (vacated a.config.top_version (Some l.to)) (ap (option_pid a.processes.desk) changes.next)
+            ∙ ap (λ b. vacated a.config.top_version (cond b (Some l.to) None) (vacant_at a.processes.desk a.processes.table)) (sym ends_now);
       })
       (is ∙ ap (λ o. wrote (receipt_stamp a l) (came l) (map (letter (receipt_stamp a l)) o) a.book) owed_is)
     where
       ends_now : is_ended_by l (standing a l) ≡ true
       ends_now = rw (stands_here, ending_is) refl
 
-      go : (q : Pid) (b : Bool) → same_pid q l.to ≡ b → remains l (standing a l) ≡ None → resident_at a.house.desk last.table q ≡ cond (same_pid q l.to) (remains l (standing a l)) (resident_at a.house.desk a.house.table q)
-      go q true h gone = put_by_pid a.house.desk l.to None mid.table last.table here ends.puts q ∙ rw (h, gone) refl
-      go q false h gone = put_by_pid a.house.desk l.to None mid.table last.table here ends.puts q ∙ rw h (put_by_pid a.house.desk l.to _ a.house.table mid.table here changes.puts q ∙ rw h refl)
+      go : (q : Pid) (b : Bool) → same_pid q l.to ≡ b → remains l (standing a l) ≡ None → process_at a.processes.desk last.table q ≡ cond (same_pid q l.to) (remains l (standing a l)) (process_at a.processes.desk a.processes.table q)
+      go q true h gone = put_by_pid a.processes.desk l.to None mid.table last.table here ends.puts q ∙ rw (h, gone) refl
+      go q false h gone = put_by_pid a.processes.desk l.to None mid.table last.table here ends.puts q ∙ rw h (put_by_pid a.processes.desk l.to _ a.processes.table mid.table here changes.puts q ∙ rw h refl)
 
 -- who ended by it ------------------------------------------------------------------------------
 
 module _ (a : Parts) (whole : IsWhole a) (l : Letter) where
-  pub nobody_ends : resident_at a.house.desk a.house.table l.to ≡ None → None ≡ ended_by (shard_of a) (came l)
+  pub nobody_ends : process_at a.processes.desk a.processes.table l.to ≡ None → None ≡ ended_by (shard_of a) (came l)
   nobody_ends none =
-      sym (ap (λ b. cond b (Some l.to) None) (ends_is l (life a.book.start (past (shard_of a)) l.to) ∙ sym (ap (is_ended_by l) (whole.sound.residents l.to)) ∙ ap (is_ended_by l) none))
+      sym (ap (λ b. cond b (Some l.to) None) (ends_is l (life a.book.start (past (shard_of a)) l.to) ∙ sym (ap (is_ended_by l) (whole.sound.processes l.to)) ∙ ap (is_ended_by l) none))
 
   pub who_ends : (f : Found a l.to) (o : Option Reason) → (handle f.me f.s l.from l.signal).ending ≡ o → cond (is_some o) (Some l.to) None ≡ ended_by (shard_of a) (came l)
   who_ends f o is =
-      sym (ap (λ b. cond b (Some l.to) None) (ends_is l (life a.book.start (past (shard_of a)) l.to) ∙ sym (ap (is_ended_by l) (whole.sound.residents l.to))
+      sym (ap (λ b. cond b (Some l.to) None) (ends_is l (life a.book.start (past (shard_of a)) l.to) ∙ sym (ap (is_ended_by l) (whole.sound.processes l.to))
       ∙ ap (is_ended_by l) (sym f.there) ∙ ap is_some is))
 
 -- what the ledger wrote -----------------------------------------------------------------------
@@ -256,6 +256,6 @@ living_back_is me from (Demonitor m) = refl
 living_back_is me from (Signal.Down m why) = refl
 living_back_is me from (AliveSay m y) = refl
 
-pub still_in_mid : (a : Parts) (whole : IsWhole a) (l : Letter) (f : Found a l.to) (mid : ResidentsState) → Changes l.to (λ me s. (handle me s l.from l.signal).state) a.house.table mid.table → IsSome (in_place mid.table l.to)
+pub still_in_mid : (a : Parts) (whole : IsWhole a) (l : Letter) (f : Found a l.to) (mid : ProcessesState) → Changes l.to (λ me s. (handle me s l.from l.signal).state) a.processes.table mid.table → IsSome (in_place mid.table l.to)
 still_in_mid a whole l f mid changes =
-    subst IsSome (sym (put_there l.to _ a.house.table mid.table changes.puts ∙ ap (changed (λ me s. (handle me s l.from l.signal).state)) (stands a whole l.to f).1)) refl
+    subst IsSome (sym (put_there l.to _ a.processes.table mid.table changes.puts ∙ ap (changed (λ me s. (handle me s l.from l.signal).state)) (stands a whole l.to f).1)) refl

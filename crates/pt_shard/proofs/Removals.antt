@@ -7,8 +7,8 @@ use Rattle.pt_signal.specs.Process.{estate}
 use Rattle.pt_slots.specs.declared.Key.{Key}
 use Rattle.pt_slots.specs.State.{at}
 use Rattle.pt_slots.specs.Calls.{Removed}
-use Rattle.pt_process.specs.Resident.{Resident, Owing}
-use Rattle.pt_shard.specs.Residents.{Table, Ends, seen, in_place, is_place_of}
+use Rattle.pt_process.specs.ProcessView.{ProcessView, Owing}
+use Rattle.pt_shard.specs.Processes.{Table, Ends, seen, in_place, is_place_of}
 
 abbrev key_at : Pid → Key
 key_at p = record { slot = p.slot; version = p.version }
@@ -16,7 +16,7 @@ key_at p = record { slot = p.slot; version = p.version }
 key_is : (k : Key) (p : Pid) → k.slot ≡ p.slot → k.version ≡ p.version → k ≡ key_at p
 key_is k p s v = λ i. record { slot = s i; version = v i }
 
-removed_at : (p : Pid) (reason : Reason) (r : Resident) (owing : Owing) (old new : Table) → owing ≡ record { from = r.me; owed = estate r.me r.state reason }
+removed_at : (p : Pid) (reason : Reason) (r : ProcessView) (owing : Owing) (old new : Table) → owing ≡ record { from = r.me; owed = estate r.me r.state reason }
     → Removed (key_at p) r old new → Ends p reason owing old new
 removed_at p reason r owing old new owes removed =
     let there : in_place old p ≡ Some (r.me, r.state) = ap seen removed.was_live in
@@ -35,6 +35,6 @@ removed_at p reason r owing old new owes removed =
     go true slot version h = let e = removed.live slot version in rw h (ap seen e ∙ rw h refl)
     go false slot version h = let e = removed.live slot version in rw h (ap seen e ∙ rw h refl)
 
-pub taken_out : (k : Key) (p : Pid) (reason : Reason) (r : Resident) (owing : Owing) (old new : Table) → k.slot ≡ p.slot → k.version ≡ p.version
+pub taken_out : (k : Key) (p : Pid) (reason : Reason) (r : ProcessView) (owing : Owing) (old new : Table) → k.slot ≡ p.slot → k.version ≡ p.version
     → owing ≡ record { from = r.me; owed = estate r.me r.state reason } → Removed k r old new → Ends p reason owing old new
 taken_out k p reason r owing old new s v owes removed = removed_at p reason r owing old new owes (subst (λ x. Removed x r old new) (key_is k p s v) removed)

@@ -26,10 +26,10 @@ module _ (a : Parts) (whole : IsWhole a) (n : ℕ) (low : a.book.clock ≤ n) (l
   before = shard_of a
 
   abbrev pub next : Parts
-  next = parts_of (record a.config { start = n }) (restarted_book n a.book) a.house
+  next = parts_of (record a.config { start = n }) (restarted_book n a.book) a.processes
 
   issues_left : (slot : ℕ) → issued_at (start_after before.start (past before)) slot ≡ issued_in before.start (past before) slot
-  issues_left = issued_left a.book.start a.house.desk (past before) whole.sound.born
+  issues_left = issued_left a.book.start a.processes.desk (past before) whole.sound.born
 
   fit_next : IsFit (shard_of next)
   fit_next = record {
@@ -45,12 +45,12 @@ module _ (a : Parts) (whole : IsWhole a) (n : ℕ) (low : a.book.clock ≤ n) (l
     };
     here = whole.sound.fit.here;
     begun =
-        begun_left a.book.start a.config.desks a.config.start a.config.top_version a.house.desk n a.book.journal (let k = whole.sound.fit.clock_is in omega (arith, low, k))
+        begun_left a.book.start a.config.desks a.config.start a.config.top_version a.processes.desk n a.book.journal (let k = whole.sound.fit.clock_is in omega (arith, low, k))
         whole.sound.fit.begun whole.sound.fit.here whole.sound.fit.local whole.sound.near;
     clock_is = refl;
     local = tt;
     vacant =
-        next_birth (shard_of next) a.house.table (λ p. whole.sound.residents p ∙ sym (resident_left a.book.start (past before) p))
+        next_birth (shard_of next) a.processes.table (λ p. whole.sound.processes p ∙ sym (resident_left a.book.start (past before) p))
         (λ slot. whole.sound.issues slot ∙ sym (issues_left slot)) whole.capacity whole.top_version whole.offers;
     boxes = whole.sound.fit.boxes;
     boxed = whole.sound.fit.boxed;
@@ -63,9 +63,9 @@ module _ (a : Parts) (whole : IsWhole a) (n : ℕ) (low : a.book.clock ≤ n) (l
   next_whole = record {
     sound = record {
       fit = fit_next;
-      residents = λ p. whole.sound.residents p ∙ sym (resident_left a.book.start (past before) p);
+      processes = λ p. whole.sound.processes p ∙ sym (resident_left a.book.start (past before) p);
       issues = λ slot. whole.sound.issues slot ∙ sym (issues_left slot);
-      born = born_left a.book.start a.house.desk (past before) whole.sound.born;
+      born = born_left a.book.start a.processes.desk (past before) whole.sound.born;
       near = tt;
     };
     offers = whole.offers;
@@ -74,14 +74,14 @@ module _ (a : Parts) (whole : IsWhole a) (n : ℕ) (low : a.book.clock ≤ n) (l
     top_version = whole.top_version;
   }
 
-  pub restarted_whole : (book : Book) → book ≡ restarted_book n a.book → IsWhole (parts_of (record a.config { start = n }) book a.house)
-  restarted_whole book is = subst (λ b. IsWhole (parts_of (record a.config { start = n }) b a.house)) (sym is) next_whole
+  pub restarted_whole : (book : Book) → book ≡ restarted_book n a.book → IsWhole (parts_of (record a.config { start = n }) book a.processes)
+  restarted_whole book is = subst (λ b. IsWhole (parts_of (record a.config { start = n }) b a.processes)) (sym is) next_whole
 
   module _ (now : ShardState) (seen : shard_of a ≡ now) (book : Book) (is : book ≡ restarted_book n a.book) where
-    pub next_phases : (p : Pid) → phase_of (shard_of (parts_of (record a.config { start = n }) book a.house)) p ≡ outcome (phase_of now p)
+    pub next_phases : (p : Pid) → phase_of (shard_of (parts_of (record a.config { start = n }) book a.processes)) p ≡ outcome (phase_of now p)
     next_phases p =
-        ap (λ b. phase_of (shard_of (parts_of (record a.config { start = n }) b a.house)) p) is ∙ same_phases (shard_of a) n p ∙ ap (λ d. outcome (phase_of d p)) seen
+        ap (λ b. phase_of (shard_of (parts_of (record a.config { start = n }) b a.processes)) p) is ∙ same_phases (shard_of a) n p ∙ ap (λ d. outcome (phase_of d p)) seen
 
-    pub next_known : (p : Pid) → knows (shard_of (parts_of (record a.config { start = n }) book a.house)) p ≡ knows now p
+    pub next_known : (p : Pid) → knows (shard_of (parts_of (record a.config { start = n }) book a.processes)) p ≡ knows now p
     next_known p =
-        ap (λ b. knows (shard_of (parts_of (record a.config { start = n }) b a.house)) p) is ∙ same_known (shard_of a) whole.sound.born n p ∙ ap (λ d. knows d p) seen
+        ap (λ b. knows (shard_of (parts_of (record a.config { start = n }) b a.processes)) p) is ∙ same_known (shard_of a) whole.sound.born n p ∙ ap (λ d. knows d p) seen

@@ -14,15 +14,15 @@ use Rattle.pt_shard.specs.Extends.{Extends}
 use Rattle.pt_shard.specs.Fit.{AreBetween, IsNextBirth}
 use Rattle.pt_shard.specs.LedgerState.{Book}
 use Rattle.pt_shard.specs.Sound.{is_issued}
-use Rattle.pt_shard.specs.Residents.{ResidentsState, resident_at}
+use Rattle.pt_shard.specs.Processes.{ProcessesState, process_at}
 use Rattle.pt_shard.specs.Whole.{Parts, parts_of, shard_of, IsWhole}
 
 -- the letters of a desk change places -------------------------------------------------------
 
 module _ (a : Parts) (whole : IsWhole a) (outbox : List (List Letter)) (hold : Option Letter) (boxes : length outbox ≡ a.config.desks)
-    (boxed : (e : ℕ) → AreBetween a.house.desk e (get_or outbox e [])) (held : IfSome hold (λ l. (l.to.shard ≡ a.house.desk) × (l.from.shard < a.config.desks))) where
+    (boxed : (e : ℕ) → AreBetween a.processes.desk e (get_or outbox e [])) (held : IfSome hold (λ l. (l.to.shard ≡ a.processes.desk) × (l.from.shard < a.config.desks))) where
   abbrev pub moved : Parts
-  moved = parts_of a.config (record a.book { outbox = outbox; hold = hold }) a.house
+  moved = parts_of a.config (record a.book { outbox = outbox; hold = hold }) a.processes
 
   pub moved_whole : IsWhole moved
   unfolding IsNextBirth
@@ -41,7 +41,7 @@ module _ (a : Parts) (whole : IsWhole a) (outbox : List (List Letter)) (hold : O
         posts_near = whole.sound.fit.posts_near;
         gots_near = whole.sound.fit.gots_near;
       };
-      residents = whole.sound.residents;
+      processes = whole.sound.processes;
       issues = whole.sound.issues;
       born = whole.sound.born;
       near = whole.sound.near;
@@ -67,20 +67,20 @@ module _ (a : Parts) (whole : IsWhole a) (to : ℕ) where
   pub less_boxes : length less ≡ a.config.desks
   less_boxes = length-set a.book.outbox to (drop 1 (get_or a.book.outbox to [])) ∙ whole.sound.fit.boxes
 
-  pub less_boxed : (e : ℕ) → AreBetween a.house.desk e (get_or less e [])
+  pub less_boxed : (e : ℕ) → AreBetween a.processes.desk e (get_or less e [])
   less_boxed e = go (to == e) refl (cases_lt e (length a.book.outbox))
     where
-      go : (b : Bool) → (to == e) ≡ b → (e < length a.book.outbox) ⊎ (length a.book.outbox ≤ e) → AreBetween a.house.desk e (get_or less e [])
+      go : (b : Bool) → (to == e) ≡ b → (e < length a.book.outbox) ⊎ (length a.book.outbox ≤ e) → AreBetween a.processes.desk e (get_or less e [])
       go b k (inr beyond) =
           let n = length-set a.book.outbox to (drop 1 (get_or a.book.outbox to [])) in
-          subst (AreBetween a.house.desk e) (sym (get_or_past less e [] (omega (arith, beyond, n)))) tt
+          subst (AreBetween a.processes.desk e) (sym (get_or_past less e [] (omega (arith, beyond, n)))) tt
       go true k (inl within) =
           let at : to ≡ e = eqb-true to e k in
           let here : get_or (set a.book.outbox e (drop 1 (get_or a.book.outbox e []))) e [] ≡ drop 1 (get_or a.book.outbox e []) = get_or-set_same a.book.outbox e (drop 1 (get_or a.book.outbox e [])) [] within in
-          subst (λ t. AreBetween a.house.desk e (get_or (set a.book.outbox t (drop 1 (get_or a.book.outbox t []))) e [])) (sym at)
-          (subst (AreBetween a.house.desk e) (sym here) (drop_between a.house.desk e (get_or a.book.outbox e []) (whole.sound.fit.boxed e)))
+          subst (λ t. AreBetween a.processes.desk e (get_or (set a.book.outbox t (drop 1 (get_or a.book.outbox t []))) e [])) (sym at)
+          (subst (AreBetween a.processes.desk e) (sym here) (drop_between a.processes.desk e (get_or a.book.outbox e []) (whole.sound.fit.boxed e)))
       go false k (inl within) =
-          subst (AreBetween a.house.desk e) (sym (get_or-set_other a.book.outbox to e (drop 1 (get_or a.book.outbox to [])) [] (λ h. both_ways (to == e) k (eq-eqb to e (sym h))))) (whole.sound.fit.boxed e)
+          subst (AreBetween a.processes.desk e) (sym (get_or-set_other a.book.outbox to e (drop 1 (get_or a.book.outbox to [])) [] (λ h. both_ways (to == e) k (eq-eqb to e (sym h))))) (whole.sound.fit.boxed e)
 
 -- nothing has happened ------------------------------------------------------------------------
 
@@ -97,15 +97,15 @@ empty_boxed d n e = go (cases_lt e n)
 none_issued : (desk : ℕ) (p : Pid) → true ≡ not (is_issued [] desk [] p)
 none_issued desk p = grind (arith, nat_tests)
 
-module _ (config : Config) (settings : IsInRange config) (house : ResidentsState) (inside : house.desk < config.desks) (empty : IsEmpty config.slots config.top_version house.table) where
-  nobody : (p : Pid) → resident_at house.desk house.table p ≡ None
-  nobody p = go (p.shard == house.desk) refl
+module _ (config : Config) (settings : IsInRange config) (processes : ProcessesState) (inside : processes.desk < config.desks) (empty : IsEmpty config.slots config.top_version processes.table) where
+  nobody : (p : Pid) → process_at processes.desk processes.table p ≡ None
+  nobody p = go (p.shard == processes.desk) refl
     where
-      go : (b : Bool) → (p.shard == house.desk) ≡ b → resident_at house.desk house.table p ≡ None
+      go : (b : Bool) → (p.shard == processes.desk) ≡ b → process_at processes.desk processes.table p ≡ None
       go true h = rw (h, empty.none_live p.slot p.version) refl
       go false h = rw h refl
 
-  fresh_parts : IsWhole (parts_of config (first_book config house.desk) house)
+  fresh_parts : IsWhole (parts_of config (first_book config processes.desk) processes)
   fresh_parts = record {
     sound = record {
       fit = record {
@@ -114,16 +114,16 @@ module _ (config : Config) (settings : IsInRange config) (house : ResidentsState
         begun = record { own = tt; near = λ p. tt };
         clock_is = refl;
         local = tt;
-        vacant = next_birth (shard_of (parts_of config (first_book config house.desk) house)) house.table nobody empty.none_issued empty.capacity_is empty.top_version_is empty.offers;
+        vacant = next_birth (shard_of (parts_of config (first_book config processes.desk) processes)) processes.table nobody empty.none_issued empty.capacity_is empty.top_version_is empty.offers;
         boxes = length-replicate config.desks [];
-        boxed = empty_boxed house.desk config.desks;
+        boxed = empty_boxed processes.desk config.desks;
         held = tt;
         posts_near = λ e far. refl;
         gots_near = λ e far. refl;
       };
-      residents = nobody;
+      processes = nobody;
       issues = empty.none_issued;
-      born = none_issued house.desk;
+      born = none_issued processes.desk;
       near = tt;
     };
     offers = empty.offers;
@@ -132,8 +132,8 @@ module _ (config : Config) (settings : IsInRange config) (house : ResidentsState
     top_version = empty.top_version_is;
   }
 
-  pub fresh_is : (book : Book) → book ≡ first_book config house.desk → shard_of (parts_of config book house) ≡ fresh config house.desk
+  pub fresh_is : (book : Book) → book ≡ first_book config processes.desk → shard_of (parts_of config book processes) ≡ fresh config processes.desk
   fresh_is book is = let next = empty.next in rw (is, next) refl
 
-  pub fresh_whole : (book : Book) → book ≡ first_book config house.desk → IsWhole (parts_of config book house)
-  fresh_whole book is = subst (λ b. IsWhole (parts_of config b house)) (sym is) fresh_parts
+  pub fresh_whole : (book : Book) → book ≡ first_book config processes.desk → IsWhole (parts_of config book processes)
+  fresh_whole book is = subst (λ b. IsWhole (parts_of config b processes)) (sym is) fresh_parts

@@ -8,7 +8,7 @@ use Rattle.pt_signal.specs.declared.item.Item.{Item}
 use Rattle.pt_signal.specs.declared.item.Pick.{Pick}
 use Rattle.pt_signal.specs.Values.{fits, without_first}
 use Rattle.pt_events.specs.declared.event.Event.TheVariants.{Took}
-use Rattle.pt_process.specs.Resident.{Resident}
+use Rattle.pt_process.specs.ProcessView.{ProcessView}
 use Rattle.pt_shard.specs.declared.fault.Fault.{Fault}
 use Rattle.pt_shard.specs.declared.stop.Stop.{Stop}
 use Rattle.pt_shard.specs.declared.stop.Stop.TheVariants.{Memory, Worn}
@@ -16,15 +16,15 @@ use Rattle.pt_shard.specs.Faults.{fault_of}
 use Rattle.pt_shard.specs.LedgerState.{LedgerState, HasNoNeed, Prepares, wrote}
 use Rattle.pt_shard.specs.Acts.{Acts, taking}
 
-module _ (p : Pid) (k : Pick) (was : Resident) (ledger ledger' : LedgerState) where
+module _ (p : Pid) (k : Pick) (was : ProcessView) (ledger ledger' : LedgerState) where
   -- what that makes of the process and the ledger, where this is what is found
-  abbrev Takes : Option Item → Result (Option Item) Fault → Resident → Type 0
+  abbrev Takes : Option Item → Result (Option Item) Fault → ProcessView → Type 0
   Takes found r now = Acts (taking p k was.state) found was ledger r now ledger'
 
   pub none_taken : find (fits k) was.state.waiting ≡ None → Acts (taking p k was.state) (find (fits k) was.state.waiting) was ledger (Ok None) was ledger
   none_taken none = rw none (refl, (refl, refl, refl))
 
-  pub one_taken : (i : Item) (now : Resident) → find (fits k) was.state.waiting ≡ Some i → ledger.book.clock < 2 ^ 62 → now.me ≡ was.me
+  pub one_taken : (i : Item) (now : ProcessView) → find (fits k) was.state.waiting ≡ Some i → ledger.book.clock < 2 ^ 62 → now.me ≡ was.me
       → now.state ≡ record was.state { waiting = without_first (fits k) was.state.waiting } → ledger'.book ≡ wrote (ledger.book.clock + 1) (Took p k i) [] ledger.book
       → Takes (find (fits k) was.state.waiting) (Ok (Some i)) now
   one_taken i now one can me state book = rw one (can, refl, me, state, book)

@@ -10,23 +10,23 @@ use Rattle.pt_events.specs.History.{Phase, unborn, living, ended, is_living}
 use Rattle.pt_slots.specs.declared.Key.{Key}
 use Rattle.pt_slots.specs.State.{at, issued, next_key}
 use Rattle.pt_slots.specs.Offers.{IsTakenOrRetired, OffersTheFree}
-use Rattle.pt_process.specs.Resident.{Resident}
+use Rattle.pt_process.specs.ProcessView.{ProcessView}
 use Rattle.pt_shard.specs.ShardState.{ShardState, phase_of, lives}
 use Rattle.pt_shard.specs.Fit.{IsNextBirth, latest_version, latest_pid}
 use Rattle.pt_shard.specs.Sound.{of_phase}
-use Rattle.pt_shard.specs.Residents.{Table, seen, resident_at, in_place, is_place_of, changed, pid_at, vacant_at, Changes, IsSameTable}
+use Rattle.pt_shard.specs.Processes.{Table, seen, process_at, in_place, is_place_of, changed, pid_at, vacant_at, Changes, IsSameTable}
 
 -- what is offered where the slots read alike ---------------------------------------------------
 
-still_seen : (o : Option Resident) (v : Option (Pid × ProcessState)) → seen o ≡ v → IsSome v → IsSome o
+still_seen : (o : Option ProcessView) (v : Option (Pid × ProcessState)) → seen o ≡ v → IsSome v → IsSome o
 still_seen None v is some = absurd (let none = subst IsSome (sym is) some in cc)
 still_seen (Some r) v is some = refl
 
-unseen : (o : Option Resident) → seen o ≡ None → o ≡ None
+unseen : (o : Option ProcessView) → seen o ≡ None → o ≡ None
 unseen None is = refl
 unseen (Some r) is = absurd (cc)
 
-seen_some : (o : Option Resident) → IsSome o → IsSome (seen o)
+seen_some : (o : Option ProcessView) → IsSome o → IsSome (seen o)
 seen_some None some = absurd (cc)
 seen_some (Some r) some = refl
 
@@ -87,7 +87,7 @@ offers_changed p f old new offers changes =
 
 -- the same by the journal ------------------------------------------------------------------------
 
-seen_is : (o : Option Resident) → is_some (seen o) ≡ is_some o
+seen_is : (o : Option ProcessView) → is_some (seen o) ≡ is_some o
 seen_is None = refl
 seen_is (Some r) = refl
 
@@ -96,15 +96,15 @@ living_is p unborn = refl
 living_is p (living s) = refl
 living_is p (ended r s) = refl
 
-module _ (d : ShardState) (table : Table) (residents : (p : Pid) → resident_at d.number table p ≡ of_phase p (phase_of d p))
+module _ (d : ShardState) (table : Table) (processes : (p : Pid) → process_at d.number table p ≡ of_phase p (phase_of d p))
     (issues : (slot : ℕ) → issued table slot ≡ latest_version d slot) (capacity : table.capacity ≡ d.config.slots) (top_version : table.top_version ≡ d.config.top_version)
     (offers : OffersTheFree table)
   where
     lives_is : (slot : ℕ) → lives d (latest_pid d slot) ≡ is_some (at table slot (latest_version d slot))
     lives_is slot =
         let p : Pid = latest_pid d slot in
-        let here : resident_at d.number table p ≡ seen (at table slot (latest_version d slot)) = rw (eq-eqb d.number d.number refl) refl in
-        sym (living_is p (phase_of d p)) ∙ ap is_some (sym (residents p) ∙ here) ∙ seen_is (at table slot (latest_version d slot))
+        let here : process_at d.number table p ≡ seen (at table slot (latest_version d slot)) = rw (eq-eqb d.number d.number refl) refl in
+        sym (living_is p (phase_of d p)) ∙ ap is_some (sym (processes p) ∙ here) ∙ seen_is (at table slot (latest_version d slot))
 
     taken_is : (slot : ℕ) → IsTakenOrRetired table slot → (lives d (latest_pid d slot) ≡ true) ⊎ (latest_version d slot ≡ d.config.top_version)
     taken_is slot (inl some) = inl (lives_is slot ∙ rw (issues slot) at some)

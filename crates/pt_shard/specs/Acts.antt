@@ -18,7 +18,7 @@ use Rattle.pt_events.specs.declared.event.Event.{Event}
 use Rattle.pt_events.specs.declared.event.Event.TheVariants.{Said, Took, Flag}
 use Rattle.pt_events.specs.Journal.{letter}
 use Rattle.pt_events.specs.declared.event.TheConstants.{MAX_STAMP}
-use Rattle.pt_process.specs.Resident.{Resident, Owing}
+use Rattle.pt_process.specs.ProcessView.{ProcessView, Owing}
 use Rattle.pt_process.specs.Peers.{peers}
 use Rattle.pt_shard.specs.declared.fault.Fault.{Fault}
 use Rattle.pt_shard.specs.declared.fault.Fault.TheVariants as fault
@@ -28,7 +28,7 @@ use Rattle.pt_shard.specs.ShardState.{came}
 use Rattle.pt_shard.specs.Backs.{living_back}
 use Rattle.pt_shard.specs.Calls.{if_asked}
 use Rattle.pt_shard.specs.LedgerState.{Book, LedgerState, wrote, HasRoomToAll}
-use Rattle.pt_shard.specs.Residents.{ResidentsState, Ends}
+use Rattle.pt_shard.specs.Processes.{ProcessesState, Ends}
 use Rattle.pt_shard.specs.Sound.{Every}
 
 -- what an event of its own makes of a process
@@ -75,11 +75,11 @@ giving_up w m flush s = giving_up_at (lookup (same_ref m) s.watching) w m flush 
 -- what a process does, and what that leaves ----------------------------------------------------------
 
 -- nothing changed but for room
-abbrev pub HasOnlyMoreRoom : Resident → LedgerState → Resident → LedgerState → Type 0
+abbrev pub HasOnlyMoreRoom : ProcessView → LedgerState → ProcessView → LedgerState → Type 0
 HasOnlyMoreRoom r l r' l' = (r'.me ≡ r.me) × (r'.state ≡ r.state) × (l'.book ≡ l.book)
 
 -- it wrote that event, if any, and answers so
-abbrev pub Acts : {A : Type 0} → Option Event → A → Resident → LedgerState → Result A Fault → Resident → LedgerState → Type 0
+abbrev pub Acts : {A : Type 0} → Option Event → A → ProcessView → LedgerState → Result A Fault → ProcessView → LedgerState → Type 0
 Acts None answer r l (Ok a) r' l' = (a ≡ answer) × HasOnlyMoreRoom r l r' l'
 Acts None answer r l (Err f) r' l' = ⊥
 Acts (Some e) answer r l (Ok a) r' l' =
@@ -102,12 +102,12 @@ Tells e answer l (Err fault.Myself) l' = ⊥
 Tells e answer l (Err fault.NoProc) l' = ⊥
 
 -- the process takes one more link without memory, where there is one
-abbrev pub HasRoomIf : Option LinkId → Resident → Type 0
+abbrev pub HasRoomIf : Option LinkId → ProcessView → Type 0
 HasRoomIf None r = ⊤
 HasRoomIf (Some i) r = 0 < r.room
 
 -- there is room for a birth, with the link that is asked for
-abbrev pub PreparesBirth : Bool → Resident → LedgerState → Result (Option LinkId) Fault → Resident → LedgerState → Type 0
+abbrev pub PreparesBirth : Bool → ProcessView → LedgerState → Result (Option LinkId) Fault → ProcessView → LedgerState → Type 0
 PreparesBirth linked r l (Ok link) r' l' =
     (l.book.clock < MAX_STAMP) × (link ≡ then_some linked (link_after l.book)) × HasOnlyMoreRoom r l r' l' × (0 < l'.room) × HasRoomIf link r'
 PreparesBirth linked r l (Err fault.Worn) r' l' = (MAX_STAMP ≤ l.book.clock) × HasOnlyMoreRoom r l r' l'
@@ -118,12 +118,12 @@ PreparesBirth linked r l (Err fault.Myself) r' l' = ⊥
 PreparesBirth linked r l (Err fault.NoProc) r' l' = ⊥
 
 -- a letter could not be handled
-abbrev pub IsStopped : Letter → Stop → Resident → LedgerState → Resident → LedgerState → Type 0
+abbrev pub IsStopped : Letter → Stop → ProcessView → LedgerState → ProcessView → LedgerState → Type 0
 IsStopped x Worn r l r' l' = (MAX_STAMP ≤ max l.book.clock x.stamp) × HasOnlyMoreRoom r l r' l'
 IsStopped x Memory r l r' l' = (max l.book.clock x.stamp < MAX_STAMP) × HasOnlyMoreRoom r l r' l'
 
 -- the letter did to it what its signal does, and its answer is sent
-abbrev pub TakesIn : Letter → Resident → LedgerState → Result (Unit {0}) Stop → Resident → LedgerState → Type 0
+abbrev pub TakesIn : Letter → ProcessView → LedgerState → Result (Unit {0}) Stop → ProcessView → LedgerState → Type 0
 TakesIn x r l (Ok _) r' l' =
     (max l.book.clock x.stamp < MAX_STAMP) × (r'.me ≡ r.me) × (r'.state ≡ (handle r.me r.state x.from x.signal).state)
     × (l'.book ≡ wrote (max l.book.clock x.stamp + 1) (came x) (map (letter (max l.book.clock x.stamp + 1)) (map (sent x.to x.from) (option_to_list (living_back x.signal)))) l.book)
@@ -138,20 +138,20 @@ GivesBack x back l (Err Worn) l' = (MAX_STAMP ≤ max l.book.clock x.stamp) × (
 GivesBack x back l (Err Memory) l' = (max l.book.clock x.stamp < MAX_STAMP) × (l'.book ≡ l.book)
 
 -- the letter did to it what its signal does, and what it owed before finds room
-abbrev pub PreparesEnding : Letter → Resident → LedgerState → Result (Unit {0}) Stop → Resident → LedgerState → Type 0
+abbrev pub PreparesEnding : Letter → ProcessView → LedgerState → Result (Unit {0}) Stop → ProcessView → LedgerState → Type 0
 PreparesEnding x r l (Ok _) r' l' =
     (max l.book.clock x.stamp < MAX_STAMP) × (r'.me ≡ r.me) × (r'.state ≡ (handle r.me r.state x.from x.signal).state)
     × (l'.book ≡ l.book) × (0 < l'.room) × HasRoomToAll (peers r.state) l'
 PreparesEnding x r l (Err s) r' l' = IsStopped x s r l r' l'
 
 -- whatever the process p is found to owe at its end with this reason comes from it, and finds room
-abbrev pub IsReadyToEnd : Pid → Reason → ResidentsState → LedgerState → Type 0
-IsReadyToEnd p reason house l =
-    (after : ResidentsState) (owing : Owing) → after.desk ≡ house.desk → Ends p reason owing house.table after.table
+abbrev pub IsReadyToEnd : Pid → Reason → ProcessesState → LedgerState → Type 0
+IsReadyToEnd p reason processes l =
+    (after : ProcessesState) (owing : Owing) → after.desk ≡ processes.desk → Ends p reason owing processes.table after.table
     → (owing.from ≡ p) × Every (λ x. x.to.shard < length l.book.outbox) owing.owed × HasRoomToAll (map (λ x. x.to) owing.owed) l
 
 -- the receiver ended by the letter with this reason, and what it owed is sent
-abbrev pub EndsBy : Letter → Reason → ResidentsState → LedgerState → ResidentsState → LedgerState → Type 0
-EndsBy x reason house l house' l' =
-    (owing : Owing) × (house'.desk ≡ house.desk) × Ends x.to reason owing house.table house'.table
+abbrev pub EndsBy : Letter → Reason → ProcessesState → LedgerState → ProcessesState → LedgerState → Type 0
+EndsBy x reason processes l processes' l' =
+    (owing : Owing) × (processes'.desk ≡ processes.desk) × Ends x.to reason owing processes.table processes'.table
     × (l'.book ≡ wrote (max l.book.clock x.stamp + 1) (came x) (map (letter (max l.book.clock x.stamp + 1)) owing.owed) l.book)

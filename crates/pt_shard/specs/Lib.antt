@@ -14,7 +14,7 @@ pub mod Faults
 pub mod Plain
 pub mod LedgerState
 pub mod LettersState
-pub mod Residents
+pub mod Processes
 pub mod Lending
 pub mod Acts
 pub mod Sound

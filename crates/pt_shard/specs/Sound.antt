@@ -24,8 +24,8 @@ of_phase p (living s) = Some (p, s)
 of_phase p _ = None
 
 -- what the journal has of p
-abbrev pub resident : Start → Past → Pid → Option (Pid × ProcessState)
-resident start past p = of_phase p (life start past p)
+abbrev pub live_process : Start → Past → Pid → Option (Pid × ProcessState)
+live_process start past p = of_phase p (life start past p)
 
 -- the other process of the event is of a desk of the node
 abbrev pub IsNear : ℕ → Event → Type 0
@@ -42,7 +42,7 @@ AllNear desks (e ∷ past) = IsNear desks e × AllNear desks past
 pub record IsSound (d : ShardState) (read : Pid → Option (Pid × ProcessState)) (issued : ℕ → ℕ) : Type 0 where
   pub fit : IsFit d
   -- each live process stands in its slot as the journal has it, and nothing else stands anywhere
-  pub residents : (p : Pid) → read p ≡ resident d.start (past d) p
+  pub processes : (p : Pid) → read p ≡ live_process d.start (past d) p
   pub issues : (slot : ℕ) → issued slot ≡ issued_in d.start (past d) slot
   pub born : BornAreIssued d.start d.number (past d)
   pub near : AllNear d.config.desks (past d)

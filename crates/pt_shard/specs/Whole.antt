@@ -5,32 +5,32 @@ use Rattle.pt_slots.specs.Offers.{OffersTheFree}
 use Rattle.pt_shard.specs.declared.config.Config.{Config}
 use Rattle.pt_shard.specs.ShardState.{ShardState}
 use Rattle.pt_shard.specs.LedgerState.{Book}
-use Rattle.pt_shard.specs.Residents.{ResidentsState, resident_at, vacant_at}
+use Rattle.pt_shard.specs.Processes.{ProcessesState, process_at, vacant_at}
 use Rattle.pt_shard.specs.Sound.{IsSound}
 
 pub record Parts : Type 0 where
   pub config : Config
   pub book : Book
-  pub house : ResidentsState
+  pub processes : ProcessesState
 
-abbrev pub parts_of : Config → Book → ResidentsState → Parts
-parts_of config book house = record { config = config; book = book; house = house }
+abbrev pub parts_of : Config → Book → ProcessesState → Parts
+parts_of config book processes = record { config = config; book = book; processes = processes }
 
 abbrev pub shard_of : Parts → ShardState
 shard_of a = record {
   start = a.book.start;
-  number = a.house.desk;
+  number = a.processes.desk;
   config = a.config;
   clock = a.book.clock;
   journal = a.book.journal;
   outbox = a.book.outbox;
   hold = a.book.hold;
-  vacant = vacant_at a.house.desk a.house.table;
+  vacant = vacant_at a.processes.desk a.processes.table;
 }
 
 pub record IsWhole (a : Parts) : Type 0 where
-  pub sound : IsSound (shard_of a) (resident_at a.house.desk a.house.table) (issued a.house.table)
-  pub offers : OffersTheFree a.house.table
-  pub home : a.book.desk ≡ a.house.desk
-  pub capacity : a.house.table.capacity ≡ a.config.slots
-  pub top_version : a.house.table.top_version ≡ a.config.top_version
+  pub sound : IsSound (shard_of a) (process_at a.processes.desk a.processes.table) (issued a.processes.table)
+  pub offers : OffersTheFree a.processes.table
+  pub home : a.book.desk ≡ a.processes.desk
+  pub capacity : a.processes.table.capacity ≡ a.config.slots
+  pub top_version : a.processes.table.top_version ≡ a.config.top_version

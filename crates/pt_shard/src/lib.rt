@@ -62,7 +62,7 @@ mod fault;
 mod laws;
 mod ledger;
 mod letters;
-mod residents;
+mod processes;
 mod shard;
 mod stop;
 

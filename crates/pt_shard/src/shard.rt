@@ -23,14 +23,14 @@ ghost use Rattle.std.specs.Map.{lookup};
 ghost use Rattle.pt_signal.specs.Values.{fits, same_ref};
 ghost use Rattle.pt_process.specs.Peers.{peers};
 ghost use Rattle.pt_shard.specs.Sound.{Every};
-ghost use Rattle.pt_shard.specs.Residents.{in_place};
+ghost use Rattle.pt_shard.specs.Processes.{in_place};
 ghost use Rattle.pt_events.specs.declared.event.TheConstants.{MAX_STAMP};
 ghost use Rattle.pt_shard.specs.Acts.{Acts, Tells, PreparesBirth, TakesIn, GivesBack, PreparesEnding, IsReadyToEnd, EndsBy, taking, linking, unlinking, giving_up, ref_after};
 
 use crate::config::Config;
 use crate::fault::Fault;
 use crate::ledger::Ledger;
-use crate::residents::{Residents, newborn};
+use crate::processes::{Processes, new_process};
 use crate::stop::Stop;
 use pt_events::{Event, Journal};
 use pt_process::Process;
@@ -47,7 +47,7 @@ pub struct Shard {
     alloc: Global,
     config: Config,
     ledger: Ledger,
-    house: Residents,
+    processes: Processes,
 }
 
 impl Model for Shard {
@@ -56,9 +56,9 @@ impl Model for Shard {
 
     ghost Value = { ShardState };
 
-    ghost view = { λ a. shard_of (parts_of a.config a.ledger.book a.house) };
+    ghost view = { λ a. shard_of (parts_of a.config a.ledger.book a.processes) };
 
-    ghost invariant = { λ a. IsWhole (parts_of a.config a.ledger.book a.house) };
+    ghost invariant = { λ a. IsWhole (parts_of a.config a.ledger.book a.processes) };
 }
 
 impl Shard {
@@ -75,7 +75,7 @@ impl Shard {
             alloc,
             config,
             ledger: Ledger::new(alloc, number, config.desks, config.start)?,
-            house: Residents::new(alloc, number, config.slots, config.top_version)?,
+            processes: Processes::new(alloc, number, config.slots, config.top_version)?,
         })
     }
 
@@ -93,14 +93,14 @@ impl Shard {
             alloc,
             config,
             mut ledger,
-            house,
+            processes,
         } = self;
         ledger.restart(start);
         Shard {
             alloc,
             config: Config { start, ..config },
             ledger,
-            house,
+            processes,
         }
     }
 
@@ -108,7 +108,7 @@ impl Shard {
     pub fn number(&self) -> u8
         ensures { result ≡ self.now.number }
     {
-        self.house.desk()
+        self.processes.desk()
     }
 
     /// The settings of the node.
@@ -135,7 +135,7 @@ impl Shard {
         ensures fit { IsFit self.now }
     {
         // looked at for the proof alone: what holds of the shard is said of all its fields
-        let _ = &self.house;
+        let _ = &self.processes;
         self.ledger.journal()
     }
 
@@ -143,14 +143,14 @@ impl Shard {
     pub fn alive_here(&self, p: Pid) -> bool
         ensures { result ≡ lives self.now p }
     {
-        self.house.find(p).is_some()
+        self.processes.find(p).is_some()
     }
 
     /// The items that wait in the mailbox of p, oldest first, or `None` where it does not live here.
     pub fn waiting(&self, p: Pid) -> Option<&[Item]>
         ensures { option_copied result ≡ cond (lives self.now p) (Some (state_in self.now p).waiting) None }
     {
-        match self.house.find(p) {
+        match self.processes.find(p) {
             Some(process) => Some(process.waiting()),
             None => None,
         }
@@ -162,7 +162,7 @@ impl Shard {
     pub fn linked(&self, p: Pid, q: Pid) -> Option<Ids>
         ensures { result ≡ cond (lives self.now p) (held_by self.now p q) None }
     {
-        self.house.find(p)?.linked(q)
+        self.processes.find(p)?.linked(q)
     }
 
     /// The process p, to be read: its links, its open monitors and its watchers by place, its mailbox and its flag; `None`
@@ -170,7 +170,7 @@ impl Shard {
     pub fn process(&self, p: Pid) -> Option<&Process>
         ensures { read_of (option_copied result) ≡ cond (lives self.now p) (Some (p, state_in self.now p)) None }
     {
-        match self.house.find(p) {
+        match self.processes.find(p) {
             Some(process) => Some(process),
             None => None,
         }
@@ -193,7 +193,7 @@ impl Shard {
             && p.slot < self.config.slots
             && p.version >= 1
             && p.version <= self.config.top_version
-            && (p.shard != self.house.desk() || p.version <= self.house.issued(p.slot))
+            && (p.shard != self.processes.desk() || p.version <= self.processes.issued(p.slot))
     }
 
     /// The target of a call is known: its caller has proved so.
@@ -213,7 +213,7 @@ impl Shard {
     pub fn vacant(&self) -> Option<Pid>
         ensures { result ≡ self.now.vacant }
     {
-        self.house.vacant()
+        self.processes.vacant()
     }
 
     /// Writes that a process sends a message, and puts its letter out.
@@ -253,7 +253,7 @@ impl Shard {
         ensures fit { IsFit self.new }
     {
         self.expect_known(to);
-        let Some(process) = self.house.find_mut(p) else {
+        let Some(process) = self.processes.find_mut(p) else {
             return Err(Fault::Gone);
         };
         keep_link(process, &mut self.ledger, p, to)
@@ -269,7 +269,7 @@ impl Shard {
         ensures fit { IsFit self.new }
     {
         self.expect_known(to);
-        let Some(process) = self.house.find_mut(p) else {
+        let Some(process) = self.processes.find_mut(p) else {
             return Err(Fault::Gone);
         };
         drop_link(process, &mut self.ledger, p, to)
@@ -283,7 +283,7 @@ impl Shard {
         ensures extends { Extends self.old self.new }
         ensures fit { IsFit self.new }
     {
-        let Some(process) = self.house.find_mut(p) else {
+        let Some(process) = self.processes.find_mut(p) else {
             return Err(Fault::Gone);
         };
         set_flag(process, &mut self.ledger, p, on)
@@ -298,7 +298,7 @@ impl Shard {
         ensures extends { Extends self.old self.new }
         ensures fit { IsFit self.new }
     {
-        let Some(process) = self.house.find_mut(p) else {
+        let Some(process) = self.processes.find_mut(p) else {
             return Err(Fault::Gone);
         };
         take(process, &mut self.ledger, p, pick)
@@ -314,7 +314,7 @@ impl Shard {
         ensures fit { IsFit self.new }
     {
         self.expect_known(t);
-        let Some(process) = self.house.find_mut(w) else {
+        let Some(process) = self.processes.find_mut(w) else {
             return Err(Fault::Gone);
         };
         if w == t {
@@ -332,7 +332,7 @@ impl Shard {
         ensures extends { Extends self.old self.new }
         ensures fit { IsFit self.new }
     {
-        let Some(process) = self.house.find_mut(w) else {
+        let Some(process) = self.processes.find_mut(w) else {
             return Err(Fault::Gone);
         };
         close_monitor(process, &mut self.ledger, w, monitor, flush)
@@ -348,7 +348,7 @@ impl Shard {
         ensures fit { IsFit self.new }
     {
         self.expect_known(t);
-        let Some(_process) = self.house.find(p) else {
+        let Some(_process) = self.processes.find(p) else {
             return Err(Fault::Gone);
         };
         ask(&mut self.ledger, p, t)
@@ -387,11 +387,11 @@ impl Shard {
         ensures extends { Extends self.old self.new }
         ensures fit { IsFit self.new }
     {
-        let Some(process) = self.house.find_mut(p) else {
+        let Some(process) = self.processes.find_mut(p) else {
             return Err(Fault::Gone);
         };
         self.ledger.prepare_end(0, process)?;
-        let estate = self.house.end(p, reason);
+        let estate = self.processes.end(p, reason);
         self.ledger.close(0, Event::Left(p, reason), p, &estate);
         Ok(())
     }
@@ -408,11 +408,11 @@ impl Shard {
         if self.ledger.is_worn(0) {
             return Err(Fault::Worn);
         }
-        let Some(pid) = self.house.vacant() else {
+        let Some(pid) = self.processes.vacant() else {
             return Err(Fault::Full);
         };
         self.ledger.prepare(0)?;
-        self.house.admit(Process::new(self.alloc, pid))?;
+        self.processes.admit(Process::new(self.alloc, pid))?;
         self.ledger.write(0, Event::Born(pid, None, None));
         Ok(pid)
     }
@@ -426,8 +426,8 @@ impl Shard {
         ensures extends { Extends self.old self.new }
         ensures fit { IsFit self.new }
     {
-        let vacant = self.house.vacant();
-        let Some(process) = self.house.find_mut(parent) else {
+        let vacant = self.processes.vacant();
+        let Some(process) = self.processes.find_mut(parent) else {
             return Err(Fault::Gone);
         };
         if self.ledger.is_worn(0) {
@@ -437,11 +437,11 @@ impl Shard {
             return Err(Fault::Full);
         };
         let link = prepare_birth(process, &mut self.ledger, linked)?;
-        let child = newborn(self.alloc, pid, parent, link)?;
+        let child = new_process(self.alloc, pid, parent, link)?;
         // The parent is looked up once more where there is a link. The birth may be refused here, so its half cannot
         // enter before; and the birth may move the slots, so no reference into them lasts until after.
-        self.house.admit(child)?;
-        self.house.adopt(parent, pid, link);
+        self.processes.admit(child)?;
+        self.processes.link_parent(parent, pid, link);
         self.ledger.write(0, Event::Born(pid, Some(parent), link));
         Ok(pid)
     }
@@ -469,7 +469,7 @@ impl Shard {
         ensures extends { Extends self.old self.new }
         ensures fit { IsFit self.new }
     {
-        let Some(process) = self.house.find_mut(letter.to) else {
+        let Some(process) = self.processes.find_mut(letter.to) else {
             bounce(&mut self.ledger, letter)?;
             return Ok(None);
         };
@@ -478,7 +478,7 @@ impl Shard {
             return Ok(None);
         };
         prepare_ending(process, &mut self.ledger, letter)?;
-        end_by(&mut self.house, &mut self.ledger, letter, reason);
+        end_by(&mut self.processes, &mut self.ledger, letter, reason);
         Ok(Some(letter.to))
     }
 
@@ -488,7 +488,7 @@ impl Shard {
         ensures { result ≡ length (box self.now to) }
     {
         // looked at for the proof alone: what holds of the shard is said of all its fields
-        let _ = &self.house;
+        let _ = &self.processes;
         self.ledger.count_out(to)
     }
 
@@ -506,7 +506,7 @@ impl Shard {
         ensures { result ≡ slice_get (box self.now to) place }
     {
         // looked at for the proof alone: what holds of the shard is said of all its fields
-        let _ = &self.house;
+        let _ = &self.processes;
         self.ledger.out_at(to, place)
     }
 
@@ -567,7 +567,7 @@ impl Shard {
         ensures extends { Extends self.old self.new }
         ensures fit { IsFit self.new }
     {
-        let Some(_process) = self.house.find(from) else {
+        let Some(_process) = self.processes.find(from) else {
             return Err(Fault::Gone);
         };
         tell(&mut self.ledger, from, to, signal)
@@ -770,14 +770,14 @@ fn prepare_ending(process: &mut Process, ledger: &mut Ledger, letter: &Letter) -
 
 /// Ends a process by a letter that was prepared, and sends what it owes.
 #[inline(never)]
-fn end_by(house: &mut Residents, ledger: &mut Ledger, letter: &Letter, reason: Reason)
-    requires lives { IsSome (in_place house.old.table letter.now.to) }
+fn end_by(processes: &mut Processes, ledger: &mut Ledger, letter: &Letter, reason: Reason)
+    requires lives { IsSome (in_place processes.old.table letter.now.to) }
     requires can { max ledger.old.book.clock letter.now.stamp < MAX_STAMP }
     requires room { 0 < ledger.old.room }
-    requires owes { IsReadyToEnd letter.now.to reason house.old ledger.old }
-    ensures { EndsBy letter.now reason house.old ledger.old house.new ledger.new }
+    requires owes { IsReadyToEnd letter.now.to reason processes.old ledger.old }
+    ensures { EndsBy letter.now reason processes.old ledger.old processes.new ledger.new }
 {
-    let estate = house.end(letter.to, reason);
+    let estate = processes.end(letter.to, reason);
     let event = Event::Came(letter.from, letter.to, letter.signal);
     ledger.close(letter.stamp, event, letter.to, &estate);
 }

@@ -1,6 +1,6 @@
 use Rattle.std.proofs.Common.{take}
 use Rattle.std.specs.Io.KnownBytes.{Appends}
-use Rattle.pt_lives.specs.LivesState.{InEveryMerge}
+use Rattle.pt_accounts.specs.LivesState.{InEveryMerge}
 use Rattle.pt_gathered.specs.Gathered.{begins, journals}
 use Rattle.pt_report.specs.Summaries.{account_lines}
 use Rattle.pt_report.proofs.summary.write_accounts.Given as goal

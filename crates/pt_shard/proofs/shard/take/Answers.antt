@@ -1,6 +1,6 @@
 use Rattle.std.proofs.Common.{◌<◌, ◌^◌, [], ap, ◌∙◌, arith}
 use Rattle.pt_events.specs.declared.event.Event.TheVariants.{Took}
-use Rattle.pt_process.specs.Resident.{Resident}
+use Rattle.pt_process.specs.ProcessView.{ProcessView}
 use Rattle.pt_shard.proofs.Acting.{own_book}
 use Rattle.pt_shard.proofs.Taken.{none_taken, one_taken, not_taken}
 use Rattle.pt_shard.proofs.shard.take.Goals as goal
@@ -17,6 +17,6 @@ returns c =
     let can : c.args.ledger.now.book.clock < 2 ^ 62 = (let n = c.in_ok-prepare.ensures.does.1 in omega arith) in
     one_taken c.args.p c.args.pick c.args.process.now c.args.ledger.now c.write.new.self c.take_at-item.result c.take_at-item.new.self
     (c.in-Some.ensures.1 ∙ c.take_at-item.ensures.item) can
-    (ap (λ (r : Resident). r.me) c.take_at-item.ensures.rest)
-    (ap (λ (r : Resident). r.state) c.take_at-item.ensures.rest ∙ ap (λ items. record c.args.process.now.state { waiting = items }) c.in-Some.ensures.2)
+    (ap (λ (r : ProcessView). r.me) c.take_at-item.ensures.rest)
+    (ap (λ (r : ProcessView). r.state) c.take_at-item.ensures.rest ∙ ap (λ items. record c.args.process.now.state { waiting = items }) c.in-Some.ensures.2)
     (own_book (Took c.args.p c.args.pick c.take_at-item.result) (λ n. []) c.prepare.new.self.book c.args.ledger.now.book c.write.new.self.book c.in_ok-prepare.ensures.does.0 c.write.ensures.book)

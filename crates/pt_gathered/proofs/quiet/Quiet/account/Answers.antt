@@ -1,5 +1,5 @@
 use Rattle.std.proofs.Common.{◌≡◌, subst}
-use Rattle.pt_lives.specs.LivesState.{InEveryMerge, account_in}
+use Rattle.pt_accounts.specs.LivesState.{InEveryMerge, account_in}
 use Rattle.pt_gathered.specs.Gathered.{begins, journals}
 use Rattle.pt_gathered.specs.Quiet.{QuietState}
 use Rattle.pt_gathered.proofs.quiet.Quiet.account.Goals as goal

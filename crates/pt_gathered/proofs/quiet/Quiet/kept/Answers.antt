@@ -2,7 +2,7 @@ use Rattle.std.proofs.Common.{◌≡◌, subst}
 use Rattle.std.specs.List.{list_any}
 use Rattle.pt_signal.specs.Values.{same_ref}
 use Rattle.pt_events.specs.History.{state}
-use Rattle.pt_lives.specs.LivesState.{InEveryMerge}
+use Rattle.pt_accounts.specs.LivesState.{InEveryMerge}
 use Rattle.pt_gathered.specs.Gathered.{begins, journals}
 use Rattle.pt_gathered.specs.Quiet.{QuietState}
 use Rattle.pt_gathered.proofs.quiet.Quiet.kept.Goals as goal

@@ -2,7 +2,7 @@ use Rattle.std.proofs.Common.{◌≡◌, false, ◌∙◌, [], ap, sym, subst}
 use Rattle.std.specs.List.{list_any}
 use Rattle.std.specs.Map.{keys_of}
 use Rattle.pt_signal.specs.Process.{ProcessState, same_watch}
-use Rattle.pt_process.specs.Resident.{Resident}
+use Rattle.pt_process.specs.ProcessView.{ProcessView}
 use Rattle.pt_process.proofs.WatchLemmas.{keys_of-append, lookup-fresh}
 use Rattle.pt_process.proofs.StateLemmas.{kept_set}
 use Rattle.pt_process.proofs.process.Process.add_kept.Goals as goal
@@ -10,7 +10,7 @@ use Rattle.pt_process.proofs.process.Process.add_kept.Goals as goal
 pub push-requires : goal.push-requires
 push-requires c =
     let same = same_watch c.args.monitor c.args.watcher in
-    let absent = subst (λ (q : Resident). list_any same q.state.kept ≡ false) (sym c.self.view_is) c.requires in
+    let absent = subst (λ (q : ProcessView). list_any same q.state.kept ≡ false) (sym c.self.view_is) c.requires in
     lookup-fresh (λ k. same_watch c.args.monitor c.args.watcher k) c.self.inside.kept.entries absent
 
 pub returns-clause-state : goal.returns-clause-state

@@ -12,10 +12,10 @@ use Rattle.pt_shard.proofs.shard.Shard.ask_alive.Goals as goal
 
 -- the desk before
 abbrev old : (c : goal.After-ask) → Parts
-old c = parts_of c.self.inside.config c.self.inside.ledger.book c.self.inside.house
+old c = parts_of c.self.inside.config c.self.inside.ledger.book c.self.inside.processes
 
 -- what was asked, whatever came of it
-one : (c : goal.After-ask) → Acted Ref (old c) (parts_of c.self.inside.config c.ask.new.ledger.book c.self.inside.house) c.args.p (Some (Said c.args.p c.args.t (AliveAsk (new_ref (shard_of (old c)))))) (new_ref (shard_of (old c))) c.ask.result
+one : (c : goal.After-ask) → Acted Ref (old c) (parts_of c.self.inside.config c.ask.new.ledger.book c.self.inside.processes) c.args.p (Some (Said c.args.p c.args.t (AliveAsk (new_ref (shard_of (old c)))))) (new_ref (shard_of (old c))) c.ask.result
 one c =
     let found : Found (old c) c.args.p = record { me = c.in-Some._process.now.me; s = c.in-Some._process.now.state; there = c.in-Some.ensures } in
     asked_alive (old c) c.self.invariant c.args.p found c.self.inside.ledger refl c.ask.new.ledger
@@ -26,10 +26,10 @@ invariant_of-self c = (one c).whole
 
 pub returns-clause-does : goal.returns-clause-does
 returns-clause-does c =
-    subst (λ d. Calls c.args.p (Some (Said c.args.p c.args.t (AliveAsk (new_ref d)))) (new_ref d) d c.ask.result (shard_of (parts_of c.self.inside.config c.ask.new.ledger.book c.self.inside.house))) c.self.view_is (one c).does
+    subst (λ d. Calls c.args.p (Some (Said c.args.p c.args.t (AliveAsk (new_ref d)))) (new_ref d) d c.ask.result (shard_of (parts_of c.self.inside.config c.ask.new.ledger.book c.self.inside.processes))) c.self.view_is (one c).does
 
 pub returns-clause-extends : goal.returns-clause-extends
-returns-clause-extends c = subst (λ d. Extends d (shard_of (parts_of c.self.inside.config c.ask.new.ledger.book c.self.inside.house))) c.self.view_is (one c).extends
+returns-clause-extends c = subst (λ d. Extends d (shard_of (parts_of c.self.inside.config c.ask.new.ledger.book c.self.inside.processes))) c.self.view_is (one c).extends
 
 pub returns-clause-fit : goal.returns-clause-fit
 returns-clause-fit c = (one c).fit

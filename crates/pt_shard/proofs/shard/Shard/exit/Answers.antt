@@ -4,7 +4,7 @@ use Rattle.pt_process.specs.Peers.{peers}
 use Rattle.pt_shard.specs.LedgerState.{HasRoomToAll}
 use Rattle.pt_shard.specs.Calls.{Calls}
 use Rattle.pt_shard.specs.Extends.{Extends}
-use Rattle.pt_shard.specs.Residents.{with_process}
+use Rattle.pt_shard.specs.Processes.{with_process}
 use Rattle.pt_shard.specs.Whole.{parts_of, shard_of}
 use Rattle.pt_shard.proofs.Acted.{Acted, near_peers, still_there, owing_fits, exited, not_exited}
 use Rattle.pt_shard.proofs.shard.Shard.exit.Goals as goal
@@ -12,16 +12,16 @@ use Rattle.pt_shard.proofs.shard.Shard.exit.Goals as goal
 pub prepare_end-requires-clause-near : goal.prepare_end-requires-clause-near
 prepare_end-requires-clause-near c =
     let i = c.self.inside in
-    near_peers (parts_of i.config i.ledger.book i.house) c.self.invariant c.args.p c.in-Some.process.now c.in-Some.ensures.value
+    near_peers (parts_of i.config i.ledger.book i.processes) c.self.invariant c.args.p c.in-Some.process.now c.in-Some.ensures.value
 
 -- no room ---------------------------------------------------------------------------------
 
 refused : (c : goal.After-from_residual)
-    → Acted (Unit {0}) (parts_of c.self.inside.config c.self.inside.ledger.book c.self.inside.house)
-    (parts_of c.self.inside.config c.prepare_end.new.self.book (with_process c.self.inside.house c.args.p c.prepare_end.new.process)) c.args.p (Some (Left c.args.p c.args.reason)) (tt {0}) c.from_residual.result
+    → Acted (Unit {0}) (parts_of c.self.inside.config c.self.inside.ledger.book c.self.inside.processes)
+    (parts_of c.self.inside.config c.prepare_end.new.self.book (with_process c.self.inside.processes c.args.p c.prepare_end.new.process)) c.args.p (Some (Left c.args.p c.args.reason)) (tt {0}) c.from_residual.result
 refused c =
     let i = c.self.inside in
-    not_exited (parts_of i.config i.ledger.book i.house) c.self.invariant c.args.p c.in-Some.process.now c.in-Some.ensures.value c.prepare_end.new.process c.prepare_end.ensures.me c.prepare_end.ensures.state
+    not_exited (parts_of i.config i.ledger.book i.processes) c.self.invariant c.args.p c.in-Some.process.now c.in-Some.ensures.value c.prepare_end.new.process c.prepare_end.ensures.me c.prepare_end.ensures.state
     c.args.reason (HasRoomToAll (peers c.in-Some.process.now.state)) i.ledger c.prepare_end.new.self refl c.in_err-prepare_end.field-0.0 c.in_err-prepare_end.ensures.does c.from_residual.result c.from_residual.ensures
 
 pub invariant_of-self-in_err-prepare_end : goal.invariant_of-self-in_err-prepare_end
@@ -30,7 +30,7 @@ invariant_of-self-in_err-prepare_end c = (refused c).whole
 pub returns-in_err-prepare_end-clause-does : goal.returns-in_err-prepare_end-clause-does
 returns-in_err-prepare_end-clause-does c =
     let i = c.self.inside in
-    subst (λ d. Calls c.args.p (Some (Left c.args.p c.args.reason)) (tt {0}) d c.from_residual.result (shard_of (parts_of i.config c.prepare_end.new.self.book (with_process i.house c.args.p c.prepare_end.new.process)))) c.self.view_is (refused c).does
+    subst (λ d. Calls c.args.p (Some (Left c.args.p c.args.reason)) (tt {0}) d c.from_residual.result (shard_of (parts_of i.config c.prepare_end.new.self.book (with_process i.processes c.args.p c.prepare_end.new.process)))) c.self.view_is (refused c).does
 
 pub returns-in_err-prepare_end-clause-fit : goal.returns-in_err-prepare_end-clause-fit
 returns-in_err-prepare_end-clause-fit c = (refused c).fit
@@ -40,26 +40,26 @@ returns-in_err-prepare_end-clause-fit c = (refused c).fit
 pub end-estate-requires : goal.end-estate-requires
 end-estate-requires c =
     let i = c.self.inside in
-    still_there (parts_of i.config i.ledger.book i.house) c.self.invariant c.args.p c.in-Some.process.now c.in-Some.ensures.value c.prepare_end.new.process c.prepare_end.ensures.me c.prepare_end.ensures.state
+    still_there (parts_of i.config i.ledger.book i.processes) c.self.invariant c.args.p c.in-Some.process.now c.in-Some.ensures.value c.prepare_end.new.process c.prepare_end.ensures.me c.prepare_end.ensures.state
 
 pub close-requires-clause-from : goal.close-requires-clause-from
 close-requires-clause-from c =
     let i = c.self.inside in
-    let fits = owing_fits (parts_of i.config i.ledger.book i.house) c.self.invariant c.args.p c.in-Some.process.now c.in-Some.ensures.value c.prepare_end.new.process c.prepare_end.ensures.me c.prepare_end.ensures.state
+    let fits = owing_fits (parts_of i.config i.ledger.book i.processes) c.self.invariant c.args.p c.in-Some.process.now c.in-Some.ensures.value c.prepare_end.new.process c.prepare_end.ensures.me c.prepare_end.ensures.state
     c.args.reason c.end-estate.result c.end-estate.new.self c.end-estate.ensures.ends c.prepare_end.new.self c.in_ok-prepare_end.ensures.does.0 c.in_ok-prepare_end.ensures.does.3 in
     fits.0
 
 pub close-requires-clause-to : goal.close-requires-clause-to
 close-requires-clause-to c =
     let i = c.self.inside in
-    let fits = owing_fits (parts_of i.config i.ledger.book i.house) c.self.invariant c.args.p c.in-Some.process.now c.in-Some.ensures.value c.prepare_end.new.process c.prepare_end.ensures.me c.prepare_end.ensures.state
+    let fits = owing_fits (parts_of i.config i.ledger.book i.processes) c.self.invariant c.args.p c.in-Some.process.now c.in-Some.ensures.value c.prepare_end.new.process c.prepare_end.ensures.me c.prepare_end.ensures.state
     c.args.reason c.end-estate.result c.end-estate.new.self c.end-estate.ensures.ends c.prepare_end.new.self c.in_ok-prepare_end.ensures.does.0 c.in_ok-prepare_end.ensures.does.3 in
     fits.1
 
 pub close-requires-clause-letters : goal.close-requires-clause-letters
 close-requires-clause-letters c =
     let i = c.self.inside in
-    let fits = owing_fits (parts_of i.config i.ledger.book i.house) c.self.invariant c.args.p c.in-Some.process.now c.in-Some.ensures.value c.prepare_end.new.process c.prepare_end.ensures.me c.prepare_end.ensures.state
+    let fits = owing_fits (parts_of i.config i.ledger.book i.processes) c.self.invariant c.args.p c.in-Some.process.now c.in-Some.ensures.value c.prepare_end.new.process c.prepare_end.ensures.me c.prepare_end.ensures.state
     c.args.reason c.end-estate.result c.end-estate.new.self c.end-estate.ensures.ends c.prepare_end.new.self c.in_ok-prepare_end.ensures.does.0 c.in_ok-prepare_end.ensures.does.3 in
     fits.2
 
@@ -67,7 +67,7 @@ pub invariant_of-self-2 : goal.invariant_of-self-2
 invariant_of-self-2 c =
     let i = c.self.inside in
     let can : i.ledger.book.clock < 2 ^ 62 = (let k = c.in_ok-prepare_end.ensures.does.1 in omega arith) in
-    let one = exited (parts_of i.config i.ledger.book i.house) c.self.invariant c.args.p c.in-Some.process.now c.in-Some.ensures.value c.prepare_end.new.process c.prepare_end.ensures.me c.prepare_end.ensures.state
+    let one = exited (parts_of i.config i.ledger.book i.processes) c.self.invariant c.args.p c.in-Some.process.now c.in-Some.ensures.value c.prepare_end.new.process c.prepare_end.ensures.me c.prepare_end.ensures.state
     c.args.reason c.end-estate.result c.end-estate.new.self c.end-estate.ensures.desk c.end-estate.ensures.ends can c.prepare_end.new.self.book c.close.new.self.book c.in_ok-prepare_end.ensures.does.0 c.close.ensures in
     one.whole
 
@@ -75,7 +75,7 @@ pub returns-clause-does : goal.returns-clause-does
 returns-clause-does c =
     let i = c.self.inside in
     let can : i.ledger.book.clock < 2 ^ 62 = (let k = c.in_ok-prepare_end.ensures.does.1 in omega arith) in
-    let one = exited (parts_of i.config i.ledger.book i.house) c.self.invariant c.args.p c.in-Some.process.now c.in-Some.ensures.value c.prepare_end.new.process c.prepare_end.ensures.me c.prepare_end.ensures.state
+    let one = exited (parts_of i.config i.ledger.book i.processes) c.self.invariant c.args.p c.in-Some.process.now c.in-Some.ensures.value c.prepare_end.new.process c.prepare_end.ensures.me c.prepare_end.ensures.state
     c.args.reason c.end-estate.result c.end-estate.new.self c.end-estate.ensures.desk c.end-estate.ensures.ends can c.prepare_end.new.self.book c.close.new.self.book c.in_ok-prepare_end.ensures.does.0 c.close.ensures in
     subst (λ d. Calls c.args.p (Some (Left c.args.p c.args.reason)) (tt {0}) d (Ok (tt {0})) (shard_of (parts_of i.config c.close.new.self.book c.end-estate.new.self))) c.self.view_is one.does
 
@@ -83,7 +83,7 @@ pub returns-clause-extends : goal.returns-clause-extends
 returns-clause-extends c =
     let i = c.self.inside in
     let can : i.ledger.book.clock < 2 ^ 62 = (let k = c.in_ok-prepare_end.ensures.does.1 in omega arith) in
-    let one = exited (parts_of i.config i.ledger.book i.house) c.self.invariant c.args.p c.in-Some.process.now c.in-Some.ensures.value c.prepare_end.new.process c.prepare_end.ensures.me c.prepare_end.ensures.state
+    let one = exited (parts_of i.config i.ledger.book i.processes) c.self.invariant c.args.p c.in-Some.process.now c.in-Some.ensures.value c.prepare_end.new.process c.prepare_end.ensures.me c.prepare_end.ensures.state
     c.args.reason c.end-estate.result c.end-estate.new.self c.end-estate.ensures.desk c.end-estate.ensures.ends can c.prepare_end.new.self.book c.close.new.self.book c.in_ok-prepare_end.ensures.does.0 c.close.ensures in
     subst (λ d. Extends d (shard_of (parts_of i.config c.close.new.self.book c.end-estate.new.self))) c.self.view_is one.extends
 
@@ -91,6 +91,6 @@ pub returns-clause-fit : goal.returns-clause-fit
 returns-clause-fit c =
     let i = c.self.inside in
     let can : i.ledger.book.clock < 2 ^ 62 = (let k = c.in_ok-prepare_end.ensures.does.1 in omega arith) in
-    let one = exited (parts_of i.config i.ledger.book i.house) c.self.invariant c.args.p c.in-Some.process.now c.in-Some.ensures.value c.prepare_end.new.process c.prepare_end.ensures.me c.prepare_end.ensures.state
+    let one = exited (parts_of i.config i.ledger.book i.processes) c.self.invariant c.args.p c.in-Some.process.now c.in-Some.ensures.value c.prepare_end.new.process c.prepare_end.ensures.me c.prepare_end.ensures.state
     c.args.reason c.end-estate.result c.end-estate.new.self c.end-estate.ensures.desk c.end-estate.ensures.ends can c.prepare_end.new.self.book c.close.new.self.book c.in_ok-prepare_end.ensures.does.0 c.close.ensures in
     one.fit

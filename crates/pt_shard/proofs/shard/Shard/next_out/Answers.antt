@@ -3,11 +3,11 @@ use Rattle.pt_shard.specs.Whole.{parts_of, IsWhole}
 use Rattle.pt_shard.proofs.Standing.{moved_whole, less, less_boxes, less_boxed}
 use Rattle.pt_shard.proofs.shard.Shard.next_out.Goals as goal
 
-whole : (c : goal.After-next_out) → IsWhole (parts_of c.self.inside.config c.next_out.new.self.book c.self.inside.house)
+whole : (c : goal.After-next_out) → IsWhole (parts_of c.self.inside.config c.next_out.new.self.book c.self.inside.processes)
 whole c =
     let i = c.self.inside in
-    let a = parts_of i.config i.ledger.book i.house in
-    subst (λ b. IsWhole (parts_of i.config b i.house)) (sym c.next_out.ensures.rest)
+    let a = parts_of i.config i.ledger.book i.processes in
+    subst (λ b. IsWhole (parts_of i.config b i.processes)) (sym c.next_out.ensures.rest)
     (moved_whole a c.self.invariant (less a c.self.invariant c.args.to) i.ledger.book.hold (less_boxes a c.self.invariant c.args.to) (less_boxed a c.self.invariant c.args.to) c.self.invariant.sound.fit.held)
 
 pub invariant_of-self : goal.invariant_of-self

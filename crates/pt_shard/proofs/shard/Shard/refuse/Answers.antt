@@ -11,10 +11,10 @@ use Rattle.pt_shard.proofs.shard.Shard.refuse.Goals as goal
 
 -- the desk before, and with the note
 abbrev old : (c : goal.After-write) → Parts
-old c = parts_of c.self.inside.config c.self.inside.ledger.book c.self.inside.house
+old c = parts_of c.self.inside.config c.self.inside.ledger.book c.self.inside.processes
 
 abbrev new : (c : goal.After-write) → Parts
-new c = parts_of c.self.inside.config c.write.new.self.book c.self.inside.house
+new c = parts_of c.self.inside.config c.write.new.self.book c.self.inside.processes
 
 one : (c : goal.After-write) → Outcome (old c) (new c) (max c.self.inside.ledger.book.clock c.args.seen + 1) (Refused c.args.p c.args.t)
 one c =

@@ -5,12 +5,12 @@ use Rattle.pt_shard.proofs.Restarting.{restarted_whole, next_phases, next_known}
 use Rattle.pt_shard.proofs.shard.Shard.restart.Goals as goal
 
 abbrev before : goal.After-restart → Parts
-before c = parts_of c.self.inside.config c.self.inside.ledger.book c.self.inside.house
+before c = parts_of c.self.inside.config c.self.inside.ledger.book c.self.inside.processes
 
 later : (c : goal.After-restart) → (before c).book.clock ≤ c.args.start
 later c = subst (λ (d : ShardState). d.clock ≤ c.args.start) (sym c.self.view_is) c.requires.later
 
-whole : (c : goal.After-restart) → IsWhole (parts_of (record c.self.inside.config { start = c.args.start }) c.restart.new.self.book c.self.inside.house)
+whole : (c : goal.After-restart) → IsWhole (parts_of (record c.self.inside.config { start = c.args.start }) c.restart.new.self.book c.self.inside.processes)
 whole c = restarted_whole (before c) c.self.invariant c.args.start (later c) c.requires.within c.restart.new.self.book c.restart.ensures
 
 pub invariant_of-result : goal.invariant_of-result

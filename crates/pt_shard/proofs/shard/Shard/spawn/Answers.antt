@@ -7,10 +7,10 @@ use Rattle.pt_shard.proofs.Acting.{own_book}
 use Rattle.pt_shard.proofs.Bearing.{BirthOutcome, spawned}
 use Rattle.pt_shard.proofs.shard.Shard.spawn.Goals as goal
 
-born : (c : goal.After-write) → BirthOutcome (shard_of (parts_of c.self.inside.config c.self.inside.ledger.book c.self.inside.house)) (parts_of c.self.inside.config c.write.new.self.book c.admit.new.self) c.in-Some.pid None None
+born : (c : goal.After-write) → BirthOutcome (shard_of (parts_of c.self.inside.config c.self.inside.ledger.book c.self.inside.processes)) (parts_of c.self.inside.config c.write.new.self.book c.admit.new.self) c.in-Some.pid None None
 born c =
     let can : c.self.inside.ledger.book.clock < 2 ^ 62 = (let k = c.in_ok-prepare.ensures.does.1 in omega arith) in
-    spawned (parts_of c.self.inside.config c.self.inside.ledger.book c.self.inside.house) c.self.invariant c.in-Some.pid c.in-Some.ensures can c.new.result c.new.ensures.me c.new.ensures.state c.admit.new.self c.admit.ensures.desk c.in_ok-admit.ensures.ok c.write.new.self.book
+    spawned (parts_of c.self.inside.config c.self.inside.ledger.book c.self.inside.processes) c.self.invariant c.in-Some.pid c.in-Some.ensures can c.new.result c.new.ensures.me c.new.ensures.state c.admit.new.self c.admit.ensures.desk c.in_ok-admit.ensures.ok c.write.new.self.book
     (own_book (Born c.in-Some.pid None None) (λ n. []) c.prepare.new.self.book c.self.inside.ledger.book c.write.new.self.book c.in_ok-prepare.ensures.does.0 c.write.ensures.book)
 
 pub invariant_of-self-2 : goal.invariant_of-self-2

@@ -4,7 +4,7 @@ use Rattle.std.proofs.lemmas.Bool.Decides.{nat_tests}
 use Rattle.pt_shard.specs.declared.fault.Fault.TheVariants.{Worn, Full}
 use Rattle.pt_shard.specs.Calls.{BearsChild}
 use Rattle.pt_shard.specs.Extends.{Extends}
-use Rattle.pt_shard.specs.Residents.{ResidentsState, IsSameTable, with_process}
+use Rattle.pt_shard.specs.Processes.{ProcessesState, IsSameTable, with_process}
 use Rattle.pt_shard.specs.Whole.{parts_of, shard_of}
 use Rattle.pt_shard.proofs.Acting.{alive}
 use Rattle.pt_shard.proofs.Bearing.{unchanged, child_no_memory}
@@ -22,14 +22,14 @@ fresh_is n h = let k : max n 0 < 2 ^ 62 = grind (arith, nat_tests) in omega (ari
 pub invariant_of-self-then-is_worn : goal.invariant_of-self-then-is_worn
 invariant_of-self-then-is_worn c =
     let i = c.self.inside in
-    (kept_still (parts_of i.config i.ledger.book i.house) c.self.invariant c.args.parent c.in-Some.process.now c.in-Some.ensures.value i.ledger.book c.in-Some.process.now refl refl refl).whole
+    (kept_still (parts_of i.config i.ledger.book i.processes) c.self.invariant c.args.parent c.in-Some.process.now c.in-Some.ensures.value i.ledger.book c.in-Some.process.now refl refl refl).whole
 
 pub returns-then-is_worn-clause-does : goal.returns-then-is_worn-clause-does
 returns-then-is_worn-clause-does c =
     let i = c.self.inside in
-    let same = kept_still (parts_of i.config i.ledger.book i.house) c.self.invariant c.args.parent c.in-Some.process.now c.in-Some.ensures.value i.ledger.book c.in-Some.process.now refl refl refl in
-    subst (λ d. BearsChild c.args.parent c.args.linked d (Err Worn) (shard_of (parts_of i.config i.ledger.book (with_process i.house c.args.parent c.in-Some.process.now)))) c.self.view_is (
-      alive (parts_of i.config i.ledger.book i.house) c.self.invariant c.args.parent (acting (parts_of i.config i.ledger.book i.house) c.self.invariant c.args.parent c.in-Some.process.now c.in-Some.ensures.value),
+    let same = kept_still (parts_of i.config i.ledger.book i.processes) c.self.invariant c.args.parent c.in-Some.process.now c.in-Some.ensures.value i.ledger.book c.in-Some.process.now refl refl refl in
+    subst (λ d. BearsChild c.args.parent c.args.linked d (Err Worn) (shard_of (parts_of i.config i.ledger.book (with_process i.processes c.args.parent c.in-Some.process.now)))) c.self.view_is (
+      alive (parts_of i.config i.ledger.book i.processes) c.self.invariant c.args.parent (acting (parts_of i.config i.ledger.book i.processes) c.self.invariant c.args.parent c.in-Some.process.now c.in-Some.ensures.value),
       worn_is i.ledger.book.clock (sym c.is_worn.ensures ∙ c.if-is_worn.true),
       same.is,
     )
@@ -37,19 +37,19 @@ returns-then-is_worn-clause-does c =
 pub returns-then-is_worn-clause-fit : goal.returns-then-is_worn-clause-fit
 returns-then-is_worn-clause-fit c =
     let i = c.self.inside in
-    (kept_still (parts_of i.config i.ledger.book i.house) c.self.invariant c.args.parent c.in-Some.process.now c.in-Some.ensures.value i.ledger.book c.in-Some.process.now refl refl refl).fit
+    (kept_still (parts_of i.config i.ledger.book i.processes) c.self.invariant c.args.parent c.in-Some.process.now c.in-Some.ensures.value i.ledger.book c.in-Some.process.now refl refl refl).fit
 
 pub invariant_of-self-in_default-vacant : goal.invariant_of-self-in_default-vacant
 invariant_of-self-in_default-vacant c =
     let i = c.self.inside in
-    (kept_still (parts_of i.config i.ledger.book i.house) c.self.invariant c.args.parent c.in-Some.process.now c.in-Some.ensures.value i.ledger.book c.in-Some.process.now refl refl refl).whole
+    (kept_still (parts_of i.config i.ledger.book i.processes) c.self.invariant c.args.parent c.in-Some.process.now c.in-Some.ensures.value i.ledger.book c.in-Some.process.now refl refl refl).whole
 
 pub returns-in_default-vacant-clause-does : goal.returns-in_default-vacant-clause-does
 returns-in_default-vacant-clause-does c =
     let i = c.self.inside in
-    let same = kept_still (parts_of i.config i.ledger.book i.house) c.self.invariant c.args.parent c.in-Some.process.now c.in-Some.ensures.value i.ledger.book c.in-Some.process.now refl refl refl in
-    subst (λ d. BearsChild c.args.parent c.args.linked d (Err Full) (shard_of (parts_of i.config i.ledger.book (with_process i.house c.args.parent c.in-Some.process.now)))) c.self.view_is (
-      alive (parts_of i.config i.ledger.book i.house) c.self.invariant c.args.parent (acting (parts_of i.config i.ledger.book i.house) c.self.invariant c.args.parent c.in-Some.process.now c.in-Some.ensures.value),
+    let same = kept_still (parts_of i.config i.ledger.book i.processes) c.self.invariant c.args.parent c.in-Some.process.now c.in-Some.ensures.value i.ledger.book c.in-Some.process.now refl refl refl in
+    subst (λ d. BearsChild c.args.parent c.args.linked d (Err Full) (shard_of (parts_of i.config i.ledger.book (with_process i.processes c.args.parent c.in-Some.process.now)))) c.self.view_is (
+      alive (parts_of i.config i.ledger.book i.processes) c.self.invariant c.args.parent (acting (parts_of i.config i.ledger.book i.processes) c.self.invariant c.args.parent c.in-Some.process.now c.in-Some.ensures.value),
       fresh_is i.ledger.book.clock (sym c.is_worn.ensures ∙ c.if-is_worn.false),
       sym c.in_default-vacant.ensures,
       same.is,
@@ -58,122 +58,122 @@ returns-in_default-vacant-clause-does c =
 pub returns-in_default-vacant-clause-fit : goal.returns-in_default-vacant-clause-fit
 returns-in_default-vacant-clause-fit c =
     let i = c.self.inside in
-    (kept_still (parts_of i.config i.ledger.book i.house) c.self.invariant c.args.parent c.in-Some.process.now c.in-Some.ensures.value i.ledger.book c.in-Some.process.now refl refl refl).fit
+    (kept_still (parts_of i.config i.ledger.book i.processes) c.self.invariant c.args.parent c.in-Some.process.now c.in-Some.ensures.value i.ledger.book c.in-Some.process.now refl refl refl).fit
 
 -- no room for it
 pub invariant_of-self-in_err-link : goal.invariant_of-self-in_err-link
 invariant_of-self-in_err-link c =
     let i = c.self.inside in
-    (no_room (parts_of i.config i.ledger.book i.house) c.self.invariant c.args.parent c.in-Some.process.now c.in-Some.ensures.value c.args.linked i.ledger refl c.prepare_birth.new.parent c.prepare_birth.new.ledger c.in_err-link.field-0.0 c.in_err-link.ensures).whole
+    (no_room (parts_of i.config i.ledger.book i.processes) c.self.invariant c.args.parent c.in-Some.process.now c.in-Some.ensures.value c.args.linked i.ledger refl c.prepare_birth.new.parent c.prepare_birth.new.ledger c.in_err-link.field-0.0 c.in_err-link.ensures).whole
 
 pub returns-in_err-link-clause-does : goal.returns-in_err-link-clause-does
 returns-in_err-link-clause-does c =
     let i = c.self.inside in
-    subst (λ d. BearsChild c.args.parent c.args.linked d c.from_residual.result (shard_of (parts_of i.config c.prepare_birth.new.ledger.book (with_process i.house c.args.parent c.prepare_birth.new.parent)))) c.self.view_is
-    (bears_none (parts_of i.config i.ledger.book i.house) c.self.invariant c.args.parent c.in-Some.process.now c.in-Some.ensures.value c.args.linked i.ledger refl c.prepare_birth.new.parent c.prepare_birth.new.ledger (subst IsSome c.in-Some-vacant.ensures refl) c.in_err-link.field-0.0 c.in_err-link.ensures c.from_residual.result c.from_residual.ensures)
+    subst (λ d. BearsChild c.args.parent c.args.linked d c.from_residual.result (shard_of (parts_of i.config c.prepare_birth.new.ledger.book (with_process i.processes c.args.parent c.prepare_birth.new.parent)))) c.self.view_is
+    (bears_none (parts_of i.config i.ledger.book i.processes) c.self.invariant c.args.parent c.in-Some.process.now c.in-Some.ensures.value c.args.linked i.ledger refl c.prepare_birth.new.parent c.prepare_birth.new.ledger (subst IsSome c.in-Some-vacant.ensures refl) c.in_err-link.field-0.0 c.in_err-link.ensures c.from_residual.result c.from_residual.ensures)
 
 pub returns-in_err-link-clause-extends : goal.returns-in_err-link-clause-extends
 returns-in_err-link-clause-extends c =
     let i = c.self.inside in
-    subst (λ d. Extends d (shard_of (parts_of i.config c.prepare_birth.new.ledger.book (with_process i.house c.args.parent c.prepare_birth.new.parent)))) c.self.view_is
-    (no_room (parts_of i.config i.ledger.book i.house) c.self.invariant c.args.parent c.in-Some.process.now c.in-Some.ensures.value c.args.linked i.ledger refl c.prepare_birth.new.parent c.prepare_birth.new.ledger c.in_err-link.field-0.0 c.in_err-link.ensures).extends
+    subst (λ d. Extends d (shard_of (parts_of i.config c.prepare_birth.new.ledger.book (with_process i.processes c.args.parent c.prepare_birth.new.parent)))) c.self.view_is
+    (no_room (parts_of i.config i.ledger.book i.processes) c.self.invariant c.args.parent c.in-Some.process.now c.in-Some.ensures.value c.args.linked i.ledger refl c.prepare_birth.new.parent c.prepare_birth.new.ledger c.in_err-link.field-0.0 c.in_err-link.ensures).extends
 
 pub returns-in_err-link-clause-fit : goal.returns-in_err-link-clause-fit
 returns-in_err-link-clause-fit c =
     let i = c.self.inside in
-    (no_room (parts_of i.config i.ledger.book i.house) c.self.invariant c.args.parent c.in-Some.process.now c.in-Some.ensures.value c.args.linked i.ledger refl c.prepare_birth.new.parent c.prepare_birth.new.ledger c.in_err-link.field-0.0 c.in_err-link.ensures).fit
+    (no_room (parts_of i.config i.ledger.book i.processes) c.self.invariant c.args.parent c.in-Some.process.now c.in-Some.ensures.value c.args.linked i.ledger refl c.prepare_birth.new.parent c.prepare_birth.new.ledger c.in_err-link.field-0.0 c.in_err-link.ensures).fit
 
 -- no memory for the child
 pub invariant_of-self-in_err-child : goal.invariant_of-self-in_err-child
 invariant_of-self-in_err-child c =
     let i = c.self.inside in
-    (ready (parts_of i.config i.ledger.book i.house) c.self.invariant c.args.parent c.in-Some.process.now c.in-Some.ensures.value c.args.linked i.ledger refl c.prepare_birth.new.parent c.prepare_birth.new.ledger c.in_ok-link.link c.in_ok-link.ensures).whole
+    (ready (parts_of i.config i.ledger.book i.processes) c.self.invariant c.args.parent c.in-Some.process.now c.in-Some.ensures.value c.args.linked i.ledger refl c.prepare_birth.new.parent c.prepare_birth.new.ledger c.in_ok-link.link c.in_ok-link.ensures).whole
 
 pub returns-in_err-child-clause-does : goal.returns-in_err-child-clause-does
 returns-in_err-child-clause-does c =
     let i = c.self.inside in
-    let same = ready (parts_of i.config i.ledger.book i.house) c.self.invariant c.args.parent c.in-Some.process.now c.in-Some.ensures.value c.args.linked i.ledger refl c.prepare_birth.new.parent c.prepare_birth.new.ledger c.in_ok-link.link c.in_ok-link.ensures in
-    subst (λ d. BearsChild c.args.parent c.args.linked d c.from_residual-in_err-child.result (shard_of (parts_of i.config c.prepare_birth.new.ledger.book (with_process i.house c.args.parent c.prepare_birth.new.parent)))) c.self.view_is
-    (child_no_memory c.args.parent c.args.linked (shard_of (parts_of i.config i.ledger.book i.house)) (shard_of (parts_of i.config c.prepare_birth.new.ledger.book (with_process i.house c.args.parent c.prepare_birth.new.parent)))
-    (alive (parts_of i.config i.ledger.book i.house) c.self.invariant c.args.parent (acting (parts_of i.config i.ledger.book i.house) c.self.invariant c.args.parent c.in-Some.process.now c.in-Some.ensures.value))
-    (subst IsSome c.in-Some-vacant.ensures refl) same.is (can_bear (parts_of i.config i.ledger.book i.house) c.self.invariant c.args.parent c.in-Some.process.now c.in-Some.ensures.value c.args.linked i.ledger refl c.prepare_birth.new.parent c.prepare_birth.new.ledger c.in_ok-link.link c.in_ok-link.ensures) c.from_residual-in_err-child.result c.from_residual-in_err-child.ensures)
+    let same = ready (parts_of i.config i.ledger.book i.processes) c.self.invariant c.args.parent c.in-Some.process.now c.in-Some.ensures.value c.args.linked i.ledger refl c.prepare_birth.new.parent c.prepare_birth.new.ledger c.in_ok-link.link c.in_ok-link.ensures in
+    subst (λ d. BearsChild c.args.parent c.args.linked d c.from_residual-in_err-child.result (shard_of (parts_of i.config c.prepare_birth.new.ledger.book (with_process i.processes c.args.parent c.prepare_birth.new.parent)))) c.self.view_is
+    (child_no_memory c.args.parent c.args.linked (shard_of (parts_of i.config i.ledger.book i.processes)) (shard_of (parts_of i.config c.prepare_birth.new.ledger.book (with_process i.processes c.args.parent c.prepare_birth.new.parent)))
+    (alive (parts_of i.config i.ledger.book i.processes) c.self.invariant c.args.parent (acting (parts_of i.config i.ledger.book i.processes) c.self.invariant c.args.parent c.in-Some.process.now c.in-Some.ensures.value))
+    (subst IsSome c.in-Some-vacant.ensures refl) same.is (can_bear (parts_of i.config i.ledger.book i.processes) c.self.invariant c.args.parent c.in-Some.process.now c.in-Some.ensures.value c.args.linked i.ledger refl c.prepare_birth.new.parent c.prepare_birth.new.ledger c.in_ok-link.link c.in_ok-link.ensures) c.from_residual-in_err-child.result c.from_residual-in_err-child.ensures)
 
 pub returns-in_err-child-clause-fit : goal.returns-in_err-child-clause-fit
 returns-in_err-child-clause-fit c =
     let i = c.self.inside in
-    (ready (parts_of i.config i.ledger.book i.house) c.self.invariant c.args.parent c.in-Some.process.now c.in-Some.ensures.value c.args.linked i.ledger refl c.prepare_birth.new.parent c.prepare_birth.new.ledger c.in_ok-link.link c.in_ok-link.ensures).fit
+    (ready (parts_of i.config i.ledger.book i.processes) c.self.invariant c.args.parent c.in-Some.process.now c.in-Some.ensures.value c.args.linked i.ledger refl c.prepare_birth.new.parent c.prepare_birth.new.ledger c.in_ok-link.link c.in_ok-link.ensures).fit
 
 -- no memory for its slot
 pub admit-requires : goal.admit-requires
 admit-requires c =
     let i = c.self.inside in
-    stays_vacant (parts_of i.config i.ledger.book i.house) c.self.invariant c.args.parent c.in-Some.process.now c.in-Some.ensures.value c.args.linked i.ledger refl c.prepare_birth.new.parent c.prepare_birth.new.ledger c.in_ok-link.link c.in_ok-link.ensures (subst IsSome c.in-Some-vacant.ensures refl)
+    stays_vacant (parts_of i.config i.ledger.book i.processes) c.self.invariant c.args.parent c.in-Some.process.now c.in-Some.ensures.value c.args.linked i.ledger refl c.prepare_birth.new.parent c.prepare_birth.new.ledger c.in_ok-link.link c.in_ok-link.ensures (subst IsSome c.in-Some-vacant.ensures refl)
 
 pub invariant_of-self-in_err-admit : goal.invariant_of-self-in_err-admit
 invariant_of-self-in_err-admit c =
     let i = c.self.inside in
-    let same = unchanged (parts_of i.config i.ledger.book i.house) c.self.invariant c.prepare_birth.new.ledger.book c.admit.new.self c.in_ok-link.ensures.2.2 c.admit.ensures.desk
-    (subst (λ (h : ResidentsState). IsSameTable i.house.table h.table) (sym c.in_err-admit.ensures.err) (same_before (parts_of i.config i.ledger.book i.house) c.self.invariant c.args.parent c.in-Some.process.now c.in-Some.ensures.value c.args.linked i.ledger refl c.prepare_birth.new.parent c.prepare_birth.new.ledger c.in_ok-link.link c.in_ok-link.ensures)) in
+    let same = unchanged (parts_of i.config i.ledger.book i.processes) c.self.invariant c.prepare_birth.new.ledger.book c.admit.new.self c.in_ok-link.ensures.2.2 c.admit.ensures.desk
+    (subst (λ (h : ProcessesState). IsSameTable i.processes.table h.table) (sym c.in_err-admit.ensures.err) (same_before (parts_of i.config i.ledger.book i.processes) c.self.invariant c.args.parent c.in-Some.process.now c.in-Some.ensures.value c.args.linked i.ledger refl c.prepare_birth.new.parent c.prepare_birth.new.ledger c.in_ok-link.link c.in_ok-link.ensures)) in
     same.whole
 
 pub returns-in_err-admit-clause-does : goal.returns-in_err-admit-clause-does
 returns-in_err-admit-clause-does c =
     let i = c.self.inside in
-    let same = unchanged (parts_of i.config i.ledger.book i.house) c.self.invariant c.prepare_birth.new.ledger.book c.admit.new.self c.in_ok-link.ensures.2.2 c.admit.ensures.desk
-    (subst (λ (h : ResidentsState). IsSameTable i.house.table h.table) (sym c.in_err-admit.ensures.err) (same_before (parts_of i.config i.ledger.book i.house) c.self.invariant c.args.parent c.in-Some.process.now c.in-Some.ensures.value c.args.linked i.ledger refl c.prepare_birth.new.parent c.prepare_birth.new.ledger c.in_ok-link.link c.in_ok-link.ensures)) in
+    let same = unchanged (parts_of i.config i.ledger.book i.processes) c.self.invariant c.prepare_birth.new.ledger.book c.admit.new.self c.in_ok-link.ensures.2.2 c.admit.ensures.desk
+    (subst (λ (h : ProcessesState). IsSameTable i.processes.table h.table) (sym c.in_err-admit.ensures.err) (same_before (parts_of i.config i.ledger.book i.processes) c.self.invariant c.args.parent c.in-Some.process.now c.in-Some.ensures.value c.args.linked i.ledger refl c.prepare_birth.new.parent c.prepare_birth.new.ledger c.in_ok-link.link c.in_ok-link.ensures)) in
     subst (λ d. BearsChild c.args.parent c.args.linked d c.from_residual-in_err-admit.result (shard_of (parts_of i.config c.prepare_birth.new.ledger.book c.admit.new.self))) c.self.view_is
-    (child_no_memory c.args.parent c.args.linked (shard_of (parts_of i.config i.ledger.book i.house)) (shard_of (parts_of i.config c.prepare_birth.new.ledger.book c.admit.new.self))
-    (alive (parts_of i.config i.ledger.book i.house) c.self.invariant c.args.parent (acting (parts_of i.config i.ledger.book i.house) c.self.invariant c.args.parent c.in-Some.process.now c.in-Some.ensures.value))
-    (subst IsSome c.in-Some-vacant.ensures refl) same.is (can_bear (parts_of i.config i.ledger.book i.house) c.self.invariant c.args.parent c.in-Some.process.now c.in-Some.ensures.value c.args.linked i.ledger refl c.prepare_birth.new.parent c.prepare_birth.new.ledger c.in_ok-link.link c.in_ok-link.ensures) c.from_residual-in_err-admit.result c.from_residual-in_err-admit.ensures)
+    (child_no_memory c.args.parent c.args.linked (shard_of (parts_of i.config i.ledger.book i.processes)) (shard_of (parts_of i.config c.prepare_birth.new.ledger.book c.admit.new.self))
+    (alive (parts_of i.config i.ledger.book i.processes) c.self.invariant c.args.parent (acting (parts_of i.config i.ledger.book i.processes) c.self.invariant c.args.parent c.in-Some.process.now c.in-Some.ensures.value))
+    (subst IsSome c.in-Some-vacant.ensures refl) same.is (can_bear (parts_of i.config i.ledger.book i.processes) c.self.invariant c.args.parent c.in-Some.process.now c.in-Some.ensures.value c.args.linked i.ledger refl c.prepare_birth.new.parent c.prepare_birth.new.ledger c.in_ok-link.link c.in_ok-link.ensures) c.from_residual-in_err-admit.result c.from_residual-in_err-admit.ensures)
 
 pub returns-in_err-admit-clause-fit : goal.returns-in_err-admit-clause-fit
 returns-in_err-admit-clause-fit c =
     let i = c.self.inside in
-    let same = unchanged (parts_of i.config i.ledger.book i.house) c.self.invariant c.prepare_birth.new.ledger.book c.admit.new.self c.in_ok-link.ensures.2.2 c.admit.ensures.desk
-    (subst (λ (h : ResidentsState). IsSameTable i.house.table h.table) (sym c.in_err-admit.ensures.err) (same_before (parts_of i.config i.ledger.book i.house) c.self.invariant c.args.parent c.in-Some.process.now c.in-Some.ensures.value c.args.linked i.ledger refl c.prepare_birth.new.parent c.prepare_birth.new.ledger c.in_ok-link.link c.in_ok-link.ensures)) in
+    let same = unchanged (parts_of i.config i.ledger.book i.processes) c.self.invariant c.prepare_birth.new.ledger.book c.admit.new.self c.in_ok-link.ensures.2.2 c.admit.ensures.desk
+    (subst (λ (h : ProcessesState). IsSameTable i.processes.table h.table) (sym c.in_err-admit.ensures.err) (same_before (parts_of i.config i.ledger.book i.processes) c.self.invariant c.args.parent c.in-Some.process.now c.in-Some.ensures.value c.args.linked i.ledger refl c.prepare_birth.new.parent c.prepare_birth.new.ledger c.in_ok-link.link c.in_ok-link.ensures)) in
     same.fit
 
 -- born
-pub adopt-requires-clause-lives : goal.adopt-requires-clause-lives
-adopt-requires-clause-lives c =
+pub link_parent-requires-clause-lives : goal.link_parent-requires-clause-lives
+link_parent-requires-clause-lives c =
     let i = c.self.inside in
-    parent_lives (parts_of i.config i.ledger.book i.house) c.self.invariant c.args.parent c.in-Some.process.now c.in-Some.ensures.value c.args.linked i.ledger refl c.prepare_birth.new.parent c.prepare_birth.new.ledger c.in_ok-link.link c.in_ok-link.ensures
+    parent_lives (parts_of i.config i.ledger.book i.processes) c.self.invariant c.args.parent c.in-Some.process.now c.in-Some.ensures.value c.args.linked i.ledger refl c.prepare_birth.new.parent c.prepare_birth.new.ledger c.in_ok-link.link c.in_ok-link.ensures
     c.in-Some-vacant.pid c.in-Some-vacant.ensures c.in_ok-child.child c.admit.new.self c.admit.ensures.desk c.in_ok-admit.ensures.ok
 
-pub adopt-requires-clause-room : goal.adopt-requires-clause-room
-adopt-requires-clause-room c =
+pub link_parent-requires-clause-room : goal.link_parent-requires-clause-room
+link_parent-requires-clause-room c =
     let i = c.self.inside in
-    parent_has_room (parts_of i.config i.ledger.book i.house) c.self.invariant c.args.parent c.in-Some.process.now c.in-Some.ensures.value c.args.linked i.ledger refl c.prepare_birth.new.parent c.prepare_birth.new.ledger c.in_ok-link.link c.in_ok-link.ensures
+    parent_has_room (parts_of i.config i.ledger.book i.processes) c.self.invariant c.args.parent c.in-Some.process.now c.in-Some.ensures.value c.args.linked i.ledger refl c.prepare_birth.new.parent c.prepare_birth.new.ledger c.in_ok-link.link c.in_ok-link.ensures
     c.in-Some-vacant.pid c.in-Some-vacant.ensures c.in_ok-child.child c.admit.new.self c.admit.ensures.desk c.in_ok-admit.ensures.ok
 
 pub invariant_of-self-2 : goal.invariant_of-self-2
 invariant_of-self-2 c =
     let i = c.self.inside in
-    let one = bore (parts_of i.config i.ledger.book i.house) c.self.invariant c.args.parent c.in-Some.process.now c.in-Some.ensures.value c.args.linked i.ledger refl c.prepare_birth.new.parent c.prepare_birth.new.ledger c.in_ok-link.link c.in_ok-link.ensures
+    let one = bore (parts_of i.config i.ledger.book i.processes) c.self.invariant c.args.parent c.in-Some.process.now c.in-Some.ensures.value c.args.linked i.ledger refl c.prepare_birth.new.parent c.prepare_birth.new.ledger c.in_ok-link.link c.in_ok-link.ensures
     c.in-Some-vacant.pid c.in-Some-vacant.ensures c.in_ok-child.child c.admit.new.self c.admit.ensures.desk c.in_ok-admit.ensures.ok
-    c.in_ok-child.ensures.me c.in_ok-child.ensures.state c.adopt.new.self c.adopt.ensures.desk c.adopt.ensures.changes c.write.new.self.book c.write.ensures.book in
+    c.in_ok-child.ensures.me c.in_ok-child.ensures.state c.link_parent.new.self c.link_parent.ensures.desk c.link_parent.ensures.changes c.write.new.self.book c.write.ensures.book in
     one.whole
 
 pub returns-clause-known : goal.returns-clause-known
 returns-clause-known c =
     let i = c.self.inside in
-    let one = bore (parts_of i.config i.ledger.book i.house) c.self.invariant c.args.parent c.in-Some.process.now c.in-Some.ensures.value c.args.linked i.ledger refl c.prepare_birth.new.parent c.prepare_birth.new.ledger c.in_ok-link.link c.in_ok-link.ensures
+    let one = bore (parts_of i.config i.ledger.book i.processes) c.self.invariant c.args.parent c.in-Some.process.now c.in-Some.ensures.value c.args.linked i.ledger refl c.prepare_birth.new.parent c.prepare_birth.new.ledger c.in_ok-link.link c.in_ok-link.ensures
     c.in-Some-vacant.pid c.in-Some-vacant.ensures c.in_ok-child.child c.admit.new.self c.admit.ensures.desk c.in_ok-admit.ensures.ok
-    c.in_ok-child.ensures.me c.in_ok-child.ensures.state c.adopt.new.self c.adopt.ensures.desk c.adopt.ensures.changes c.write.new.self.book c.write.ensures.book in
+    c.in_ok-child.ensures.me c.in_ok-child.ensures.state c.link_parent.new.self c.link_parent.ensures.desk c.link_parent.ensures.changes c.write.new.self.book c.write.ensures.book in
     (one.here, one.known)
 
 pub returns-clause-extends : goal.returns-clause-extends
 returns-clause-extends c =
     let i = c.self.inside in
-    let one = bore (parts_of i.config i.ledger.book i.house) c.self.invariant c.args.parent c.in-Some.process.now c.in-Some.ensures.value c.args.linked i.ledger refl c.prepare_birth.new.parent c.prepare_birth.new.ledger c.in_ok-link.link c.in_ok-link.ensures
+    let one = bore (parts_of i.config i.ledger.book i.processes) c.self.invariant c.args.parent c.in-Some.process.now c.in-Some.ensures.value c.args.linked i.ledger refl c.prepare_birth.new.parent c.prepare_birth.new.ledger c.in_ok-link.link c.in_ok-link.ensures
     c.in-Some-vacant.pid c.in-Some-vacant.ensures c.in_ok-child.child c.admit.new.self c.admit.ensures.desk c.in_ok-admit.ensures.ok
-    c.in_ok-child.ensures.me c.in_ok-child.ensures.state c.adopt.new.self c.adopt.ensures.desk c.adopt.ensures.changes c.write.new.self.book c.write.ensures.book in
-    subst (λ d. Extends d (shard_of (parts_of i.config c.write.new.self.book c.adopt.new.self))) c.self.view_is one.extends
+    c.in_ok-child.ensures.me c.in_ok-child.ensures.state c.link_parent.new.self c.link_parent.ensures.desk c.link_parent.ensures.changes c.write.new.self.book c.write.ensures.book in
+    subst (λ d. Extends d (shard_of (parts_of i.config c.write.new.self.book c.link_parent.new.self))) c.self.view_is one.extends
 
 pub returns-clause-fit : goal.returns-clause-fit
 returns-clause-fit c =
     let i = c.self.inside in
-    let one = bore (parts_of i.config i.ledger.book i.house) c.self.invariant c.args.parent c.in-Some.process.now c.in-Some.ensures.value c.args.linked i.ledger refl c.prepare_birth.new.parent c.prepare_birth.new.ledger c.in_ok-link.link c.in_ok-link.ensures
+    let one = bore (parts_of i.config i.ledger.book i.processes) c.self.invariant c.args.parent c.in-Some.process.now c.in-Some.ensures.value c.args.linked i.ledger refl c.prepare_birth.new.parent c.prepare_birth.new.ledger c.in_ok-link.link c.in_ok-link.ensures
     c.in-Some-vacant.pid c.in-Some-vacant.ensures c.in_ok-child.child c.admit.new.self c.admit.ensures.desk c.in_ok-admit.ensures.ok
-    c.in_ok-child.ensures.me c.in_ok-child.ensures.state c.adopt.new.self c.adopt.ensures.desk c.adopt.ensures.changes c.write.new.self.book c.write.ensures.book in
+    c.in_ok-child.ensures.me c.in_ok-child.ensures.state c.link_parent.new.self c.link_parent.ensures.desk c.link_parent.ensures.changes c.write.new.self.book c.write.ensures.book in
     one.fit

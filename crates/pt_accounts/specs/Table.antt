@@ -1,0 +1,32 @@
+-- The processes of one desk by slot and version, from the first version of each slot on.
+use Rattle.std.specs.Prelude.{◌≡◌, ℕ, zero, suc, ◌==◌, cond, List, [], length, slice_get, slice_index_or, Option, Some, None, false}
+use Rattle.pt_signal.specs.declared.pid.Pid.{Pid}
+use Rattle.pt_events.specs.History.{Past, Start, unborn, life, is_unborn}
+use Rattle.pt_laws.specs.Taken.{taken}
+use Rattle.pt_accounts.specs.LifeState.{LifeState}
+
+abbrev pub Slots : Type 0
+Slots = List (List LifeState)
+
+-- the life of one version of a slot; the first version is 1
+abbrev pub of_version : List LifeState → ℕ → Option LifeState
+of_version lives zero = None
+of_version lives (suc k) = slice_get lives k
+
+abbrev pub slot_at : Slots → ℕ → List LifeState
+slot_at slots s = slice_index_or slots s []
+
+abbrev pub at : Slots → ℕ → ℕ → Option LifeState
+at slots s v = of_version (slot_at slots s) v
+
+-- the life that a desk's table has for p
+abbrev pub found : ℕ → Slots → Pid → Option LifeState
+found desk slots p = cond (p.shard == desk) (at slots p.slot p.version) None
+
+-- what the table has for p is what the history says of p
+abbrev pub Tells : Start → Past → Pid → Option LifeState → Type 0
+Tells start past p None = (life start past p ≡ unborn) × (taken past p ≡ [])
+Tells start past p (Some l) = (l ≡ record { pid = p; phase = life start past p; taken = length (taken past p) }) × (is_unborn (life start past p) ≡ false)
+
+abbrev pub AreTold : Start → ℕ → Slots → Past → Type 0
+AreTold start desk slots past = (p : Pid) → Tells start past p (found desk slots p)

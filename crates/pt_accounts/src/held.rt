@@ -1,0 +1,85 @@
+//! What a process holds.
+
+ghost use Rattle.std.specs.Prelude.{◌≡◌, length, is_some};
+ghost use Rattle.std.specs.Map.{lookup};
+ghost use Rattle.std.specs.List.{list_any};
+ghost use Rattle.pt_signal.specs.Values.{same_ref};
+ghost use Rattle.pt_signal.specs.Process.{held};
+ghost use Rattle.pt_accounts.specs.Holding.{pid_of, holding};
+
+use pt_process::Process;
+use pt_signal::{Ids, Pid, Ref};
+use std::boxed::Box;
+
+/// What a process holds, or held just after its end.
+#[derive(Drop)]
+pub(crate) enum Held {
+    Process(Box<Process>),
+    /// No item, link, watch or monitor.
+    Nothing { pid: Pid, traps: bool },
+}
+
+impl Held {
+    pub fn pid(&self) -> Pid
+        ensures { result ≡ pid_of self.now }
+    {
+        match self {
+            Held::Process(process) => process.me(),
+            Held::Nothing { pid, .. } => *pid,
+        }
+    }
+
+    /// How many items wait.
+    pub fn waiting(&self) -> usize
+        ensures { result ≡ length (holding self.now).waiting }
+    {
+        match self {
+            Held::Process(process) => process.waiting().len(),
+            Held::Nothing { .. } => 0,
+        }
+    }
+
+    /// The ids under which it is linked with this process.
+    pub fn linked(&self, peer: Pid) -> Option<Ids>
+        ensures { result ≡ held (holding self.now).links peer }
+    {
+        match self {
+            Held::Process(process) => process.linked(peer),
+            Held::Nothing { .. } => None,
+        }
+    }
+
+    /// Whether a watch of this reference is kept here.
+    pub fn kept(&self, monitor: Ref) -> bool
+        ensures { result ≡ list_any (λ k. same_ref monitor k.0) (holding self.now).kept }
+    {
+        match self {
+            Held::Process(process) => process.kept(monitor),
+            Held::Nothing { .. } => false,
+        }
+    }
+
+    /// Whether a monitor of this reference is open here.
+    pub fn watching(&self, monitor: Ref) -> bool
+        ensures { result ≡ is_some (lookup (same_ref monitor) (holding self.now).watching) }
+    {
+        match self {
+            Held::Process(process) => process.watching(monitor),
+            Held::Nothing { .. } => false,
+        }
+    }
+
+    /// Gives the lists up where they are empty, as those of an ended process mostly are.
+    pub fn shrink(&mut self)
+        ensures pid { pid_of self.new ≡ pid_of self.old }
+        ensures state { holding self.new ≡ holding self.old }
+    {
+        if let Held::Process(process) = self {
+            if process.owed_len() == 0 && process.waiting().is_empty() {
+                let pid = process.me();
+                let traps = process.traps();
+                *self = Held::Nothing { pid, traps };
+            }
+        }
+    }
+}

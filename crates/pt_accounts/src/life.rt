@@ -1,0 +1,155 @@
+//! One process, from its birth on.
+
+ghost use Rattle.std.specs.Prelude.{◌≡◌, ◌+◌, ◌<◌, ◌^◌, is_some, IfOk, OnOk};
+ghost use Rattle.std.specs.Map.{lookup};
+ghost use Rattle.std.specs.List.{list_any};
+ghost use Rattle.pt_signal.specs.Values.{same_ref};
+ghost use Rattle.pt_signal.specs.Process.{held};
+ghost use Rattle.pt_events.specs.History.{unborn, living, newborn, live_or_end, state_of, open_monitors, change};
+ghost use Rattle.pt_accounts.specs.LifeState.{account_of};
+ghost use Rattle.pt_accounts.specs.Steps.{shown, MaySee, MayDo};
+
+use crate::Account;
+use crate::held::Held;
+use pt_events::Event;
+use pt_process::{Outcome, Process};
+use pt_signal::{Ids, LinkId, Pid, Reason, Ref, Signal};
+use std::alloc::{AllocError, Global};
+use std::boxed::Box;
+use std::marker::Model;
+use std::mem::size_of;
+
+const _: () = prove!(size_of::<Life>() <= 48);
+
+/// One process, as the events of its desk up to some one of them leave it.
+#[derive(Drop)]
+pub(crate) struct Life {
+    ended: Option<Reason>,
+    taken: u64,
+    held: Held,
+}
+
+impl Model for Life {
+    ghost use Rattle.pt_events.specs.History.{live_or_end};
+    ghost use Rattle.pt_accounts.specs.LifeState.{LifeState};
+    ghost use Rattle.pt_accounts.specs.Holding.{pid_of, holding, Stands};
+
+    ghost Value = { LifeState };
+
+    ghost view = { λ l. record { pid = pid_of l.held; phase = live_or_end l.ended (holding l.held); taken = l.taken } };
+
+    ghost invariant = { λ l. Stands l.ended l.held };
+}
+
+/// One of its own events happens to a live process; the reason with which it ends by that, if it does.
+fn meet(process: &mut Process, event: Event) -> Result<Option<Reason>, AllocError>
+    requires { MayDo process.old.me process.old.state event }
+    ensures me { process.new.me ≡ process.old.me }
+    ensures state { IfOk result (λ ending. live_or_end ending process.new.state ≡ change process.old.me event (living process.old.state)) }
+{
+    match event {
+        Event::Born(child, _, Some(link)) => process.add_link(child, link)?,
+        Event::Born(_, _, None) => {}
+        Event::Said(_, to, signal) => process.say(to, signal)?,
+        Event::Came(from, _, signal) => {
+            if let Outcome::Ends(reason) = process.accept(from, signal)? {
+                return Ok(Some(reason));
+            }
+        }
+        Event::Took(_, pick, _) => {
+            let _ = process.take(pick);
+        }
+        Event::Flag(_, on) => {
+            let _ = process.set_trap(on);
+        }
+        Event::Left(_, reason) => return Ok(Some(reason)),
+        Event::Refused(_, _) => {}
+    }
+    Ok(None)
+}
+
+impl Life {
+    pub fn born(
+        alloc: Global,
+        pid: Pid,
+        parent: Option<Pid>,
+        link: Option<LinkId>,
+    ) -> Result<Life, AllocError>
+        ensures { IfOk result (λ life. life ≡ record { pid = pid; phase = newborn parent link unborn; taken = 0 }) }
+    {
+        let mut process = Process::new(alloc, pid);
+        if let (Some(parent), Some(link)) = (parent, link) {
+            process.add_link(parent, link)?;
+        }
+        let Ok(process) = Box::new(alloc, process) else {
+            return Err(AllocError);
+        };
+        Ok(Life {
+            ended: None,
+            taken: 0,
+            held: Held::Process(process),
+        })
+    }
+
+    /// One of its own events happens.
+    pub fn see(&mut self, event: Event) -> Result<(), AllocError>
+        requires { MaySee event self.old }
+        ensures { OnOk result (self.new ≡ shown event self.old) }
+    {
+        if self.ended.is_some() {
+            return Ok(());
+        }
+        let Held::Process(process) = &mut self.held else {
+            return Ok(());
+        };
+        let ended = meet(process, event)?;
+        if ended.is_some() {
+            self.held.shrink();
+        }
+        self.ended = ended;
+        if let Event::Took(_, _, _) = event {
+            self.taken += 1;
+        }
+        Ok(())
+    }
+
+    pub fn pid(&self) -> Pid
+        ensures { result ≡ self.now.pid }
+    {
+        self.held.pid()
+    }
+
+    pub fn account(&self) -> Account
+        requires { (account_of self.now).arrived < 2 ^ 64 }
+        ensures { result ≡ account_of self.now }
+    {
+        let waiting = self.held.waiting() as u64;
+        Account {
+            ended: self.ended,
+            arrived: self.taken + waiting,
+            taken: self.taken,
+            waiting,
+        }
+    }
+
+    pub fn linked(&self, peer: Pid) -> Option<Ids>
+        ensures { result ≡ held (state_of self.now.phase).links peer }
+    {
+        self.held.linked(peer)
+    }
+
+    pub fn kept(&self, monitor: Ref) -> bool
+        ensures { result ≡ list_any (λ k. same_ref monitor k.0) (state_of self.now.phase).kept }
+    {
+        self.held.kept(monitor)
+    }
+
+    pub fn watching(&self, monitor: Ref) -> bool
+        ensures { result ≡ is_some (lookup (same_ref monitor) (open_monitors self.now.phase)) }
+    {
+        match self.ended {
+            Some(_) => false,
+            None => self.held.watching(monitor),
+        }
+    }
+}

@@ -1,0 +1,128 @@
+//! The processes of all desks.
+
+ghost use Rattle.std.specs.Prelude.{◌≡◌, [], length, is_some, IfOk};
+ghost use Rattle.std.specs.Map.{lookup};
+ghost use Rattle.std.specs.List.{list_any};
+ghost use Rattle.pt_signal.specs.Values.{same_ref};
+ghost use Rattle.pt_signal.specs.Process.{held};
+ghost use Rattle.pt_events.specs.History.{life, state, open_monitors};
+ghost use Rattle.pt_accounts.specs.DeskLives.{IsDeskJournal};
+ghost use Rattle.pt_accounts.specs.LivesState.{Adds, Tell, AreAllPids, account_in};
+
+use crate::Account;
+use crate::desk_lives::DeskLives;
+use pt_events::Journal;
+use pt_laws::laws;
+use pt_signal::{Ids, Pid, Ref};
+use std::alloc::{AllocError, Global};
+use std::marker::Model;
+
+/// What became of every process of a node.
+///
+/// The reading calls take no memory and find a process by its pid in constant time. What they answer holds in every
+/// merge of the journals that were read.
+#[derive(Drop)]
+pub struct Lives {
+    desks: Vec<DeskLives>,
+    pids: Vec<Pid>,
+}
+
+impl Model for Lives {
+    ghost use Rattle.pt_accounts.specs.LivesState as state;
+    ghost use Rattle.pt_accounts.specs.LivesState.{all_pids};
+    ghost use Rattle.std.specs.Prelude.{◌≡◌};
+
+    ghost Value = { state.Lives };
+
+    ghost view = { λ l. l.desks.items };
+
+    ghost invariant = { λ l. l.pids.items ≡ all_pids l.desks.items };
+}
+
+impl Lives {
+    /// Those of a node without desks.
+    pub fn new(alloc: Global) -> Lives
+        ensures { result ≡ [] }
+    {
+        Lives {
+            desks: Vec::new(alloc),
+            pids: Vec::new(alloc),
+        }
+    }
+
+    /// These, and those of the next desk, whose journal is read from its first event to its last.
+    pub fn with(self, alloc: Global, journal: &Journal) -> Result<Lives, AllocError>
+        requires local { IsDeskJournal [] journal.now.desk journal.now.past }
+        requires next { journal.now.desk ≡ length self }
+        ensures { IfOk result (λ lives. Adds journal.now self lives) }
+    {
+        let Lives {
+            mut desks,
+            mut pids,
+        } = self;
+        let desk = DeskLives::of(alloc, journal)?;
+        desk.list(&mut pids)?;
+        desks.push(desk)?;
+        Ok(Lives { desks, pids })
+    }
+
+    /// The pids of all processes that were born, by shard, slot and version.
+    pub fn pids(&self) -> &[Pid]
+        ensures { Tell self.now (λ start past. AreAllPids start past result.now) }
+    {
+        laws::journals_tell_their_pids();
+        self.pids.as_slice()
+    }
+
+    /// What is told of the process, or `None` where it was never born.
+    pub fn account(&self, pid: Pid) -> Option<Account>
+        ensures { Tell self.now (λ start past. result ≡ account_in start past pid) }
+    {
+        laws::journals_tell_their_pids();
+        let desk = usize::from(pid.shard);
+        if desk < self.desks.len() {
+            self.desks[desk].account(pid)
+        } else {
+            None
+        }
+    }
+
+    /// The ids under which it is linked with the other process, or was just after its end.
+    pub fn linked(&self, pid: Pid, peer: Pid) -> Option<Ids>
+        ensures { Tell self.now (λ start past. result ≡ held (state start past pid).links peer) }
+    {
+        laws::journals_tell_their_pids();
+        let desk = usize::from(pid.shard);
+        if desk < self.desks.len() {
+            self.desks[desk].linked(pid, peer)
+        } else {
+            None
+        }
+    }
+
+    /// Whether it keeps a watch of this reference, or did just after its end.
+    pub fn kept(&self, target: Pid, monitor: Ref) -> bool
+        ensures { Tell self.now (λ start past. result ≡ list_any (λ k. same_ref monitor k.0) (state start past target).kept) }
+    {
+        laws::journals_tell_their_pids();
+        let desk = usize::from(target.shard);
+        if desk < self.desks.len() {
+            self.desks[desk].kept(target, monitor)
+        } else {
+            false
+        }
+    }
+
+    /// Whether its monitor of this reference is open; none is once it has ended.
+    pub fn watching(&self, watcher: Pid, monitor: Ref) -> bool
+        ensures { Tell self.now (λ start past. result ≡ is_some (lookup (same_ref monitor) (open_monitors (life start past watcher)))) }
+    {
+        laws::journals_tell_their_pids();
+        let desk = usize::from(watcher.shard);
+        if desk < self.desks.len() {
+            self.desks[desk].watching(watcher, monitor)
+        } else {
+            false
+        }
+    }
+}

@@ -1,5 +1,0 @@
-use Rattle.std.proofs.Common.{rules}
-use Rattle.pt_lives.proofs.life.Life.see.Goals as goal
-
-pub returns-in-Took : goal.returns-in-Took
-returns-in-Took c = search rules
