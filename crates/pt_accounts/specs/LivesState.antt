@@ -1,5 +1,6 @@
 -- What became of a node's processes, and what is told of them.
-use Rattle.std.specs.Prelude.{◌≡◌, ℕ, ◌<◌, ◌≤◌, ◌++◌, ◌∷◌, ◌↔◌, false, cond, List, [], flat_map, length, slice_index_or, Option, Some, None}
+use Rattle.std.specs.Prelude.{◌≡◌, ℕ, ◌<◌, ◌≤◌, ◌++◌, ◌∷◌, ◌↔◌, false, cond, List, [], flat_map, length, slice_index_or}
+use Rattle.std.specs.Prelude.{Option, Some, None}
 use Rattle.pt_signal.specs.declared.pid.Pid.{Pid}
 use Rattle.pt_signal.specs.declared.item.Item.{Item}
 use Rattle.pt_events.specs.declared.event.Stamped.{Stamped}
@@ -14,7 +15,12 @@ use Rattle.pt_accounts.specs.Pids.{AreRising, IsIn}
 -- the words of the contracts ------------------------------------------------------------------------
 
 abbrev pub account_at : Phase → List Item → List Item → Option Account
-account_at f came took = cond (is_unborn f) None (Some (record { ended = reason_of f; arrived = length came; taken = length took; waiting = length (state_of f).waiting }))
+account_at f came took = cond (is_unborn f) None (Some (record {
+  ended = reason_of f;
+  arrived = length came;
+  taken = length took;
+  waiting = length (state_of f).waiting;
+}))
 
 -- what the history says of p, if it was born
 abbrev pub account_in : Start → Past → Pid → Option Account
@@ -43,13 +49,15 @@ pub record AreDeskJournals (start : Start) (journals : Journals) : Type 0 where
 -- each desk's table has what its journal says, and desks without a table have no processes and no events
 pub record AreLivesOf (start : Start) (journals : Journals) (lives : Lives) : Type 0 where
   pub desks : AreDeskJournals start journals
-  pub told : (d : ℕ) (t : DeskTable) → d < length lives → IsTableOf start d (events (journals d)) (slice_index_or lives d t)
+  pub told : (d : ℕ) (t : DeskTable) → d < length lives
+      → IsTableOf start d (events (journals d)) (slice_index_or lives d t)
   pub rest : (d : ℕ) → length lives ≤ d → journals d ≡ []
   pub nobody : (p : Pid) → length lives ≤ p.shard → at_start start p ≡ unborn
 
 -- it is so in every merge of the journals whose lives they are, over their start
 abbrev pub Tell : Lives → (Start → Past → Type 0) → Type 0
-Tell lives Says = (start : Start) (journals : Journals) → AreLivesOf start journals lives → InEveryMerge journals (Says start)
+Tell lives Says =
+    (start : Start) (journals : Journals) → AreLivesOf start journals lives → InEveryMerge journals (Says start)
 
 -- one desk more, on which nothing was before its journal, and whose table has what that says
 abbrev pub Adds : JournalState → Lives → Lives → Type 0

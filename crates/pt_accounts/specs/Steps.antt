@@ -1,5 +1,7 @@
--- What an event does to the table of one desk's processes, and which event may come. No public clause cites this module.
-use Rattle.std.specs.Prelude.{◌≡◌, ℕ, ◌+◌, ◌<◌, ◌^◌, ◌==◌, ◌&&◌, Bool, true, false, cond, length, Option, Some, None, IfSome, ⊤}
+-- What an event does to the table of one desk's processes, and which event may come. No public clause cites this
+-- module.
+use Rattle.std.specs.Prelude.{◌≡◌, ℕ, ◌+◌, ◌<◌, ◌^◌, ◌==◌, ◌&&◌, Bool, true, false, cond, length, Option, Some, None}
+use Rattle.std.specs.Prelude.{IfSome, ⊤}
 use Rattle.std.specs.Option.{option_map}
 use Rattle.pt_signal.specs.declared.pid.Pid.{Pid}
 use Rattle.pt_events.specs.declared.event.Event.{Event}
@@ -60,7 +62,8 @@ changes_parent (Some q) e old new = Changes q (shown e) old new
 -- the table after the event
 abbrev pub Observes : Event → Slots → Slots → Type 0
 Observes (Born p parent link) old new =
-    (mid : Slots) × changes_parent parent (Born p parent link) old mid × Puts p (record { pid = p; phase = newborn parent link unborn; taken = 0 }) mid new
+    (mid : Slots) × changes_parent parent (Born p parent link) old mid
+    × Puts p (record { pid = p; phase = newborn parent link unborn; taken = 0 }) mid new
 Observes (Said a b x) old new = Changes a (shown (Said a b x)) old new
 Observes (Came a b x) old new = Changes b (shown (Came a b x)) old new
 Observes (Took p k i) old new = Changes p (shown (Took p k i)) old new
@@ -77,7 +80,8 @@ may_show_parent slots (Some q) e = MayShow slots q e
 
 -- the event may come: a birth is of the next version of its slot
 abbrev pub MayObserve : Slots → Event → Type 0
-MayObserve slots (Born p parent link) = may_show_parent slots parent (Born p parent link) × (p.version ≡ length (slot_at slots p.slot) + 1)
+MayObserve slots (Born p parent link) =
+    may_show_parent slots parent (Born p parent link) × (p.version ≡ length (slot_at slots p.slot) + 1)
 MayObserve slots (Said a b x) = MayShow slots a (Said a b x)
 MayObserve slots (Came a b x) = MayShow slots b (Came a b x)
 MayObserve slots (Took p k i) = MayShow slots p (Took p k i)

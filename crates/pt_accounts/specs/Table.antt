@@ -1,5 +1,6 @@
 -- The processes of one desk by slot and version, from the first version of each slot on.
-use Rattle.std.specs.Prelude.{◌≡◌, ℕ, zero, suc, ◌==◌, cond, List, [], length, slice_get, slice_index_or, Option, Some, None, false}
+use Rattle.std.specs.Prelude.{◌≡◌, ℕ, zero, suc, ◌==◌, cond, List, [], length, slice_get, slice_index_or, Option, Some}
+use Rattle.std.specs.Prelude.{None, false}
 use Rattle.pt_signal.specs.declared.pid.Pid.{Pid}
 use Rattle.pt_events.specs.History.{Past, Start, unborn, life, is_unborn}
 use Rattle.pt_laws.specs.Taken.{taken}
@@ -26,7 +27,11 @@ found desk slots p = cond (p.shard == desk) (at slots p.slot p.version) None
 -- what the table has for p is what the history says of p
 abbrev pub Tells : Start → Past → Pid → Option LifeState → Type 0
 Tells start past p None = (life start past p ≡ unborn) × (taken past p ≡ [])
-Tells start past p (Some l) = (l ≡ record { pid = p; phase = life start past p; taken = length (taken past p) }) × (is_unborn (life start past p) ≡ false)
+Tells start past p (Some l) = (l ≡ record {
+  pid = p;
+  phase = life start past p;
+  taken = length (taken past p);
+}) × (is_unborn (life start past p) ≡ false)
 
 abbrev pub AreTold : Start → ℕ → Slots → Past → Type 0
 AreTold start desk slots past = (p : Pid) → Tells start past p (found desk slots p)

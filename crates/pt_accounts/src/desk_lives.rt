@@ -4,7 +4,8 @@ ghost use Rattle.std.specs.Prelude.{◌≡◌, [], ◌+◌, ◌<◌, ◌++◌, �
 ghost use Rattle.std.specs.Option.{option_map};
 ghost use Rattle.pt_events.specs.Journal.{events};
 ghost use Rattle.pt_accounts.specs.LifeState.{account_of};
-ghost use Rattle.pt_accounts.specs.DeskLives.{AreCounted, IsDeskJournal, IsTableOf, life_in, linked_in, kept_by, watching_in, pids_in};
+ghost use Rattle.pt_accounts.specs.DeskLives.{AreCounted, IsDeskJournal, IsTableOf, life_in, linked_in, kept_by};
+ghost use Rattle.pt_accounts.specs.DeskLives.{watching_in, pids_in};
 ghost use Rattle.pt_accounts.specs.Table.{slot_at};
 ghost use Rattle.pt_accounts.specs.Steps.{Changes, KeepsLengths, Puts, Observes, MayShow, MayObserve, shown};
 

@@ -45,7 +45,8 @@ impl Model for Life {
 fn meet(process: &mut Process, event: Event) -> Result<Option<Reason>, AllocError>
     requires { MayDo process.old.me process.old.state event }
     ensures me { process.new.me ≡ process.old.me }
-    ensures state { IfOk result (λ ending. live_or_end ending process.new.state ≡ change process.old.me event (living process.old.state)) }
+    ensures state { IfOk result
+        (λ ending. live_or_end ending process.new.state ≡ change process.old.me event (living process.old.state)) }
 {
     match event {
         Event::Born(child, _, Some(link)) => process.add_link(child, link)?,

@@ -102,7 +102,8 @@ impl Lives {
 
     /// Whether it keeps a watch of this reference, or did just after its end.
     pub fn kept(&self, target: Pid, monitor: Ref) -> bool
-        ensures { Tell self.now (λ start past. result ≡ list_any (λ k. same_ref monitor k.0) (state start past target).kept) }
+        ensures { Tell self.now
+            (λ start past. result ≡ list_any (λ k. same_ref monitor k.0) (state start past target).kept) }
     {
         laws::journals_tell_their_pids();
         let desk = usize::from(target.shard);
@@ -115,7 +116,8 @@ impl Lives {
 
     /// Whether its monitor of this reference is open; none is once it has ended.
     pub fn watching(&self, watcher: Pid, monitor: Ref) -> bool
-        ensures { Tell self.now (λ start past. result ≡ is_some (lookup (same_ref monitor) (open_monitors (life start past watcher)))) }
+        ensures { Tell self.now
+            (λ start past. result ≡ is_some (lookup (same_ref monitor) (open_monitors (life start past watcher)))) }
     {
         laws::journals_tell_their_pids();
         let desk = usize::from(watcher.shard);

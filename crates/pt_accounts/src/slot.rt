@@ -53,7 +53,10 @@ impl Slot {
     /// One of that version's own events happens.
     pub fn see(&mut self, version: u32, event: Event) -> Result<(), AllocError>
         requires { IfSome (of_version self.old version) (MaySee event) }
-        ensures versions { OnOk result ((v : ℕ) → of_version self.new v ≡ cond (version == v) (option_map (shown event) (of_version self.old v)) (of_version self.old v)) }
+        ensures versions { OnOk result
+            ((v : ℕ)
+            → of_version self.new v
+            ≡ cond (version == v) (option_map (shown event) (of_version self.old v)) (of_version self.old v)) }
         ensures length { OnOk result (length self.new ≡ length self.old) }
     {
         if version == 0 {

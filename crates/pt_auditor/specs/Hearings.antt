@@ -1,5 +1,6 @@
 -- What was heard of a history, and what may be heard next.
-use Rattle.std.specs.Prelude.{◌≡◌, ℕ, ◌+◌, ◌-◌, ◌^◌, ◌==◌, min, max, nat_lt, Bool, true, false, ◌&&◌, ◌||◌, Option, Some, None, List, [], ◌∷◌, length, slice_get, Result, Ok, Err, ⊤}
+use Rattle.std.specs.Prelude.{◌≡◌, ℕ, ◌+◌, ◌-◌, ◌^◌, ◌==◌, min, max, nat_lt, Bool, true, false, ◌&&◌, ◌||◌, Option}
+use Rattle.std.specs.Prelude.{Some, None, List, [], ◌∷◌, length, slice_get, Result, Ok, Err, ⊤}
 use Rattle.std.specs.List.{find}
 use Rattle.std.specs.Option.{option_map}
 use Rattle.pt_signal.specs.declared.pid.Pid.{Pid}
@@ -12,7 +13,8 @@ use Rattle.pt_judge.specs.Judging.{known_after}
 use Rattle.pt_judge.specs.Judge.{IsCause, IsAfter}
 use Rattle.pt_texts.specs.declared.left_over.LeftOver.{LeftOver}
 use Rattle.pt_auditor.specs.declared.objection.Objection.{Objection}
-use Rattle.pt_auditor.specs.declared.objection.Objection.TheVariants.{Behind, Sinks, MayNot, OtherDesks, OtherLetter, Untold, Memory}
+use Rattle.pt_auditor.specs.declared.objection.Objection.TheVariants.{Behind, Sinks, MayNot, OtherDesks, OtherLetter}
+use Rattle.pt_auditor.specs.declared.objection.Objection.TheVariants.{Untold, Memory}
 use Rattle.pt_auditor.specs.declared.hearing.Hearing.{Hearing}
 use Rattle.pt_auditor.specs.declared.hearing.Verdict.{Verdict}
 use Rattle.pt_auditor.specs.Objecting.{contradiction}
@@ -58,7 +60,8 @@ still flights (l ∷ left) = without_first (is_between l.letter.from l.letter.to
 
 -- the letter is the oldest on its way from its sender to its receiver
 abbrev pub IsOldest : List Sent → LeftOver → Type 0
-IsOldest flights l = find (is_between l.letter.from l.letter.to) flights ≡ Some (sent l.letter.from l.letter.to l.letter.signal)
+IsOldest flights l =
+    find (is_between l.letter.from l.letter.to) flights ≡ Some (sent l.letter.from l.letter.to l.letter.signal)
 
 -- its desks are those of its sender and its receiver
 abbrev pub IsOfItsDesks : LeftOver → Type 0
@@ -118,7 +121,8 @@ IsMisfit t l OtherDesks = ¬ IsOfItsDesks l
 IsMisfit t l (OtherLetter o) =
     IsOfItsDesks l
     × ¬ IsOldest (still (left_flying t.events) t.left) l
-    × (o ≡ option_map (λ f. f.signal) (find (is_between l.letter.from l.letter.to) (still (left_flying t.events) t.left)))
+    × (o
+    ≡ option_map (λ f. f.signal) (find (is_between l.letter.from l.letter.to) (still (left_flying t.events) t.left)))
 IsMisfit t l _ = ⊥
 
 abbrev pub Tells : Heard → LeftOver → Result Hearing Objection → Type 0

@@ -27,7 +27,8 @@ abbrev pub dead : Known → Option Pid → Contradiction
 dead k None = Nothing
 dead k (Some p) = Dead p (reason_of (k.is p))
 
--- a receipt: the oldest signal on its way between the two; a take: the first item that fits; of one who is not alive its end
+-- a receipt: the oldest signal on its way between the two; a take: the first item that fits; of one who is not alive
+-- its end
 abbrev pub contradiction : Known → Event → Cause → Contradiction
 contradiction k (Came a b x) NotFront = Oldest (option_map (λ l. l.signal) (find (is_between a b) k.flights))
 contradiction k (Took p j i) NotFirstMatch = First (find (fits j) (state_of (k.is p)).waiting)

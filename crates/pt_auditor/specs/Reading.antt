@@ -1,5 +1,6 @@
 -- A text read as the lines of a history.
-use Rattle.std.specs.Prelude.{◌≡◌, ℕ, ◌+◌, ◌-◌, ◌≤◌, ◌==◌, ◌^◌, min, max, Bool, true, false, cond, ◌⊎◌, List, [], ◌∷◌, ◌++◌, length, take, slice_index, Result, Ok, Err, ⊤}
+use Rattle.std.specs.Prelude.{◌≡◌, ℕ, ◌+◌, ◌-◌, ◌≤◌, ◌==◌, ◌^◌, min, max, Bool, true, false, cond, ◌⊎◌, List, [], ◌∷◌}
+use Rattle.std.specs.Prelude.{◌++◌, length, take, slice_index, Result, Ok, Err, ⊤}
 use Rattle.pt_events.specs.declared.event.Stamped.{Stamped}
 use Rattle.pt_events.specs.Text.{stamped_text}
 use Rattle.pt_texts.specs.declared.left_over.LeftOver.{LeftOver}
@@ -16,7 +17,8 @@ use Rattle.pt_auditor.specs.declared.objection.Objection.{Objection}
 use Rattle.pt_auditor.specs.declared.audit.Audit.{Audit}
 use Rattle.pt_auditor.specs.declared.hearing.Hearing.{Hearing}
 use Rattle.pt_auditor.specs.declared.hearing.Verdict.{Verdict}
-use Rattle.pt_auditor.specs.Hearings.{Heard, IsStanding, IsHeard, MayHear, IsObjection, IsMisfit, AllTold, IsUntold, with_event, with_letter, verdict_of, capped}
+use Rattle.pt_auditor.specs.Hearings.{Heard, IsStanding, IsHeard, MayHear, IsObjection, IsMisfit, AllTold, IsUntold}
+use Rattle.pt_auditor.specs.Hearings.{with_event, with_letter, verdict_of, capped}
 
 -- the line without the carriage return that it ends with, if it does
 abbrev pub bare : List ℕ → List ℕ
@@ -71,7 +73,8 @@ IsNoLine line = ((s : Stamped) → ¬ IsEventLine line s) × ((l : LeftOver) →
 -- why the line may not be heard next
 abbrev pub IsFault : Heard → List ℕ → Why → Type 0
 IsFault t line (Unread column) =
-    IsNoLine line × (column ≡ max (column_of (finished line (stamped_at line))) (column_of (finished line (left_over_at line))))
+    IsNoLine line
+    × (column ≡ max (column_of (finished line (stamped_at line))) (column_of (finished line (left_over_at line))))
 IsFault t line (Event s o) = IsEventLine line s × IsObjection t s o
 IsFault t line (Letter l o) = IsLetterLine line l × IsMisfit t l o
 IsFault t line _ = ⊥

@@ -62,10 +62,11 @@ impl Audit {
         }
     }
 
-    /// Reads the next bytes, of which any number may be given. The first line at fault is told, as soon as its line feed
-    /// is read, or the byte by which it is too long; the audit goes with it.
+    /// Reads the next bytes, of which any number may be given. The first line at fault is told, as soon as its line
+    /// feed is read, or the byte by which it is too long; the audit goes with it.
     pub fn read(self, alloc: Global, bytes: &[u8]) -> Result<Audit, Fault>
-        ensures { (text : List ℕ) (heard : Heard) → IsRead text heard self.hearing self.line.items self.lines → Reads text bytes.now result }
+        ensures { (text : List ℕ) (heard : Heard) → IsRead text heard self.hearing self.line.items self.lines
+            → Reads text bytes.now result }
     {
         let Audit {
             mut hearing,
@@ -105,7 +106,8 @@ impl Audit {
 
     /// The verdict on the whole text, whose last line needs no line feed.
     pub fn end(self, alloc: Global) -> Result<Verdict, Fault>
-        ensures { (text : List ℕ) (heard : Heard) → IsRead text heard self.hearing self.line.items self.lines → Concludes text result }
+        ensures { (text : List ℕ) (heard : Heard) → IsRead text heard self.hearing self.line.items self.lines
+            → Concludes text result }
     {
         let Audit {
             hearing,

@@ -109,9 +109,10 @@ impl Hearing {
         }
     }
 
-    /// Hears the next event. It is refused where a letter left over was told of before ([`Objection::Behind`]), where it
-    /// does not follow the event before by stamp and desk ([`Objection::Sinks`]), where it may not come
-    /// ([`Objection::MayNot`]), and where memory is wanting; the first of these is told. The hearing goes with a refusal.
+    /// Hears the next event. It is refused where a letter left over was told of before ([`Objection::Behind`]), where
+    /// it does not follow the event before by stamp and desk ([`Objection::Sinks`]), where it may not come
+    /// ([`Objection::MayNot`]), and where memory is wanting; the first of these is told. The hearing goes with a
+    /// refusal.
     pub fn hear(self, alloc: Global, stamped: Stamped) -> Result<Hearing, Objection>
         ensures { (heard : Heard) → IsHeard heard self → Hears heard stamped result }
     {

@@ -44,11 +44,15 @@ in_ends number cursor lanes = record {
 
 -- the lanes go out from one desk, in order of desk
 abbrev pub GoOutFrom : ℕ → List Sending → Type 0
-GoOutFrom number lanes = (k : ℕ) (d : Sending) → k < length lanes → ((slice_index_or lanes k d).from ≡ number) × ((slice_index_or lanes k d).to ≡ k)
+GoOutFrom number lanes =
+    (k : ℕ) (d : Sending) → k < length lanes
+    → ((slice_index_or lanes k d).from ≡ number) × ((slice_index_or lanes k d).to ≡ k)
 
 -- the lanes come in to one desk, in order of desk
 abbrev pub ComeInTo : ℕ → List Receiving → Type 0
-ComeInTo number lanes = (k : ℕ) (d : Receiving) → k < length lanes → ((slice_index_or lanes k d).from ≡ k) × ((slice_index_or lanes k d).to ≡ number)
+ComeInTo number lanes =
+    (k : ℕ) (d : Receiving) → k < length lanes
+    → ((slice_index_or lanes k d).from ≡ k) × ((slice_index_or lanes k d).to ≡ number)
 
 -- the list for desk k gets one more letter at its end
 abbrev pub one_more : List (List Letter) → ℕ → Letter → List (List Letter)
@@ -75,11 +79,14 @@ pub record Collects (old new : InEnds) (k : ℕ) (letter : Letter) : Type 0 wher
 
 -- desk k's lane shows a letter, behind those that were known to wait there
 abbrev pub Shows : InEnds → InEnds → ℕ → Type 0
-Shows old new k = (k < length old.place.rings) × (0 < length (slice_index_or new.known k [])) × IsPrefix (slice_index_or old.known k []) (slice_index_or new.known k [])
+Shows old new k =
+    (k < length old.place.rings) × (0 < length (slice_index_or new.known k []))
+    × IsPrefix (slice_index_or old.known k []) (slice_index_or new.known k [])
 
 -- no letter shows in the lanes from desk `low` up to below desk `high`: none was known before, and none is now
 abbrev pub ShowNone : InEnds → InEnds → ℕ → ℕ → Type 0
-ShowNone old new low high = (k : ℕ) → low ≤ k → k < high → (slice_index_or old.known k [] ≡ []) × (slice_index_or new.known k [] ≡ [])
+ShowNone old new low high =
+    (k : ℕ) → low ≤ k → k < high → (slice_index_or old.known k [] ≡ []) × (slice_index_or new.known k [] ≡ [])
 
 -- from the cursor upwards and round, no lane before that of desk k shows a letter
 pub record IsFirstFromCursor (old new : InEnds) (k : ℕ) : Type 0 where

@@ -46,7 +46,14 @@ on_lane from to l = record l {
 
 -- the ends of a new lane
 abbrev pub new_sending : Ring → ℕ → ℕ → ℕ → Sending
-new_sending ring from to capacity = record { ring = ring; from = from; to = to; posted = []; capacity = capacity; seen = 0 }
+new_sending ring from to capacity = record {
+  ring = ring;
+  from = from;
+  to = to;
+  posted = [];
+  capacity = capacity;
+  seen = 0;
+}
 
 abbrev pub new_receiving : Ring → ℕ → ℕ → Receiving
 new_receiving ring from to = record { ring = ring; from = from; to = to; collected = []; known = [] }

@@ -19,7 +19,9 @@ pub record Meets (o : OutEnds) (i : InEnds) : Type 0 where
 
 -- all that was posted in that lane was collected or is known to wait
 abbrev pub IsWhole : OutEnds → InEnds → Type 0
-IsWhole o i = slice_index_or o.posted i.place.number [] ≡ slice_index_or i.collected o.place.number [] ++ slice_index_or i.known o.place.number []
+IsWhole o i =
+    slice_index_or o.posted i.place.number []
+    ≡ slice_index_or i.collected o.place.number [] ++ slice_index_or i.known o.place.number []
 
 -- each end knows all of the lane between them, which has a place at least; no other lane was looked at
 pub record HaveMet (o : OutEnds) (i : InEnds) (o' : OutEnds) (i' : InEnds) : Type 0 where

@@ -10,9 +10,13 @@ places p = (p.0.place, p.1.place)
 
 -- the places of the desks of one node, each once and in order: what goes out on a ring comes in on it
 pub record IsNode (desks : List (Place × Place)) : Type 0 where
-  pub numbers : (d : ℕ) (x : Place × Place) → d < length desks → ((slice_index_or desks d x).0.number ≡ d) × ((slice_index_or desks d x).1.number ≡ d)
-  pub lanes : (d : ℕ) (x : Place × Place) → d < length desks → (length (slice_index_or desks d x).0.rings ≡ length desks) × (length (slice_index_or desks d x).1.rings ≡ length desks)
-  pub paired : (d e : ℕ) (x : Place × Place) (r : Ring) → d < length desks → e < length desks → slice_index_or (slice_index_or desks d x).0.rings e r ≡ slice_index_or (slice_index_or desks e x).1.rings d r
+  pub numbers : (d : ℕ) (x : Place × Place) → d < length desks
+      → ((slice_index_or desks d x).0.number ≡ d) × ((slice_index_or desks d x).1.number ≡ d)
+  pub lanes : (d : ℕ) (x : Place × Place) → d < length desks
+      → (length (slice_index_or desks d x).0.rings ≡ length desks)
+      × (length (slice_index_or desks d x).1.rings ≡ length desks)
+  pub paired : (d e : ℕ) (x : Place × Place) (r : Ring) → d < length desks → e < length desks
+      → slice_index_or (slice_index_or desks d x).0.rings e r ≡ slice_index_or (slice_index_or desks e x).1.rings d r
 
 -- nothing was posted to any desk, and nothing collected or known of any
 pub record IsNew (desks capacity : ℕ) (p : OutEnds × InEnds) : Type 0 where
@@ -38,7 +42,8 @@ entry m i j = slice_index_or (slice_index_or m i []) j []
 -- what was posted from each desk d to each desk e is what was collected, then the list at d * desks + e
 pub record AreLeft (pairs : List (OutEnds × InEnds)) (left : List (List Letter)) : Type 0 where
   pub count : length left ≡ length pairs * length pairs
-  pub lanes : (d e : ℕ) → d < length pairs → e < length pairs → entry (all_posted pairs) d e ≡ entry (all_collected pairs) e d ++ slice_index_or left (d * length pairs + e) []
+  pub lanes : (d e : ℕ) → d < length pairs → e < length pairs
+      → entry (all_posted pairs) d e ≡ entry (all_collected pairs) e d ++ slice_index_or left (d * length pairs + e) []
 
 -- all of a desk's ends but what they know of the other end of each lane
 abbrev pub kept : OutEnds × InEnds → (Place × List (List Letter) × List ℕ) × (Place × ℕ × List (List Letter))

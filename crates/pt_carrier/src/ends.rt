@@ -1,9 +1,11 @@
 //! The ends of one desk.
 
-ghost use Rattle.std.specs.Prelude.{◌≡◌, ◌≢◌, ℕ, ◌⊎◌, ◌+◌, ◌*◌, ◌-◌, ◌%◌, ◌^◌, ◌<◌, ◌≤◌, min, length, [], IsOk, OnOk, IfErr, IfSome, IfNone, slice_index_or};
+ghost use Rattle.std.specs.Prelude.{◌≡◌, ◌≢◌, ℕ, ◌⊎◌, ◌+◌, ◌*◌, ◌-◌, ◌%◌, ◌^◌, ◌<◌, ◌≤◌, min, length, [], IsOk, OnOk};
+ghost use Rattle.std.specs.Prelude.{IfErr, IfSome, IfNone, slice_index_or};
 ghost use Rattle.pt_signal.specs.declared.letter.Letter.{Letter};
 ghost use Rattle.pt_carrier.specs.declared.ends.TheConstants.{MAX_DESKS};
-ghost use Rattle.pt_carrier.specs.Ends.{OutEnds, InEnds, out_ends, in_ends, GoOutFrom, ComeInTo, one_more, IsFull, LooksAt, Collects, Shows, ShowNone, IsFirstFromCursor, IsFront};
+ghost use Rattle.pt_carrier.specs.Ends.{OutEnds, InEnds, out_ends, in_ends, GoOutFrom, ComeInTo, one_more, IsFull};
+ghost use Rattle.pt_carrier.specs.Ends.{LooksAt, Collects, Shows, ShowNone, IsFirstFromCursor, IsFront};
 ghost use Rattle.pt_carrier.specs.Node.{lists};
 ghost use Rattle.pt_carrier.specs.Meeting.{HaveMet, Meets};
 ghost use Rattle.pt_carrier.specs.Reunion.{HasRoom, room_at};
@@ -29,7 +31,8 @@ impl Model for Outs {
 
     ghost view = { λ o. out_ends o.number o.lanes.items };
 
-    ghost invariant = { λ o. (o.number < length o.lanes.items) × (length o.lanes.items ≤ MAX_DESKS) × GoOutFrom o.number o.lanes.items };
+    ghost invariant = { λ o. (o.number < length o.lanes.items) × (length o.lanes.items ≤ MAX_DESKS)
+        × GoOutFrom o.number o.lanes.items };
 }
 
 /// The ends of a desk's lanes by which it collects, one from each desk.
@@ -46,7 +49,8 @@ impl Model for Ins {
 
     ghost view = { λ i. in_ends i.number i.cursor i.lanes.items };
 
-    ghost invariant = { λ i. (i.number < length i.lanes.items) × (length i.lanes.items ≤ MAX_DESKS) × (i.cursor < length i.lanes.items) × ComeInTo i.number i.lanes.items };
+    ghost invariant = { λ i. (i.number < length i.lanes.items) × (length i.lanes.items ≤ MAX_DESKS)
+        × (i.cursor < length i.lanes.items) × ComeInTo i.number i.lanes.items };
 }
 
 /// Why a letter is refused.
@@ -100,8 +104,10 @@ impl Outs {
         ensures place { self.new.place ≡ self.old.place }
         ensures ok { OnOk result (self.new.posted ≡ one_more self.old.posted to letter) }
         ensures cause { IfErr result (λ e. e.cause ≡ PostCause.Full) }
-        ensures full { IfErr result (λ e. (e.letter ≡ letter) × (self.new.posted ≡ self.old.posted) × IsFull self.new to) }
-        ensures room { length (slice_index_or self.old.posted to []) < slice_index_or self.old.capacity to 0 + slice_index_or self.old.seen to 0 → IsOk result }
+        ensures full { IfErr result
+            (λ e. (e.letter ≡ letter) × (self.new.posted ≡ self.old.posted) × IsFull self.new to) }
+        ensures room { length (slice_index_or self.old.posted to [])
+            < slice_index_or self.old.capacity to 0 + slice_index_or self.old.seen to 0 → IsOk result }
         ensures capacity { self.new.capacity ≡ self.old.capacity }
         ensures looks { LooksAt self.old self.new to }
     {
@@ -160,7 +166,9 @@ impl Ins {
         ensures place { self.new.place ≡ self.old.place }
         ensures some { IfSome result (λ r. Collects self.old self.new r.0 r.1) }
         ensures first { IfSome result (λ r. IsFirstFromCursor self.old self.new r.0) }
-        ensures none { IfNone result ((self.new.collected ≡ self.old.collected) × (self.new.cursor ≡ self.old.cursor) × ShowNone self.old self.new 0 (length self.old.place.rings)) }
+        ensures none { IfNone result
+            ((self.new.collected ≡ self.old.collected) × (self.new.cursor ≡ self.old.cursor)
+            × ShowNone self.old self.new 0 (length self.old.place.rings)) }
     {
         let Some(d) = self.next_from() else {
             return None;
@@ -176,7 +184,8 @@ impl Ins {
     /// lane.
     #[inline(always)]
     pub fn next_from(&mut self) -> Option<u8>
-        ensures same { (self.new.place ≡ self.old.place) × (self.new.cursor ≡ self.old.cursor) × (self.new.collected ≡ self.old.collected) }
+        ensures same { (self.new.place ≡ self.old.place) × (self.new.cursor ≡ self.old.cursor)
+            × (self.new.collected ≡ self.old.collected) }
         ensures some { IfSome result (λ d. Shows self.old self.new d × IsFirstFromCursor self.old self.new d) }
         ensures none { IfNone result (ShowNone self.old self.new 0 (length self.old.place.rings)) }
     {
@@ -192,10 +201,13 @@ impl Ins {
     #[inline(always)]
     fn first_among(&mut self, low: usize, high: usize) -> Option<u8>
         requires { (low ≤ high) × (high ≤ length self.old.place.rings) }
-        ensures same { (self.new.place ≡ self.old.place) × (self.new.cursor ≡ self.old.cursor) × (self.new.collected ≡ self.old.collected) }
-        ensures some { IfSome result (λ d. (low ≤ d) × (d < high) × Shows self.old self.new d × ShowNone self.old self.new low d) }
+        ensures same { (self.new.place ≡ self.old.place) × (self.new.cursor ≡ self.old.cursor)
+            × (self.new.collected ≡ self.old.collected) }
+        ensures some { IfSome result
+            (λ d. (low ≤ d) × (d < high) × Shows self.old self.new d × ShowNone self.old self.new low d) }
         ensures none { IfNone result (ShowNone self.old self.new low high) }
-        ensures others { (k : ℕ) → (k < low) ⊎ (high ≤ k) → slice_index_or self.new.known k [] ≡ slice_index_or self.old.known k [] }
+        ensures others { (k : ℕ) → (k < low) ⊎ (high ≤ k)
+            → slice_index_or self.new.known k [] ≡ slice_index_or self.old.known k [] }
     {
         for d in low..high {
             if self.lanes[d].shows() {
@@ -292,9 +304,13 @@ impl Ins {
     /// Gives up the ends, and moves the letters that are known to wait to the lists of their lanes.
     pub(crate) fn empty_into(self, left: &mut [Vec<Letter>])
         requires here { self.place.number < length self.place.rings }
-        requires room { (d : ℕ) → d < length self.place.rings → HasRoom (slice_index_or self.known d []) left.old (d * length self.place.rings + self.place.number) }
-        ensures known { (d : ℕ) → d < length self.place.rings → slice_index_or (lists left.new) (d * length self.place.rings + self.place.number) [] ≡ slice_index_or self.known d [] }
-        ensures others { (d e : ℕ) → e < length self.place.rings → e ≢ self.place.number → room_at left.new (d * length self.place.rings + e) ≡ room_at left.old (d * length self.place.rings + e) }
+        requires room { (d : ℕ) → d < length self.place.rings
+            → HasRoom (slice_index_or self.known d []) left.old (d * length self.place.rings + self.place.number) }
+        ensures known { (d : ℕ) → d < length self.place.rings
+            → slice_index_or (lists left.new) (d * length self.place.rings + self.place.number) []
+            ≡ slice_index_or self.known d [] }
+        ensures others { (d e : ℕ) → e < length self.place.rings → e ≢ self.place.number
+            → room_at left.new (d * length self.place.rings + e) ≡ room_at left.old (d * length self.place.rings + e) }
     {
         let Ins {
             number,

@@ -1,12 +1,14 @@
 //! One lane: a ring with an end that sends and an end that receives.
 
-ghost use Rattle.std.specs.Prelude.{◌≡◌, ◌↔◌, ◌+◌, ◌-◌, ◌^◌, ◌<◌, ◌≤◌, min, vec_len, length, map, [], ◌∷◌, ◌++◌, IsTrue, IfOk, IfSome};
+ghost use Rattle.std.specs.Prelude.{◌≡◌, ◌↔◌, ◌+◌, ◌-◌, ◌^◌, ◌<◌, ◌≤◌, min, vec_len, length, map, [], ◌∷◌, ◌++◌};
+ghost use Rattle.std.specs.Prelude.{IsTrue, IfOk, IfSome};
 ghost use Rattle.std.specs.Bool.{OnTrue, OnFalse};
 ghost use mathlib.Core.List.{IsPrefix};
 ghost use Rattle.std.specs.Vec.{vec_capacity};
 ghost use Rattle.rtrb.specs.Ring.{sent, known_free, producer_capacity, received, known_items};
 ghost use Rattle.pt_signal.specs.declared.letter.Letter.{Letter};
-ghost use Rattle.pt_carrier.specs.Lanes.{Sending, Receiving, sending_ring, receiving_ring, on_lane, new_sending, new_receiving};
+ghost use Rattle.pt_carrier.specs.Lanes.{Sending, Receiving, sending_ring, receiving_ring, on_lane, new_sending};
+ghost use Rattle.pt_carrier.specs.Lanes.{new_receiving};
 
 use pt_signal::Letter;
 use rtrb::{Consumer, Producer, RingBuffer};
@@ -25,9 +27,17 @@ pub(crate) struct OutLane {
 impl Model for OutLane {
     ghost Value = { Sending };
 
-    ghost view = { λ a. record { ring = sending_ring a.ring; from = a.from; to = a.to; posted = map (on_lane a.from a.to) (sent a.ring); capacity = producer_capacity a.ring; seen = (length (sent a.ring) + known_free a.ring) - producer_capacity a.ring } };
+    ghost view = { λ a. record {
+      ring = sending_ring a.ring;
+      from = a.from;
+      to = a.to;
+      posted = map (on_lane a.from a.to) (sent a.ring);
+      capacity = producer_capacity a.ring;
+      seen = (length (sent a.ring) + known_free a.ring) - producer_capacity a.ring;
+    } };
 
-    ghost invariant = { λ a. (a.count ≡ min (length (sent a.ring)) (2 ^ 64 - 1)) × (producer_capacity a.ring ≤ length (sent a.ring) + known_free a.ring) × (0 < producer_capacity a.ring) };
+    ghost invariant = { λ a. (a.count ≡ min (length (sent a.ring)) (2 ^ 64 - 1))
+        × (producer_capacity a.ring ≤ length (sent a.ring) + known_free a.ring) × (0 < producer_capacity a.ring) };
 }
 
 /// The end that receives.
@@ -42,7 +52,13 @@ pub(crate) struct InLane {
 impl Model for InLane {
     ghost Value = { Receiving };
 
-    ghost view = { λ a. record { ring = receiving_ring a.ring; from = a.from; to = a.to; collected = map (on_lane a.from a.to) (received a.ring); known = map (on_lane a.from a.to) (known_items a.ring) } };
+    ghost view = { λ a. record {
+      ring = receiving_ring a.ring;
+      from = a.from;
+      to = a.to;
+      collected = map (on_lane a.from a.to) (received a.ring);
+      known = map (on_lane a.from a.to) (known_items a.ring);
+    } };
 
     ghost invariant = { λ a. a.count ≡ min (length (received a.ring)) (2 ^ 64 - 1) };
 }
@@ -54,7 +70,8 @@ impl OutLane {
         requires { (letter.from.shard ≡ self.old.from) × (letter.to.shard ≡ self.old.to) }
         ensures same { (self.new.ring ≡ self.old.ring) × (self.new.from ≡ self.old.from) × (self.new.to ≡ self.old.to) }
         ensures posted { OnTrue result (self.new.posted ≡ self.old.posted ++ letter ∷ []) }
-        ensures full { OnFalse result ((self.new.posted ≡ self.old.posted) × (length self.old.posted ≡ self.new.capacity + self.new.seen)) }
+        ensures full { OnFalse result
+            ((self.new.posted ≡ self.old.posted) × (length self.old.posted ≡ self.new.capacity + self.new.seen)) }
         ensures knows { (self.new.capacity ≡ self.old.capacity) × (self.old.seen ≤ self.new.seen) }
         ensures room { length self.old.posted < self.old.capacity + self.old.seen → IsTrue result }
     {
@@ -78,7 +95,8 @@ impl InLane {
     /// Whether a letter shows. What is known already is asked first, which leaves the other end's memory alone.
     #[inline(always)]
     pub(crate) fn shows(&mut self) -> bool
-        ensures same { (self.new.ring ≡ self.old.ring) × (self.new.from ≡ self.old.from) × (self.new.to ≡ self.old.to) × (self.new.collected ≡ self.old.collected) }
+        ensures same { (self.new.ring ≡ self.old.ring) × (self.new.from ≡ self.old.from) × (self.new.to ≡ self.old.to)
+            × (self.new.collected ≡ self.old.collected) }
         ensures looked { IsPrefix self.old.known self.new.known }
         ensures value { IsTrue result ↔ (0 < length self.new.known) }
     {
@@ -96,8 +114,11 @@ impl InLane {
     /// known, and the end that sends knows all that was collected.
     pub(crate) fn meet(&mut self, other: &mut OutLane)
         requires { (other.old.ring ≡ self.old.ring) × (other.old.from ≡ self.old.from) × (other.old.to ≡ self.old.to) }
-        ensures same { (self.new.ring ≡ self.old.ring) × (self.new.from ≡ self.old.from) × (self.new.to ≡ self.old.to) × (self.new.collected ≡ self.old.collected) }
-        ensures other { (other.new.ring ≡ other.old.ring) × (other.new.from ≡ other.old.from) × (other.new.to ≡ other.old.to) × (other.new.posted ≡ other.old.posted) × (other.new.capacity ≡ other.old.capacity) }
+        ensures same { (self.new.ring ≡ self.old.ring) × (self.new.from ≡ self.old.from) × (self.new.to ≡ self.old.to)
+            × (self.new.collected ≡ self.old.collected) }
+        ensures other { (other.new.ring ≡ other.old.ring) × (other.new.from ≡ other.old.from)
+            × (other.new.to ≡ other.old.to) × (other.new.posted ≡ other.old.posted)
+            × (other.new.capacity ≡ other.old.capacity) }
         ensures whole { other.new.posted ≡ self.new.collected ++ self.new.known }
         ensures seen { length self.new.collected ≤ other.new.seen }
         ensures places { 0 < other.new.capacity }
@@ -117,7 +138,9 @@ impl InLane {
     #[inline(always)]
     pub(crate) fn front(&self) -> Option<&Letter>
         requires { 0 < length self.now.known }
-        ensures { IfSome result (λ letter. IsPrefix (letter.now ∷ []) self.now.known × (letter.now.from.shard ≡ self.now.from) × (letter.now.to.shard ≡ self.now.to)) }
+        ensures { IfSome result
+            (λ letter. IsPrefix (letter.now ∷ []) self.now.known × (letter.now.from.shard ≡ self.now.from)
+            × (letter.now.to.shard ≡ self.now.to)) }
     {
         let front = self.ring.peek_known();
         if front.from.shard != self.from || front.to.shard != self.to {
@@ -131,7 +154,8 @@ impl InLane {
     #[inline(never)]
     pub(crate) fn front_addressed(&self) -> Letter
         requires { 0 < length self.now.known }
-        ensures { IsPrefix (result ∷ []) self.now.known × (result.from.shard ≡ self.now.from) × (result.to.shard ≡ self.now.to) }
+        ensures { IsPrefix (result ∷ []) self.now.known × (result.from.shard ≡ self.now.from)
+            × (result.to.shard ≡ self.now.to) }
     {
         let mut letter = *self.ring.peek_known();
         letter.from.shard = self.from;
@@ -144,7 +168,9 @@ impl InLane {
     pub(crate) fn pass(&mut self)
         requires { 0 < length self.old.known }
         ensures same { (self.new.ring ≡ self.old.ring) × (self.new.from ≡ self.old.from) × (self.new.to ≡ self.old.to) }
-        ensures passed { (letter : Letter) × (self.old.known ≡ letter ∷ self.new.known) × (self.new.collected ≡ self.old.collected ++ letter ∷ []) × (letter.from.shard ≡ self.old.from) × (letter.to.shard ≡ self.old.to) }
+        ensures passed { (letter : Letter) × (self.old.known ≡ letter ∷ self.new.known)
+            × (self.new.collected ≡ self.old.collected ++ letter ∷ []) × (letter.from.shard ≡ self.old.from)
+            × (letter.to.shard ≡ self.old.to) }
     {
         let _ = self.ring.pop_known();
         self.count = self.count.saturating_add(1);

@@ -22,7 +22,8 @@ pub fn open(alloc: Global, desks: u8, capacity: u32) -> Result<Vec<(Outs, Ins)>,
     requires capacity { (1 ≤ capacity) × (capacity ≤ MAX_CAPACITY) }
     ensures count { IfOk result (λ v. vec_len v ≡ desks) }
     ensures node { IfOk result (λ v. IsNode (map places v.items)) }
-    ensures new { IfOk result (λ v. (d : ℕ) (p : OutEnds × InEnds) → d < desks → IsNew desks capacity (slice_index_or v.items d p)) }
+    ensures new { IfOk result
+        (λ v. (d : ℕ) (p : OutEnds × InEnds) → d < desks → IsNew desks capacity (slice_index_or v.items d p)) }
 {
     let (rows, columns) = all_lanes(alloc, desks, capacity)?;
     pair_up(alloc, desks, capacity, rows, columns)
@@ -67,8 +68,13 @@ fn lanes_from(
     requires columns { vec_len columns.old ≡ desks }
     requires capacity { 1 ≤ capacity }
     ensures desks { IfOk result (λ row. (vec_len row ≡ desks) × (vec_len columns.new ≡ desks)) }
-    ensures row { IfOk result (λ row. (e : ℕ) (x : Sending) → e < desks → slice_index_or row.items e x ≡ new_sending (slice_index_or row.items e x).ring d e capacity) }
-    ensures columns { IfOk result (λ row. (e : ℕ) (x : Sending) → e < desks → slice_index_or (lists columns.new.items) e [] ≡ slice_index_or (lists columns.old.items) e [] ++ new_receiving (slice_index_or row.items e x).ring d e ∷ []) }
+    ensures row { IfOk result
+        (λ row. (e : ℕ) (x : Sending) → e < desks
+        → slice_index_or row.items e x ≡ new_sending (slice_index_or row.items e x).ring d e capacity) }
+    ensures columns { IfOk result
+        (λ row. (e : ℕ) (x : Sending) → e < desks
+        → slice_index_or (lists columns.new.items) e []
+        ≡ slice_index_or (lists columns.old.items) e [] ++ new_receiving (slice_index_or row.items e x).ring d e ∷ []) }
 {
     let mut row = Vec::with_capacity(alloc, usize::from(desks))?;
     for e in 0..desks {
@@ -91,7 +97,8 @@ fn pair_up(
     requires lanes { AreLanes desks desks capacity (lists rows.items) (lists columns.items) }
     ensures count { IfOk result (λ v. vec_len v ≡ desks) }
     ensures node { IfOk result (λ v. IsNode (map places v.items)) }
-    ensures new { IfOk result (λ v. (d : ℕ) (p : OutEnds × InEnds) → d < desks → IsNew desks capacity (slice_index_or v.items d p)) }
+    ensures new { IfOk result
+        (λ v. (d : ℕ) (p : OutEnds × InEnds) → d < desks → IsNew desks capacity (slice_index_or v.items d p)) }
 {
     let mut rows = rows;
     let mut columns = columns;

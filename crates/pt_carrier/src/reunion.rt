@@ -134,7 +134,9 @@ fn meet_at(pairs: &mut [(Outs, Ins)], d: usize, e: usize)
 fn make_room(alloc: Global, pairs: &[(Outs, Ins)]) -> Result<Vec<Vec<Letter>>, AllocError>
     requires { IsNode (map places pairs.now) }
     ensures count { IfOk result (λ v. vec_len v ≡ length pairs.now * length pairs.now) }
-    ensures room { IfOk result (λ v. (d e : ℕ) → d < length pairs.now → e < length pairs.now → HasRoom (entry (all_known pairs.now) e d) v.items (d * length pairs.now + e)) }
+    ensures room { IfOk result
+        (λ v. (d e : ℕ) → d < length pairs.now → e < length pairs.now
+        → HasRoom (entry (all_known pairs.now) e d) v.items (d * length pairs.now + e)) }
 {
     let mut lanes = Vec::new(alloc);
     for d in 0..pairs.len() {
@@ -148,8 +150,10 @@ fn make_room(alloc: Global, pairs: &[(Outs, Ins)]) -> Result<Vec<Vec<Letter>>, A
 /// Gives up the ends, and moves the letters that are known to wait to the lists of their lanes.
 fn empty_all(pairs: Vec<(Outs, Ins)>, left: &mut [Vec<Letter>])
     requires node { IsNode (map places pairs.items) }
-    requires room { (d e : ℕ) → d < vec_len pairs → e < vec_len pairs → HasRoom (entry (all_known pairs.items) e d) left.old (d * vec_len pairs + e) }
-    ensures { (d e : ℕ) → d < vec_len pairs → e < vec_len pairs → slice_index_or (lists left.new) (d * vec_len pairs + e) [] ≡ entry (all_known pairs.items) e d }
+    requires room { (d e : ℕ) → d < vec_len pairs → e < vec_len pairs
+        → HasRoom (entry (all_known pairs.items) e d) left.old (d * vec_len pairs + e) }
+    ensures { (d e : ℕ) → d < vec_len pairs → e < vec_len pairs
+        → slice_index_or (lists left.new) (d * vec_len pairs + e) [] ≡ entry (all_known pairs.items) e d }
 {
     let mut pairs = pairs;
     while let Some((outs, ins)) = pairs.pop() {

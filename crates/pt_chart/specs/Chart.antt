@@ -1,5 +1,6 @@
 -- What a chart of a history shows. A history stands here oldest first; rows and columns are numbered from 0.
-use Rattle.std.specs.Prelude.{◌≡◌, ℕ, ◌+◌, Bool, false, cond, ◌&&◌, List, [], ◌∷◌, ◌++◌, length, map, fold, position, unwrap_or, count_by, slice_get, reverse, Option, Some, None, All, ⊤}
+use Rattle.std.specs.Prelude.{◌≡◌, ℕ, ◌+◌, Bool, false, cond, ◌&&◌, List, [], ◌∷◌, ◌++◌, length, map, fold, position}
+use Rattle.std.specs.Prelude.{unwrap_or, count_by, slice_get, reverse, Option, Some, None, All, ⊤}
 use Rattle.std.specs.List.{list_any}
 use Rattle.pt_signal.specs.declared.pid.Pid.{Pid}
 use Rattle.pt_signal.specs.declared.reason.Reason.{Reason}
@@ -85,7 +86,8 @@ is_receipt a b _ = false
 -- the rows in which a letter came to b from a, in order, where the first event is in this row
 abbrev pub receipts_from : ℕ → Pid → Pid → List Stamped → List ℕ
 receipts_from row a b [] = []
-receipts_from row a b (s ∷ events) = cond (is_receipt a b s.event) (row ∷ receipts_from (row + 1) a b events) (receipts_from (row + 1) a b events)
+receipts_from row a b (s ∷ events) =
+    cond (is_receipt a b s.event) (row ∷ receipts_from (row + 1) a b events) (receipts_from (row + 1) a b events)
 
 abbrev pub receipts : Pid → Pid → List Stamped → List ℕ
 receipts a b events = receipts_from 0 a b events

@@ -1,5 +1,6 @@
 -- Of what a chart is drawn, in order: the parts that stand behind come first.
-use Rattle.std.specs.Prelude.{◌≡◌, ℕ, max, fold, cond, Bool, List, [], ◌∷◌, ◌++◌, length, map, position, unwrap_or, is_some, codes, Option, Some, None, All}
+use Rattle.std.specs.Prelude.{◌≡◌, ℕ, max, fold, cond, Bool, List, [], ◌∷◌, ◌++◌, length, map, position, unwrap_or}
+use Rattle.std.specs.Prelude.{is_some, codes, Option, Some, None, All}
 use Rattle.std.specs.List.{flat_map, enumerate_from}
 use Rattle.std.specs.Option.{option_map}
 use Rattle.pt_signal.specs.declared.pid.Pid.{Pid}
@@ -49,7 +50,8 @@ place_in cs p = unwrap_or (position (λ c. same_pid p c.pid) cs) (length cs)
 
 -- the box of a birth, and the stroke from the parent
 abbrev pub birth_mark : List Column → ℕ → Pid → Option Pid → Bool → List Part
-birth_mark cs row p parent linked = bearing row (option_map (place_in cs) parent) (place_in cs p) linked ++ part.Mark row (Birth (place_in cs p) p) ∷ []
+birth_mark cs row p parent linked =
+    bearing row (option_map (place_in cs) parent) (place_in cs p) linked ++ part.Mark row (Birth (place_in cs p) p) ∷ []
 
 -- the mark of an event in its row, where these are the columns
 abbrev pub event_mark : List Column → ℕ → Event → List Part
@@ -75,7 +77,8 @@ end k c = end_mark k c.ended
 -- each event's line, each process, each letter, each event's mark and each end: each once, and nothing else
 abbrev pub drawn : List Stamped → Layout → List Part
 drawn events l =
-    numbered line events ++ numbered column l.columns.items ++ numbered letters l.columns.items ++ numbered (mark l.columns.items) events ++ numbered end l.columns.items
+    numbered line events ++ numbered column l.columns.items ++ numbered letters l.columns.items
+    ++ numbered (mark l.columns.items) events ++ numbered end l.columns.items
 
 -- how many characters the longest line has
 abbrev pub longest_line : List Stamped → ℕ
@@ -93,7 +96,12 @@ longest_beside events = fold (λ n s. max (length (label_beside s.event)) n) (le
 
 -- as many columns and rows as the layout has, and room for the longest line and label
 abbrev pub page_of : List Stamped → Layout → Page
-page_of events l = record { longest = longest_line events; beside = longest_beside events; columns = length l.columns.items; rows = length events }
+page_of events l = record {
+  longest = longest_line events;
+  beside = longest_beside events;
+  columns = length l.columns.items;
+  rows = length events;
+}
 
 -- the head, the parts one after the other, and the end
 abbrev pub drawing_text : Page → List Part → List ℕ

@@ -42,10 +42,12 @@ abbrev pub changes : (ProcessState → ProcessState) → Followed → Followed
 changes step w = record w { state = option_map step w.state }
 
 abbrev pub seen : Event → Followed → Followed
-seen (Born q parent link) w = cond (same_pid w.me q) (begins parent link w) (cond (is_the w.me parent) (changes (linked (Some q) link) w) w)
+seen (Born q parent link) w =
+    cond (same_pid w.me q) (begins parent link w) (cond (is_the w.me parent) (changes (linked (Some q) link) w) w)
 seen (Said a b x) w = cond (same_pid w.me a) (changes (λ s. say s b x) w) w
 seen (Came a b x) w = cond (same_pid w.me b) (record w { state = gets w.me a x w.state }) w
-seen (Took q k i) w = cond (same_pid w.me q) (changes (λ s. record s { waiting = without_first (fits k) s.waiting }) w) w
+seen (Took q k i) w =
+    cond (same_pid w.me q) (changes (λ s. record s { waiting = without_first (fits k) s.waiting }) w) w
 seen (Flag q on) w = cond (same_pid w.me q) (changes (λ s. record s { traps = on }) w) w
 seen (Left q r) w = cond (same_pid w.me q) (record w { state = None }) w
 seen (Refused a b) w = w

@@ -19,4 +19,5 @@ spot p k row = point (x_of p k) (y_of row)
 
 -- the points between which an arrow is bent: straight to another column, and by the right back to its own
 abbrev pub bend : Point → Point → Point × Point
-bend from to = if from.x == to.x then (point (capped (from.x + 44)) from.y, point (capped (from.x + 44)) to.y) else (from, to)
+bend from to =
+    if from.x == to.x then (point (capped (from.x + 44)) from.y, point (capped (from.x + 44)) to.y) else (from, to)

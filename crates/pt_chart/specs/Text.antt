@@ -1,5 +1,6 @@
 -- The text of each part of a drawing, as SVG. Numbers are pixels.
-use Rattle.std.specs.Prelude.{ℕ, ◌+◌, ◌==◌, nat_lt, if◌then◌else◌, Bool, true, false, List, [], ◌∷◌, ◌++◌, codes, decimal, Option, Some, None}
+use Rattle.std.specs.Prelude.{ℕ, ◌+◌, ◌==◌, nat_lt, if◌then◌else◌, Bool, true, false, List, [], ◌∷◌, ◌++◌, codes}
+use Rattle.std.specs.Prelude.{decimal, Option, Some, None}
 use Rattle.std.specs.List.{flat_map}
 use Rattle.pt_signal.specs.declared.pid.Pid.{Pid}
 use Rattle.pt_signal.specs.declared.reason.Reason.{Reason}
@@ -43,7 +44,9 @@ stroke_text stroke.Question = codes "question"
 
 -- a character as XML has it; what is not ASCII, which no text here has, is a question mark
 abbrev pub escape_one : ℕ → List ℕ
-escape_one b = if b == 38 then codes "&amp;" else if b == 60 then codes "&lt;" else if b == 62 then codes "&gt;" else if nat_lt b 128 then b ∷ [] else codes "?"
+escape_one b =
+    if b == 38 then codes "&amp;" else if b == 60 then codes "&lt;" else if b == 62 then codes "&gt;"
+    else if nat_lt b 128 then b ∷ [] else codes "?"
 
 abbrev pub escape : List ℕ → List ℕ
 escape text = flat_map escape_one text
@@ -52,11 +55,13 @@ escape text = flat_map escape_one text
 
 unfoldable pub size_text : ℕ → ℕ → List ℕ
 size_text width height =
-    codes "<svg xmlns=\"http://www.w3.org/2000/svg\" width=\"" ++ decimal width ++ codes "\" height=\"" ++ decimal height
+    codes "<svg xmlns=\"http://www.w3.org/2000/svg\" width=\"" ++ decimal width ++ codes "\" height=\""
+    ++ decimal height
     ++ codes "\" viewBox=\"0 0 " ++ decimal width ++ codes " " ++ decimal height ++ codes "\">\n"
 
 unfoldable pub rule_text : Point → ℕ → List ℕ
-rule_text from width = codes "<path class=\"row\" d=\"M" ++ point_text from ++ codes "H" ++ decimal width ++ codes "\"/>\n"
+rule_text from width =
+    codes "<path class=\"row\" d=\"M" ++ point_text from ++ codes "H" ++ decimal width ++ codes "\"/>\n"
 
 unfoldable pub said_text : Point → List ℕ → List ℕ
 said_text at said = codes "<text class=\"event\" " ++ at_text at ++ codes " dy=\"4\">" ++ said ++ codes "</text>\n"
@@ -71,20 +76,25 @@ unfoldable pub alive_text : Point → ℕ → List ℕ
 alive_text from to = codes "<path class=\"life\" d=\"M" ++ point_text from ++ codes "V" ++ decimal to ++ codes "\"/>\n"
 
 unfoldable pub curve_text : Stroke → Point → Point × Point → Point → List ℕ
-curve_text stroke from bent to = codes "<path class=\"" ++ stroke_text stroke ++ codes "\" d=\"M" ++ point_text from ++ codes "C" ++ point_text bent.0 ++ codes " " ++ point_text bent.1 ++ codes " " ++ point_text to
+curve_text stroke from bent to =
+    codes "<path class=\"" ++ stroke_text stroke ++ codes "\" d=\"M" ++ point_text from ++ codes "C"
+    ++ point_text bent.0 ++ codes " " ++ point_text bent.1 ++ codes " " ++ point_text to
 
 unfoldable pub marker_text : Stroke → List ℕ → List ℕ
 marker_text stroke head = codes "\" marker-end=\"url(#" ++ stroke_text stroke ++ codes "-" ++ head ++ codes ")\"/>\n"
 
 unfoldable pub level_text : List ℕ → Point → ℕ → List ℕ
-level_text class from to = codes "<path class=\"" ++ class ++ codes "\" d=\"M" ++ point_text from ++ codes "H" ++ decimal to ++ codes "\"/>\n"
+level_text class from to =
+    codes "<path class=\"" ++ class ++ codes "\" d=\"M" ++ point_text from ++ codes "H" ++ decimal to ++ codes "\"/>\n"
 
 -- the shape of that name, as the style has it
 unfoldable pub shape_text : List ℕ → Point → List ℕ
 shape_text name at = codes "<use href=\"#" ++ name ++ codes "\" " ++ at_text at ++ codes "/>\n"
 
 unfoldable pub label_text : Stroke → Point → List ℕ → List ℕ → List ℕ
-label_text stroke at side said = codes "<text class=\"label " ++ stroke_text stroke ++ codes "-label\" " ++ at_text at ++ side ++ codes ">" ++ said ++ codes "</text>\n"
+label_text stroke at side said =
+    codes "<text class=\"label " ++ stroke_text stroke ++ codes "-label\" " ++ at_text at ++ side ++ codes ">" ++ said
+    ++ codes "</text>\n"
 
 -- the parts --------------------------------------------------------------------------------------------
 
@@ -93,14 +103,17 @@ head_text p = size_text (width_of p) (height_of p) ++ STYLE.now
 
 -- the line of an event, and a rule across the page
 abbrev pub said_line_text : Page → ℕ → List ℕ → List ℕ
-said_line_text p row said = rule_text (point (gutter_of p) (y_of row)) (width_of p) ++ said_text (point 12 (y_of row)) said
+said_line_text p row said =
+    rule_text (point (gutter_of p) (y_of row)) (width_of p) ++ said_text (point 12 (y_of row)) said
 
 abbrev pub line_text : Page → ℕ → Stamped → List ℕ
 line_text p row s = said_line_text p row (escape (stamped_text s))
 
 -- the name of a process above and below its column
 abbrev pub named_column_text : Page → ℕ → List ℕ → List ℕ
-named_column_text p k name = before_text (x_of p k) (y_of p.rows) ++ name_text (point (x_of p k) 22) name ++ name_text (point (x_of p k) (capped (y_of p.rows + 48))) name
+named_column_text p k name =
+    before_text (x_of p k) (y_of p.rows) ++ name_text (point (x_of p k) 22) name
+    ++ name_text (point (x_of p k) (capped (y_of p.rows + 48))) name
 
 abbrev pub column_text : Page → ℕ → Pid → List ℕ
 column_text p k pid = named_column_text p k (escape (pid_text pid))
@@ -117,7 +130,8 @@ abbrev pub arrow_text : Stroke → Point → Point → List ℕ → List ℕ
 arrow_text stroke from to head = curve_text stroke from (bend from to) to ++ marker_text stroke head
 
 abbrev pub letter_text : Page → ℕ → Arrow → List ℕ
-letter_text p k a = arrow_text (stroke_of a.signal) (spot p k a.sent) (point (x_of p a.to) (row_or_end p a.came)) (head_of a.came)
+letter_text p k a =
+    arrow_text (stroke_of a.signal) (spot p k a.sent) (point (x_of p a.to) (row_or_end p a.came)) (head_of a.came)
 
 abbrev pub bearing_class : Bool → List ℕ
 bearing_class true = codes "link"
@@ -138,7 +152,8 @@ side_text true = codes " dx=\"-6\" dy=\"-4\" text-anchor=\"end\""
 side_text false = codes " dx=\"6\" dy=\"-4\""
 
 abbrev pub saying_text : Page → ℕ → ℕ → ℕ → Signal → List ℕ
-saying_text p row from to x = label_text (stroke_of x) (spot p from row) (side_text (nat_lt to from)) (escape (signal_text x))
+saying_text p row from to x =
+    label_text (stroke_of x) (spot p from row) (side_text (nat_lt to from)) (escape (signal_text x))
 
 abbrev pub taking_text : Page → ℕ → ℕ → List ℕ
 taking_text p row k = shape_text (codes "taking") (spot p k row)
@@ -148,10 +163,13 @@ trap_text true = codes "traps"
 trap_text false = codes "traps no more"
 
 abbrev pub trapping_text : Page → ℕ → ℕ → Bool → List ℕ
-trapping_text p row k on = shape_text (codes "trapping") (spot p k row) ++ label_text stroke.Message (spot p k row) (side_text false) (trap_text on)
+trapping_text p row k on =
+    shape_text (codes "trapping") (spot p k row)
+    ++ label_text stroke.Message (spot p k row) (side_text false) (trap_text on)
 
 abbrev pub refusal_text : Page → ℕ → ℕ → Pid → List ℕ
-refusal_text p row k to = label_text stroke.Exit (spot p k row) (side_text false) (escape (codes "refused " ++ pid_text to))
+refusal_text p row k to =
+    label_text stroke.Exit (spot p k row) (side_text false) (escape (codes "refused " ++ pid_text to))
 
 abbrev pub said_end_text : Point → List ℕ → List ℕ
 said_end_text at said = shape_text (codes "end") at ++ label_text stroke.Exit at (codes " dx=\"10\" dy=\"12\"") said

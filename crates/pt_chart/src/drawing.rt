@@ -4,7 +4,9 @@ ghost use Rattle.std.specs.Prelude.{◌≡◌, [], ◌∷◌, ◌++◌, IfOk, On
 ghost use Rattle.pt_signal.specs.Values.{same_pid};
 ghost use Rattle.pt_events.specs.Text.{stamped_text};
 ghost use Rattle.pt_chart.specs.declared.part.Part.TheVariants.{Mark as MarkPart};
-ghost use Rattle.pt_chart.specs.Drawing.{IsChart, birth_mark, column, drawing_text, drawn, end, event_mark, label_beside, letters, line, longest_beside, longest_line, mark, numbered, page_of, place_in};
+ghost use Rattle.pt_chart.specs.Drawing.{IsChart, birth_mark, column, drawing_text, drawn, end, event_mark};
+ghost use Rattle.pt_chart.specs.Drawing.{label_beside, letters, line, longest_beside, longest_line, mark, numbered};
+ghost use Rattle.pt_chart.specs.Drawing.{page_of, place_in};
 
 use crate::layout::{Column, Layout, lay_out};
 use crate::page::Page;
@@ -27,7 +29,8 @@ pub fn chart(alloc: Global, events: &[Stamped]) -> Result<String, AllocError>
 
 /// The drawing of a layout of the history.
 fn drawing_of(alloc: Global, events: &[Stamped], layout: &Layout) -> Result<String, AllocError>
-    ensures { IfOk result (λ text. string_bytes text ≡ drawing_text (page_of events.now layout.now) (drawn events.now layout.now)) }
+    ensures { IfOk result
+        (λ text. string_bytes text ≡ drawing_text (page_of events.now layout.now) (drawn events.now layout.now)) }
 {
     let page = page_of(alloc, events, layout)?;
     let parts = parts_of(alloc, events, layout)?;

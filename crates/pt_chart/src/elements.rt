@@ -1,7 +1,8 @@
 //! The elements of SVG that a chart is made of.
 
 ghost use Rattle.std.specs.Prelude.{◌≡◌, ◌++◌, OnOk, string_bytes};
-ghost use Rattle.pt_chart.specs.Text.{alive_text, before_text, curve_text, label_text, level_text, marker_text, name_text, rule_text, said_text, shape_text, size_text};
+ghost use Rattle.pt_chart.specs.Text.{alive_text, before_text, curve_text, label_text, level_text, marker_text};
+ghost use Rattle.pt_chart.specs.Text.{name_text, rule_text, said_text, shape_text, size_text};
 
 use crate::point::{At, Point};
 use crate::strokes::Stroke;

@@ -7,7 +7,8 @@ ghost use Rattle.pt_events.specs.declared.event.Event.TheVariants.{Born, Said, C
 ghost use Rattle.pt_events.specs.History.{unborn, linked};
 ghost use Rattle.pt_process.specs.Outcome.{IsAnew};
 ghost use Rattle.pt_chart.specs.Chart.{in_row};
-ghost use Rattle.pt_chart.specs.Following.{followed, seen, sends, ends, OpensAnew, gets, got_sent, got_end, left_sent, left_end, begins, changes};
+ghost use Rattle.pt_chart.specs.Following.{followed, seen, sends, ends, OpensAnew, gets, got_sent, got_end, left_sent};
+ghost use Rattle.pt_chart.specs.Following.{left_end, begins, changes};
 ghost use Rattle.pt_chart.specs.Replying.{Replies};
 
 use crate::layout::Sending;
@@ -112,8 +113,10 @@ impl Follower {
         signal: Signal,
         sent: &mut Vec<Sending>,
     ) -> Result<(), AllocError>
-        ensures state { OpensAnew (Said from to signal) self.old → OnOk result (self.new ≡ seen (Said from to signal) self.old) }
-        ensures sent { OnOk result (sent.new.items ≡ sent.old.items ++ map (in_row row) (sends (Said from to signal) self.old)) }
+        ensures state { OpensAnew (Said from to signal) self.old
+            → OnOk result (self.new ≡ seen (Said from to signal) self.old) }
+        ensures sent { OnOk result
+            (sent.new.items ≡ sent.old.items ++ map (in_row row) (sends (Said from to signal) self.old)) }
     {
         if from != self.me {
             return Ok(());
@@ -132,7 +135,8 @@ impl Follower {
         sent: &mut Vec<Sending>,
     ) -> Result<Option<Reason>, AllocError>
         ensures state { OnOk result (self.new ≡ seen (Came from to signal) self.old) }
-        ensures sent { OnOk result (sent.new.items ≡ sent.old.items ++ map (in_row row) (sends (Came from to signal) self.old)) }
+        ensures sent { OnOk result
+            (sent.new.items ≡ sent.old.items ++ map (in_row row) (sends (Came from to signal) self.old)) }
         ensures ending { IfOk result (λ reason. reason ≡ ends (Came from to signal) self.old) }
     {
         if to != self.me {
@@ -142,7 +146,9 @@ impl Follower {
     }
 
     fn see_taking(&mut self, pid: Pid, pick: Pick)
-        ensures { self.new ≡ cond (same_pid self.old.me pid) (changes (λ s. record s { waiting = without_first (fits pick) s.waiting }) self.old) self.old }
+        ensures { self.new
+            ≡ cond (same_pid self.old.me pid)
+            (changes (λ s. record s { waiting = without_first (fits pick) s.waiting }) self.old) self.old }
     {
         if pid == self.me {
             self.take(pick);
@@ -165,7 +171,8 @@ impl Follower {
         sent: &mut Vec<Sending>,
     ) -> Result<Option<Reason>, AllocError>
         ensures state { OnOk result (self.new ≡ seen (Left pid reason) self.old) }
-        ensures sent { OnOk result (sent.new.items ≡ sent.old.items ++ map (in_row row) (sends (Left pid reason) self.old)) }
+        ensures sent { OnOk result
+            (sent.new.items ≡ sent.old.items ++ map (in_row row) (sends (Left pid reason) self.old)) }
         ensures ending { IfOk result (λ ending. ending ≡ ends (Left pid reason) self.old) }
     {
         if pid != self.me {
@@ -205,7 +212,8 @@ impl Follower {
     }
 
     fn say(&mut self, to: Pid, signal: Signal) -> Result<(), AllocError>
-        ensures { IfSome self.old.state (IsAnew signal) → OnOk result (self.new ≡ changes (λ s. say s to signal) self.old) }
+        ensures { IfSome self.old.state (IsAnew signal)
+            → OnOk result (self.new ≡ changes (λ s. say s to signal) self.old) }
     {
         match &mut self.process {
             Some(process) => process.say(to, signal),
@@ -237,8 +245,10 @@ impl Follower {
         signal: Signal,
         sent: &mut Vec<Sending>,
     ) -> Result<Option<Reason>, AllocError>
-        ensures state { OnOk result (self.new ≡ record self.old { state = gets self.old.me from signal self.old.state }) }
-        ensures sent { OnOk result (sent.new.items ≡ sent.old.items ++ map (in_row row) (got_sent self.old.me from signal self.old.state)) }
+        ensures state { OnOk result
+            (self.new ≡ record self.old { state = gets self.old.me from signal self.old.state }) }
+        ensures sent { OnOk result
+            (sent.new.items ≡ sent.old.items ++ map (in_row row) (got_sent self.old.me from signal self.old.state)) }
         ensures ending { IfOk result (λ reason. reason ≡ got_end self.old.me from signal self.old.state) }
     {
         let Some(process) = &mut self.process else {
@@ -273,7 +283,8 @@ impl Follower {
         sent: &mut Vec<Sending>,
     ) -> Result<Option<Reason>, AllocError>
         ensures state { OnOk result (self.new ≡ record self.old { state = None }) }
-        ensures sent { OnOk result (sent.new.items ≡ sent.old.items ++ map (in_row row) (left_sent self.old.me reason self.old.state)) }
+        ensures sent { OnOk result
+            (sent.new.items ≡ sent.old.items ++ map (in_row row) (left_sent self.old.me reason self.old.state)) }
         ensures ending { IfOk result (λ ending. ending ≡ left_end reason self.old.state) }
     {
         let Some(process) = self.process.take() else {
@@ -316,7 +327,8 @@ enum Reply {
 fn take_in(process: &mut Process, from: Pid, signal: Signal) -> Result<Reply, AllocError>
     ensures me { process.new.me ≡ process.old.me }
     ensures state { OnOk result (process.new.state ≡ (handle process.old.me process.old.state from signal).state) }
-    ensures reply { IfOk result (λ reply. Replies process.old.me from (handle process.old.me process.old.state from signal) reply) }
+    ensures reply { IfOk result
+        (λ reply. Replies process.old.me from (handle process.old.me process.old.state from signal) reply) }
 {
     match process.accept(from, signal)? {
         Outcome::Ends(reason) => Ok(Reply::End(reason)),

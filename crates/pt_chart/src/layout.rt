@@ -4,7 +4,9 @@ ghost use Rattle.std.specs.Prelude.{◌≡◌, ◌++◌, [], All, IfOk, OnOk, po
 ghost use Rattle.std.specs.List.{list_any};
 ghost use Rattle.pt_signal.specs.Values.{same_pid};
 ghost use Rattle.pt_events.specs.History.{is_birth};
-ghost use Rattle.pt_chart.specs.Chart.{IsLayout, IsColumn, IsLegalHistory, ShowsLife, MonitorsAnew, arrow, arrows, end_of, everyone, is_receipt, join, joined, named, past_of, place, receipts, sent_of};
+ghost use Rattle.pt_chart.specs.Chart.{IsLayout, IsColumn, IsLegalHistory, ShowsLife, MonitorsAnew, arrow, arrows};
+ghost use Rattle.pt_chart.specs.Chart.{end_of, everyone, is_receipt, join, joined, named, past_of, place, receipts};
+ghost use Rattle.pt_chart.specs.Chart.{sent_of};
 ghost use Rattle.pt_chart.specs.Following.{noted};
 
 use crate::follower::Follower;
@@ -154,8 +156,10 @@ fn follow(
     pid: Pid,
     sent: &mut Vec<Sending>,
 ) -> Result<Option<(usize, Reason)>, AllocError>
-    ensures sent { MonitorsAnew (past_of events.now) pid → OnOk result (sent.new.items ≡ sent.old.items ++ sent_of (past_of events.now) pid) }
-    ensures ending { MonitorsAnew (past_of events.now) pid → IfOk result (λ ended. ended ≡ end_of (past_of events.now) pid) }
+    ensures sent { MonitorsAnew (past_of events.now) pid
+        → OnOk result (sent.new.items ≡ sent.old.items ++ sent_of (past_of events.now) pid) }
+    ensures ending { MonitorsAnew (past_of events.now) pid
+        → IfOk result (λ ended. ended ≡ end_of (past_of events.now) pid) }
 {
     let mut follower = Follower::new(pid);
     let mut ended = None;

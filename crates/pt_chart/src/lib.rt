@@ -9,10 +9,10 @@
 //!
 //! Each process that is named is a column, in order of first appearance, and each event a row, in the order of the
 //! history; the event's line stands at its left. An arrow goes from the row in which a letter was sent to the row in
-//! which it came. A letter that did not come has an open arrow. Messages, exits, links, monitors and questions each have
-//! a stroke of their own. A box is a birth, a dot is an item taken, a square a change of `trap_exit`, and a cross an end
-//! with its reason. [`lay_out`] says where each of these stands, and its contract that it stands there rightly; that of
-//! [`chart`] that the text has each of them, once, and nothing else.
+//! which it came. A letter that did not come has an open arrow. Messages, exits, links, monitors and questions each
+//! have a stroke of their own. A box is a birth, a dot is an item taken, a square a change of `trap_exit`, and a cross
+//! an end with its reason. [`lay_out`] says where each of these stands, and its contract that it stands there rightly;
+//! that of [`chart`] that the text has each of them, once, and nothing else.
 //!
 //! # From the history alone
 //!

@@ -3,7 +3,10 @@
 ghost use Rattle.std.specs.Prelude.{◌≡◌, ◌++◌, IfOk, OnOk, string_bytes};
 ghost use Rattle.std.specs.List.{flat_map};
 ghost use Rattle.pt_chart.specs.Points.{bend, spot};
-ghost use Rattle.pt_chart.specs.Text.{arrow_text, bearing_text, birth_text, column_text, end_text, escape, escape_one, head_text, letter_text, life_text, line_text, mark_text, named_birth_text, named_column_text, part_text, refusal_text, said_end_text, said_line_text, saying_text, side_text, trapping_text};
+ghost use Rattle.pt_chart.specs.Text.{arrow_text, bearing_text, birth_text, column_text, end_text, escape, escape_one};
+ghost use Rattle.pt_chart.specs.Text.{head_text, letter_text, life_text, line_text, mark_text, named_birth_text};
+ghost use Rattle.pt_chart.specs.Text.{named_column_text, part_text, refusal_text, said_end_text, said_line_text};
+ghost use Rattle.pt_chart.specs.Text.{saying_text, side_text, trapping_text};
 
 use crate::elements::{
     write_alive, write_before, write_curve, write_label, write_level, write_marker, write_name,
@@ -135,7 +138,8 @@ fn write_named_column(
     name: &str,
     text: &mut String,
 ) -> Result<(), AllocError>
-    ensures { OnOk result (string_bytes text.new ≡ string_bytes text.old ++ named_column_text page.now column name.now) }
+    ensures { OnOk result
+        (string_bytes text.new ≡ string_bytes text.old ++ named_column_text page.now column name.now) }
 {
     let (x, end) = (page.x(column), page.end());
     write_before(x, end, text)?;
@@ -220,7 +224,8 @@ fn write_bearing(
     linked: bool,
     text: &mut String,
 ) -> Result<(), AllocError>
-    ensures { OnOk result (string_bytes text.new ≡ string_bytes text.old ++ bearing_text page.now row parent child linked) }
+    ensures { OnOk result
+        (string_bytes text.new ≡ string_bytes text.old ++ bearing_text page.now row parent child linked) }
 {
     let (from, to) = (spot(page, parent, row), page.x(child));
     if linked {

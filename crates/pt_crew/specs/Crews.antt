@@ -61,16 +61,20 @@ pub record IsSame {B : Type 0} (old new : Crew B) : Type 0 where
 -- A process is born and enters the crew, behind its queue; or nothing has changed, where the desk refused the birth or
 -- there was no memory.
 abbrev pub Enters : {B : Type 0} → B → Pick → Crew B → ShardState → Result Pid Fault → Crew B → ShardState → Type 0
-Enters b pick old d (Ok p) new e = Bears None None d (Ok p) e × AreWith p (Some (b, Wait pick)) (roles old) (roles new) × (queue new ≡ queue old ++ p ∷ [])
+Enters b pick old d (Ok p) new e =
+    Bears None None d (Ok p) e × AreWith p (Some (b, Wait pick)) (roles old) (roles new)
+    × (queue new ≡ queue old ++ p ∷ [])
 Enters b pick old d (Err f) new e = (Bears None None d (Err f) e ⊎ ((f ≡ Memory) × (e ≡ d))) × IsSame old new
 
 -- those of the queue are come to, in its order, before any others
-pub record VisitsAll {B : Type 0} (answers : Answers B) (first : List Pid) (old : Roles B) (d : ShardState) (new : Roles B) (e : ShardState) : Type 0 where
+pub record VisitsAll {B : Type 0} (answers : Answers B) (first : List Pid) (old : Roles B) (d : ShardState)
+    (new : Roles B) (e : ShardState) : Type 0 where
   pub others : List Pid
   pub visits : Visits answers (first ++ others) old d new e
 
 -- a step of a crew
-pub record CrewDoes {B : Type 0} (answers : Answers B) (old : Crew B) (d : ShardState) (new : Crew B) (e : ShardState) : Type 0 where
+pub record CrewDoes {B : Type 0} (answers : Answers B) (old : Crew B) (d : ShardState) (new : Crew B)
+    (e : ShardState) : Type 0 where
   -- who stood in the queue is come to, in its order
   pub visits : VisitsAll answers (queue old) (roles old) d (roles new) e
   -- each item that was taken was handed to the behaviour of its process, once and in order
@@ -81,4 +85,5 @@ pub record CrewDoes {B : Type 0} (answers : Answers B) (old : Crew B) (d : Shard
 
 -- a step, and then a turn of the desk
 abbrev pub Works : {B : Type 0} → Answers B → ℕ → Crew B → DeskState → Turned → Crew B → DeskState → Type 0
-Works answers budget old d turned new e = (stepped : DeskState) × CrewDoes answers old d.shard new stepped.shard × Turns budget stepped turned e
+Works answers budget old d turned new e =
+    (stepped : DeskState) × CrewDoes answers old d.shard new stepped.shard × Turns budget stepped turned e

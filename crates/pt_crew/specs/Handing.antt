@@ -13,7 +13,8 @@ abbrev pub MayLeave : {B : Type 0} → Roles B → Roles B → Type 0
 MayLeave {B} old new = (q : Pid) (role : B × Next) → new q ≡ Some role → old q ≡ Some role
 
 -- the item is handed to the behaviour of p, which waited, and what that answers is what p does next; all others stay
-pub record HandsOne {B : Type 0} (answers : Answers B) (old : Roles B) (p : Pid) (item : Item) (new : Roles B) : Type 0 where
+pub record HandsOne {B : Type 0} (answers : Answers B) (old : Roles B) (p : Pid) (item : Item)
+    (new : Roles B) : Type 0 where
   pub was : B
   pub pick : Pick
   pub waited : old p ≡ Some (was, Wait pick)
@@ -26,10 +27,12 @@ pub record HandsOne {B : Type 0} (answers : Answers B) (old : Roles B) (p : Pid)
 abbrev pub HandsAll : {B : Type 0} → Answers B → List (Pid × Item) → Roles B → Roles B → Type 0
 HandsAll answers [] old new = MayLeave old new
 HandsAll {B} answers (t ∷ taken) old new =
-    (before : Roles B) × (after : Roles B) × HandsAll answers taken old before × HandsOne answers before t.0 t.1 after × MayLeave after new
+    (before : Roles B) × (after : Roles B) × HandsAll answers taken old before × HandsOne answers before t.0 t.1 after
+    × MayLeave after new
 
 -- what was taken out of the mailboxes was handed, each item once and in order, to the behaviour of whoever took it
-pub record Handed {B : Type 0} (answers : Answers B) (old : Roles B) (d : ShardState) (new : Roles B) (e : ShardState) : Type 0 where
+pub record Handed {B : Type 0} (answers : Answers B) (old : Roles B) (d : ShardState) (new : Roles B)
+    (e : ShardState) : Type 0 where
   pub taken : List (Pid × Item)
   pub hands : HandsAll answers taken old new
   pub takes : takes e.journal ≡ taken ++ takes d.journal

@@ -49,6 +49,7 @@ left_as Again m = Some (role m)
 left_as Gone m = None
 
 -- the first of the queue is come to, and stands behind it then or nowhere
-abbrev pub Serves : {B : Type 0} → Answers B → List Pid → Roles B → ShardState → List Pid → Roles B → ShardState → Type 0
+abbrev pub Serves : {B : Type 0} → Answers B → List Pid → Roles B → ShardState → List Pid → Roles B → ShardState
+    → Type 0
 Serves answers [] old d later new e = Unit {0}
 Serves answers (p ∷ rest) old d later new e = VisitsOne answers p old d new e × IsLonger rest later

@@ -1,4 +1,5 @@
--- What it is to come to a process of a crew: its end is asked for, or one item that its pick fits, which is handed to its behaviour.
+-- What it is to come to a process of a crew: its end is asked for, or one item that its pick fits, which is handed to
+-- its behaviour.
 use Rattle.std.specs.Prelude.{◌≡◌, cond, List, [], ◌∷◌, Option, Some, None, Result, Ok, Err}
 use Rattle.pt_signal.specs.declared.pid.Pid.{Pid}
 use Rattle.pt_signal.specs.declared.item.Item.{Item}
@@ -47,23 +48,28 @@ EndsAs role (Err f) now = now ≡ Some role
 
 -- An item was asked for. One that was taken is handed to the behaviour, which takes none itself; a refusal for want of
 -- memory or stamps leaves all as it is; and a process that had ended leaves the crew.
-abbrev pub TakesAs : {B : Type 0} → Answers B → Pid → B × Next → ShardState → Result (Option Item) Fault → Option (B × Next) → ShardState → Type 0
+abbrev pub TakesAs : {B : Type 0} → Answers B → Pid → B × Next → ShardState → Result (Option Item) Fault
+    → Option (B × Next) → ShardState → Type 0
 TakesAs answers p role d (Ok None) now e = (now ≡ Some role) × (e ≡ d)
 TakesAs {B} answers p role d (Ok (Some item)) now e =
-    (b : B) × (next : Next) × answers role.0 p item next b × (now ≡ Some (b, next)) × (takes e.journal ≡ takes d.journal) × Extends d e
+    (b : B) × (next : Next) × answers role.0 p item next b × (now ≡ Some (b, next))
+    × (takes e.journal ≡ takes d.journal) × Extends d e
 TakesAs answers p role d (Err Gone) now e = (now ≡ None) × (e ≡ d)
 TakesAs answers p role d (Err f) now e = (now ≡ Some role) × (e ≡ d)
 
 -- the process p, which does this next, is seen to
 abbrev pub SeesTo : {B : Type 0} → Answers B → Pid → B → Next → ShardState → Option (B × Next) → ShardState → Type 0
 SeesTo answers p b (Stop reason) d now e =
-    (result : Result (Unit {0}) Fault) × Calls p (Some (Left p reason)) (tt {0}) d result e × EndsAs (b, Stop reason) result now
+    (result : Result (Unit {0}) Fault) × Calls p (Some (Left p reason)) (tt {0}) d result e
+    × EndsAs (b, Stop reason) result now
 SeesTo answers p b (Wait pick) d now e =
     (result : Result (Option Item) Fault) × (mid : ShardState)
-    × Calls p (take_event d p pick) (first_match d p pick) d result mid × TakesAs answers p (b, Wait pick) mid result now e
+    × Calls p (take_event d p pick) (first_match d p pick) d result mid
+    × TakesAs answers p (b, Wait pick) mid result now e
 
 -- nothing is done for one that is not of the crew
-abbrev pub ComesTo : {B : Type 0} → Answers B → Pid → Option (B × Next) → ShardState → Option (B × Next) → ShardState → Type 0
+abbrev pub ComesTo : {B : Type 0} → Answers B → Pid → Option (B × Next) → ShardState → Option (B × Next) → ShardState
+    → Type 0
 ComesTo answers p None d now e = (now ≡ None) × (e ≡ d)
 ComesTo answers p (Some role) d now e = SeesTo answers p role.0 role.1 d now e
 
@@ -74,4 +80,5 @@ VisitsOne answers p old d new e = AreWith p (new p) old new × ComesTo answers p
 -- so these, one after the other
 abbrev pub Visits : {B : Type 0} → Answers B → List Pid → Roles B → ShardState → Roles B → ShardState → Type 0
 Visits answers [] old d new e = AreSame old new × (e ≡ d)
-Visits {B} answers (p ∷ ps) old d new e = (mid : Roles B) × (f : ShardState) × VisitsOne answers p old d mid f × Visits answers ps mid f new e
+Visits {B} answers (p ∷ ps) old d new e =
+    (mid : Roles B) × (f : ShardState) × VisitsOne answers p old d mid f × Visits answers ps mid f new e

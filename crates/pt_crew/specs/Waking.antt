@@ -45,8 +45,10 @@ pub record Knows {B : Type 0} (members : Members B) (queue : List Pid) (read : �
   pub journal : d.journal ≡ more ++ seen
   pub counted : length seen ≡ read
   pub listed : IsListed members queue
-  pub awake : (p : Pid) (m : Member B) → members p ≡ Some m → has_work m.next (phase_of d p) ≡ true → came_in p more ≡ false → m.queued ≡ true
+  pub awake : (p : Pid) (m : Member B) → members p ≡ Some m → has_work m.next (phase_of d p) ≡ true
+      → came_in p more ≡ false → m.queued ≡ true
 
 -- no lost wake-up: each member that has something to do stands in the queue
 abbrev pub IsAwake : {B : Type 0} → Members B → List Pid → ShardState → Type 0
-IsAwake {B} members queue d = (p : Pid) (m : Member B) → members p ≡ Some m → has_work m.next (phase_of d p) ≡ true → in_queue p queue ≡ true
+IsAwake {B} members queue d =
+    (p : Pid) (m : Member B) → members p ≡ Some m → has_work m.next (phase_of d p) ≡ true → in_queue p queue ≡ true

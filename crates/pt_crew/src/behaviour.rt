@@ -18,8 +18,8 @@ pub enum Next {
     Stop(Reason),
 }
 
-/// What a process does with the items of its mailbox: `handle_info` of Erlang's `gen_server`, with a pick in each answer
-/// as `receive` has its patterns.
+/// What a process does with the items of its mailbox: `handle_info` of Erlang's `gen_server`, with a pick in each
+/// answer as `receive` has its patterns.
 ///
 /// Its state is a value of the program's own, one of each process. What it may answer is its ghost member `answers`, in
 /// whose terms a step of a crew says what it did.

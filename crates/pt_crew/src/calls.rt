@@ -1,7 +1,7 @@
 //! The calls of a desk for a behaviour: they ask nothing of their caller, and each is answered.
 //!
-//! A target that the desk does not know is answered as one that it sees to have ended. None of them takes an item out of
-//! a mailbox, so a behaviour that makes no other calls is what [`Behaviour`](crate::Behaviour) asks of it.
+//! A target that the desk does not know is answered as one that it sees to have ended. None of them takes an item out
+//! of a mailbox, so a behaviour that makes no other calls is what [`Behaviour`](crate::Behaviour) asks of it.
 
 ghost use Rattle.std.specs.Prelude.{◌≡◌, Some};
 ghost use Rattle.pt_signal.specs.declared.signal.Signal.{Signal};
@@ -22,7 +22,10 @@ use pt_node::{Body, Desk, Fault, Pid, Reason, Ref};
 /// [`Desk::send`] is.
 #[tactic(auto, using(pt_node::proofs::GoingOn::stays, crate::proofs::Takes::sent_takes))]
 pub fn tell(desk: &mut Desk, me: Pid, to: Pid, body: Body) -> Result<(), Fault>
-    ensures does { IfKnown (knows desk.old.shard to) (Reaches (lives desk.old.shard me) me to (Calls me (Some (Event.Said me to (Signal.Message body))) tt desk.old.shard result desk.new.shard) desk.old result desk.new) desk.old result desk.new }
+    ensures does { IfKnown (knows desk.old.shard to)
+        (Reaches (lives desk.old.shard me) me to
+        (Calls me (Some (Event.Said me to (Signal.Message body))) tt desk.old.shard result desk.new.shard) desk.old
+        result desk.new) desk.old result desk.new }
     ensures takes { takes desk.new.shard.journal ≡ takes desk.old.shard.journal }
     ensures goes_on { GoesOn desk.old desk.new }
 {
@@ -38,7 +41,9 @@ pub fn tell(desk: &mut Desk, me: Pid, to: Pid, body: Body) -> Result<(), Fault>
 /// [`Desk::monitor`] is.
 #[tactic(auto, using(pt_node::proofs::GoingOn::stays, crate::proofs::Takes::watched_takes))]
 pub fn watch(desk: &mut Desk, me: Pid, to: Pid) -> Result<Ref, Fault>
-    ensures does { IfKnown (knows desk.old.shard to) (Reaches (has_monitor_to_make desk.old.shard me to) me to (Monitors me to desk.old.shard result desk.new.shard) desk.old result desk.new) desk.old result desk.new }
+    ensures does { IfKnown (knows desk.old.shard to)
+        (Reaches (has_monitor_to_make desk.old.shard me to) me to
+        (Monitors me to desk.old.shard result desk.new.shard) desk.old result desk.new) desk.old result desk.new }
     ensures takes { takes desk.new.shard.journal ≡ takes desk.old.shard.journal }
     ensures goes_on { GoesOn desk.old desk.new }
 {
@@ -54,7 +59,10 @@ pub fn watch(desk: &mut Desk, me: Pid, to: Pid) -> Result<Ref, Fault>
 /// [`Desk::link`] is.
 #[tactic(auto, using(pt_node::proofs::GoingOn::stays, crate::proofs::Takes::linked_takes))]
 pub fn join(desk: &mut Desk, me: Pid, to: Pid) -> Result<(), Fault>
-    ensures does { IfKnown (knows desk.old.shard to) (Reaches (has_link_to_make desk.old.shard me to) me to (Calls me (link_event desk.old.shard me to) tt desk.old.shard result desk.new.shard) desk.old result desk.new) desk.old result desk.new }
+    ensures does { IfKnown (knows desk.old.shard to)
+        (Reaches (has_link_to_make desk.old.shard me to) me to
+        (Calls me (link_event desk.old.shard me to) tt desk.old.shard result desk.new.shard) desk.old result desk.new)
+        desk.old result desk.new }
     ensures takes { takes desk.new.shard.journal ≡ takes desk.old.shard.journal }
     ensures goes_on { GoesOn desk.old desk.new }
 {
@@ -70,7 +78,9 @@ pub fn join(desk: &mut Desk, me: Pid, to: Pid) -> Result<(), Fault>
 /// [`Desk::exit_signal`] is.
 #[tactic(auto, using(pt_node::proofs::GoingOn::stays, crate::proofs::Takes::said_takes))]
 pub fn bid_exit(desk: &mut Desk, me: Pid, to: Pid, reason: Reason) -> Result<(), Fault>
-    ensures does { IfKnown (knows desk.old.shard to) (Calls me (Some (Event.Said me to (Signal.Exit reason))) tt desk.old.shard result desk.new.shard) desk.old result desk.new }
+    ensures does { IfKnown (knows desk.old.shard to)
+        (Calls me (Some (Event.Said me to (Signal.Exit reason))) tt desk.old.shard result desk.new.shard) desk.old
+        result desk.new }
     ensures takes { takes desk.new.shard.journal ≡ takes desk.old.shard.journal }
     ensures goes_on { GoesOn desk.old desk.new }
 {

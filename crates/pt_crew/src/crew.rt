@@ -38,8 +38,8 @@ pub enum Tended {
 ///
 /// It is the desk's [`Work`]. A step reads what is new in the desk's journal, puts whoever got a signal behind the
 /// queue, and comes to the processes of the queue in order: one that is to stop ends, and of one that waits the first
-/// item that its pick fits is taken and handed to its behaviour. So a step costs what is new and what is queued, however
-/// many processes are idle.
+/// item that its pick fits is taken and handed to its behaviour. So a step costs what is new and what is queued,
+/// however many processes are idle.
 #[derive(Drop)]
 pub struct Crew<B> {
     members: IndexMap<Pid, Member<B>>,
@@ -191,7 +191,8 @@ impl<B: Behaviour + Drop> Crew<B> {
 
     /// Sees to the first of the queue.
     fn serve(&mut self, desk: &mut Desk)
-        ensures serves { Serves B.answers (queue self.old) (roles self.old) desk.old.shard (queue self.new) (roles self.new) desk.new.shard }
+        ensures serves { Serves B.answers (queue self.old) (roles self.old) desk.old.shard (queue self.new)
+            (roles self.new) desk.new.shard }
         ensures knows { KnowsDesk self.old desk.old.shard → KnowsDesk self.new desk.new.shard }
         ensures room { HasRoom self.old → HasRoom self.new }
         ensures goes_on { GoesOn desk.old desk.new }
@@ -217,7 +218,8 @@ impl<B: Behaviour + Drop> Crew<B> {
 
     /// Sees to each that stands in the queue now.
     fn round(&mut self, desk: &mut Desk)
-        ensures visits { Visits B.answers (queue self.old) (roles self.old) desk.old.shard (roles self.new) desk.new.shard }
+        ensures visits { Visits B.answers (queue self.old) (roles self.old) desk.old.shard
+            (roles self.new) desk.new.shard }
         ensures knows { KnowsDesk self.old desk.old.shard → KnowsDesk self.new desk.new.shard }
         ensures room { HasRoom self.old → HasRoom self.new }
         ensures goes_on { GoesOn desk.old desk.new }
@@ -231,7 +233,8 @@ impl<B: Behaviour + Drop> Crew<B> {
 /// Lets a process end, where it is to, or hands it the first item that fits.
 #[tactic(auto, using(pt_desk::proofs::Turning::goes_on_then))]
 fn tend<B: Behaviour>(member: &mut Member<B>, desk: &mut Desk, p: Pid) -> Tended
-    ensures sees { SeesTo B.answers p member.old.behaviour member.old.next desk.old.shard (left_as result member.new) desk.new.shard }
+    ensures sees { SeesTo B.answers p member.old.behaviour member.old.next desk.old.shard
+        (left_as result member.new) desk.new.shard }
     ensures tends { Tends p result member.new desk.new.shard }
     ensures goes_on { GoesOn desk.old desk.new }
 {

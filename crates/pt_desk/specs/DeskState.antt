@@ -44,7 +44,8 @@ pub record IsAccounted (s : ShardState) (o : OutEnds) (i : InEnds) : Type 0 wher
   pub posted_desks : length o.posted ≡ s.config.desks
   pub collected_desks : length i.collected ≡ s.config.desks
   pub posted : (e : ℕ) → e < s.config.desks → posts s.start s.journal e ≡ slice_index_or o.posted e [] ++ box s e
-  pub collected : (d : ℕ) → d < s.config.desks → Agrees (slice_index_or i.collected d []) (gots s.journal d) (held_from d s.hold)
+  pub collected : (d : ℕ) → d < s.config.desks
+      → Agrees (slice_index_or i.collected d []) (gots s.journal d) (held_from d s.hold)
 
 -- what holds of every desk
 pub record IsDesk (d : DeskState) : Type 0 where

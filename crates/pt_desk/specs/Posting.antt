@@ -1,5 +1,6 @@
 -- How a desk posts.
-use Rattle.std.specs.Prelude.{◌≡◌, ◌≢◌, ℕ, ◌+◌, ◌<◌, ◌≤◌, ◌⊎◌, Bool, true, false, List, [], ◌∷◌, ◌++◌, length, sum_by, take, drop, slice_index_or}
+use Rattle.std.specs.Prelude.{◌≡◌, ◌≢◌, ℕ, ◌+◌, ◌<◌, ◌≤◌, ◌⊎◌, Bool, true, false, List, [], ◌∷◌, ◌++◌, length, sum_by}
+use Rattle.std.specs.Prelude.{take, drop, slice_index_or}
 use Rattle.pt_signal.specs.declared.letter.Letter.{Letter}
 use Rattle.pt_carrier.specs.Ends.{IsFull}
 use Rattle.pt_desk.specs.DeskState.{DeskState, posted_to, waits_for}
@@ -47,6 +48,8 @@ pub record PostsSome (e count : ℕ) (old new : DeskState) : Type 0 where
 -- the oldest letter that waits for desk e is posted; else none waits, or the lane is full
 abbrev pub PostsOne : ℕ → DeskState → Bool → DeskState → Type 0
 PostsOne e old true new =
-    (l : Letter) × (waits_for old e ≡ l ∷ drop 1 (waits_for old e)) × (posted_to new e ≡ posted_to old e ++ l ∷ []) × (waits_for new e ≡ drop 1 (waits_for old e)) × PostsSome e 1 old new
+    (l : Letter) × (waits_for old e ≡ l ∷ drop 1 (waits_for old e)) × (posted_to new e ≡ posted_to old e ++ l ∷ [])
+    × (waits_for new e ≡ drop 1 (waits_for old e)) × PostsSome e 1 old new
 PostsOne e old false new =
-    ((waits_for old e ≡ []) ⊎ IsFull new.outs e) × (posted_to new e ≡ posted_to old e) × (waits_for new e ≡ waits_for old e) × PostsSome e 0 old new
+    ((waits_for old e ≡ []) ⊎ IsFull new.outs e) × (posted_to new e ≡ posted_to old e)
+    × (waits_for new e ≡ waits_for old e) × PostsSome e 0 old new

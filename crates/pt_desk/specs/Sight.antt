@@ -1,5 +1,6 @@
 -- What a desk sees of the ends that the desks of its node told.
-use Rattle.std.specs.Prelude.{◌≡◌, ℕ, ◌<◌, ◌≤◌, ◌==◌, nat_lt, Bool, true, false, ◌&&◌, not, map, filter, List, [], ◌∷◌, ◌++◌, Option, Some, None, ⊤}
+use Rattle.std.specs.Prelude.{◌≡◌, ℕ, ◌<◌, ◌≤◌, ◌==◌, nat_lt, Bool, true, false, ◌&&◌, not, map, filter, List, [], ◌∷◌}
+use Rattle.std.specs.Prelude.{◌++◌, Option, Some, None, ⊤}
 use Rattle.std.specs.List.{list_any}
 use mathlib.Core.Option.{some}
 use lib.ListN.{get_elem?}
@@ -25,7 +26,9 @@ death_by (Some p) n = death_of p n ∷ []
 
 -- it has ended before the journal, and no later process of its slot has
 abbrev pub is_latest_end : Start → Pid × Phase → Bool
-is_latest_end start b = is_ended b.1 && not (list_any (λ c. is_ended c.1 && ((c.0.slot == b.0.slot) && nat_lt b.0.version c.0.version)) start)
+is_latest_end start b =
+    is_ended b.1
+    && not (list_any (λ c. is_ended c.1 && ((c.0.slot == b.0.slot) && nat_lt b.0.version c.0.version)) start)
 
 -- the latest end of each slot before the journal, as deaths, at the stamp that the desk began with
 abbrev pub deaths_before : Start → ℕ → List Death
@@ -34,11 +37,17 @@ deaths_before start low = map (λ b. death_of b.0 low) (filter (is_latest_end st
 -- and then the ends of the journal, oldest first
 abbrev pub deaths_in : Start → ℕ → List Stamped → List Death
 deaths_in start low [] = deaths_before start low
-deaths_in start low (s ∷ journal) = deaths_in start low journal ++ death_by (ended_in start (events journal) s.event) s.stamp
+deaths_in start low (s ∷ journal) =
+    deaths_in start low journal ++ death_by (ended_in start (events journal) s.event) s.stamp
 
 -- the seat of a desk: it is the home of that desk alone, and has told these ends, each and no other
 abbrev pub seat_of : ShardState → Sight → SeatState
-seat_of s v = record { name = v.directory.name; homes = s.number ∷ []; reads = v.reads; deaths = deaths_in s.start s.config.start s.journal }
+seat_of s v = record {
+  name = v.directory.name;
+  homes = s.number ∷ [];
+  reads = v.reads;
+  deaths = deaths_in s.start s.config.start s.journal;
+}
 
 -- a read that found the end of p, or of a later process of its slot
 pub record HasEndOf (p : Pid) (r : Read) : Type 0 where
@@ -49,7 +58,8 @@ pub record HasEndOf (p : Pid) (r : Read) : Type 0 where
 
 -- it was seen that p has ended, at a stamp below n
 abbrev pub HasSeenEnd : List Read → Pid → ℕ → Type 0
-HasSeenEnd reads p n = (k : ℕ) × (r : Read) × (t : ℕ) × (get_elem? reads k ≡ some r) × HasEndOf p r × (r.stamp ≡ Some t) × (t < n)
+HasSeenEnd reads p n =
+    (k : ℕ) × (r : Read) × (t : ℕ) × (get_elem? reads k ≡ some r) × HasEndOf p r × (r.stamp ≡ Some t) × (t < n)
 
 -- a refused call had seen the end of the other, at a lower stamp
 abbrev pub IsSeen : List Read → ℕ → Event → Type 0
@@ -73,7 +83,8 @@ AllHaveWords slots (s ∷ journal) = HasWordsAt slots s.event × AllHaveWords sl
 abbrev pub pid_of : Death → Pid
 pid_of x = record { shard = x.shard; slot = x.slot; version = x.version }
 
--- whoever was born before the journal is of a slot of the desk and has a version, and those before it in its slot have ended
+-- whoever was born before the journal is of a slot of the desk and has a version, and those before it in its slot have
+-- ended
 pub record WasInTurn (start : Start) (slots : ℕ) (p : Pid) : Type 0 where
   pub slot : p.slot < slots
   pub version : 0 < p.version
@@ -82,9 +93,11 @@ pub record WasInTurn (start : Start) (slots : ℕ) (p : Pid) : Type 0 where
 -- what desk d knows of the ends before its journal: those that were told are its own, and of whoever has ended its end
 -- was told, or a later one of its slot
 pub record AreOldEnds (start : Start) (slots low d : ℕ) : Type 0 where
-  pub told : (k : ℕ) (x : Death) → get_elem? (deaths_before start low) k ≡ some x → (x.shard ≡ d) × (x.stamp ≤ low) × (is_ended (at_start start (pid_of x)) ≡ true)
+  pub told : (k : ℕ) (x : Death) → get_elem? (deaths_before start low) k ≡ some x
+      → (x.shard ≡ d) × (x.stamp ≤ low) × (is_ended (at_start start (pid_of x)) ≡ true)
   pub all : (p : Pid) → is_ended (at_start start p) ≡ true
-      → (k : ℕ) × (x : Death) × (get_elem? (deaths_before start low) k ≡ some x) × (x.shard ≡ p.shard) × (x.slot ≡ p.slot) × (p.version ≤ x.version)
+      → (k : ℕ) × (x : Death) × (get_elem? (deaths_before start low) k ≡ some x) × (x.shard ≡ p.shard)
+      × (x.slot ≡ p.slot) × (p.version ≤ x.version)
   pub turns : (p : Pid) → is_unborn (at_start start p) ≡ false → WasInTurn start slots p
 
 -- where nobody was before, there is nothing to know

@@ -1,6 +1,7 @@
 //! A desk of a node.
 
-ghost use Rattle.std.specs.Prelude.{◌≡◌, ◌<◌, ◌+◌, ◌-◌, ◌^◌, ◌∷◌, ◌++◌, ℕ, [], length, min, true, Some, None, IfSome, IfOk, IsOk, cond, is_some, slice_index_or};
+ghost use Rattle.std.specs.Prelude.{◌≡◌, ◌<◌, ◌+◌, ◌-◌, ◌^◌, ◌∷◌, ◌++◌, ℕ, [], length, min, true, Some, None, IfSome};
+ghost use Rattle.std.specs.Prelude.{IfOk, IsOk, cond, is_some, slice_index_or};
 ghost use Rattle.std.specs.Option.{option_copied};
 ghost use Rattle.pt_signal.specs.declared.signal.Signal.{Signal};
 ghost use Rattle.pt_events.specs.declared.event.Event.{Event};
@@ -11,10 +12,12 @@ ghost use Rattle.pt_shard.specs.Known.{knows};
 ghost use Rattle.pt_shard.specs.Reading.{read_of};
 ghost use Rattle.pt_shard.specs.Outbox.{count_pending, held_from};
 ghost use Rattle.pt_shard.specs.Fit.{IsFit};
-ghost use Rattle.pt_shard.specs.Calls.{Calls, Monitors, Bears, BearsChild, link_event, unlink_event, first_match, take_event, demonitor_event, held_by, new_ref};
+ghost use Rattle.pt_shard.specs.Calls.{Calls, Monitors, Bears, BearsChild, link_event, unlink_event, first_match};
+ghost use Rattle.pt_shard.specs.Calls.{take_event, demonitor_event, held_by, new_ref};
 ghost use Rattle.std.specs.Arc.{arc_value};
 ghost use Rattle.pt_directory.specs.Seats.{add_death, death_of};
-ghost use Rattle.pt_desk.specs.DeskState.{IsDesk, IsAccounted, HasSameEnds, GoesOn, posted_to, waits_for, collected_from};
+ghost use Rattle.pt_desk.specs.DeskState.{IsDesk, IsAccounted, HasSameEnds, GoesOn, posted_to, waits_for};
+ghost use Rattle.pt_desk.specs.DeskState.{collected_from};
 ghost use Rattle.pt_desk.specs.Meeting.{DesksMeet, MeetsItself};
 ghost use Rattle.pt_desk.specs.Sight.{IsSeated, seat_of};
 ghost use Rattle.pt_desk.specs.Reaching.{LooksFirst, Reaches, has_link_to_make, has_monitor_to_make};
@@ -33,8 +36,8 @@ use std::alloc::Global;
 use std::marker::Model;
 use std::sync::Arc;
 
-/// A desk of a node: its processes, its journal, the letters that wait in it, its ends of the lanes, and its seat in the
-/// directory of ended processes.
+/// A desk of a node: its processes, its journal, the letters that wait in it, its ends of the lanes, and its seat in
+/// the directory of ended processes.
 ///
 /// It cannot be dropped: [`Desk::apart`] takes it, and so does the gathering of a node.
 pub struct Desk {
@@ -53,10 +56,20 @@ impl Model for Desk {
 
     ghost Value = { DeskState };
 
-    ghost view = { λ d. record { shard = d.shard; outs = d.outs; ins = d.ins; sight = record { directory = arc_value d.directory; reads = d.seat.reads } } };
+    ghost view = { λ d. record {
+      shard = d.shard;
+      outs = d.outs;
+      ins = d.ins;
+      sight = record { directory = arc_value d.directory; reads = d.seat.reads };
+    } };
 
     ghost invariant = { λ d.
-        IsDesk (record { shard = d.shard; outs = d.outs; ins = d.ins; sight = record { directory = arc_value d.directory; reads = d.seat.reads } })
+        IsDesk (record {
+          shard = d.shard;
+          outs = d.outs;
+          ins = d.ins;
+          sight = record { directory = arc_value d.directory; reads = d.seat.reads };
+        })
         × (d.seat ≡ seat_of d.shard (record { directory = arc_value d.directory; reads = d.seat.reads })) };
 }
 
@@ -65,9 +78,9 @@ impl Desk {
     ///
     /// The ends are those of the shard's number, and the accounts agree: what the shard's journal sent to each desk is
     /// what was posted there and then what waits in its outbox, and what was collected from each desk is what its
-    /// journal received from there and then the letter in its hold. Nothing was before the journal. The seat is the home
-    /// of this desk alone, and the ends that it has told are those of the journal; of each refused call it had seen the
-    /// end, at a lower stamp.
+    /// journal received from there and then the letter in its hold. Nothing was before the journal. The seat is the
+    /// home of this desk alone, and the ends that it has told are those of the journal; of each refused call it had
+    /// seen the end, at a lower stamp.
     pub fn whole(
         shard: Shard,
         outs: Outs,
@@ -78,7 +91,12 @@ impl Desk {
         requires accounted { IsAccounted shard outs ins }
         requires seated { IsSeated shard (record { directory = arc_value directory; reads = seat.reads }) }
         requires seat { seat ≡ seat_of shard (record { directory = arc_value directory; reads = seat.reads }) }
-        ensures { result ≡ record { shard = shard; outs = outs; ins = ins; sight = record { directory = arc_value directory; reads = seat.reads } } }
+        ensures { result ≡ record {
+          shard = shard;
+          outs = outs;
+          ins = ins;
+          sight = record { directory = arc_value directory; reads = seat.reads };
+        } }
     {
         // read for the proof alone: it says what holds of every shard
         let _ = shard.journal();
@@ -121,10 +139,13 @@ impl Desk {
         ensures desk { result.now.desk ≡ self.now.shard.number }
         ensures past { result.now.past ≡ self.now.shard.journal }
         ensures whole { IsDesk self.now }
-        ensures local { IsLocal self.now.shard.start self.now.shard.config.start self.now.shard.config.top_version self.now.shard.number self.now.shard.journal }
+        ensures local { IsLocal self.now.shard.start self.now.shard.config.start self.now.shard.config.top_version
+            self.now.shard.number self.now.shard.journal }
         ensures clock { self.now.shard.clock ≡ clock self.now.shard.config.start self.now.shard.journal }
-        ensures posted { (e : ℕ) → posts self.now.shard.start self.now.shard.journal e ≡ posted_to self.now e ++ waits_for self.now e }
-        ensures collected { (d : ℕ) → Agrees (collected_from self.now d) (gots self.now.shard.journal d) (held_from d self.now.shard.hold) }
+        ensures posted { (e : ℕ)
+            → posts self.now.shard.start self.now.shard.journal e ≡ posted_to self.now e ++ waits_for self.now e }
+        ensures collected { (d : ℕ)
+            → Agrees (collected_from self.now d) (gots self.now.shard.journal d) (held_from d self.now.shard.hold) }
     {
         self.shard.journal()
     }
@@ -173,10 +194,11 @@ impl Desk {
         self.shard.linked(p, q)
     }
 
-    /// The process p, to be read: its links, its open monitors and its watchers by place, its mailbox and its flag; `None`
-    /// where it does not live here. Erlang's `process_info/2`, module `erlang`.
+    /// The process p, to be read: its links, its open monitors and its watchers by place, its mailbox and its flag;
+    /// `None` where it does not live here. Erlang's `process_info/2`, module `erlang`.
     pub fn process(&self, p: Pid) -> Option<&Process>
-        ensures { read_of (option_copied result) ≡ cond (lives self.now.shard p) (Some (p, state_in self.now.shard p)) None }
+        ensures { read_of (option_copied result)
+            ≡ cond (lives self.now.shard p) (Some (p, state_in self.now.shard p)) None }
     {
         self.shard.process(p)
     }
@@ -190,8 +212,9 @@ impl Desk {
 
     /// Looks at the lane that comes here from another desk of the node, from both its ends.
     ///
-    /// This desk then knows each letter that stands in the lane, and the other desk how many were collected; of the other
-    /// lanes they know no more than before, and nothing else of them changes. A turn looks from its own end alone.
+    /// This desk then knows each letter that stands in the lane, and the other desk how many were collected; of the
+    /// other lanes they know no more than before, and nothing else of them changes. A turn looks from its own end
+    /// alone.
     pub fn meet(&mut self, from: &mut Desk)
         requires { Meets from.old.outs self.old.ins }
         ensures { DesksMeet from.old self.old from.new self.new }
@@ -256,11 +279,13 @@ impl Desk {
     /// Sends a message: Erlang's `!`, chapter Processes, section Signals.
     ///
     /// It comes to the receiver after all that the sender sent it before. A receiver that is not alive then loses
-    /// it, and nobody is told. Refused as `Gone`, as `NoProc` where the desk sees that the receiver has ended, as `Worn`
-    /// or `Memory`.
+    /// it, and nobody is told. Refused as `Gone`, as `NoProc` where the desk sees that the receiver has ended, as
+    /// `Worn` or `Memory`.
     pub fn send(&mut self, from: Pid, to: Pid, body: Body) -> Result<(), Fault>
         requires { knows self.old.shard to ≡ true }
-        ensures does { Reaches (lives self.old.shard from) from to (Calls from (Some (Event.Said from to (Signal.Message body))) tt self.old.shard result self.new.shard) self.old result self.new }
+        ensures does { Reaches (lives self.old.shard from) from to
+            (Calls from (Some (Event.Said from to (Signal.Message body))) tt self.old.shard result self.new.shard)
+            self.old result self.new }
         ensures ends { HasSameEnds self.old self.new }
         ensures goes_on { GoesOn self.old self.new }
     {
@@ -275,7 +300,8 @@ impl Desk {
     /// it is the sender itself. Refused as `Gone`, `Worn` or `Memory`.
     pub fn exit_signal(&mut self, from: Pid, to: Pid, reason: Reason) -> Result<(), Fault>
         requires { knows self.old.shard to ≡ true }
-        ensures does { Calls from (Some (Event.Said from to (Signal.Exit reason))) tt self.old.shard result self.new.shard }
+        ensures does { Calls from
+            (Some (Event.Said from to (Signal.Exit reason))) tt self.old.shard result self.new.shard }
         ensures ends { HasSameEnds self.old self.new }
         ensures sight { self.new.sight ≡ self.old.sight }
         ensures goes_on { GoesOn self.old self.new }
@@ -286,11 +312,13 @@ impl Desk {
     /// Links p with another process: Erlang's `link/1`, section Links.
     ///
     /// Nothing happens where p is the target, or holds a link with it. A target that is not alive when the link
-    /// comes answers it by an exit signal with `noproc`. Refused as `Gone`, or where there is a link to make, as `NoProc`
-    /// where the desk sees that the target has ended, as `Worn` or `Memory`.
+    /// comes answers it by an exit signal with `noproc`. Refused as `Gone`, or where there is a link to make, as
+    /// `NoProc` where the desk sees that the target has ended, as `Worn` or `Memory`.
     pub fn link(&mut self, p: Pid, to: Pid) -> Result<(), Fault>
         requires { knows self.old.shard to ≡ true }
-        ensures does { Reaches (has_link_to_make self.old.shard p to) p to (Calls p (link_event self.old.shard p to) tt self.old.shard result self.new.shard) self.old result self.new }
+        ensures does { Reaches (has_link_to_make self.old.shard p to) p to
+            (Calls p (link_event self.old.shard p to) tt self.old.shard result self.new.shard) self.old result
+            self.new }
         ensures ends { HasSameEnds self.old self.new }
         ensures goes_on { GoesOn self.old self.new }
     {
@@ -320,7 +348,8 @@ impl Desk {
     /// `Memory`.
     pub fn monitor(&mut self, w: Pid, t: Pid) -> Result<Ref, Fault>
         requires { knows self.old.shard t ≡ true }
-        ensures does { Reaches (has_monitor_to_make self.old.shard w t) w t (Monitors w t self.old.shard result self.new.shard) self.old result self.new }
+        ensures does { Reaches (has_monitor_to_make self.old.shard w t) w t
+            (Monitors w t self.old.shard result self.new.shard) self.old result self.new }
         ensures ends { HasSameEnds self.old self.new }
         ensures goes_on { GoesOn self.old self.new }
     {
@@ -334,7 +363,8 @@ impl Desk {
     /// any more. Of any other the DOWN is taken out of the mailbox, where `flush` asks for it and it waits. Refused as
     /// `Gone`, or where there is an event to write, as `Worn` or `Memory`.
     pub fn demonitor(&mut self, w: Pid, monitor: Ref, flush: bool) -> Result<bool, Fault>
-        ensures does { Calls w (demonitor_event self.old.shard w monitor flush) (is_some (demonitor_event self.old.shard w monitor flush)) self.old.shard result self.new.shard }
+        ensures does { Calls w (demonitor_event self.old.shard w monitor flush)
+            (is_some (demonitor_event self.old.shard w monitor flush)) self.old.shard result self.new.shard }
         ensures ends { HasSameEnds self.old self.new }
         ensures sight { self.new.sight ≡ self.old.sight }
         ensures goes_on { GoesOn self.old self.new }
@@ -349,7 +379,8 @@ impl Desk {
     /// `Memory`.
     pub fn ask_alive(&mut self, p: Pid, t: Pid) -> Result<Ref, Fault>
         requires { knows self.old.shard t ≡ true }
-        ensures does { Calls p (Some (Event.Said p t (Signal.AliveAsk (new_ref self.old.shard)))) (new_ref self.old.shard) self.old.shard result self.new.shard }
+        ensures does { Calls p (Some (Event.Said p t (Signal.AliveAsk (new_ref self.old.shard))))
+            (new_ref self.old.shard) self.old.shard result self.new.shard }
         ensures ends { HasSameEnds self.old self.new }
         ensures sight { self.new.sight ≡ self.old.sight }
         ensures goes_on { GoesOn self.old self.new }
@@ -362,7 +393,8 @@ impl Desk {
     ///
     /// The flag counts when an exit signal comes, not when it is sent. Refused as `Gone`, `Worn` or `Memory`.
     pub fn trap(&mut self, p: Pid, on: bool) -> Result<bool, Fault>
-        ensures does { Calls p (Some (Event.Flag p on)) (state_in self.old.shard p).traps self.old.shard result self.new.shard }
+        ensures does { Calls p (Some (Event.Flag p on))
+            (state_in self.old.shard p).traps self.old.shard result self.new.shard }
         ensures ends { HasSameEnds self.old self.new }
         ensures sight { self.new.sight ≡ self.old.sight }
         ensures goes_on { GoesOn self.old self.new }
@@ -376,7 +408,8 @@ impl Desk {
     /// `Ok(None)` says that nothing fits; it has no event. Refused as `Gone`, or where an item fits, as `Worn` or
     /// `Memory`.
     pub fn receive(&mut self, p: Pid, pick: Pick) -> Result<Option<Item>, Fault>
-        ensures does { Calls p (take_event self.old.shard p pick) (first_match self.old.shard p pick) self.old.shard result self.new.shard }
+        ensures does { Calls p (take_event self.old.shard p pick)
+            (first_match self.old.shard p pick) self.old.shard result self.new.shard }
         ensures ends { HasSameEnds self.old self.new }
         ensures sight { self.new.sight ≡ self.old.sight }
         ensures goes_on { GoesOn self.old self.new }

@@ -36,8 +36,8 @@
 //!
 //! A call is refused by a `Fault`. Where several could be given it is the first of `Gone` (the acting process is not
 //! alive here), `Myself` (a monitor of oneself), `NoProc` (the desk sees that the other process has ended), `Worn` (the
-//! call has an event to write, and the clock stands at 2^62), `Full` (no slot for a birth) and `Memory` (the call has an
-//! event to write, and a growth was refused). The desk is then exactly as it was, but for what a look leaves: a call
+//! call has an event to write, and the clock stands at 2^62), `Full` (no slot for a birth) and `Memory` (the call has
+//! an event to write, and a growth was refused). The desk is then exactly as it was, but for what a look leaves: a call
 //! refused as `NoProc` is noted in the journal, and one refused as `Worn` or `Memory` behind a look has been seen to
 //! look. A call that has no event to write takes no memory and needs no clock. A target is to be one that the desk
 //! `knows`: a pid that was issued here, dead or alive, or any pid in range of another desk.

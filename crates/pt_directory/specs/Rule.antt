@@ -1,5 +1,7 @@
--- The rule of the directory's words and of what the seats know, and what each step tells. No public clause cites this module.
-use Rattle.std.specs.Prelude.{◌≡◌, ℕ, ◌+◌, ◌*◌, ◌<◌, ◌≤◌, List, ◌++◌, length, take, drop, slice_index, None, MatchOption}
+-- The rule of the directory's words and of what the seats know, and what each step tells. No public clause cites this
+-- module.
+use Rattle.std.specs.Prelude.{◌≡◌, ℕ, ◌+◌, ◌*◌, ◌<◌, ◌≤◌, List, ◌++◌, length, take, drop, slice_index, None}
+use Rattle.std.specs.Prelude.{MatchOption}
 use mathlib.Core.Option.{some}
 use lib.ListN.{get_elem?}
 use Rattle.atomic_table.specs.Table.{State, Me, Step}
@@ -7,7 +9,9 @@ use Rattle.pt_directory.specs.declared.view.Shape.{Shape}
 use Rattle.pt_directory.specs.declared.view.Read.{Read}
 use Rattle.pt_directory.specs.declared.view.Death.{Death}
 use Rattle.pt_directory.specs.declared.view.View.{View}
-use Rattle.pt_directory.specs.Views.{new_death, new_read, deaths_at, last_version, last_stamp, Rises, HasDeath, Covers, IsHomeOf, homes_of, fresh_view, up_from, with_read, with_stamp, with_begun, finished}
+use Rattle.pt_directory.specs.Views.{new_death, new_read, deaths_at, last_version, last_stamp, Rises, HasDeath, Covers}
+use Rattle.pt_directory.specs.Views.{IsHomeOf, homes_of, fresh_view, up_from, with_read, with_stamp, with_begun}
+use Rattle.pt_directory.specs.Views.{finished}
 
 -- where a slot's version word stands: the greatest version of its pids that has ended
 abbrev pub version_word : ℕ → ℕ → ℕ → ℕ
@@ -30,11 +34,14 @@ pub record IsReadKept (shape : Shape) (words : List ℕ) (done : List Death) (r 
   pub slot_in : r.slot < shape.slots
   pub version : r.version ≤ slice_index words (version_word shape.slots r.shard r.slot)
   pub ended : 0 < r.version → (t : ℕ) × HasDeath done r.version t
-  pub stamp : MatchOption r.stamp (Unit {0}) (λ s. (s ≤ slice_index words (death_word shape.slots r.shard r.slot)) × (0 < r.version → HasDeath done r.version s))
+  pub stamp : MatchOption r.stamp (Unit {0})
+      (λ s. (s ≤ slice_index words (death_word shape.slots r.shard r.slot))
+      × (0 < r.version → HasDeath done r.version s))
 
 -- a view knows all deaths of the desks whose home it is and of no other desk, and each of its reads is kept
 pub record IsViewKept (shape : Shape) (words : List ℕ) (done pending : ℕ → ℕ → List Death) (v : View) : Type 0 where
-  pub home : (shard slot : ℕ) → IsHomeOf shard v → (deaths_at shard slot v.deaths ≡ done shard slot) × (deaths_at shard slot v.begun ≡ pending shard slot)
+  pub home : (shard slot : ℕ) → IsHomeOf shard v
+      → (deaths_at shard slot v.deaths ≡ done shard slot) × (deaths_at shard slot v.begun ≡ pending shard slot)
   pub deaths : (k : ℕ) (d : Death) → get_elem? v.deaths k ≡ some d → IsHomeOf d.shard v
   pub begun : (k : ℕ) (d : Death) → get_elem? v.begun k ≡ some d → IsHomeOf d.shard v
   pub reads : (k : ℕ) (r : Read) → get_elem? v.reads k ≡ some r → IsReadKept shape words (done r.shard r.slot) r
@@ -48,7 +55,8 @@ pub record IsKept (shape : Shape) (words : List ℕ) (views : List View) : Type 
   pub done : ℕ → ℕ → List Death
   pub pending : ℕ → ℕ → List Death
   pub sized : length words ≡ 2 * (shape.desks * shape.slots)
-  pub slots : (shard slot : ℕ) → shard < shape.desks → slot < shape.slots → IsSlotKept words shape.slots shard slot (done shard slot) (pending shard slot)
+  pub slots : (shard slot : ℕ) → shard < shape.desks → slot < shape.slots
+      → IsSlotKept words shape.slots shard slot (done shard slot) (pending shard slot)
   pub once : Once views
   pub each : (i : ℕ) (v : View) → get_elem? views i ≡ some v → IsViewKept shape words done pending v
 

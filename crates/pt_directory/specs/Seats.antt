@@ -44,7 +44,12 @@ add_death d s = record { name = s.name; homes = s.homes; reads = s.reads; deaths
 
 -- what two seats know together
 abbrev pub join_seats : SeatState → SeatState → SeatState
-join_seats s t = record { name = s.name; homes = s.homes ++ t.homes; reads = s.reads ++ t.reads; deaths = s.deaths ++ t.deaths }
+join_seats s t = record {
+  name = s.name;
+  homes = s.homes ++ t.homes;
+  reads = s.reads ++ t.reads;
+  deaths = s.deaths ++ t.deaths;
+}
 
 -- the death of this pid
 abbrev pub death_of : Pid → ℕ → Death
@@ -66,11 +71,15 @@ Probes pid old answer new =
 
 -- the seat has read, of the pid's slot, a version that is not below the pid's
 abbrev pub HasReadOf : Pid → SeatState → Type 0
-HasReadOf pid s = (k : ℕ) × (r : Read) × (get_elem? s.reads k ≡ some r) × (r.shard ≡ pid.shard) × (r.slot ≡ pid.slot) × (pid.version ≤ r.version)
+HasReadOf pid s =
+    (k : ℕ) × (r : Read) × (get_elem? s.reads k ≡ some r) × (r.shard ≡ pid.shard) × (r.slot ≡ pid.slot)
+    × (pid.version ≤ r.version)
 
 -- the seat has told, of the pid's slot, the death of a version that is not below the pid's
 abbrev pub HasToldOf : Pid → SeatState → Type 0
-HasToldOf pid s = (k : ℕ) × (d : Death) × (get_elem? s.deaths k ≡ some d) × (d.shard ≡ pid.shard) × (d.slot ≡ pid.slot) × (pid.version ≤ d.version)
+HasToldOf pid s =
+    (k : ℕ) × (d : Death) × (get_elem? s.deaths k ≡ some d) × (d.shard ≡ pid.shard) × (d.slot ≡ pid.slot)
+    × (pid.version ≤ d.version)
 
 -- each read with a stamp, of a slot whose home the seat is: the version read has died, and neither its death nor that
 -- of an earlier version has a greater stamp
@@ -86,11 +95,18 @@ given_deaths shard (x ∷ xs) = cond (eqb x.0.shard shard) (death_of x.0 x.1 ∷
 
 -- the home of this desk alone, which has told that these pids ended
 abbrev pub reopened_seat : TableId → List (Pid × ℕ) → ℕ → SeatState
-reopened_seat name given shard = record { name = name; homes = shard ∷ []; reads = []; deaths = given_deaths shard given }
+reopened_seat name given shard = record {
+  name = name;
+  homes = shard ∷ [];
+  reads = [];
+  deaths = given_deaths shard given;
+}
 
 -- no two of these pids are of one slot
 abbrev pub OnePerSlot : List (Pid × ℕ) → Type 0
-OnePerSlot xs = (i j : ℕ) (x y : Pid × ℕ) → get_elem? xs i ≡ some x → get_elem? xs j ≡ some y → x.0.shard ≡ y.0.shard → x.0.slot ≡ y.0.slot → i ≡ j
+OnePerSlot xs =
+    (i j : ℕ) (x y : Pid × ℕ) → get_elem? xs i ≡ some x → get_elem? xs j ≡ some y → x.0.shard ≡ y.0.shard
+    → x.0.slot ≡ y.0.slot → i ≡ j
 
 -- each of these pids has words in such a directory, a version and a stamp that are not 0, and a slot of its own
 pub record AreEnded (desks slots : ℕ) (given : List (Pid × ℕ)) : Type 0 where

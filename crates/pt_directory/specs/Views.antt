@@ -1,5 +1,6 @@
 -- What a seat knows: whose home it is, what it read, and which deaths it told.
-use Rattle.std.specs.Prelude.{◌≡◌, ℕ, zero, suc, ◌+◌, ◌<◌, ◌≤◌, Bool, ◌&&◌, cond, eqb, List, [], ◌∷◌, ◌++◌, filter, Option, Some}
+use Rattle.std.specs.Prelude.{◌≡◌, ℕ, zero, suc, ◌+◌, ◌<◌, ◌≤◌, Bool, ◌&&◌, cond, eqb, List, [], ◌∷◌, ◌++◌, filter}
+use Rattle.std.specs.Prelude.{Option, Some}
 use mathlib.Core.Option.{some}
 use lib.ListN.{get_elem?}
 use Rattle.pt_directory.specs.declared.view.Read.{Read}
@@ -42,7 +43,8 @@ Rises (d ∷ e ∷ ds) = (d.version < e.version) × (d.stamp < e.stamp) × Rises
 
 -- among the deaths is one of this version, with at most this stamp
 abbrev pub HasDeath : List Death → ℕ → ℕ → Type 0
-HasDeath ds version stamp = (k : ℕ) × (d : Death) × (get_elem? ds k ≡ some d) × (d.version ≡ version) × (d.stamp ≤ stamp)
+HasDeath ds version stamp =
+    (k : ℕ) × (d : Death) × (get_elem? ds k ≡ some d) × (d.version ≡ version) × (d.stamp ≤ stamp)
 
 -- this version has died, and neither its death nor an earlier version's has a greater stamp
 pub record Covers (ds : List Death) (version stamp : ℕ) : Type 0 where
@@ -96,7 +98,12 @@ finished v = record { homes = v.homes; reads = v.reads; deaths = v.deaths ++ v.b
 
 -- what two views know together
 abbrev pub joined_views : View → View → View
-joined_views v w = record { homes = v.homes ++ w.homes; reads = v.reads ++ w.reads; deaths = v.deaths ++ w.deaths; begun = v.begun ++ w.begun }
+joined_views v w = record {
+  homes = v.homes ++ w.homes;
+  reads = v.reads ++ w.reads;
+  deaths = v.deaths ++ w.deaths;
+  begun = v.begun ++ w.begun;
+}
 
 -- this read is the last
 abbrev pub LastRead : Read → List Read → Type 0

@@ -1,9 +1,11 @@
 //! The words, and the calls over them.
 
 ghost use Rattle.std.specs.Prelude.{◌≡◌, ◌*◌, ◌<◌, [], ◌∷◌, map, replicate, None, IfOk, IsSome};
-ghost use Rattle.pt_directory.specs.Views.{new_read, deaths_at, last_version, last_stamp, IsHomeOf, with_stamp, with_begun, finished, LastRead, up_from, fresh_view};
+ghost use Rattle.pt_directory.specs.Views.{new_read, deaths_at, last_version, last_stamp, IsHomeOf, with_stamp};
+ghost use Rattle.pt_directory.specs.Views.{with_begun, finished, LastRead, up_from, fresh_view};
 ghost use Rattle.pt_directory.specs.Rule.{version_word, LoadsVersion};
-ghost use Rattle.pt_directory.specs.Seats.{HasWordsFor, IsBegun, add_death, death_of, Probes, HasReadOf, HasToldOf, join_seats, IsAudited, new_seat, reopened_seat, AreEnded};
+ghost use Rattle.pt_directory.specs.Seats.{HasWordsFor, IsBegun, add_death, death_of, Probes, HasReadOf, HasToldOf};
+ghost use Rattle.pt_directory.specs.Seats.{join_seats, IsAudited, new_seat, reopened_seat, AreEnded};
 
 use crate::rule::{
     Audit, DirectoryRule, JoinViews, LoadDeath, LoadVersion, Numbers, SplitHome, StoreDeath,
@@ -38,7 +40,8 @@ impl Model for Directory {
 
     ghost view = { λ d. record { name = d.table.shared.table_id; desks = d.desks; slots = d.slots } };
 
-    ghost invariant = { λ d. (d.table.shared.key.desks ≡ d.desks) × (d.table.shared.key.slots ≡ d.slots) × (d.table.shared.table_id.words ≡ 2 * (d.desks * d.slots)) × (0 < d.desks) × (0 < d.slots) };
+    ghost invariant = { λ d. (d.table.shared.key.desks ≡ d.desks) × (d.table.shared.key.slots ≡ d.slots)
+        × (d.table.shared.table_id.words ≡ 2 * (d.desks * d.slots)) × (0 < d.desks) × (0 < d.slots) };
 }
 
 impl Directory {
@@ -92,8 +95,8 @@ impl Directory {
 
     /// Has this pid ended? Where it is seen to, the answer is a stamp that is not below that of its death.
     ///
-    /// It always is, where the pid is of the seat's own desk, and where the seat saw it before. The slot is one that the
-    /// directory has, and the version not 0. It takes no memory and waits for nobody.
+    /// It always is, where the pid is of the seat's own desk, and where the seat saw it before. The slot is one that
+    /// the directory has, and the version not 0. It takes no memory and waits for nobody.
     pub fn probe(&self, seat: &mut Seat, pid: Pid) -> Option<u64>
         requires seat { seat.old.name ≡ self.now.name }
         requires pid { HasWordsFor self.now pid × (0 < pid.version) }

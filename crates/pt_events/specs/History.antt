@@ -9,7 +9,8 @@
 --   i j     link ids                                m n     references; of numbers, n is a stamp
 --   k       a pick                                  l       a letter, stamped or not
 --   d e     desks, by their numbers                 low top the number above which stamps begin, the highest version
-use Rattle.std.specs.Prelude.{◌≡◌, Bool, true, false, cond, ◌&&◌, ◌||◌, Option, Some, None, List, [], ◌∷◌, ◌++◌, map, filter, ⊤}
+use Rattle.std.specs.Prelude.{◌≡◌, Bool, true, false, cond, ◌&&◌, ◌||◌, Option, Some, None, List, [], ◌∷◌, ◌++◌, map}
+use Rattle.std.specs.Prelude.{filter, ⊤}
 use Rattle.std.specs.Map.{lookup}
 use Rattle.std.specs.List.{find}
 use Rattle.pt_signal.specs.declared.pid.Pid.{Pid}
@@ -18,7 +19,8 @@ use Rattle.pt_signal.specs.declared.ids.LinkId.{LinkId}
 use Rattle.pt_signal.specs.declared.item.Item.{Item}
 use Rattle.pt_signal.specs.declared.reason.Reason.{Reason}
 use Rattle.pt_signal.specs.declared.signal.Signal.{Signal}
-use Rattle.pt_signal.specs.declared.signal.Signal.TheVariants.{Message, Link, Unlink, LinkExit, Monitor, Demonitor, AliveAsk, AliveSay}
+use Rattle.pt_signal.specs.declared.signal.Signal.TheVariants.{Message, Link, Unlink, LinkExit, Monitor, Demonitor}
+use Rattle.pt_signal.specs.declared.signal.Signal.TheVariants.{AliveAsk, AliveSay}
 use Rattle.pt_events.specs.declared.event.Event.{Event}
 use Rattle.pt_events.specs.declared.event.Event.TheVariants.{Born, Said, Came, Took, Flag, Left, Refused}
 use Rattle.pt_signal.specs.Values.{same_pid, same_ref, same_link, fits, without_first}
@@ -73,7 +75,8 @@ abbrev pub is_birth : Pid → Event → Bool
 is_birth p (Born q parent link) = same_pid p q
 is_birth p _ = false
 
--- the event is one of p's own: its birth, the birth of its child, what it says, takes, sets or gets, its exit; a refused call changes nobody, and is nobody's
+-- the event is one of p's own: its birth, the birth of its child, what it says, takes, sets or gets, its exit; a
+-- refused call changes nobody, and is nobody's
 abbrev pub touches : Pid → Event → Bool
 touches p (Born q parent link) = same_pid p q || is_the p parent
 touches p (Said a b x) = same_pid p a

@@ -1,5 +1,6 @@
 -- Journals: one desk's stamped events, the newest first; lanes between desks; the merge.
-use Rattle.std.specs.Prelude.{◌≡◌, ℕ, ◌<◌, ◌≤◌, pred, Bool, true, false, cond, ◌==◌, ◌&&◌, ◌⊎◌, Option, Some, None, List, [], ◌∷◌, ◌++◌, map, filter, ⊤}
+use Rattle.std.specs.Prelude.{◌≡◌, ℕ, ◌<◌, ◌≤◌, pred, Bool, true, false, cond, ◌==◌, ◌&&◌, ◌⊎◌, Option, Some, None}
+use Rattle.std.specs.Prelude.{List, [], ◌∷◌, ◌++◌, map, filter, ⊤}
 use Rattle.pt_signal.specs.declared.pid.Pid.{Pid}
 use Rattle.pt_signal.specs.declared.ids.LinkId.{LinkId}
 use Rattle.pt_signal.specs.declared.signal.Signal.TheVariants.{Link, Monitor, AliveAsk}
@@ -54,7 +55,8 @@ IsNewAt d n (Said a b (AliveAsk m)) = (m.desk ≡ d) × (m.number ≡ n)
 IsNewAt d n _ = ⊤
 
 module _ (start : Start) where
-  -- all but receipts may come, read over the journal alone; that the other of a refused call has ended, its own desk tells
+  -- all but receipts may come, read over the journal alone; that the other of a refused call has ended, its own desk
+  -- tells
   abbrev pub MayHere : Past → Event → Type 0
   MayHere past (Came a b x) = ⊤
   MayHere past (Refused a b) = alive start past a ≡ true
@@ -63,7 +65,9 @@ module _ (start : Start) where
   -- a Said to a pid of the desk comes after that pid's birth; a slot's versions follow one another
   abbrev pub IsKnown : ℕ → ℕ → Past → Event → Type 0
   IsKnown d top past (Said a b x) = b.shard ≡ d → is_unborn (life start past b) ≡ false
-  IsKnown d top past (Born p parent link) = (0 < p.version) × (p.version ≤ top) × (1 < p.version → is_ended (life start past (record p { version = pred p.version })) ≡ true)
+  IsKnown d top past (Born p parent link) =
+      (0 < p.version) × (p.version ≤ top)
+      × (1 < p.version → is_ended (life start past (record p { version = pred p.version })) ≡ true)
   IsKnown d top past _ = ⊤
 
   -- the next event of desk d

@@ -11,7 +11,8 @@ abbrev pub stamped_below : ℕ → List Stamped → List Stamped
 stamped_below n journal = filter (λ s. nat_lt s.stamp n) journal
 
 module _ (start : Start) (journal : Journals) where
-  -- a call that was refused at stamp n was to a process that has ended, by the events of its own desk with lower stamps; of other events nothing is asked
+  -- a call that was refused at stamp n was to a process that has ended, by the events of its own desk with lower
+  -- stamps; of other events nothing is asked
   abbrev pub IsTrueRefusal : ℕ → Event → Type 0
   IsTrueRefusal n (Refused a b) = is_ended (life start (events (stamped_below n (journal b.shard))) b) ≡ true
   IsTrueRefusal n _ = ⊤

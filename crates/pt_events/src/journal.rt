@@ -24,7 +24,11 @@ impl Model for Journal {
 
     ghost Value = { JournalState };
 
-    ghost view = { λ j. record { desk = j.desk; past = reverse j.events.items; room = vec_capacity j.events - vec_len j.events } };
+    ghost view = { λ j. record {
+      desk = j.desk;
+      past = reverse j.events.items;
+      room = vec_capacity j.events - vec_len j.events;
+    } };
 
     ghost invariant = { λ j. IsInOrder j.desk (reverse j.events.items) };
 }

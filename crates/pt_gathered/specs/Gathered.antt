@@ -1,5 +1,6 @@
 -- The desks of a node without their lanes, and the letters left over.
-use Rattle.std.specs.Prelude.{◌≡◌, ℕ, ◌+◌, ◌*◌, ◌<◌, nat_lt, Bool, cond, List, [], ◌++◌, length, map, slice_index_or, Option, None}
+use Rattle.std.specs.Prelude.{◌≡◌, ℕ, ◌+◌, ◌*◌, ◌<◌, nat_lt, Bool, cond, List, [], ◌++◌, length, map, slice_index_or}
+use Rattle.std.specs.Prelude.{Option, None}
 use Rattle.std.specs.List.{flat_map}
 use Rattle.pt_signal.specs.declared.letter.Letter.{Letter}
 use Rattle.pt_events.specs.History.{Start}
@@ -36,7 +37,8 @@ hold_at shards e = slice_index_or (map (λ (s : ShardState). s.hold) shards) e N
 
 -- what is left over from desk d to desk e: the letter in the hold, those in the lane, those that were not posted
 abbrev pub over_in : List ShardState → List (List Letter) → ℕ → ℕ → List Letter
-over_in shards lanes d e = held_from d (hold_at shards e) ++ slice_index_or lanes (d * length shards + e) [] ++ box_at shards d e
+over_in shards lanes d e =
+    held_from d (hold_at shards e) ++ slice_index_or lanes (d * length shards + e) [] ++ box_at shards d e
 
 abbrev pub are_both : Bool → Bool → List Letter → List Letter
 are_both a b over = cond a (cond b over []) []
@@ -57,7 +59,8 @@ pub record IsGathered (g : GatheredState) : Type 0 where
   pub desks : length g.shards ≡ g.config.desks
   pub lanes : length g.lanes ≡ length g.shards * length g.shards
   pub shards : (d : ℕ) (x : ShardState) → d < length g.shards → IsShardOf g.config d (slice_index_or g.shards d x)
-  pub agree : (d e : ℕ) → d < length g.shards → e < length g.shards → Agrees (posts (begins g) (journals g d) e) (gots (journals g e) d) (over_in g.shards g.lanes d e)
+  pub agree : (d e : ℕ) → d < length g.shards → e < length g.shards
+      → Agrees (posts (begins g) (journals g d) e) (gots (journals g e) d) (over_in g.shards g.lanes d e)
   pub refusals : RefusalsAreTrue (begins g) (journals g)
   pub begun : IsBeginning g.config.start (begins g)
   -- nothing was before any journal

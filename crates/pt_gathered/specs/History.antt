@@ -7,4 +7,6 @@ use Rattle.pt_shard.specs.ShardState.{ShardState}
 
 -- each is that of the desk at its place
 abbrev pub AreJournalsOf : List (Bor JournalState) → List ShardState → Type 0
-AreJournalsOf journals shards = map {B = ℕ × List Stamped} (λ (j : Bor JournalState). (j.now.desk, j.now.past)) journals ≡ map (λ (s : ShardState). (s.number, s.journal)) shards
+AreJournalsOf journals shards =
+    map {B = ℕ × List Stamped} (λ (j : Bor JournalState). (j.now.desk, j.now.past)) journals
+    ≡ map (λ (s : ShardState). (s.number, s.journal)) shards

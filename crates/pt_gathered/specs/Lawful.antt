@@ -31,35 +31,47 @@ KeepsHeadline g = IsHeadline (begins g) (journals g) (over g)
 
 -- the merge is legal and quiet
 abbrev pub IsQuietNode : GatheredState → Type 0
-IsQuietNode g = (merged : List Stamped) → IsMerge (journals g) merged → IsLegal (begins g) (events merged) × IsQuiet (begins g) (events merged)
+IsQuietNode g =
+    (merged : List Stamped) → IsMerge (journals g) merged
+    → IsLegal (begins g) (events merged) × IsQuiet (begins g) (events merged)
 
 -- the added events number at most the load of the history before
 abbrev pub IsBounded : GatheredState → GatheredState → Type 0
-IsBounded old new = (merged : List Stamped) → IsMerge (journals old) merged → event_count new ≤ event_count old + load (begins old) (events merged)
+IsBounded old new =
+    (merged : List Stamped) → IsMerge (journals old) merged
+    → event_count new ≤ event_count old + load (begins old) (events merged)
 
 -- links stand at both ends, or at neither
 abbrev pub LinksStand : GatheredState → Type 0
 LinksStand g =
-    (merged : List Stamped) (p q : Pid) → IsMerge (journals g) merged → same_pid p q ≡ false → alive (begins g) (events merged) p ≡ true → LinksAgree (begins g) (events merged) p q
+    (merged : List Stamped) (p q : Pid) → IsMerge (journals g) merged → same_pid p q ≡ false
+    → alive (begins g) (events merged) p ≡ true → LinksAgree (begins g) (events merged) p q
 
--- a monitor of a live w was demonitored, or had its one DOWN, or is open at w and kept by a live t; of a w that ended none is kept
+-- a monitor of a live w was demonitored, or had its one DOWN, or is open at w and kept by a live t; of a w that ended
+-- none is kept
 abbrev pub StandsAt : Start → Past → Pid → Pid → Ref → Type 0
 StandsAt start past w t m =
     (alive start past w ≡ true → times_made start past w t m ≡ 1
-    → (demonitors_and_downs start past w m + kept_in w t m (life start past t) ≡ 1) × (open_in w t m (life start past w) ≡ kept_in w t m (life start past t)))
+    → (demonitors_and_downs start past w m + kept_in w t m (life start past t) ≡ 1)
+    × (open_in w t m (life start past w) ≡ kept_in w t m (life start past t)))
     × (alive start past w ≡ false → kept_in w t m (life start past t) ≡ 0)
 
 abbrev pub WatchesStand : GatheredState → Type 0
-WatchesStand g = (merged : List Stamped) (w t : Pid) (m : Ref) → IsMerge (journals g) merged → StandsAt (begins g) (events merged) w t m
+WatchesStand g =
+    (merged : List Stamped) (w t : Pid) (m : Ref) → IsMerge (journals g) merged
+    → StandsAt (begins g) (events merged) w t m
 
--- each answer that arrived since the start is true, and all that the asker had sent before it asked came before its question did
+-- each answer that arrived since the start is true, and all that the asker had sent before it asked came before its
+-- question did
 abbrev pub AnswersHold : GatheredState → Type 0
 AnswersHold g =
     (merged : List Stamped) (q t : Pid) (m : Ref) (x : Bool) → IsMerge (journals g) merged
-    → Contains (arrived_since (begins g) (events merged) q) (Item.Alive m t x) → IsAnswer (begins g) (events merged) q t m x
+    → Contains (arrived_since (begins g) (events merged) q) (Item.Alive m t x)
+    → IsAnswer (begins g) (events merged) q t m x
 
 -- each question of a live process since the start has its one answer
 abbrev pub QuestionsAnswered : GatheredState → Type 0
 QuestionsAnswered g =
-    (merged : List Stamped) (q t : Pid) (m : Ref) → IsMerge (journals g) merged → alive (begins g) (events merged) q ≡ true
+    (merged : List Stamped) (q t : Pid) (m : Ref) → IsMerge (journals g) merged
+    → alive (begins g) (events merged) q ≡ true
     → count (is_answer m t) (arrived_since (begins g) (events merged) q) ≡ said_to q t (is_question m) (events merged)

@@ -45,7 +45,9 @@ pub record LaneStops (e d : ℕ) (stop : Stop) (old new : GatheredState) : Type 
   pub refused : IsRefused stop e next new
 
 -- of what is done in turn below n, all below one number is done, and there it stops
-pub record StopsInTurn (Does : ℕ → GatheredState → GatheredState → Type 0) (Stops : ℕ → Stop → GatheredState → GatheredState → Type 0) (n : ℕ) (stop : Stop) (old new : GatheredState) : Type 0 where
+pub record StopsInTurn (Does : ℕ → GatheredState → GatheredState → Type 0)
+    (Stops : ℕ → Stop → GatheredState → GatheredState → Type 0) (n : ℕ) (stop : Stop)
+    (old new : GatheredState) : Type 0 where
   pub at : ℕ
   pub within : at < n
   pub mid : GatheredState

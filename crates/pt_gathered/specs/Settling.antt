@@ -1,5 +1,6 @@
 -- What settling does: receipts alone, each of which lowers the load.
-use Rattle.std.specs.Prelude.{⊤, ◌≡◌, ℕ, ◌+◌, ◌^◌, ◌<◌, ◌≤◌, ◌==◌, ◌&&◌, Bool, true, false, cond, List, [], ◌∷◌, ◌++◌, length, map, filter, max, min, ◌-◌, drop, Result, Ok, Err}
+use Rattle.std.specs.Prelude.{⊤, ◌≡◌, ℕ, ◌+◌, ◌^◌, ◌<◌, ◌≤◌, ◌==◌, ◌&&◌, Bool, true, false, cond, List, [], ◌∷◌, ◌++◌}
+use Rattle.std.specs.Prelude.{length, map, filter, max, min, ◌-◌, drop, Result, Ok, Err}
 use Rattle.pt_signal.specs.declared.letter.Letter.{Letter}
 use Rattle.pt_events.specs.declared.event.Stamped.{Stamped}
 use Rattle.pt_events.specs.History.{Start, sent_by}
@@ -36,9 +37,11 @@ pub record Receives (d e : ℕ) (l : Letter) (old new : GatheredState) : Type 0 
   pub from : l.from.shard ≡ d
   pub to : l.to.shard ≡ e
   pub within : max (clock old.config.start (journals old e)) l.stamp < MAX_STAMP
-  pub journal : (k : ℕ) → k < length old.shards → journals new k ≡ cond (k == e) (receipt old.config.start e l (journals old e) ∷ journals old k) (journals old k)
+  pub journal : (k : ℕ) → k < length old.shards
+      → journals new k ≡ cond (k == e) (receipt old.config.start e l (journals old e) ∷ journals old k) (journals old k)
   pub left : (i k : ℕ) → i < length old.shards → k < length old.shards
-      → over_in new.shards new.lanes i k ≡ cond ((i == d) && (k == e)) (drop 1 (over_in old.shards old.lanes i k)) (over_in old.shards old.lanes i k)
+      → over_in new.shards new.lanes i k
+      ≡ cond ((i == d) && (k == e)) (drop 1 (over_in old.shards old.lanes i k)) (over_in old.shards old.lanes i k)
       ++ cond (i == e) (replies_to (begins old) old.config.start e l (journals old e) k) []
 
 -- a refusal: the stamp of the receipt would pass the limit, or else there was no memory for it
@@ -50,7 +53,9 @@ IsRefused Memory e l g = max (clock g.config.start (journals g e)) l.stamp < MAX
 abbrev pub Steps : ℕ → ℕ → GatheredState → Result Bool Stop → GatheredState → Type 0
 Steps d e old (Ok true) new = (l : Letter) × Receives d e l old new
 Steps d e old (Ok false) new = (over_in old.shards old.lanes d e ≡ []) × (new ≡ old)
-Steps d e old (Err stop) new = (l : Letter) × IsRefused stop e l old × (over_in old.shards old.lanes d e ≡ l ∷ drop 1 (over_in old.shards old.lanes d e)) × (new ≡ old)
+Steps d e old (Err stop) new =
+    (l : Letter) × IsRefused stop e l old
+    × (over_in old.shards old.lanes d e ≡ l ∷ drop 1 (over_in old.shards old.lanes d e)) × (new ≡ old)
 
 -- the one journal is the other with receipts after it
 pub record Follows (old new : List Stamped) : Type 0 where

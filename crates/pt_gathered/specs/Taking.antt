@@ -17,5 +17,8 @@ AreShards config shards = (d : ℕ) (x : ShardState) → d < length shards → I
 pub record TakesOut (d e : ℕ) (old new : List ShardState) (lanes lanes' : List (List Letter)) : Type 0 where
   pub bare_same : map bare new ≡ map bare old
   pub lane_count : length lanes' ≡ length lanes
-  pub over : (i k : ℕ) → i < length old → k < length old → over_in new lanes' i k ≡ cond ((i == d) && (k == e)) (drop 1 (over_in old lanes i k)) (over_in old lanes i k)
-  pub posted : (i k : ℕ) → i < length old → k < length old → posted_in new lanes' i k ≡ cond ((i == d) && (k == e)) (drop 1 (posted_in old lanes i k)) (posted_in old lanes i k)
+  pub over : (i k : ℕ) → i < length old → k < length old
+      → over_in new lanes' i k ≡ cond ((i == d) && (k == e)) (drop 1 (over_in old lanes i k)) (over_in old lanes i k)
+  pub posted : (i k : ℕ) → i < length old → k < length old
+      → posted_in new lanes' i k
+      ≡ cond ((i == d) && (k == e)) (drop 1 (posted_in old lanes i k)) (posted_in old lanes i k)

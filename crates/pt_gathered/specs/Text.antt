@@ -5,4 +5,5 @@ use Rattle.pt_gathered.specs.declared.left_over.LeftOver.{LeftOver}
 
 -- `left-over DESK -> DESK LETTER`
 unfoldable pub left_over_text : LeftOver → List ℕ
-left_over_text l = codes "left-over " ++ decimal l.from_desk ++ codes " -> " ++ decimal l.to_desk ++ codes " " ++ letter_text l.letter
+left_over_text l =
+    codes "left-over " ++ decimal l.from_desk ++ codes " -> " ++ decimal l.to_desk ++ codes " " ++ letter_text l.letter

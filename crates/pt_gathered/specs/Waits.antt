@@ -1,5 +1,6 @@
 -- Where the letters left over wait, as settling keeps account of it. No public clause cites this module.
-use Rattle.std.specs.Prelude.{◌≡◌, ℕ, ◌+◌, ◌*◌, ◌<◌, ◌≤◌, ⊤, Bool, true, false, List, [], ◌++◌, length, drop, slice_index_or, Result, Ok, Err}
+use Rattle.std.specs.Prelude.{◌≡◌, ℕ, ◌+◌, ◌*◌, ◌<◌, ◌≤◌, ⊤, Bool, true, false, List, [], ◌++◌, length, drop}
+use Rattle.std.specs.Prelude.{slice_index_or, Result, Ok, Err}
 use Rattle.pt_signal.specs.declared.letter.Letter.{Letter}
 use Rattle.pt_shard.specs.declared.stop.Stop.{Stop}
 use Rattle.pt_shard.specs.ShardState.{ShardState}
@@ -29,11 +30,13 @@ NonePosted e g = (d : ℕ) → d < length g.shards → posted_in g.shards g.lane
 -- where none of them was left over, none is
 abbrev pub KeepsNone : GatheredState → GatheredState → Type 0
 KeepsNone old new =
-    (i k : ℕ) → i < length old.shards → k < length old.shards → posted_in old.shards old.lanes i k ≡ [] → posted_in new.shards new.lanes i k ≡ []
+    (i k : ℕ) → i < length old.shards → k < length old.shards → posted_in old.shards old.lanes i k ≡ []
+    → posted_in new.shards new.lanes i k ≡ []
 
 -- what a step does to them: it takes the oldest out, or none where there is none
 abbrev pub StepsPosted : ℕ → ℕ → GatheredState → Result Bool Stop → GatheredState → Type 0
-StepsPosted d e old (Ok true) new = KeepsNone old new × (posted_in new.shards new.lanes d e ≡ drop 1 (posted_in old.shards old.lanes d e))
+StepsPosted d e old (Ok true) new =
+    KeepsNone old new × (posted_in new.shards new.lanes d e ≡ drop 1 (posted_in old.shards old.lanes d e))
 StepsPosted d e old (Ok false) new = ⊤
 StepsPosted d e old (Err stop) new = ⊤
 

@@ -1,7 +1,8 @@
 //! The desks of a node without their lanes, and the letters left over.
 
 ghost use Rattle.pt_carrier.specs.declared.ends.TheConstants.{MAX_DESKS};
-ghost use Rattle.std.specs.Prelude.{◌≡◌, ◌*◌, ◌<◌, ◌≤◌, ◌-◌, ◌^◌, ◌++◌, min, [], length, map, reverse, drop, slice_get, IfOk, OnOk, IfSome, IfNone};
+ghost use Rattle.std.specs.Prelude.{◌≡◌, ◌*◌, ◌<◌, ◌≤◌, ◌-◌, ◌^◌, ◌++◌, min, [], length, map, reverse, drop, slice_get};
+ghost use Rattle.std.specs.Prelude.{IfOk, OnOk, IfSome, IfNone};
 ghost use Rattle.pt_events.specs.Journal.{IsMerge};
 ghost use Rattle.pt_laws.specs.Laws.{LegalWithLeftOver};
 ghost use Rattle.pt_laws.specs.Load.{IsStart};
@@ -17,8 +18,8 @@ ghost use Rattle.pt_gathered.specs.Waits.{StepsPosted};
 
 use crate::left_over::LeftOver;
 use crate::node_laws::laws_of;
-use pt_events::{Journal, Stamped};
 use pt_accounts::Lives;
+use pt_events::{Journal, Stamped};
 use pt_merge::merge;
 use pt_shard::{Config, Shard, Stop};
 use pt_signal::Letter;
@@ -89,7 +90,11 @@ impl Model for Gathered {
 
     ghost view = { λ a. record { config = a.config; shards = a.shards.items; lanes = a.lanes.items } };
 
-    ghost invariant = { λ a. IsGathered (record { config = a.config; shards = a.shards.items; lanes = a.lanes.items }) };
+    ghost invariant = { λ a. IsGathered (record {
+      config = a.config;
+      shards = a.shards.items;
+      lanes = a.lanes.items;
+    }) };
 }
 
 impl Gathered {
@@ -118,7 +123,8 @@ impl Gathered {
     /// What happened on a desk, as it was when the desk was handed in or as settling left it; `None` exactly where
     /// the node has no desk of that number.
     pub fn journal(&self, desk: u8) -> Option<&Journal>
-        ensures some { IfSome result (λ j. (desk < length self.now.shards) × (j.now.desk ≡ desk) × (j.now.past ≡ journals self.now desk)) }
+        ensures some { IfSome result
+            (λ j. (desk < length self.now.shards) × (j.now.desk ≡ desk) × (j.now.past ≡ journals self.now desk)) }
         ensures none { IfNone result (length self.now.shards ≤ desk) }
     {
         let which = usize::from(desk);

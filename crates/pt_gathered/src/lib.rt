@@ -8,7 +8,7 @@
 //!     println!(rt; "{stamped}")?;                  // 1@0 born <0.0.1>
 //! }
 //! match gathered.settle() {
-//!     Ok(quiet) => ..                              // quiet.history(), quiet.handled(), quiet.pids(), quiet.account(pid)
+//!     Ok(quiet) => ..                              // quiet.history(), handled(), pids(), account(pid)
 //!     Err(unsettled) => ..                         // unsettled.fault, and unsettled.gathered to go on from
 //! }
 //! ```
@@ -40,8 +40,8 @@
 //! # Cost
 //!
 //! A letter that settling handles costs its receipt and, where it is the only one of its pass, three simple tests for
-//! each desk, 192 in a node of 64; letters of one pass share these. Desks to which nothing is left over are not looked at,
-//! and each lane is looked at in full once. No list of letters is moved and no journal is copied; reading the
+//! each desk, 192 in a node of 64; letters of one pass share these. Desks to which nothing is left over are not looked
+//! at, and each lane is looked at in full once. No list of letters is moved and no journal is copied; reading the
 //! journals takes constant time, on average, for each event. `history` takes the logarithm of the number of desks for
 //! each event.
 #![tactic(auto, unfolding(crate::specs::Text::left_over_text))]

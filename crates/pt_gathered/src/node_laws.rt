@@ -2,7 +2,8 @@
 
 ghost use Rattle.pt_gathered.specs.Gathered.{GatheredState};
 ghost use Rattle.pt_gathered.specs.Settling.{Settles, NothingLeft};
-ghost use Rattle.pt_gathered.specs.Lawful.{LanesKeep, KeepsHeadline, IsLegalNode, IsQuietNode, IsBounded, LinksStand, WatchesStand, AnswersHold, QuestionsAnswered};
+ghost use Rattle.pt_gathered.specs.Lawful.{LanesKeep, KeepsHeadline, IsLegalNode, IsQuietNode, IsBounded, LinksStand};
+ghost use Rattle.pt_gathered.specs.Lawful.{WatchesStand, AnswersHold, QuestionsAnswered};
 
 use crate::gathered::Gathered;
 use pt_laws::{laws, links};

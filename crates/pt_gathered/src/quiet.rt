@@ -13,12 +13,13 @@ ghost use Rattle.pt_accounts.specs.LivesState.{AreAllPids, InEveryMerge, account
 ghost use Rattle.pt_gathered.specs.Gathered.{begins, journals, over};
 ghost use Rattle.pt_gathered.specs.Quiet.{IsSettled};
 ghost use Rattle.pt_gathered.specs.Settling.{NothingLeft};
-ghost use Rattle.pt_gathered.specs.Lawful.{LanesKeep, KeepsHeadline, IsQuietNode, LinksStand, WatchesStand, AnswersHold, QuestionsAnswered};
+ghost use Rattle.pt_gathered.specs.Lawful.{LanesKeep, KeepsHeadline, IsQuietNode, LinksStand, WatchesStand};
+ghost use Rattle.pt_gathered.specs.Lawful.{AnswersHold, QuestionsAnswered};
 
 use crate::gathered::Gathered;
 use crate::node_laws::laws_of;
-use pt_events::Stamped;
 use pt_accounts::{Account, Lives};
+use pt_events::Stamped;
 use pt_signal::{Ids, Pid, Ref};
 use std::alloc::AllocError;
 use std::marker::Model;
@@ -65,15 +66,16 @@ impl Quiet {
     /// The events of all desks in the order of stamp, then desk: a legal history in which nothing is on its way.
     pub fn history(&self) -> Result<Vec<Stamped>, AllocError>
         ensures merge { IfOk result (λ h. IsMerge (journals self.now.gathered) (reverse h.items)) }
-        ensures legal { IfOk result (λ h. LegalWithLeftOver (begins self.now.gathered) (reverse h.items) (over self.now.gathered)) }
+        ensures legal { IfOk result
+            (λ h. LegalWithLeftOver (begins self.now.gathered) (reverse h.items) (over self.now.gathered)) }
         ensures quiet { IfOk result (λ h. IsQuiet (begins self.now.gathered) (events (reverse h.items))) }
     {
         self.laws();
         self.gathered.history()
     }
 
-    /// What the laws of histories say of a node in which nothing is on its way, for who has only the quiet node. It does
-    /// nothing.
+    /// What the laws of histories say of a node in which nothing is on its way, for who has only the quiet node. It
+    /// does nothing.
     pub fn laws(&self)
         ensures nothing_left { NothingLeft self.now.gathered }
         ensures lanes { LanesKeep self.now.gathered }
@@ -89,7 +91,8 @@ impl Quiet {
 
     /// The pids of all processes that were ever born, each once, by shard, slot and version.
     pub fn pids(&self) -> &[Pid]
-        ensures { InEveryMerge (journals self.now.gathered) (λ past. AreAllPids (begins self.now.gathered) past result.now) }
+        ensures { InEveryMerge (journals self.now.gathered)
+            (λ past. AreAllPids (begins self.now.gathered) past result.now) }
     {
         self.lives.pids()
     }
@@ -97,28 +100,35 @@ impl Quiet {
     /// Why the process ended, if it has, and how many items arrived in its mailbox, were taken, and wait or were left
     /// untaken at its end; `None` exactly where it was never born.
     pub fn account(&self, pid: Pid) -> Option<Account>
-        ensures { InEveryMerge (journals self.now.gathered) (λ past. result ≡ account_in (begins self.now.gathered) past pid) }
+        ensures { InEveryMerge (journals self.now.gathered)
+            (λ past. result ≡ account_in (begins self.now.gathered) past pid) }
     {
         self.lives.account(pid)
     }
 
     /// The ids under which a process is linked with another one, or was just after its own end.
     pub fn linked(&self, pid: Pid, peer: Pid) -> Option<Ids>
-        ensures { InEveryMerge (journals self.now.gathered) (λ past. result ≡ held (state (begins self.now.gathered) past pid).links peer) }
+        ensures { InEveryMerge (journals self.now.gathered)
+            (λ past. result ≡ held (state (begins self.now.gathered) past pid).links peer) }
     {
         self.lives.linked(pid, peer)
     }
 
     /// Whether a process keeps a watch of this reference for its watcher, or did just after its own end.
     pub fn kept(&self, target: Pid, monitor: Ref) -> bool
-        ensures { InEveryMerge (journals self.now.gathered) (λ past. result ≡ list_any (λ k. same_ref monitor k.0) (state (begins self.now.gathered) past target).kept) }
+        ensures { InEveryMerge (journals self.now.gathered)
+            (λ past.
+            result ≡ list_any (λ k. same_ref monitor k.0) (state (begins self.now.gathered) past target).kept) }
     {
         self.lives.kept(target, monitor)
     }
 
     /// Whether a process's monitor of this reference is open; none is once the process has ended.
     pub fn watching(&self, watcher: Pid, monitor: Ref) -> bool
-        ensures { InEveryMerge (journals self.now.gathered) (λ past. result ≡ is_some (lookup (same_ref monitor) (open_monitors (life (begins self.now.gathered) past watcher)))) }
+        ensures { InEveryMerge (journals self.now.gathered)
+            (λ past.
+            result
+            ≡ is_some (lookup (same_ref monitor) (open_monitors (life (begins self.now.gathered) past watcher)))) }
     {
         self.lives.watching(watcher, monitor)
     }

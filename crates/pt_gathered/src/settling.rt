@@ -4,9 +4,11 @@ ghost use Rattle.std.specs.Prelude.{◌≡◌, ℕ, ◌<◌, ◌≤◌, length, 
 ghost use Rattle.pt_shard.specs.declared.stop.Stop.TheVariants.{Memory};
 ghost use Rattle.pt_gathered.specs.Gathered.{over_in};
 ghost use Rattle.pt_gathered.specs.Settling.{Runs, Moves, Settles, NothingLeft, NothingTo, NothingBelow};
-ghost use Rattle.pt_gathered.specs.Order.{Passes, SettlingStops, Pass, PassStops, DeskComes, DeskStops, LaneComes, LaneStops};
+ghost use Rattle.pt_gathered.specs.Order.{Passes, SettlingStops, Pass, PassStops, DeskComes, DeskStops, LaneComes};
+ghost use Rattle.pt_gathered.specs.Order.{LaneStops};
 ghost use Rattle.pt_gathered.specs.Waits.{Waits, Marks, AreLeast, IsLeast, KeepsNone, NonePosted, posted_in};
-ghost use Rattle.pt_gathered.specs.Lawful.{LanesKeep, KeepsHeadline, IsLegalNode, IsQuietNode, IsBounded, LinksStand, WatchesStand, AnswersHold, QuestionsAnswered};
+ghost use Rattle.pt_gathered.specs.Lawful.{LanesKeep, KeepsHeadline, IsLegalNode, IsQuietNode, IsBounded, LinksStand};
+ghost use Rattle.pt_gathered.specs.Lawful.{WatchesStand, AnswersHold, QuestionsAnswered};
 
 use crate::gathered::Gathered;
 use crate::node_laws::laws_of;
@@ -56,13 +58,15 @@ impl Gathered {
     /// Where a receipt is refused, as `Worn` where its stamp would pass the limit of clocks, else as `Memory`, the node
     /// comes back with what was handled so far, of which all holds that holds of a gathered node; settling it again
     /// goes on from there. Where the reading of the journals finds no memory, the fault is `Memory` too, and no letter
-    /// is left over in the node that comes back; settling that again changes nothing of it, and reads the journals anew.
+    /// is left over in the node that comes back; settling that again changes nothing of it, and reads the journals
+    /// anew.
     ///
     /// A letter costs what its receipt costs, and tests. Where it is the only one of its pass there are three for each
-    /// desk, each of one mark or of one count: whether letters may be left over to the desk, whether the desk has any for
-    /// the receiver in its outbox, and whether the receiver now has any for the desk. That is 192 in a node of 64, and a
-    /// dozen for where the letter itself stands; letters of the same pass share the first 64, and those that come to the
-    /// same desk in it the others too. Besides, each lane is looked at once in full, when its desk is first come to.
+    /// desk, each of one mark or of one count: whether letters may be left over to the desk, whether the desk has any
+    /// for the receiver in its outbox, and whether the receiver now has any for the desk. That is 192 in a node of 64,
+    /// and a dozen for where the letter itself stands; letters of the same pass share the first 64, and those that come
+    /// to the same desk in it the others too. Besides, each lane is looked at once in full, when its desk is first come
+    /// to.
     pub fn settle(self) -> Result<Quiet, Unsettled>
         ensures order { IfOk result (λ q. (count : ℕ) × Passes (length self.shards) count self q.gathered) }
         ensures runs { IfOk result (λ q. Runs self 0 q.gathered q.handled) }
@@ -111,9 +115,9 @@ impl Gathered {
 
 /// One pass: each receiving desk, from desk 0.
 ///
-/// A desk that is not marked in `waits` has nothing left over to it. In `least` stands how many letters an outbox has to
-/// hold for a desk so that any can be left over between the two: 0 until that desk was come to, and 1 from then on, since
-/// all letters to it then wait in outboxes.
+/// A desk that is not marked in `waits` has nothing left over to it. In `least` stands how many letters an outbox has
+/// to hold for a desk so that any can be left over between the two: 0 until that desk was come to, and 1 from then on,
+/// since all letters to it then wait in outboxes.
 fn pass(
     gathered: &mut Gathered,
     waits: &mut [bool; 64],

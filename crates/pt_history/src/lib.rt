@@ -44,8 +44,8 @@
 //! # Cost
 //!
 //! Adding an event takes constant time on average. `merge` takes two pieces of memory and for each event the
-//! logarithm of the number of journals. `replay` takes constant time for an event, but for a look through the letters on
-//! their way at each receipt, and through the lists of the one process that the event is of.
+//! logarithm of the number of journals. `replay` takes constant time for an event, but for a look through the letters
+//! on their way at each receipt, and through the lists of the one process that the event is of.
 #![tactic(auto)]
 
 pub use pt_events::{Event, Journal, Stamped};

@@ -1,17 +1,20 @@
 -- Why an event may not come.
-use Rattle.std.specs.Prelude.{◌≡◌, ℕ, ◌<◌, true, false, Option, Some, None, Ok, Err, List, ◌∷◌, ◌++◌, length, reverse, take, slice_get}
+use Rattle.std.specs.Prelude.{◌≡◌, ℕ, ◌<◌, true, false, Option, Some, None, Ok, Err, List, ◌∷◌, ◌++◌, length, reverse}
+use Rattle.std.specs.Prelude.{take, slice_get}
 use Rattle.std.specs.declared.result.Result.{Result}
 use Rattle.std.specs.List.{find}
 use Rattle.pt_signal.specs.declared.pid.Pid.{Pid}
 use Rattle.pt_signal.specs.declared.ids.LinkId.{LinkId}
 use Rattle.pt_judge.specs.declared.cause.Cause.{Cause}
-use Rattle.pt_judge.specs.declared.cause.Cause.TheVariants.{BornTwice, NotAlive, NotFront, NotFirstMatch, Unlawful, Memory}
+use Rattle.pt_judge.specs.declared.cause.Cause.TheVariants.{BornTwice, NotAlive, NotFront, NotFirstMatch, Unlawful}
+use Rattle.pt_judge.specs.declared.cause.Cause.TheVariants.{Memory}
 use Rattle.pt_events.specs.declared.event.Event.{Event}
 use Rattle.pt_events.specs.declared.event.Event.TheVariants.{Born, Said, Came, Took, Flag, Left, Refused}
 use Rattle.pt_signal.specs.Values.{fits}
 use Rattle.pt_signal.specs.Process.{sent}
 use Rattle.pt_judge.specs.Judging.{JudgeState, now_is, ListsLinks, ListsRefs}
-use Rattle.pt_events.specs.History.{Past, Start, unborn, is_ended, life, alive, state, flying, is_between, made_link, MaySay, May, IsLegal}
+use Rattle.pt_events.specs.History.{Past, Start, unborn, is_ended, life, alive, state, flying, is_between, made_link}
+use Rattle.pt_events.specs.History.{MaySay, May, IsLegal}
 
 abbrev pub number : Cause → ℕ
 number BornTwice = 1
@@ -89,4 +92,5 @@ module _ (start : Start) where
 
   abbrev pub ReplaysAfter : Past → List Event → Result JudgeState (ℕ × Cause) → Type 0
   ReplaysAfter past h (Ok s) = IsAfter (reverse h ++ past) s × IsLegal start (reverse h ++ past)
-  ReplaysAfter past h (Err stop) = (stop.0 < length h) × IsLegal start (reverse (take stop.0 h) ++ past) × FailsAfter past h stop.0 stop.1
+  ReplaysAfter past h (Err stop) =
+      (stop.0 < length h) × IsLegal start (reverse (take stop.0 h) ++ past) × FailsAfter past h stop.0 stop.1

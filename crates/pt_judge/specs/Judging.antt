@@ -1,5 +1,6 @@
 -- What the judge knows, and what its own functions say.
-use Rattle.std.specs.Prelude.{◌≡◌, Bool, true, false, cond, not, ◌&&◌, ◌||◌, Option, Some, None, is_some, is_none, List, [], ◌∷◌, ◌++◌}
+use Rattle.std.specs.Prelude.{◌≡◌, Bool, true, false, cond, not, ◌&&◌, ◌||◌, Option, Some, None, is_some, is_none, List}
+use Rattle.std.specs.Prelude.{[], ◌∷◌, ◌++◌}
 use Rattle.std.specs.Map.{lookup, keys_of}
 use Rattle.std.specs.List.{find, list_any}
 use Rattle.std.specs.Option.{option_map}
@@ -11,17 +12,21 @@ use Rattle.pt_signal.specs.declared.item.Item.{Item}
 use Rattle.pt_signal.specs.declared.reason.Reason.{Reason}
 use Rattle.pt_signal.specs.declared.reason.Reason.TheVariants.{Normal, Kill}
 use Rattle.pt_signal.specs.declared.signal.Signal.{Signal}
-use Rattle.pt_signal.specs.declared.signal.Signal.TheVariants.{Message, Link, Unlink, LinkExit, Monitor, Demonitor, AliveAsk, AliveSay}
+use Rattle.pt_signal.specs.declared.signal.Signal.TheVariants.{Message, Link, Unlink, LinkExit, Monitor, Demonitor}
+use Rattle.pt_signal.specs.declared.signal.Signal.TheVariants.{AliveAsk, AliveSay}
 use Rattle.pt_judge.specs.declared.cause.Cause.{Cause}
 use Rattle.pt_judge.specs.declared.cause.Cause.TheVariants.{BornTwice, NotAlive, NotFront, NotFirstMatch, Unlawful}
 use Rattle.pt_events.specs.declared.event.Event.{Event}
 use Rattle.pt_events.specs.declared.event.Event.TheVariants.{Born, Said, Came, Took, Flag, Left, Refused}
 use Rattle.pt_signal.specs.Values.{same_pid, same_ref, same_link, fits}
 use Rattle.pt_signal.specs.Process.{ProcessState, held, handle, obey, verdict, Sent, sent, bounce}
-use Rattle.pt_events.specs.History.{Past, Start, Phase, unborn, is_birth, is_living, is_unborn, is_the, is_between, at_start, after, landed, reason_of, state_of, end_sends, life, flying, makes_link, makes_ref, made_link, made_ref}
+use Rattle.pt_events.specs.History.{Past, Start, Phase, unborn, is_birth, is_living, is_unborn, is_the, is_between}
+use Rattle.pt_events.specs.History.{at_start, after, landed, reason_of, state_of, end_sends, life, flying, makes_link}
+use Rattle.pt_events.specs.History.{makes_ref, made_link, made_ref}
 use Rattle.pt_judge.specs.Same.{same_item, same_ids, same_signal}
 
--- what the judge knows: the ids of links and the references that were made; what each process is that was born; and what is on its way
+-- what the judge knows: the ids of links and the references that were made; what each process is that was born; and
+-- what is on its way
 pub record JudgeState : Type 0 where
   pub links : List LinkId
   pub refs : List Ref
@@ -32,7 +37,8 @@ pub record JudgeState : Type 0 where
 abbrev pub now_is : JudgeState → Pid → Phase
 now_is s p = at_start s.lives p
 
--- what decides whether an event may come: which ids of links and references were made, what each pid is, and what is on its way
+-- what decides whether an event may come: which ids of links and references were made, what each pid is, and what is on
+-- its way
 pub record Known : Type 0 where
   pub links : LinkId → Bool
   pub refs : Ref → Bool
@@ -40,10 +46,20 @@ pub record Known : Type 0 where
   pub flights : List Sent
 
 abbrev pub known : JudgeState → Known
-known s = record { links = λ i. list_any (same_link i) s.links; refs = λ m. list_any (same_ref m) s.refs; is = now_is s; flights = s.flights }
+known s = record {
+  links = λ i. list_any (same_link i) s.links;
+  refs = λ m. list_any (same_ref m) s.refs;
+  is = now_is s;
+  flights = s.flights;
+}
 
 abbrev pub known_after : Start → Past → Known
-known_after start past = record { links = made_link past; refs = made_ref past; is = life start past; flights = flying start past }
+known_after start past = record {
+  links = made_link past;
+  refs = made_ref past;
+  is = life start past;
+  flights = flying start past;
+}
 
 -- the table lists those that were born, and no other
 abbrev pub ListsBorn : Start → Type 0
@@ -65,12 +81,14 @@ is_normal Normal = true
 is_normal _ = false
 
 -- the state and the ending after an exit signal that is not dropped for its ids
-pub record IsObeyed (by_link : Bool) (me : Pid) (old : ProcessState) (from : Pid) (r : Reason) (new : ProcessState) (ending : Option Reason) : Type 0 where
+pub record IsObeyed (by_link : Bool) (me : Pid) (old : ProcessState) (from : Pid) (r : Reason) (new : ProcessState)
+    (ending : Option Reason) : Type 0 where
   pub state : new ≡ (obey (verdict by_link old.traps (same_pid from me) from r) old).state
   pub end : ending ≡ (obey (verdict by_link old.traps (same_pid from me) from r) old).ending
 
 -- the state and the ending after a signal
-pub record IsHandled (me : Pid) (old : ProcessState) (from : Pid) (x : Signal) (new : ProcessState) (ending : Option Reason) : Type 0 where
+pub record IsHandled (me : Pid) (old : ProcessState) (from : Pid) (x : Signal) (new : ProcessState)
+    (ending : Option Reason) : Type 0 where
   pub state : new ≡ (handle me old from x).state
   pub end : ending ≡ (handle me old from x).ending
 
@@ -85,10 +103,16 @@ MayBeBorn start _ = Unit {0}
 
 -- the process of the pid has seen the event, and no other has changed
 abbrev pub ShownTo : Pid → Event → Start → Start → Type 0
-ShownTo q e old new = (p : Pid) → lookup (same_pid p) new ≡ cond (same_pid p q) (option_map (after p e) (lookup (same_pid p) old)) (lookup (same_pid p) old)
+ShownTo q e old new =
+    (p : Pid)
+    → lookup (same_pid p) new
+    ≡ cond (same_pid p q) (option_map (after p e) (lookup (same_pid p) old)) (lookup (same_pid p) old)
 
 abbrev pub IsShownToParent : Option Pid → Event → Start → Start → Type 0
-IsShownToParent parent e old new = (p : Pid) → lookup (same_pid p) new ≡ cond (is_the p parent) (option_map (after p e) (lookup (same_pid p) old)) (lookup (same_pid p) old)
+IsShownToParent parent e old new =
+    (p : Pid)
+    → lookup (same_pid p) new
+    ≡ cond (is_the p parent) (option_map (after p e) (lookup (same_pid p) old)) (lookup (same_pid p) old)
 
 -- the pids of the table, in its order
 abbrev pub ListsPids : List Pid → Start → Type 0
@@ -170,10 +194,16 @@ unlawful_link k (Some q) (Some i) = k.links i
 
 -- why the event may not come next, by tests
 abbrev pub cause : Known → Event → Option Cause
-cause k (Born p parent link) = cond (is_unborn (k.is p)) (cond (lacks k parent) (Some NotAlive) (cond (unlawful_link k parent link) (Some Unlawful) None)) (Some BornTwice)
+cause k (Born p parent link) =
+    cond (is_unborn (k.is p))
+    (cond (lacks k parent) (Some NotAlive) (cond (unlawful_link k parent link) (Some Unlawful) None)) (Some BornTwice)
 cause k (Said a b x) = cond (is_living (k.is a)) (cond (may_say k a b x) None (Some Unlawful)) (Some NotAlive)
-cause k (Came a b x) = cond (is_signal (option_map (λ l. l.signal) (find (is_between a b) k.flights)) x) None (Some NotFront)
-cause k (Took p j i) = cond (is_living (k.is p)) (cond (is_item (find (fits j) (state_of (k.is p)).waiting) i) None (Some NotFirstMatch)) (Some NotAlive)
+cause k (Came a b x) =
+    cond (is_signal (option_map (λ l. l.signal) (find (is_between a b) k.flights)) x) None (Some NotFront)
+cause k (Took p j i) =
+    cond (is_living (k.is p)) (cond (is_item (find (fits j) (state_of (k.is p)).waiting) i) None (Some NotFirstMatch))
+    (Some NotAlive)
 cause k (Flag p on) = cond (is_living (k.is p)) None (Some NotAlive)
 cause k (Left p r) = cond (is_living (k.is p)) None (Some NotAlive)
-cause k (Refused a b) = cond (is_living (k.is a)) (cond (is_some (reason_of (k.is b))) None (Some Unlawful)) (Some NotAlive)
+cause k (Refused a b) =
+    cond (is_living (k.is a)) (cond (is_some (reason_of (k.is b))) None (Some Unlawful)) (Some NotAlive)

@@ -10,7 +10,8 @@ ActsMayCome start [] = ⊤
 ActsMayCome start (e ∷ past) = MayHere start past e × ActsMayCome start past
 
 abbrev pub LocalActs : Type 0
-LocalActs = (start : Start) (low top d : ℕ) (journal : List Stamped) → IsLocal start low top d journal → ActsMayCome start (events journal)
+LocalActs = (start : Start) (low top d : ℕ) (journal : List Stamped) → IsLocal start low top d journal
+    → ActsMayCome start (events journal)
 
 abbrev pub LegalActs : Type 0
 LegalActs = (start : Start) (past : Past) → IsLegal start past → ActsMayCome start past

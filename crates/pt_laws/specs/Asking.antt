@@ -11,7 +11,8 @@ use Rattle.pt_events.specs.History.{Past, Start, IsLegal, alive, arrived_since, 
 use Rattle.pt_laws.specs.Load.{IsQuiet}
 use Rattle.pt_laws.specs.Watch.{count, said_to}
 
--- q's question m came to t; x says whether t was alive just before; and what had come from q to t by then is all that q had sent t when it asked
+-- q's question m came to t; x says whether t was alive just before; and what had come from q to t by then is all that q
+-- had sent t when it asked
 pub record IsAnswer (start : Start) (past : Past) (q t : Pid) (m : Ref) (x : Bool) : Type 0 where
   pub later : Past
   pub between : Past
@@ -38,5 +39,6 @@ is_answer m t _ = false
 -- in a quiet history as many answers of t to m arrived at a live q as q asked t under m
 abbrev pub QuietAnswers : Type 0
 QuietAnswers =
-    (start : Start) (past : Past) (q t : Pid) (m : Ref) → IsLegal start past → IsQuiet start past → alive start past q ≡ true
+    (start : Start) (past : Past) (q t : Pid) (m : Ref) → IsLegal start past → IsQuiet start past
+    → alive start past q ≡ true
     → count (is_answer m t) (arrived_since start past q) ≡ said_to q t (is_question m) past

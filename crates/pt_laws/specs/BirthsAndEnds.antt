@@ -1,5 +1,6 @@
 -- Births and ends.
-use Rattle.std.specs.Prelude.{◌≡◌, ℕ, ◌+◌, Bool, true, false, cond, not, ◌&&◌, ◌||◌, Option, Some, None, is_some, [], ◌∷◌, ◌++◌}
+use Rattle.std.specs.Prelude.{◌≡◌, ℕ, ◌+◌, Bool, true, false, cond, not, ◌&&◌, ◌||◌, Option, Some, None, is_some, []}
+use Rattle.std.specs.Prelude.{◌∷◌, ◌++◌}
 use Rattle.std.specs.Option.{option_or}
 use Rattle.pt_signal.specs.declared.pid.Pid.{Pid}
 use Rattle.pt_signal.specs.declared.reason.Reason.{Reason}
@@ -9,7 +10,8 @@ use Rattle.pt_events.specs.declared.event.Event.{Event}
 use Rattle.pt_events.specs.declared.event.Event.TheVariants.{Came, Left}
 use Rattle.pt_signal.specs.Values.{same_pid}
 use Rattle.pt_signal.specs.Process.{ProcessState, Verdict, ends, verdict, held, holds_any}
-use Rattle.pt_events.specs.History.{Past, Start, Phase, living, ended, at_start, life, alive, arrived, is_birth, is_unborn, is_ended, reason_of}
+use Rattle.pt_events.specs.History.{Past, Start, Phase, living, ended, at_start, life, alive, arrived, is_birth}
+use Rattle.pt_events.specs.History.{is_unborn, is_ended, reason_of}
 use Rattle.pt_laws.specs.Acts.{ActsMayCome}
 use Rattle.pt_laws.specs.Load.{one_if}
 
@@ -17,10 +19,12 @@ abbrev pub ended_by : Verdict → Option Reason
 ended_by (ends r) = Some r
 ended_by _ = None
 
--- the reason with which the signal of a ends a live p: an exit signal by the verdict, one of a link only where the link is still held
+-- the reason with which the signal of a ends a live p: an exit signal by the verdict, one of a link only where the link
+-- is still held
 abbrev pub signal_ends : Pid → ProcessState → Pid → Signal → Option Reason
 signal_ends p s a (Signal.Exit r) = ended_by (verdict false s.traps (same_pid a p) a r)
-signal_ends p s a (LinkExit ids r) = cond (holds_any (held s.links a) ids) (ended_by (verdict true s.traps (same_pid a p) a r)) None
+signal_ends p s a (LinkExit ids r) =
+    cond (holds_any (held s.links a) ids) (ended_by (verdict true s.traps (same_pid a p) a r)) None
 signal_ends p s a _ = None
 
 -- the reason with which the event ends p: its own exit, or a signal that comes while it lives

@@ -1,4 +1,5 @@
--- Why the law on links has its premise: two histories in which a parent said a Link to its child before a birth that links the two.
+-- Why the law on links has its premise: two histories in which a parent said a Link to its child before a birth that
+-- links the two.
 use Rattle.std.specs.Prelude.{◌≡◌, true, Some, None, [], ◌∷◌}
 use Rattle.pt_signal.specs.declared.pid.Pid.{Pid}
 use Rattle.pt_signal.specs.declared.ids.LinkId.{LinkId}

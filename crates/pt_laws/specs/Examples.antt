@@ -63,9 +63,11 @@ cascade =
     ∷ []
 
 abbrev pub Cascade : Type 0
-Cascade = IsLegal [] cascade × IsQuiet [] cascade × ((state [] cascade (pid 2)).waiting ≡ Item.Exit (pid 1) (Other 7) ∷ [])
+Cascade = IsLegal [] cascade × IsQuiet [] cascade
+    × ((state [] cascade (pid 2)).waiting ≡ Item.Exit (pid 1) (Other 7) ∷ [])
 
--- a parent that linked to its child's pid before the birth, which no desk's journal allows: each event may come, the history is quiet, and the two hold different ids
+-- a parent that linked to its child's pid before the birth, which no desk's journal allows: each event may come, the
+-- history is quiet, and the two hold different ids
 abbrev pub early : Past
 early =
     Came (pid 1) (pid 0) (LinkExit (one_id (at 3)) Noproc)

@@ -1,4 +1,5 @@
--- The headline: what holds of the mailboxes of all desks where their journals are local and their lanes agree. It asks for no merge.
+-- The headline: what holds of the mailboxes of all desks where their journals are local and their lanes agree. It asks
+-- for no merge.
 use Rattle.std.specs.Prelude.{◌≡◌, ℕ, ◌+◌, ◌≤◌, not, List, ◌++◌, map}
 use Rattle.pt_signal.specs.declared.pid.Pid.{Pid}
 use Rattle.pt_signal.specs.declared.ids.Ref.{Ref}
@@ -19,17 +20,22 @@ module _ (start : Start) (journal : Journals) (over : ℕ → ℕ → List Lette
   at_home p = events (journal p.shard)
 
   pub record IsHeadline : Type 0 where
-    -- a's messages to p, in order and each once: those that came before p's birth, those that arrived, those that came after its end, those left over
+    -- a's messages to p, in order and each once: those that came before p's birth, those that arrived, those that came
+    -- after its end, those left over
     pub front : (a p : Pid) → IsSenderFront a p start journal (over a.shard p.shard)
     -- a pid is born once, before the start or since
     pub born_once : (p : Pid) → births (at_home p) p + one_if (not (is_unborn (at_start start p))) ≤ 1
     -- nothing enters after the end
-    pub closed : (p : Pid) (later past : Past) (r : Reason) (s : ProcessState) → at_home p ≡ later ++ past → life start past p ≡ ended r s → arrived start (at_home p) p ≡ arrived start past p
-    -- taken and waiting together are the arrivals: each take took the arrival at one position, no two at the same; the others wait, in order
+    pub closed : (p : Pid) (later past : Past) (r : Reason) (s : ProcessState) → at_home p ≡ later ++ past
+        → life start past p ≡ ended r s → arrived start (at_home p) p ≡ arrived start past p
+    -- taken and waiting together are the arrivals: each take took the arrival at one position, no two at the same; the
+    -- others wait, in order
     pub took : (p : Pid) → taken (at_home p) p ≡ map (λ e. e.1) (places start p (at_home p))
     pub took_arrivals : (p : Pid) → AllArrivals (arrived start (at_home p) p) (places start p (at_home p))
     pub took_once : (p : Pid) → AllDistinct (places start p (at_home p))
-    pub waits : (p : Pid) → (state start (at_home p) p).waiting ≡ map (λ e. e.1) (free_of (places start p (at_home p)) (arrived start (at_home p) p))
+    pub waits : (p : Pid)
+        → (state start (at_home p) p).waiting
+        ≡ map (λ e. e.1) (free_of (places start p (at_home p)) (arrived start (at_home p) p))
     -- at most one DOWN of a monitor, and none where it was demonitored
     pub one_down : (w : Pid) (m : Ref) → demonitors_and_downs start (at_home w) w m ≤ 1
 

@@ -8,7 +8,8 @@ use Rattle.pt_events.specs.Journal.{Journals, IsHome, IsLocal, IsMerge, events, 
 use Rattle.pt_events.specs.Locality.{AllHome}
 use Rattle.pt_laws.specs.Taken.{taken}
 
--- what a process is after a history, all that ever arrived in its mailbox, and what it took, is told by the events of its own desk
+-- what a process is after a history, all that ever arrived in its mailbox, and what it took, is told by the events of
+-- its own desk
 abbrev pub ReadLocally : Type 0
 ReadLocally =
     (start : Start) (merged : List Stamped) (p : Pid) → AllHome merged
@@ -36,7 +37,8 @@ JournalsSay =
 abbrev pub MergeIsThere : Type 0
 MergeIsThere =
     (start : Start) (low top n : ℕ) (journal : Journals)
-    → ((d : ℕ) → IsLocal start low top d (journal d)) → ((d : ℕ) → n ≤ d → journal d ≡ []) → (merged : List Stamped) × IsMerge journal merged
+    → ((d : ℕ) → IsLocal start low top d (journal d)) → ((d : ℕ) → n ≤ d → journal d ≡ [])
+    → (merged : List Stamped) × IsMerge journal merged
 
 -- and one only
 abbrev pub MergeIsOne : Type 0

@@ -14,7 +14,8 @@ CameOrFlies =
     (start : Start) (past : Past) (a b : Pid) → IsLegal start past
     → emitted start past a b ≡ came past a b ++ flight start past a b
 
--- where lanes agree, a's messages to p are those that came before p's birth, those that arrived, those that came after p's end, and those left over
+-- where lanes agree, a's messages to p are those that came before p's birth, those that arrived, those that came after
+-- p's end, and those left over
 abbrev pub SenderFront : Type 0
 SenderFront =
     (start : Start) (journal : Journals) (over : ℕ → ℕ → List Letter) (a p : Pid) → LanesAgree start journal over

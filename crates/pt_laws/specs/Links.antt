@@ -46,11 +46,13 @@ IsBornFree (e ∷ past) = IsBornFree past
 module _ (start : Start) where
   -- the ids that p holds with q are those that q holds with p
   abbrev pub HoldSame : Past → Pid → Pid → Type 0
-  HoldSame past p q = (i : LinkId) → holds_id (held (state start past p).links q) i ≡ holds_id (held (state start past q).links p) i
+  HoldSame past p q =
+      (i : LinkId) → holds_id (held (state start past p).links q) i ≡ holds_id (held (state start past q).links p) i
 
   abbrev pub HoldsNone : Past → Pid → Pid → Type 0
   HoldsNone past p q = held (state start past p).links q ≡ None
 
   -- a link of a live p stands at both ends, or, where the other is not alive, at neither
   abbrev pub LinksAgree : Past → Pid → Pid → Type 0
-  LinksAgree past p q = (alive start past q ≡ true → HoldSame past p q) × (alive start past q ≡ false → HoldsNone past p q)
+  LinksAgree past p q =
+      (alive start past q ≡ true → HoldSame past p q) × (alive start past q ≡ false → HoldsNone past p q)

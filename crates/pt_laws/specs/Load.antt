@@ -68,4 +68,5 @@ left_weight over = weights (map content over)
 
 -- of the desks below n: the lists of each journal's live processes, and the letters left over in each lane
 abbrev pub load_by_desk : Start → Journals → (ℕ → ℕ → List Letter) → ℕ → ℕ
-load_by_desk start journal over n = below (λ d. desk_sizes start d (events (journal d))) n + below (λ d. below (λ e. left_weight (over d e)) n) n
+load_by_desk start journal over n =
+    below (λ d. desk_sizes start d (events (journal d))) n + below (λ d. below (λ e. left_weight (over d e)) n) n

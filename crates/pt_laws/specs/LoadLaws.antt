@@ -39,7 +39,8 @@ EmptyIsQuiet = (start : Start) (past : Past) → LanesFly start past (λ d e. []
 -- the oldest letter of a lane may come
 abbrev pub OldestMayCome : Type 0
 OldestMayCome =
-    (start : Start) (past : Past) (over : ℕ → ℕ → List Letter) (l : Letter) (rest : List Letter) → LanesFly start past over
+    (start : Start) (past : Past) (over : ℕ → ℕ → List Letter) (l : Letter) (rest : List Letter)
+    → LanesFly start past over
     → over l.from.shard l.to.shard ≡ l ∷ rest → May start past (Came l.from l.to l.signal)
 
 -- settling, desk by desk ---------------------------------------------------------------
@@ -48,10 +49,13 @@ OldestMayCome =
 abbrev pub OneReceipt : Type 0
 OneReceipt =
     (start : Start) (past : Past) (a b : Pid) (x : Signal) → IsStart start
-    → desk_sizes start b.shard (Came a b x ∷ past) + weights (sent_by start past (Came a b x)) + 1 ≤ desk_sizes start b.shard past + weight x
+    → desk_sizes start b.shard (Came a b x ∷ past) + weights (sent_by start past (Came a b x)) + 1
+    ≤ desk_sizes start b.shard past + weight x
 
--- the oldest letter left over from desk d to desk e comes there, by the event s; nothing else happens at the desks below n
-pub record OldestComes (start : Start) (n d e : ℕ) (l : Letter) (s : Stamped) (journal after : Journals) (over left : ℕ → ℕ → List Letter) : Type 0 where
+-- the oldest letter left over from desk d to desk e comes there, by the event s; nothing else happens at the desks
+-- below n
+pub record OldestComes (start : Start) (n d e : ℕ) (l : Letter) (s : Stamped) (journal after : Journals)
+    (over left : ℕ → ℕ → List Letter) : Type 0 where
   pub rest : List Letter
   pub oldest : over d e ≡ l ∷ rest
   pub there : l.to.shard ≡ e
@@ -60,13 +64,16 @@ pub record OldestComes (start : Start) (n d e : ℕ) (l : Letter) (s : Stamped) 
   pub lanes : (i k : ℕ) → i < n → k < n
       → left i k
       ≡ cond ((i == d) && (k == e)) rest (over i k)
-      ++ cond (i == e) (filter (λ r. r.to.shard == k) (map (letter s.stamp) (sent_by start (events (journal e)) s.event))) []
+      ++ cond (i == e)
+      (filter (λ r. r.to.shard == k) (map (letter s.stamp) (sent_by start (events (journal e)) s.event))) []
 
 -- it lowers the load of the desks below n
 abbrev pub ReceiptLowers : Type 0
 ReceiptLowers =
-    (start : Start) (n d e : ℕ) (l : Letter) (s : Stamped) (journal after : Journals) (over left : ℕ → ℕ → List Letter) → IsStart start
-    → d < n → e < n → OldestComes start n d e l s journal after over left → load_by_desk start after left n < load_by_desk start journal over n
+    (start : Start) (n d e : ℕ) (l : Letter) (s : Stamped) (journal after : Journals) (over left : ℕ → ℕ → List Letter)
+    → IsStart start
+    → d < n → e < n → OldestComes start n d e l s journal after over left
+    → load_by_desk start after left n < load_by_desk start journal over n
 
 -- there are no desks but those below n
 pub record HasDesks (n : ℕ) (start : Start) (journal : Journals) (over : ℕ → ℕ → List Letter) : Type 0 where
@@ -78,5 +85,6 @@ pub record HasDesks (n : ℕ) (start : Start) (journal : Journals) (over : ℕ �
 abbrev pub LoadByDesk : Type 0
 LoadByDesk =
     (start : Start) (low top n : ℕ) (journal : Journals) (over : ℕ → ℕ → List Letter) (merged : List Stamped)
-    → ((d : ℕ) → IsLocal start low top d (journal d)) → LanesAgree start journal over → IsMerge journal merged → HasDesks n start journal over
+    → ((d : ℕ) → IsLocal start low top d (journal d)) → LanesAgree start journal over → IsMerge journal merged
+    → HasDesks n start journal over
     → load_by_desk start journal over n ≡ load start (events merged)

@@ -28,7 +28,8 @@ AllNewTo old (e ∷ past) = IsNewTo old e × AllNewTo old past
 
 -- the history makes no id and no reference that is numbered above n
 abbrev pub MadeUpTo : ℕ → Past → Type 0
-MadeUpTo n past = ((i : LinkId) → n < i.number → made_link past i ≡ false) × ((m : Ref) → n < m.number → made_ref past m ≡ false)
+MadeUpTo n past =
+    ((i : LinkId) → n < i.number → made_link past i ≡ false) × ((m : Ref) → n < m.number → made_ref past m ≡ false)
 
 -- the start is what `old` left behind, a legal and quiet history from the very beginning
 pub record IsLeftBy (start : Start) (old : Past) : Type 0 where

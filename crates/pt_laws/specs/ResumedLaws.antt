@@ -17,12 +17,14 @@ ResumedLegal =
     (start : Start) (old new : Past) → IsStart start → IsLegal start old → IsQuiet start old → AllNewTo old new
     → IsLegal (start_after start old) new → IsLegal start (new ++ old)
 
--- and each letter flies as after both, and each pid is as after both; but of one that ended before, the reason alone is left
+-- and each letter flies as after both, and each pid is as after both; but of one that ended before, the reason alone is
+-- left
 abbrev pub ResumedSame : Type 0
 ResumedSame =
     (start : Start) (old new : Past) → IsStart start → IsLegal start old → IsQuiet start old
     → ((p : Pid) → is_ended (life start old p) ≡ false → life (start_after start old) new p ≡ life start (new ++ old) p)
-    × ((p : Pid) (r : Reason) (s : ProcessState) → life start old p ≡ ended r s → life (start_after start old) new p ≡ ended r fresh)
+    × ((p : Pid) (r : Reason) (s : ProcessState) → life start old p ≡ ended r s
+    → life (start_after start old) new p ≡ ended r fresh)
     × (flying (start_after start old) new ≡ flying start (new ++ old))
 
 -- the state after it is again a start, and keeps what the laws on words ask of a start
@@ -36,7 +38,8 @@ ResumedStart =
 -- to go on twice is to go on once, with both histories; so any number of times
 abbrev pub ResumedTwice : Type 0
 ResumedTwice =
-    (start : Start) (one two : Past) → IsStart start → start_after (start_after start one) two ≡ start_after start (two ++ one)
+    (start : Start) (one two : Past) → IsStart start
+    → start_after (start_after start one) two ≡ start_after start (two ++ one)
 
 -- the empty start is left by the empty history, to which every history is new
 abbrev pub EmptyIsLeft : Type 0
@@ -45,7 +48,8 @@ EmptyIsLeft = IsLeftBy [] [] × ((past : Past) → AllNewTo [] past)
 -- a legal and quiet history over a start that was left behind leaves one again, after any number of them
 abbrev pub LeftAgain : Type 0
 LeftAgain =
-    (start : Start) (old new : Past) → IsStart start → IsLeftBy start old → AllNewTo old new → IsLegal start new → IsQuiet start new
+    (start : Start) (old new : Past) → IsStart start → IsLeftBy start old → AllNewTo old new → IsLegal start new
+    → IsQuiet start new
     → IsLeftBy (start_after start new) (new ++ old)
 
 -- new ids -----------------------------------------------------------------------------
@@ -54,7 +58,8 @@ LeftAgain =
 abbrev pub StampsNumber : Type 0
 StampsNumber =
     (start : Start) (low top n : ℕ) (journal : Journals) (merged : List Stamped)
-    → ((d : ℕ) → IsLocal start low top d (journal d)) → IsMerge journal merged → ((d : ℕ) → clock low (journal d) ≤ n) → MadeUpTo n (events merged)
+    → ((d : ℕ) → IsLocal start low top d (journal d)) → IsMerge journal merged → ((d : ℕ) → clock low (journal d) ≤ n)
+    → MadeUpTo n (events merged)
 
 -- two histories together make what each makes
 abbrev pub BothNumber : Type 0
@@ -64,7 +69,8 @@ BothNumber = (n : ℕ) (one two : Past) → MadeUpTo n one → MadeUpTo n two �
 abbrev pub StampsAreNew : Type 0
 StampsAreNew =
     (start : Start) (low top : ℕ) (journal : Journals) (merged : List Stamped) (old : Past)
-    → MadeUpTo low old → ((d : ℕ) → IsLocal start low top d (journal d)) → IsMerge journal merged → AllNewTo old (events merged)
+    → MadeUpTo low old → ((d : ℕ) → IsLocal start low top d (journal d)) → IsMerge journal merged
+    → AllNewTo old (events merged)
 
 -- and the monitors open afterwards are old to what begins above
 abbrev pub OldRefsResumed : Type 0

@@ -54,7 +54,8 @@ module _ (a p : Pid) where
   came_when start test [] = []
   came_when start test (e ∷ past) = came_when start test past ++ came_by_when test (life start past p) e
 
-  -- a's messages to p: those that came before its birth, those that arrived, those that came after its end, and those left over
+  -- a's messages to p: those that came before its birth, those that arrived, those that came after its end, and those
+  -- left over
   abbrev pub IsSenderFront : Start → Journals → List Letter → Type 0
   IsSenderFront start journal over =
       said_messages (events (journal a.shard))

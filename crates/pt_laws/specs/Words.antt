@@ -1,5 +1,6 @@
 -- What a process holds, each word in its own terms: what came in, and has not gone since then.
-use Rattle.std.specs.Prelude.{◌≡◌, ◌≤◌, Bool, true, false, cond, not, ◌&&◌, ◌||◌, ◌↔◌, Option, Some, None, is_some, List, [], ◌∷◌, filter, option_to_list, Contains}
+use Rattle.std.specs.Prelude.{◌≡◌, ◌≤◌, Bool, true, false, cond, not, ◌&&◌, ◌||◌, ◌↔◌, Option, Some, None, is_some}
+use Rattle.std.specs.Prelude.{List, [], ◌∷◌, filter, option_to_list, Contains}
 use Rattle.std.specs.Map.{keys_of}
 use Rattle.std.specs.List.{list_any}
 use Rattle.std.specs.Option.{option_or}
@@ -13,7 +14,8 @@ use Rattle.pt_events.specs.declared.event.Event.{Event}
 use Rattle.pt_events.specs.declared.event.Event.TheVariants.{Born, Said, Came, Flag}
 use Rattle.pt_signal.specs.Values.{same_pid, same_ref}
 use Rattle.pt_signal.specs.Process.{or_else, id_list, has_id, held, same_watch}
-use Rattle.pt_events.specs.History.{Past, Start, Phase, open_monitors, at_start, life, after, state, state_of, is_living}
+use Rattle.pt_events.specs.History.{Past, Start, Phase, open_monitors, at_start, life, after, state, state_of}
+use Rattle.pt_events.specs.History.{is_living}
 use Rattle.pt_laws.specs.Acts.{ActsMayCome}
 use Rattle.pt_laws.specs.Watch.{count}
 use Rattle.pt_laws.specs.BirthsAndEnds.{ends_with}
@@ -35,7 +37,9 @@ last_flag (e ∷ past) p = option_or (flag_of p e) (last_flag past p)
 
 -- the flag is the last one that was set; where none was, it is off, or as it was at the start
 abbrev pub TrapIsLastFlag : Type 0
-TrapIsLastFlag = (start : Start) (past : Past) (p : Pid) → ActsMayCome start past → (state start past p).traps ≡ or_else (last_flag past p) (state start [] p).traps
+TrapIsLastFlag =
+    (start : Start) (past : Past) (p : Pid) → ActsMayCome start past
+    → (state start past p).traps ≡ or_else (last_flag past p) (state start [] p).traps
 
 -- link ids -----------------------------------------------------------------------------------------
 
@@ -49,7 +53,8 @@ ids_with f q = link_ids (held (state_of f).links q)
 
 -- p and q were linked at the birth of one of them, p said Link to q, or a Link of q came while p lived
 abbrev pub link_offered : Pid → Pid → Phase → Event → List LinkId
-link_offered p q f (Born c (Some a) (Some i)) = cond ((same_pid p c && same_pid q a) || (same_pid p a && same_pid q c)) (i ∷ []) []
+link_offered p q f (Born c (Some a) (Some i)) =
+    cond ((same_pid p c && same_pid q a) || (same_pid p a && same_pid q c)) (i ∷ []) []
 link_offered p q f (Said a b (Link i)) = cond (same_pid p a && same_pid q b) (i ∷ []) []
 link_offered p q f (Came a b (Link i)) = cond (is_living f && same_pid p b && same_pid q a) (i ∷ []) []
 link_offered p q f _ = []
@@ -62,29 +67,34 @@ are_two _ = false
 abbrev pub link_enters : Pid → Pid → Phase → Event → List LinkId
 link_enters p q f e = cond (are_two (ids_with f q)) [] (link_offered p q f e)
 
--- p said an Unlink of the id to q, or while p lived there came from q an Unlink of the id, or a LinkExit of an id then held
+-- p said an Unlink of the id to q, or while p lived there came from q an Unlink of the id, or a LinkExit of an id then
+-- held
 abbrev pub link_leaves : Pid → Pid → Phase → Event → LinkId → Bool
 link_leaves p q f (Said a b (Unlink ids)) i = same_pid p a && same_pid q b && has_id ids i
 link_leaves p q f (Came a b (Unlink ids)) i = is_living f && same_pid p b && same_pid q a && has_id ids i
-link_leaves p q f (Came a b (LinkExit ids r)) i = is_living f && same_pid p b && same_pid q a && list_any (has_id ids) (ids_with f q)
+link_leaves p q f (Came a b (LinkExit ids r)) i =
+    is_living f && same_pid p b && same_pid q a && list_any (has_id ids) (ids_with f q)
 link_leaves p q f _ i = false
 
 -- at the start no process has two entries with one pid
 abbrev pub HasOneEntryEach : Start → Type 0
 HasOneEntryEach start = (p q : Pid) → count (λ e. same_pid q e.0) (state start [] p).links ≤ 1
 
--- the ids that p holds with q, in order of entry, are those that entered and have not left since; an ended process holds what it held at its end
+-- the ids that p holds with q, in order of entry, are those that entered and have not left since; an ended process
+-- holds what it held at its end
 abbrev pub HeldSince : Type 0
 HeldSince =
     (start : Start) (past : Past) (p q : Pid) → ActsMayCome start past → HasOneEntryEach start
     → ids_with (life start past p) q
-    ≡ standing (ids_with (at_start start p) q) (λ before. link_enters p q (life start before p)) (λ before. link_leaves p q (life start before p)) past
+    ≡ standing (ids_with (at_start start p) q) (λ before. link_enters p q (life start before p))
+    (λ before. link_leaves p q (life start before p)) past
 
 abbrev pub IsHeldSince : Type 0
 IsHeldSince =
     (start : Start) (past : Past) (p q : Pid) (i : LinkId) → ActsMayCome start past → HasOneEntryEach start
     → Contains (ids_with (life start past p) q) i
-    ↔ StandsSince (ids_with (at_start start p) q) (λ before. link_enters p q (life start before p)) (λ before. link_leaves p q (life start before p)) past i
+    ↔ StandsSince (ids_with (at_start start p) q) (λ before. link_enters p q (life start before p))
+    (λ before. link_leaves p q (life start before p)) past i
 
 -- peers --------------------------------------------------------------------------------------------
 
@@ -114,7 +124,9 @@ peer_ends p f e q = not (holds_with (after p e f) q)
 abbrev pub PeersSince : Type 0
 PeersSince =
     (start : Start) (past : Past) (p : Pid) → HasOneEntryEach start
-    → peers (life start past p) ≡ standing (peers (at_start start p)) (λ before. peer_begins p (life start before p)) (λ before. peer_ends p (life start before p)) past
+    → peers (life start past p)
+    ≡ standing (peers (at_start start p)) (λ before. peer_begins p (life start before p))
+    (λ before. peer_ends p (life start before p)) past
 
 -- open monitors ------------------------------------------------------------------------------------
 
@@ -137,19 +149,23 @@ abbrev pub OpenSince : Type 0
 OpenSince =
     (start : Start) (past : Past) (w : Pid) → ActsMayCome start past → ((m : Ref) → IsMadeOnce start past w m)
     → open_monitors (life start past w)
-    ≡ standing (open_monitors (at_start start w)) (λ before. monitor_opens w) (λ before. monitor_closes w (life start before w)) past
+    ≡ standing (open_monitors (at_start start w)) (λ before. monitor_opens w)
+    (λ before. monitor_closes w (life start before w)) past
 
 abbrev pub IsOpenSince : Type 0
 IsOpenSince =
-    (start : Start) (past : Past) (w t : Pid) (m : Ref) → ActsMayCome start past → ((n : Ref) → IsMadeOnce start past w n)
+    (start : Start) (past : Past) (w t : Pid) (m : Ref) → ActsMayCome start past
+    → ((n : Ref) → IsMadeOnce start past w n)
     → Contains (open_monitors (life start past w)) (m, t)
-    ↔ StandsSince (open_monitors (at_start start w)) (λ before. monitor_opens w) (λ before. monitor_closes w (life start before w)) past (m, t)
+    ↔ StandsSince (open_monitors (at_start start w)) (λ before. monitor_opens w)
+    (λ before. monitor_closes w (life start before w)) past (m, t)
 
 -- kept watches -------------------------------------------------------------------------------------
 
 -- a Monitor of w came while t lived; one that is kept already does not enter again
 abbrev pub watch_enters : Pid → Phase → Event → List (Ref × Pid)
-watch_enters t f (Came w b (Monitor m)) = cond (is_living f && same_pid t b && not (list_any (same_watch m w) (state_of f).kept)) ((m, w) ∷ []) []
+watch_enters t f (Came w b (Monitor m)) =
+    cond (is_living f && same_pid t b && not (list_any (same_watch m w) (state_of f).kept)) ((m, w) ∷ []) []
 watch_enters t f _ = []
 
 -- the Demonitor of the same reference came from the same w while t lived
@@ -161,15 +177,18 @@ watch_leaves t f _ k = false
 abbrev pub KeepsEachOnce : Start → Type 0
 KeepsEachOnce start = (t w : Pid) (m : Ref) → count (same_watch m w) (state start [] t).kept ≤ 1
 
--- the watches that t keeps, in order of coming, are those that came and were not given up since; an ended process keeps what it kept at its end
+-- the watches that t keeps, in order of coming, are those that came and were not given up since; an ended process keeps
+-- what it kept at its end
 abbrev pub KeptSince : Type 0
 KeptSince =
     (start : Start) (past : Past) (t : Pid) → KeepsEachOnce start
     → (state start past t).kept
-    ≡ standing (state start [] t).kept (λ before. watch_enters t (life start before t)) (λ before. watch_leaves t (life start before t)) past
+    ≡ standing (state start [] t).kept (λ before. watch_enters t (life start before t))
+    (λ before. watch_leaves t (life start before t)) past
 
 abbrev pub IsKeptSince : Type 0
 IsKeptSince =
     (start : Start) (past : Past) (t w : Pid) (m : Ref) → KeepsEachOnce start
     → Contains (state start past t).kept (m, w)
-    ↔ StandsSince (state start [] t).kept (λ before. watch_enters t (life start before t)) (λ before. watch_leaves t (life start before t)) past (m, w)
+    ↔ StandsSince (state start [] t).kept (λ before. watch_enters t (life start before t))
+    (λ before. watch_leaves t (life start before t)) past (m, w)

@@ -2,13 +2,18 @@
 
 ghost use Rattle.pt_laws.specs.Acts.{LocalActs, LegalActs};
 ghost use Rattle.pt_laws.specs.BirthsAndEnds.{LivesOnce, StaysEnded, NothingAfterEnd, AliveUntilEnd};
-ghost use Rattle.pt_laws.specs.Words.{TrapIsLastFlag, HeldSince, IsHeldSince, PeersSince, OpenSince, IsOpenSince, KeptSince, IsKeptSince};
+ghost use Rattle.pt_laws.specs.Words.{TrapIsLastFlag, HeldSince, IsHeldSince, PeersSince, OpenSince, IsOpenSince};
+ghost use Rattle.pt_laws.specs.Words.{KeptSince, IsKeptSince};
 ghost use Rattle.pt_laws.specs.JournalLaws.{ReadLocally, SentLocally, JournalsSay, MergeIsThere, MergeIsOne};
 ghost use Rattle.pt_laws.specs.Taken.{TakenByPosition};
 ghost use Rattle.pt_laws.specs.Laws.{CameOrFlies, SenderFront, MergeLegal};
-ghost use Rattle.pt_laws.specs.ResumedLaws.{ResumedLegal, ResumedSame, ResumedStart, ResumedTwice, EmptyIsLeft, LeftAgain, StampsNumber, BothNumber, StampsAreNew, OldRefsResumed};
-ghost use Rattle.pt_laws.specs.MonitorLaws.{OneDown, MadeOnce, MadeOnceLocal, EmptyHasOldRefs, MadeOnceOver, QuietMonitor, QuietWatch, QuietMonitorOver, QuietWatchOver, QuietMonitorSince};
-ghost use Rattle.pt_laws.specs.LoadLaws.{LoadFalls, ReceiptsBounded, QuietFlights, EmptyIsQuiet, OldestMayCome, OneReceipt, ReceiptLowers, LoadByDesk};
+ghost use Rattle.pt_laws.specs.ResumedLaws.{ResumedLegal, ResumedSame, ResumedStart, ResumedTwice, EmptyIsLeft};
+ghost use Rattle.pt_laws.specs.ResumedLaws.{LeftAgain, StampsNumber, BothNumber, StampsAreNew, OldRefsResumed};
+ghost use Rattle.pt_laws.specs.MonitorLaws.{OneDown, MadeOnce, MadeOnceLocal, EmptyHasOldRefs, MadeOnceOver};
+ghost use Rattle.pt_laws.specs.MonitorLaws.{QuietMonitor, QuietWatch, QuietMonitorOver, QuietWatchOver};
+ghost use Rattle.pt_laws.specs.MonitorLaws.{QuietMonitorSince};
+ghost use Rattle.pt_laws.specs.LoadLaws.{LoadFalls, ReceiptsBounded, QuietFlights, EmptyIsQuiet, OldestMayCome};
+ghost use Rattle.pt_laws.specs.LoadLaws.{OneReceipt, ReceiptLowers, LoadByDesk};
 ghost use Rattle.pt_laws.specs.Headline.{HeadlineHolds};
 ghost use Rattle.pt_laws.specs.Asking.{AnswersAreTrue, QuietAnswers};
 ghost use Rattle.pt_laws.specs.Examples.{TenLines, Cascade, EarlyLink};
@@ -67,8 +72,8 @@ pub fn watches_are_kept_since()
 {}
 
 /// What a process is after a history (alive or not, its trap flag, links, monitors and waiting items), all that
-/// arrived in its mailbox, what it took, and what an event sends, is told by the events of its own desk. So a desk's journal
-/// says of its own pids what every merge says.
+/// arrived in its mailbox, what it took, and what an event sends, is told by the events of its own desk. So a desk's
+/// journal says of its own pids what every merge says.
 pub fn journals_tell_their_pids()
     ensures life { ReadLocally }
     ensures sent { SentLocally }

@@ -1,6 +1,7 @@
 //! The laws of links: each is the contract of a function that does nothing.
 
-ghost use Rattle.pt_laws.specs.LinkLaws.{QuietLinks, KnownBornFree, MergeKnown, MergeLinks, QuietLinksOver, MergeLinksOver, KnownAgain};
+ghost use Rattle.pt_laws.specs.LinkLaws.{QuietLinks, KnownBornFree, MergeKnown, MergeLinks, QuietLinksOver};
+ghost use Rattle.pt_laws.specs.LinkLaws.{MergeLinksOver, KnownAgain};
 ghost use Rattle.pt_laws.specs.EarlyLinks.{EarlyLinkUnknown, EarlyLinkAbroad};
 
 /// Once no signal is on its way, a link of a live process stands at both ends or at neither: where the other

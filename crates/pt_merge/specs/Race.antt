@@ -1,5 +1,7 @@
 -- The race of journals to give the next event of their merge. No public clause cites this module.
-use Rattle.std.specs.Prelude.{◌≡◌, ◌⊎◌, length, ℕ, zero, suc, ◌+◌, ◌-◌, ◌/◌, ◌<◌, ◌≤◌, Bool, true, false, cond, ◌==◌, ◌&&◌, ◌||◌, nat_lt, nat_le, Option, Some, None, List, [], ◌∷◌, drop, reverse, slice_index_or}
+use Rattle.std.specs.Prelude.{◌≡◌, ◌⊎◌, length, ℕ, zero, suc, ◌+◌, ◌-◌, ◌/◌, ◌<◌, ◌≤◌, Bool, true, false, cond, ◌==◌}
+use Rattle.std.specs.Prelude.{◌&&◌, ◌||◌, nat_lt, nat_le, Option, Some, None, List, [], ◌∷◌, drop, reverse}
+use Rattle.std.specs.Prelude.{slice_index_or}
 use Rattle.pt_events.specs.declared.event.Stamped.{Stamped}
 use Rattle.pt_events.specs.JournalState.{IsInOrder}
 use Rattle.pt_merge.specs.declared.merging.Seat.{Seat}
@@ -73,7 +75,8 @@ module _ (key : ℕ → Option (ℕ × ℕ)) where
   -- every match is played
   pub data IsPlayed (winner : ℕ → ℕ) : ℕ → ℕ → Type 0 where
     alone : (low high : ℕ) → high ≡ low + 1 → IsPlayed winner low high
-    matched : (low high : ℕ) → low + 1 < high → IsPlayed winner low (middle low high) → IsPlayed winner (middle low high) high → IsBest low high (winner (middle low high))
+    matched : (low high : ℕ) → low + 1 < high → IsPlayed winner low (middle low high)
+        → IsPlayed winner (middle low high) high → IsBest low high (winner (middle low high))
         → IsPlayed winner low high
 
 -- who won among them: the only one, or who stands in the seat of their middle

@@ -4,7 +4,9 @@ ghost use Rattle.std.specs.Prelude.{◌≡◌, ℕ, ◌+◌, ◌<◌, ◌≤◌,
 ghost use Rattle.pt_events.specs.Journal.{IsMerge};
 ghost use Rattle.pt_events.specs.JournalState.{IsInOrder};
 ghost use Rattle.pt_merge.specs.Merging.{AreApart, journal_of};
-ghost use Rattle.pt_merge.specs.Race.{AreInOrder, desk_at, past_at, events_at, left_at, head_of, key_at, taken_at, winner_at, winner_in, middle, leads, IsBest, IsPlayed, IsTaken, OnlyWinners, TakesFirst};
+ghost use Rattle.pt_merge.specs.Race.{AreInOrder, desk_at, past_at, events_at, left_at, head_of, key_at, taken_at};
+ghost use Rattle.pt_merge.specs.Race.{winner_at, winner_in, middle, leads, IsBest, IsPlayed, IsTaken, OnlyWinners};
+ghost use Rattle.pt_merge.specs.Race.{TakesFirst};
 
 use pt_events::{Journal, Stamped};
 use std::alloc::{AllocError, Global};
@@ -61,7 +63,9 @@ fn events_of<'a>(journals: &[&'a Journal], which: usize) -> &'a [Stamped]
 fn seats(alloc: Global, journals: &[&Journal]) -> Result<Vec<Seat>, AllocError>
     ensures length { IfOk result (λ seats. length seats.items ≡ length journals.now) }
     ensures untaken { IfOk result (λ seats. (j : ℕ) → taken_at seats.items j ≡ 0) }
-    ensures played { IfOk result (λ seats. 0 < length journals.now → IsPlayed (key_at journals.now seats.items) (winner_at seats.items) 0 (length journals.now)) }
+    ensures played { IfOk result
+        (λ seats. 0 < length journals.now
+        → IsPlayed (key_at journals.now seats.items) (winner_at seats.items) 0 (length journals.now)) }
 {
     let start = Seat {
         winner: 0,
@@ -141,8 +145,10 @@ fn play(journals: &[&Journal], seats: &mut Vec<Seat>, low: usize, high: usize)
     requires same { length seats.old.items ≡ length journals.now }
     requires some { low + 1 < high }
     requires within { high ≤ length journals.now }
-    requires one_half { IsPlayed (key_at journals.now seats.old.items) (winner_at seats.old.items) low (middle low high) }
-    requires other_half { IsPlayed (key_at journals.now seats.old.items) (winner_at seats.old.items) (middle low high) high }
+    requires one_half { IsPlayed (key_at journals.now seats.old.items) (winner_at seats.old.items) low
+        (middle low high) }
+    requires other_half { IsPlayed (key_at journals.now seats.old.items) (winner_at seats.old.items)
+        (middle low high) high }
     ensures written { OnlyWinners low high seats.old.items seats.new.items }
     ensures played { IsPlayed (key_at journals.now seats.new.items) (winner_at seats.new.items) low high }
 {
@@ -194,9 +200,11 @@ fn advance(journals: &[&Journal], seats: &mut Vec<Seat>, low: usize, high: usize
 /// Takes the next event of the merge, if any is left.
 fn next(journals: &[&Journal], seats: &mut Vec<Seat>) -> Option<Stamped>
     requires same { length seats.old.items ≡ length journals.now }
-    requires played { 0 < length journals.now → IsPlayed (key_at journals.now seats.old.items) (winner_at seats.old.items) 0 (length journals.now) }
+    requires played { 0 < length journals.now
+        → IsPlayed (key_at journals.now seats.old.items) (winner_at seats.old.items) 0 (length journals.now) }
     ensures same { length seats.new.items ≡ length seats.old.items }
-    ensures played { 0 < length journals.now → IsPlayed (key_at journals.now seats.new.items) (winner_at seats.new.items) 0 (length journals.now) }
+    ensures played { 0 < length journals.now
+        → IsPlayed (key_at journals.now seats.new.items) (winner_at seats.new.items) 0 (length journals.now) }
     ensures takes { TakesFirst journals.now seats.old.items result seats.new.items }
 {
     if journals.is_empty() {

@@ -9,7 +9,8 @@ use Rattle.pt_directory.specs.Seats.{DirectoryState}
 use Rattle.pt_desk.specs.Sight.{Sight}
 use Rattle.pt_desk.specs.DeskState.{DeskState, IsDesk, IsAccounted, place}
 
--- all desks of one opening with these settings, each once and in order: no call of a desk changes its settings or its place
+-- all desks of one opening with these settings, each once and in order: no call of a desk changes its settings or its
+-- place
 pub record AreDesksOf (config : Config) (desks : List DeskState) : Type 0 where
   pub some : 0 < length desks
   pub count : length desks ≡ config.desks
@@ -25,7 +26,8 @@ AreDesks desks = (config : Config) × AreDesksOf config desks
 -- what a caller needs of what it does to one of the desks, so that all of them stay the desks of their node: the desk
 -- keeps its place among the lanes, its settings and its directory, as each call of a desk does
 abbrev pub IsStill : DeskState → DeskState → Type 0
-IsStill old new = (place new ≡ place old) × (new.shard.config ≡ old.shard.config) × (new.sight.directory ≡ old.sight.directory)
+IsStill old new =
+    (place new ≡ place old) × (new.shard.config ≡ old.shard.config) × (new.sight.directory ≡ old.sight.directory)
 
 abbrev pub all_ends : List DeskState → List (OutEnds × InEnds)
 all_ends desks = map (λ (d : DeskState). (d.outs, d.ins)) desks
@@ -34,7 +36,8 @@ abbrev pub all_shards : List DeskState → List ShardState
 all_shards desks = map (λ (d : DeskState). d.shard) desks
 
 -- all of a desk but what its ends know of the other end of each lane
-abbrev pub desk_kept : DeskState → ShardState × Sight × (Place × List (List Letter) × List ℕ) × (Place × ℕ × List (List Letter))
+abbrev pub desk_kept : DeskState
+    → ShardState × Sight × (Place × List (List Letter) × List ℕ) × (Place × ℕ × List (List Letter))
 desk_kept d = (d.shard, d.sight, (kept (d.outs, d.ins)).0, (kept (d.outs, d.ins)).1)
 
 -- what holds of every desk

@@ -21,16 +21,20 @@ pub record Gathers (desks : List DeskState) (g : GatheredState) : Type 0 where
 
 -- the journals are those handed in, event for event
 abbrev pub HasJournalsOf : List DeskState → GatheredState → Type 0
-HasJournalsOf desks g = (length g.shards ≡ length desks) × ((d : ℕ) → journals g d ≡ slice_index_or (map (λ (d : DeskState). d.shard.journal) desks) d [])
+HasJournalsOf desks g =
+    (length g.shards ≡ length desks)
+    × ((d : ℕ) → journals g d ≡ slice_index_or (map (λ (d : DeskState). d.shard.journal) desks) d [])
 
 -- whatever a desk has read as an end was one: the pids of that slot, up to the version that it found, have ended by
 -- the events of their own desk, and none of these ends has a greater stamp
 abbrev pub IsTrueRead : Start → Journals → Read → Type 0
 IsTrueRead start journal r =
     (p : Pid) → HasEndOf p r
-    → MatchOption r.stamp (Unit {0}) (λ n. is_ended (life start (events (stamped_below (n + 1) (journal p.shard))) p) ≡ true)
+    → MatchOption r.stamp (Unit {0})
+    (λ n. is_ended (life start (events (stamped_below (n + 1) (journal p.shard))) p) ≡ true)
 
 abbrev pub ReadsAreTrue : List DeskState → GatheredState → Type 0
 ReadsAreTrue desks g =
-    (d : ℕ) (x : DeskState) → d < length desks → (k : ℕ) (r : Read) → get_elem? (slice_index_or desks d x).sight.reads k ≡ some r
+    (d : ℕ) (x : DeskState) → d < length desks → (k : ℕ) (r : Read)
+    → get_elem? (slice_index_or desks d x).sight.reads k ≡ some r
     → IsTrueRead (begins g) (journals g) r

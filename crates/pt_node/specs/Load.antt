@@ -10,4 +10,5 @@ use Rattle.pt_node.specs.Desks.{all_shards}
 -- so many letters are no more than the load of the one history of the desks
 abbrev pub IsWithinLoad : List DeskState → ℕ → Type 0
 IsWithinLoad desks handled =
-    (merged : List Stamped) → IsMerge (journal_at (all_shards desks)) merged → handled ≤ load (start_of (all_shards desks)) (events merged)
+    (merged : List Stamped) → IsMerge (journal_at (all_shards desks)) merged
+    → handled ≤ load (start_of (all_shards desks)) (events merged)

@@ -7,14 +7,17 @@ use Rattle.pt_node.specs.Desks.{desk_kept}
 -- the end at desk e knows each letter that stands in the lane from desk d, whose end knows all that were collected
 pub record MetAt (desks : List DeskState) (d e : ℕ) : Type 0 where
   pub whole : (x : DeskState)
-      → posted_to (slice_index_or desks d x) e ≡ collected_from (slice_index_or desks e x) d ++ slice_index_or (slice_index_or desks e x).ins.known d []
-  pub seen : (x : DeskState) → length (collected_from (slice_index_or desks e x) d) ≤ slice_index_or (slice_index_or desks d x).outs.seen e 0
+      → posted_to (slice_index_or desks d x) e
+      ≡ collected_from (slice_index_or desks e x) d ++ slice_index_or (slice_index_or desks e x).ins.known d []
+  pub seen : (x : DeskState)
+      → length (collected_from (slice_index_or desks e x) d) ≤ slice_index_or (slice_index_or desks d x).outs.seen e 0
   pub places : (x : DeskState) → 0 < slice_index_or (slice_index_or desks d x).outs.capacity e 0
 
 abbrev pub AreMet : List DeskState → Type 0
 AreMet desks = (d e : ℕ) → d < length desks → e < length desks → MetAt desks d e
 
--- the ends of the lane from desk d to desk e have looked at each other, and those of the other lanes know what they knew
+-- the ends of the lane from desk d to desk e have looked at each other, and those of the other lanes know what they
+-- knew
 pub record MeetsAt (d e : ℕ) (old new : List DeskState) : Type 0 where
   pub kept : map desk_kept new ≡ map desk_kept old
   pub here : MetAt new d e
@@ -25,7 +28,9 @@ pub record MeetsAt (d e : ℕ) (old new : List DeskState) : Type 0 where
 
 -- all that was collected in the lane from desk d to desk e was posted, and the rest waits
 abbrev pub HasLane : List DeskState → ℕ → ℕ → DeskState → Type 0
-HasLane desks d e x = (waits : List Letter) × (posted_to (slice_index_or desks d x) e ≡ collected_from (slice_index_or desks e x) d ++ waits)
+HasLane desks d e x =
+    (waits : List Letter)
+    × (posted_to (slice_index_or desks d x) e ≡ collected_from (slice_index_or desks e x) d ++ waits)
 
 abbrev pub HaveLanes : List DeskState → Type 0
 HaveLanes desks = (d e : ℕ) (x : DeskState) → d < length desks → e < length desks → HasLane desks d e x

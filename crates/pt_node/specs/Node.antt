@@ -1,5 +1,6 @@
 -- What a call of a node does to its desks.
-use Rattle.std.specs.Prelude.{◌≡◌, ℕ, zero, suc, ◌+◌, ◌-◌, ◌^◌, ◌<◌, ◌≤◌, false, true, min, Option, Some, None, List, length, slice_index_or, slice_set, Result, Ok, Err}
+use Rattle.std.specs.Prelude.{◌≡◌, ℕ, zero, suc, ◌+◌, ◌-◌, ◌^◌, ◌<◌, ◌≤◌, false, true, min, Option, Some, None, List}
+use Rattle.std.specs.Prelude.{length, slice_index_or, slice_set, Result, Ok, Err}
 use Rattle.pt_signal.specs.declared.pid.Pid.{Pid}
 use Rattle.pt_shard.specs.declared.config.Config.{Config}
 use Rattle.pt_shard.specs.declared.config.OpenError.{OpenError}
@@ -32,7 +33,8 @@ pub record OnDesk (d : ℕ) (Does : DeskState → DeskState → Type 0) (old new
   pub others : new ≡ slice_set old d desk
 
 -- what a desk's call does where it reads nothing of its directory
-abbrev pub Inside : {A : Type 0} → (ShardState → Result A Fault → ShardState → Type 0) → DeskState → Result A Fault → DeskState → Type 0
+abbrev pub Inside : {A : Type 0} → (ShardState → Result A Fault → ShardState → Type 0) → DeskState → Result A Fault
+    → DeskState → Type 0
 Inside Does old result new = Does old.shard result new.shard × (new.sight ≡ old.sight)
 
 -- the answer of a desk, as the node gives it
@@ -41,18 +43,23 @@ answered (Ok a) = Ok a
 answered (Err f) = Err (Refused f)
 
 -- a call of desk d, which does what the desk's own call does
-abbrev pub CallsAt : {A : Type 0} → ℕ → (DeskState → Result A Fault → DeskState → Type 0) → List DeskState → Result A NodeFault → List DeskState → Type 0
+abbrev pub CallsAt : {A : Type 0} → ℕ → (DeskState → Result A Fault → DeskState → Type 0) → List DeskState
+    → Result A NodeFault → List DeskState → Type 0
 CallsAt d Does old (Ok a) new = OnDesk d (λ x y. Does x (Ok a) y × HasSameEnds x y) old new
 CallsAt d Does old (Err NoDesk) new = (length old ≤ d) × (new ≡ old)
 CallsAt d Does old (Err Unknown) new = ⊥
 CallsAt d Does old (Err (Refused f)) new = OnDesk d (λ x y. Does x (Err f) y × HasSameEnds x y) old new
 
 -- the same with a target: one that the desk does not know is refused
-abbrev pub CallsTo : {A : Type 0} → ℕ → Pid → (DeskState → Result A Fault → DeskState → Type 0) → List DeskState → Result A NodeFault → List DeskState → Type 0
-CallsTo d to Does old (Ok a) new = OnDesk d (λ x y. (knows x.shard to ≡ true) × Does x (Ok a) y × HasSameEnds x y) old new
+abbrev pub CallsTo : {A : Type 0} → ℕ → Pid → (DeskState → Result A Fault → DeskState → Type 0) → List DeskState
+    → Result A NodeFault → List DeskState → Type 0
+CallsTo d to Does old (Ok a) new =
+    OnDesk d (λ x y. (knows x.shard to ≡ true) × Does x (Ok a) y × HasSameEnds x y) old new
 CallsTo d to Does old (Err NoDesk) new = (length old ≤ d) × (new ≡ old)
-CallsTo d to Does old (Err Unknown) new = (d < length old) × ((x : DeskState) → knows (slice_index_or old d x).shard to ≡ false) × (new ≡ old)
-CallsTo d to Does old (Err (Refused f)) new = OnDesk d (λ x y. (knows x.shard to ≡ true) × Does x (Err f) y × HasSameEnds x y) old new
+CallsTo d to Does old (Err Unknown) new =
+    (d < length old) × ((x : DeskState) → knows (slice_index_or old d x).shard to ≡ false) × (new ≡ old)
+CallsTo d to Does old (Err (Refused f)) new =
+    OnDesk d (λ x y. (knows x.shard to ≡ true) × Does x (Err f) y × HasSameEnds x y) old new
 
 -- a turn of desk d
 abbrev pub TurnsAt : ℕ → ℕ → List DeskState → Result Turned NodeFault → List DeskState → Type 0
@@ -78,10 +85,12 @@ both_turned before next = record {
 abbrev pub TurnsAll : ℕ → ℕ → List DeskState → Turned → List DeskState → Type 0
 TurnsAll budget zero old turned new = (turned ≡ record { posted = 0; handled = 0; stopped = None }) × (new ≡ old)
 TurnsAll budget (suc d) old turned new =
-    (mid : List DeskState) × (before : Turned) × (next : Turned) × TurnsAll budget d old before mid × OnDesk d (λ x y. Turns budget x next y) mid new
+    (mid : List DeskState) × (before : Turned) × (next : Turned) × TurnsAll budget d old before mid
+    × OnDesk d (λ x y. Turns budget x next y) mid new
     × (turned ≡ both_turned before next)
 
 -- what is read of desk d, and what is answered where the node has no such desk
-pub record ReadsAt {A : Type 0} (d : ℕ) (reads : DeskState → A) (none : A) (desks : List DeskState) (result : A) : Type 0 where
+pub record ReadsAt {A : Type 0} (d : ℕ) (reads : DeskState → A) (none : A) (desks : List DeskState)
+    (result : A) : Type 0 where
   pub there : (x : DeskState) → d < length desks → result ≡ reads (slice_index_or desks d x)
   pub beyond : length desks ≤ d → result ≡ none

@@ -14,11 +14,13 @@ pub record AreFreshShards (config : Config) (shards : List ShardState) : Type 0 
   pub count : length shards ≡ config.desks
   pub fresh_each : (d : ℕ) (x : ShardState) → d < length shards → slice_index_or shards d x ≡ fresh config d
 
--- the desks of one node on which nothing has happened, with ends of lanes through which nothing went, and a directory in which nobody has looked
+-- the desks of one node on which nothing has happened, with ends of lanes through which nothing went, and a directory
+-- in which nobody has looked
 pub record AreFresh (config : Config) (desks : List DeskState) : Type 0 where
   pub node : AreDesksOf config desks
   pub shards : (d : ℕ) (x : DeskState) → d < length desks → (slice_index_or desks d x).shard ≡ fresh config d
-  pub ends : (d : ℕ) (x : DeskState) → d < length desks → IsNew config.desks config.lane ((slice_index_or desks d x).outs, (slice_index_or desks d x).ins)
+  pub ends : (d : ℕ) (x : DeskState) → d < length desks
+      → IsNew config.desks config.lane ((slice_index_or desks d x).outs, (slice_index_or desks d x).ins)
   pub unread : (d : ℕ) (x : DeskState) → d < length desks → (slice_index_or desks d x).sight.reads ≡ []
 
 abbrev pub Opens : {A : Type 0} → Config → Result (Vec DeskState A) OpenError → Type 0

@@ -1,5 +1,6 @@
 -- What workers do with the desks, and what stays of these.
-use Rattle.std.specs.Prelude.{◌≡◌, ℕ, zero, suc, ◌<◌, ◌⊎◌, Bool, true, false, not, MatchBool, List, length, replicate, slice_index_or, slice_set}
+use Rattle.std.specs.Prelude.{◌≡◌, ℕ, zero, suc, ◌<◌, ◌⊎◌, Bool, true, false, not, MatchBool, List, length, replicate}
+use Rattle.std.specs.Prelude.{slice_index_or, slice_set}
 use Rattle.pt_desk.specs.DeskState.{DeskState, GoesOn}
 use Rattle.pt_desk.specs.Turns.{Turns}
 use Rattle.pt_desk.specs.declared.turned.Turned.{Turned}
@@ -42,53 +43,65 @@ pub record TakesTurn {W : Type 0} (does : StepRelation W) (budget : ℕ) (old ne
   pub turn : Turns budget stepped turned new.0
 
 -- so many turns, one after the other, each of which began
-abbrev pub TakesTurns : {W : Type 0} → (W → ℕ → Bool → Type 0) → StepRelation W → ℕ → ℕ → DeskState × W → DeskState × W → Type 0
+abbrev pub TakesTurns : {W : Type 0} → (W → ℕ → Bool → Type 0) → StepRelation W → ℕ → ℕ → DeskState × W → DeskState × W
+    → Type 0
 TakesTurns lets does budget zero old new = new ≡ old
 TakesTurns {W} lets does budget (suc count) old new =
-    (last : DeskState × W) × TakesTurns lets does budget count old last × lets last.1 count true × TakesTurn does budget last new
+    (last : DeskState × W) × TakesTurns lets does budget count old last × lets last.1 count true
+    × TakesTurn does budget last new
 
 -- a worker took all its turns, or those before the one that did not begin, and did nothing else
-pub record Works {W : Type 0} (lets : W → ℕ → Bool → Type 0) (does : StepRelation W) (turns budget : ℕ) (old new : DeskState × W) : Type 0 where
+pub record Works {W : Type 0} (lets : W → ℕ → Bool → Type 0) (does : StepRelation W) (turns budget : ℕ)
+    (old new : DeskState × W) : Type 0 where
   pub count : ℕ
   pub took : TakesTurns lets does budget count old new
   pub ends : (count ≡ turns) ⊎ ((count < turns) × lets new.1 count false)
 
 -- so did each, where the gate tells the desks apart by their numbers
-abbrev pub AllWork : {W : Type 0} → BeginRelation W → StepRelation W → ℕ → ℕ → List (DeskState × W) → List (DeskState × W) → Type 0
+abbrev pub AllWork : {W : Type 0} → BeginRelation W → StepRelation W → ℕ → ℕ → List (DeskState × W)
+    → List (DeskState × W) → Type 0
 AllWork {W} lets does turns budget old new =
     (d : ℕ) (x : DeskState × W) → d < length old
-    → Works (lets (slice_index_or old d x).0.shard.number) does turns budget (slice_index_or old d x) (slice_index_or new d x)
+    → Works (lets (slice_index_or old d x).0.shard.number) does turns budget (slice_index_or old d x)
+    (slice_index_or new d x)
 
 -- desks with their work, and whether the worker at each place has ended
 abbrev pub Workers : Type 0 → Type 0
 Workers W = List (DeskState × W) × List Bool
 
 -- the worker at place d takes the turn of that number, which begins; or it does not, and the worker has ended
-pub record TakesOrEnds {W : Type 0} (lets : BeginRelation W) (does : StepRelation W) (budget turn d : ℕ) (old new : Workers W) : Type 0 where
+pub record TakesOrEnds {W : Type 0} (lets : BeginRelation W) (does : StepRelation W) (budget turn d : ℕ)
+    (old new : Workers W) : Type 0 where
   pub pair : DeskState × W
   pub begins : Bool
   pub gate : lets (slice_index_or old.0 d pair).0.shard.number (slice_index_or old.0 d pair).1 turn begins
-  pub takes : MatchBool begins (TakesTurn does budget (slice_index_or old.0 d pair) pair) (pair ≡ slice_index_or old.0 d pair)
+  pub takes : MatchBool begins (TakesTurn does budget (slice_index_or old.0 d pair) pair)
+      (pair ≡ slice_index_or old.0 d pair)
   pub desks : new.0 ≡ slice_set old.0 d pair
   pub ended : new.1 ≡ slice_set old.1 d (not begins)
 
 -- so the worker at place d, unless it has ended: then nothing happens
 abbrev pub HasTurn : {W : Type 0} → BeginRelation W → StepRelation W → ℕ → ℕ → ℕ → Workers W → Workers W → Type 0
-HasTurn lets does budget turn d old new = MatchBool (slice_index_or old.1 d false) (new ≡ old) (TakesOrEnds lets does budget turn d old new)
+HasTurn lets does budget turn d old new =
+    MatchBool (slice_index_or old.1 d false) (new ≡ old) (TakesOrEnds lets does budget turn d old new)
 
 -- a round: the turn of that number of the first n workers, from desk 0 upwards
 abbrev pub Round : {W : Type 0} → BeginRelation W → StepRelation W → ℕ → ℕ → ℕ → Workers W → Workers W → Type 0
 Round lets does budget turn zero old new = new ≡ old
-Round {W} lets does budget turn (suc d) old new = (mid : Workers W) × Round lets does budget turn d old mid × HasTurn lets does budget turn d mid new
+Round {W} lets does budget turn (suc d) old new =
+    (mid : Workers W) × Round lets does budget turn d old mid × HasTurn lets does budget turn d mid new
 
 -- so many rounds of n workers, one after the other, that of turn 0 first
 abbrev pub Rounds : {W : Type 0} → BeginRelation W → StepRelation W → ℕ → ℕ → ℕ → Workers W → Workers W → Type 0
 Rounds lets does budget n zero old new = new ≡ old
-Rounds {W} lets does budget n (suc turn) old new = (mid : Workers W) × Rounds lets does budget n turn old mid × Round lets does budget turn n mid new
+Rounds {W} lets does budget n (suc turn) old new =
+    (mid : Workers W) × Rounds lets does budget n turn old mid × Round lets does budget turn n mid new
 
 -- all rounds of all workers, of whom none has ended at first. A node has 64 desks at most
-abbrev pub InRounds : {W : Type 0} → BeginRelation W → StepRelation W → ℕ → ℕ → List (DeskState × W) → List (DeskState × W) → Type 0
-InRounds lets does turns budget old new = (ended : List Bool) × Rounds lets does budget (length old) turns (old, replicate 64 false) (new, ended)
+abbrev pub InRounds : {W : Type 0} → BeginRelation W → StepRelation W → ℕ → ℕ → List (DeskState × W)
+    → List (DeskState × W) → Type 0
+InRounds lets does turns budget old new =
+    (ended : List Bool) × Rounds lets does budget (length old) turns (old, replicate 64 false) (new, ended)
 
 -- the first n workers have ended
 abbrev pub HaveEnded : ℕ → List Bool → Type 0

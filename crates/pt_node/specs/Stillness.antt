@@ -1,5 +1,6 @@
 -- A node is turned until nothing waits in it.
-use Rattle.std.specs.Prelude.{◌≡◌, ℕ, zero, suc, ◌+◌, ◌-◌, ◌^◌, ◌<◌, List, [], length, map, sum_by, min, Option, Some, None, slice_index_or}
+use Rattle.std.specs.Prelude.{◌≡◌, ℕ, zero, suc, ◌+◌, ◌-◌, ◌^◌, ◌<◌, List, [], length, map, sum_by, min, Option, Some}
+use Rattle.std.specs.Prelude.{None, slice_index_or}
 use Rattle.pt_shard.specs.declared.stop.Stop.{Stop}
 use Rattle.pt_desk.specs.DeskState.{DeskState, GoesOn, posted_to, waits_for, collected_from}
 use Rattle.pt_desk.specs.declared.turned.Turned.{Turned}
@@ -48,7 +49,8 @@ both_rested before next = record {
 abbrev pub TurnEach : ℕ → ℕ → List DeskState → Rested → List DeskState → Type 0
 TurnEach budget zero old did new = (did ≡ record { handled = 0; stopped = None }) × (new ≡ old)
 TurnEach budget (suc d) old did new =
-    (mid : List DeskState) × (before : Rested) × (turned : Turned) × TurnEach budget d old before mid × OnDesk d (λ x y. Turns budget x turned y) mid new
+    (mid : List DeskState) × (before : Rested) × (turned : Turned) × TurnEach budget d old before mid
+    × OnDesk d (λ x y. Turns budget x turned y) mid new
     × (did ≡ both_rested before (record { handled = turned.handled; stopped = stop_at d turned.stopped }))
 
 -- so many rounds, each of a look at the lanes, which changes only what the ends know of each other, and a turn of each
@@ -57,7 +59,8 @@ abbrev pub Rounds : ℕ → ℕ → List DeskState → Rested → List DeskState
 Rounds budget zero old did new = (did ≡ record { handled = 0; stopped = None }) × (new ≡ old)
 Rounds budget (suc n) old did new =
     (mid met : List DeskState) × (before round : Rested) × Rounds budget n old before mid × (before.stopped ≡ None)
-    × (map desk_kept met ≡ map desk_kept mid) × TurnEach budget (length met) met round new × (did ≡ both_rested before round)
+    × (map desk_kept met ≡ map desk_kept mid) × TurnEach budget (length met) met round new
+    × (did ≡ both_rested before round)
 
 -- where a turn was stopped the lanes are looked at once more
 abbrev pub LooksAgain : Option Stopped → List DeskState → List DeskState → Type 0
@@ -71,7 +74,8 @@ pub record RunsRounds (budget : ℕ) (old : List DeskState) (did : Rested) (new 
   pub rounds : Rounds budget count old did last
   pub looks : LooksAgain did.stopped last new
 
--- the desk is as it was left by a turn that was stopped for this cause, but for what its ends know of the other end of each lane
+-- the desk is as it was left by a turn that was stopped for this cause, but for what its ends know of the other end of
+-- each lane
 pub record StoppedAt (budget : ℕ) (stop : Stopped) (desks : List DeskState) : Type 0 where
   pub within : stop.desk < length desks
   pub before : DeskState

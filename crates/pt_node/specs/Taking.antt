@@ -14,10 +14,12 @@ TakeRelation T = T → DeskState → Item → T → DeskState → Type 0
 -- the first item that fits is asked for, with that answer
 abbrev pub Asks : Pid → Pick → DeskState → Result (Option Item) Fault → DeskState → Type 0
 Asks p pick old answer new =
-    Calls p (take_event old.shard p pick) (first_match old.shard p pick) old.shard answer new.shard × HasSameEnds old new × (new.sight ≡ old.sight)
+    Calls p (take_event old.shard p pick) (first_match old.shard p pick) old.shard answer new.shard
+    × HasSameEnds old new × (new.sight ≡ old.sight)
 
 -- one item is taken and handed over
-pub record TakesOne {T : Type 0} (takes : TakeRelation T) (p : Pid) (pick : Pick) (old new : DeskState × T) : Type 0 where
+pub record TakesOne {T : Type 0} (takes : TakeRelation T) (p : Pid) (pick : Pick)
+    (old new : DeskState × T) : Type 0 where
   pub item : Item
   -- the desk between the two
   pub taken : DeskState
@@ -27,17 +29,22 @@ pub record TakesOne {T : Type 0} (takes : TakeRelation T) (p : Pid) (pick : Pick
 -- so many are, one after the other
 abbrev pub TakesMany : {T : Type 0} → TakeRelation T → Pid → Pick → ℕ → DeskState × T → DeskState × T → Type 0
 TakesMany takes p pick zero old new = new ≡ old
-TakesMany {T} takes p pick (suc count) old new = (mid : DeskState × T) × TakesMany takes p pick count old mid × TakesOne takes p pick mid new
+TakesMany {T} takes p pick (suc count) old new =
+    (mid : DeskState × T) × TakesMany takes p pick count old mid × TakesOne takes p pick mid new
 
 -- the items up to so many, and then the answer to the call that found none, or was refused
-pub record TakesUntil {T : Type 0} (takes : TakeRelation T) (p : Pid) (pick : Pick) (count : ℕ) (answer : Result (Option Item) Fault) (old new : DeskState × T) : Type 0 where
+pub record TakesUntil {T : Type 0} (takes : TakeRelation T) (p : Pid) (pick : Pick) (count : ℕ)
+    (answer : Result (Option Item) Fault) (old new : DeskState × T) : Type 0 where
   pub mid : DeskState × T
   pub took : TakesMany takes p pick count old mid
   pub asks : Asks p pick mid.0 answer new.0
   pub same : new.1 ≡ mid.1
 
 -- all that fit, at most so many
-abbrev pub TakesEach : {T : Type 0} → TakeRelation T → Pid → Pick → ℕ → DeskState × T → Result ℕ Fault → DeskState × T → Type 0
+abbrev pub TakesEach : {T : Type 0} → TakeRelation T → Pid → Pick → ℕ → DeskState × T → Result ℕ Fault → DeskState × T
+    → Type 0
 TakesEach takes p pick most old (Ok count) new =
-    ((count ≡ most) × TakesMany takes p pick most old new) ⊎ ((count < most) × TakesUntil takes p pick count (Ok None) old new)
-TakesEach takes p pick most old (Err fault) new = (count : ℕ) × (count < most) × TakesUntil takes p pick count (Err fault) old new
+    ((count ≡ most) × TakesMany takes p pick most old new)
+    ⊎ ((count < most) × TakesUntil takes p pick count (Ok None) old new)
+TakesEach takes p pick most old (Err fault) new =
+    (count : ℕ) × (count < most) × TakesUntil takes p pick count (Err fault) old new

@@ -66,8 +66,8 @@ impl DesksBack {
 
 /// Gives up desks, with their processes, their journals and the letters between them, and nobody is told.
 ///
-/// A desk cannot be dropped: so whoever has desks and does not gather them, as after an error of its own, says so by this.
-/// They need not be all desks of a node. It takes no memory, and nothing is claimed of what was given up.
+/// A desk cannot be dropped: so whoever has desks and does not gather them, as after an error of its own, says so by
+/// this. They need not be all desks of a node. It takes no memory, and nothing is claimed of what was given up.
 pub fn abandon(desks: Vec<Desk>) {
     let mut desks = desks;
     while let Some(desk) = desks.pop() {
@@ -85,8 +85,8 @@ pub fn abandon(desks: Vec<Desk>) {
 /// order and by whatever threads: each mailbox's messages from one sender are that sender's messages to it, in order
 /// and each once, from the mailbox's birth to its exit or the letters left over; nothing enters after the exit; taken
 /// and waiting items together are the arrivals; each monitor gives at most one `DOWN` and none after its demonitor;
-/// each answer to the question whether a process is alive is true, and all that the asker had sent it before came first;
-/// and whomever a desk saw to have ended, and so refused a call to, had ended.
+/// each answer to the question whether a process is alive is true, and all that the asker had sent it before came
+/// first; and whomever a desk saw to have ended, and so refused a call to, had ended.
 ///
 /// Where memory is refused all desks come back as they were, in order; only what the ends of a lane know of each
 /// other may be more, which no call tells. It waits for nobody.

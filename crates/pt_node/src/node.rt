@@ -1,12 +1,14 @@
 //! A node that a program calls: it has its desks, and its processes are called by their pids.
 
-ghost use Rattle.std.specs.Prelude.{◌≡◌, ◌-◌, ◌^◌, Some, None, false, cond, is_some, length, map, max, min, IfOk, IfErr, IfSome};
+ghost use Rattle.std.specs.Prelude.{◌≡◌, ◌-◌, ◌^◌, Some, None, false, cond, is_some, length, map, max, min, IfOk};
+ghost use Rattle.std.specs.Prelude.{IfErr, IfSome};
 ghost use Rattle.std.specs.Option.{option_copied, option_map};
 ghost use Rattle.pt_signal.specs.declared.signal.Signal.{Signal};
 ghost use Rattle.pt_events.specs.declared.event.Event.{Event};
 ghost use Rattle.pt_shard.specs.ShardState.{lives, state_in};
 ghost use Rattle.pt_shard.specs.Reading.{read_of};
-ghost use Rattle.pt_shard.specs.Calls.{Calls, Monitors, Bears, BearsChild, link_event, unlink_event, first_match, take_event, demonitor_event, held_by, new_ref};
+ghost use Rattle.pt_shard.specs.Calls.{Calls, Monitors, Bears, BearsChild, link_event, unlink_event, first_match};
+ghost use Rattle.pt_shard.specs.Calls.{take_event, demonitor_event, held_by, new_ref};
 ghost use Rattle.pt_gathered.specs.Lawful.{LanesKeep, KeepsHeadline, IsLegalNode, AnswersHold};
 ghost use Rattle.pt_gathered.specs.Settling.{NothingLeft};
 ghost use Rattle.pt_desk.specs.Reaching.{Reaches, has_link_to_make, has_monitor_to_make};
@@ -14,7 +16,8 @@ ghost use Rattle.pt_node.specs.Desks.{AreDesks, AreDesksOf, desk_kept};
 ghost use Rattle.pt_node.specs.Gathering.{Gathers, HasJournalsOf, ReadsAreTrue};
 ghost use Rattle.pt_node.specs.NodeRunning.{RunsNode};
 ghost use Rattle.pt_node.specs.Running.{AllWork, InRounds, begins_by};
-ghost use Rattle.pt_node.specs.Node.{CallsAt, CallsTo, Inside, OpensNode, ReadsAt, TurnsAll, TurnsAt, answered, both_turned};
+ghost use Rattle.pt_node.specs.Node.{CallsAt, CallsTo, Inside, OpensNode, ReadsAt, TurnsAll, TurnsAt, answered};
+ghost use Rattle.pt_node.specs.Node.{both_turned};
 ghost use Rattle.pt_node.specs.Load.{IsWithinLoad};
 ghost use Rattle.pt_node.specs.Stillness.{AllDesksGoOn, AreStill, RunsRounds, StoppedAt, count_events};
 
@@ -44,7 +47,8 @@ use std::thread::Threads;
 /// A call of a process is made on the desk of its pid, and does there what the desk's call of that name does; the other
 /// desks stay. No call asks anything of its caller: what the node cannot do it refuses, by a [`NodeFault`].
 ///
-/// It may be dropped. Then its processes, its journals and the letters between its desks are given up, and nobody is told.
+/// It may be dropped. Then its processes, its journals and the letters between its desks are given up, and nobody is
+/// told.
 pub struct Node {
     alloc: Global,
     desks: Vec<Desk>,
@@ -143,8 +147,8 @@ impl Node {
         self.desks.len()
     }
 
-    /// What happened on that desk, oldest event first, or `None` where the node has no such desk. [`Desk::journal`] says
-    /// what holds of it.
+    /// What happened on that desk, oldest event first, or `None` where the node has no such desk. [`Desk::journal`]
+    /// says what holds of it.
     pub fn journal(&self, desk: u8) -> Option<&Journal>
         ensures desk { IfSome result (λ j. j.now.desk ≡ desk) }
         ensures past { ReadsAt desk (λ x. Some x.shard.journal) None self.now (option_map (λ j. j.now.past) result) }
@@ -178,7 +182,8 @@ impl Node {
         self.desks[d].vacant()
     }
 
-    /// Whether p lives. False of a pid whose slot another process has by now, and of a desk that the node does not have.
+    /// Whether p lives. False of a pid whose slot another process has by now, and of a desk that the node does not
+    /// have.
     pub fn alive(&self, p: Pid) -> bool
         ensures { ReadsAt p.shard (λ x. lives x.shard p) false self.now result }
     {
@@ -191,7 +196,8 @@ impl Node {
 
     /// The items that wait in the mailbox of p, oldest first, or `None` where it does not live.
     pub fn waiting(&self, p: Pid) -> Option<&[Item]>
-        ensures { ReadsAt p.shard (λ x. cond (lives x.shard p) (Some (state_in x.shard p).waiting) None) None self.now (option_copied result) }
+        ensures { ReadsAt p.shard (λ x. cond (lives x.shard p) (Some (state_in x.shard p).waiting) None) None self.now
+            (option_copied result) }
     {
         let d = usize::from(p.shard);
         if d >= self.desks.len() {
@@ -213,10 +219,11 @@ impl Node {
         self.desks[d].linked(p, q)
     }
 
-    /// The process p, to be read: its links, its open monitors and its watchers by place, its mailbox and its flag; `None`
-    /// where it does not live. Erlang's `process_info/2`, module `erlang`.
+    /// The process p, to be read: its links, its open monitors and its watchers by place, its mailbox and its flag;
+    /// `None` where it does not live. Erlang's `process_info/2`, module `erlang`.
     pub fn process(&self, p: Pid) -> Option<&Process>
-        ensures { ReadsAt p.shard (λ x. cond (lives x.shard p) (Some (p, state_in x.shard p)) None) None self.now (read_of (option_copied result)) }
+        ensures { ReadsAt p.shard (λ x. cond (lives x.shard p) (Some (p, state_in x.shard p)) None) None self.now
+            (read_of (option_copied result)) }
     {
         let d = usize::from(p.shard);
         if d >= self.desks.len() {
@@ -276,8 +283,8 @@ impl Node {
     /// Makes a process that its parent bears, on the parent's desk, linked with it where that is asked: Erlang's
     /// `spawn/1` and `spawn_link/1`, sections Process Creation and Links.
     ///
-    /// Both halves of the link stand at once, without a letter. Refused as `NoDesk`, then as the desk refuses it: `Gone`,
-    /// `Worn`, `Full` or `Memory`.
+    /// Both halves of the link stand at once, without a letter. Refused as `NoDesk`, then as the desk refuses it:
+    /// `Gone`, `Worn`, `Full` or `Memory`.
     pub fn spawn_child(&mut self, parent: Pid, linked: bool) -> Result<Pid, NodeFault>
         ensures does { CallsAt parent.shard (Inside (BearsChild parent linked)) self.old result self.new }
         ensures home { IfOk result (λ p. p.shard ≡ parent.shard) }
@@ -295,11 +302,15 @@ impl Node {
     /// Sends a message: Erlang's `!`, chapter Processes, section Signals.
     ///
     /// It comes to the receiver after all that the sender sent it before. A receiver that is not alive then loses
-    /// it, and nobody is told. Refused as `NoDesk`, as `Unknown` where the receiver is no process that the node can have
-    /// had, then as the desk refuses it: `Gone`, `NoProc` where the desk sees that the receiver has ended, `Worn` or
-    /// `Memory`.
+    /// it, and nobody is told. Refused as `NoDesk`, as `Unknown` where the receiver is no process that the node can
+    /// have had, then as the desk refuses it: `Gone`, `NoProc` where the desk sees that the receiver has ended, `Worn`
+    /// or `Memory`.
     pub fn send(&mut self, from: Pid, to: Pid, body: Body) -> Result<(), NodeFault>
-        ensures { CallsTo from.shard to (λ x r y. Reaches (lives x.shard from) from to (Calls from (Some (Event.Said from to (Signal.Message body))) tt x.shard r y.shard) x r y) self.old result self.new }
+        ensures { CallsTo from.shard to
+            (λ x r y.
+            Reaches (lives x.shard from) from to
+            (Calls from (Some (Event.Said from to (Signal.Message body))) tt x.shard r y.shard) x r y) self.old
+            result self.new }
     {
         let d = usize::from(from.shard);
         if d >= self.desks.len() {
@@ -316,10 +327,12 @@ impl Node {
     ///
     /// `kill` ends its receiver whether it traps or not, with the reason `killed`. A receiver that traps gets any
     /// other as an item. One that does not is ended by it, with that reason, except that `normal` ends it only where
-    /// it is the sender itself. Refused as `NoDesk`, as `Unknown` where the receiver is no process that the node can have
-    /// had, then as the desk refuses it: `Gone`, `Worn` or `Memory`.
+    /// it is the sender itself. Refused as `NoDesk`, as `Unknown` where the receiver is no process that the node can
+    /// have had, then as the desk refuses it: `Gone`, `Worn` or `Memory`.
     pub fn exit_signal(&mut self, from: Pid, to: Pid, reason: Reason) -> Result<(), NodeFault>
-        ensures { CallsTo from.shard to (Inside (λ s r t. Calls from (Some (Event.Said from to (Signal.Exit reason))) tt s r t)) self.old result self.new }
+        ensures { CallsTo from.shard to
+            (Inside (λ s r t. Calls from (Some (Event.Said from to (Signal.Exit reason))) tt s r t)) self.old result
+            self.new }
     {
         let d = usize::from(from.shard);
         if d >= self.desks.len() {
@@ -335,11 +348,14 @@ impl Node {
     /// Links p with another process: Erlang's `link/1`, section Links.
     ///
     /// Nothing happens where p is the target, or holds a link with it. A target that is not alive when the link
-    /// comes answers it by an exit signal with `noproc`. Refused as `NoDesk`, as `Unknown` where the target is no process
-    /// that the node can have had, then as the desk refuses it: `Gone`, or where there is a link to make, `NoProc` where
-    /// the desk sees that the target has ended, `Worn` or `Memory`.
+    /// comes answers it by an exit signal with `noproc`. Refused as `NoDesk`, as `Unknown` where the target is no
+    /// process that the node can have had, then as the desk refuses it: `Gone`, or where there is a link to make,
+    /// `NoProc` where the desk sees that the target has ended, `Worn` or `Memory`.
     pub fn link(&mut self, p: Pid, to: Pid) -> Result<(), NodeFault>
-        ensures { CallsTo p.shard to (λ x r y. Reaches (has_link_to_make x.shard p to) p to (Calls p (link_event x.shard p to) tt x.shard r y.shard) x r y) self.old result self.new }
+        ensures { CallsTo p.shard to
+            (λ x r y.
+            Reaches (has_link_to_make x.shard p to) p to
+            (Calls p (link_event x.shard p to) tt x.shard r y.shard) x r y) self.old result self.new }
     {
         let d = usize::from(p.shard);
         if d >= self.desks.len() {
@@ -355,10 +371,11 @@ impl Node {
     /// Takes the link of p with another process back: Erlang's `unlink/1`, section Links.
     ///
     /// Nothing happens where there is none. An exit signal that the link carries has no effect on p from here on: it
-    /// may still come, and is dropped. Refused as `NoDesk`, as `Unknown` where the other is no process that the node can
-    /// have had, then as the desk refuses it: `Gone`, `Worn` or `Memory`.
+    /// may still come, and is dropped. Refused as `NoDesk`, as `Unknown` where the other is no process that the node
+    /// can have had, then as the desk refuses it: `Gone`, `Worn` or `Memory`.
     pub fn unlink(&mut self, p: Pid, to: Pid) -> Result<(), NodeFault>
-        ensures { CallsTo p.shard to (Inside (λ s r t. Calls p (unlink_event s p to) tt s r t)) self.old result self.new }
+        ensures { CallsTo p.shard to
+            (Inside (λ s r t. Calls p (unlink_event s p to) tt s r t)) self.old result self.new }
     {
         let d = usize::from(p.shard);
         if d >= self.desks.len() {
@@ -378,7 +395,9 @@ impl Node {
     /// `Unknown` where the target is no process that the node can have had, then as the desk refuses it: `Gone`,
     /// `Myself` where w is the target, `NoProc` where the desk sees that the target has ended, `Worn` or `Memory`.
     pub fn monitor(&mut self, w: Pid, t: Pid) -> Result<Ref, NodeFault>
-        ensures { CallsTo w.shard t (λ x r y. Reaches (has_monitor_to_make x.shard w t) w t (Monitors w t x.shard r y.shard) x r y) self.old result self.new }
+        ensures { CallsTo w.shard t
+            (λ x r y. Reaches (has_monitor_to_make x.shard w t) w t (Monitors w t x.shard r y.shard) x r y) self.old
+            result self.new }
     {
         let d = usize::from(w.shard);
         if d >= self.desks.len() {
@@ -397,7 +416,10 @@ impl Node {
     /// any more. Of any other the DOWN is taken out of the mailbox, where `flush` asks for it and it waits. Refused as
     /// `NoDesk`, then as the desk refuses it: `Gone`, or where there is an event to write, `Worn` or `Memory`.
     pub fn demonitor(&mut self, w: Pid, monitor: Ref, flush: bool) -> Result<bool, NodeFault>
-        ensures { CallsAt w.shard (Inside (λ s r t. Calls w (demonitor_event s w monitor flush) (is_some (demonitor_event s w monitor flush)) s r t)) self.old result self.new }
+        ensures { CallsAt w.shard
+            (Inside
+            (λ s r t. Calls w (demonitor_event s w monitor flush) (is_some (demonitor_event s w monitor flush)) s r t))
+            self.old result self.new }
     {
         let d = usize::from(w.shard);
         if d >= self.desks.len() {
@@ -409,10 +431,12 @@ impl Node {
     /// Asks whether another process is alive: Erlang's `is_process_alive/1`, section Processes and Erlang's signals. It
     /// answers the reference, which the answer will have.
     ///
-    /// The answer comes as an item, after all that t sent p before; t may be p. Refused as `NoDesk`, as `Unknown` where t
-    /// is no process that the node can have had, then as the desk refuses it: `Gone`, `Worn` or `Memory`.
+    /// The answer comes as an item, after all that t sent p before; t may be p. Refused as `NoDesk`, as `Unknown` where
+    /// t is no process that the node can have had, then as the desk refuses it: `Gone`, `Worn` or `Memory`.
     pub fn ask_alive(&mut self, p: Pid, t: Pid) -> Result<Ref, NodeFault>
-        ensures { CallsTo p.shard t (Inside (λ s r u. Calls p (Some (Event.Said p t (Signal.AliveAsk (new_ref s)))) (new_ref s) s r u)) self.old result self.new }
+        ensures { CallsTo p.shard t
+            (Inside (λ s r u. Calls p (Some (Event.Said p t (Signal.AliveAsk (new_ref s)))) (new_ref s) s r u)) self.old
+            result self.new }
     {
         let d = usize::from(p.shard);
         if d >= self.desks.len() {
@@ -428,10 +452,11 @@ impl Node {
     /// Sets whether p traps exits, and answers whether it did: Erlang's `process_flag(trap_exit, _)`, section
     /// Receiving Exit Signals.
     ///
-    /// The flag counts when an exit signal comes, not when it is sent. Refused as `NoDesk`, then as the desk refuses it:
-    /// `Gone`, `Worn` or `Memory`.
+    /// The flag counts when an exit signal comes, not when it is sent. Refused as `NoDesk`, then as the desk refuses
+    /// it: `Gone`, `Worn` or `Memory`.
     pub fn trap(&mut self, p: Pid, on: bool) -> Result<bool, NodeFault>
-        ensures { CallsAt p.shard (Inside (λ s r t. Calls p (Some (Event.Flag p on)) (state_in s p).traps s r t)) self.old result self.new }
+        ensures { CallsAt p.shard
+            (Inside (λ s r t. Calls p (Some (Event.Flag p on)) (state_in s p).traps s r t)) self.old result self.new }
     {
         let d = usize::from(p.shard);
         if d >= self.desks.len() {
@@ -446,7 +471,8 @@ impl Node {
     /// `Ok(None)` says that nothing fits; it has no event. Refused as `NoDesk`, then as the desk refuses it: `Gone`, or
     /// where an item fits, `Worn` or `Memory`.
     pub fn receive(&mut self, p: Pid, pick: Pick) -> Result<Option<Item>, NodeFault>
-        ensures { CallsAt p.shard (Inside (λ s r t. Calls p (take_event s p pick) (first_match s p pick) s r t)) self.old result self.new }
+        ensures { CallsAt p.shard
+            (Inside (λ s r t. Calls p (take_event s p pick) (first_match s p pick) s r t)) self.old result self.new }
     {
         let d = usize::from(p.shard);
         if d >= self.desks.len() {
@@ -458,10 +484,11 @@ impl Node {
     /// Ends p with this reason: Erlang's `exit/1`, section Process Termination.
     ///
     /// Each process that it holds a link with is sent an exit signal, then each watcher its DOWN, then each target of
-    /// an open monitor is told that it is watched no more. The items that wait are dropped. Refused as `NoDesk`, then as
-    /// the desk refuses it: `Gone`, `Worn` or `Memory`.
+    /// an open monitor is told that it is watched no more. The items that wait are dropped. Refused as `NoDesk`, then
+    /// as the desk refuses it: `Gone`, `Worn` or `Memory`.
     pub fn exit(&mut self, p: Pid, reason: Reason) -> Result<(), NodeFault>
-        ensures { CallsAt p.shard (Inside (λ s r t. Calls p (Some (Event.Left p reason)) tt s r t)) self.old result self.new }
+        ensures { CallsAt p.shard
+            (Inside (λ s r t. Calls p (Some (Event.Left p reason)) tt s r t)) self.old result self.new }
     {
         let d = usize::from(p.shard);
         if d >= self.desks.len() {
@@ -483,8 +510,8 @@ impl Node {
         Ok(self.desks[d].turn(budget))
     }
 
-    /// One turn of each desk, from desk 0 upwards, and what they did together: how many letters were posted and handled,
-    /// each staying at `u64::MAX` once it is reached, and why the first turn that stopped did.
+    /// One turn of each desk, from desk 0 upwards, and what they did together: how many letters were posted and
+    /// handled, each staying at `u64::MAX` once it is reached, and why the first turn that stopped did.
     ///
     /// Each desk has its turn, whether one before it stopped or not.
     pub fn turn_all(&mut self, budget: u32) -> Turned
@@ -496,14 +523,14 @@ impl Node {
     /// Rounds of turns over all desks, until no letter waits in an outbox, a lane or a hold, or a turn was stopped.
     ///
     /// It answers how many letters were handled, and which turn was stopped, if one was: where none was, the node is
-    /// still. A turn handles at most `budget` letters; a budget of 0 counts as 1. A round goes on to its last desk where a
-    /// turn in it was stopped, so that no desk holds up another. It ends, since each letter takes a stamp of its desk's
-    /// clock; nothing is refused. It costs the letters, and a look at each lane a round, with one more behind a turn that
-    /// was stopped; each round but the last two handles a letter, or is followed by one that does.
+    /// still. A turn handles at most `budget` letters; a budget of 0 counts as 1. A round goes on to its last desk
+    /// where a turn in it was stopped, so that no desk holds up another. It ends, since each letter takes a stamp of
+    /// its desk's clock; nothing is refused. It costs the letters, and a look at each lane a round, with one more
+    /// behind a turn that was stopped; each round but the last two handles a letter, or is followed by one that does.
     ///
     /// No more letters are handled than the load of the history before, stopped or not: what the letters on their way
-    /// weigh, two for each `Link`, `Monitor` and question whether a process is alive and one for each other, and one for
-    /// each link entry, kept monitor and open monitor of a live process.
+    /// weigh, two for each `Link`, `Monitor` and question whether a process is alive and one for each other, and one
+    /// for each link entry, kept monitor and open monitor of a live process.
     ///
     /// Whatever a program sends is handled, but not what it would send on receipt: a program that answers what it
     /// receives goes on with `receive`, and turns again.
@@ -524,12 +551,12 @@ impl Node {
 }
 
 impl Node {
-    /// Lets each desk's worker do up to `turns` turns on a thread of its own, the desk at each place with the work at that
-    /// place: [`run`](crate::run) says what a turn is and when a worker ends.
+    /// Lets each desk's worker do up to `turns` turns on a thread of its own, the desk at each place with the work at
+    /// that place: [`run`](crate::run) says what a turn is and when a worker ends.
     ///
-    /// The works are lent, and come back as their steps made them, in order: [`Task::standing`] tells of each whether it is
-    /// done or has failed. Refused as `Works` exactly where there are not as many works as desks, else as `Memory` where
-    /// there is none.
+    /// The works are lent, and come back as their steps made them, in order: [`Task::standing`] tells of each whether
+    /// it is done or has failed. Refused as `Works` exactly where there are not as many works as desks, else as
+    /// `Memory` where there is none.
     pub fn run<R: Threads + Sync, G: Gate + Sync, W: Task + Send>(
         &mut self,
         rt: &R,

@@ -12,8 +12,8 @@ pub enum NodeFault {
     /// The node has no desk of that number: neither by itself nor as the desk of the acting process.
     #[error("the node has no such desk")]
     NoDesk,
-    /// The target is no process that the node can have had: a number of its pid is out of the node's ranges, or it is of
-    /// the acting process's desk, which has not issued its version.
+    /// The target is no process that the node can have had: a number of its pid is out of the node's ranges, or it is
+    /// of the acting process's desk, which has not issued its version.
     #[error("the target is not known")]
     Unknown,
     /// The desk refused the call.

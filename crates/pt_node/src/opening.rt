@@ -10,8 +10,8 @@ use pt_desk::Desk;
 use pt_shard::{Config, OpenError, Shard};
 use std::alloc::{AllocError, Global};
 
-/// Opens a node: its desks, in order, on which nothing has happened, each with its ends of all lanes and its seat in one
-/// directory of who has ended.
+/// Opens a node: its desks, in order, on which nothing has happened, each with its ends of all lanes and its seat in
+/// one directory of who has ended.
 ///
 /// Refused as `Bounds` exactly where a setting is out of its range, with the first such setting, else as `Memory` where
 /// there is none.

@@ -15,7 +15,8 @@ pub fn assign<W>(desks: &mut Vec<Desk>, works: &mut Vec<W>, pairs: &mut Vec<(Des
     ensures desks { map (λ p. p.0) pairs.new.items ≡ desks.old.items }
     ensures works { map (λ p. p.1) pairs.new.items ≡ works.old.items }
     ensures empty { (desks.new.items ≡ []) × (works.new.items ≡ []) }
-    ensures kept { (vec_capacity desks.new ≡ vec_capacity desks.old) × (vec_capacity works.new ≡ vec_capacity works.old) }
+    ensures kept { (vec_capacity desks.new ≡ vec_capacity desks.old)
+        × (vec_capacity works.new ≡ vec_capacity works.old) }
 {
     desks.reverse();
     works.reverse();

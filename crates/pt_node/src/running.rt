@@ -4,7 +4,8 @@ ghost use Rattle.std.specs.Prelude.{◌≡◌, ℕ, ◌<◌, ◌≤◌, Bool, So
 ghost use Rattle.pt_carrier.specs.declared.ends.TheConstants.{MAX_DESKS};
 ghost use Rattle.pt_desk.specs.DeskState.{DeskState, GoesOn};
 ghost use Rattle.pt_node.specs.Desks.{AreDesks};
-ghost use Rattle.pt_node.specs.Running.{AllGoOn, AllWork, HasTurn, HaveEnded, InRounds, Round, TakesTurn, Works, begins_by};
+ghost use Rattle.pt_node.specs.Running.{AllGoOn, AllWork, HasTurn, HaveEnded, InRounds, Round, TakesTurn, Works};
+ghost use Rattle.pt_node.specs.Running.{begins_by};
 
 use crate::work::{Standing, Task};
 use pt_desk::Desk;
@@ -68,8 +69,9 @@ impl<W: Task> Ran<W> {
 /// Lets each desk's worker do up to `turns` turns on a thread of its own, and gives every desk back, in order.
 ///
 /// A worker's turn is `gate.before`, which may end it, the work's `step`, the desk's `turn` with that budget, and
-/// `gate.after`. It ends too, before `gate.before`, where its work is done or has failed. The desks are lent, so none moves into a thread; where no thread can be made the workers run one
-/// after another. When `run` returns every worker has ended. An empty list is given back.
+/// `gate.after`. It ends too, before `gate.before`, where its work is done or has failed. The desks are lent, so none
+/// moves into a thread; where no thread can be made the workers run one after another. When `run` returns every worker
+/// has ended. An empty list is given back.
 ///
 /// Each desk that comes back is the one at its place in the list handed in, gone on. So the desks of one node are that
 /// still, and [`gather`](crate::gather) takes them. Each worker takes all its turns, or those before the first that did
@@ -83,7 +85,8 @@ pub fn run<R: Threads + Sync, G: Gate + Sync, W: Task + Send>(
     gate: &G,
 ) -> Ran<W>
     ensures each { AllGoOn desks.items result.desks.items }
-    ensures turns { AllWork (begins_by W.standing (G.lets gate.now)) W.does turns budget desks.items result.desks.items }
+    ensures turns { AllWork
+        (begins_by W.standing (G.lets gate.now)) W.does turns budget desks.items result.desks.items }
     ensures desks { AreDesks (map (λ p. p.0) desks.items) → AreDesks (map (λ p. p.0) result.desks.items) }
 {
     let mut desks = desks;
@@ -104,8 +107,10 @@ pub fn run_single<G: Gate, W: Task>(
     gate: &G,
 ) -> Ran<W>
     ensures each { AllGoOn desks.items result.desks.items }
-    ensures turns { AllWork (begins_by W.standing (G.lets gate.now)) W.does turns budget desks.items result.desks.items }
-    ensures rounds { length desks.items ≤ MAX_DESKS → InRounds (begins_by W.standing (G.lets gate.now)) W.does turns budget desks.items result.desks.items }
+    ensures turns { AllWork
+        (begins_by W.standing (G.lets gate.now)) W.does turns budget desks.items result.desks.items }
+    ensures rounds { length desks.items ≤ MAX_DESKS
+        → InRounds (begins_by W.standing (G.lets gate.now)) W.does turns budget desks.items result.desks.items }
     ensures desks { AreDesks (map (λ p. p.0) desks.items) → AreDesks (map (λ p. p.0) result.desks.items) }
 {
     let mut desks = desks;
@@ -121,8 +126,10 @@ pub fn run_single<G: Gate, W: Task>(
 fn all_rounds<G: Gate, W: Task>(desks: &mut Vec<(Desk, W)>, turns: u64, budget: u32, gate: &G)
     requires { length desks.old.items ≤ MAX_DESKS }
     ensures each { AllGoOn desks.old.items desks.new.items }
-    ensures turns { AllWork (begins_by W.standing (G.lets gate.now)) W.does turns budget desks.old.items desks.new.items }
-    ensures rounds { InRounds (begins_by W.standing (G.lets gate.now)) W.does turns budget desks.old.items desks.new.items }
+    ensures turns { AllWork
+        (begins_by W.standing (G.lets gate.now)) W.does turns budget desks.old.items desks.new.items }
+    ensures rounds { InRounds
+        (begins_by W.standing (G.lets gate.now)) W.does turns budget desks.old.items desks.new.items }
 {
     let mut ended = [false; 64];
     for turn in 0..turns {
@@ -142,7 +149,8 @@ fn one_round<G: Gate, W: Task>(
 ) -> bool
     requires { length desks.old.items ≤ MAX_DESKS }
     ensures each { AllGoOn desks.old.items desks.new.items }
-    ensures round { Round (begins_by W.standing (G.lets gate.now)) W.does budget turn (length desks.old.items) (desks.old.items, ended.old) (desks.new.items, ended.new) }
+    ensures round { Round (begins_by W.standing (G.lets gate.now)) W.does budget turn (length desks.old.items)
+        (desks.old.items, ended.old) (desks.new.items, ended.new) }
     ensures none { result ≡ false → HaveEnded (length desks.old.items) ended.new }
 {
     let mut goes_on = false;
@@ -167,7 +175,8 @@ fn turn_at<G: Gate, W: Task>(
     requires desk { d < length desks.old.items }
     requires few { length desks.old.items ≤ MAX_DESKS }
     ensures each { AllGoOn desks.old.items desks.new.items }
-    ensures turn { HasTurn (begins_by W.standing (G.lets gate.now)) W.does budget turn d (desks.old.items, ended.old) (desks.new.items, ended.new) }
+    ensures turn { HasTurn (begins_by W.standing (G.lets gate.now)) W.does budget turn d (desks.old.items, ended.old)
+        (desks.new.items, ended.new) }
 {
     if ended[d] {
         return;
@@ -178,7 +187,8 @@ fn turn_at<G: Gate, W: Task>(
 /// All turns of each worker, one worker after another.
 fn one_by_one<G: Gate, W: Task>(desks: &mut Vec<(Desk, W)>, turns: u64, budget: u32, gate: &G)
     ensures each { AllGoOn desks.old.items desks.new.items }
-    ensures turns { AllWork (begins_by W.standing (G.lets gate.now)) W.does turns budget desks.old.items desks.new.items }
+    ensures turns { AllWork
+        (begins_by W.standing (G.lets gate.now)) W.does turns budget desks.old.items desks.new.items }
 {
     for d in 0..desks.len() {
         work_turns(&mut desks[d], turns, budget, gate);
@@ -212,7 +222,8 @@ fn work_all<R: Threads + Sync, G: Gate + Sync, W: Task + Send>(
 /// The turns of one worker.
 fn work_turns<G: Gate, W: Task>(pair: &mut (Desk, W), turns: u64, budget: u32, gate: &G)
     ensures goes_on { GoesOn pair.old.0 pair.new.0 }
-    ensures turns { Works (begins_by W.standing (G.lets gate.now) pair.old.0.shard.number) W.does turns budget pair.old pair.new }
+    ensures turns { Works
+        (begins_by W.standing (G.lets gate.now) pair.old.0.shard.number) W.does turns budget pair.old pair.new }
 {
     for turn in 0..turns {
         if !one_turn(pair, turn, budget, gate) {

@@ -28,10 +28,11 @@ pub struct Stopped {
 
 /// Rounds of turns, each after a look at all lanes, until two in a row handled nothing, or a turn was stopped.
 ///
-/// One does not do: what a desk posts in it may be for a desk that had its turn before. In the second whatever stands in a
-/// lane would be handled, since its ends have looked at each other; so nothing stands there, and no lane was full.
+/// One does not do: what a desk posts in it may be for a desk that had its turn before. In the second whatever stands
+/// in a lane would be handled, since its ends have looked at each other; so nothing stands there, and no lane was full.
 ///
-/// Behind a turn that was stopped it looks once more: only so it is sure that each letter which was handled had been posted.
+/// Behind a turn that was stopped it looks once more: only so it is sure that each letter which was handled had been
+/// posted.
 pub(crate) fn until_still(desks: &mut Vec<Desk>, budget: u32) -> Rested
     requires some { 0 < budget }
     requires node { AreDesks desks.old.items }

@@ -11,8 +11,8 @@ use pt_signal::{Item, Pick, Pid};
 
 /// What is done with an item that was taken out of a mailbox.
 ///
-/// It may call the desk, and promises what each call of a desk does. What else it may do is the ghost member `takes`, of
-/// itself and the desk before, the item, and the two after.
+/// It may call the desk, and promises what each call of a desk does. What else it may do is the ghost member `takes`,
+/// of itself and the desk before, the item, and the two after.
 pub trait Takes {
     ghost takes: { Self → DeskState → Item → Self → DeskState → Type 0 } = { λ _ _ _ _ _. ⊤ };
 
@@ -22,8 +22,8 @@ pub trait Takes {
         ensures goes_on { GoesOn desk.old desk.new };
 }
 
-/// Takes the items that fit out of the mailbox of p, oldest first and `most` at most, and hands each over as it is taken.
-/// It answers how many there were: fewer than `most` only where none is left that fits.
+/// Takes the items that fit out of the mailbox of p, oldest first and `most` at most, and hands each over as it is
+/// taken. It answers how many there were: fewer than `most` only where none is left that fits.
 ///
 /// Refused as [`Desk::receive`] refuses the next one: `Gone`, or where an item fits, `Worn` or `Memory`. What was taken
 /// before that was handed over, and stays taken.

@@ -1,12 +1,14 @@
 -- What the words of the command line ask for: the command, as `clap` sees it, and what is read of its matches. How
 -- words give matches, and which kind of error a refusal has, are `clap`'s `matches_of` and `fault_of`.
-use Rattle.std.specs.Prelude.{◌≡◌, ◌⊎◌, ℕ, ◌^◌, List, [], ◌∷◌, codes, map, min, if◌then◌else◌, false, Option, Some, None, option_map, option_and_then, Result, Ok, Err, String, string_bytes}
+use Rattle.std.specs.Prelude.{◌≡◌, ◌⊎◌, ℕ, ◌^◌, List, [], ◌∷◌, codes, map, min, if◌then◌else◌, false, Option, Some}
+use Rattle.std.specs.Prelude.{None, option_map, option_and_then, Result, Ok, Err, String, string_bytes}
 use Rattle.std.specs.Borrow.{Bor}
 use Rattle.std.specs.Option.{option_map_or}
 use Rattle.std.specs.Str.{bytes_eq}
 use Rattle.std.specs.Str.Parse.{digits_value, without_leading_plus}
 use Rattle.std.specs.declared.alloc.Global.{Global}
-use Rattle.clap.specs.Words.{App, Row, Rule, Text, IsAmong, fault_of, first_of, kind_of, matches_of, new_app, new_rule, one_of, rule_of, with_rule}
+use Rattle.clap.specs.Words.{App, Row, Rule, Text, IsAmong, fault_of, first_of, kind_of, matches_of, new_app, new_rule}
+use Rattle.clap.specs.Words.{one_of, rule_of, with_rule}
 use Rattle.clap.specs.declared.builder.arg.Arg.{Arg}
 use Rattle.clap.specs.ValueTests.{is_unsigned_in}
 use Rattle.clap.specs.declared.builder.value_parser.ValueParser.TheVariants.{Names, Unsigned}
@@ -25,13 +27,22 @@ Words = Bor (List (Bor Text))
 
 -- an option that takes one of some words
 abbrev pub choice_rule : Text → Words → Text → Rule
-choice_rule name words default = record (new_rule name) { long = Some name; parser = Some (Names words); defaults = default ∷ [] }
+choice_rule name words default = record (new_rule name) {
+  long = Some name;
+  parser = Some (Names words);
+  defaults = default ∷ [];
+}
 
 abbrev pub threads_rule : Words → Rule
 threads_rule modes = choice_rule (codes "threads") modes (codes "single")
 
 abbrev pub turns_rule : Rule
-turns_rule = record (new_rule (codes "turns")) { long = Some (codes "turns"); value_names = 1; parser = Some (Unsigned 0 MOST_TURNS); defaults = codes "100" ∷ [] }
+turns_rule = record (new_rule (codes "turns")) {
+  long = Some (codes "turns");
+  value_names = 1;
+  parser = Some (Unsigned 0 MOST_TURNS);
+  defaults = codes "100" ∷ [];
+}
 
 abbrev pub print_rule : Words → Rule
 print_rule shows = choice_rule (codes "print") shows (codes "history")
@@ -41,11 +52,18 @@ abbrev pub IsArgument : Rule → Arg → Type 0
 IsArgument rule arg = (rule_of arg ≡ rule) × (arg.global ≡ false)
 
 abbrev pub command_with : Words → Words → App
-command_with modes shows = with_rule (with_rule (with_rule (with_rule (new_app (codes "pt_run")) (new_rule (codes "FILE"))) (threads_rule modes)) turns_rule) (print_rule shows)
+command_with modes shows =
+    with_rule
+    (with_rule
+    (with_rule (with_rule (new_app (codes "pt_run")) (new_rule (codes "FILE"))) (threads_rule modes)) turns_rule)
+    (print_rule shows)
 
 -- the command line of the program
 abbrev pub IsCommand : App → Type 0
-IsCommand a = (modes : Words) × (shows : Words) × (map (λ s. s.now) modes.now ≡ codes "single" ∷ codes "many" ∷ []) × (map (λ s. s.now) shows.now ≡ codes "summary" ∷ codes "history" ∷ codes "chart" ∷ []) × (a ≡ command_with modes shows)
+IsCommand a =
+    (modes : Words) × (shows : Words) × (map (λ s. s.now) modes.now ≡ codes "single" ∷ codes "many" ∷ [])
+    × (map (λ s. s.now) shows.now ≡ codes "summary" ∷ codes "history" ∷ codes "chart" ∷ [])
+    × (a ≡ command_with modes shows)
 
 abbrev pub mode_of : Option Text → Mode
 mode_of None = Single
@@ -53,7 +71,8 @@ mode_of (Some t) = if bytes_eq t (codes "many") then Many else Single
 
 abbrev pub show_of : Option Text → Show
 show_of None = History
-show_of (Some t) = if bytes_eq t (codes "summary") then Summary else (if bytes_eq t (codes "chart") then Chart else History)
+show_of (Some t) =
+    if bytes_eq t (codes "summary") then Summary else (if bytes_eq t (codes "chart") then Chart else History)
 
 -- the number that a text of decimal digits writes, where 64 bits have it
 abbrev pub number_of : Text → Option ℕ
@@ -77,5 +96,7 @@ file_of rows = first_of (codes "FILE") rows
 -- The answer to the words: they are no fault of the command and ask for this, or the error is of the kind of their
 -- first fault, or of want of memory.
 abbrev pub Answers : List Text → Result (Option (String Global) × Options) Error → Type 0
-Answers words (Ok r) = (a : App) × IsCommand a × (fault_of a words ≡ []) × (option_map string_bytes r.0 ≡ file_of (matches_of a words)) × (r.1 ≡ chosen_of (matches_of a words))
+Answers words (Ok r) =
+    (a : App) × IsCommand a × (fault_of a words ≡ []) × (option_map string_bytes r.0 ≡ file_of (matches_of a words))
+    × (r.1 ≡ chosen_of (matches_of a words))
 Answers words (Err e) = (kind_of e ≡ OutOfMemory) ⊎ ((a : App) × IsCommand a × IsAmong (kind_of e) (fault_of a words))

@@ -17,7 +17,10 @@ defaults = record { threads = Single; turns = 100; print = History }
 
 -- the words, behind the program's name, are no fault, and ask for this
 abbrev pub AskFor : List Text → Option Text → Options → Type 0
-AskFor words file options = (a : App) → IsCommand a → (name : Text) → (fault_of a (name ∷ words) ≡ []) × (file_of (matches_of a (name ∷ words)) ≡ file) × (chosen_of (matches_of a (name ∷ words)) ≡ options)
+AskFor words file options =
+    (a : App) → IsCommand a → (name : Text)
+    → (fault_of a (name ∷ words) ≡ []) × (file_of (matches_of a (name ∷ words)) ≡ file)
+    × (chosen_of (matches_of a (name ∷ words)) ≡ options)
 
 -- they are refused, with this kind of error alone
 abbrev pub FailWith : List Text → ErrorKind → Type 0
@@ -27,25 +30,38 @@ abbrev pub DefaultsStand : Type 0
 DefaultsStand = AskFor [] None defaults
 
 abbrev pub FilesAreNamed : Type 0
-FilesAreNamed = AskFor (codes "-" ∷ []) (Some (codes "-")) defaults × ((file : Text) → strip_byte 45 file ≡ None → AskFor (file ∷ []) (Some file) defaults)
+FilesAreNamed =
+    AskFor (codes "-" ∷ []) (Some (codes "-")) defaults
+    × ((file : Text) → strip_byte 45 file ≡ None → AskFor (file ∷ []) (Some file) defaults)
 
 abbrev pub TurnsAreTold : Type 0
-TurnsAreTold = (t : Text) → is_unsigned_in 0 MOST_TURNS t ≡ true → AskFor ((codes "--turns=" ++ t) ∷ []) None (record defaults { turns = digits_value 10 (without_leading_plus t) })
+TurnsAreTold =
+    (t : Text) → is_unsigned_in 0 MOST_TURNS t ≡ true
+    → AskFor ((codes "--turns=" ++ t) ∷ []) None (record defaults { turns = digits_value 10 (without_leading_plus t) })
 
 abbrev pub WrongTurnsAreRefused : Type 0
-WrongTurnsAreRefused = (t : Text) → is_unsigned_in 0 MOST_TURNS t ≡ false → FailWith ((codes "--turns=" ++ t) ∷ []) ValueValidation
+WrongTurnsAreRefused =
+    (t : Text) → is_unsigned_in 0 MOST_TURNS t ≡ false → FailWith ((codes "--turns=" ++ t) ∷ []) ValueValidation
 
 abbrev pub ModesAreTold : Type 0
-ModesAreTold = AskFor (codes "--threads=single" ∷ []) None defaults × AskFor (codes "--threads=many" ∷ []) None (record defaults { threads = Many })
+ModesAreTold =
+    AskFor (codes "--threads=single" ∷ []) None defaults
+    × AskFor (codes "--threads=many" ∷ []) None (record defaults { threads = Many })
 
 abbrev pub WrongModesAreRefused : Type 0
-WrongModesAreRefused = (t : Text) → t ≢ codes "single" → t ≢ codes "many" → FailWith ((codes "--threads=" ++ t) ∷ []) InvalidValue
+WrongModesAreRefused =
+    (t : Text) → t ≢ codes "single" → t ≢ codes "many" → FailWith ((codes "--threads=" ++ t) ∷ []) InvalidValue
 
 abbrev pub PrintsAreTold : Type 0
-PrintsAreTold = AskFor (codes "--print=summary" ∷ []) None (record defaults { print = Summary }) × AskFor (codes "--print=history" ∷ []) None defaults × AskFor (codes "--print=chart" ∷ []) None (record defaults { print = Chart })
+PrintsAreTold =
+    AskFor (codes "--print=summary" ∷ []) None (record defaults { print = Summary })
+    × AskFor (codes "--print=history" ∷ []) None defaults
+    × AskFor (codes "--print=chart" ∷ []) None (record defaults { print = Chart })
 
 abbrev pub WrongPrintsAreRefused : Type 0
-WrongPrintsAreRefused = (t : Text) → t ≢ codes "summary" → t ≢ codes "history" → t ≢ codes "chart" → FailWith ((codes "--print=" ++ t) ∷ []) InvalidValue
+WrongPrintsAreRefused =
+    (t : Text) → t ≢ codes "summary" → t ≢ codes "history" → t ≢ codes "chart"
+    → FailWith ((codes "--print=" ++ t) ∷ []) InvalidValue
 
 abbrev pub HelpIsAsked : Type 0
 HelpIsAsked = FailWith (codes "--help" ∷ []) DisplayHelp × FailWith (codes "-h" ∷ []) DisplayHelp

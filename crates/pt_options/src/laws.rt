@@ -1,6 +1,7 @@
 //! What the command line makes of words: each is the contract of a function that does nothing.
 
-ghost use Rattle.pt_options.specs.Laws.{DefaultsStand, FilesAreNamed, TurnsAreTold, WrongTurnsAreRefused, ModesAreTold, WrongModesAreRefused, PrintsAreTold, WrongPrintsAreRefused, HelpIsAsked};
+ghost use Rattle.pt_options.specs.Laws.{DefaultsStand, FilesAreNamed, TurnsAreTold, WrongTurnsAreRefused, ModesAreTold};
+ghost use Rattle.pt_options.specs.Laws.{WrongModesAreRefused, PrintsAreTold, WrongPrintsAreRefused, HelpIsAsked};
 
 /// Without words the script comes from standard input, on one thread, for 100 turns, and the history is printed.
 pub fn defaults_stand()

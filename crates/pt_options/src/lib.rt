@@ -4,8 +4,8 @@
 //! pt_run [FILE] [--threads single|many] [--turns N] [--print summary|history|chart]
 //! ```
 //!
-//! [`options`] reads the words, and [`laws`] says what it makes of some. `FILE` is the script; without it, and for `-`, the
-//! script is read from standard input.
+//! [`options`] reads the words, and [`laws`] says what it makes of some. `FILE` is the script; without it, and for `-`,
+//! the script is read from standard input.
 #![tactic(auto)]
 
 ghost use Rattle.std.specs.Prelude.{◌≡◌, ◌≤◌, IfOk, codes, map, option_map, string_bytes};

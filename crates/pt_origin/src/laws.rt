@@ -10,5 +10,6 @@ ghost use Rattle.pt_events.specs.Leaving.{outcome, start_after};
 ///
 /// It does nothing: the law is its contract.
 pub fn leaves_each()
-    ensures { (start : Start) (past : Past) (p : Pid) → at_start (start_after start past) p ≡ outcome (life start past p) }
+    ensures { (start : Start) (past : Past) (p : Pid)
+        → at_start (start_after start past) p ≡ outcome (life start past p) }
 {}

@@ -35,7 +35,8 @@ module _ {K V : Type 0} where
   abbrev pub put : (K → K → Bool) → List (K × V) → K → V → List (K × V)
   put eq es k v = put_at (lookup (eq k) es) (eq k) k v es
 
--- what holds between two calls: no key stands twice, the entries are counted and not too many, and the gaps are no more than they
+-- what holds between two calls: no key stands twice, the entries are counted and not too many, and the gaps are no more
+-- than they
 pub record AreCounted {K V : Type 0} (eq : K → K → Bool) (places : List (K × Option V)) (count : ℕ) : Type 0 where
   pub distinct : IsDistinct eq (keys_of places)
   pub counted : count ≡ length (present places)

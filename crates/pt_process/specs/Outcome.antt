@@ -1,5 +1,6 @@
 -- What `accept` answers, what the process is afterwards, and what it may say.
-use Rattle.std.specs.Prelude.{◌≡◌, ◌≢◌, ◌<◌, ◌⊎◌, ⊤, Bool, true, false, List, [], ◌∷◌, length, is_some, Option, Some, None, Result, Ok, Err}
+use Rattle.std.specs.Prelude.{◌≡◌, ◌≢◌, ◌<◌, ◌⊎◌, ⊤, Bool, true, false, List, [], ◌∷◌, length, is_some, Option, Some}
+use Rattle.std.specs.Prelude.{None, Result, Ok, Err}
 use Rattle.std.specs.Map.{lookup}
 use Rattle.pt_signal.specs.declared.ids.Ids.{Ids}
 use Rattle.pt_signal.specs.declared.ids.Ref.{Ref}
@@ -28,7 +29,8 @@ IsOutcome old h (Ends r) = (h.ending ≡ Some r) × (h.answer ≡ [])
 -- one of the lists that a signal can add to is longer
 abbrev pub IsLonger : ProcessState → ProcessState → Type 0
 IsLonger old new =
-    (length old.waiting < length new.waiting) ⊎ (length old.links < length new.links) ⊎ (length old.kept < length new.kept)
+    (length old.waiting < length new.waiting) ⊎ (length old.links < length new.links)
+    ⊎ (length old.kept < length new.kept)
 
 -- memory is refused only where a list would grow, and nothing has changed then
 abbrev pub Accepts : {E : Type 0} → ProcessView → Handled → Result Outcome E → ProcessView → Type 0

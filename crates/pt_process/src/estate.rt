@@ -26,7 +26,12 @@ impl Model for Estate {
 
     ghost Value = { Owing };
 
-    ghost view = { λ e. record { from = e.me; owed = estate e.me (record { waiting = []; links = e.links; watching = e.watching; kept = keys_of e.kept; traps = false }) e.reason } };
+    ghost view = { λ e. record {
+      from = e.me;
+      owed = estate e.me
+          (record { waiting = []; links = e.links; watching = e.watching; kept = keys_of e.kept; traps = false })
+          e.reason;
+    } };
 }
 
 impl Estate {

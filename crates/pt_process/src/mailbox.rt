@@ -1,6 +1,7 @@
 //! The items that wait for a receive.
 
-ghost use Rattle.std.specs.Prelude.{◌≡◌, ◌+◌, ◌-◌, ◌*◌, ◌<◌, ◌≤◌, ◌++◌, ◌∷◌, [], take, drop, length, slice_get, Some, OnOk, OnErr};
+ghost use Rattle.std.specs.Prelude.{◌≡◌, ◌+◌, ◌-◌, ◌*◌, ◌<◌, ◌≤◌, ◌++◌, ◌∷◌, [], take, drop, length, slice_get, Some};
+ghost use Rattle.std.specs.Prelude.{OnOk, OnErr};
 ghost use Rattle.std.specs.List.{position, remove};
 ghost use Rattle.pt_signal.specs.Values.{fits};
 ghost use Rattle.pt_process.specs.Places.{IsFirst};
@@ -59,7 +60,8 @@ impl Mailbox {
         if self.items.len() == self.items.capacity() {
             self.items.reserve(1)?;
         }
-        // So the item is written where it stays. `Vec::push` is a call, for which it is put together in a place of its own.
+        // So the item is written where it stays. `Vec::push` is a call, for which it is put together in a place of its
+        // own.
         self.items.push_reserved(item);
         Ok(())
     }

@@ -1,6 +1,7 @@
 //! Entries by hash, in order of entry.
 
-ghost use Rattle.std.specs.Prelude.{◌≡◌, ◌+◌, ◌<◌, ◌≤◌, ◌^◌, ◌&&◌, ◌∷◌, ◌++◌, [], drop, length, slice_get, is_some, Some, None, IsOk, IfOk, IsSome, OnOk};
+ghost use Rattle.std.specs.Prelude.{◌≡◌, ◌+◌, ◌<◌, ◌≤◌, ◌^◌, ◌&&◌, ◌∷◌, ◌++◌, [], drop, length, slice_get, is_some};
+ghost use Rattle.std.specs.Prelude.{Some, None, IsOk, IfOk, IsSome, OnOk};
 ghost use Rattle.std.specs.HashMap.{spare};
 ghost use Rattle.std.specs.List.{list_any, IsDistinct};
 ghost use Rattle.std.specs.Map.{lookup, remove_entry, set_value, keys_of};
@@ -36,7 +37,11 @@ impl<K: Eq + Hash + Copy, V: Copy> Model for Many<K, V> {
 
     ghost Value = { Gapped K V };
 
-    ghost view = { λ m. record { entries = present m.places.entries; gaps = length m.places.entries - m.count; room = min (spare m.places) (2 ^ 62 - m.count) } };
+    ghost view = { λ m. record {
+      entries = present m.places.entries;
+      gaps = length m.places.entries - m.count;
+      room = min (spare m.places) (2 ^ 62 - m.count);
+    } };
 
     ghost invariant = { λ m. AreCounted K.eq m.places.entries m.count };
 }
@@ -213,7 +218,8 @@ fn standing_at<K: Eq + Hash + Copy, V: Copy>(
     at: usize,
 ) -> Option<(K, V)>
     requires { at < length places.now.entries }
-    ensures { present (drop at places.now.entries) ≡ option_to_list result ++ present (drop (at + 1) places.now.entries) }
+    ensures { present (drop at places.now.entries)
+        ≡ option_to_list result ++ present (drop (at + 1) places.now.entries) }
 {
     let (key, value) = places.get_index(at).unwrap();
     match value {

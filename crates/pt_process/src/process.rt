@@ -1,10 +1,12 @@
 //! One process.
 
-ghost use Rattle.std.specs.Prelude.{◌≡◌, ◌+◌, ◌<◌, ◌≤◌, ◌^◌, ◌∷◌, ◌++◌, [], false, length, is_some, slice_get, remove, find, IsOk, IsSome, OnOk, OnErr, IfOk, IfSome, IfNone, OnSome};
+ghost use Rattle.std.specs.Prelude.{◌≡◌, ◌+◌, ◌<◌, ◌≤◌, ◌^◌, ◌∷◌, ◌++◌, [], false, length, is_some, slice_get, remove};
+ghost use Rattle.std.specs.Prelude.{find, IsOk, IsSome, OnOk, OnErr, IfOk, IfSome, IfNone, OnSome};
 ghost use Rattle.std.specs.List.{list_any};
 ghost use Rattle.std.specs.Map.{lookup, remove_entry};
 ghost use Rattle.pt_signal.specs.Values.{fits, same_pid, same_ref, without_first};
-ghost use Rattle.pt_signal.specs.Process.{fresh, held, holds_any, same_watch, cut, handle, queued, obey, verdict, say, estate};
+ghost use Rattle.pt_signal.specs.Process.{fresh, held, holds_any, same_watch, cut, handle, queued, obey, verdict, say};
+ghost use Rattle.pt_signal.specs.Process.{estate};
 ghost use Rattle.pt_process.specs.Outcome.{Accepts, IsAnew, has_two, ruled};
 ghost use Rattle.pt_process.specs.Places.{IsFirst, IsFirstPlace};
 ghost use Rattle.pt_process.specs.Peers.{peers};
@@ -34,7 +36,17 @@ impl Model for Process {
 
     ghost Value = { ProcessView };
 
-    ghost view = { λ p. record { me = p.me; state = record { waiting = p.waiting; links = p.links.entries; watching = p.watching.entries; kept = keys_of p.kept.entries; traps = p.traps }; room = p.links.room } };
+    ghost view = { λ p. record {
+      me = p.me;
+      state = record {
+        waiting = p.waiting;
+        links = p.links.entries;
+        watching = p.watching.entries;
+        kept = keys_of p.kept.entries;
+        traps = p.traps;
+      };
+      room = p.links.room;
+    } };
 }
 
 impl Process {
@@ -125,7 +137,8 @@ impl Process {
         self.watching.len()
     }
 
-    /// The open monitor in this place, in order of entry, and whom it watches; `None` from [`Process::monitors_len`] on.
+    /// The open monitor in this place, in order of entry, and whom it watches; `None` from [`Process::monitors_len`]
+    /// on.
     pub fn monitor_at(&self, i: usize) -> Option<(Ref, Pid)>
         ensures { result ≡ slice_get self.now.state.watching i }
     {
@@ -189,8 +202,9 @@ impl Process {
     pub fn accept(&mut self, from: Pid, signal: Signal) -> Result<Outcome, AllocError>
         ensures { Accepts self.old (handle self.old.me self.old.state from signal) result self.new }
     {
-        // Only the ways that queue an item are inlined: a message is then written into the mailbox from where it stands.
-        // Where the others are inlined too, it is first copied in pieces, and to load those again costs more than all else.
+        // Only the ways that queue an item are inlined: a message is then written into the mailbox from where it
+        // stands. Where the others are inlined too, it is first copied in pieces, and to load those again costs more
+        // than all else.
         match signal {
             Signal::Message(body) => self.queue(Item::User(from, body)),
             Signal::Link(id) => self.enter(from, id),
@@ -237,7 +251,8 @@ impl Process {
     pub fn take_at(&mut self, place: usize) -> Item
         requires { place < length self.old.state.waiting }
         ensures item { slice_get self.old.state.waiting place ≡ Some result }
-        ensures rest { self.new ≡ record self.old { state = record self.old.state { waiting = remove self.old.state.waiting place } } }
+        ensures rest { self.new
+            ≡ record self.old { state = record self.old.state { waiting = remove self.old.state.waiting place } } }
     {
         self.waiting.take_at(place)
     }
@@ -245,7 +260,13 @@ impl Process {
     /// Takes the first item that fits; the others stay, in order.
     pub fn take(&mut self, pick: Pick) -> Option<Item>
         ensures item { result ≡ find (fits pick) self.old.state.waiting }
-        ensures rest { self.new ≡ record self.old { state = record self.old.state { waiting = without_first (fits pick) self.old.state.waiting } } }
+        ensures rest { self.new
+            ≡ record self.old {
+              state = record self.old.state {
+                waiting = without_first
+                    (fits pick) self.old.state.waiting;
+              };
+            } }
     {
         match self.first(pick) {
             Some((place, _)) => Some(self.take_at(place)),
@@ -286,7 +307,8 @@ impl Process {
     pub fn cut_link(&mut self, peer: Pid) -> Option<Ids>
         ensures me { self.new.me ≡ self.old.me }
         ensures ids { result ≡ held self.old.state.links peer }
-        ensures state { self.new.state ≡ record self.old.state { links = remove_entry (same_pid peer) self.old.state.links } }
+        ensures state { self.new.state
+            ≡ record self.old.state { links = remove_entry (same_pid peer) self.old.state.links } }
         ensures said { IfSome result (λ ids. self.new.state ≡ say self.old.state peer (Signal.Unlink ids)) }
         ensures none { IfNone result (self.new.state ≡ self.old.state) }
         ensures room { self.old.room ≤ self.new.room }
@@ -299,8 +321,10 @@ impl Process {
     /// Memory is refused only where the reference is not open.
     pub fn add_monitor(&mut self, monitor: Ref, target: Pid) -> Result<(), AllocError>
         ensures me { self.new.me ≡ self.old.me }
-        ensures state { lookup (same_ref monitor) self.old.state.watching ≡ None → OnOk result (self.new.state ≡ say self.old.state target (Signal.Monitor monitor)) }
-        ensures open { IsSome (lookup (same_ref monitor) self.old.state.watching) → IsOk result × (self.new.state ≡ self.old.state) }
+        ensures state { lookup (same_ref monitor) self.old.state.watching ≡ None
+            → OnOk result (self.new.state ≡ say self.old.state target (Signal.Monitor monitor)) }
+        ensures open { IsSome (lookup (same_ref monitor) self.old.state.watching)
+            → IsOk result × (self.new.state ≡ self.old.state) }
         ensures err { OnErr result (self.new.state ≡ self.old.state) }
     {
         if self.watching(monitor) {
@@ -323,7 +347,8 @@ impl Process {
     /// It says a signal to a process: a link is held, or held no more, a monitor is open, or open no more; nothing else
     /// that it says changes it. A reference that is open already stays as it is.
     ///
-    /// Memory is refused only where [`add_link`](Process::add_link) or [`add_monitor`](Process::add_monitor) refuses it.
+    /// Memory is refused only where [`add_link`](Process::add_link) or [`add_monitor`](Process::add_monitor) refuses
+    /// it.
     pub fn say(&mut self, to: Pid, signal: Signal) -> Result<(), AllocError>
         ensures me { self.new.me ≡ self.old.me }
         ensures state { IsAnew signal self.old.state → OnOk result (self.new.state ≡ say self.old.state to signal) }
@@ -402,7 +427,8 @@ impl Process {
 
     #[inline(never)]
     fn cut(&mut self, from: Pid, named: Ids) -> Outcome
-        ensures { Accepts {E = ⊥} self.old (handle self.old.me self.old.state from (Signal.Unlink named)) (Ok result) self.new }
+        ensures { Accepts {E = ⊥} self.old (handle self.old.me self.old.state from (Signal.Unlink named))
+            (Ok result) self.new }
     {
         if self.holds_any(from, named) {
             self.cut_ids(from, named);
@@ -448,7 +474,9 @@ impl Process {
     }
 
     fn ends_by(&self, from: Pid, reason: Reason, by_link: bool) -> Option<Reason>
-        ensures { result ≡ (obey (verdict by_link self.now.state.traps (same_pid from self.now.me) from reason) self.now.state).ending }
+        ensures { result
+            ≡ (obey
+            (verdict by_link self.now.state.traps (same_pid from self.now.me) from reason) self.now.state).ending }
     {
         match self.verdict(from, reason, by_link) {
             Verdict::Ends(reason) => Some(reason),
@@ -469,7 +497,8 @@ impl Process {
 
     #[inline(never)]
     fn link_exit(&mut self, from: Pid, ids: Ids, reason: Reason) -> Result<Outcome, AllocError>
-        ensures { Accepts self.old (handle self.old.me self.old.state from (Signal.LinkExit ids reason)) result self.new }
+        ensures { Accepts self.old
+            (handle self.old.me self.old.state from (Signal.LinkExit ids reason)) result self.new }
     {
         if self.holds_any(from, ids) {
             let verdict = self.verdict(from, reason, true);
@@ -482,7 +511,9 @@ impl Process {
     /// The entry of a linked process goes whatever the verdict on its exit signal.
     fn obey_link(&mut self, from: Pid, verdict: Verdict) -> Result<Outcome, AllocError>
         requires { IsSome (held self.old.state.links from) }
-        ensures { Accepts self.old (obey (ruled verdict) (record self.old.state { links = remove_entry (same_pid from) self.old.state.links })) result self.new }
+        ensures { Accepts self.old
+            (obey (ruled verdict) (record self.old.state { links = remove_entry (same_pid from) self.old.state.links }))
+            result self.new }
     {
         match verdict {
             Verdict::Drops => {
@@ -514,7 +545,8 @@ impl Process {
 
     #[inline(never)]
     fn forget(&mut self, from: Pid, monitor: Ref) -> Outcome
-        ensures { Accepts {E = ⊥} self.old (handle self.old.me self.old.state from (Signal.Demonitor monitor)) (Ok result) self.new }
+        ensures { Accepts {E = ⊥} self.old (handle self.old.me self.old.state from (Signal.Demonitor monitor))
+            (Ok result) self.new }
     {
         if self.keeps(monitor, from) {
             self.cut_kept(monitor, from);
@@ -533,7 +565,8 @@ impl Process {
     fn add_kept(&mut self, monitor: Ref, watcher: Pid) -> Result<(), AllocError>
         requires { list_any (same_watch monitor watcher) self.old.state.kept ≡ false }
         ensures me { self.new.me ≡ self.old.me }
-        ensures state { OnOk result (self.new.state ≡ record self.old.state { kept = self.old.state.kept ++ (monitor, watcher) ∷ [] }) }
+        ensures state { OnOk result
+            (self.new.state ≡ record self.old.state { kept = self.old.state.kept ++ (monitor, watcher) ∷ [] }) }
         ensures err { OnErr result (self.new.state ≡ self.old.state) }
     {
         self.kept.push((monitor, watcher), ())?;
@@ -542,14 +575,16 @@ impl Process {
 
     fn cut_kept(&mut self, monitor: Ref, watcher: Pid)
         ensures me { self.new.me ≡ self.old.me }
-        ensures state { self.new.state ≡ record self.old.state { kept = without_first (same_watch monitor watcher) self.old.state.kept } }
+        ensures state { self.new.state
+            ≡ record self.old.state { kept = without_first (same_watch monitor watcher) self.old.state.kept } }
     {
         self.kept.remove(&(monitor, watcher));
     }
 
     #[inline(never)]
     fn down(&mut self, from: Pid, monitor: Ref, reason: Reason) -> Result<Outcome, AllocError>
-        ensures { Accepts self.old (handle self.old.me self.old.state from (Signal.Down monitor reason)) result self.new }
+        ensures { Accepts self.old
+            (handle self.old.me self.old.state from (Signal.Down monitor reason)) result self.new }
     {
         if !self.watching(monitor) {
             return Ok(Outcome::Dropped);

@@ -36,8 +36,12 @@ fate_text (Some r) = codes "ended " ++ reason_text r
 
 -- what became of a process: PID alive arrived A taken T waiting W
 unfoldable pub account_text : Pid → Account → List ℕ
-account_text p a = pid_text p ++ codes " " ++ fate_text a.ended ++ codes " arrived " ++ decimal a.arrived ++ codes " taken " ++ decimal a.taken ++ codes " waiting " ++ decimal a.waiting
+account_text p a =
+    pid_text p ++ codes " " ++ fate_text a.ended ++ codes " arrived " ++ decimal a.arrived ++ codes " taken "
+    ++ decimal a.taken ++ codes " waiting " ++ decimal a.waiting
 
 -- the last line of a summary
 unfoldable pub totals_text : Totals → List ℕ
-totals_text t = codes "events " ++ decimal t.events ++ codes " left-over " ++ decimal t.left_over ++ codes " settled " ++ decimal t.settled
+totals_text t =
+    codes "events " ++ decimal t.events ++ codes " left-over " ++ decimal t.left_over ++ codes " settled "
+    ++ decimal t.settled

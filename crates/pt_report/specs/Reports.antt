@@ -37,8 +37,8 @@ desks_of pairs = map (λ (p : DeskState × Runner). p.0) pairs
 abbrev pub runners_of : List (DeskState × Runner) → List Runner
 runners_of pairs = map (λ (p : DeskState × Runner). p.1) pairs
 
--- Desks were run as the options say: each took all its turns, in each of which the processes of its runner did their next
--- operations, and then the desk its turn with this budget; on a single thread these came in rounds.
+-- Desks were run as the options say: each took all its turns, in each of which the processes of its runner did their
+-- next operations, and then the desk its turn with this budget; on a single thread these came in rounds.
 pub record RunsAs (options : Options) (budget : ℕ) (old new : List (DeskState × Runner)) : Type 0 where
   pub turns : AllWork (λ desk _. always desk) RunnerDoes options.turns budget old new
   pub rounds : options.threads ≡ Single → InRounds (λ desk _. always desk) RunnerDoes options.turns budget old new
@@ -62,8 +62,10 @@ pub record IsNodeOf (options : Options) (script : Whole) (g : GatheredState) : T
 -- what stands in the writer now, beyond what stood there before, is what is asked for of the node
 abbrev pub Shows : Show → GatheredState → Option (List ℕ) → Option (List ℕ) → Type 0
 Shows Summary g old new = Summarizes g old new
-Shows History g old new = (h : List Stamped) × IsMerge (journals g) (reverse h) × Appends old new (history_text h (all_left g))
-Shows Chart g old new = (h : List Stamped) × IsMerge (journals g) (reverse h) × (text : List ℕ) × IsChart h text × Appends old new text
+Shows History g old new =
+    (h : List Stamped) × IsMerge (journals g) (reverse h) × Appends old new (history_text h (all_left g))
+Shows Chart g old new =
+    (h : List Stamped) × IsMerge (journals g) (reverse h) × (text : List ℕ) × IsChart h text × Appends old new text
 
 -- the bytes are a script, and what was printed is what is asked for of a node that it was run on
 pub record Reports (bytes : List ℕ) (options : Options) (old new : Option (List ℕ)) : Type 0 where
@@ -77,7 +79,8 @@ pub record Reports (bytes : List ℕ) (options : Options) (old new : Option (Lis
 
 -- on desks with the script's settings, the births of its processes stop for this fault
 abbrev pub BirthRefused : Whole → Fault → Type 0
-BirthRefused script fault = (desks : List DeskState) × AreDesksOf (config_of script.settings) desks × BornUntil script.tops desks fault
+BirthRefused script fault =
+    (desks : List DeskState) × AreDesksOf (config_of script.settings) desks × BornUntil script.tops desks fault
 
 -- a node that the script was run on is settled for its summary, and that stops at a worn clock
 pub record SettlesWorn (options : Options) (script : Whole) : Type 0 where
@@ -96,7 +99,8 @@ IsRefusedBy options script _ = ⊥
 -- the bytes are refused with this error; any other fault comes only where they are a script
 abbrev pub IsRefusedAs : List ℕ → Options → ReportFault → Type 0
 IsRefusedAs bytes options (Script error) = Refuses error (reading bytes)
-IsRefusedAs bytes options (Desk fault) = (script : Whole) × (reading bytes ≡ Ok script) × IsRefusedBy options script fault
+IsRefusedAs bytes options (Desk fault) =
+    (script : Whole) × (reading bytes ≡ Ok script) × IsRefusedBy options script fault
 IsRefusedAs bytes options _ = (script : Whole) × (reading bytes ≡ Ok script)
 
 -- a fault before the node is run: memory, or a refused birth

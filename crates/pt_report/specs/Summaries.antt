@@ -26,10 +26,14 @@ account_line p (Some a) = account_text p a ++ codes "\n"
 abbrev pub account_lines : Start → Past → List Pid → List ℕ
 account_lines start past pids = flat_map (λ p. account_line p (account_in start past p)) pids
 
--- a line a process that was ever born, by shard, slot and version, whichever merge of the journals is read, and then more
+-- a line a process that was ever born, by shard, slot and version, whichever merge of the journals is read, and then
+-- more
 abbrev pub AppendsAccounts : List ℕ → QuietState → Option (List ℕ) → Option (List ℕ) → Type 0
 AppendsAccounts more q old new =
-    (pids : List Pid) × InEveryMerge (journals q.gathered) (λ past. AreAllPids (begins q.gathered) past pids × Appends old new (account_lines (begins q.gathered) past pids ++ more))
+    (pids : List Pid)
+    × InEveryMerge (journals q.gathered)
+    (λ past. AreAllPids (begins q.gathered) past pids
+    × Appends old new (account_lines (begins q.gathered) past pids ++ more))
 
 -- the totals of a gathered node, and of the same one settled
 pub record Totalled (g : GatheredState) (q : QuietState) (t : Totals) : Type 0 where
@@ -41,4 +45,5 @@ pub record Totalled (g : GatheredState) (q : QuietState) (t : Totals) : Type 0 w
 
 -- the node is settled; a line a process is written, and then the totals
 abbrev pub Summarizes : GatheredState → Option (List ℕ) → Option (List ℕ) → Type 0
-Summarizes g old new = (q : QuietState) × (t : Totals) × Totalled g q t × AppendsAccounts (totals_text t ++ codes "\n") q old new
+Summarizes g old new =
+    (q : QuietState) × (t : Totals) × Totalled g q t × AppendsAccounts (totals_text t ++ codes "\n") q old new

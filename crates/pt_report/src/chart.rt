@@ -22,7 +22,9 @@ pub fn print_chart<W: Write>(
     gathered: &Gathered,
     out: &mut W,
 ) -> Result<(), ReportFault>
-    ensures text { OnOk result ((h : List Stamped) × IsMerge (journals gathered.now) (reverse h) × (text : List ℕ) × IsChart h text × Appends (W.contents out.old) (W.contents out.new) text) }
+    ensures text { OnOk result
+        ((h : List Stamped) × IsMerge (journals gathered.now) (reverse h) × (text : List ℕ) × IsChart h text
+        × Appends (W.contents out.old) (W.contents out.new) text) }
     ensures fault { IfErr result IsOfPrint }
     ensures untouched { IfErr result (λ f. f ≢ File → out.new ≡ out.old) }
 {

@@ -17,7 +17,9 @@ use std::io::Write;
 
 /// Prints the history of a node and the letters left over.
 pub fn print_history<W: Write>(gathered: &Gathered, out: &mut W) -> Result<(), ReportFault>
-    ensures text { OnOk result ((h : List Stamped) × IsMerge (journals gathered.now) (reverse h) × Appends (W.contents out.old) (W.contents out.new) (history_text h (all_left gathered.now))) }
+    ensures text { OnOk result
+        ((h : List Stamped) × IsMerge (journals gathered.now) (reverse h)
+        × Appends (W.contents out.old) (W.contents out.new) (history_text h (all_left gathered.now))) }
     ensures fault { IfErr result IsOfPrint }
     ensures untouched { IfErr result (λ f. f ≢ File → out.new ≡ out.old) }
 {

@@ -18,9 +18,9 @@ use std::thread::Threads;
 /// Reads a script from its bytes, runs it as the options say, and prints what happened.
 ///
 /// On `Ok` the whole text was written and the writer flushed: the history, the summary or the chart of a node that has
-/// the script's settings, was run and then gathered. Each of its desks took all the turns that the options ask for, with
-/// the script's budget, and before each of them a step of the script's operations. What `Mode::Single` prints is the same
-/// each time.
+/// the script's settings, was run and then gathered. Each of its desks took all the turns that the options ask for,
+/// with the script's budget, and before each of them a step of the script's operations. What `Mode::Single` prints is
+/// the same each time.
 ///
 /// Refused as `Script` where the bytes are no script, with the first fault and its place. `Desk` tells that a process
 /// that the script begins with found no free slot on its desk (`Full`), or that a clock is at its limit (`Worn`), there

@@ -10,8 +10,8 @@ ghost use Rattle.pt_runner.specs.Starting.{AreRunners, Begins};
 ghost use Rattle.pt_report.specs.Reports.{IsNodeOf, IsOfStart, RunsAs};
 
 use crate::fault::ReportFault;
-use pt_node::{Desk, FreeGate, Gathered, Ran, assign, gather, open, release, run, run_single};
 use pt_choices::{Mode, Options};
+use pt_node::{Desk, FreeGate, Gathered, Ran, assign, gather, open, release, run, run_single};
 use pt_runner::Runner;
 use pt_script::Script;
 use std::alloc::Global;
@@ -51,7 +51,8 @@ fn run_desks<R: Threads + Sync>(
     runners: Vec<Runner<'_>>,
 ) -> Result<Gathered, ReportFault>
     requires node { AreDesksOf (config_of script.now.settings) desks.items }
-    requires begins { (born : List Pid) × Begins script.now.tops (length script.now.tops) born desks.items × AreRunners script.now born (length desks.items) runners.items }
+    requires begins { (born : List Pid) × Begins script.now.tops (length script.now.tops) born desks.items
+        × AreRunners script.now born (length desks.items) runners.items }
     requires runners { vec_len runners ≡ vec_len desks }
     ensures node { IfOk result (λ g. IsNodeOf options.now script.now g) }
     ensures fault { IfErr result (IsOfStart script.now) }
@@ -83,7 +84,8 @@ fn run_pairs<'a, R: Threads + Sync>(
     pairs: Vec<(Desk, Runner<'a>)>,
 ) -> Ran<Runner<'a>>
     ensures each { AllGoOn pairs.entry.items result.desks.items }
-    ensures runs { length pairs.entry.items ≤ MAX_DESKS → RunsAs options.now budget pairs.entry.items result.desks.items }
+    ensures runs { length pairs.entry.items ≤ MAX_DESKS
+        → RunsAs options.now budget pairs.entry.items result.desks.items }
     ensures desks { AreDesks (map (λ p. p.0) pairs.entry.items) → AreDesks (map (λ p. p.0) result.desks.items) }
 {
     match options.threads {

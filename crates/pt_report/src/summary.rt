@@ -55,7 +55,8 @@ fn count_events(gathered: &Gathered) -> u64
 
 /// Writes a line a process, then the totals, and passes on what the writer holds back.
 fn write_summary<W: Write>(out: &mut W, quiet: &Quiet, totals: Totals) -> io::Result<()>
-    ensures { OnOk result (AppendsAccounts (totals_text totals ++ codes "\n") quiet.now (W.contents out.old) (W.contents out.new)) }
+    ensures { OnOk result
+        (AppendsAccounts (totals_text totals ++ codes "\n") quiet.now (W.contents out.old) (W.contents out.new)) }
 {
     write_accounts(out, quiet)?;
     writeln!(out, "{totals}")?;
@@ -76,7 +77,11 @@ fn write_accounts<W: Write>(out: &mut W, quiet: &Quiet) -> io::Result<()>
 /// Writes the line of a process, if it was born.
 #[tactic(auto, using(crate::proofs::Accounts::told_line))]
 fn write_account<W: Write>(out: &mut W, quiet: &Quiet, pid: Pid) -> io::Result<()>
-    ensures { OnOk result (InEveryMerge (journals quiet.now.gathered) (λ past. Appends (W.contents out.old) (W.contents out.new) (account_line pid (account_in (begins quiet.now.gathered) past pid)))) }
+    ensures { OnOk result
+        (InEveryMerge (journals quiet.now.gathered)
+        (λ past.
+        Appends (W.contents out.old) (W.contents out.new)
+        (account_line pid (account_in (begins quiet.now.gathered) past pid)))) }
 {
     match quiet.account(pid) {
         Some(account) => {

@@ -1,5 +1,7 @@
 -- What an operation of a process does, and what a step does: the operations of the processes, one after the other.
-use Rattle.std.specs.Prelude.{◌≡◌, ◌⊎◌, ℕ, ℤ, zero, suc, ◌+◌, ◌-◌, ◌^◌, ◌<◌, Bool, true, false, cond, is_some, List, [], ◌∷◌, ◌++◌, length, map, min, slice_index_or, slice_set, Option, Some, None, Result, Ok, Err}
+use Rattle.std.specs.Prelude.{◌≡◌, ◌⊎◌, ℕ, ℤ, zero, suc, ◌+◌, ◌-◌, ◌^◌, ◌<◌, Bool, true, false, cond, is_some, List, []}
+use Rattle.std.specs.Prelude.{◌∷◌, ◌++◌, length, map, min, slice_index_or, slice_set, Option, Some, None, Result, Ok}
+use Rattle.std.specs.Prelude.{Err}
 use Rattle.std.specs.Bool.{then_some}
 use Rattle.std.specs.List.{filter}
 use Rattle.std.specs.Option.{option_map}
@@ -13,14 +15,17 @@ use Rattle.pt_events.specs.declared.event.Event.{Event}
 use Rattle.pt_events.specs.declared.event.Event.TheVariants.{Said, Flag, Left}
 use Rattle.pt_shard.specs.declared.fault.Fault.{Fault}
 use Rattle.pt_shard.specs.declared.fault.Fault.TheVariants.{Full, Myself, NoProc}
-use Rattle.pt_shard.specs.Calls.{Calls, Monitors, BearsChild, link_event, unlink_event, take_event, first_match, demonitor_event, new_ref}
+use Rattle.pt_shard.specs.Calls.{Calls, Monitors, BearsChild, link_event, unlink_event, take_event, first_match}
+use Rattle.pt_shard.specs.Calls.{demonitor_event, new_ref}
 use Rattle.pt_shard.specs.Known.{knows}
 use Rattle.pt_shard.specs.ShardState.{ShardState, lives, state_in}
 use Rattle.pt_desk.specs.DeskState.{DeskState, HasSameEnds}
 use Rattle.pt_desk.specs.Reaching.{IsReached, has_link_to_make, has_monitor_to_make}
 use Rattle.pt_script.specs.Plans.{Plan}
 use Rattle.pt_script.specs.declared.values.Operation.{Operation}
-use Rattle.pt_script.specs.declared.values.Operation.TheVariants.{Send, Receive, Check, Link, Unlink, Monitor, Demonitor, Alive, Trap, Exit, Signal as SendExit, Spawn, Pass}
+use Rattle.pt_script.specs.declared.values.Operation.TheVariants.{Send, Receive, Check, Link, Unlink, Monitor}
+use Rattle.pt_script.specs.declared.values.Operation.TheVariants.{Demonitor, Alive, Trap, Exit, Signal as SendExit}
+use Rattle.pt_script.specs.declared.values.Operation.TheVariants.{Spawn, Pass}
 use Rattle.pt_script.specs.declared.values.Pattern.{Pattern}
 use Rattle.pt_script.specs.declared.values.Pattern.TheVariants.{Any, Kind, From, ExitOf, DownOf, AliveOf}
 use Rattle.pt_runner.specs.declared.calls.Progress.{Progress}
@@ -51,7 +56,13 @@ pub record Table : Type 0 where
   pub actors : List Acting
 
 abbrev pub acting : Actor → Acting
-acting a = record { pid = a.pid; process = a.process; begins = a.begins; done = a.done; references = a.references.items }
+acting a = record {
+  pid = a.pid;
+  process = a.process;
+  begins = a.begins;
+  done = a.done;
+  references = a.references.items;
+}
 
 abbrev pub table : Runner → Table
 table r = record { plans = r.script.now.processes; pids = r.pids.items; actors = map acting r.actors.items }
@@ -61,7 +72,13 @@ plan_at plans process = slice_index_or plans process (record { trap = false; ope
 
 -- a process that is born now: with `trap` it begins by trapping exits
 abbrev pub newborn : List Plan → ℕ → Pid → Acting
-newborn plans process p = record { pid = p; process = process; begins = (plan_at plans process).trap; done = 0; references = [] }
+newborn plans process p = record {
+  pid = p;
+  process = process;
+  begins = (plan_at plans process).trap;
+  done = 0;
+  references = [];
+}
 
 -- the next operation: behind the last one of the list the process exits
 abbrev pub next_of : List Plan → Acting → Operation
@@ -117,7 +134,8 @@ IsPassed old progress new = (progress ≡ Done) × (new ≡ old)
 
 -- it is a call of p, and its answer says what comes of it
 abbrev pub IsCall : {A : Type 0} → Pid → Option Event → A → ShardState → Progress → ShardState → Type 0
-IsCall {A} p event a old progress new = (answer : Result A Fault) × Calls p event a old answer new × (progress ≡ came_of answer)
+IsCall {A} p event a old progress new =
+    (answer : Result A Fault) × Calls p event a old answer new × (progress ≡ came_of answer)
 
 -- a call on a target, passed over without one
 abbrev pub CallsAt : Option Pid → Pid → (Pid → Option Event) → ShardState → Progress → ShardState → Type 0
@@ -125,15 +143,18 @@ CallsAt None p event old progress new = IsPassed old progress new
 CallsAt (Some t) p event old progress new = IsCall p (event t) (tt {0}) old progress new
 
 -- a call that reaches for a target, passed over without one
-abbrev pub ReachesAt : Option Pid → Pid → (Pid → Bool) → (Pid → Option Event) → ShardState → Progress → ShardState → Type 0
+abbrev pub ReachesAt : Option Pid → Pid → (Pid → Bool) → (Pid → Option Event) → ShardState → Progress → ShardState
+    → Type 0
 ReachesAt None p looks event old progress new = IsPassed old progress new
 ReachesAt (Some t) p looks event old progress new =
-    (answer : Result (Unit {0}) Fault) × IsReached (looks t) p t (Calls p (event t) (tt {0}) old answer new) old answer new
+    (answer : Result (Unit {0}) Fault)
+    × IsReached (looks t) p t (Calls p (event t) (tt {0}) old answer new) old answer new
     × (progress ≡ came_of answer)
 
 abbrev pub Sends : List (Option Pid) → Pid → ℕ → ℕ → ℤ → Option ℕ → ShardState → Progress → ShardState → Type 0
 Sends pids p to kind num who old progress new =
-    ReachesAt (target_of old pids to) p (λ t. lives old p) (λ t. Some (Said p t (Signal.Message (record { kind = kind; num = num; who = pid_if pids who })))) old progress new
+    ReachesAt (target_of old pids to) p (λ t. lives old p)
+    (λ t. Some (Said p t (Signal.Message (record { kind = kind; num = num; who = pid_if pids who })))) old progress new
 
 -- what comes of a receive, where `without` does so when no item fits
 abbrev pub taken_of : Progress → Result (Option Item) Fault → Progress
@@ -148,7 +169,8 @@ Takes (Some k) p without old progress new =
 
 abbrev pub Demonitors : Option Ref → Pid → Bool → ShardState → Progress → ShardState → Type 0
 Demonitors None p flush old progress new = IsPassed old progress new
-Demonitors (Some m) p flush old progress new = IsCall p (demonitor_event old p m flush) (is_some (demonitor_event old p m flush)) old progress new
+Demonitors (Some m) p flush old progress new =
+    IsCall p (demonitor_event old p m flush) (is_some (demonitor_event old p m flush)) old progress new
 
 -- what the tag of an operation stands for by the answer: a reference, or none where it is passed over
 abbrev pub got : Result Ref Fault → List (Option Ref)
@@ -164,41 +186,54 @@ abbrev pub HasNoTarget : ShardState → List (Option Ref) → Progress → Shard
 HasNoTarget old references progress new after = IsPassed old progress new × (after ≡ references ++ None ∷ [])
 
 -- a monitor; without memory for its tag it is tried again
-abbrev pub MonitorsAt : Pid → Option Pid → ShardState → List (Option Ref) → Progress → ShardState → List (Option Ref) → Type 0
+abbrev pub MonitorsAt : Pid → Option Pid → ShardState → List (Option Ref) → Progress → ShardState → List (Option Ref)
+    → Type 0
 MonitorsAt p None old references progress new after =
     HasNoRoom old references progress new after ⊎ HasNoTarget old references progress new after
 MonitorsAt p (Some t) old references progress new after =
     HasNoRoom old references progress new after
-    ⊎ ((answer : Result Ref Fault) × IsReached (has_monitor_to_make old p t) p t (Monitors p t old answer new) old answer new
+    ⊎ ((answer : Result Ref Fault)
+    × IsReached (has_monitor_to_make old p t) p t (Monitors p t old answer new) old answer new
     × (progress ≡ came_of answer) × (after ≡ references ++ got answer))
 
 -- an ask, likewise
-abbrev pub AsksAt : Pid → Option Pid → ShardState → List (Option Ref) → Progress → ShardState → List (Option Ref) → Type 0
+abbrev pub AsksAt : Pid → Option Pid → ShardState → List (Option Ref) → Progress → ShardState → List (Option Ref)
+    → Type 0
 AsksAt p None old references progress new after =
     HasNoRoom old references progress new after ⊎ HasNoTarget old references progress new after
 AsksAt p (Some t) old references progress new after =
     HasNoRoom old references progress new after
-    ⊎ ((answer : Result Ref Fault) × Calls p (Some (Said p t (Signal.AliveAsk (new_ref old)))) (new_ref old) old answer new
+    ⊎ ((answer : Result Ref Fault)
+    × Calls p (Some (Said p t (Signal.AliveAsk (new_ref old)))) (new_ref old) old answer new
     × (progress ≡ came_of answer) × (after ≡ references ++ got answer))
 
 -- An operation of p that bears nobody: what it does to the desk, what comes of it, and the references of p behind it.
-abbrev pub Performs : List (Option Pid) → Pid → Operation → ShardState → List (Option Ref) → Progress → ShardState → List (Option Ref) → Type 0
+abbrev pub Performs : List (Option Pid) → Pid → Operation → ShardState → List (Option Ref) → Progress → ShardState
+    → List (Option Ref) → Type 0
 Performs pids p (Send to kind num who) old references progress new after =
     Sends pids p to kind num who old progress new × (after ≡ references)
-Performs pids p (Receive pattern) old references progress new after = Takes (pick_of pids references pattern) p Stays old progress new × (after ≡ references)
-Performs pids p (Check pattern) old references progress new after = Takes (pick_of pids references pattern) p Done old progress new × (after ≡ references)
+Performs pids p (Receive pattern) old references progress new after =
+    Takes (pick_of pids references pattern) p Stays old progress new × (after ≡ references)
+Performs pids p (Check pattern) old references progress new after =
+    Takes (pick_of pids references pattern) p Done old progress new × (after ≡ references)
 Performs pids p (Link to) old references progress new after =
-    ReachesAt (target_of old pids to) p (has_link_to_make old p) (link_event old p) old progress new × (after ≡ references)
-Performs pids p (Unlink to) old references progress new after = CallsAt (target_of old pids to) p (unlink_event old p) old progress new × (after ≡ references)
+    ReachesAt (target_of old pids to) p (has_link_to_make old p) (link_event old p) old progress new
+    × (after ≡ references)
+Performs pids p (Unlink to) old references progress new after =
+    CallsAt (target_of old pids to) p (unlink_event old p) old progress new × (after ≡ references)
 Performs pids p (Monitor to tag) old references progress new after =
     MonitorsAt p (target_of old pids to) old references progress new after
-Performs pids p (Demonitor tag flush) old references progress new after = Demonitors (reference_of references tag) p flush old progress new × (after ≡ references)
+Performs pids p (Demonitor tag flush) old references progress new after =
+    Demonitors (reference_of references tag) p flush old progress new × (after ≡ references)
 Performs pids p (Alive to tag) old references progress new after =
     AsksAt p (target_of old pids to) old references progress new after
-Performs pids p (Trap on) old references progress new after = IsCall p (Some (Flag p on)) (state_in old p).traps old progress new × (after ≡ references)
-Performs pids p (Exit reason) old references progress new after = IsCall p (Some (Left p reason)) (tt {0}) old progress new × (after ≡ references)
+Performs pids p (Trap on) old references progress new after =
+    IsCall p (Some (Flag p on)) (state_in old p).traps old progress new × (after ≡ references)
+Performs pids p (Exit reason) old references progress new after =
+    IsCall p (Some (Left p reason)) (tt {0}) old progress new × (after ≡ references)
 Performs pids p (SendExit to reason) old references progress new after =
-    CallsAt (target_of old pids to) p (λ t. Some (Said p t (Signal.Exit reason))) old progress new × (after ≡ references)
+    CallsAt (target_of old pids to) p (λ t. Some (Said p t (Signal.Exit reason))) old progress new
+    × (after ≡ references)
 Performs pids p (Spawn process linked) old references progress new after = ⊥
 Performs pids p Pass old references progress new after = IsPassed old progress new × (after ≡ references)
 
@@ -207,10 +242,12 @@ Performs pids p Pass old references progress new after = IsPassed old progress n
 abbrev pub GoesBehind : Progress → Acting → ShardState → Acting → ShardState → Type 0
 GoesBehind Done a old b new = (b ≡ advanced a) × (new ≡ old)
 GoesBehind Stays a old b new = (b ≡ a) × (new ≡ old)
-GoesBehind (Ends reason) a old b new = (b ≡ a) × ((answer : Result (Unit {0}) Fault) × Calls a.pid (Some (Left a.pid reason)) (tt {0}) old answer new)
+GoesBehind (Ends reason) a old b new =
+    (b ≡ a) × ((answer : Result (Unit {0}) Fault) × Calls a.pid (Some (Left a.pid reason)) (tt {0}) old answer new)
 
 -- A process does an operation that bears nobody.
-pub record Plays (pids : List (Option Pid)) (operation : Operation) (a : Acting) (old : ShardState) (b : Acting) (new : ShardState) : Type 0 where
+pub record Plays (pids : List (Option Pid)) (operation : Operation) (a : Acting) (old : ShardState) (b : Acting)
+    (new : ShardState) : Type 0 where
   pub progress : Progress
   pub references : List (Option Ref)
   pub between : ShardState
@@ -224,11 +261,15 @@ set_acting i b t = record t { actors = slice_set t.actors i b }
 
 -- the child that was born stands last, and its number has its pid
 abbrev pub with_child : ℕ → Result Pid Fault → Table → Table
-with_child process (Ok p) t = record t { pids = slice_set t.pids process (Some p); actors = t.actors ++ newborn t.plans process p ∷ [] }
+with_child process (Ok p) t = record t {
+  pids = slice_set t.pids process (Some p);
+  actors = t.actors ++ newborn t.plans process p ∷ [];
+}
 with_child process (Err _) t = t
 
 -- the process a, at place i, bears a child
-pub record Spawns (process : ℕ) (linked : Bool) (i : ℕ) (a : Acting) (t : Table) (old : ShardState) (u : Table) (new : ShardState) : Type 0 where
+pub record Spawns (process : ℕ) (linked : Bool) (i : ℕ) (a : Acting) (t : Table) (old : ShardState) (u : Table)
+    (new : ShardState) : Type 0 where
   pub answer : Result Pid Fault
   pub between : ShardState
   pub b : Acting
@@ -241,7 +282,8 @@ abbrev pub TriesSpawn : ℕ → Bool → ℕ → Acting → Table → ShardState
 TriesSpawn process linked i a t old u new = ((u ≡ t) × (new ≡ old)) ⊎ Spawns process linked i a t old u new
 
 abbrev pub SpawnsAt : ℕ → Bool → ℕ → Table → ShardState → Table → ShardState → Type 0
-SpawnsAt process linked i t old u new = (a : Acting) × (slice_index_or t.actors i a ≡ a) × TriesSpawn process linked i a t old u new
+SpawnsAt process linked i t old u new =
+    (a : Acting) × (slice_index_or t.actors i a ≡ a) × TriesSpawn process linked i a t old u new
 
 -- the process a, at place i, does the operation
 abbrev pub DoesOperation : Operation → ℕ → Acting → Table → ShardState → Table → ShardState → Type 0

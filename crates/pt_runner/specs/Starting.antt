@@ -1,5 +1,6 @@
 -- How the work of a script begins.
-use Rattle.std.specs.Prelude.{◌≡◌, ℕ, ◌<◌, ◌≤◌, ◌==◌, Bool, List, length, map, fold, reverse, replicate, take, slice_index_or, slice_set, Option, Some, None, IsSome, Result, Ok, Err, Vec}
+use Rattle.std.specs.Prelude.{◌≡◌, ℕ, ◌<◌, ◌≤◌, ◌==◌, Bool, List, length, map, fold, reverse, replicate, take}
+use Rattle.std.specs.Prelude.{slice_index_or, slice_set, Option, Some, None, IsSome, Result, Ok, Err, Vec}
 use Rattle.std.specs.List.{filter, zip}
 use Rattle.pt_signal.specs.declared.pid.Pid.{Pid}
 use Rattle.pt_events.specs.declared.event.Event.{Event}
@@ -27,7 +28,8 @@ pub record Begins (tops : List Top) (count : ℕ) (born : List Pid) (desks : Lis
   pub counted : length born ≡ count
   pub within : count ≤ length tops
   pub placed : map (λ (p : Pid). p.shard) born ≡ map (λ (t : Top). t.desk) (take count tops)
-  pub pasts : (d : ℕ) (x : DeskState) → d < length desks → past (slice_index_or desks d x).shard ≡ reverse (map birth (on d born))
+  pub pasts : (d : ℕ) (x : DeskState) → d < length desks
+      → past (slice_index_or desks d x).shard ≡ reverse (map birth (on d born))
 
 -- the processes of the script's list, each with its pid
 abbrev pub named : Whole → List Pid → List (Top × Pid)
@@ -53,7 +55,11 @@ starters plans d ones = map (starter plans) (filter (is_on d) ones)
 -- the runner of desk d, when these are born
 pub record IsRunnerOf (w : Whole) (born : List Pid) (d : ℕ) (r : Runner) : Type 0 where
   pub script : r.script.now ≡ w
-  pub table : table r ≡ record { plans = w.processes; pids = numbered w born; actors = starters w.processes d (named w born) }
+  pub table : table r ≡ record {
+    plans = w.processes;
+    pids = numbered w born;
+    actors = starters w.processes d (named w born);
+  }
 
 -- one runner a desk, in their order
 pub record AreRunners (w : Whole) (born : List Pid) (desks : ℕ) (runners : List Runner) : Type 0 where
@@ -62,21 +68,25 @@ pub record AreRunners (w : Whole) (born : List Pid) (desks : ℕ) (runners : Lis
 
 -- this holds of the desk that the next process of the list is to be born on, behind the first count
 abbrev pub AtNext : List Top → ℕ → List DeskState → (DeskState → Type 0) → Type 0
-AtNext tops count desks Holds = (t : Top) (x : DeskState) → Holds (slice_index_or desks (slice_index_or tops count t).desk x)
+AtNext tops count desks Holds =
+    (t : Top) (x : DeskState) → Holds (slice_index_or desks (slice_index_or tops count t).desk x)
 
 -- Why no more of the list are born, behind the first count: the next one's desk, one that keeps its accounts, has no
 -- vacant slot, or is worn. Where memory was wanting neither is so; it may also be wanting behind the last one.
 abbrev pub BirthsStop : List Top → ℕ → List DeskState → Fault → Type 0
-BirthsStop tops count desks Full = (count < length tops) × AtNext tops count desks (λ d. IsDesk d × CanWrite d.shard × (d.shard.vacant ≡ None))
+BirthsStop tops count desks Full =
+    (count < length tops) × AtNext tops count desks (λ d. IsDesk d × CanWrite d.shard × (d.shard.vacant ≡ None))
 BirthsStop tops count desks Worn = (count < length tops) × AtNext tops count desks (λ d. IsDesk d × IsWorn d.shard)
-BirthsStop tops count desks Memory = count < length tops → AtNext tops count desks (λ d. CanWrite d.shard × IsSome d.shard.vacant)
+BirthsStop tops count desks Memory =
+    count < length tops → AtNext tops count desks (λ d. CanWrite d.shard × IsSome d.shard.vacant)
 BirthsStop tops count desks Gone = ⊥
 BirthsStop tops count desks Myself = ⊥
 BirthsStop tops count desks NoProc = ⊥
 
 -- the first of the list are born, and for this reason no more
 abbrev pub BornUntil : List Top → List DeskState → Fault → Type 0
-BornUntil tops desks fault = (count : ℕ) × (born : List Pid) × Begins tops count born desks × BirthsStop tops count desks fault
+BornUntil tops desks fault =
+    (count : ℕ) × (born : List Pid) × Begins tops count born desks × BirthsStop tops count desks fault
 
 -- all of them are born, and each desk has its runner; or those before a refusal are born
 abbrev pub Starts : {A : Type 0} → Whole → List DeskState → Result (Vec Runner A) Fault → Type 0

@@ -104,7 +104,8 @@ pub fn call(
     operation: Operation,
 ) -> Progress
     requires plain { (process : ℕ) (linked : Bool) → operation ≢ Operation.Spawn process linked }
-    ensures performs { Performs pids.now p operation desk.old.shard references.old.items result desk.new.shard references.new.items }
+    ensures performs { Performs pids.now p operation desk.old.shard references.old.items result desk.new.shard
+        references.new.items }
     ensures ends { HasSameEnds desk.old desk.new }
     ensures goes_on { GoesOn desk.old desk.new }
 {
@@ -168,7 +169,8 @@ fn receive(
     pattern: Pattern,
     without: Progress,
 ) -> Progress
-    ensures does { spec.Takes (spec.pick_of pids.now references.now.items pattern) p without desk.old.shard result desk.new.shard }
+    ensures does { spec.Takes
+        (spec.pick_of pids.now references.now.items pattern) p without desk.old.shard result desk.new.shard }
     ensures ends { HasSameEnds desk.old desk.new }
     ensures goes_on { GoesOn desk.old desk.new }
 {
@@ -179,7 +181,8 @@ fn receive(
 }
 
 fn link(desk: &mut Desk, pids: &[Option<Pid>], p: Pid, to: u32) -> Progress
-    ensures does { spec.ReachesAt (spec.target_of desk.old.shard pids.now to) p (has_link_to_make desk.old.shard p) (link_event desk.old.shard p) desk.old.shard result desk.new.shard }
+    ensures does { spec.ReachesAt (spec.target_of desk.old.shard pids.now to) p (has_link_to_make desk.old.shard p)
+        (link_event desk.old.shard p) desk.old.shard result desk.new.shard }
     ensures ends { HasSameEnds desk.old desk.new }
     ensures goes_on { GoesOn desk.old desk.new }
 {
@@ -190,7 +193,8 @@ fn link(desk: &mut Desk, pids: &[Option<Pid>], p: Pid, to: u32) -> Progress
 }
 
 fn unlink(desk: &mut Desk, pids: &[Option<Pid>], p: Pid, to: u32) -> Progress
-    ensures does { spec.CallsAt (spec.target_of desk.old.shard pids.now to) p (unlink_event desk.old.shard p) desk.old.shard result desk.new.shard }
+    ensures does { spec.CallsAt (spec.target_of desk.old.shard pids.now to) p
+        (unlink_event desk.old.shard p) desk.old.shard result desk.new.shard }
     ensures ends { HasSameEnds desk.old desk.new }
     ensures goes_on { GoesOn desk.old desk.new }
 {
@@ -201,7 +205,8 @@ fn unlink(desk: &mut Desk, pids: &[Option<Pid>], p: Pid, to: u32) -> Progress
 }
 
 fn exit_signal(desk: &mut Desk, pids: &[Option<Pid>], p: Pid, to: u32, reason: Reason) -> Progress
-    ensures does { spec.CallsAt (spec.target_of desk.old.shard pids.now to) p (λ t. Some (Event.Said p t (Signal.Exit reason))) desk.old.shard result desk.new.shard }
+    ensures does { spec.CallsAt (spec.target_of desk.old.shard pids.now to) p
+        (λ t. Some (Event.Said p t (Signal.Exit reason))) desk.old.shard result desk.new.shard }
     ensures ends { HasSameEnds desk.old desk.new }
     ensures goes_on { GoesOn desk.old desk.new }
 {
@@ -230,7 +235,9 @@ fn monitor(
     p: Pid,
     to: u32,
 ) -> Progress
-    ensures does { spec.MonitorsAt p (spec.target_of desk.old.shard pids.now to) desk.old.shard references.old.items result desk.new.shard references.new.items }
+    ensures does { spec.MonitorsAt p
+        (spec.target_of desk.old.shard pids.now to) desk.old.shard references.old.items result desk.new.shard
+        references.new.items }
     ensures ends { HasSameEnds desk.old desk.new }
     ensures goes_on { GoesOn desk.old desk.new }
 {
@@ -247,7 +254,8 @@ fn monitor(
 }
 
 fn demonitor(desk: &mut Desk, references: &References, p: Pid, tag: u32, flush: bool) -> Progress
-    ensures does { spec.Demonitors (spec.reference_of references.now.items tag) p flush desk.old.shard result desk.new.shard }
+    ensures does { spec.Demonitors
+        (spec.reference_of references.now.items tag) p flush desk.old.shard result desk.new.shard }
     ensures ends { HasSameEnds desk.old desk.new }
     ensures goes_on { GoesOn desk.old desk.new }
 {
@@ -264,7 +272,9 @@ fn ask_alive(
     p: Pid,
     to: u32,
 ) -> Progress
-    ensures does { spec.AsksAt p (spec.target_of desk.old.shard pids.now to) desk.old.shard references.old.items result desk.new.shard references.new.items }
+    ensures does { spec.AsksAt p
+        (spec.target_of desk.old.shard pids.now to) desk.old.shard references.old.items result desk.new.shard
+        references.new.items }
     ensures ends { HasSameEnds desk.old desk.new }
     ensures goes_on { GoesOn desk.old desk.new }
 {

@@ -11,10 +11,10 @@
 //!
 //! A [`Runner`] is the [`Work`](pt_node::Work) of one desk. In a step each process of the script that lives there does
 //! at most one operation, in order of birth; one that is born in a step starts in the next. A `receive` without an item
-//! that fits is tried again in the next step, and so is an operation that is refused for memory or at the clock's limit.
-//! An operation that is refused as `Full` or as `Myself` ends its process in the same step, with the reason `other:` and
-//! the refusal's number. `"trap":true` is an operation of its own before the others, and a process whose operations are
-//! used up exits with `normal` as its last one.
+//! that fits is tried again in the next step, and so is an operation that is refused for memory or at the clock's
+//! limit. An operation that is refused as `Full` or as `Myself` ends its process in the same step, with the reason
+//! `other:` and the refusal's number. `"trap":true` is an operation of its own before the others, and a process whose
+//! operations are used up exits with `normal` as its last one.
 //!
 //! # Names
 //!

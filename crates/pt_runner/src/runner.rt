@@ -1,11 +1,13 @@
 //! The work of a script on one desk.
 
-ghost use Rattle.std.specs.Prelude.{◌≡◌, ◌≢◌, ℕ, Bool, false, ◌<◌, ◌≤◌, ◌+◌, Some, Ok, slice_set, map, vec_len, vec_capacity};
+ghost use Rattle.std.specs.Prelude.{◌≡◌, ◌≢◌, ℕ, Bool, false, ◌<◌, ◌≤◌, ◌+◌, Some, Ok, slice_set, map, vec_len};
+ghost use Rattle.std.specs.Prelude.{vec_capacity};
 ghost use Rattle.std.specs.List.{All};
 ghost use Rattle.pt_shard.specs.ShardState.{lives};
 ghost use Rattle.pt_desk.specs.DeskState.{GoesOn, HasSameEnds};
 ghost use Rattle.pt_script.specs.declared.values.Operation.{Operation};
-ghost use Rattle.pt_runner.specs.Acting.{Plays, GoesBehind, ActsAt, RunnerDoes, acting, table, newborn, next_of, advanced, living, with_child, SpawnsAt};
+ghost use Rattle.pt_runner.specs.Acting.{Plays, GoesBehind, ActsAt, RunnerDoes, acting, table, newborn, next_of};
+ghost use Rattle.pt_runner.specs.Acting.{advanced, living, with_child, SpawnsAt};
 ghost use Rattle.pt_runner.specs.Stepping.{Steps, processes_of};
 
 use crate::calls::{Progress, References, call, progress_of};
@@ -128,7 +130,11 @@ impl<'a> Runner<'a> {
         actors: Vec<Actor>,
     ) -> Runner<'a>
         ensures script { result.script.now ≡ script.now }
-        ensures table { table result ≡ record { plans = script.now.processes; pids = pids.items; actors = map acting actors.items } }
+        ensures table { table result ≡ record {
+          plans = script.now.processes;
+          pids = pids.items;
+          actors = map acting actors.items;
+        } }
     {
         Runner {
             alloc,
@@ -210,7 +216,8 @@ impl Work for Runner<'_> {
     fn step(&mut self, desk: &mut Desk)
         ensures does { RunnerDoes self.old desk.old self.new desk.new }
         ensures steps { Steps (processes_of self.old) desk.old.shard (processes_of self.new) desk.new.shard }
-        ensures idle { All (λ p. lives desk.old.shard p ≡ false) (processes_of self.old) → desk.new.shard ≡ desk.old.shard }
+        ensures idle { All (λ p. lives desk.old.shard p ≡ false) (processes_of self.old)
+            → desk.new.shard ≡ desk.old.shard }
         ensures goes_on { GoesOn desk.old desk.new }
     {
         self.bury(desk);

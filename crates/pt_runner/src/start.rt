@@ -14,10 +14,11 @@ use pt_script::Script;
 use std::alloc::{AllocError, Global};
 
 impl<'a> Runner<'a> {
-    /// Lets the processes that the script begins with be born, in its order, and gives one runner a desk, in their order.
+    /// Lets the processes that the script begins with be born, in its order, and gives one runner a desk, in their
+    /// order.
     ///
-    /// A runner has the processes that were born on its desk, in that order, each at the first operation of its list and
-    /// with no reference yet, and it knows the pids of all that were born.
+    /// A runner has the processes that were born on its desk, in that order, each at the first operation of its list
+    /// and with no reference yet, and it knows the pids of all that were born.
     ///
     /// The desks are those that `open` gave for the script's `config`, in order. Refused as `Full` where the desk of
     /// the next process has no free slot, as `Worn` where its clock is at its limit, else as `Memory`, for a process or

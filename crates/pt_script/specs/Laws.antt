@@ -33,24 +33,35 @@ ReasonsAsPrinted = (text : List ℕ) (r : Reason) → reason_of text ≡ Ok r �
 
 -- the process and the operation that a fault names are in the text
 abbrev pub FaultsHavePlaces : Type 0
-FaultsHavePlaces = (bytes : List ℕ) (fault : Fault) (place : Place) → reading bytes ≡ Err (Refused fault place) → HasPlace (read bytes) place
+FaultsHavePlaces =
+    (bytes : List ℕ) (fault : Fault) (place : Place) → reading bytes ≡ Err (Refused fault place)
+    → HasPlace (read bytes) place
 
 -- the numbers of an accepted script are the places of its processes in the text
 abbrev pub NumbersArePlaces : Type 0
-NumbersArePlaces = (bytes : List ℕ) (w : Whole) → reading bytes ≡ Ok w → (d : Data) × (read bytes ≡ Some d) × IsNumbered d w
+NumbersArePlaces =
+    (bytes : List ℕ) (w : Whole) → reading bytes ≡ Ok w → (d : Data) × (read bytes ≡ Some d) × IsNumbered d w
 
 -- a name that the heads of the processes settle stands for the place of the process that has it
 abbrev pub NamesArePlaces : Type 0
-NamesArePlaces = (s : Settings) (ds : List Data) (heads : Heads) → each (next_head s) no_heads ds ≡ Ok heads → AreNamesOf (processes_of ds) heads.names
+NamesArePlaces =
+    (s : Settings) (ds : List Data) (heads : Heads) → each (next_head s) no_heads ds ≡ Ok heads
+    → AreNamesOf (processes_of ds) heads.names
 
 -- an operation that was written is read back, and with the scope behind it
 abbrev pub OperationsReadBack : Type 0
-OperationsReadBack = (s : Scope) (c : Called) (o : Operation) → CanSay s c o → simple s (written c o) ≡ Ok (o, scope_behind s c o)
+OperationsReadBack =
+    (s : Scope) (c : Called) (o : Operation) → CanSay s c o → simple s (written c o) ≡ Ok (o, scope_behind s c o)
 
 -- a script that is well formed is read back from what is written of it, and from each text of that value
 abbrev pub ScriptsReadBack : Type 0
-ScriptsReadBack = (w : Whole) → IsWellFormed w → (script (script_written w) ≡ Ok w) × ((bytes : List ℕ) → length bytes ≤ MAX_BYTES → is_utf8 bytes ≡ true → read bytes ≡ Some (script_written w) → reading bytes ≡ Ok w)
+ScriptsReadBack =
+    (w : Whole) → IsWellFormed w
+    → (script (script_written w) ≡ Ok w)
+    × ((bytes : List ℕ) → length bytes ≤ MAX_BYTES → is_utf8 bytes ≡ true → read bytes ≡ Some (script_written w)
+    → reading bytes ≡ Ok w)
 
 -- and every script that is accepted is well formed, so that it is read back from what is written of it
 abbrev pub AcceptedReadBack : Type 0
-AcceptedReadBack = (bytes : List ℕ) (w : Whole) → reading bytes ≡ Ok w → IsWellFormed w × (script (script_written w) ≡ Ok w)
+AcceptedReadBack =
+    (bytes : List ℕ) (w : Whole) → reading bytes ≡ Ok w → IsWellFormed w × (script (script_written w) ≡ Ok w)

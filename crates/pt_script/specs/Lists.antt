@@ -1,5 +1,6 @@
 -- Lists of operations: places, numbers, limits, and spawns within spawns.
-use Rattle.std.specs.Prelude.{◌≡◌, ℕ, zero, suc, ◌+◌, List, [], ◌∷◌, ◌++◌, codes, length, Bool, ◌&&◌, nat_le, if◌then◌else◌, Option, Some, None, Result, Ok, Err, Vec}
+use Rattle.std.specs.Prelude.{◌≡◌, ℕ, zero, suc, ◌+◌, List, [], ◌∷◌, ◌++◌, codes, length, Bool, ◌&&◌, nat_le}
+use Rattle.std.specs.Prelude.{if◌then◌else◌, Option, Some, None, Result, Ok, Err, Vec}
 use Rattle.std.specs.Map.{update}
 use Rattle.std.specs.declared.alloc.Global.{Global}
 use Rattle.std.specs.Str.{bytes_eq}
@@ -55,7 +56,16 @@ Reader = Scope → ℕ → ℕ → List Data → Result Part ScriptError
 
 -- the scope at the begin of a list
 abbrev pub fresh : ℕ → ℕ → Option ℕ → Naming → Scope
-fresh format own parent tops = record { format = format; own = own; parent = parent; tops = tops; children = λ _. None; monitors = λ _. None; asks = λ _. None; made = 0 }
+fresh format own parent tops = record {
+  format = format;
+  own = own;
+  parent = parent;
+  tops = tops;
+  children = λ _. None;
+  monitors = λ _. None;
+  asks = λ _. None;
+  made = 0;
+}
 
 -- the scope behind a spawn, a monitor, an ask
 abbrev pub with_child : Scope → List ℕ → ℕ → Scope
@@ -90,7 +100,8 @@ spawned read place s next seen d = do
 abbrev pub named : Scope → List ℕ → Data → Result (Operation × Scope) Fault
 named s op d =
     if bytes_eq op (codes "monitor") then (tagged s d >>= λ m. Ok (operation.Monitor m.0 s.made, with_monitor s m.1))
-    else (if bytes_eq op (codes "alive") && can_ask s then (tagged s d >>= λ m. Ok (operation.Alive m.0 s.made, with_ask s m.1))
+    else (if bytes_eq op (codes "alive") && can_ask s
+    then (tagged s d >>= λ m. Ok (operation.Alive m.0 s.made, with_ask s m.1))
     else (plain s op d >>= λ o. Ok (o, s)))
 
 abbrev pub simple : Scope → Data → Result (Operation × Scope) Fault
@@ -102,7 +113,9 @@ simple s d = do
 unfoldable pub one_at : Reader → ℕ → ℕ → Scope → ℕ → ℕ → Data → Result Step ScriptError
 one_at read levels index s next seen d = do
   _ ← limits (is_spawn d) (at_operation s.own index) levels next seen
-  if is_spawn d then spawned read (at_operation s.own index) s next (seen + 1) d else (placed (at_operation s.own index) (simple s d) >>= λ o. Ok (record { operation = o.0; inside = []; seen = seen + 1; scope = o.1 }))
+  if is_spawn d then spawned read (at_operation s.own index) s next (seen + 1) d
+      else (placed (at_operation s.own index) (simple s d) >>= λ o.
+      Ok (record { operation = o.0; inside = []; seen = seen + 1; scope = o.1 }))
 
 -- the operations of a list from an index on
 unfoldable pub list_with : Reader → ℕ → ℕ → Reader
@@ -119,7 +132,8 @@ no_list s next seen ds = Ok (record { operations = []; inside = []; seen = seen 
 -- the operations of a list from an index on, with so many levels of spawns in it at most
 unfoldable pub list_from : ℕ → ℕ → Reader
 list_from zero index s next seen ds = list_with no_list zero index s next seen ds
-list_from (suc levels) index s next seen ds = list_with (λ t n k es. list_from levels 0 t n k es) (suc levels) index s next seen ds
+list_from (suc levels) index s next seen ds =
+    list_with (λ t n k es. list_from levels 0 t n k es) (suc levels) index s next seen ds
 
 -- a list as a whole
 abbrev pub list_at : ℕ → Reader
@@ -128,7 +142,8 @@ list_at levels s next seen ds = list_from levels 0 s next seen ds
 -- one operation of such a list
 unfoldable pub step_at : ℕ → ℕ → Scope → ℕ → ℕ → Data → Result Step ScriptError
 step_at zero index s next seen d = one_at no_list zero index s next seen d
-step_at (suc levels) index s next seen d = one_at (λ t n k es. list_from levels 0 t n k es) (suc levels) index s next seen d
+step_at (suc levels) index s next seen d =
+    one_at (λ t n k es. list_from levels 0 t n k es) (suc levels) index s next seen d
 
 -- ---- what a function answers
 
@@ -138,16 +153,30 @@ Refuses Memory read = Unit {0}
 Refuses (Refused fault place) read = read ≡ Err (Refused fault place)
 
 -- what was returned is what reading gives; processes before and after, operations read after
-abbrev pub ReadsList : List Plan → List Plan → ℕ → Result (Vec Operation Global) ScriptError → Result Part ScriptError → Type 0
-ReadsList old new seen (Ok os) read = (inside : List Plan) × (read ≡ Ok (record { operations = os.items; inside = inside; seen = seen })) × (new ≡ old ++ inside)
+abbrev pub ReadsList : List Plan → List Plan → ℕ → Result (Vec Operation Global) ScriptError → Result Part ScriptError
+    → Type 0
+ReadsList old new seen (Ok os) read = (inside : List Plan) × (read ≡ Ok (record {
+  operations = os.items;
+  inside = inside;
+  seen = seen;
+})) × (new ≡ old ++ inside)
 ReadsList old new seen (Err e) read = Refuses e read
 
-abbrev pub ReadsStep : List Plan → List Plan → ℕ → Scope → Result Operation ScriptError → Result Step ScriptError → Type 0
-ReadsStep old new seen after (Ok o) read = (inside : List Plan) × (read ≡ Ok (record { operation = o; inside = inside; seen = seen; scope = after })) × (new ≡ old ++ inside)
+abbrev pub ReadsStep : List Plan → List Plan → ℕ → Scope → Result Operation ScriptError → Result Step ScriptError
+    → Type 0
+ReadsStep old new seen after (Ok o) read = (inside : List Plan) × (read ≡ Ok (record {
+  operation = o;
+  inside = inside;
+  seen = seen;
+  scope = after;
+})) × (new ≡ old ++ inside)
 ReadsStep old new seen after (Err e) read = Refuses e read
 
-abbrev pub ReadsProcess : Bool → List Plan → List Plan → ℕ → Result (Unit {0}) ScriptError → Result Part ScriptError → Type 0
-ReadsProcess trap old new seen (Ok _) read = (part : Part) × (read ≡ Ok part) × (seen ≡ part.seen) × (new ≡ old ++ record { trap = trap; operations = part.operations } ∷ part.inside)
+abbrev pub ReadsProcess : Bool → List Plan → List Plan → ℕ → Result (Unit {0}) ScriptError → Result Part ScriptError
+    → Type 0
+ReadsProcess trap old new seen (Ok _) read =
+    (part : Part) × (read ≡ Ok part) × (seen ≡ part.seen)
+    × (new ≡ old ++ record { trap = trap; operations = part.operations } ∷ part.inside)
 ReadsProcess trap old new seen (Err e) read = Refuses e read
 
 -- an operation that spawns nothing

@@ -1,5 +1,7 @@
 -- Each operation: its members in the order in which they are checked, with their types and ranges.
-use Rattle.std.specs.Prelude.{ℕ, ◌^◌, List, [], ◌∷◌, codes, drop, take, length, slice_index, Bool, true, false, ◌&&◌, ◌||◌, ◌==◌, not, nat_lt, if◌then◌else◌, Option, Some, None, is_some, option_and_then, Result, Ok, Err, ok_or}
+use Rattle.std.specs.Prelude.{ℕ, ◌^◌, List, [], ◌∷◌, codes, drop, take, length, slice_index, Bool, true, false, ◌&&◌}
+use Rattle.std.specs.Prelude.{◌||◌, ◌==◌, not, nat_lt, if◌then◌else◌, Option, Some, None, is_some, option_and_then}
+use Rattle.std.specs.Prelude.{Result, Ok, Err, ok_or}
 use Rattle.std.specs.List.{list_all}
 use Rattle.std.specs.Str.{bytes_eq}
 use Rattle.std.specs.Str.Parse.{digits_value}
@@ -63,10 +65,13 @@ new_tag s d = do
 
 -- a number in decimal digits with no zero in front
 unfoldable pub is_decimal : List ℕ → Bool
-is_decimal digits = nat_lt 0 (length digits) && list_all is_digit digits && ((length digits == 1) || not (slice_index digits 0 == 48))
+is_decimal digits =
+    nat_lt 0 (length digits) && list_all is_digit digits && ((length digits == 1) || not (slice_index digits 0 == 48))
 
 abbrev pub number : List ℕ → Result ℕ Fault
-number digits = if is_decimal digits then (if nat_lt (digits_value 10 digits) (2 ^ 32) then Ok (digits_value 10 digits) else Err Bounds) else Err Field
+number digits =
+    if is_decimal digits
+    then (if nat_lt (digits_value 10 digits) (2 ^ 32) then Ok (digits_value 10 digits) else Err Bounds) else Err Field
 
 abbrev pub other_reason : List ℕ → Result Reason Fault
 other_reason t = if bytes_eq (take 6 t) (codes "other:") then (number (drop 6 t) >>= λ n. Ok (Other n)) else Err Field
@@ -104,7 +109,8 @@ pick_members false = codes "kind" ∷ codes "from" ∷ codes "exit" ∷ codes "d
 unfoldable pub pick : Scope → Data → Result Pattern Fault
 pick s d = do
   _ ← known (pick_members (can_ask s)) d
-  one_pick s (get (codes "kind") d) (get (codes "from") d) (get (codes "exit") d) (get (codes "down") d) (get (codes "alive") d)
+  one_pick s (get (codes "kind") d) (get (codes "from") d) (get (codes "exit") d) (get (codes "down") d)
+      (get (codes "alive") d)
 
 unfoldable pub send : Scope → Data → Result Operation Fault
 send s d = do

@@ -1,5 +1,6 @@
 -- What names stand for, and which texts are names.
-use Rattle.std.specs.Prelude.{ℕ, List, Bool, ◌&&◌, ◌||◌, ◌==◌, not, codes, length, slice_index, nat_le, nat_lt, false, if◌then◌else◌, Option, Some, None}
+use Rattle.std.specs.Prelude.{ℕ, List, Bool, ◌&&◌, ◌||◌, ◌==◌, not, codes, length, slice_index, nat_le, nat_lt, false}
+use Rattle.std.specs.Prelude.{if◌then◌else◌, Option, Some, None}
 use Rattle.std.specs.List.{list_all}
 use Rattle.std.specs.Str.{bytes_eq}
 use Rattle.std.specs.HashMap.{get_by}
@@ -34,7 +35,16 @@ pub record Scope : Type 0 where
   pub made : ℕ
 
 abbrev pub scope_view : Surroundings → Scope
-scope_view s = record { format = s.format; own = s.own; parent = s.parent; tops = naming s.tops.now; children = naming s.children; monitors = naming s.monitors; asks = naming s.asks; made = s.made }
+scope_view s = record {
+  format = s.format;
+  own = s.own;
+  parent = s.parent;
+  tops = naming s.tops.now;
+  children = naming s.children;
+  monitors = naming s.monitors;
+  asks = naming s.asks;
+  made = s.made;
+}
 
 -- from format 2 on a process can ask whether another is alive
 abbrev pub can_ask : Scope → Bool
@@ -46,7 +56,9 @@ or_else None other = other
 
 -- the process that a name stands for
 abbrev pub process_in : Scope → Naming
-process_in s name = if bytes_eq name (codes "self") then Some s.own else (if bytes_eq name (codes "parent") then s.parent else or_else (s.children name) (s.tops name))
+process_in s name =
+    if bytes_eq name (codes "self") then Some s.own
+    else (if bytes_eq name (codes "parent") then s.parent else or_else (s.children name) (s.tops name))
 
 -- the tag that a text is, of a monitor or of an ask
 abbrev pub tag_in : Scope → Naming

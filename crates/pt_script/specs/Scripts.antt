@@ -1,5 +1,7 @@
 -- A script as a whole: its settings, the heads of its processes, their lists.
-use Rattle.std.specs.Prelude.{◌≡◌, ℕ, zero, suc, ◌+◌, ◌-◌, min, List, [], ◌∷◌, ◌++◌, codes, length, map, Bool, false, nat_le, nat_lt, ◌==◌, if◌then◌else◌, Option, Some, None, count_by, sum_by, Result, Ok, Err, Vec}
+use Rattle.std.specs.Prelude.{◌≡◌, ℕ, zero, suc, ◌+◌, ◌-◌, min, List, [], ◌∷◌, ◌++◌, codes, length, map, Bool, false}
+use Rattle.std.specs.Prelude.{nat_le, nat_lt, ◌==◌, if◌then◌else◌, Option, Some, None, count_by, sum_by, Result, Ok}
+use Rattle.std.specs.Prelude.{Err, Vec}
 use Rattle.std.specs.declared.alloc.Global.{Global}
 use Rattle.std.specs.Map.{update}
 use Rattle.std.specs.Str.{bytes_eq, is_utf8}
@@ -12,7 +14,9 @@ use Rattle.pt_script.specs.declared.fault.ScriptError.{ScriptError}
 use Rattle.pt_script.specs.declared.fault.ScriptError.TheVariants.{Refused}
 use Rattle.pt_script.specs.declared.values.Settings.{Settings}
 use Rattle.pt_script.specs.declared.values.Top.{Top}
-use Rattle.pt_script.specs.declared.limits.TheConstants.{DEFAULT_BUDGET, DEFAULT_LANE, DEFAULT_SLOTS, MAX_BUDGET, MAX_BYTES, MAX_DEPTH, MAX_DESKS, MAX_FORMAT, MAX_LANE, MAX_NESTING, MAX_PROCESSES, MAX_SLOTS}
+use Rattle.pt_script.specs.declared.limits.TheConstants.{DEFAULT_BUDGET, DEFAULT_LANE, DEFAULT_SLOTS, MAX_BUDGET}
+use Rattle.pt_script.specs.declared.limits.TheConstants.{MAX_BYTES, MAX_DEPTH, MAX_DESKS, MAX_FORMAT, MAX_LANE}
+use Rattle.pt_script.specs.declared.limits.TheConstants.{MAX_NESTING, MAX_PROCESSES, MAX_SLOTS}
 use Rattle.pt_script.specs.Plans.{Plan, Whole}
 use Rattle.pt_script.specs.Steps.{◌>>=◌, each}
 use Rattle.pt_script.specs.Members.{known, whole, flag, list, required, optional}
@@ -25,7 +29,8 @@ use Rattle.pt_script.specs.Lists.{Refuses, placed, at_script, at_process, fresh,
 
 unfoldable pub settings : Data → Result Settings Fault
 settings d = do
-  _ ← known (codes "format" ∷ codes "desks" ∷ codes "slots" ∷ codes "top" ∷ codes "lane" ∷ codes "budget" ∷ codes "processes" ∷ []) d
+  _ ← known (codes "format" ∷ codes "desks" ∷ codes "slots" ∷ codes "top" ∷ codes "lane" ∷ codes "budget"
+      ∷ codes "processes" ∷ []) d
   format ← required (whole 1 MAX_FORMAT) (get (codes "format") d)
   desks ← required (whole 1 MAX_DESKS) (get (codes "desks") d)
   slots ← optional DEFAULT_SLOTS (whole 1 MAX_SLOTS) (get (codes "slots") d)
@@ -120,8 +125,12 @@ unfoldable pub next_list : ℕ → Naming → Lists → Pending → Result Lists
 next_list format names before h = do
   _ ← few (length before.processes)
   ops ← placed (at_process (length before.processes)) (required list (get (codes "ops") h.value))
-  part ← list_at MAX_DEPTH (fresh format (length before.processes) None names) (length before.processes + 1) before.seen ops
-  Ok (record { processes = before.processes ++ record { trap = h.trap; operations = part.operations } ∷ part.inside; seen = part.seen })
+  part ← list_at MAX_DEPTH (fresh format (length before.processes) None names)
+      (length before.processes + 1) before.seen ops
+  Ok (record {
+    processes = before.processes ++ record { trap = h.trap; operations = part.operations } ∷ part.inside;
+    seen = part.seen;
+  })
 
 -- what a value says as a script, or the first fault in it
 unfoldable pub script : Data → Result Whole ScriptError

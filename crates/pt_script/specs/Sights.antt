@@ -1,6 +1,7 @@
 -- Which scripts are well formed: processes are numbered in the order in which they begin, and what an operation names
 -- is in sight where it stands.
-use Rattle.std.specs.Prelude.{◌≡◌, ◌≤◌, ◌<◌, ℕ, zero, suc, ◌+◌, ◌^◌, List, [], ◌∷◌, ◌++◌, length, map, Bool, true, false, ◌||◌, ◌==◌, Option, Some, None, count_by, ⊤}
+use Rattle.std.specs.Prelude.{◌≡◌, ◌≤◌, ◌<◌, ℕ, zero, suc, ◌+◌, ◌^◌, List, [], ◌∷◌, ◌++◌, length, map, Bool, true}
+use Rattle.std.specs.Prelude.{false, ◌||◌, ◌==◌, Option, Some, None, count_by, ⊤}
 use Rattle.pt_script.specs.declared.values.Settings.{Settings}
 use Rattle.pt_script.specs.declared.values.Top.{Top}
 use Rattle.pt_script.specs.declared.values.Pattern.{Pattern}
@@ -81,7 +82,16 @@ sight_behind v _ = v
 
 -- what is in sight at the begin of a list
 abbrev pub first_sight : ℕ → ℕ → Option ℕ → List ℕ → Sight
-first_sight format own parent tops = record { format = format; own = own; parent = parent; tops = tops; children = []; monitors = []; asks = []; made = 0 }
+first_sight format own parent tops = record {
+  format = format;
+  own = own;
+  parent = parent;
+  tops = tops;
+  children = [];
+  monitors = [];
+  asks = [];
+  made = 0;
+}
 
 -- a list of operations begins these processes, in this order, the first of which has this number
 abbrev pub Begins : Type 1
@@ -90,13 +100,16 @@ Begins = Sight → ℕ → List Operation → List Plan → Type 0
 -- an operation begins these: a spawn its process, which is the next one, and those that its list begins
 abbrev pub StepBegins : Begins → Sight → ℕ → Operation → List Plan → Type 0
 StepBegins Inner v next (operation.Spawn n linked) [] = ⊥
-StepBegins Inner v next (operation.Spawn n linked) (child ∷ inside) = (n ≡ next) × Inner (first_sight v.format next (Some v.own) v.tops) (next + 1) child.operations inside
+StepBegins Inner v next (operation.Spawn n linked) (child ∷ inside) =
+    (n ≡ next) × Inner (first_sight v.format next (Some v.own) v.tops) (next + 1) child.operations inside
 StepBegins Inner v next o plans = CanDo v o × (plans ≡ [])
 
 -- a list those of its first operation, and then those of the others
 abbrev pub ListBegins : Begins → Begins
 ListBegins Inner v next [] plans = plans ≡ []
-ListBegins Inner v next (o ∷ os) plans = (mine : List Plan) × (others : List Plan) × (plans ≡ mine ++ others) × StepBegins Inner v next o mine × ListBegins Inner (sight_behind v o) (next + length mine) os others
+ListBegins Inner v next (o ∷ os) plans =
+    (mine : List Plan) × (others : List Plan) × (plans ≡ mine ++ others) × StepBegins Inner v next o mine
+    × ListBegins Inner (sight_behind v o) (next + length mine) os others
 
 abbrev pub NoneBegins : Begins
 NoneBegins v next os plans = ⊥
@@ -109,7 +122,11 @@ BeginsIn (suc levels) v next os plans = ListBegins (λ u n qs ps. BeginsIn level
 -- the processes that a script begins with, each with those that begin in it
 abbrev pub TopsBegin : Settings → List ℕ → ℕ → List Top → List Plan → Type 0
 TopsBegin s tops next [] plans = plans ≡ []
-TopsBegin s tops next (t ∷ ts) plans = (first : Plan) × (inside : List Plan) × (others : List Plan) × (plans ≡ first ∷ inside ++ others) × (t.process ≡ next) × (t.desk < s.desks) × BeginsIn MAX_DEPTH (first_sight s.format next None tops) (next + 1) first.operations inside × TopsBegin s tops (next + 1 + length inside) ts others
+TopsBegin s tops next (t ∷ ts) plans =
+    (first : Plan) × (inside : List Plan) × (others : List Plan) × (plans ≡ first ∷ inside ++ others)
+    × (t.process ≡ next) × (t.desk < s.desks)
+    × BeginsIn MAX_DEPTH (first_sight s.format next None tops) (next + 1) first.operations inside
+    × TopsBegin s tops (next + 1 + length inside) ts others
 
 abbrev pub number_of : Top → ℕ
 number_of t = t.process

@@ -6,9 +6,11 @@ use Rattle.pt_script.specs.declared.values.Top.{Top}
 use Rattle.pt_script.specs.declared.values.Pattern.{Pattern}
 use Rattle.pt_script.specs.declared.values.Pattern.TheVariants.{From, ExitOf, DownOf, AliveOf}
 use Rattle.pt_script.specs.declared.values.Operation.{Operation}
-use Rattle.pt_script.specs.declared.values.Operation.TheVariants.{Send, Receive, Check, Link, Unlink, Monitor, Demonitor, Alive, Signal, Spawn}
+use Rattle.pt_script.specs.declared.values.Operation.TheVariants.{Send, Receive, Check, Link, Unlink, Monitor}
+use Rattle.pt_script.specs.declared.values.Operation.TheVariants.{Demonitor, Alive, Signal, Spawn}
 use Rattle.pt_script.specs.Plans.{Plan, Whole}
-use Rattle.pt_script.specs.declared.limits.TheConstants.{MAX_BUDGET, MAX_DESKS, MAX_FORMAT, MAX_LANE, MAX_OPERATIONS, MAX_PROCESSES, MAX_SLOTS}
+use Rattle.pt_script.specs.declared.limits.TheConstants.{MAX_BUDGET, MAX_DESKS, MAX_FORMAT, MAX_LANE, MAX_OPERATIONS}
+use Rattle.pt_script.specs.declared.limits.TheConstants.{MAX_PROCESSES, MAX_SLOTS}
 
 abbrev pub IsBelow : ℕ → Option ℕ → Type 0
 IsBelow n None = Unit {0}

@@ -1,5 +1,6 @@
 -- Where the processes of a script stand in the text.
-use Rattle.std.specs.Prelude.{◌≡◌, ℕ, zero, suc, ◌<◌, List, [], ◌∷◌, ◌++◌, codes, length, slice_index_or, true, if◌then◌else◌, Option, Some, None}
+use Rattle.std.specs.Prelude.{◌≡◌, ℕ, zero, suc, ◌<◌, List, [], ◌∷◌, ◌++◌, codes, length, slice_index_or, true}
+use Rattle.std.specs.Prelude.{if◌then◌else◌, Option, Some, None}
 use Rattle.serde_json.specs.Data.{Data, null, string}
 use Rattle.serde_json.specs.Find.{get}
 use Rattle.pt_script.specs.declared.fault.Place.{Place}
@@ -80,7 +81,9 @@ AreTopsOf all _ _ = ⊥
 
 -- the number that a name stands for is that of the process which has this name
 abbrev pub AreNamesOf : List Data → Naming → Type 0
-AreNamesOf all names = (q : List ℕ) (n : ℕ) → names q ≡ Some n → (n < length all) × (get (codes "name") (slice_index_or all n null) ≡ Some (string q))
+AreNamesOf all names =
+    (q : List ℕ) (n : ℕ) → names q ≡ Some n
+    → (n < length all) × (get (codes "name") (slice_index_or all n null) ≡ Some (string q))
 
 -- the numbers of a script are the places of its processes in the text
 pub record IsNumbered (d : Data) (w : Whole) : Type 0 where

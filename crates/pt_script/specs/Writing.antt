@@ -23,11 +23,16 @@ with name value others = member name value others
 
 abbrev pub pick_written : Called → Pattern → Members → Members
 pick_written c pattern.Any others = others
-pick_written c (pattern.Kind kind) others = with (codes "pick") (object (with (codes "kind") (number (unsigned kind)) no_members)) others
-pick_written c (pattern.From n) others = with (codes "pick") (object (with (codes "from") (string (c.process n)) no_members)) others
-pick_written c (pattern.ExitOf n) others = with (codes "pick") (object (with (codes "exit") (string (c.process n)) no_members)) others
-pick_written c (pattern.DownOf tag) others = with (codes "pick") (object (with (codes "down") (string (c.tag tag)) no_members)) others
-pick_written c (pattern.AliveOf tag) others = with (codes "pick") (object (with (codes "alive") (string (c.tag tag)) no_members)) others
+pick_written c (pattern.Kind kind) others =
+    with (codes "pick") (object (with (codes "kind") (number (unsigned kind)) no_members)) others
+pick_written c (pattern.From n) others =
+    with (codes "pick") (object (with (codes "from") (string (c.process n)) no_members)) others
+pick_written c (pattern.ExitOf n) others =
+    with (codes "pick") (object (with (codes "exit") (string (c.process n)) no_members)) others
+pick_written c (pattern.DownOf tag) others =
+    with (codes "pick") (object (with (codes "down") (string (c.tag tag)) no_members)) others
+pick_written c (pattern.AliveOf tag) others =
+    with (codes "pick") (object (with (codes "alive") (string (c.tag tag)) no_members)) others
 
 abbrev pub who_written : Called → Option ℕ → Members
 who_written c None = no_members
@@ -35,17 +40,37 @@ who_written c (Some n) = with (codes "who") (string (c.process n)) no_members
 
 -- an operation as a value; a spawn is not written here
 abbrev pub written : Called → Operation → Data
-written c (operation.Send to kind num who) = object (with (codes "kind") (number (unsigned kind)) (with (codes "num") (number (of_integer num)) (with (codes "op") (string (codes "send")) (with (codes "to") (string (c.process to)) (who_written c who)))))
+written c (operation.Send to kind num who) =
+    object
+    (with (codes "kind") (number (unsigned kind))
+    (with (codes "num") (number (of_integer num))
+    (with (codes "op") (string (codes "send")) (with (codes "to") (string (c.process to)) (who_written c who)))))
 written c (operation.Receive p) = object (with (codes "op") (string (codes "receive")) (pick_written c p no_members))
 written c (operation.Check p) = object (with (codes "op") (string (codes "check")) (pick_written c p no_members))
-written c (operation.Link to) = object (with (codes "op") (string (codes "link")) (with (codes "to") (string (c.process to)) no_members))
-written c (operation.Unlink to) = object (with (codes "op") (string (codes "unlink")) (with (codes "to") (string (c.process to)) no_members))
-written c (operation.Monitor to tag) = object (with (codes "op") (string (codes "monitor")) (with (codes "tag") (string (c.tag tag)) (with (codes "to") (string (c.process to)) no_members)))
-written c (operation.Demonitor tag flush) = object (with (codes "flush") (boolean flush) (with (codes "op") (string (codes "demonitor")) (with (codes "tag") (string (c.tag tag)) no_members)))
-written c (operation.Alive to tag) = object (with (codes "op") (string (codes "alive")) (with (codes "tag") (string (c.tag tag)) (with (codes "to") (string (c.process to)) no_members)))
-written c (operation.Trap on) = object (with (codes "on") (boolean on) (with (codes "op") (string (codes "trap")) no_members))
-written c (operation.Exit reason) = object (with (codes "op") (string (codes "exit")) (with (codes "reason") (string (reason_text reason)) no_members))
-written c (operation.Signal to reason) = object (with (codes "op") (string (codes "signal")) (with (codes "reason") (string (reason_text reason)) (with (codes "to") (string (c.process to)) no_members)))
+written c (operation.Link to) =
+    object (with (codes "op") (string (codes "link")) (with (codes "to") (string (c.process to)) no_members))
+written c (operation.Unlink to) =
+    object (with (codes "op") (string (codes "unlink")) (with (codes "to") (string (c.process to)) no_members))
+written c (operation.Monitor to tag) =
+    object
+    (with (codes "op") (string (codes "monitor"))
+    (with (codes "tag") (string (c.tag tag)) (with (codes "to") (string (c.process to)) no_members)))
+written c (operation.Demonitor tag flush) =
+    object
+    (with (codes "flush") (boolean flush)
+    (with (codes "op") (string (codes "demonitor")) (with (codes "tag") (string (c.tag tag)) no_members)))
+written c (operation.Alive to tag) =
+    object
+    (with (codes "op") (string (codes "alive"))
+    (with (codes "tag") (string (c.tag tag)) (with (codes "to") (string (c.process to)) no_members)))
+written c (operation.Trap on) =
+    object (with (codes "on") (boolean on) (with (codes "op") (string (codes "trap")) no_members))
+written c (operation.Exit reason) =
+    object (with (codes "op") (string (codes "exit")) (with (codes "reason") (string (reason_text reason)) no_members))
+written c (operation.Signal to reason) =
+    object
+    (with (codes "op") (string (codes "signal"))
+    (with (codes "reason") (string (reason_text reason)) (with (codes "to") (string (c.process to)) no_members)))
 written c (operation.Spawn process linked) = object no_members
 written c operation.Pass = object (with (codes "op") (string (codes "pass")) no_members)
 

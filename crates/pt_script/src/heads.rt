@@ -103,7 +103,8 @@ impl<'a> Heads<'a> {
 
     /// The name of a process that the script begins with.
     fn name<'b>(&self, member: Option<&'b Value>) -> Result<&'b str, Fault>
-        ensures { Gives (λ t. t.now) result (members.required (new_name (naming self.now.names)) (option_map (λ v. view v.now) member.entry)) }
+        ensures { Gives (λ t. t.now) result
+            (members.required (new_name (naming self.now.names)) (option_map (λ v. view v.now) member.entry)) }
     {
         let name = text(member)?;
         if !is_own_name(name) {
@@ -131,7 +132,11 @@ impl<'a> Heads<'a> {
     #[tactic(auto, unfolding(crate::specs::Scripts::head))]
     fn head<'b>(&self, settings: &Settings, value: &'b Value) -> Result<Head<'b>, Fault>
         requires { (1 ≤ settings.now.desks) × (settings.now.desks ≤ MAX_DESKS) }
-        ensures head { Gives (λ h. record { name = h.name.now; desk = h.desk; trap = h.trap }) result (spec.head settings.now (spec.heads_view self.now) (view value.now)) }
+        ensures head { Gives (λ h. record {
+          name = h.name.now;
+          desk = h.desk;
+          trap = h.trap;
+        }) result (spec.head settings.now (spec.heads_view self.now) (view value.now)) }
         ensures desk { IfOk result (λ h. h.desk < MAX_DESKS) }
         ensures room { IfOk result (λ h. count_by (λ t. t.desk == h.desk) self.now.tops < settings.now.slots) }
     {
@@ -146,7 +151,11 @@ impl<'a> Heads<'a> {
     fn add(&mut self, head: Head<'a>, value: &'a Value) -> Result<(), AllocError>
         requires desk { head.desk < MAX_DESKS }
         requires room { count_by (λ t. t.desk == head.desk) self.old.tops < MAX_SLOTS }
-        ensures { OnOk result (spec.heads_view self.new ≡ spec.with_head (spec.heads_view self.old) (record { name = head.entry.name.now; desk = head.entry.desk; trap = head.entry.trap }) (view value.now)) }
+        ensures { OnOk result (spec.heads_view self.new ≡ spec.with_head (spec.heads_view self.old) (record {
+          name = head.entry.name.now;
+          desk = head.entry.desk;
+          trap = head.entry.trap;
+        }) (view value.now)) }
     {
         let next = self.next;
         self.names.add(head.name, next)?;
@@ -166,7 +175,8 @@ impl<'a> Heads<'a> {
     fn read(&mut self, settings: &Settings, value: &'a Value) -> Result<(), ScriptError>
         requires desks { (1 ≤ settings.now.desks) × (settings.now.desks ≤ MAX_DESKS) }
         requires slots { settings.now.slots ≤ MAX_SLOTS }
-        ensures { spec.Becomes (spec.heads_view self.new) result (spec.next_head settings.now (spec.heads_view self.old) (view value.now)) }
+        ensures { spec.Becomes (spec.heads_view self.new) result
+            (spec.next_head settings.now (spec.heads_view self.old) (view value.now)) }
     {
         let number = self.next;
         if MAX_PROCESSES <= number as usize {

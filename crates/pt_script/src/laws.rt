@@ -1,7 +1,8 @@
 //! The laws of scripts: each is the contract of a function that does nothing.
 
 ghost use Rattle.std.specs.Prelude.{◌≡◌};
-ghost use Rattle.pt_script.specs.Laws.{AcceptedAreSound, ReasonsAsPrinted, FaultsHavePlaces, NumbersArePlaces, NamesArePlaces, OperationsReadBack, ScriptsReadBack, AcceptedReadBack};
+ghost use Rattle.pt_script.specs.Laws.{AcceptedAreSound, ReasonsAsPrinted, FaultsHavePlaces, NumbersArePlaces};
+ghost use Rattle.pt_script.specs.Laws.{NamesArePlaces, OperationsReadBack, ScriptsReadBack, AcceptedReadBack};
 
 use crate::limits::{
     DEFAULT_BUDGET, DEFAULT_LANE, DEFAULT_SLOTS, MAX_BUDGET, MAX_BYTES, MAX_DEPTH, MAX_DESKS,

@@ -68,7 +68,9 @@ pub fn read_process<'a>(
 ) -> Result<(), ScriptError>
     requires { vec_len draft.old.processes < MAX_PROCESSES }
     ensures seen { OnOk result (draft.old.seen ≤ draft.new.seen) }
-    ensures read { spec.ReadsProcess trap draft.old.processes.items draft.new.processes.items draft.new.seen result (spec.list_at levels (spec.fresh format (vec_len draft.old.processes) parent (naming tops.now)) (vec_len draft.old.processes + 1) draft.old.seen (map view list.now)) }
+    ensures read { spec.ReadsProcess trap draft.old.processes.items draft.new.processes.items draft.new.seen result
+        (spec.list_at levels (spec.fresh format (vec_len draft.old.processes) parent (naming tops.now))
+        (vec_len draft.old.processes + 1) draft.old.seen (map view list.now)) }
 {
     let number = draft.processes.len();
     draft.processes.push(Process::new(trap, Vec::new(alloc)))?;
@@ -97,7 +99,8 @@ fn read_list<'a>(
 ) -> Result<Vec<Operation>, ScriptError>
     requires { scope.old.made ≤ draft.old.seen }
     ensures seen { OnOk result (draft.old.seen ≤ draft.new.seen) }
-    ensures read { spec.ReadsList draft.old.processes.items draft.new.processes.items draft.new.seen result (spec.list_at levels (scope_view scope.old) (vec_len draft.old.processes) draft.old.seen (map view list.now)) }
+    ensures read { spec.ReadsList draft.old.processes.items draft.new.processes.items draft.new.seen result
+        (spec.list_at levels (scope_view scope.old) (vec_len draft.old.processes) draft.old.seen (map view list.now)) }
 {
     let mut operations = Vec::new(alloc);
     for (index, value) in list.iter().enumerate() {
@@ -118,7 +121,10 @@ fn read_operation<'a>(
 ) -> Result<Operation, ScriptError>
     requires index { index ≤ draft.old.seen }
     requires made { scope.old.made ≤ draft.old.seen }
-    ensures read { spec.ReadsStep draft.old.processes.items draft.new.processes.items draft.new.seen (scope_view scope.new) result (spec.step_at levels index (scope_view scope.old) (vec_len draft.old.processes) draft.old.seen (view value.now)) }
+    ensures read { spec.ReadsStep draft.old.processes.items draft.new.processes.items draft.new.seen
+        (scope_view scope.new) result
+        (spec.step_at levels index (scope_view scope.old) (vec_len draft.old.processes) draft.old.seen
+        (view value.now)) }
     ensures seen { OnOk result (draft.old.seen < draft.new.seen) }
     ensures made { OnOk result (scope.new.made ≤ draft.new.seen) }
 {
@@ -145,7 +151,10 @@ fn read_spawn<'a>(
     value: &'a Value,
 ) -> Result<Operation, ScriptError>
     requires { vec_len draft.old.processes < MAX_PROCESSES }
-    ensures read { spec.ReadsStep draft.old.processes.items draft.new.processes.items draft.new.seen (scope_view scope.new) result (spec.spawned (λ t n k es. spec.list_from levels 0 t n k es) place (scope_view scope.old) (vec_len draft.old.processes) draft.old.seen (view value.now)) }
+    ensures read { spec.ReadsStep draft.old.processes.items draft.new.processes.items draft.new.seen
+        (scope_view scope.new) result
+        (spec.spawned (λ t n k es. spec.list_from levels 0 t n k es) place (scope_view scope.old)
+        (vec_len draft.old.processes) draft.old.seen (view value.now)) }
     ensures seen { OnOk result (draft.old.seen ≤ draft.new.seen) }
     ensures made { OnOk result (scope.new.made ≡ scope.old.made) }
 {
@@ -175,7 +184,8 @@ fn read_simple<'a>(
     value: &'a Value,
 ) -> Result<Operation, ScriptError>
     requires { scope.old.made < MAX_OPERATIONS }
-    ensures read { spec.ReadsSimple place (scope_view scope.new) result (spec.simple (scope_view scope.old) (view value.now)) }
+    ensures read { spec.ReadsSimple place (scope_view scope.new) result
+        (spec.simple (scope_view scope.old) (view value.now)) }
     ensures made { OnOk result (scope.new.made ≤ scope.old.made + 1) }
 {
     let op = op_of(value).map_err(|fault| ScriptError::Refused { fault, place })?;

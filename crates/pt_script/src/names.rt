@@ -35,7 +35,8 @@ impl<'a> Names<'a> {
 
     /// Lets the name stand for the number from now on.
     pub fn add(&mut self, name: &'a str, number: u32) -> Result<(), AllocError>
-        ensures { OnOk result (spec.naming self.new ≡ λ q. update bytes_eq (spec.naming self.old) name.now (Some number) q) }
+        ensures { OnOk result
+            (spec.naming self.new ≡ λ q. update bytes_eq (spec.naming self.old) name.now (Some number) q) }
     {
         self.numbers.insert(name, number)?;
         Ok(())

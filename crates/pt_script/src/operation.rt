@@ -92,13 +92,16 @@ pub fn is_spawn(value: &Value) -> bool
 }
 
 fn name(scope: &Scope<'_, '_>, member: Option<&Value>) -> Result<u32, Fault>
-    ensures { result ≡ members.required (spec.process (scope_view scope.now)) (option_map (λ v. view v.now) member.entry) }
+    ensures { result
+        ≡ members.required (spec.process (scope_view scope.now)) (option_map (λ v. view v.now) member.entry) }
 {
     scope.process(text(member)?).ok_or(Fault::Name)
 }
 
 fn name_or_none(scope: &Scope<'_, '_>, member: Option<&Value>) -> Result<Option<u32>, Fault>
-    ensures { result ≡ members.optional None (spec.maybe_process (scope_view scope.now)) (option_map (λ v. view v.now) member.entry) }
+    ensures { result
+        ≡ members.optional None (spec.maybe_process (scope_view scope.now))
+        (option_map (λ v. view v.now) member.entry) }
 {
     match member {
         Some(_) => Ok(Some(name(scope, member)?)),
@@ -107,19 +110,22 @@ fn name_or_none(scope: &Scope<'_, '_>, member: Option<&Value>) -> Result<Option<
 }
 
 fn monitor_tag(scope: &Scope<'_, '_>, member: Option<&Value>) -> Result<u32, Fault>
-    ensures { result ≡ members.required (spec.monitor_tag (scope_view scope.now)) (option_map (λ v. view v.now) member.entry) }
+    ensures { result
+        ≡ members.required (spec.monitor_tag (scope_view scope.now)) (option_map (λ v. view v.now) member.entry) }
 {
     scope.monitors.find(text(member)?).ok_or(Fault::Name)
 }
 
 fn ask_tag(scope: &Scope<'_, '_>, member: Option<&Value>) -> Result<u32, Fault>
-    ensures { result ≡ members.required (spec.ask_tag (scope_view scope.now)) (option_map (λ v. view v.now) member.entry) }
+    ensures { result
+        ≡ members.required (spec.ask_tag (scope_view scope.now)) (option_map (λ v. view v.now) member.entry) }
 {
     scope.asks.find(text(member)?).ok_or(Fault::Name)
 }
 
 fn new_tag<'a>(scope: &Scope<'_, '_>, member: Option<&'a Value>) -> Result<&'a str, Fault>
-    ensures { Gives (λ t. t.now) result (members.required (spec.new_tag (scope_view scope.now)) (option_map (λ v. view v.now) member.entry)) }
+    ensures { Gives (λ t. t.now) result
+        (members.required (spec.new_tag (scope_view scope.now)) (option_map (λ v. view v.now) member.entry)) }
 {
     let tag = text(member)?;
     if !is_name(tag) {
@@ -132,7 +138,9 @@ fn new_tag<'a>(scope: &Scope<'_, '_>, member: Option<&'a Value>) -> Result<&'a s
 }
 
 fn new_name<'a>(scope: &Scope<'_, '_>, member: Option<&'a Value>) -> Result<&'a str, Fault>
-    ensures { Gives (λ t. t.now) result (members.required (spec.new_name (process_in (scope_view scope.now))) (option_map (λ v. view v.now) member.entry)) }
+    ensures { Gives (λ t. t.now) result
+        (members.required (spec.new_name (process_in (scope_view scope.now)))
+        (option_map (λ v. view v.now) member.entry)) }
 {
     let name = text(member)?;
     if !is_own_name(name) {
@@ -207,7 +215,8 @@ fn other_reason(text: &str) -> Result<Reason, Fault>
 }
 
 fn pattern(scope: &Scope<'_, '_>, member: Option<&Value>) -> Result<Pattern, Fault>
-    ensures { result ≡ members.optional Pattern.Any (spec.pick (scope_view scope.now)) (option_map (λ v. view v.now) member.entry) }
+    ensures { result
+        ≡ members.optional Pattern.Any (spec.pick (scope_view scope.now)) (option_map (λ v. view v.now) member.entry) }
 {
     match member {
         Some(value) => pick(scope, value),
@@ -249,7 +258,10 @@ fn one_pick(
     down: Option<&Value>,
     alive: Option<&Value>,
 ) -> Result<Pattern, Fault>
-    ensures { result ≡ spec.one_pick (scope_view scope.now) (option_map (λ v. view v.now) of_kind.entry) (option_map (λ v. view v.now) from.entry) (option_map (λ v. view v.now) exit.entry) (option_map (λ v. view v.now) down.entry) (option_map (λ v. view v.now) alive.entry) }
+    ensures { result
+        ≡ spec.one_pick (scope_view scope.now) (option_map (λ v. view v.now) of_kind.entry)
+        (option_map (λ v. view v.now) from.entry) (option_map (λ v. view v.now) exit.entry)
+        (option_map (λ v. view v.now) down.entry) (option_map (λ v. view v.now) alive.entry) }
 {
     match (of_kind, from, exit, down, alive) {
         (Some(_), None, None, None, None) => Ok(Pattern::Kind(kind(of_kind)?)),
@@ -363,7 +375,12 @@ pub fn tagged<'a>(scope: &Scope<'_, '_>, value: &'a Value) -> Result<(u32, &'a s
 /// What a spawn says, its operations apart.
 #[tactic(auto, unfolding(crate::specs::Operations::spawn))]
 pub fn spawned_by<'a>(scope: &Scope<'_, '_>, value: &'a Value) -> Result<Spawned<'a>, Fault>
-    ensures { Gives (λ c. record { name = c.name.now; linked = c.linked; trap = c.trap; ops = map view c.list.now.items }) result (spec.spawn (scope_view scope.now) (view value.now)) }
+    ensures { Gives (λ c. record {
+      name = c.name.now;
+      linked = c.linked;
+      trap = c.trap;
+      ops = map view c.list.now.items;
+    }) result (spec.spawn (scope_view scope.now) (view value.now)) }
 {
     known(value, &["op", "name", "linked", "trap", "ops"])?;
     let name = new_name(scope, value.get("name"))?;

@@ -78,7 +78,13 @@ fn read_pending<'a>(
     names: &Names<'a>,
     pending: Pending<'a>,
 ) -> Result<(), ScriptError>
-    ensures { spec.Becomes (record { processes = draft.new.processes.items; seen = draft.new.seen }) result (spec.next_list format (naming names.now) (record { processes = draft.old.processes.items; seen = draft.old.seen }) (record { trap = pending.entry.trap; value = view pending.entry.value.now })) }
+    ensures { spec.Becomes (record {
+      processes = draft.new.processes.items;
+      seen = draft.new.seen;
+    }) result
+        (spec.next_list format (naming names.now)
+        (record { processes = draft.old.processes.items; seen = draft.old.seen })
+        (record { trap = pending.entry.trap; value = view pending.entry.value.now })) }
 {
     let next = draft.processes.len();
     if MAX_PROCESSES <= next {
@@ -100,7 +106,9 @@ fn read_pending<'a>(
 
 /// The processes of a script, by number.
 fn processes_of(alloc: Global, format: u8, heads: &Heads<'_>) -> Result<Vec<Process>, ScriptError>
-    ensures { spec.ReadsPlans result (each (spec.next_list format (naming heads.now.names)) spec.no_lists (map spec.pending_view heads.now.unread.items)) }
+    ensures { spec.ReadsPlans result
+        (each (spec.next_list format (naming heads.now.names)) spec.no_lists
+        (map spec.pending_view heads.now.unread.items)) }
 {
     let mut draft = Draft {
         processes: Vec::new(alloc),

@@ -63,7 +63,11 @@ impl Model for Script {
 
     ghost view = { λ s. record { settings = s.settings; tops = s.tops.items; processes = s.processes.items } };
 
-    ghost invariant = { λ s. IsSound (record { settings = s.settings; tops = s.tops.items; processes = s.processes.items }) };
+    ghost invariant = { λ s. IsSound (record {
+      settings = s.settings;
+      tops = s.tops.items;
+      processes = s.processes.items;
+    }) };
 }
 
 impl Script {

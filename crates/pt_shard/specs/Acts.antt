@@ -1,5 +1,6 @@
 -- What a process does with the ledger of its desk. No public clause cites this module.
-use Rattle.std.specs.Prelude.{◌≡◌, ℕ, ◌+◌, ◌<◌, ◌≤◌, ◌||◌, max, Bool, cond, List, [], ◌∷◌, length, map, Option, Some, None, is_some, Result, Ok, Err, ⊤}
+use Rattle.std.specs.Prelude.{◌≡◌, ℕ, ◌+◌, ◌<◌, ◌≤◌, ◌||◌, max, Bool, cond, List, [], ◌∷◌, length, map, Option, Some}
+use Rattle.std.specs.Prelude.{None, is_some, Result, Ok, Err, ⊤}
 use Rattle.std.specs.Bool.{then_some}
 use Rattle.std.specs.List.{find}
 use Rattle.std.specs.Map.{lookup}
@@ -79,11 +80,13 @@ abbrev pub HasOnlyMoreRoom : ProcessView → LedgerState → ProcessView → Led
 HasOnlyMoreRoom r l r' l' = (r'.me ≡ r.me) × (r'.state ≡ r.state) × (l'.book ≡ l.book)
 
 -- it wrote that event, if any, and answers so
-abbrev pub Acts : {A : Type 0} → Option Event → A → ProcessView → LedgerState → Result A Fault → ProcessView → LedgerState → Type 0
+abbrev pub Acts : {A : Type 0} → Option Event → A → ProcessView → LedgerState → Result A Fault → ProcessView
+    → LedgerState → Type 0
 Acts None answer r l (Ok a) r' l' = (a ≡ answer) × HasOnlyMoreRoom r l r' l'
 Acts None answer r l (Err f) r' l' = ⊥
 Acts (Some e) answer r l (Ok a) r' l' =
-    (l.book.clock < MAX_STAMP) × (a ≡ answer) × (r'.me ≡ r.me) × (r'.state ≡ done e r.state) × (l'.book ≡ wrote (l.book.clock + 1) e (posted (l.book.clock + 1) e) l.book)
+    (l.book.clock < MAX_STAMP) × (a ≡ answer) × (r'.me ≡ r.me) × (r'.state ≡ done e r.state)
+    × (l'.book ≡ wrote (l.book.clock + 1) e (posted (l.book.clock + 1) e) l.book)
 Acts (Some e) answer r l (Err fault.Worn) r' l' = (MAX_STAMP ≤ l.book.clock) × HasOnlyMoreRoom r l r' l'
 Acts (Some e) answer r l (Err fault.Memory) r' l' = (l.book.clock < MAX_STAMP) × HasOnlyMoreRoom r l r' l'
 Acts (Some e) answer r l (Err fault.Gone) r' l' = ⊥
@@ -93,7 +96,9 @@ Acts (Some e) answer r l (Err fault.NoProc) r' l' = ⊥
 
 -- that event, which changes nothing in its process, was written, and it answers so
 abbrev pub Tells : {A : Type 0} → Event → A → LedgerState → Result A Fault → LedgerState → Type 0
-Tells e answer l (Ok a) l' = (l.book.clock < MAX_STAMP) × (a ≡ answer) × (l'.book ≡ wrote (l.book.clock + 1) e (posted (l.book.clock + 1) e) l.book)
+Tells e answer l (Ok a) l' =
+    (l.book.clock < MAX_STAMP) × (a ≡ answer)
+    × (l'.book ≡ wrote (l.book.clock + 1) e (posted (l.book.clock + 1) e) l.book)
 Tells e answer l (Err fault.Worn) l' = (MAX_STAMP ≤ l.book.clock) × (l'.book ≡ l.book)
 Tells e answer l (Err fault.Memory) l' = (l.book.clock < MAX_STAMP) × (l'.book ≡ l.book)
 Tells e answer l (Err fault.Gone) l' = ⊥
@@ -107,9 +112,11 @@ HasRoomIf None r = ⊤
 HasRoomIf (Some i) r = 0 < r.room
 
 -- there is room for a birth, with the link that is asked for
-abbrev pub PreparesBirth : Bool → ProcessView → LedgerState → Result (Option LinkId) Fault → ProcessView → LedgerState → Type 0
+abbrev pub PreparesBirth : Bool → ProcessView → LedgerState → Result (Option LinkId) Fault → ProcessView → LedgerState
+    → Type 0
 PreparesBirth linked r l (Ok link) r' l' =
-    (l.book.clock < MAX_STAMP) × (link ≡ then_some linked (link_after l.book)) × HasOnlyMoreRoom r l r' l' × (0 < l'.room) × HasRoomIf link r'
+    (l.book.clock < MAX_STAMP) × (link ≡ then_some linked (link_after l.book)) × HasOnlyMoreRoom r l r' l'
+    × (0 < l'.room) × HasRoomIf link r'
 PreparesBirth linked r l (Err fault.Worn) r' l' = (MAX_STAMP ≤ l.book.clock) × HasOnlyMoreRoom r l r' l'
 PreparesBirth linked r l (Err fault.Memory) r' l' = (l.book.clock < MAX_STAMP) × HasOnlyMoreRoom r l r' l'
 PreparesBirth linked r l (Err fault.Gone) r' l' = ⊥
@@ -126,19 +133,25 @@ IsStopped x Memory r l r' l' = (max l.book.clock x.stamp < MAX_STAMP) × HasOnly
 abbrev pub TakesIn : Letter → ProcessView → LedgerState → Result (Unit {0}) Stop → ProcessView → LedgerState → Type 0
 TakesIn x r l (Ok _) r' l' =
     (max l.book.clock x.stamp < MAX_STAMP) × (r'.me ≡ r.me) × (r'.state ≡ (handle r.me r.state x.from x.signal).state)
-    × (l'.book ≡ wrote (max l.book.clock x.stamp + 1) (came x) (map (letter (max l.book.clock x.stamp + 1)) (map (sent x.to x.from) (option_to_list (living_back x.signal)))) l.book)
+    × (l'.book
+    ≡ wrote (max l.book.clock x.stamp + 1) (came x)
+    (map (letter (max l.book.clock x.stamp + 1)) (map (sent x.to x.from) (option_to_list (living_back x.signal))))
+    l.book)
 TakesIn x r l (Err s) r' l' = IsStopped x s r l r' l'
 
 -- that goes back, if anything, from where the letter came to
 abbrev pub GivesBack : Letter → Option Signal → LedgerState → Result (Unit {0}) Stop → LedgerState → Type 0
 GivesBack x back l (Ok _) l' =
     (max l.book.clock x.stamp < MAX_STAMP)
-    × (l'.book ≡ wrote (max l.book.clock x.stamp + 1) (came x) (map (letter (max l.book.clock x.stamp + 1)) (map (sent x.to x.from) (option_to_list back))) l.book)
+    × (l'.book
+    ≡ wrote (max l.book.clock x.stamp + 1) (came x)
+    (map (letter (max l.book.clock x.stamp + 1)) (map (sent x.to x.from) (option_to_list back))) l.book)
 GivesBack x back l (Err Worn) l' = (MAX_STAMP ≤ max l.book.clock x.stamp) × (l'.book ≡ l.book)
 GivesBack x back l (Err Memory) l' = (max l.book.clock x.stamp < MAX_STAMP) × (l'.book ≡ l.book)
 
 -- the letter did to it what its signal does, and what it owed before finds room
-abbrev pub PreparesEnding : Letter → ProcessView → LedgerState → Result (Unit {0}) Stop → ProcessView → LedgerState → Type 0
+abbrev pub PreparesEnding : Letter → ProcessView → LedgerState → Result (Unit {0}) Stop → ProcessView → LedgerState
+    → Type 0
 PreparesEnding x r l (Ok _) r' l' =
     (max l.book.clock x.stamp < MAX_STAMP) × (r'.me ≡ r.me) × (r'.state ≡ (handle r.me r.state x.from x.signal).state)
     × (l'.book ≡ l.book) × (0 < l'.room) × HasRoomToAll (peers r.state) l'
@@ -147,11 +160,14 @@ PreparesEnding x r l (Err s) r' l' = IsStopped x s r l r' l'
 -- whatever the process p is found to owe at its end with this reason comes from it, and finds room
 abbrev pub IsReadyToEnd : Pid → Reason → ProcessesState → LedgerState → Type 0
 IsReadyToEnd p reason processes l =
-    (after : ProcessesState) (owing : Owing) → after.desk ≡ processes.desk → Ends p reason owing processes.table after.table
-    → (owing.from ≡ p) × Every (λ x. x.to.shard < length l.book.outbox) owing.owed × HasRoomToAll (map (λ x. x.to) owing.owed) l
+    (after : ProcessesState) (owing : Owing) → after.desk ≡ processes.desk
+    → Ends p reason owing processes.table after.table
+    → (owing.from ≡ p) × Every (λ x. x.to.shard < length l.book.outbox) owing.owed
+    × HasRoomToAll (map (λ x. x.to) owing.owed) l
 
 -- the receiver ended by the letter with this reason, and what it owed is sent
 abbrev pub EndsBy : Letter → Reason → ProcessesState → LedgerState → ProcessesState → LedgerState → Type 0
 EndsBy x reason processes l processes' l' =
     (owing : Owing) × (processes'.desk ≡ processes.desk) × Ends x.to reason owing processes.table processes'.table
-    × (l'.book ≡ wrote (max l.book.clock x.stamp + 1) (came x) (map (letter (max l.book.clock x.stamp + 1)) owing.owed) l.book)
+    × (l'.book
+    ≡ wrote (max l.book.clock x.stamp + 1) (came x) (map (letter (max l.book.clock x.stamp + 1)) owing.owed) l.book)

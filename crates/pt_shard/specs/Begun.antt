@@ -29,9 +29,11 @@ module _ (desks : ℕ) (W : Ref × Pid → Type 0) where
   IsNearPhase (living s) = IsNearState s
   IsNearPhase _ = ⊤
 
--- a monitor that was open: its target is of the node, and was born if it is of the desk; its reference is numbered up to low
+-- a monitor that was open: its target is of the node, and was born if it is of the desk; its reference is numbered up
+-- to low
 abbrev pub WasOpen : Start → ℕ → ℕ → ℕ → Ref × Pid → Type 0
-WasOpen start desks low d e = (e.1.shard < desks) × (e.0.number ≤ low) × (e.1.shard ≡ d → is_unborn (at_start start e.1) ≡ false)
+WasOpen start desks low d e =
+    (e.1.shard < desks) × (e.0.number ≤ low) × (e.1.shard ≡ d → is_unborn (at_start start e.1) ≡ false)
 
 -- the start of desk d: processes of that desk alone, of which each live one is so
 pub record IsBegun (start : Start) (desks low d : ℕ) : Type 0 where

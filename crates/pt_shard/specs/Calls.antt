@@ -1,5 +1,6 @@
 -- What each call of a desk answers, and what it leaves.
-use Rattle.std.specs.Prelude.{◌≡◌, ℕ, ◌+◌, ◌<◌, ◌≤◌, Bool, true, false, cond, ◌||◌, max, is_some, Option, Some, None, IsSome, Result, Ok, Err}
+use Rattle.std.specs.Prelude.{◌≡◌, ℕ, ◌+◌, ◌<◌, ◌≤◌, Bool, true, false, cond, ◌||◌, max, is_some, Option, Some, None}
+use Rattle.std.specs.Prelude.{IsSome, Result, Ok, Err}
 use Rattle.std.specs.Bool.{then_some}
 use Rattle.std.specs.List.{find}
 use Rattle.std.specs.Map.{lookup}
@@ -37,7 +38,8 @@ after_if (Some e) d = after e d
 
 -- a call of the process p, which answers so and writes that event, if any
 abbrev pub Calls : {A : Type 0} → Pid → Option Event → A → ShardState → Result A Fault → ShardState → Type 0
-Calls p event answer old (Ok a) new = (lives old p ≡ true) × CanWriteIf event old × (a ≡ answer) × (new ≡ after_if event old)
+Calls p event answer old (Ok a) new =
+    (lives old p ≡ true) × CanWriteIf event old × (a ≡ answer) × (new ≡ after_if event old)
 Calls p event answer old (Err Gone) new = (lives old p ≡ false) × (new ≡ old)
 Calls p event answer old (Err Worn) new = (lives old p ≡ true) × IsSome event × IsWorn old × (new ≡ old)
 Calls p event answer old (Err Memory) new = (lives old p ≡ true) × IsSome event × CanWrite old × (new ≡ old)
@@ -87,7 +89,8 @@ demonitor_event d w m flush = demonitor_at (lookup (same_ref m) (state_in d w).w
 
 -- a monitor of oneself is refused
 abbrev pub Monitors : Pid → Pid → ShardState → Result Ref Fault → ShardState → Type 0
-Monitors w t old (Ok m) new = (same_pid w t ≡ false) × Calls w (Some (Said w t (Monitor (new_ref old)))) (new_ref old) old (Ok m) new
+Monitors w t old (Ok m) new =
+    (same_pid w t ≡ false) × Calls w (Some (Said w t (Monitor (new_ref old)))) (new_ref old) old (Ok m) new
 Monitors w t old (Err Gone) new = (lives old w ≡ false) × (new ≡ old)
 Monitors w t old (Err Myself) new = (lives old w ≡ true) × (same_pid w t ≡ true) × (new ≡ old)
 Monitors w t old (Err Worn) new = (lives old w ≡ true) × (same_pid w t ≡ false) × IsWorn old × (new ≡ old)
@@ -112,11 +115,14 @@ abbrev pub birth_link : Bool → ShardState → Option LinkId
 birth_link linked d = then_some linked (new_link d)
 
 abbrev pub BearsChild : Pid → Bool → ShardState → Result Pid Fault → ShardState → Type 0
-BearsChild parent linked old (Ok p) new = (lives old parent ≡ true) × Bears (Some parent) (birth_link linked old) old (Ok p) new
+BearsChild parent linked old (Ok p) new =
+    (lives old parent ≡ true) × Bears (Some parent) (birth_link linked old) old (Ok p) new
 BearsChild parent linked old (Err Gone) new = (lives old parent ≡ false) × (new ≡ old)
 BearsChild parent linked old (Err Worn) new = (lives old parent ≡ true) × IsWorn old × (new ≡ old)
-BearsChild parent linked old (Err Full) new = (lives old parent ≡ true) × CanWrite old × (old.vacant ≡ None) × (new ≡ old)
-BearsChild parent linked old (Err Memory) new = (lives old parent ≡ true) × CanWrite old × IsSome old.vacant × (new ≡ old)
+BearsChild parent linked old (Err Full) new =
+    (lives old parent ≡ true) × CanWrite old × (old.vacant ≡ None) × (new ≡ old)
+BearsChild parent linked old (Err Memory) new =
+    (lives old parent ≡ true) × CanWrite old × IsSome old.vacant × (new ≡ old)
 BearsChild parent linked old (Err Myself) new = ⊥
 BearsChild parent linked old (Err NoProc) new = ⊥
 

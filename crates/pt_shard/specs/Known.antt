@@ -19,7 +19,8 @@ issued_in start (e ∷ past) slot = issued_in start past slot
 
 -- its numbers are in the node's ranges
 abbrev pub is_in_node : Config → Pid → Bool
-is_in_node c p = (nat_lt p.shard c.desks && nat_lt p.slot c.slots) && (nat_lt 0 p.version && nat_le p.version c.top_version)
+is_in_node c p =
+    (nat_lt p.shard c.desks && nat_lt p.slot c.slots) && (nat_lt 0 p.version && nat_le p.version c.top_version)
 
 -- if it is of this desk, its version was issued
 abbrev pub is_not_ahead : ShardState → Pid → Bool
@@ -30,4 +31,5 @@ knows d p = is_in_node d.config p && is_not_ahead d p
 
 -- what a desk knows, each other desk of its node knows, unless the pid is of that one
 abbrev pub IsKnownToOthers : Type 0
-IsKnownToOthers = (d e : ShardState) (p : Pid) → e.config ≡ d.config → knows d p ≡ true → p.shard ≢ e.number → knows e p ≡ true
+IsKnownToOthers =
+    (d e : ShardState) (p : Pid) → e.config ≡ d.config → knows d p ≡ true → p.shard ≢ e.number → knows e p ≡ true

@@ -1,5 +1,6 @@
 -- The clock, the journal and the letters of a desk. No public clause cites this module.
-use Rattle.std.specs.Prelude.{◌≡◌, ℕ, ◌<◌, ◌≤◌, ◌==◌, Bool, count_by, List, [], ◌∷◌, length, slice_index_or, Option, Some, None, Result, Ok, Err, max, ⊤}
+use Rattle.std.specs.Prelude.{◌≡◌, ℕ, ◌<◌, ◌≤◌, ◌==◌, Bool, count_by, List, [], ◌∷◌, length, slice_index_or, Option}
+use Rattle.std.specs.Prelude.{Some, None, Result, Ok, Err, max, ⊤}
 use Rattle.pt_signal.specs.declared.pid.Pid.{Pid}
 use Rattle.pt_signal.specs.declared.letter.Letter.{Letter}
 use Rattle.pt_signal.specs.declared.signal.Signal.{Signal}
@@ -73,7 +74,8 @@ HasRoomToAll qs s = (e : ℕ) → e < length s.book.outbox → count_by (is_of e
 
 -- an attempt to make room for an event that is stamped above floor, and for letters
 abbrev pub Prepares : ℕ → (LedgerState → Type 0) → LedgerState → Result (Unit {0}) Stop → LedgerState → Type 0
-Prepares floor HasRoom old (Ok _) new = (new.book ≡ old.book) × (max old.book.clock floor < MAX_STAMP) × (0 < new.room) × HasRoom new
+Prepares floor HasRoom old (Ok _) new =
+    (new.book ≡ old.book) × (max old.book.clock floor < MAX_STAMP) × (0 < new.room) × HasRoom new
 Prepares floor HasRoom old (Err Worn) new = (new.book ≡ old.book) × (MAX_STAMP ≤ max old.book.clock floor)
 Prepares floor HasRoom old (Err Memory) new = (new.book ≡ old.book) × (max old.book.clock floor < MAX_STAMP)
 

@@ -66,7 +66,8 @@ pub record SameSettings (old new : Table) : Type 0 where
 
 -- v stands in the place of p, and all else is as before
 pub record Puts (p : Pid) (v : Option (Pid × ProcessState)) (old new : Table) : Type 0 where
-  pub live : (slot version : ℕ) → seen (at new slot version) ≡ cond (is_place_of p slot version) v (seen (at old slot version))
+  pub live : (slot version : ℕ)
+      → seen (at new slot version) ≡ cond (is_place_of p slot version) v (seen (at old slot version))
   pub settings : SameSettings old new
 
 -- the state of p is changed by f, and which slot is vacant is not
@@ -93,5 +94,8 @@ pub record Ends (p : Pid) (reason : Reason) (owing : Owing) (old new : Table) : 
   pub owes : IfSome (in_place old p) (λ r. owing ≡ record { from = r.0; owed = estate r.0 r.1 reason })
   pub lived : IsSome (in_place old p)
   pub puts : Puts p None old new
-  pub next : next_key new ≡ cond (p.version == old.top_version) (next_key old) (Some (record { slot = p.slot; version = p.version + 1 }))
+  pub next : next_key new ≡ cond (p.version == old.top_version) (next_key old) (Some (record {
+    slot = p.slot;
+    version = p.version + 1;
+  }))
   pub offers : OffersTheFree new

@@ -22,4 +22,5 @@ IsFirstOut c Desks = ¬ HasRange c Desks
 IsFirstOut c Slots = HasRange c Desks × (¬ HasRange c Slots)
 IsFirstOut c TopVersion = HasRange c Desks × HasRange c Slots × (¬ HasRange c TopVersion)
 IsFirstOut c Lane = HasRange c Desks × HasRange c Slots × HasRange c TopVersion × (¬ HasRange c Lane)
-IsFirstOut c Start = HasRange c Desks × HasRange c Slots × HasRange c TopVersion × HasRange c Lane × (¬ HasRange c Start)
+IsFirstOut c Start =
+    HasRange c Desks × HasRange c Slots × HasRange c TopVersion × HasRange c Lane × (¬ HasRange c Start)

@@ -1,5 +1,6 @@
 -- A desk without its lanes as its callers see it, and what an event makes of it.
-use Rattle.std.specs.Prelude.{◌≡◌, ℕ, ◌+◌, ◌<◌, ◌≤◌, ◌==◌, Bool, false, cond, List, [], ◌∷◌, map, max, Option, Some, None, is_some, Result, Ok, Err, slice_index_or}
+use Rattle.std.specs.Prelude.{◌≡◌, ℕ, ◌+◌, ◌<◌, ◌≤◌, ◌==◌, Bool, false, cond, List, [], ◌∷◌, map, max, Option, Some}
+use Rattle.std.specs.Prelude.{None, is_some, Result, Ok, Err, slice_index_or}
 use Rattle.pt_signal.specs.declared.pid.Pid.{Pid}
 use Rattle.pt_signal.specs.declared.letter.Letter.{Letter}
 use Rattle.pt_signal.specs.declared.signal.Signal.{Signal}
@@ -102,6 +103,7 @@ handled l d = written (max d.clock l.stamp + 1) (came l) d
 
 -- the letter is handled, and the answer is who ended by it; a refusal changes nothing
 abbrev pub Handles : Letter → ShardState → Result (Option Pid) Stop → ShardState → Type 0
-Handles l old (Ok ended) new = (max old.clock l.stamp < MAX_STAMP) × (new ≡ handled l old) × (ended ≡ ended_by old (came l))
+Handles l old (Ok ended) new =
+    (max old.clock l.stamp < MAX_STAMP) × (new ≡ handled l old) × (ended ≡ ended_by old (came l))
 Handles l old (Err Worn) new = (MAX_STAMP ≤ max old.clock l.stamp) × (new ≡ old)
 Handles l old (Err Memory) new = (max old.clock l.stamp < MAX_STAMP) × (new ≡ old)

@@ -12,7 +12,8 @@ pub use Rattle.pt_shard.specs.Begun.{Every}
 
 -- p is of the desk, and its version is one that its slot had
 abbrev pub is_issued : Start → ℕ → Past → Pid → Bool
-is_issued start desk past p = (p.shard == desk) && (nat_lt 0 p.version && nat_le p.version (issued_in start past p.slot))
+is_issued start desk past p =
+    (p.shard == desk) && (nat_lt 0 p.version && nat_le p.version (issued_in start past p.slot))
 
 -- those pids were born, and no others
 abbrev pub BornAreIssued : Start → ℕ → Past → Type 0

@@ -14,8 +14,8 @@ use thiserror::Error;
 /// The most slots of a desk.
 pub const MAX_SLOTS: u32 = 65_536;
 
-/// The settings of a node. [`Config::DEFAULT`] has each in its range, and `Config::DEFAULT.with_desks(2)` another number
-/// of desks.
+/// The settings of a node. [`Config::DEFAULT`] has each in its range, and `Config::DEFAULT.with_desks(2)` another
+/// number of desks.
 #[derive(Clone, Copy, Debug, PartialEq, Eq)]
 pub struct Config {
     /// How many desks: 1 to 64.
@@ -113,7 +113,8 @@ impl Config {
 
     /// The first setting that is out of its range, in the order of the fields; none exactly where all are in theirs.
     pub fn out_of_range(&self) -> Option<Setting>
-        ensures { MatchOption result (IsInRange self.now) (λ setting. (¬ IsInRange self.now) × IsFirstOut self.now setting) }
+        ensures { MatchOption result (IsInRange self.now)
+            (λ setting. (¬ IsInRange self.now) × IsFirstOut self.now setting) }
     {
         if !(1..=MAX_DESKS).contains(&self.desks) {
             Some(Setting::Desks)

@@ -14,8 +14,8 @@ pub fn known_to_others()
     ensures { IsKnownToOthers }
 {}
 
-/// A desk has at most 65,536 slots: the definitions of a node's settings cite this limit by its name alone. The limits of
-/// desks and lanes are told by `pt_carrier`, that of stamps by `pt_events`.
+/// A desk has at most 65,536 slots: the definitions of a node's settings cite this limit by its name alone. The limits
+/// of desks and lanes are told by `pt_carrier`, that of stamps by `pt_events`.
 ///
 /// It does nothing: the law is its contract.
 pub fn limits_stand()

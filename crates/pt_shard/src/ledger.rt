@@ -1,6 +1,8 @@
 //! The clock, the journal and the letters of a desk.
 
-ghost use Rattle.std.specs.Prelude.{◌≡◌, ℕ, ◌+◌, ◌-◌, ◌<◌, ◌≤◌, ◌^◌, [], ◌∷◌, max, min, nat_le, length, map, drop, replicate, slice_get, slice_index_or, slice_set, sum_by, count_by, None, IfOk, OnOk, is_some};
+ghost use Rattle.std.specs.Prelude.{◌≡◌, ℕ, ◌+◌, ◌-◌, ◌<◌, ◌≤◌, ◌^◌, [], ◌∷◌, max, min, nat_le, length, map, drop};
+ghost use Rattle.std.specs.Prelude.{replicate, slice_get, slice_index_or, slice_set, sum_by, count_by, None, IfOk};
+ghost use Rattle.std.specs.Prelude.{OnOk, is_some};
 ghost use Rattle.pt_signal.specs.declared.signal.Signal.{Signal};
 ghost use Rattle.pt_signal.specs.Process.{sent};
 ghost use Rattle.pt_events.specs.declared.event.Event.{Event};
@@ -10,7 +12,8 @@ ghost use Rattle.std.specs.Option.{option_to_list};
 ghost use Rattle.pt_shard.specs.ShardState.{came};
 ghost use Rattle.pt_carrier.specs.declared.ends.TheConstants.{MAX_DESKS};
 ghost use Rattle.pt_carrier.specs.Ends.{one_more};
-ghost use Rattle.pt_shard.specs.LedgerState.{Book, wrote, restarted_book, Prepares, HasNoNeed, HasRoomAt, HasRoomFor, HasRoomToAll, is_of};
+ghost use Rattle.pt_shard.specs.LedgerState.{Book, wrote, restarted_book, Prepares, HasNoNeed, HasRoomAt, HasRoomFor};
+ghost use Rattle.pt_shard.specs.LedgerState.{HasRoomToAll, is_of};
 ghost use Rattle.pt_process.specs.Peers.{peers};
 ghost use Rattle.pt_shard.specs.LettersState.{LettersState};
 ghost use Rattle.pt_shard.specs.Outbox.{count_held};
@@ -75,10 +78,14 @@ fn no_letters(alloc: Global, desks: u8) -> Result<Vec<Letters>, AllocError>
 fn reserve_owed(outbox: &mut Vec<Letters>, process: &mut Process) -> Result<(), AllocError>
     requires few { length outbox.old.items ≤ MAX_DESKS }
     requires near { Every (λ q. q.shard < length outbox.old.items) (peers process.old.state) }
-    ensures letters { map (λ (b : LettersState). b.letters) outbox.new.items ≡ map (λ (b : LettersState). b.letters) outbox.old.items }
+    ensures letters { map (λ (b : LettersState). b.letters) outbox.new.items
+        ≡ map (λ (b : LettersState). b.letters) outbox.old.items }
     ensures me { process.new.me ≡ process.old.me }
     ensures state { process.new.state ≡ process.old.state }
-    ensures room { OnOk result ((e : ℕ) → e < length outbox.new.items → count_by (is_of e) (peers process.old.state) ≤ slice_index_or (map (λ (b : LettersState). b.room) outbox.new.items) e 0) }
+    ensures room { OnOk result
+        ((e : ℕ) → e < length outbox.new.items
+        → count_by (is_of e) (peers process.old.state)
+        ≤ slice_index_or (map (λ (b : LettersState). b.room) outbox.new.items) e 0) }
 {
     // How many letters so far, for each desk.
     let mut counts = [0_usize; 64];
@@ -93,7 +100,14 @@ fn reserve_owed(outbox: &mut Vec<Letters>, process: &mut Process) -> Result<(), 
 
 impl Ledger {
     pub fn new(alloc: Global, desk: u8, desks: u8, start: u64) -> Result<Ledger, AllocError>
-        ensures { IfOk result (λ l. l.book ≡ record { start = []; desk = desk; clock = start; journal = []; outbox = replicate desks []; hold = None }) }
+        ensures { IfOk result (λ l. l.book ≡ record {
+          start = [];
+          desk = desk;
+          clock = start;
+          journal = [];
+          outbox = replicate desks [];
+          hold = None;
+        }) }
     {
         Ok(Ledger {
             clock: start,
@@ -228,8 +242,10 @@ impl Ledger {
     fn put(&mut self, letter: Letter)
         requires to { letter.to.shard < length self.old.book.outbox }
         requires room { HasRoomAt letter.to.shard self.old }
-        ensures book { self.new.book ≡ record self.old.book { outbox = one_more self.old.book.outbox letter.to.shard letter } }
-        ensures rooms { self.new.rooms ≡ slice_set self.old.rooms letter.to.shard (slice_index_or self.old.rooms letter.to.shard 0 - 1) }
+        ensures book { self.new.book
+            ≡ record self.old.book { outbox = one_more self.old.book.outbox letter.to.shard letter } }
+        ensures rooms { self.new.rooms
+            ≡ slice_set self.old.rooms letter.to.shard (slice_index_or self.old.rooms letter.to.shard 0 - 1) }
     {
         self.outbox[usize::from(letter.to.shard)].push(letter);
     }
@@ -241,7 +257,9 @@ impl Ledger {
         requires room { 0 < self.old.room }
         requires to { to.shard < length self.old.book.outbox }
         requires letter { HasRoomAt to.shard self.old }
-        ensures { self.new.book ≡ wrote (max self.old.book.clock 0 + 1) (Event.Said from to signal) (letter (max self.old.book.clock 0 + 1) (sent from to signal) ∷ []) self.old.book }
+        ensures { self.new.book
+            ≡ wrote (max self.old.book.clock 0 + 1) (Event.Said from to signal)
+            (letter (max self.old.book.clock 0 + 1) (sent from to signal) ∷ []) self.old.book }
     {
         let stamp = self.write(0, Event::Said(from, to, signal));
         self.put(Letter {
@@ -259,7 +277,10 @@ impl Ledger {
         requires room { 0 < self.old.room }
         requires from { letter.now.from.shard < length self.old.book.outbox }
         requires letter { HasRoomFor back letter.now.from.shard self.old }
-        ensures { self.new.book ≡ wrote (max self.old.book.clock letter.now.stamp + 1) (came letter.now) (map (stamp_letter (max self.old.book.clock letter.now.stamp + 1)) (map (sent letter.now.to letter.now.from) (option_to_list back))) self.old.book }
+        ensures { self.new.book
+            ≡ wrote (max self.old.book.clock letter.now.stamp + 1) (came letter.now)
+            (map (stamp_letter (max self.old.book.clock letter.now.stamp + 1))
+            (map (sent letter.now.to letter.now.from) (option_to_list back))) self.old.book }
     {
         let event = Event::Came(letter.from, letter.to, letter.signal);
         let stamp = self.write(letter.stamp, event);
@@ -281,7 +302,9 @@ impl Ledger {
         requires from { estate.now.from ≡ from }
         requires to { Every (λ l. l.to.shard < length self.old.book.outbox) estate.now.owed }
         requires letters { HasRoomToAll (map (λ l. l.to) estate.now.owed) self.old }
-        ensures { self.new.book ≡ wrote (max self.old.book.clock floor + 1) event (map (letter (max self.old.book.clock floor + 1)) estate.now.owed) self.old.book }
+        ensures { self.new.book
+            ≡ wrote (max self.old.book.clock floor + 1) event
+            (map (letter (max self.old.book.clock floor + 1)) estate.now.owed) self.old.book }
     {
         let stamp = self.write(floor, event);
         for i in 0..estate.len() {
@@ -319,7 +342,11 @@ impl Ledger {
     pub fn next_out(&mut self, to: u8) -> Option<Letter>
         requires { to < length self.old.book.outbox }
         ensures first { result ≡ slice_get (slice_index_or self.old.book.outbox to []) 0 }
-        ensures rest { self.new.book ≡ record self.old.book { outbox = slice_set self.old.book.outbox to (drop 1 (slice_index_or self.old.book.outbox to [])) } }
+        ensures rest { self.new.book
+            ≡ record self.old.book {
+              outbox = slice_set self.old.book.outbox to
+                  (drop 1 (slice_index_or self.old.book.outbox to []));
+            } }
     {
         self.outbox[usize::from(to)].pop()
     }

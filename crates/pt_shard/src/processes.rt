@@ -117,7 +117,8 @@ impl Processes {
     pub fn admit(&mut self, process: Process) -> Result<(), AllocError>
         requires { IsSome (next_key self.old.table) }
         ensures desk { self.new.desk ≡ self.old.desk }
-        ensures ok { OnOk result (IfSome (next_key self.old.table) (λ key. Inserted process key self.old.table self.new.table)) }
+        ensures ok { OnOk result
+            (IfSome (next_key self.old.table) (λ key. Inserted process key self.old.table self.new.table)) }
         ensures err { OnErr result (self.new ≡ self.old) }
     {
         match self.table.insert(process) {

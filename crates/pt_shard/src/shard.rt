@@ -1,6 +1,7 @@
 //! A desk without its lanes.
 
-ghost use Rattle.std.specs.Prelude.{◌≡◌, true, ◌<◌, ◌≤◌, ◌^◌, ◌-◌, min, max, drop, length, slice_get, Some, None, IfSome, IsSome, IfOk, OnOk, cond, is_some};
+ghost use Rattle.std.specs.Prelude.{◌≡◌, true, ◌<◌, ◌≤◌, ◌^◌, ◌-◌, min, max, drop, length, slice_get, Some, None};
+ghost use Rattle.std.specs.Prelude.{IfSome, IsSome, IfOk, OnOk, cond, is_some};
 ghost use Rattle.std.specs.Option.{option_copied};
 ghost use Rattle.pt_signal.specs.declared.signal.Signal.{Signal};
 ghost use Rattle.pt_events.specs.declared.event.Event.{Event};
@@ -15,7 +16,8 @@ ghost use Rattle.pt_shard.specs.Reading.{read_of};
 ghost use Rattle.pt_shard.specs.Extends.{Extends};
 ghost use Rattle.pt_shard.specs.Fit.{IsFit};
 ghost use Rattle.pt_shard.specs.Outbox.{sent_on, holding, count_pending};
-ghost use Rattle.pt_shard.specs.Calls.{Calls, Monitors, Bears, BearsChild, link_event, unlink_event, first_match, take_event, demonitor_event, held_by, new_ref, Refuses};
+ghost use Rattle.pt_shard.specs.Calls.{Calls, Monitors, Bears, BearsChild, link_event, unlink_event, first_match};
+ghost use Rattle.pt_shard.specs.Calls.{take_event, demonitor_event, held_by, new_ref, Refuses};
 ghost use Rattle.pt_shard.specs.Plain.{IsPlain};
 ghost use Rattle.pt_signal.specs.Process.{answer_of_dead};
 ghost use Rattle.std.specs.List.{find};
@@ -25,7 +27,8 @@ ghost use Rattle.pt_process.specs.Peers.{peers};
 ghost use Rattle.pt_shard.specs.Sound.{Every};
 ghost use Rattle.pt_shard.specs.Processes.{in_place};
 ghost use Rattle.pt_events.specs.declared.event.TheConstants.{MAX_STAMP};
-ghost use Rattle.pt_shard.specs.Acts.{Acts, Tells, PreparesBirth, TakesIn, GivesBack, PreparesEnding, IsReadyToEnd, EndsBy, taking, linking, unlinking, giving_up, ref_after};
+ghost use Rattle.pt_shard.specs.Acts.{Acts, Tells, PreparesBirth, TakesIn, GivesBack, PreparesEnding, IsReadyToEnd};
+ghost use Rattle.pt_shard.specs.Acts.{EndsBy, taking, linking, unlinking, giving_up, ref_after};
 
 use crate::config::Config;
 use crate::fault::Fault;
@@ -40,8 +43,8 @@ use std::marker::Model;
 
 /// A desk without its lanes: its processes, its clock and journal, and the letters that wait in it.
 ///
-/// A call writes its event, changes the process that makes it, and puts letters out; what it is to the other process, in
-/// Erlang's words, the desk's call of the same name says.
+/// A call writes its event, changes the process that makes it, and puts letters out; what it is to the other process,
+/// in Erlang's words, the desk's call of the same name says.
 #[derive(Drop)]
 pub struct Shard {
     alloc: Global,
@@ -165,8 +168,8 @@ impl Shard {
         self.processes.find(p)?.linked(q)
     }
 
-    /// The process p, to be read: its links, its open monitors and its watchers by place, its mailbox and its flag; `None`
-    /// where it does not live here.
+    /// The process p, to be read: its links, its open monitors and its watchers by place, its mailbox and its flag;
+    /// `None` where it does not live here.
     pub fn process(&self, p: Pid) -> Option<&Process>
         ensures { read_of (option_copied result) ≡ cond (lives self.now p) (Some (p, state_in self.now p)) None }
     {
@@ -198,8 +201,8 @@ impl Shard {
 
     /// The target of a call is known: its caller has proved so.
     ///
-    /// A trial run has proved nothing: it stops here, and names the call. A built program tests nothing, since the test is
-    /// inlined and cannot fail.
+    /// A trial run has proved nothing: it stops here, and names the call. A built program tests nothing, since the test
+    /// is inlined and cannot fail.
     #[inline(always)]
     pub fn expect_known(&self, target: Pid)
         requires { knows self.now target ≡ true }
@@ -242,8 +245,8 @@ impl Shard {
         self.say(from, to, Signal::Exit(reason))
     }
 
-    /// Enters p's own half of a link, and puts the letter out that enters the other. Nothing happens where p is the target,
-    /// or holds a link with it.
+    /// Enters p's own half of a link, and puts the letter out that enters the other. Nothing happens where p is the
+    /// target, or holds a link with it.
     ///
     /// Refused as `Gone`, `Worn` or `Memory`.
     pub fn link(&mut self, p: Pid, to: Pid) -> Result<(), Fault>
@@ -259,7 +262,8 @@ impl Shard {
         keep_link(process, &mut self.ledger, p, to)
     }
 
-    /// Takes p's own half of a link out, and puts the letter out that takes the other. Nothing happens where there is none.
+    /// Takes p's own half of a link out, and puts the letter out that takes the other. Nothing happens where there is
+    /// none.
     ///
     /// Refused as `Gone`, `Worn` or `Memory`.
     pub fn unlink(&mut self, p: Pid, to: Pid) -> Result<(), Fault>
@@ -289,8 +293,8 @@ impl Shard {
         set_flag(process, &mut self.ledger, p, on)
     }
 
-    /// Takes the first item that fits out of the mailbox of p, and writes it down; `Ok(None)` says that nothing fits, and has
-    /// no event.
+    /// Takes the first item that fits out of the mailbox of p, and writes it down; `Ok(None)` says that nothing fits,
+    /// and has no event.
     ///
     /// Refused as `Gone`, or where an item fits, as `Worn` or `Memory`.
     pub fn receive(&mut self, p: Pid, pick: Pick) -> Result<Option<Item>, Fault>
@@ -328,7 +332,8 @@ impl Shard {
     ///
     /// Refused as `Gone`, or where there is an event to write, as `Worn` or `Memory`.
     pub fn demonitor(&mut self, w: Pid, monitor: Ref, flush: bool) -> Result<bool, Fault>
-        ensures does { Calls w (demonitor_event self.old w monitor flush) (is_some (demonitor_event self.old w monitor flush)) self.old result self.new }
+        ensures does { Calls w (demonitor_event self.old w monitor flush)
+            (is_some (demonitor_event self.old w monitor flush)) self.old result self.new }
         ensures extends { Extends self.old self.new }
         ensures fit { IsFit self.new }
     {
@@ -343,7 +348,8 @@ impl Shard {
     /// Refused as `Gone`, `Worn` or `Memory`.
     pub fn ask_alive(&mut self, p: Pid, t: Pid) -> Result<Ref, Fault>
         requires { knows self.old t ≡ true }
-        ensures does { Calls p (Some (Event.Said p t (Signal.AliveAsk (new_ref self.old)))) (new_ref self.old) self.old result self.new }
+        ensures does { Calls p (Some (Event.Said p t (Signal.AliveAsk (new_ref self.old))))
+            (new_ref self.old) self.old result self.new }
         ensures extends { Extends self.old self.new }
         ensures fit { IsFit self.new }
     {
@@ -357,8 +363,8 @@ impl Shard {
     /// Refuses a call of p to t, of whose end at this stamp the desk has seen: t is not sent anything, and the journal
     /// notes it, stamped above that end too.
     ///
-    /// The answer is `NoProc`, or `Worn` where that stamp would pass the limit of clocks, else `Memory`; after these two
-    /// the desk is as it was.
+    /// The answer is `NoProc`, or `Worn` where that stamp would pass the limit of clocks, else `Memory`; after these
+    /// two the desk is as it was.
     #[cold]
     #[inline(never)]
     pub fn refuse(&mut self, p: Pid, t: Pid, seen: u64) -> Fault
@@ -377,9 +383,9 @@ impl Shard {
         }
     }
 
-    /// Takes p out of its slot, which is free for its next version, or retired where p had the top one, and puts out what it
-    /// owes: an exit signal to each linked process, a DOWN to each watcher, and to the target of each open monitor that it is
-    /// watched no more.
+    /// Takes p out of its slot, which is free for its next version, or retired where p had the top one, and puts out
+    /// what it owes: an exit signal to each linked process, a DOWN to each watcher, and to the target of each open
+    /// monitor that it is watched no more.
     ///
     /// Refused as `Gone`, `Worn` or `Memory`.
     pub fn exit(&mut self, p: Pid, reason: Reason) -> Result<(), Fault>
@@ -588,7 +594,8 @@ fn tell(ledger: &mut Ledger, from: Pid, to: Pid, signal: Signal) -> Result<(), F
 /// Writes down that a process asks whether another is alive, sends the question, and answers its reference.
 fn ask(ledger: &mut Ledger, p: Pid, t: Pid) -> Result<Ref, Fault>
     requires { t.shard < length ledger.old.book.outbox }
-    ensures { Tells (Event.Said p t (Signal.AliveAsk (ref_after ledger.old.book))) (ref_after ledger.old.book) ledger.old result ledger.new }
+    ensures { Tells (Event.Said p t (Signal.AliveAsk (ref_after ledger.old.book)))
+        (ref_after ledger.old.book) ledger.old result ledger.new }
 {
     ledger.prepare_letter(0, t)?;
     let question = ledger.next_ref();
@@ -598,7 +605,8 @@ fn ask(ledger: &mut Ledger, p: Pid, t: Pid) -> Result<Ref, Fault>
 
 /// Sets the flag of a process, writes it down, and answers what it was.
 fn set_flag(process: &mut Process, ledger: &mut Ledger, p: Pid, on: bool) -> Result<bool, Fault>
-    ensures { Acts (Some (Event.Flag p on)) process.old.state.traps process.old ledger.old result process.new ledger.new }
+    ensures { Acts
+        (Some (Event.Flag p on)) process.old.state.traps process.old ledger.old result process.new ledger.new }
 {
     ledger.prepare(0)?;
     let before = process.set_trap(on);
@@ -609,7 +617,8 @@ fn set_flag(process: &mut Process, ledger: &mut Ledger, p: Pid, on: bool) -> Res
 /// Enters the half of a link that a process keeps, and says it to the other, unless there is such a link.
 fn keep_link(process: &mut Process, ledger: &mut Ledger, p: Pid, to: Pid) -> Result<(), Fault>
     requires { to.shard < length ledger.old.book.outbox }
-    ensures { Acts (linking p to ledger.old.book process.old.state) tt process.old ledger.old result process.new ledger.new }
+    ensures { Acts
+        (linking p to ledger.old.book process.old.state) tt process.old ledger.old result process.new ledger.new }
 {
     if p == to || process.linked(to).is_some() {
         return Ok(());
@@ -639,7 +648,8 @@ fn drop_link(process: &mut Process, ledger: &mut Ledger, p: Pid, to: Pid) -> Res
 fn open_monitor(process: &mut Process, ledger: &mut Ledger, w: Pid, t: Pid) -> Result<Ref, Fault>
     requires near { t.shard < length ledger.old.book.outbox }
     requires new { lookup (same_ref (ref_after ledger.old.book)) process.old.state.watching ≡ None }
-    ensures { Acts (Some (Event.Said w t (Signal.Monitor (ref_after ledger.old.book)))) (ref_after ledger.old.book) process.old ledger.old result process.new ledger.new }
+    ensures { Acts (Some (Event.Said w t (Signal.Monitor (ref_after ledger.old.book))))
+        (ref_after ledger.old.book) process.old ledger.old result process.new ledger.new }
 {
     ledger.prepare_letter(0, t)?;
     let monitor = ledger.next_ref();
@@ -657,8 +667,10 @@ fn close_monitor(
     monitor: Ref,
     flush: bool,
 ) -> Result<bool, Fault>
-    requires { IfSome (lookup (same_ref monitor) process.old.state.watching) (λ t. t.shard < length ledger.old.book.outbox) }
-    ensures { Acts (giving_up w monitor flush process.old.state) (is_some (giving_up w monitor flush process.old.state)) process.old ledger.old result process.new ledger.new }
+    requires { IfSome (lookup (same_ref monitor) process.old.state.watching)
+        (λ t. t.shard < length ledger.old.book.outbox) }
+    ensures { Acts (giving_up w monitor flush process.old.state)
+        (is_some (giving_up w monitor flush process.old.state)) process.old ledger.old result process.new ledger.new }
 {
     let Some(t) = process.target_of(monitor) else {
         if !flush {
@@ -681,7 +693,8 @@ fn take(
     p: Pid,
     pick: Pick,
 ) -> Result<Option<Item>, Fault>
-    ensures { Acts (taking p pick process.old.state) (find (fits pick) process.old.state.waiting) process.old ledger.old result process.new ledger.new }
+    ensures { Acts (taking p pick process.old.state)
+        (find (fits pick) process.old.state.waiting) process.old ledger.old result process.new ledger.new }
 {
     let Some(place) = process.place(pick) else {
         return Ok(None);

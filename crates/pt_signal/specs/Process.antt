@@ -1,5 +1,6 @@
 -- One process alone: what it holds, what a signal does to it while it lives, and what it owes at its end.
-use Rattle.std.specs.Prelude.{Bool, true, false, cond, not, ◌&&◌, Option, Some, None, List, [], ◌∷◌, ◌++◌, map, filter, option_to_list}
+use Rattle.std.specs.Prelude.{Bool, true, false, cond, not, ◌&&◌, Option, Some, None, List, [], ◌∷◌, ◌++◌, map, filter}
+use Rattle.std.specs.Prelude.{option_to_list}
 use Rattle.std.specs.Map.{lookup, remove_entry, set_value}
 use Rattle.std.specs.List.{list_any}
 use Rattle.pt_signal.specs.declared.pid.Pid.{Pid}
@@ -11,7 +12,8 @@ use Rattle.pt_signal.specs.declared.item.Item.TheVariants.{User}
 use Rattle.pt_signal.specs.declared.reason.Reason.{Reason}
 use Rattle.pt_signal.specs.declared.reason.Reason.TheVariants.{Normal, Kill, Killed, Noproc}
 use Rattle.pt_signal.specs.declared.signal.Signal.{Signal}
-use Rattle.pt_signal.specs.declared.signal.Signal.TheVariants.{Message, Link, Unlink, LinkExit, Monitor, Demonitor, AliveAsk, AliveSay}
+use Rattle.pt_signal.specs.declared.signal.Signal.TheVariants.{Message, Link, Unlink, LinkExit, Monitor, Demonitor}
+use Rattle.pt_signal.specs.declared.signal.Signal.TheVariants.{AliveAsk, AliveSay}
 use Rattle.pt_signal.specs.Values.{same_pid, same_ref, same_link, without_first}
 
 -- what a live process holds, each list in order of entry
@@ -137,7 +139,12 @@ abbrev pub stays : ProcessState → Handled
 stays s = record { state = s; items = []; answer = []; ending = None }
 
 abbrev pub queued : Item → ProcessState → Handled
-queued item s = record { state = record s { waiting = s.waiting ++ item ∷ [] }; items = item ∷ []; answer = []; ending = None }
+queued item s = record {
+  state = record s { waiting = s.waiting ++ item ∷ [] };
+  items = item ∷ [];
+  answer = [];
+  ending = None;
+}
 
 abbrev pub answers : Sent → ProcessState → Handled
 answers back s = record { state = s; items = []; answer = back ∷ []; ending = None }
@@ -149,11 +156,13 @@ obey (ends r) s = record { state = s; items = []; answer = []; ending = Some r }
 
 abbrev pub link_exit : Bool → Pid → ProcessState → Pid → Reason → Handled
 link_exit false me s from r = stays s
-link_exit true me s from r = obey (verdict true s.traps (same_pid from me) from r) (record s { links = remove_entry (same_pid from) s.links })
+link_exit true me s from r =
+    obey (verdict true s.traps (same_pid from me) from r) (record s { links = remove_entry (same_pid from) s.links })
 
 abbrev pub down : Option Pid → ProcessState → Pid → Ref → Reason → Handled
 down None s from m r = stays s
-down (Some target) s from m r = queued (Item.Down m from r) (record s { watching = remove_entry (same_ref m) s.watching })
+down (Some target) s from m r =
+    queued (Item.Down m from r) (record s { watching = remove_entry (same_ref m) s.watching })
 
 abbrev pub handle : Pid → ProcessState → Pid → Signal → Handled
 handle me s from (Message b) = queued (User from b) s

@@ -12,7 +12,8 @@ use Rattle.pt_signal.specs.declared.item.Pick.{Pick}
 use Rattle.pt_signal.specs.declared.item.Item.{Item}
 use Rattle.pt_signal.specs.declared.item.Item.TheVariants.{User}
 use Rattle.pt_signal.specs.declared.signal.Signal.{Signal}
-use Rattle.pt_signal.specs.declared.signal.Signal.TheVariants.{Message, Link, Unlink, LinkExit, Monitor, Demonitor, AliveAsk, AliveSay}
+use Rattle.pt_signal.specs.declared.signal.Signal.TheVariants.{Message, Link, Unlink, LinkExit, Monitor, Demonitor}
+use Rattle.pt_signal.specs.declared.signal.Signal.TheVariants.{AliveAsk, AliveSay}
 use Rattle.pt_signal.specs.declared.letter.Letter.{Letter}
 
 -- `<shard.slot.version>`
@@ -60,7 +61,8 @@ unfoldable pub item_text : Item → List ℕ
 item_text (User from body) = codes "user " ++ pid_text from ++ codes " " ++ body_text body
 item_text (Item.Exit from r) = codes "exit " ++ pid_text from ++ codes " " ++ reason_text r
 item_text (Item.Down m from r) = codes "down " ++ ref_text m ++ codes " " ++ pid_text from ++ codes " " ++ reason_text r
-item_text (Item.Alive m from x) = codes "alive " ++ ref_text m ++ codes " " ++ pid_text from ++ codes " " ++ yes_or_no_text x
+item_text (Item.Alive m from x) =
+    codes "alive " ++ ref_text m ++ codes " " ++ pid_text from ++ codes " " ++ yes_or_no_text x
 
 unfoldable pub pick_text : Pick → List ℕ
 pick_text Pick.Any = codes "any"

@@ -1,5 +1,6 @@
 -- What each call of a `Slots` does.
-use Rattle.std.specs.Prelude.{◌≡◌, ℕ, ◌+◌, ◌<◌, ◌≤◌, ◌==◌, ◌&&◌, Bool, Option, Some, None, Result, Ok, Err, IsSome, if◌then◌else◌}
+use Rattle.std.specs.Prelude.{◌≡◌, ℕ, ◌+◌, ◌<◌, ◌≤◌, ◌==◌, ◌&&◌, Bool, Option, Some, None, Result, Ok, Err, IsSome}
+use Rattle.std.specs.Prelude.{if◌then◌else◌}
 use Rattle.pt_slots.specs.State.{SlotsState, at, issued, live_count, retired_count, next_key}
 use Rattle.pt_slots.specs.Offers.{OffersTheFree}
 use Rattle.pt_slots.specs.declared.InsertError.{InsertError}

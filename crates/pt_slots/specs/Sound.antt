@@ -14,7 +14,9 @@ module _ {T : Type 0} where
     pub none_past : (slot : ℕ) → length s.versions ≤ slot → slice_index_or s.slots slot None ≡ None
     pub slots_fit : length s.versions ≤ s.capacity
     pub slots_stored : length s.versions ≤ room
-    pub retired_at_top : (slot : ℕ) → slice_index_or s.slots slot None ≡ Some None → slice_index_or s.versions slot 0 ≡ s.top_version
+    pub retired_at_top : (slot : ℕ) → slice_index_or s.slots slot None ≡ Some None
+        → slice_index_or s.versions slot 0 ≡ s.top_version
     pub issued_fits : (slot : ℕ) → slice_index_or s.versions slot 0 ≤ s.top_version
     -- so a free slot has a version left
-    pub free_below_top : (slot : ℕ) → slice_index_or s.slots slot None ≡ None → slice_index_or s.versions slot 0 < s.top_version
+    pub free_below_top : (slot : ℕ) → slice_index_or s.slots slot None ≡ None
+        → slice_index_or s.versions slot 0 < s.top_version

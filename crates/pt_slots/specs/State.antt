@@ -1,5 +1,6 @@
 -- What a contract sees of a `Slots`.
-use Rattle.std.specs.Prelude.{ℕ, suc, ◌+◌, ◌==◌, ◌&&◌, not, nat_lt, Bool, true, false, List, [], ◌∷◌, Option, Some, None, is_some, unwrap_or, count_by, slice_index_or, slice_set, if◌then◌else◌}
+use Rattle.std.specs.Prelude.{ℕ, suc, ◌+◌, ◌==◌, ◌&&◌, not, nat_lt, Bool, true, false, List, [], ◌∷◌, Option, Some}
+use Rattle.std.specs.Prelude.{None, is_some, unwrap_or, count_by, slice_index_or, slice_set, if◌then◌else◌}
 use Rattle.slab.specs.Slab.{Slab}
 use Rattle.pt_slots.specs.declared.Key.{Key}
 

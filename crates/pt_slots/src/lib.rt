@@ -43,11 +43,13 @@
 //! with insertions cost a tenth to a quarter more, for the wider entries. The README has the figures.
 #![tactic(auto)]
 
-ghost use Rattle.std.specs.Prelude.{◌≡◌, ℕ, ◌<◌, ◌≤◌, ◌^◌, Some, IsSome, OnSome, IsOkAnd, OnOk, OnErr, is_some, option_copied, count_by, slice_index_or, vec_len};
+ghost use Rattle.std.specs.Prelude.{◌≡◌, ℕ, ◌<◌, ◌≤◌, ◌^◌, Some, IsSome, OnSome, IsOkAnd, OnOk, OnErr, is_some};
+ghost use Rattle.std.specs.Prelude.{option_copied, count_by, slice_index_or, vec_len};
 ghost use Rattle.std.specs.Option.{option_copied_mut};
 ghost use Rattle.std.specs.Borrow.{Lends, sem};
 ghost use Rattle.std.specs.Option.Follows.{option_follows_value};
-ghost use Rattle.pt_slots.specs.State.{at, issued, live_count, retired_count, first_free, free_slot, next_key, with_value};
+ghost use Rattle.pt_slots.specs.State.{at, issued, live_count, retired_count, first_free, free_slot, next_key};
+ghost use Rattle.pt_slots.specs.State.{with_value};
 ghost use Rattle.pt_slots.specs.Offers.{OffersTheFree};
 ghost use Rattle.pt_slots.specs.Calls.{IsEmpty, Inserts, Removes, Written};
 ghost use Rattle.pt_slots.specs.Grows.{Grows};

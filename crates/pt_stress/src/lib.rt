@@ -1,9 +1,10 @@
 //! Nodes and their workers, as tests: the settings that open a node, workers on two threads, and nodes under stress.
 //!
 //! The stress is 40 nodes of 8 desks on 8 threads, each with 64 processes at first that call each other at random,
-//! 200,000 calls in all, gathered while letters are on their way. What every node keeps whatever the threads do, `gather`
-//! and `settle` promise. Here the judge of histories, which shares with a desk no more than the values of `pt_signal`,
-//! sees that the histories of such runs are lawful, and that what it finds on its way is what is left over.
+//! 200,000 calls in all, gathered while letters are on their way. What every node keeps whatever the threads do,
+//! `gather` and `settle` promise. Here the judge of histories, which shares with a desk no more than the values of
+//! `pt_signal`, sees that the histories of such runs are lawful, and that what it finds on its way is what is left
+//! over.
 #![tactic(auto)]
 
 #[cfg(test)]

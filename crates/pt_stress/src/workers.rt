@@ -1,5 +1,5 @@
-//! Workers: that those of `run` are on two threads, that letters pass between them, that a turn that stops ends none, and
-//! that their gate is asked before each turn and told after it.
+//! Workers: that those of `run` are on two threads, that letters pass between them, that a turn that stops ends none,
+//! and that their gate is asked before each turn and told after it.
 
 ghost use Rattle.std.specs.Prelude.{◌≡◌, map};
 ghost use Rattle.pt_desk.specs.DeskState.{GoesOn};

@@ -1,4 +1,5 @@
-//! The tests of all layers and recipes, through the public calls of each; nodes under stress have theirs in `pt_stress`.
+//! The tests of all layers and recipes, through the public calls of each; nodes under stress have theirs in
+//! `pt_stress`.
 //!
 //! | Module | Tests of |
 //! |---|---|
@@ -8,8 +9,8 @@
 //! | `crews` | the crews of `pt_crew`: processes that run code |
 //! | `scripts` | scripts, from their text to what is printed of a run |
 //!
-//! A crate with tests is proved twice, once without them, and reads all that is below it before its first function; so the
-//! tests of all these stand here together.
+//! A crate with tests is proved twice, once without them, and reads all that is below it before its first function; so
+//! the tests of all these stand here together.
 #![tactic(auto)]
 
 #[cfg(test)]

@@ -294,8 +294,8 @@ fn a_node_without_desks_is_refused(rt: HostRuntime) -> Result<(), Fail> {
     Ok(())
 }
 
-/// Who is on a seat has done all that it had to do: the room when all guests have left, and each guest has heard no more
-/// words than were said, and has none left.
+/// Who is on a seat has done all that it had to do: the room when all guests have left, and each guest has heard no
+/// more words than were said, and has none left.
 fn is_done<R: Abort>(rt: &R, seat: &Seat) {
     assert_eq!(rt; seat.standing, Standing::Done);
     match &seat.who {

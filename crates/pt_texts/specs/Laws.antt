@@ -1,9 +1,11 @@
 -- No two values print alike.
 use Rattle.std.specs.Prelude.{◌≡◌, ℕ, List}
-use Rattle.pt_signal.specs.Text.{pid_text, ref_text, link_id_text, ids_text, body_text, reason_text, item_text, pick_text, signal_text, letter_text}
+use Rattle.pt_signal.specs.Text.{pid_text, ref_text, link_id_text, ids_text, body_text, reason_text, item_text}
+use Rattle.pt_signal.specs.Text.{pick_text, signal_text, letter_text}
 use Rattle.pt_events.specs.Text.{event_text, stamped_text}
 use Rattle.pt_texts.specs.Text.{left_over_text}
-use Rattle.pt_texts.specs.Fits.{FitsPid, FitsRef, FitsLinkId, FitsIds, FitsBody, FitsReason, FitsItem, FitsPick, FitsSignal, FitsLetter, FitsEvent, FitsStamped, FitsLeftOver}
+use Rattle.pt_texts.specs.Fits.{FitsPid, FitsRef, FitsLinkId, FitsIds, FitsBody, FitsReason, FitsItem, FitsPick}
+use Rattle.pt_texts.specs.Fits.{FitsSignal, FitsLetter, FitsEvent, FitsStamped, FitsLeftOver}
 
 -- values whose texts are the same are the same
 abbrev pub PrintsApart : {A : Type 0} → (A → Type 0) → (A → List ℕ) → Type 0

@@ -13,7 +13,8 @@ abbrev pub finished : {A : Type 0} → List ℕ → Read A → Result A Refused
 finished text read = told text (read >>= ended)
 
 pub record Parses
-    {A : Type 0} (Fits : A → Type 0) (print : A → List ℕ) (reader : Reader A) (text : List ℕ) (result : Result A Refused)
+    {A : Type 0} (Fits : A → Type 0) (print : A → List ℕ) (reader : Reader A) (text : List ℕ)
+    (result : Result A Refused)
     : Type 0 where
   -- the text is what the value prints that was found
   pub found : IfOk result (λ v. (text ≡ print v) × Fits v)

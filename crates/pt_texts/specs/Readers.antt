@@ -11,7 +11,8 @@ use Rattle.pt_signal.specs.declared.item.Pick.{Pick}
 use Rattle.pt_signal.specs.declared.item.Item.{Item}
 use Rattle.pt_signal.specs.declared.item.Item.TheVariants.{User}
 use Rattle.pt_signal.specs.declared.signal.Signal.{Signal}
-use Rattle.pt_signal.specs.declared.signal.Signal.TheVariants.{Message, Link, Unlink, LinkExit, Monitor, Demonitor, AliveAsk, AliveSay}
+use Rattle.pt_signal.specs.declared.signal.Signal.TheVariants.{Message, Link, Unlink, LinkExit, Monitor, Demonitor}
+use Rattle.pt_signal.specs.declared.signal.Signal.TheVariants.{AliveAsk, AliveSay}
 use Rattle.pt_signal.specs.declared.letter.Letter.{Letter}
 use Rattle.pt_events.specs.declared.event.Event.{Event}
 use Rattle.pt_events.specs.declared.event.Event.TheVariants.{Born, Said, Came, Took, Flag, Left, Refused}
@@ -22,7 +23,8 @@ use Rattle.pt_texts.specs.Numbers.{u8_at, u32_at, u64_at, i64_at}
 
 unfoldable pub pid_at : Reader Pid
 pid_at = mapped (λ x. record { shard = x.0; slot = x.1.0; version = x.1.1 })
-    (before (codes "<") (closed (pair u8_at (before (codes ".") (pair u32_at (before (codes ".") u32_at)))) (codes ">")))
+    (before (codes "<")
+    (closed (pair u8_at (before (codes ".") (pair u32_at (before (codes ".") u32_at)))) (codes ">")))
 
 unfoldable pub ref_at : Reader Ref
 ref_at =
@@ -62,9 +64,11 @@ item_at =
     or_else (codes "user ") (mapped (λ x. User x.0 x.1) (pair pid_at (before (codes " ") body_at)))
     (or_else (codes "exit ") (mapped (λ x. Item.Exit x.0 x.1) (pair pid_at (before (codes " ") reason_at)))
     (or_else (codes "down ")
-    (mapped (λ x. Item.Down x.0 x.1.0 x.1.1) (pair ref_at (before (codes " ") (pair pid_at (before (codes " ") reason_at)))))
+    (mapped (λ x. Item.Down x.0 x.1.0 x.1.1)
+    (pair ref_at (before (codes " ") (pair pid_at (before (codes " ") reason_at)))))
     (or_else (codes "alive ")
-    (mapped (λ x. Item.Alive x.0 x.1.0 x.1.1) (pair ref_at (before (codes " ") (pair pid_at (before (codes " ") yes_or_no_at)))))
+    (mapped (λ x. Item.Alive x.0 x.1.0 x.1.1)
+    (pair ref_at (before (codes " ") (pair pid_at (before (codes " ") yes_or_no_at)))))
     none_of_these)))
 
 unfoldable pub pick_at : Reader Pick
@@ -116,7 +120,8 @@ event_at =
     or_else (codes "said ") (mapped (λ x. Said x.0.0 x.0.1 x.1) (pair route_at (before (codes " ") signal_at)))
     (or_else (codes "came ") (mapped (λ x. Came x.0.0 x.0.1 x.1) (pair route_at (before (codes " ") signal_at)))
     (or_else (codes "took ")
-    (mapped (λ x. Took x.0 x.1.0 x.1.1) (pair pid_at (before (codes " ") (pair pick_at (before (codes " = ") item_at)))))
+    (mapped (λ x. Took x.0 x.1.0 x.1.1)
+    (pair pid_at (before (codes " ") (pair pick_at (before (codes " = ") item_at)))))
     (or_else (codes "born ") birth_at
     (or_else (codes "left ") (mapped (λ x. Left x.0 x.1) (pair pid_at (before (codes " ") reason_at)))
     (or_else (codes "flag ") (mapped (λ x. Flag x.0 x.1) (pair pid_at (before (codes " ") switch_at)))

@@ -1,12 +1,15 @@
 //! Whole texts.
 
-ghost use Rattle.pt_signal.specs.Text.{pid_text, ref_text, link_id_text, ids_text, body_text, reason_text, item_text, pick_text, signal_text, letter_text};
+ghost use Rattle.pt_signal.specs.Text.{pid_text, ref_text, link_id_text, ids_text, body_text, reason_text, item_text};
+ghost use Rattle.pt_signal.specs.Text.{pick_text, signal_text, letter_text};
 ghost use Rattle.pt_events.specs.Text.{event_text, stamped_text};
 ghost use Rattle.pt_texts.specs.Text.{left_over_text};
 ghost use Rattle.std.specs.Prelude.{◌≡◌};
 ghost use Rattle.pt_texts.specs.Steps.{Read as Got, Gives};
-ghost use Rattle.pt_texts.specs.Readers.{pid_at, ref_at, link_id_at, ids_at, body_at, reason_at, item_at, pick_at, signal_at, letter_at, event_at, stamped_at, left_over_at};
-ghost use Rattle.pt_texts.specs.Fits.{FitsPid, FitsRef, FitsLinkId, FitsIds, FitsBody, FitsReason, FitsItem, FitsPick, FitsSignal, FitsLetter, FitsEvent, FitsStamped, FitsLeftOver};
+ghost use Rattle.pt_texts.specs.Readers.{pid_at, ref_at, link_id_at, ids_at, body_at, reason_at, item_at, pick_at};
+ghost use Rattle.pt_texts.specs.Readers.{signal_at, letter_at, event_at, stamped_at, left_over_at};
+ghost use Rattle.pt_texts.specs.Fits.{FitsPid, FitsRef, FitsLinkId, FitsIds, FitsBody, FitsReason, FitsItem, FitsPick};
+ghost use Rattle.pt_texts.specs.Fits.{FitsSignal, FitsLetter, FitsEvent, FitsStamped, FitsLeftOver};
 ghost use Rattle.pt_texts.specs.Parsing.{Parses, finished};
 
 use crate::events::{event_at, stamped_at};

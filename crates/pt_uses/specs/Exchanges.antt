@@ -37,7 +37,8 @@ Exchanges old r new =
     AndThen (OnDesk (Bears None None) old)
     (λ ping first. AndThen (OnDesk (Bears None None) first)
     (λ pong both. AndThen (HandsOver ping pong (message ASK (pos 7)) (Pick.Kind ASK) both)
-    (λ _ asked. AndThen (HandsOver pong ping (message ANSWER (pos 8)) (Pick.From pong) asked) (λ _. Idles (tt {0}))))) r new
+    (λ _ asked. AndThen (HandsOver pong ping (message ANSWER (pos 8)) (Pick.From pong) asked) (λ _. Idles (tt {0}))))) r
+    new
 
 -- the exchange happened on the first of the desks
 abbrev pub ExchangesOnFirst : List DeskState → Result (Unit {0}) Fault → List DeskState → Type 0

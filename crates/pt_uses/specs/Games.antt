@@ -1,5 +1,6 @@
 -- What happens in a game. Beside a desk stands the health of a monster, or the monsters, each with its health.
-use Rattle.std.specs.Prelude.{◌≡◌, ℕ, ℤ, pos, ◌-ℤ◌, int_le, Bool, MatchBool, is_some, List, length, slice_get, MatchOption, Option, Some, None, Result, Ok, Err}
+use Rattle.std.specs.Prelude.{◌≡◌, ℕ, ℤ, pos, ◌-ℤ◌, int_le, Bool, MatchBool, is_some, List, length, slice_get}
+use Rattle.std.specs.Prelude.{MatchOption, Option, Some, None, Result, Ok, Err}
 use Rattle.std.specs.Int.{w64, saturate_signed}
 use Rattle.indexmap.specs.IndexMap.{insert_entry, set_value_at}
 use Rattle.pt_signal.specs.Values.{same_pid}

@@ -26,7 +26,8 @@ numbered key (Err fault) = Err fault
 abbrev pub SaysNumber : Pid → Pid → Doing ShardState ℕ
 SaysNumber from to old r new =
     OrNoMemory
-    (λ old r new. (key : ℕ) × (answer : Result (Unit {0}) Fault) × SaysTo from to (message TEXT (pos key)) old answer new × (r ≡ numbered key answer))
+    (λ old r new. (key : ℕ) × (answer : Result (Unit {0}) Fault)
+    × SaysTo from to (message TEXT (pos key)) old answer new × (r ≡ numbered key answer))
     old r new
 
 -- what is sent stands under a number that was free, and all else as before; after a refusal all is as before

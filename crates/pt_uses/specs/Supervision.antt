@@ -1,5 +1,6 @@
 -- What a supervisor does. Beside a desk stand the supervisor's children, and beside both how many restarts are left.
-use Rattle.std.specs.Prelude.{◌≡◌, ◌⊎◌, ℕ, ◌+◌, ◌==◌, nat_lt, Bool, true, MatchBool, List, [], ◌∷◌, ◌++◌, length, slice_index_or, slice_set, position, Option, Some, None, Result, Ok, Err}
+use Rattle.std.specs.Prelude.{◌≡◌, ◌⊎◌, ℕ, ◌+◌, ◌==◌, nat_lt, Bool, true, MatchBool, List, [], ◌∷◌, ◌++◌, length}
+use Rattle.std.specs.Prelude.{slice_index_or, slice_set, position, Option, Some, None, Result, Ok, Err}
 use Rattle.pt_signal.specs.Values.{same_pid}
 use Rattle.pt_signal.specs.declared.pid.Pid.{Pid}
 use Rattle.pt_signal.specs.declared.item.Item.{Item}

@@ -24,10 +24,16 @@ unheard answer = answer
 unfoldable pub SaysTo : Pid → Pid → Signal → Doing ShardState (Unit {0})
 SaysTo from to signal old r new =
     MatchBool (knows old to)
-    ((answer : Result (Unit {0}) Fault) × IsReached (lives old from) from to (Calls from (Some (Said from to signal)) (tt {0}) old answer new) old answer new
+    ((answer : Result (Unit {0}) Fault)
+    × IsReached (lives old from) from to
+    (Calls from (Some (Said from to signal)) (tt {0}) old answer new) old answer new
     × (r ≡ unheard answer))
     (Idles (tt {0}) old r new)
 
 -- the same to the one at that place of a list
 abbrev pub SaysAt : Pid → List Pid → Signal → ℕ → Doing ShardState (Unit {0})
-SaysAt from to signal place old r new = SaysTo from (slice_index_or to place (record { shard = 0; slot = 0; version = 0 })) signal old r new
+SaysAt from to signal place old r new = SaysTo from (slice_index_or to place (record {
+  shard = 0;
+  slot = 0;
+  version = 0;
+})) signal old r new

@@ -1,8 +1,9 @@
 //! A chat: a room on desk 0, and on each other desk a guest, who joins it, says some words and then crashes. The room
 //! monitors its guests, so a `DOWN` tells it of each crash; when the last guest has left it is done.
 //!
-//! Take it where each desk does something by itself: what it does is a `Task`, which says when it is done or has failed,
-//! and the node runs them all. `goes_on`, named in the next line, is the rule by which a step may make several calls.
+//! Take it where each desk does something by itself: what it does is a `Task`, which says when it is done or has
+//! failed, and the node runs them all. `goes_on`, named in the next line, is the rule by which a step may make several
+//! calls.
 #![tactic(auto, using(pt_node::proofs::GoingOn::goes_on))]
 
 ghost use Rattle.std.specs.Prelude.{IfOk};
@@ -112,8 +113,8 @@ impl Guest {
     }
 
     /// Joins, or says the next word. When none is left it crashes, but not before it has heard one: the room has it
-    /// among its guests then, and its monitor has come. For the worker of a task that is done takes no more turns, and a
-    /// monitor that came later would wait for its `DOWN`.
+    /// among its guests then, and its monitor has come. For the worker of a task that is done takes no more turns, and
+    /// a monitor that came later would wait for its `DOWN`.
     fn speak(&mut self, desk: &mut Desk) -> Result<Standing, Fault>
         ensures { GoesOn desk.old desk.new }
     {

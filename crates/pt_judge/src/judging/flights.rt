@@ -105,7 +105,8 @@ fn send_exits(
     links: &[(Pid, Ids)],
     reason: Reason,
 ) -> Result<(), AllocError>
-    ensures { OnOk result (flights.new.items ≡ flights.old.items ++ map (λ e. sent me e.0 (LinkExit e.1 reason)) links.now) }
+    ensures { OnOk result
+        (flights.new.items ≡ flights.old.items ++ map (λ e. sent me e.0 (LinkExit e.1 reason)) links.now) }
 {
     for place in 0..links.len() {
         let (peer, ids) = links[place];
@@ -134,7 +135,8 @@ fn send_demonitors(
     me: Pid,
     watching: &[(Ref, Pid)],
 ) -> Result<(), AllocError>
-    ensures { OnOk result (flights.new.items ≡ flights.old.items ++ map (λ m. sent me m.1 (Demonitor m.0)) watching.now) }
+    ensures { OnOk result
+        (flights.new.items ≡ flights.old.items ++ map (λ m. sent me m.1 (Demonitor m.0)) watching.now) }
 {
     for place in 0..watching.len() {
         let (monitor, target) = watching[place];

@@ -27,7 +27,13 @@ impl Model for Holdings {
 
     ghost Value = { ProcessState };
 
-    ghost view = { λ h. record { waiting = h.waiting.items; links = h.links.items; watching = h.watching.items; kept = h.kept.items; traps = h.traps } };
+    ghost view = { λ h. record {
+      waiting = h.waiting.items;
+      links = h.links.items;
+      watching = h.watching.items;
+      kept = h.kept.items;
+      traps = h.traps;
+    } };
 }
 
 fn is_kill(reason: Reason) -> bool

@@ -9,9 +9,11 @@ ghost use Rattle.pt_signal.specs.Values.{same_ref, same_link, fits, without_firs
 ghost use Rattle.pt_signal.specs.Process.{held, sent};
 ghost use Rattle.pt_judge.specs.declared.cause.Cause.TheVariants.{NotAlive};
 ghost use Rattle.pt_events.specs.declared.event.Event.TheVariants.{Born, Said, Came, Took, Refused};
-ghost use Rattle.pt_events.specs.History.{Start, Past, open_monitors, reason_of, state_of, is_living, is_unborn, is_the, is_between, makes_link, makes_ref};
+ghost use Rattle.pt_events.specs.History.{Start, Past, open_monitors, reason_of, state_of, is_living, is_unborn};
+ghost use Rattle.pt_events.specs.History.{is_the, is_between, makes_link, makes_ref};
 ghost use Rattle.pt_judge.specs.Judge.{IsAfter, IsJudged};
-ghost use Rattle.pt_judge.specs.Judging.{now_is, known, cause, may_say, lacks, unlawful_link, is_item, is_ids, is_signal, IsHeldBy, IsStep};
+ghost use Rattle.pt_judge.specs.Judging.{now_is, known, cause, may_say, lacks, unlawful_link, is_item, is_ids};
+ghost use Rattle.pt_judge.specs.Judging.{is_signal, IsHeldBy, IsStep};
 
 use crate::Cause;
 use crate::judging::flights::{Flight, dispatch, front, land, oldest, take_oldest};
@@ -27,8 +29,8 @@ use std::marker::Model;
 
 /// What a legal history leads to, for each pid that there could be.
 ///
-/// Contracts see what each process is, the signals on their way, and the ids of links and the references that were made.
-/// What these are after a history, [`replay`] says. The events themselves are not kept.
+/// Contracts see what each process is, the signals on their way, and the ids of links and the references that were
+/// made. What these are after a history, [`replay`] says. The events themselves are not kept.
 #[derive(Drop)]
 pub struct State {
     /// The ids of links, and the references, that the events made.
@@ -43,7 +45,12 @@ impl Model for State {
 
     ghost Value = { JudgeState };
 
-    ghost view = { λ s. record { links = s.links.keys; refs = s.refs.keys; lives = s.lives; flights = s.flights.items } };
+    ghost view = { λ s. record {
+      links = s.links.keys;
+      refs = s.refs.keys;
+      lives = s.lives;
+      flights = s.flights.items;
+    } };
 
     ghost invariant = { λ s. ListsBorn s.lives };
 }
@@ -111,7 +118,8 @@ impl State {
 
     /// What waits in the process's mailbox, oldest first, or `None` where it is not alive.
     pub fn waiting(&self, pid: Pid) -> Option<&[Item]>
-        ensures { option_map (λ items. items.now) result ≡ cond (is_living (now_is self.now pid)) (Some (state_of (now_is self.now pid)).waiting) None }
+        ensures { option_map (λ items. items.now) result
+            ≡ cond (is_living (now_is self.now pid)) (Some (state_of (now_is self.now pid)).waiting) None }
     {
         if !self.alive(pid) {
             return None;
@@ -251,7 +259,8 @@ impl State {
     }
 
     fn is_front(&self, from: Pid, to: Pid, signal: Signal) -> bool
-        ensures { result ≡ is_signal (option_map (λ flight. flight.signal) (find (is_between from to) self.now.flights)) signal }
+        ensures { result
+            ≡ is_signal (option_map (λ flight. flight.signal) (find (is_between from to) self.now.flights)) signal }
     {
         match self.oldest(from, to) {
             Some(first) => same::signals(first, signal),
@@ -390,7 +399,8 @@ impl State {
     /// Why the event may not come next, if it may not: the lowest cause that fits, which is never memory.
     pub fn cause(&self, event: Event) -> Option<Cause>
         ensures is { result ≡ cause (known self.now) event }
-        ensures judged { (start : Start) (past : Past) → IsAfter start past self.now → IsJudged start past event result }
+        ensures judged { (start : Start) (past : Past) → IsAfter start past self.now
+            → IsJudged start past event result }
     {
         match event {
             Event::Born(pid, parent, link) => self.birth_cause(pid, parent, link),
@@ -408,7 +418,8 @@ impl State {
     pub fn after(self, alloc: Global, event: Event) -> Result<State, AllocError>
         requires { cause (known self) event ≡ None }
         ensures step { IfOk result (λ state. IsStep self event state) }
-        ensures goes_on { (start : Start) (past : Past) → IsAfter start past self → IfOk result (λ state. IsAfter start (event ∷ past) state) }
+        ensures goes_on { (start : Start) (past : Past) → IsAfter start past self
+            → IfOk result (λ state. IsAfter start (event ∷ past) state) }
     {
         let State {
             mut links,

@@ -1,8 +1,8 @@
 //! `pt_carrier`: letters that are posted, collected and left over, and two threads that exchange them.
 //!
-//! What an end knows of the other one may lag behind, so no clause tells a `post` or a `collect` that never looks there from
-//! one that does. `a_full_lane_refuses_and_looks_again` and `a_lane_serves_for_long` fail for such a body with both ends on
-//! one thread, `two_threads_exchange_letters` with each on a thread of its own.
+//! What an end knows of the other one may lag behind, so no clause tells a `post` or a `collect` that never looks there
+//! from one that does. `a_full_lane_refuses_and_looks_again` and `a_lane_serves_for_long` fail for such a body with
+//! both ends on one thread, `two_threads_exchange_letters` with each on a thread of its own.
 
 ghost use Rattle.std.specs.Prelude.{◌≡◌, ◌<◌, ◌≤◌, length, map, vec_len};
 ghost use Rattle.pt_carrier.specs.Node.{places, IsNode};

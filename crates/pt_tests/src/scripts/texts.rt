@@ -1,4 +1,5 @@
-//! `pt_script`: texts and what they are read as. What is read is printed: the refusal's line, or what each process does.
+//! `pt_script`: texts and what they are read as. What is read is printed: the refusal's line, or what each process
+//! does.
 
 use pt_script::{Script, Settings, Top};
 use std::alloc::Global;
