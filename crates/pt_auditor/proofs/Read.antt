@@ -1,5 +1,5 @@
 -- A text read byte by byte.
-use Rattle.std.proofs.Common.{◌≡◌, ℕ, suc, ◌+◌, ◌-◌, ◌^◌, ◌<◌, ◌≤◌, ◌==◌, min, max, Bool, true, false, ◌⊎◌, inl, inr, List, [], ◌∷◌, ◌++◌, append-nil, append_assoc, add-one, length, take, drop, get_or, Ok, Err, Result, refl, ap, sym, ◌∙◌, subst, arith, cond, is_ok, is_err}
+use Rattle.std.proofs.Common.{◌≡◌, ℕ, ◌+◌, ◌-◌, ◌^◌, ◌<◌, ◌==◌, min, Bool, true, false, inl, inr, List, [], ◌∷◌, ◌++◌, append-nil, append_assoc, add-one, length, take, drop, get_or, Ok, Err, Result, refl, ap, sym, ◌∙◌, subst, arith, cond, is_ok, is_err}
 use Rattle.std.proofs.lemmas.Bool.{eqb-true}
 use Rattle.std.proofs.lemmas.List.{take-append-drop}
 use Rattle.std.proofs.Math.Seq.{take-suc, drop-cons}
@@ -13,8 +13,8 @@ use Rattle.pt_auditor.specs.declared.fault.Why.{Why}
 use Rattle.pt_auditor.specs.declared.fault.Why.TheVariants.{Unread, Event, Letter, Over, Long, Memory}
 use Rattle.pt_auditor.specs.declared.hearing.Hearing.{Hearing}
 use Rattle.pt_auditor.specs.declared.hearing.Verdict.{Verdict}
-use Rattle.pt_auditor.specs.Hearings.{Heard, IsStanding, IsHeard, MayHear, with_event, with_letter, capped}
-use Rattle.pt_auditor.specs.Reading.{bare, IsEventLine, IsLetterLine, EventLines, HistoryLines, IsPlain, ArePlain, joined, OneMore, IsFault, IsRead, IsOver, GoesOn, IsWhy, IsFaulty, IsWhole, Concludes, Closes}
+use Rattle.pt_auditor.specs.Hearings.{Heard, IsHeard, MayHear, with_event, with_letter}
+use Rattle.pt_auditor.specs.Reading.{bare, IsEventLine, HistoryLines, IsPlain, joined, OneMore, IsFault, IsRead, IsOver, GoesOn, IsWhy, IsFaulty, IsWhole, Concludes, Closes}
 
 -- the line tells an event, or a letter ----------------------------------------------------
 

@@ -1,4 +1,4 @@
-use Rattle.std.proofs.Common.{◌≡◌, ◌+◌, ◌-◌, ◌^◌, ◌++◌, ◌∷◌, [], ◌∙◌, min, take, drop, get_or, refl, sym, subst, ap, length}
+use Rattle.std.proofs.Common.{◌+◌, ◌-◌, ◌^◌, ◌++◌, ◌∙◌, min, take, drop, get_or, refl, sym, subst, ap, length}
 use Rattle.std.proofs.lemmas.List.{take_all}
 use Rattle.pt_auditor.specs.declared.fault.Fault.{Fault}
 use Rattle.pt_auditor.specs.declared.fault.Why.TheVariants.{Long, Memory}
