@@ -1,5 +1,4 @@
--- What an event does to the table of one desk's processes, and which event may come. No public clause cites this
--- module.
+-- What an event does to the table of one desk's processes, and which may come. No public clause cites this module.
 use Rattle.std.specs.Prelude.{◌≡◌, ℕ, ◌+◌, ◌<◌, ◌^◌, ◌==◌, ◌&&◌, Bool, true, false, cond, length, Option, Some, None}
 use Rattle.std.specs.Prelude.{IfSome, ⊤}
 use Rattle.std.specs.Option.{option_map}

@@ -1,5 +1,4 @@
--- What a turn does with a letter that stands in its lane, step by step, and how an end is told. No public clause cites
--- this module.
+-- A turn's letter that stands in its lane, and how an end is told. No public clause cites this module.
 use Rattle.std.specs.Prelude.{◌≡◌, ◌≢◌, ℕ, ◌<◌, [], ◌∷◌, Option, Some, None, Result, slice_index_or}
 use Rattle.pt_signal.specs.declared.letter.Letter.{Letter}
 use Rattle.pt_signal.specs.declared.pid.Pid.{Pid}

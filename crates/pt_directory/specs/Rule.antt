@@ -1,5 +1,4 @@
--- The rule of the directory's words and of what the seats know, and what each step tells. No public clause cites this
--- module.
+-- The rule of the words and seats, and what each step tells. No public clause cites this module.
 use Rattle.std.specs.Prelude.{◌≡◌, ℕ, ◌+◌, ◌*◌, ◌<◌, ◌≤◌, List, ◌++◌, length, take, drop, slice_index, None}
 use Rattle.std.specs.Prelude.{MatchOption}
 use mathlib.Core.Option.{some}

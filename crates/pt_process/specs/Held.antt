@@ -1,5 +1,4 @@
--- The entries of a list, where they stand in a vector and where they stand in a map. No public clause cites this
--- module.
+-- The entries of a list in a vector, and in a map. No public clause cites this module.
 use Rattle.std.specs.Prelude.{◌≡◌, ℕ, ◌-◌, ◌≤◌, Bool, List, length, min}
 use Rattle.std.specs.List.{IsDistinct}
 use Rattle.std.specs.Map.{keys_of}
