@@ -1,5 +1,5 @@
 -- A text read as the lines of a history.
-use Rattle.std.specs.Prelude.{◌≡◌, ℕ, ◌+◌, ◌-◌, ◌≤◌, ◌==◌, ◌^◌, min, max, Bool, true, false, cond, ◌⊎◌, List, [], ◌∷◌}
+use Rattle.std.specs.Prelude.{◌≡◌, ℕ, ◌+◌, ◌-◌, ◌==◌, ◌^◌, min, max, false, cond, ◌⊎◌, List, [], ◌∷◌}
 use Rattle.std.specs.Prelude.{◌++◌, length, take, slice_index, Result, Ok, Err, ⊤}
 use Rattle.pt_events.specs.declared.event.Stamped.{Stamped}
 use Rattle.pt_events.specs.Text.{stamped_text}

@@ -1,5 +1,5 @@
 -- One process as a chart follows it: whether it was born, and what it holds while it lives.
-use Rattle.std.specs.Prelude.{◌≡◌, ℕ, Bool, true, not, cond, Option, Some, None, IfSome, List, [], ◌∷◌, ◌++◌, ⊤}
+use Rattle.std.specs.Prelude.{ℕ, Bool, true, not, cond, Option, Some, None, IfSome, List, [], ◌∷◌, ◌++◌, ⊤}
 use Rattle.std.specs.Option.{option_map}
 use Rattle.pt_signal.specs.declared.pid.Pid.{Pid}
 use Rattle.pt_signal.specs.declared.ids.LinkId.{LinkId}

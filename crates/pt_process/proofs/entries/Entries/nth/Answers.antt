@@ -1,6 +1,4 @@
 use Rattle.std.proofs.Common.{Some, ap, sym, ◌∙◌, arith, slice_get}
-use Rattle.std.proofs.Common.{length}
-use Rattle.std.specs.Vec.{vec_capacity}
 use Rattle.pt_process.specs.Held.{held_entries, held_room}
 use Rattle.pt_process.proofs.entries.Entries.nth.Goals.{in-Few, in-Many}
 use Rattle.pt_process.proofs.entries.Entries.nth.Goals as goal
