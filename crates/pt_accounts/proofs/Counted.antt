@@ -23,10 +23,12 @@ use Rattle.pt_laws.specs.Taken.{taken, taken_by}
 use Rattle.pt_laws.proofs.order.Taken.{handle_queues}
 use Rattle.pt_events.proofs.Phases.{each_branch}
 use Rattle.pt_laws.proofs.living.Fields.{end_keeps, while_keeps, leaves_keeps, born_keeps, say_keeps}
-use Rattle.pt_accounts.specs.LifeState.{LifeState, account_of}
-use Rattle.pt_accounts.specs.Table.{Slots, at, Tells, AreTold}
-use Rattle.pt_accounts.specs.DeskLives.{AreCounted, IsDeskJournal}
-use Rattle.pt_accounts.proofs.Told.{found_here}
+use Rattle.pt_accounts.specs.LifeState.{LifeState}
+use Rattle.pt_accounts.specs.Table.{Slots, of_version, at, Tells, AreTold}
+use Rattle.pt_accounts.specs.SlotState.{AreCounted, IsCounted}
+use Rattle.pt_accounts.specs.Steps.{AreAlike}
+use Rattle.pt_accounts.proofs.Told.{told_at}
+use Rattle.pt_accounts.proofs.MayObserve.{Few}
 
 shorter : (k : Pick) (i : Item) (xs : List Item) → find (fits k) xs ≡ Some i → length (without_first (fits k) xs) + 1 ≡ length xs
 shorter k i [] h = absurd (cc)
@@ -113,15 +115,41 @@ module _ (p : Pid) where
       most : (n n' z l : ℕ) → n' ≡ n + z → z ≤ 1 → n ≤ l → n' ≤ suc l
       most n n' z l b m h = omega arith
 
--- so no count passes its limit
-pub counted : (desk : ℕ) (journal : List Stamped) (slots : Slots) → IsDeskJournal [] desk journal → length journal < 2 ^ 64 → AreTold [] desk slots (events journal) → AreCounted slots
-counted desk journal slots local few told s v = go (at slots s v) (subst (Tells [] (events journal) one) (found_here desk slots one refl) (told one))
-  where
-    one : Pid
-    one = record { shard = desk; slot = s; version = v }
+-- so no count passes the number of events ------------------------------------------------------------
 
-    go : (o : Option LifeState) → Tells [] (events journal) one o → IfSome o (λ l. (account_of l).arrived < 2 ^ 64)
-    go None h = tt
-    go (Some l) h =
-        let b = balance one [] local.0 local.1 desk journal local.2 in
-        subst (λ l. (account_of l).arrived < 2 ^ 64) (sym h.0) (omega (arith, b.0, b.1))
+pub few_counted : (n : ℕ) (slots : Slots) → n + 1 < 2 ^ 64 → AreCounted n slots → Few slots
+few_counted n slots h c s v = go (at slots s v) (c s v)
+  where
+    go : (o : Option LifeState) → IfSome o (IsCounted n) → IfSome o (λ l. l.taken + 1 < 2 ^ 64)
+    go None k = tt
+    go (Some l) k = omega (arith, k)
+
+pub counted_more : (n m : ℕ) (slots : Slots) → n ≤ m → AreCounted n slots → AreCounted m slots
+counted_more n m slots h c s v = go (at slots s v) (c s v)
+  where
+    go : (o : Option LifeState) → IfSome o (IsCounted n) → IfSome o (IsCounted m)
+    go None k = tt
+    go (Some l) k = omega (arith, k)
+
+pub counted_alike : (n : ℕ) (old new : Slots) → AreAlike old new → AreCounted n old → AreCounted n new
+counted_alike n old new same c s v = subst (λ (l : List LifeState). IfSome (of_version l v) (IsCounted n)) (sym (same s)) (c s v)
+
+module _ (start : Start) (desk : ℕ) (old new : Slots) (past : Past) (e : Event) (n : ℕ) where
+  before : (p : Pid) (o : Option LifeState) → Tells start past p o → IfSome o (IsCounted n) → length (taken past p) + length (state start past p).waiting ≤ n
+  before p None h k = let a : length (taken past p) ≡ 0 = ap length h.1 in let b : length (state start past p).waiting ≡ 0 = ap (λ f. length (state_of f).waiting) h.0 in omega arith
+  before p (Some l) h k = subst (IsCounted n) h.0 k
+
+  pub counted_next : AreTold start desk old past → AreTold start desk new (e ∷ past) → MayHere start past e → AreCounted n old → AreCounted (n + 1) new
+  counted_next told next may c s v = go (at new s v) (told_at start desk new (e ∷ past) one next refl)
+    where
+      one : Pid
+      one = record { shard = desk; slot = s; version = v }
+
+      go : (o : Option LifeState) → Tells start (e ∷ past) one o → IfSome o (IsCounted (n + 1))
+      go None h = tt
+      go (Some l) h =
+          let b = before one (at old s v) (told_at start desk old past one told refl) (c s v) in
+          let m = moves one start past e may in
+          let a : length (taken (e ∷ past) one) ≡ length (taken past one) + length (taken_by one e) = length-append (taken past one) (taken_by one e) in
+          let k : length (taken (e ∷ past) one) + length (state start (e ∷ past) one).waiting ≤ n + 1 = omega (arith, m.sum, m.one) in
+          subst (IsCounted (n + 1)) (sym h.0) k

@@ -1,8 +1,11 @@
 pub mod Nothing
 pub mod Places
 pub mod Told
+pub mod Listing
 pub mod MayObserve
 pub mod Counted
-pub mod Listing
+pub mod Forgetting
+pub mod Walking
+pub mod SlotLives
 pub mod Reading
 pub mod NodePids

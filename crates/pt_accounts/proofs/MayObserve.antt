@@ -1,6 +1,5 @@
--- What a local journal's next event asks of the table.
-use Rattle.std.proofs.Common.{◌≡◌, ℕ, zero, suc, ◌+◌, ◌^◌, ◌<◌, ◌≤◌, ◌||◌, Bool, true, false, cond, Option, Some, None, List, [], ◌∷◌, ◌++◌, length, slice_get, take, drop, get_or, reverse, refl, ap, sym, ◌∙◌, subst, inl, inr, arith, length-append, length-take, pred}
-use Rattle.std.proofs.lemmas.List.{length-map, length-reverse, reverse-reverse, take_all}
+-- What a local journal's next event asks of the table, and what the table tells after it.
+use Rattle.std.proofs.Common.{◌≡◌, ℕ, zero, suc, ◌+◌, ◌^◌, ◌<◌, ◌≤◌, ◌||◌, Bool, true, false, cond, Option, Some, None, List, [], ◌∷◌, ◌++◌, length, slice_get, refl, ap, sym, ◌∙◌, subst, inl, inr, arith, pred}
 use Rattle.std.specs.Prelude.{IfSome}
 use Rattle.std.proofs.lemmas.Bool.{cases_lt, or_parts, both_ways, false≢true, true≢false}
 use Rattle.std.specs.Map.{lookup, remove_entry}
@@ -15,20 +14,26 @@ use Rattle.pt_signal.specs.declared.item.Pick.{Pick}
 use Rattle.pt_signal.specs.declared.reason.Reason.{Reason}
 use Rattle.pt_signal.specs.Process.{ProcessState, fresh, held, holds_any, handle, say, obey, Verdict, drops, queues, ends, verdict, link_exit, down}
 use Rattle.pt_signal.proofs.Same.{same_pid_is, same_pid_refl}
+use Rattle.pt_process.specs.Outcome.{IsAnew}
 use Rattle.pt_events.specs.declared.event.Event.{Event}
 use Rattle.pt_events.specs.declared.event.Event.TheVariants.{Born, Said, Came, Took, Flag, Left, Refused}
-use Rattle.pt_events.specs.declared.event.Stamped.{Stamped}
-use Rattle.pt_events.specs.History.{Past, Phase, unborn, living, ended, life, state, state_of, touches, is_unborn, is_ended, is_living, alive, made_ref, makes_ref, MaySay, MayBear, change, linked, live_or_end}
-use Rattle.pt_events.specs.Journal.{events, IsNext, IsLocal, IsHome, IsOf, MayHere, IsKnown}
+use Rattle.pt_events.specs.History.{Past, Start, Phase, unborn, living, ended, life, state, state_of, touches, is_unborn, is_ended, is_living, alive, made_ref, makes_ref, MayBear, change, linked, live_or_end}
+use Rattle.pt_events.specs.Journal.{IsHome, IsOf, MayHere, IsKnown}
 use Rattle.pt_events.proofs.Phases.{each_branch}
-use Rattle.pt_events.proofs.InOrder.{reverse_take, reverse_split}
-use Rattle.pt_laws.specs.Taken.{taken, taken_by}
+use Rattle.pt_laws.specs.Load.{one_if}
+use Rattle.pt_laws.specs.Watch.{count}
+use Rattle.pt_laws.specs.Taken.{taken_by}
 use Rattle.pt_accounts.specs.LifeState.{LifeState}
-use Rattle.pt_accounts.specs.Table.{Slots, at, of_version, slot_at, found, Tells, AreTold}
-use Rattle.pt_accounts.specs.DeskLives.{IsDeskJournal}
-use Rattle.pt_accounts.specs.Steps.{MayShow, may_show_parent, MayObserve, Observes, MaySee, MayMeet, MayDo}
+use Rattle.pt_accounts.specs.Table.{Slots, at, of_version, slot_at, Tells, AreTold}
+use Rattle.pt_accounts.specs.SlotState.{AreVersions, HasEnded, IsOver}
+use Rattle.pt_accounts.specs.Steps.{MayShow, may_show_parent, MayObserve, Observes, MaySee, MayMeet, MayDo, IsNextOf, IsAnewAfter}
 use Rattle.pt_accounts.proofs.Places.{slice_get-past}
-use Rattle.pt_accounts.proofs.Told.{HomeParent, found_here, none_unborn, told_changed, told_born, tells_still}
+use Rattle.pt_accounts.proofs.Told.{IsApart, Unmoved, place_other, told_at, all_told, none_unborn, told_changed, told_born, tells_still}
+use Rattle.pt_accounts.proofs.Listing.{slot_versions}
+
+-- no life took as many as can be counted
+abbrev pub Few : Slots → Type 0
+Few slots = (s v : ℕ) → IfSome (at slots s v) (λ l. l.taken + 1 < 2 ^ 64)
 
 -- a reference that was never made is open nowhere -----------------------------------------------
 
@@ -102,48 +107,42 @@ module _ (m : Ref) where
   changed w _ (ended r s) n h = h
   changed w _ (living s) n h = h
 
-  pub unmade_closed : (past : Past) (w : Pid) → made_ref past m ≡ false → IsClosed (state [] past w)
-  unmade_closed [] w h = refl
-  unmade_closed (e ∷ past) w h =
+  pub unmade_closed : (start : Start) (past : Past) (w : Pid) → IsClosed (state start [] w) → made_ref past m ≡ false → IsClosed (state start past w)
+  unmade_closed start [] w c h = c
+  unmade_closed start (e ∷ past) w c h =
       let k = or_parts (makes_ref m e) (made_ref past m) h in
-      let ih = unmade_closed past w k.1 in
-      both (touches w e) (change w e (life [] past w)) (life [] past w) (changed w e (life [] past w) k.0 ih) ih
+      let ih = unmade_closed start past w c k.1 in
+      both (touches w e) (change w e (life start past w)) (life start past w) (changed w e (life start past w) k.0 ih) ih
 
--- how many were taken ------------------------------------------------------------------------------
-
-one_or_none : (b : Bool) (i : Item) → length (cond b (i ∷ []) []) ≤ 1
-one_or_none true i = omega arith
-one_or_none false i = omega arith
-
-takes_one : (p : Pid) (e : Event) → length (taken_by p e) ≤ 1
-takes_one p (Took q k i) = one_or_none (same_pid p q) i
-takes_one p _ = omega arith
-
-pub few_taken : (past : Past) (p : Pid) → length (taken past p) ≤ length past
-few_taken [] p = omega arith
-few_taken (e ∷ past) p = let h = few_taken past p in let k = takes_one p e in rw length-append (omega arith)
+  -- a reference that is open nowhere, since it is newer than all that are
+  pub count_closed : (l : List (Ref × Pid)) → count (λ e. same_ref m e.0) l ≡ 0 → lookup (same_ref m) l ≡ None
+  count_closed [] h = refl
+  count_closed (k ∷ l) h = go (same_ref m k.0) refl (count_closed l)
+    where
+      go : (b : Bool) → same_ref m k.0 ≡ b → (count (λ e. same_ref m e.0) l ≡ 0 → lookup (same_ref m) l ≡ None) → lookup (same_ref m) (k ∷ l) ≡ None
+      go true e ih = let z : one_if true + count (λ e. same_ref m e.0) l ≡ 0 = rw e at h in absurd (omega arith)
+      go false e ih = let z : one_if false + count (λ e. same_ref m e.0) l ≡ 0 = rw e at h in rw e (ih (omega arith))
 
 -- who sees the event -------------------------------------------------------------------------------
 
-pub may_show : (desk : ℕ) (old : Slots) (past : Past) (e : Event) (t : Pid) → t.shard ≡ desk → touches t e ≡ true → length past + 1 < 2 ^ 64
-    → (is_unborn (life [] past t) ≡ false → MayMeet t (life [] past t) e) → AreTold [] desk old past → MayShow old t e
-may_show desk old past e t home own few meets told = go (at old t.slot t.version) (subst (Tells [] past t) (found_here desk old t home) (told t))
+pub may_show : (start : Start) (desk : ℕ) (old : Slots) (past : Past) (e : Event) (t : Pid) → t.shard ≡ desk → touches t e ≡ true → Few old
+    → (is_unborn (life start past t) ≡ false → MayMeet t (life start past t) e) → AreTold start desk old past → MayShow old t e
+may_show start desk old past e t home own few meets told = go (at old t.slot t.version) (few t.slot t.version) (told_at start desk old past t told home)
   where
-    go : (o : Option LifeState) → Tells [] past t o → IfSome o (MaySee e)
-    go None h = tt
-    go (Some l) h = let k = few_taken past t in subst (MaySee e) (sym h.0) (record { own = own; may = meets h.1; few = omega arith })
+    go : (o : Option LifeState) → IfSome o (λ l. l.taken + 1 < 2 ^ 64) → Tells start past t o → IfSome o (MaySee e)
+    go None f h = tt
+    go (Some l) f h =
+        let own_pid : l.pid ≡ t = ap (λ (l : LifeState). l.pid) h.0 in
+        let phase : l.phase ≡ life start past t = ap (λ (l : LifeState). l.phase) h.0 in
+        record { own = subst (λ p. touches p e ≡ true) (sym own_pid) own; may = subst (λ p. MayMeet p l.phase e) (sym own_pid) (subst (λ f. MayMeet t f e) (sym phase) (meets h.1)); few = f }
 
 meet_living : (p : Pid) (e : Event) (f : Phase) → is_living f ≡ true → ((s : ProcessState) → f ≡ living s → MayDo p s e) → MayMeet p f e
 meet_living p e unborn h k = absurd (false≢true h)
 meet_living p e (living s) h k = k s refl
 meet_living p e (ended r s) h k = absurd (false≢true h)
 
-pub meet_said : (past : Past) (a b : Pid) (x : Signal) → alive [] past a ≡ true → MaySay [] past (state [] past a) a b x → MayMeet a (life [] past a) (Said a b x)
-meet_said past a b x h may = meet_living a (Said a b x) (life [] past a) h (λ s e. does x s (ap state_of e) may)
-  where
-    does : (x : Signal) (s : ProcessState) → state [] past a ≡ s → MaySay [] past (state [] past a) a b x → MayDo a s (Said a b x)
-    does (Monitor m) s e may = ap (λ z. lookup (same_ref m) z.watching) (sym e) ∙ unmade_closed m past a may.0
-    does _ s e may = tt
+pub meet_said : (start : Start) (past : Past) (a b : Pid) (x : Signal) → alive start past a ≡ true → IsAnew x (state start past a) → MayMeet a (life start past a) (Said a b x)
+meet_said start past a b x h anew = meet_living a (Said a b x) (life start past a) h (λ s e. subst (IsAnew x) (ap state_of e) anew)
 
 meet_came : (a b : Pid) (x : Signal) (f : Phase) → is_unborn f ≡ false → MayMeet b f (Came a b x)
 meet_came a b x unborn h = absurd (true≢false h)
@@ -170,112 +169,110 @@ version_next lives (suc (suc v)) p h k =
 not_unborn : (f : Phase) → is_ended f ≡ true → f ≡ unborn → ⊥
 not_unborn f h e = let k : is_ended f ≡ false = ap is_ended e in both_ways _ k h
 
-pub next_version : (desk : ℕ) (old : Slots) (past : Past) (q : Pid) → q.shard ≡ desk → life [] past q ≡ unborn → 0 < q.version
-    → (1 < q.version → is_ended (life [] past (record q { version = pred q.version })) ≡ true) → AreTold [] desk old past → q.version ≡ length (slot_at old q.slot) + 1
-next_version desk old past q home u pos before told =
-    version_next (slot_at old q.slot) q.version pos (sym (found_here desk old q home) ∙ (none_unborn [] past q (found desk old q) (told q) u).0)
-    (λ l none. not_unborn (life [] past one) (before l) (subst (Tells [] past one) (found_here desk old one home ∙ none) (told one)).0)
-  where
-    one : Pid
-    one = record { shard = q.shard; slot = q.slot; version = pred q.version }
+has_ended : (lives : List LifeState) → ((l : LifeState) → of_version lives (length lives) ≡ Some l → IsOver l) → HasEnded lives
+has_ended [] h = tt
+has_ended (l ∷ []) h = h l refl
+has_ended (l ∷ m ∷ lives) h = has_ended (m ∷ lives) (λ x e. h x e)
+
+some_version : (lives : List LifeState) (l : LifeState) → of_version lives (length lives) ≡ Some l → 0 < length lives
+some_version [] l e = absurd (cc)
+some_version (x ∷ lives) l e = omega arith
+
+module _ (start : Start) (desk : ℕ) (old : Slots) (past : Past) (q : Pid) (home : q.shard ≡ desk) (u : life start past q ≡ unborn) (pos : 0 < q.version)
+    (before : 1 < q.version → is_ended (life start past (record q { version = pred q.version })) ≡ true) (told : AreTold start desk old past) where
+  abbrev one : Pid
+  one = record { shard = q.shard; slot = q.slot; version = pred q.version }
+
+  next_version : q.version ≡ length (slot_at old q.slot) + 1
+  next_version =
+      version_next (slot_at old q.slot) q.version pos (none_unborn start past q (at old q.slot q.version) (told_at start desk old past q told home) u).0
+      (λ l none. not_unborn (life start past one) (before l) (subst (Tells start past one) none (told_at start desk old past one told home)).0)
+
+  -- the last of the slot has ended
+  last_over : HasEnded (slot_at old q.slot)
+  last_over = has_ended (slot_at old q.slot) over
+    where
+      over : (l : LifeState) → of_version (slot_at old q.slot) (length (slot_at old q.slot)) ≡ Some l → IsOver l
+      over l some =
+          let n = next_version in
+          let k = some_version (slot_at old q.slot) l some in
+          let num : pred q.version ≡ length (slot_at old q.slot) = omega arith in
+          let h : Tells start past one (Some l) = subst (Tells start past one) (ap (of_version (slot_at old q.slot)) num ∙ some) (told_at start desk old past one told home) in
+          ap (λ (l : LifeState). is_ended l.phase) h.0 ∙ before (omega arith)
+
+  pub next_of_slot : IsNextOf q (slot_at old q.slot)
+  next_of_slot = record {
+    next = next_version;
+    placed = subst (λ d. AreVersions d q.slot 1 (slot_at old q.slot)) (sym home) (slot_versions start desk old past q.slot told);
+    over = last_over;
+  }
 
 -- all events ---------------------------------------------------------------------------------------
 
-module _ (low top desk : ℕ) (old : Slots) (past : Past) (few : length past + 1 < 2 ^ 64) (told : AreTold [] desk old past) where
-  parents : (q : Pid) (parent : Option Pid) (link : Option LinkId) → IsOf desk parent → life [] past q ≡ unborn → MayBear [] past parent link → may_show_parent old parent (Born q parent link)
-  parents q None link home u may = tt
-  parents q (Some t) link home u may =
-      may_show desk old past (Born q (Some t) link) t home (touched (same_pid t q)) few
-      (λ b. meet_living t (Born q (Some t) link) (life [] past t) (lives link may) (λ s e. other (same_pid t q) refl))
-      told
+takes_alive : (start : Start) (past : Past) (p q : Pid) (k : Pick) (i : Item) → alive start past q ≡ true → life start past p ≡ unborn → taken_by p (Took q k i) ≡ []
+takes_alive start past p q k i a u = go (same_pid p q) refl
+  where
+    go : (b : Bool) → same_pid p q ≡ b → cond (same_pid p q) (i ∷ []) [] ≡ []
+    go false e = rw e refl
+    go true e =
+        let k : q ≡ p = sym (same_pid_is p q e) in
+        let z : alive start past q ≡ false = ap is_living (ap (life start past) k ∙ u) in
+        absurd (both_ways _ z a)
+
+module _ (start : Start) (desk : ℕ) (past : Past) where
+  lives : (t : Pid) (link : Option LinkId) → MayBear start past (Some t) link → alive start past t ≡ true
+  lives t None m = m
+  lives t (Some i) m = m.0
+
+  -- a parent is none that is unborn
+  other : (q t : Pid) → life start past q ≡ unborn → alive start past t ≡ true → (b : Bool) → same_pid t q ≡ b → same_pid t q ≡ false
+  other q t u a false e = e
+  other q t u a true e =
+      let k : t ≡ q = same_pid_is t q e in
+      let z : alive start past t ≡ false = ap is_living (ap (life start past) k ∙ u) in
+      absurd (both_ways _ z a)
+
+  parted : (q : Pid) (parent : Option Pid) (link : Option LinkId) → q.shard ≡ desk → IsOf desk parent → life start past q ≡ unborn → MayBear start past parent link → IsApart q parent
+  parted q None link home hp u may = tt
+  parted q (Some t) link home hp u may = place_other q t (home ∙ sym hp) (other q t u (lives t link may) (same_pid t q) refl)
+
+module _ (start : Start) (top desk : ℕ) (old : Slots) (past : Past) (few : Few old) (told : AreTold start desk old past) where
+  parents : (q : Pid) (parent : Option Pid) (link : Option LinkId) → q.shard ≡ desk → IsOf desk parent → life start past q ≡ unborn → MayBear start past parent link → may_show_parent old parent q (Born q parent link)
+  parents q None link hq home u may = tt
+  parents q (Some t) link hq home u may = (
+    may_show start desk old past (Born q (Some t) link) t home (touched (same_pid t q)) few
+        (λ b. meet_living t (Born q (Some t) link) (life start past t) (lives start desk past t link may) (λ s e. other start desk past q t u (lives start desk past t link may) (same_pid t q) refl))
+        told,
+    parted start desk past q (Some t) link hq home u may,
+  )
     where
       touched : (b : Bool) → (b || same_pid t t) ≡ true
       touched true = refl
       touched false = same_pid_refl t
 
-      lives : (link : Option LinkId) → MayBear [] past (Some t) link → alive [] past t ≡ true
-      lives None m = m
-      lives (Some i) m = m.0
+  pub may_observe : (e : Event) → IsHome desk e → MayHere start past e → IsKnown start desk top past e → IsAnewAfter start past e → MayObserve old e
+  may_observe (Born q parent link) home may known anew =
+      (parents q parent link home.0 home.1 may.0 may.1, next_of_slot start desk old past q home.0 may.0 known.0 known.2 told)
+  may_observe (Said a b x) home may known anew = may_show start desk old past (Said a b x) a home (same_pid_refl a) few (λ u. meet_said start past a b x may.0 anew) told
+  may_observe (Came a b x) home may known anew = may_show start desk old past (Came a b x) b home (same_pid_refl b) few (λ u. meet_came a b x (life start past b) u) told
+  may_observe (Took q k i) home may known anew = may_show start desk old past (Took q k i) q home (same_pid_refl q) few (λ u. meet_living q (Took q k i) (life start past q) may.0 (λ s e. tt)) told
+  may_observe (Flag q on) home may known anew = may_show start desk old past (Flag q on) q home (same_pid_refl q) few (λ u. meet_living q (Flag q on) (life start past q) may (λ s e. tt)) told
+  may_observe (Left q r) home may known anew = may_show start desk old past (Left q r) q home (same_pid_refl q) few (λ u. meet_living q (Left q r) (life start past q) may (λ s e. tt)) told
+  may_observe _ home may known anew = tt
 
-      other : (b : Bool) → same_pid t q ≡ b → same_pid t q ≡ false
-      other false e = e
-      other true e =
-          let k : t ≡ q = same_pid_is t q e in
-          let z : alive [] past t ≡ false = ap is_living (ap (life [] past) k ∙ u) in
-          absurd (both_ways _ z (lives link may))
+-- what the table tells afterwards
+module _ (start : Start) (desk : ℕ) (old new : Slots) (past : Past) (told : AreTold start desk old past) where
+  moved : (e : Event) → ((p : Pid) → change p e unborn ≡ unborn) → ((p : Pid) → life start past p ≡ unborn → taken_by p e ≡ []) → (p : Pid) → Unmoved start past p e
+  moved e h t p u = (each_branch (λ f. f ≡ unborn) (touches p e) _ _ (h p) refl, t p u)
 
-  pub may_observe : (e : Event) → IsHome desk e → MayHere [] past e → IsKnown [] desk top past e → MayObserve old e
-  may_observe (Born q parent link) home may known =
-      (parents q parent link home.1 may.0 may.1, next_version desk old past q home.0 may.0 known.0 known.2 told)
-  may_observe (Said a b x) home may known = may_show desk old past (Said a b x) a home (same_pid_refl a) few (λ u. meet_said past a b x may.0 may.1) told
-  may_observe (Came a b x) home may known = may_show desk old past (Came a b x) b home (same_pid_refl b) few (λ u. meet_came a b x (life [] past b) u) told
-  may_observe (Took q k i) home may known = may_show desk old past (Took q k i) q home (same_pid_refl q) few (λ u. meet_living q (Took q k i) (life [] past q) may.0 (λ s e. tt)) told
-  may_observe (Flag q on) home may known = may_show desk old past (Flag q on) q home (same_pid_refl q) few (λ u. meet_living q (Flag q on) (life [] past q) may (λ s e. tt)) told
-  may_observe (Left q r) home may known = may_show desk old past (Left q r) q home (same_pid_refl q) few (λ u. meet_living q (Left q r) (life [] past q) may (λ s e. tt)) told
-  may_observe _ home may known = tt
-
-  takes_alive : (p q : Pid) (k : Pick) (i : Item) → alive [] past q ≡ true → life [] past p ≡ unborn → taken_by p (Took q k i) ≡ []
-  takes_alive p q k i a u = go (same_pid p q) refl
-    where
-      go : (b : Bool) → same_pid p q ≡ b → cond (same_pid p q) (i ∷ []) [] ≡ []
-      go false e = rw e refl
-      go true e =
-          let k : q ≡ p = sym (same_pid_is p q e) in
-          let z : alive [] past q ≡ false = ap is_living (ap (life [] past) k ∙ u) in
-          absurd (both_ways _ z a)
-
-  homes : (parent : Option Pid) → IsOf desk parent → HomeParent desk parent
-  homes None h = tt
-  homes (Some t) h = h
-
-  pub told_next : (new : Slots) (e : Event) → IsHome desk e → MayHere [] past e → Observes e old new → AreTold [] desk new (e ∷ past)
-  told_next new (Born q parent link) home may h = told_born [] desk old h.0 new past q parent link home.0 (homes parent home.1) may.0 h.1 h.2 told
-  told_next new (Said a b x) home may h = told_changed [] desk old new past (Said a b x) a home (λ p. refl) (λ p u. (each_branch (λ f. f ≡ unborn) (touches p (Said a b x)) unborn unborn refl refl, refl)) h told
-  told_next new (Came a b x) home may h = told_changed [] desk old new past (Came a b x) b home (λ p. refl) (λ p u. (each_branch (λ f. f ≡ unborn) (touches p (Came a b x)) unborn unborn refl refl, refl)) h told
-  told_next new (Took q k i) home may h = told_changed [] desk old new past (Took q k i) q home (λ p. refl) (λ p u. (each_branch (λ f. f ≡ unborn) (touches p (Took q k i)) unborn unborn refl refl, takes_alive p q k i may.0 u)) h told
-  told_next new (Flag q on) home may h = told_changed [] desk old new past (Flag q on) q home (λ p. refl) (λ p u. (each_branch (λ f. f ≡ unborn) (touches p (Flag q on)) unborn unborn refl refl, refl)) h told
-  told_next new (Left q r) home may h = told_changed [] desk old new past (Left q r) q home (λ p. refl) (λ p u. (each_branch (λ f. f ≡ unborn) (touches p (Left q r)) unborn unborn refl refl, refl)) h told
-  told_next new (Refused a b) home may h = λ p. subst (λ z. Tells [] (Refused a b ∷ past) p (found desk z p)) (sym h) (tells_still [] past p (Refused a b) (found desk old p) refl (told p))
-
--- the journal, read from its first event -----------------------------------------------------------
-
-pub local_older : (low top d : ℕ) (newer older : List Stamped) → IsLocal [] low top d (newer ++ older) → IsLocal [] low top d older
-local_older low top d [] older h = h
-local_older low top d (s ∷ newer) older h = local_older low top d newer older h.1
-
-pub next_of : (desk : ℕ) (evs : List Stamped) (i : ℕ) (o s : Stamped) → i < length evs → s ≡ get_or evs i o → reverse (take (i + 1) evs) ≡ s ∷ reverse (take i evs)
-next_of desk evs i o s within read = reverse_take evs i o within ∙ ap (λ z. z ∷ reverse (take i evs)) (sym read)
-
-local_next : (low top desk : ℕ) (evs : List Stamped) (i : ℕ) (o s : Stamped) → IsLocal [] low top desk (reverse evs) → i < length evs → s ≡ get_or evs i o
-    → IsNext [] low top desk (reverse (take i evs)) s
-local_next low top desk evs i o s local within read =
-    let h = subst (IsLocal [] low top desk) (reverse_split evs (i + 1)) local in
-    let k = local_older low top desk (reverse (drop (i + 1) evs)) (reverse (take (i + 1) evs)) h in
-    let n : IsLocal [] low top desk (s ∷ reverse (take i evs)) = subst (IsLocal [] low top desk) (next_of desk evs i o s within read) k in
-    n.0
-
-length_before : (evs : List Stamped) (i : ℕ) → i < length evs → length (events (reverse (take i evs))) ≡ i
-length_before evs i h = simp (length-map, length-reverse, length-take) (omega arith)
-
-pub walk_may : (desk : ℕ) (evs : List Stamped) (i : ℕ) (o s : Stamped) (slots : Slots) → IsDeskJournal [] desk (reverse evs) → i < length evs → s ≡ get_or evs i o → length evs < 2 ^ 64
-    → AreTold [] desk slots (events (reverse (take i evs))) → MayObserve slots s.event
-walk_may desk evs i o s slots local within read few told =
-    let n = local_next local.0 local.1 desk evs i o s local.2 within read in
-    let l = length_before evs i within in
-    may_observe local.0 local.1 desk slots (events (reverse (take i evs))) (omega arith) told s.event n.home n.may n.known
-
-pub walk_told : (desk : ℕ) (evs : List Stamped) (i : ℕ) (o s : Stamped) (slots new : Slots) → IsDeskJournal [] desk (reverse evs) → i < length evs → s ≡ get_or evs i o → length evs < 2 ^ 64
-    → AreTold [] desk slots (events (reverse (take i evs))) → Observes s.event slots new → AreTold [] desk new (events (reverse (take (i + 1) evs)))
-walk_told desk evs i o s slots new local within read few told h =
-    let n = local_next local.0 local.1 desk evs i o s local.2 within read in
-    let l = length_before evs i within in
-    subst (λ j. AreTold [] desk new (events j)) (sym (next_of desk evs i o s within read))
-    (told_next local.0 local.1 desk slots (events (reverse (take i evs))) (omega arith) told new s.event n.home n.may h)
-
-pub local_of : (desk here : ℕ) (past evs : List Stamped) → here ≡ desk → evs ≡ reverse past → IsDeskJournal [] desk past → IsDeskJournal [] here (reverse evs)
-local_of desk here past evs e f h =
-    subst (λ d. IsDeskJournal [] d (reverse evs)) (sym e) (subst (IsDeskJournal [] desk) (sym (ap reverse f ∙ reverse-reverse past)) h)
-
--- the whole journal was read
-pub told_all : (desk : ℕ) (evs : List Stamped) (i : ℕ) (slots : Slots) → length evs ≤ i → AreTold [] desk slots (events (reverse (take i evs))) → AreTold [] desk slots (events (reverse evs))
-told_all desk evs i slots h told = subst (λ z. AreTold [] desk slots (events (reverse z))) (take_all i evs h) told
+  pub told_next : (e : Event) → IsHome desk e → MayHere start past e → Observes e old new → AreTold start desk new (e ∷ past)
+  told_next (Born q parent link) home may h =
+      told_born start desk old h.0 new past q parent link home.0 (parted start desk past q parent link home.0 home.1 may.0 may.1) may.0 h.1 h.2 told
+  told_next (Said a b x) home may h = told_changed start desk old new past (Said a b x) a (λ p. refl) (moved (Said a b x) (λ p. refl) (λ p u. refl)) h told
+  told_next (Came a b x) home may h = told_changed start desk old new past (Came a b x) b (λ p. refl) (moved (Came a b x) (λ p. refl) (λ p u. refl)) h told
+  told_next (Took q k i) home may h = told_changed start desk old new past (Took q k i) q (λ p. refl) (moved (Took q k i) (λ p. refl) (λ p u. takes_alive start past p q k i may.0 u)) h told
+  told_next (Flag q on) home may h = told_changed start desk old new past (Flag q on) q (λ p. refl) (moved (Flag q on) (λ p. refl) (λ p u. refl)) h told
+  told_next (Left q r) home may h = told_changed start desk old new past (Left q r) q (λ p. refl) (moved (Left q r) (λ p. refl) (λ p u. refl)) h told
+  told_next (Refused a b) home may h =
+      all_told start desk new (Refused a b ∷ past) (λ p s. subst (λ (z : Slots). Tells start (Refused a b ∷ past) p (at z p.slot p.version)) (sym h)
+      (tells_still start past p (Refused a b) (at old p.slot p.version) refl (told_at start desk old past p told s)))

@@ -88,7 +88,7 @@ module _ (start : Start) (journals : Journals) (lives : Lives) (of : AreLivesOf 
     node_rises 0 lives homes rise,
     λ p.
         let same = (say start of.desks.low of.desks.top journals merged p of.desks.local m).0 in
-        (λ i. ap is_unborn (sym same) ∙ was_born p i, λ b. is_listed (record { desk = 0; slots = [] }) p (ap is_unborn same ∙ b)),
+        (λ i. ap is_unborn (sym same) ∙ was_born p i, λ b. is_listed (record { desk = 0; slots = []; read = 0 }) p (ap is_unborn same ∙ b)),
   )
 
 pub all_listed : (lives : Lives) (pids seen : List Pid) → pids ≡ all_pids lives → seen ≡ pids → JournalsSay → Tell lives (λ start past. AreAllPids start past seen)

@@ -37,8 +37,8 @@ watching_told : (start : Start) (past : Past) (p : Pid) (o : Option LifeState) (
 watching_told start past p None m t = rw t.0 refl
 watching_told start past p (Some l) m t = ap (λ l. is_some (lookup (same_ref m) (open_monitors l.phase))) t.0
 
-tells_of : (start : Start) (d : ℕ) (past : Past) (t : DeskTable) (p : Pid) → IsTableOf start d past t → Tells start past p (life_in t p)
-tells_of start d past t p h = subst (λ n. Tells start past p (found n t.slots p)) (sym h.0) (h.1 p)
+tells_of : (start : Start) (d : ℕ) (past : Past) (t : DeskTable) (p : Pid) → p.shard ≡ d → IsTableOf start d past t → Tells start past p (life_in t p)
+tells_of start d past t p s h = subst (λ n. Tells start past p (found n t.slots p)) (sym h.0) (h.1 p s)
 
 -- the node -----------------------------------------------------------------------------------------
 
@@ -71,4 +71,4 @@ pub tells_here : (start : Start) (journals : Journals) (lives : Lives) (p : Pid)
 tells_here start journals lives p n t of e h r =
     let k : p.shard < length lives = omega arith in
     let same : t ≡ get_or lives p.shard t = subst (λ n. t ≡ get_or lives n t) e r in
-    tells_of start p.shard (events (journals p.shard)) t p (subst (IsTableOf start p.shard (events (journals p.shard))) (sym same) (of.told p.shard t k))
+    tells_of start p.shard (events (journals p.shard)) t p refl (subst (IsTableOf start p.shard (events (journals p.shard))) (sym same) (of.told p.shard t k))

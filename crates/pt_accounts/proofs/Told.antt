@@ -1,5 +1,5 @@
 -- What a table tells after one more event.
-use Rattle.std.proofs.Common.{◌≡◌, ℕ, ◌==◌, Bool, true, false, cond, Option, Some, None, [], ◌∷◌, ◌++◌, length, refl, ap, sym, ◌∙◌, subst, length-append, append-nil}
+use Rattle.std.proofs.Common.{◌≡◌, ℕ, ◌==◌, Bool, true, false, cond, Option, Some, None, List, [], ◌∷◌, ◌++◌, length, refl, ap, sym, ◌∙◌, subst, length-append, append-nil}
 use Rattle.std.specs.Prelude.{⊤}
 use Rattle.std.proofs.lemmas.Bool.{eqb-true, eq-eqb, and_parts, both_ways}
 use Rattle.std.specs.Option.{option_map}
@@ -13,8 +13,8 @@ use Rattle.pt_events.specs.History.{Past, Start, unborn, life, after, change, ne
 use Rattle.pt_laws.specs.Taken.{taken, taken_by}
 use Rattle.pt_events.proofs.Phases.{after_born, each_branch}
 use Rattle.pt_accounts.specs.LifeState.{LifeState}
-use Rattle.pt_accounts.specs.Table.{Slots, at, found, Tells, AreTold}
-use Rattle.pt_accounts.specs.Steps.{is_place_of, Changes, Puts, changes_parent, Observes, shown}
+use Rattle.pt_accounts.specs.Table.{Slots, of_version, at, found, Tells, AreTold}
+use Rattle.pt_accounts.specs.Steps.{is_place_of, Changes, Puts, changes_parent, Observes, AreAlike, shown}
 
 -- one pid -------------------------------------------------------------------------------------
 
@@ -66,6 +66,13 @@ place_false p t h = go (same_pid p t) refl
         let z : is_place_of t p.slot p.version ≡ true = subst (λ q. is_place_of t q.slot q.version ≡ true) (sym k) (rw (eq-eqb t.slot t.slot refl, eq-eqb t.version t.version refl) refl) in
         absurd (both_ways _ h z)
 
+pub place_other : (q t : Pid) → q.shard ≡ t.shard → same_pid t q ≡ false → is_place_of q t.slot t.version ≡ false
+place_other q t s n = go (is_place_of q t.slot t.version) refl
+  where
+    go : (b : Bool) → is_place_of q t.slot t.version ≡ b → is_place_of q t.slot t.version ≡ false
+    go false e = e
+    go true e = let z : same_pid t q ≡ true = place_true t q s e in absurd (both_ways _ n z)
+
 place_self : (q : Pid) → is_place_of q q.slot q.version ≡ true
 place_self q = rw (eq-eqb q.slot q.slot refl, eq-eqb q.version q.version refl) refl
 
@@ -73,96 +80,108 @@ pub found_here : (desk : ℕ) (slots : Slots) (p : Pid) → p.shard ≡ desk →
 found_here desk slots p h = rw (eq-eqb p.shard desk h) refl
 
 -- the event is t's own, and p is told of
-pub tells_changed : (start : Start) (desk : ℕ) (old new : Slots) (past : Past) (e : Event) (t p : Pid) → t.shard ≡ desk → touches p e ≡ same_pid p t → Unmoved start past p e → Changes t (shown e) old new
-    → Tells start past p (found desk old p) → Tells start (e ∷ past) p (found desk new p)
-tells_changed start desk old new past e t p home own u c h = go (p.shard == desk) refl
+tells_changed : (start : Start) (old new : Slots) (past : Past) (e : Event) (t p : Pid) → touches p e ≡ same_pid p t → Unmoved start past p e → Changes t (shown e) old new
+    → Tells start past p (at old p.slot p.version) → Tells start (e ∷ past) p (at new p.slot p.version)
+tells_changed start old new past e t p own u c h = go (is_place_of t p.slot p.version) refl
   where
-    here : p.shard ≡ desk → (b : Bool) → is_place_of t p.slot p.version ≡ b → Tells start past p (at old p.slot p.version) → Tells start (e ∷ past) p (at new p.slot p.version)
-    here s true k h =
-        let was : at new p.slot p.version ≡ option_map (shown e) (at old p.slot p.version) = c p.slot p.version ∙ ap (λ b. cond b (option_map (shown e) (at old p.slot p.version)) (at old p.slot p.version)) k in
-        subst (Tells start (e ∷ past) p) (sym was) (tells_seen start past p e (at old p.slot p.version) u h)
-    here s false k h =
-        let was : at new p.slot p.version ≡ at old p.slot p.version = c p.slot p.version ∙ ap (λ b. cond b (option_map (shown e) (at old p.slot p.version)) (at old p.slot p.version)) k in
-        subst (Tells start (e ∷ past) p) (sym was) (tells_still start past p e (at old p.slot p.version) (own ∙ place_false p t k) h)
+    was : (b : Bool) → is_place_of t p.slot p.version ≡ b → at new p.slot p.version ≡ cond b (option_map (shown e) (at old p.slot p.version)) (at old p.slot p.version)
+    was b k = c p.slot p.version ∙ ap (λ b. cond b (option_map (shown e) (at old p.slot p.version)) (at old p.slot p.version)) k
 
-    go : (b : Bool) → (p.shard == desk) ≡ b → Tells start (e ∷ past) p (found desk new p)
-    go true s =
-        let k : p.shard ≡ desk = eqb-true p.shard desk s in
-        subst (Tells start (e ∷ past) p) (sym (found_here desk new p k)) (here k (is_place_of t p.slot p.version) refl (subst (Tells start past p) (found_here desk old p k) h))
-    go false s =
-        let old_none : found desk old p ≡ None = ap (λ b. cond b (at old p.slot p.version) None) s in
-        let new_none : found desk new p ≡ None = ap (λ b. cond b (at new p.slot p.version) None) s in
-        subst (Tells start (e ∷ past) p) (sym new_none) (tells_seen start past p e None u (subst (Tells start past p) old_none h))
+    go : (b : Bool) → is_place_of t p.slot p.version ≡ b → Tells start (e ∷ past) p (at new p.slot p.version)
+    go true k = subst (Tells start (e ∷ past) p) (sym (was true k)) (tells_seen start past p e (at old p.slot p.version) u h)
+    go false k = subst (Tells start (e ∷ past) p) (sym (was false k)) (tells_still start past p e (at old p.slot p.version) (own ∙ place_false p t k) h)
 
--- all pids ------------------------------------------------------------------------------------
+-- all pids of the desk ------------------------------------------------------------------------
+
+-- what the table tells of p
+pub told_at : (start : Start) (desk : ℕ) (slots : Slots) (past : Past) (p : Pid) → AreTold start desk slots past → p.shard ≡ desk → Tells start past p (at slots p.slot p.version)
+told_at start desk slots past p told s = subst (Tells start past p) (found_here desk slots p s) (told p s)
+
+-- it tells so of each
+pub all_told : (start : Start) (desk : ℕ) (slots : Slots) (past : Past) → ((p : Pid) → p.shard ≡ desk → Tells start past p (at slots p.slot p.version)) → AreTold start desk slots past
+all_told start desk slots past h p s = subst (Tells start past p) (sym (found_here desk slots p s)) (h p s)
+
+-- tables that are alike tell the same
+pub told_alike : (start : Start) (desk : ℕ) (old new : Slots) (past : Past) → AreAlike old new → AreTold start desk old past → AreTold start desk new past
+told_alike start desk old new past same told = all_told start desk new past (λ p s. subst (λ (l : List LifeState). Tells start past p (of_version l p.version)) (sym (same p.slot)) (told_at start desk old past p told s))
 
 -- the event is no birth, and t's own alone
-pub told_changed : (start : Start) (desk : ℕ) (old new : Slots) (past : Past) (e : Event) (t : Pid) → t.shard ≡ desk → ((p : Pid) → touches p e ≡ same_pid p t) → ((p : Pid) → Unmoved start past p e)
+pub told_changed : (start : Start) (desk : ℕ) (old new : Slots) (past : Past) (e : Event) (t : Pid) → ((p : Pid) → touches p e ≡ same_pid p t) → ((p : Pid) → Unmoved start past p e)
     → Changes t (shown e) old new → AreTold start desk old past → AreTold start desk new (e ∷ past)
-told_changed start desk old new past e t home own u c h p = tells_changed start desk old new past e t p home (own p) (u p) c (h p)
+told_changed start desk old new past e t own u c told = all_told start desk new (e ∷ past) (λ p s. tells_changed start old new past e t p (own p) (u p) c (told_at start desk old past p told s))
 
 -- who has no life in the table is unborn, and who is unborn has none
 pub none_unborn : (start : Start) (past : Past) (p : Pid) (o : Option LifeState) → Tells start past p o → life start past p ≡ unborn → (o ≡ None) × (taken past p ≡ [])
 none_unborn start past p None h u = (refl, h.1)
 none_unborn start past p (Some l) h u = let k : is_unborn (life start past p) ≡ true = ap is_unborn u in absurd (both_ways _ h.1 k)
 
-abbrev pub HomeParent : ℕ → Option Pid → Type 0
-HomeParent desk None = ⊤
-HomeParent desk (Some t) = t.shard ≡ desk
+-- the parent has another place than its child
+abbrev pub IsApart : Pid → Option Pid → Type 0
+IsApart q None = ⊤
+IsApart q (Some t) = is_place_of q t.slot t.version ≡ false
 
-pub told_born : (start : Start) (desk : ℕ) (old mid new : Slots) (past : Past) (q : Pid) (parent : Option Pid) (link : Option LinkId) → q.shard ≡ desk → HomeParent desk parent → life start past q ≡ unborn
-    → changes_parent parent (Born q parent link) old mid → Puts q (record { pid = q; phase = newborn parent link unborn; taken = 0 }) mid new
-    → AreTold start desk old past → AreTold start desk new (Born q parent link ∷ past)
-told_born start desk old mid new past q parent link home hp u c puts h p = go (same_pid p q) refl
+place_turned : (q t : Pid) → is_place_of q t.slot t.version ≡ false → is_place_of t q.slot q.version ≡ false
+place_turned q t h = go (is_place_of t q.slot q.version) refl
   where
-    born : Tells start (Born q parent link ∷ past) q (Some (record { pid = q; phase = newborn parent link unborn; taken = 0 }))
-    born =
-        let none = none_unborn start past q (found desk old q) (h q) u in
-        let lives : life start (Born q parent link ∷ past) q ≡ newborn parent link unborn = rw (same_pid_refl q, u) refl in
-        let took : taken (Born q parent link ∷ past) q ≡ [] = append-nil _ ∙ none.1 in
-        (rw (lives, took) refl, rw lives refl)
+    go : (b : Bool) → is_place_of t q.slot q.version ≡ b → is_place_of t q.slot q.version ≡ false
+    go false e = e
+    go true e =
+        let k = and_parts (t.slot == q.slot) (t.version == q.version) e in
+        let z : is_place_of q t.slot t.version ≡ true = rw (eq-eqb q.slot t.slot (sym (eqb-true t.slot q.slot k.0)), eq-eqb q.version t.version (sym (eqb-true t.version q.version k.1))) refl in
+        absurd (both_ways _ h z)
 
-    other : same_pid p q ≡ false → (parent' : Option Pid) → HomeParent desk parent' → changes_parent parent' (Born q parent' link) old mid → Tells start (Born q parent' link ∷ past) p (found desk mid p)
-    other n None hp c =
-        let same : found desk mid p ≡ found desk old p = ap (λ z. cond (p.shard == desk) z None) (c p.slot p.version) in
-        subst (Tells start (Born q None link ∷ past) p) (sym same) (tells_still start past p (Born q None link) (found desk old p) (rw n refl) (h p))
-    other n (Some t) hp c =
-        tells_changed start desk old mid past (Born q (Some t) link) t p hp (rw n refl) (λ v. (rw n (each_branch (λ f. f ≡ unborn) (same_pid p t) unborn unborn refl refl), refl)) c (h p)
+module _ (start : Start) (desk : ℕ) (old mid new : Slots) (past : Past) (q : Pid) (parent : Option Pid) (link : Option LinkId) where
+  abbrev born : LifeState
+  born = record { pid = q; phase = newborn parent link unborn; taken = 0 }
 
-    elsewhere : same_pid p q ≡ false → found desk new p ≡ found desk mid p
-    elsewhere n = there (p.shard == desk) refl
-      where
-        there : (b : Bool) → (p.shard == desk) ≡ b → found desk new p ≡ found desk mid p
-        there false s = rw s refl
-        there true s = apart (is_place_of q p.slot p.version) refl
-          where
-            apart : (b : Bool) → is_place_of q p.slot p.version ≡ b → found desk new p ≡ found desk mid p
-            apart true k = let z : same_pid p q ≡ true = place_true p q (home ∙ sym (eqb-true p.shard desk s)) k in absurd (both_ways _ n z)
-            apart false k = ap (λ z. cond (p.shard == desk) z None) (puts p.slot p.version ∙ ap (λ b. cond b (Some (record { pid = q; phase = newborn parent link unborn; taken = 0 })) (at mid p.slot p.version)) k)
+  abbrev Next : Past
+  Next = Born q parent link ∷ past
 
-    go : (b : Bool) → same_pid p q ≡ b → Tells start (Born q parent link ∷ past) p (found desk new p)
-    go true k =
-        let same : q ≡ p = sym (same_pid_is p q k) in
-        let is : found desk new q ≡ Some (record { pid = q; phase = newborn parent link unborn; taken = 0 }) =
-        found_here desk new q home ∙ puts q.slot q.version ∙ ap (λ b. cond b (Some (record { pid = q; phase = newborn parent link unborn; taken = 0 })) (at mid q.slot q.version)) (place_self q)
-        in
-        subst (λ z. Tells start (Born q parent link ∷ past) z (found desk new z)) same (subst (Tells start (Born q parent link ∷ past) q) (sym is) born)
-    go false k = subst (Tells start (Born q parent link ∷ past) p) (sym (elsewhere k)) (other k parent hp c)
+  put_here : Puts q born old mid → at mid q.slot q.version ≡ Some born
+  put_here puts = puts q.slot q.version ∙ ap (λ b. cond b (Some born) (at old q.slot q.version)) (place_self q)
 
--- what the code of a birth does --------------------------------------------------------------
+  put_elsewhere : (p : Pid) → p.shard ≡ q.shard → same_pid p q ≡ false → Puts q born old mid → at mid p.slot p.version ≡ at old p.slot p.version
+  put_elsewhere p s n puts = apart (is_place_of q p.slot p.version) refl
+    where
+      apart : (b : Bool) → is_place_of q p.slot p.version ≡ b → at mid p.slot p.version ≡ at old p.slot p.version
+      apart true k = let z : same_pid p q ≡ true = place_true p q (sym s) k in absurd (both_ways _ n z)
+      apart false k = puts p.slot p.version ∙ ap (λ b. cond b (Some born) (at old p.slot p.version)) k
 
-pub some_parent : (e : Event) (q : Pid) (parent : Option Pid) (link : Option LinkId) (t : Pid) (old mid new : Slots) → e ≡ Born q parent link → parent ≡ Some t → mid ≡ new
-    → Changes t (shown e) old new → changes_parent parent (Born q parent link) old mid
-some_parent e q parent link t old mid new is some same c =
-    let k : Changes t (shown (Born q parent link)) old mid = subst (λ z. Changes t (shown (Born q parent link)) old z) (sym same) (subst (λ z. Changes t (shown z) old new) is c) in
-    subst (λ o. changes_parent o (Born q parent link) old mid) (sym some) k
+  -- the child's place stays as it was put
+  kept_here : (parent' : Option Pid) → IsApart q parent' → (e : Event) → changes_parent parent' e mid new → at new q.slot q.version ≡ at mid q.slot q.version
+  kept_here None a e c = c q.slot q.version
+  kept_here (Some t) a e c = c q.slot q.version ∙ ap (λ b. cond b (option_map (shown e) (at mid q.slot q.version)) (at mid q.slot q.version)) (place_turned q t a)
 
-pub no_parent : (e : Event) (parent : Option Pid) (old mid : Slots) → parent ≡ None → mid ≡ old → changes_parent parent e old mid
-no_parent e parent old mid none same =
-    let k : (s v : ℕ) → at mid s v ≡ at old s v = λ s v. ap (λ z. at z s v) same in
-    subst (λ o. changes_parent o e old mid) (sym none) k
+  tells_born : AreTold start desk old past → q.shard ≡ desk → life start past q ≡ unborn → Tells start Next q (Some born)
+  tells_born told home u =
+      let none = none_unborn start past q (at old q.slot q.version) (told_at start desk old past q told home) u in
+      let lives : life start Next q ≡ newborn parent link unborn = rw (same_pid_refl q, u) refl in
+      let took : taken Next q ≡ [] = append-nil _ ∙ none.1 in
+      (rw (lives, took) refl, rw lives refl)
 
-pub observed_born : (e : Event) (old mid new : Slots) (q : Pid) (parent : Option Pid) (link : Option LinkId) (l : LifeState) → e ≡ Born q parent link
-    → changes_parent parent (Born q parent link) old mid → l ≡ record { pid = q; phase = newborn parent link unborn; taken = 0 } → Puts q l mid new → Observes e old new
-observed_born e old mid new q parent link l is c life puts =
-    subst (λ z. Observes z old new) (sym is) (mid, c, subst (λ z. Puts q z mid new) life puts)
+  tells_other : (parent' : Option Pid) (p : Pid) → same_pid p q ≡ false → changes_parent parent' (Born q parent' link) mid new → Tells start past p (at mid p.slot p.version)
+      → Tells start (Born q parent' link ∷ past) p (at new p.slot p.version)
+  tells_other None p n c h = subst (Tells start (Born q None link ∷ past) p) (sym (c p.slot p.version)) (tells_still start past p (Born q None link) (at mid p.slot p.version) (rw n refl) h)
+  tells_other (Some t) p n c h =
+      tells_changed start mid new past (Born q (Some t) link) t p (rw n refl) (λ v. (rw n (each_branch (λ f. f ≡ unborn) (same_pid p t) unborn unborn refl refl), refl)) c h
+
+  pub told_born : q.shard ≡ desk → IsApart q parent → life start past q ≡ unborn → Puts q born old mid → changes_parent parent (Born q parent link) mid new → AreTold start desk old past
+      → AreTold start desk new Next
+  told_born home apart u puts c told = all_told start desk new Next each
+    where
+      each : (p : Pid) → p.shard ≡ desk → Tells start Next p (at new p.slot p.version)
+      each p s = go (same_pid p q) refl
+        where
+          go : (b : Bool) → same_pid p q ≡ b → Tells start Next p (at new p.slot p.version)
+          go true k =
+              let same : q ≡ p = sym (same_pid_is p q k) in
+              let is : at new q.slot q.version ≡ Some born = kept_here parent apart (Born q parent link) c ∙ put_here puts in
+              subst (λ (z : Pid). Tells start Next z (at new z.slot z.version)) same (subst (Tells start Next q) (sym is) (tells_born told home u))
+          go false k = tells_other parent p k c (subst (Tells start past p) (sym (put_elsewhere p (s ∙ sym home) k puts)) (told_at start desk old past p told s))
+
+-- what the code of a birth does -----------------------------------------------------------------
+
+pub observed_born : (old mid new : Slots) (q : Pid) (parent : Option Pid) (link : Option LinkId) (t : Pid) (l : LifeState) → parent ≡ Some t
+    → l ≡ record { pid = q; phase = newborn parent link unborn; taken = 0 } → Puts q l old mid → Changes t (shown (Born q (Some t) link)) mid new → Observes (Born q parent link) old new
+observed_born old mid new q parent link t l some life puts c =
+    (mid, subst (λ z. Puts q z old mid) life puts, subst (λ o. changes_parent o (Born q o link) mid new) (sym some) c)

@@ -1,6 +1,6 @@
 -- What an event does to the table of one desk's processes, and which may come. No public clause cites this module.
-use Rattle.std.specs.Prelude.{◌≡◌, ℕ, ◌+◌, ◌<◌, ◌^◌, ◌==◌, ◌&&◌, Bool, true, false, cond, length, Option, Some, None}
-use Rattle.std.specs.Prelude.{IfSome, ⊤}
+use Rattle.std.specs.Prelude.{◌≡◌, ℕ, ◌+◌, ◌<◌, ◌^◌, ◌==◌, ◌&&◌, Bool, true, false, cond, List, length}
+use Rattle.std.specs.Prelude.{Option, Some, None, IfSome, ⊤}
 use Rattle.std.specs.Option.{option_map}
 use Rattle.pt_signal.specs.declared.pid.Pid.{Pid}
 use Rattle.pt_events.specs.declared.event.Event.{Event}
@@ -8,10 +8,13 @@ use Rattle.pt_events.specs.declared.event.Event.TheVariants.{Born, Said, Came, T
 use Rattle.pt_signal.specs.Values.{same_pid}
 use Rattle.pt_signal.specs.Process.{ProcessState}
 use Rattle.pt_process.specs.Outcome.{IsAnew}
-use Rattle.pt_events.specs.History.{Phase, unborn, living, ended, newborn, after, touches}
+use Rattle.pt_events.specs.History.{Past, Start, Phase, unborn, living, ended, newborn, after, touches, state}
+use Rattle.pt_events.specs.Journal.{IsHome, MayHere, IsKnown}
 use Rattle.pt_laws.specs.Taken.{taken_by}
 use Rattle.pt_accounts.specs.LifeState.{LifeState}
-use Rattle.pt_accounts.specs.Table.{Slots, slot_at, at}
+use Rattle.pt_accounts.specs.Table.{Slots, slot_at, at, AreTold}
+use Rattle.pt_accounts.specs.SlotState.{AreVersions, HasEnded}
+use Rattle.pt_accounts.specs.DeskLives.{DeskTable}
 
 -- one process ---------------------------------------------------------------------------------------
 
@@ -58,11 +61,16 @@ abbrev pub changes_parent : Option Pid → Event → Slots → Slots → Type 0
 changes_parent None e old new = (s v : ℕ) → at new s v ≡ at old s v
 changes_parent (Some q) e old new = Changes q (shown e) old new
 
+-- each slot has had the same
+abbrev pub AreAlike : Slots → Slots → Type 0
+AreAlike old new = (s : ℕ) → slot_at new s ≡ slot_at old s
+
 -- the table after the event
 abbrev pub Observes : Event → Slots → Slots → Type 0
 Observes (Born p parent link) old new =
-    (mid : Slots) × changes_parent parent (Born p parent link) old mid
-    × Puts p (record { pid = p; phase = newborn parent link unborn; taken = 0 }) mid new
+    (mid : Slots)
+    × Puts p (record { pid = p; phase = newborn parent link unborn; taken = 0 }) old mid
+    × changes_parent parent (Born p parent link) mid new
 Observes (Said a b x) old new = Changes a (shown (Said a b x)) old new
 Observes (Came a b x) old new = Changes b (shown (Came a b x)) old new
 Observes (Took p k i) old new = Changes p (shown (Took p k i)) old new
@@ -73,17 +81,40 @@ Observes (Refused a b) old new = new ≡ old
 abbrev pub MayShow : Slots → Pid → Event → Type 0
 MayShow slots p e = IfSome (at slots p.slot p.version) (MaySee e)
 
-abbrev pub may_show_parent : Slots → Option Pid → Event → Type 0
-may_show_parent slots None e = ⊤
-may_show_parent slots (Some q) e = MayShow slots q e
+-- the parent has another place than its child
+abbrev pub may_show_parent : Slots → Option Pid → Pid → Event → Type 0
+may_show_parent slots None p e = ⊤
+may_show_parent slots (Some q) p e = MayShow slots q e × (is_place_of p q.slot q.version ≡ false)
 
--- the event may come: a birth is of the next version of its slot
+-- it is the slot's next, of which all are, and whose last one has ended
+pub record IsNextOf (p : Pid) (lives : List LifeState) : Type 0 where
+  pub next : p.version ≡ length lives + 1
+  pub placed : AreVersions p.shard p.slot 1 lives
+  pub over : HasEnded lives
+
+-- the event may come
 abbrev pub MayObserve : Slots → Event → Type 0
 MayObserve slots (Born p parent link) =
-    may_show_parent slots parent (Born p parent link) × (p.version ≡ length (slot_at slots p.slot) + 1)
+    may_show_parent slots parent p (Born p parent link) × IsNextOf p (slot_at slots p.slot)
 MayObserve slots (Said a b x) = MayShow slots a (Said a b x)
 MayObserve slots (Came a b x) = MayShow slots b (Came a b x)
 MayObserve slots (Took p k i) = MayShow slots p (Took p k i)
 MayObserve slots (Flag p on) = MayShow slots p (Flag p on)
 MayObserve slots (Left p r) = MayShow slots p (Left p r)
 MayObserve slots (Refused a b) = ⊤
+
+-- a monitor is opened under a reference that is not open
+abbrev pub IsAnewAfter : Start → Past → Event → Type 0
+IsAnewAfter start past (Said a b x) = IsAnew x (state start past a)
+IsAnewAfter start past _ = ⊤
+
+-- the event goes on from what the table tells of some history
+pub record GoesOn (t : DeskTable) (e : Event) : Type 0 where
+  pub start : Start
+  pub past : Past
+  pub top : ℕ
+  pub told : AreTold start t.desk t.slots past
+  pub home : IsHome t.desk e
+  pub may : MayHere start past e
+  pub known : IsKnown start t.desk top past e
+  pub anew : IsAnewAfter start past e

@@ -20,6 +20,10 @@ slot_at slots s = slice_index_or slots s []
 abbrev pub at : Slots → ℕ → ℕ → Option LifeState
 at slots s v = of_version (slot_at slots s) v
 
+abbrev pub of_version_in : Option (List LifeState) → ℕ → Option LifeState
+of_version_in None v = None
+of_version_in (Some lives) v = of_version lives v
+
 -- the life that a desk's table has for p
 abbrev pub found : ℕ → Slots → Pid → Option LifeState
 found desk slots p = cond (p.shard == desk) (at slots p.slot p.version) None
@@ -33,5 +37,6 @@ Tells start past p (Some l) = (l ≡ record {
   taken = length (taken past p);
 }) × (is_unborn (life start past p) ≡ false)
 
+-- so of each pid of the desk
 abbrev pub AreTold : Start → ℕ → Slots → Past → Type 0
-AreTold start desk slots past = (p : Pid) → Tells start past p (found desk slots p)
+AreTold start desk slots past = (p : Pid) → p.shard ≡ desk → Tells start past p (found desk slots p)

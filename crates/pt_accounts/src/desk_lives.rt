@@ -1,44 +1,54 @@
 //! The processes of one desk.
 
-ghost use Rattle.std.specs.Prelude.{◌≡◌, [], ◌+◌, ◌<◌, ◌++◌, ℕ, length, OnOk, IfOk};
+ghost use Rattle.std.specs.Prelude.{◌≡◌, [], ◌∷◌, ◌+◌, ◌<◌, ◌^◌, ◌++◌, ℕ, length, map, option_to_list, OnOk, OnErr};
 ghost use Rattle.std.specs.Option.{option_map};
-ghost use Rattle.pt_events.specs.Journal.{events};
 ghost use Rattle.pt_accounts.specs.LifeState.{account_of};
-ghost use Rattle.pt_accounts.specs.DeskLives.{AreCounted, IsDeskJournal, IsTableOf, life_in, linked_in, kept_by};
-ghost use Rattle.pt_accounts.specs.DeskLives.{watching_in, pids_in};
-ghost use Rattle.pt_accounts.specs.Table.{slot_at};
-ghost use Rattle.pt_accounts.specs.Steps.{Changes, KeepsLengths, Puts, Observes, MayShow, MayObserve, shown};
+ghost use Rattle.pt_accounts.specs.DeskLives.{life_in, linked_in, kept_by, watching_in, pids_in, MayRead, ReadsOn};
+ghost use Rattle.pt_accounts.specs.DeskLives.{forgotten, all_forgotten, BeginsAnew, latest_ends};
+ghost use Rattle.pt_accounts.specs.Table.{slot_at, of_version_in};
+ghost use Rattle.pt_events.specs.declared.event.Event.TheVariants.{Born};
+ghost use Rattle.pt_accounts.specs.SlotState.{IsCountedUpTo};
+ghost use Rattle.pt_accounts.specs.Steps.{Changes, Puts, Observes, AreAlike, IsNextOf, GoesOn};
+ghost use Rattle.pt_accounts.specs.Steps.{MayShow, MayObserve, shown};
 
 use crate::Account;
 use crate::life::Life;
 use crate::slot::Slot;
 use pt_events::{Event, Journal};
-use pt_signal::{Ids, Pid, Ref};
+use pt_signal::{Ids, LinkId, Pid, Ref};
 use std::alloc::{AllocError, Global};
 use std::marker::Model;
 
-/// What became of every process of one desk, read from its journal.
+/// What became of every process of one desk, as far as its journal has been read.
+///
+/// Contracts see, of each slot and version, the process's life, and how many events of the journal have been read.
 #[derive(Drop)]
-pub(crate) struct DeskLives {
+pub struct DeskLives {
+    alloc: Global,
     desk: u8,
     slots: Vec<Slot>,
+    read: usize,
+    /// How many events were ever read: no process got more items.
+    ever: u64,
 }
 
 impl Model for DeskLives {
-    ghost use Rattle.pt_accounts.specs.DeskLives.{DeskTable, AreCounted};
+    ghost use Rattle.pt_accounts.specs.DeskLives.{DeskTable};
+    ghost use Rattle.pt_accounts.specs.SlotState.{IsCountedUpTo};
 
     ghost Value = { DeskTable };
 
-    ghost view = { λ d. record { desk = d.desk; slots = d.slots.items } };
+    ghost view = { λ d. record { desk = d.desk; slots = d.slots.items; read = d.read } };
 
-    ghost invariant = { λ d. AreCounted d.slots.items };
+    ghost invariant = { λ d. IsCountedUpTo d.ever d.slots.items };
 }
 
 /// One of the process's own events happens.
 fn show(slots: &mut Vec<Slot>, pid: Pid, event: Event) -> Result<(), AllocError>
     requires { MayShow slots.old.items pid event }
     ensures changes { OnOk result (Changes pid (shown event) slots.old.items slots.new.items) }
-    ensures lengths { OnOk result (KeepsLengths slots.old.items slots.new.items) }
+    ensures len { length slots.new.items ≡ length slots.old.items }
+    ensures refused { OnErr result (AreAlike slots.old.items slots.new.items) }
 {
     let slot = pid.slot as usize;
     if slot < slots.len() {
@@ -50,7 +60,7 @@ fn show(slots: &mut Vec<Slot>, pid: Pid, event: Event) -> Result<(), AllocError>
 /// Makes the table long enough to have the slot.
 fn grow(alloc: Global, slots: &mut Vec<Slot>, slot: usize) -> Result<(), AllocError>
     ensures long { OnOk result (slot < length slots.new.items) }
-    ensures same { (s : ℕ) → slot_at slots.new.items s ≡ slot_at slots.old.items s }
+    ensures same { AreAlike slots.old.items slots.new.items }
 {
     while slots.len() <= slot {
         slots.push(Slot::new(alloc))?;
@@ -60,30 +70,54 @@ fn grow(alloc: Global, slots: &mut Vec<Slot>, slot: usize) -> Result<(), AllocEr
 
 /// The process begins, in the next version of its slot.
 fn bear(alloc: Global, slots: &mut Vec<Slot>, pid: Pid, life: Life) -> Result<(), AllocError>
-    requires { pid.version ≡ length (slot_at slots.old.items pid.slot) + 1 }
-    ensures { OnOk result (Puts pid life slots.old.items slots.new.items) }
+    requires pid { life.pid ≡ pid }
+    requires next { IsNextOf pid (slot_at slots.old.items pid.slot) }
+    ensures long { OnOk result (pid.slot < length slots.new.items) }
+    ensures puts { OnOk result (Puts pid life slots.old.items slots.new.items) }
+    ensures lives { OnOk result
+        (slot_at slots.new.items pid.slot ≡ slot_at slots.old.items pid.slot ++ life ∷ []) }
+    ensures others { OnOk result
+        ((s : ℕ) → (pid.slot ≡ s → ⊥) → slot_at slots.new.items s ≡ slot_at slots.old.items s) }
+    ensures refused { OnErr result (AreAlike slots.old.items slots.new.items) }
 {
     let slot = pid.slot as usize;
     grow(alloc, slots, slot)?;
-    slots[slot].push(life)?;
+    slots[slot].push(pid, life)?;
     Ok(())
 }
 
-/// The event happens.
+/// A process is born, and linked with its parent where it is born so. After a refusal each is as before.
+fn bear_child(
+    alloc: Global,
+    slots: &mut Vec<Slot>,
+    pid: Pid,
+    parent: Option<Pid>,
+    link: Option<LinkId>,
+) -> Result<(), AllocError>
+    requires { MayObserve slots.old.items (Born pid parent link) }
+    ensures observes { OnOk result (Observes (Born pid parent link) slots.old.items slots.new.items) }
+    ensures refused { OnErr result (AreAlike slots.old.items slots.new.items) }
+{
+    let life = Life::born(alloc, pid, parent, link)?;
+    bear(alloc, slots, pid, life)?;
+    let Some(maker) = parent else {
+        return Ok(());
+    };
+    let shown = show(slots, maker, Event::Born(pid, parent, link));
+    if shown.is_err() {
+        slots[pid.slot as usize].pop();
+    }
+    shown
+}
+
+/// The event happens. After a refusal each process is as before.
 fn observe(alloc: Global, slots: &mut Vec<Slot>, event: Event) -> Result<(), AllocError>
     requires { MayObserve slots.old.items event }
-    ensures { OnOk result (Observes event slots.old.items slots.new.items) }
+    ensures observes { OnOk result (Observes event slots.old.items slots.new.items) }
+    ensures refused { OnErr result (AreAlike slots.old.items slots.new.items) }
 {
     match event {
-        Event::Born(pid, parent, link) => {
-            let life = Life::born(alloc, pid, parent, link)?;
-            match parent {
-                Some(maker) => show(slots, maker, event)?,
-                None => {}
-            }
-            bear(alloc, slots, pid, life)?;
-            Ok(())
-        }
+        Event::Born(pid, parent, link) => bear_child(alloc, slots, pid, parent, link),
         Event::Said(from, _, _) => show(slots, from, event),
         Event::Came(_, to, _) => show(slots, to, event),
         Event::Took(pid, _, _) => show(slots, pid, event),
@@ -93,62 +127,137 @@ fn observe(alloc: Global, slots: &mut Vec<Slot>, event: Event) -> Result<(), All
     }
 }
 
+/// Of each process that has ended the reason alone is kept, and what the others took counts anew.
+fn forget_all(slots: &mut Vec<Slot>)
+    ensures { slots.new.items ≡ map (λ lives. map forgotten lives) slots.old.items }
+{
+    for slot in 0..slots.len() {
+        slots[slot].forget();
+    }
+}
+
+/// Adds the end, if there is one.
+fn add_end(ends: &mut Vec<(Pid, u64)>, pid: Option<Pid>, low: u64) -> Result<(), AllocError>
+    ensures { OnOk result (ends.new.items ≡ ends.old.items ++ map (λ p. (p, low)) (option_to_list pid)) }
+{
+    if let Some(pid) = pid {
+        ends.push((pid, low))?;
+    }
+    Ok(())
+}
+
 impl DeskLives {
-    /// Reads the journal from its first event to its last.
-    pub fn of(alloc: Global, journal: &Journal) -> Result<DeskLives, AllocError>
-        requires { IsDeskJournal [] journal.now.desk journal.now.past }
-        ensures { IfOk result (λ lives. IsTableOf [] journal.now.desk (events journal.now.past) lives) }
+    /// The desk with this number, on which nobody was yet. It takes no memory.
+    pub fn new(alloc: Global, desk: u8) -> DeskLives
+        ensures { result ≡ record { desk = desk; slots = []; read = 0 } }
     {
-        let desk = journal.desk();
-        let stamped = journal.events();
-        let mut slots = Vec::new(alloc);
-        for place in 0..stamped.len() {
-            observe(alloc, &mut slots, stamped[place].event)?;
+        DeskLives {
+            alloc,
+            desk,
+            slots: Vec::new(alloc),
+            read: 0,
+            ever: 0,
         }
-        Ok(DeskLives { desk, slots })
     }
 
-    fn life(&self, pid: Pid) -> Option<&Life>
-        ensures life { option_map (λ life. life.now) result ≡ life_in self.now pid }
-        ensures counted { AreCounted self.now.slots }
+    /// Reads the journal on, from the first event that it has not read yet to the last.
+    ///
+    /// Where memory is refused, the events before the one that found none have been read, and that one has changed
+    /// nothing: read again, it goes on there.
+    pub fn read(&mut self, journal: &Journal) -> Result<(), AllocError>
+        requires { MayRead self.old journal.now.past }
+        ensures on { ReadsOn journal.now.past self.old self.new }
+        ensures whole { OnOk result (self.new.read ≡ length journal.now.past) }
+    {
+        let events = journal.events();
+        for place in self.read..events.len() {
+            self.step(events[place].event)?;
+        }
+        Ok(())
+    }
+
+    /// The next event of the journal happens. After a refusal each process is as before.
+    fn step(&mut self, event: Event) -> Result<(), AllocError>
+        requires next { GoesOn self.old event }
+        requires few { self.old.read + 1 < 2 ^ 64 }
+        ensures desk { self.new.desk ≡ self.old.desk }
+        ensures read { OnOk result (self.new.read ≡ self.old.read + 1) }
+        ensures observes { OnOk result (Observes event self.old.slots self.new.slots) }
+        ensures unread { OnErr result (self.new.read ≡ self.old.read) }
+        ensures refused { OnErr result (AreAlike self.old.slots self.new.slots) }
+    {
+        let Some(ever) = self.ever.checked_add(1) else {
+            return Err(AllocError);
+        };
+        observe(self.alloc, &mut self.slots, event)?;
+        self.ever = ever;
+        self.read += 1;
+        Ok(())
+    }
+
+    /// Forgets what the ended processes held and how they came to it: of each its reason is kept, in 8 bytes. The
+    /// others stay as they are, and what they take counts anew. The next journal that is read is the one that goes on
+    /// from here. It takes no memory.
+    pub fn forget(&mut self)
+        ensures forgets { self.new ≡ all_forgotten self.old }
+        ensures anew { BeginsAnew self.old self.new }
+    {
+        forget_all(&mut self.slots);
+        self.read = 0;
+    }
+
+    /// Adds, of each slot in which a process has ended, the latest, by slot, each with this stamp.
+    pub fn latest_ends(&self, low: u64, ends: &mut Vec<(Pid, u64)>) -> Result<(), AllocError>
+        ensures { OnOk result (ends.new.items ≡ ends.old.items ++ map (λ p. (p, low)) (latest_ends self.now)) }
+    {
+        for slot in 0..self.slots.len() {
+            add_end(ends, self.slots[slot].latest_end(), low)?;
+        }
+        Ok(())
+    }
+
+    fn slot(&self, pid: Pid) -> Option<&Slot>
+        ensures slot { life_in self.now pid ≡ of_version_in (option_map (λ slot. slot.now) result) pid.version }
+        ensures counted { (n : ℕ) × IsCountedUpTo n self.now.slots }
     {
         if pid.shard != self.desk {
             return None;
         }
         let slot = pid.slot as usize;
         if slot < self.slots.len() {
-            self.slots[slot].version(pid.version)
+            Some(&self.slots[slot])
         } else {
             None
         }
     }
 
-    /// What is told of the process, or `None` where it was never born.
+    /// What is told of the process, or `None` where it was never born. Of one that was forgotten, no items.
     pub fn account(&self, pid: Pid) -> Option<Account>
         ensures { result ≡ option_map account_of (life_in self.now pid) }
     {
-        match self.life(pid) {
-            Some(life) => Some(life.account()),
+        match self.slot(pid) {
+            Some(slot) => slot.account(pid.version),
             None => None,
         }
     }
 
-    /// The ids under which it is linked with the other process, or was just after its end.
+    /// The ids under which it is linked with the other process, or was just after its end; none of one that was
+    /// forgotten.
     pub fn linked(&self, pid: Pid, peer: Pid) -> Option<Ids>
         ensures { result ≡ linked_in (life_in self.now pid) peer }
     {
-        match self.life(pid) {
-            Some(life) => life.linked(peer),
+        match self.slot(pid) {
+            Some(slot) => slot.linked(pid.version, peer),
             None => None,
         }
     }
 
-    /// Whether it keeps a watch of this reference, or did just after its end.
+    /// Whether it keeps a watch of this reference, or did just after its end; one that was forgotten keeps none.
     pub fn kept(&self, target: Pid, monitor: Ref) -> bool
         ensures { result ≡ kept_by (life_in self.now target) monitor }
     {
-        match self.life(target) {
-            Some(life) => life.kept(monitor),
+        match self.slot(target) {
+            Some(slot) => slot.kept(target.version, monitor),
             None => false,
         }
     }
@@ -157,8 +266,8 @@ impl DeskLives {
     pub fn watching(&self, watcher: Pid, monitor: Ref) -> bool
         ensures { result ≡ watching_in (life_in self.now watcher) monitor }
     {
-        match self.life(watcher) {
-            Some(life) => life.watching(monitor),
+        match self.slot(watcher) {
+            Some(slot) => slot.watching(watcher.version, monitor),
             None => false,
         }
     }

@@ -20,7 +20,7 @@ pub(crate) enum Held {
 }
 
 impl Held {
-    pub fn pid(&self) -> Pid
+    pub(crate) fn pid(&self) -> Pid
         ensures { result ≡ pid_of self.now }
     {
         match self {
@@ -30,7 +30,7 @@ impl Held {
     }
 
     /// How many items wait.
-    pub fn waiting(&self) -> usize
+    pub(crate) fn waiting(&self) -> usize
         ensures { result ≡ length (holding self.now).waiting }
     {
         match self {
@@ -40,7 +40,7 @@ impl Held {
     }
 
     /// The ids under which it is linked with this process.
-    pub fn linked(&self, peer: Pid) -> Option<Ids>
+    pub(crate) fn linked(&self, peer: Pid) -> Option<Ids>
         ensures { result ≡ held (holding self.now).links peer }
     {
         match self {
@@ -50,7 +50,7 @@ impl Held {
     }
 
     /// Whether a watch of this reference is kept here.
-    pub fn kept(&self, monitor: Ref) -> bool
+    pub(crate) fn kept(&self, monitor: Ref) -> bool
         ensures { result ≡ list_any (λ k. same_ref monitor k.0) (holding self.now).kept }
     {
         match self {
@@ -60,7 +60,7 @@ impl Held {
     }
 
     /// Whether a monitor of this reference is open here.
-    pub fn watching(&self, monitor: Ref) -> bool
+    pub(crate) fn watching(&self, monitor: Ref) -> bool
         ensures { result ≡ is_some (lookup (same_ref monitor) (holding self.now).watching) }
     {
         match self {
@@ -70,7 +70,7 @@ impl Held {
     }
 
     /// Gives the lists up where they are empty, as those of an ended process mostly are.
-    pub fn shrink(&mut self)
+    pub(crate) fn shrink(&mut self)
         ensures pid { pid_of self.new ≡ pid_of self.old }
         ensures state { holding self.new ≡ holding self.old }
     {

@@ -1,23 +1,26 @@
 //! What became of every process of a node, read from the journals of its desks.
 //!
 //! ```
-//! let mut lives = Lives::new(alloc);
-//! for journal in journals {
-//!     lives = lives.with(alloc, journal)?;         // that of desk 0 first
-//! }
-//! for pid in lives.pids() {
-//!     let account = lives.account(*pid);           // ended, arrived, taken, waiting
+//! let mut lives = DeskLives::new(alloc, desk);     // one for each desk
+//! lives.read(&journal)?;                           // each event once; called again, it goes on where it was
+//! let node = Lives::of(alloc, desks)?;             // the tables of all desks, that of desk 0 first
+//! for pid in node.pids() {
+//!     let account = node.account(*pid);            // ended, arrived, taken, waiting
 //! }
 //! ```
 //!
-//! [`Lives::with`] plays each process of a desk from its birth on, by the calls of `pt_process`. What [`Lives`] tells
-//! holds in every merge of the journals, since a desk's journal says of its own pids what every merge says.
+//! [`DeskLives::read`] plays each process of a desk from its birth on, by the calls of `pt_process`. What [`Lives`]
+//! tells holds in every merge of the journals, since a desk's journal says of its own pids what every merge says.
+//!
+//! A node that goes on from where it was writes new journals. [`DeskLives::forget`] makes of what a journal told the
+//! start of the next, which is then read into the same table.
 //!
 //! # Cost
 //!
 //! An event of a journal takes constant time, on average, as the desk's own call did; a take costs what it looks at. A
-//! process is found by its slot and version, so nothing is searched or sorted. Of each process ever born 48 bytes are
-//! kept; one that lives, or that ended with an item, link, watch or monitor, keeps its lists beside them.
+//! process is found by its slot and version, so nothing is searched or sorted. Of each process that was born since the
+//! table last forgot 48 bytes are kept, and 8 for its end; one that lives, or that ended with an item, link, watch or
+//! monitor, keeps its lists beside them. Of one that ended before, its reason is kept, in 8 bytes.
 #![tactic(auto)]
 
 mod account;
@@ -28,4 +31,5 @@ mod lives;
 mod slot;
 
 pub use account::Account;
+pub use desk_lives::DeskLives;
 pub use lives::Lives;

@@ -1,11 +1,12 @@
 //! One process, from its birth on.
 
-ghost use Rattle.std.specs.Prelude.{◌≡◌, ◌+◌, ◌<◌, ◌^◌, is_some, IfOk, OnOk};
+ghost use Rattle.std.specs.Prelude.{◌≡◌, ◌+◌, ◌<◌, ◌^◌, is_some, IfOk, OnOk, OnErr};
 ghost use Rattle.std.specs.Map.{lookup};
 ghost use Rattle.std.specs.List.{list_any};
 ghost use Rattle.pt_signal.specs.Values.{same_ref};
 ghost use Rattle.pt_signal.specs.Process.{held};
-ghost use Rattle.pt_events.specs.History.{unborn, living, newborn, live_or_end, state_of, open_monitors, change};
+ghost use Rattle.pt_events.specs.History.{unborn, living, newborn, live_or_end, state_of, open_monitors};
+ghost use Rattle.pt_events.specs.History.{change, reason_of};
 ghost use Rattle.pt_accounts.specs.LifeState.{account_of};
 ghost use Rattle.pt_accounts.specs.Steps.{shown, MaySee, MayDo};
 
@@ -45,6 +46,7 @@ impl Model for Life {
 fn meet(process: &mut Process, event: Event) -> Result<Option<Reason>, AllocError>
     requires { MayDo process.old.me process.old.state event }
     ensures me { process.new.me ≡ process.old.me }
+    ensures refused { OnErr result (process.new.state ≡ process.old.state) }
     ensures state { IfOk result
         (λ ending. live_or_end ending process.new.state ≡ change process.old.me event (living process.old.state)) }
 {
@@ -70,7 +72,7 @@ fn meet(process: &mut Process, event: Event) -> Result<Option<Reason>, AllocErro
 }
 
 impl Life {
-    pub fn born(
+    pub(crate) fn born(
         alloc: Global,
         pid: Pid,
         parent: Option<Pid>,
@@ -92,10 +94,12 @@ impl Life {
         })
     }
 
-    /// One of its own events happens.
-    pub fn see(&mut self, event: Event) -> Result<(), AllocError>
+    /// One of its own events happens. After a refusal it is as before.
+    pub(crate) fn see(&mut self, event: Event) -> Result<(), AllocError>
         requires { MaySee event self.old }
-        ensures { OnOk result (self.new ≡ shown event self.old) }
+        ensures pid { self.new.pid ≡ self.old.pid }
+        ensures shown { OnOk result (self.new ≡ shown event self.old) }
+        ensures refused { OnErr result (self.new ≡ self.old) }
     {
         if self.ended.is_some() {
             return Ok(());
@@ -114,13 +118,27 @@ impl Life {
         Ok(())
     }
 
-    pub fn pid(&self) -> Pid
+    pub(crate) fn pid(&self) -> Pid
         ensures { result ≡ self.now.pid }
     {
         self.held.pid()
     }
 
-    pub fn account(&self) -> Account
+    /// Why it ended, if it has.
+    pub(crate) fn ended(&self) -> Option<Reason>
+        ensures { result ≡ reason_of self.now.phase }
+    {
+        self.ended
+    }
+
+    /// What it takes counts anew.
+    pub(crate) fn count_anew(&mut self)
+        ensures { self.new ≡ record self.old { taken = 0 } }
+    {
+        self.taken = 0;
+    }
+
+    pub(crate) fn account(&self) -> Account
         requires { (account_of self.now).arrived < 2 ^ 64 }
         ensures { result ≡ account_of self.now }
     {
@@ -133,19 +151,19 @@ impl Life {
         }
     }
 
-    pub fn linked(&self, peer: Pid) -> Option<Ids>
+    pub(crate) fn linked(&self, peer: Pid) -> Option<Ids>
         ensures { result ≡ held (state_of self.now.phase).links peer }
     {
         self.held.linked(peer)
     }
 
-    pub fn kept(&self, monitor: Ref) -> bool
+    pub(crate) fn kept(&self, monitor: Ref) -> bool
         ensures { result ≡ list_any (λ k. same_ref monitor k.0) (state_of self.now.phase).kept }
     {
         self.held.kept(monitor)
     }
 
-    pub fn watching(&self, monitor: Ref) -> bool
+    pub(crate) fn watching(&self, monitor: Ref) -> bool
         ensures { result ≡ is_some (lookup (same_ref monitor) (open_monitors self.now.phase)) }
     {
         match self.ended {

@@ -1,13 +1,13 @@
 //! The processes of all desks.
 
-ghost use Rattle.std.specs.Prelude.{◌≡◌, [], length, is_some, IfOk};
+ghost use Rattle.std.specs.Prelude.{◌≡◌, [], ◌++◌, length, is_some, IfOk, IfErr, OnOk};
 ghost use Rattle.std.specs.Map.{lookup};
 ghost use Rattle.std.specs.List.{list_any};
 ghost use Rattle.pt_signal.specs.Values.{same_ref};
 ghost use Rattle.pt_signal.specs.Process.{held};
 ghost use Rattle.pt_events.specs.History.{life, state, open_monitors};
 ghost use Rattle.pt_accounts.specs.DeskLives.{IsDeskJournal};
-ghost use Rattle.pt_accounts.specs.LivesState.{Adds, Tell, AreAllPids, account_in};
+ghost use Rattle.pt_accounts.specs.LivesState.{Adds, Tell, AreAllPids, account_in, all_pids};
 
 use crate::Account;
 use crate::desk_lives::DeskLives;
@@ -39,6 +39,16 @@ impl Model for Lives {
     ghost invariant = { λ l. l.pids.items ≡ all_pids l.desks.items };
 }
 
+/// Adds the pids of all processes, by shard, slot and version.
+fn list_all(desks: &[DeskLives], pids: &mut Vec<Pid>) -> Result<(), AllocError>
+    ensures { OnOk result (pids.new.items ≡ pids.old.items ++ all_pids desks.now) }
+{
+    for desk in 0..desks.len() {
+        desks[desk].list(pids)?;
+    }
+    Ok(())
+}
+
 impl Lives {
     /// Those of a node without desks.
     pub fn new(alloc: Global) -> Lives
@@ -48,6 +58,33 @@ impl Lives {
             desks: Vec::new(alloc),
             pids: Vec::new(alloc),
         }
+    }
+
+    /// Those of the desks whose tables these are, desk 0 first. Where memory is refused, the tables come back.
+    pub fn of(alloc: Global, desks: Vec<DeskLives>) -> Result<Lives, Vec<DeskLives>>
+        ensures lives { IfOk result (λ lives. lives ≡ desks.items) }
+        ensures back { IfErr result (λ back. back ≡ desks) }
+    {
+        let mut pids = Vec::new(alloc);
+        match list_all(desks.as_slice(), &mut pids) {
+            Ok(()) => Ok(Lives { desks, pids }),
+            Err(_) => Err(desks),
+        }
+    }
+
+    /// The tables of the desks, desk 0 first, to be looked at.
+    pub fn desks(&self) -> &[DeskLives]
+        ensures { result.now ≡ self.now }
+    {
+        self.desks.as_slice()
+    }
+
+    /// The tables of the desks, desk 0 first.
+    pub fn into_desks(self) -> Vec<DeskLives>
+        ensures { result.items ≡ self }
+    {
+        let Lives { desks, pids: _ } = self;
+        desks
     }
 
     /// These, and those of the next desk, whose journal is read from its first event to its last.
@@ -60,7 +97,8 @@ impl Lives {
             mut desks,
             mut pids,
         } = self;
-        let desk = DeskLives::of(alloc, journal)?;
+        let mut desk = DeskLives::new(alloc, journal.desk());
+        desk.read(journal)?;
         desk.list(&mut pids)?;
         desks.push(desk)?;
         Ok(Lives { desks, pids })

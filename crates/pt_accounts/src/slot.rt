@@ -1,88 +1,299 @@
 //! The processes that one slot has had.
 
-ghost use Rattle.std.specs.Prelude.{◌≡◌, ◌++◌, ◌∷◌, [], ◌==◌, ℕ, cond, length, IfSome, OnOk};
+ghost use Rattle.std.specs.Prelude.{◌≡◌, ◌+◌, ◌-◌, ◌≤◌, ◌<◌, ◌^◌, ◌++◌, ◌∷◌};
+ghost use Rattle.std.specs.Prelude.{[], ◌==◌, false, ℕ, List, cond, length, map};
+ghost use Rattle.std.specs.Prelude.{slice_get, option_to_list, None, IfSome, OnOk, OnErr, vec_len, vec_capacity};
 ghost use Rattle.std.specs.Option.{option_map};
+ghost use Rattle.pt_events.specs.History.{is_ended};
+ghost use Rattle.pt_accounts.specs.LifeState.{LifeState, account_of};
 ghost use Rattle.pt_accounts.specs.Table.{of_version};
-ghost use Rattle.pt_accounts.specs.DeskLives.{pids_of};
-ghost use Rattle.pt_accounts.specs.Steps.{shown, MaySee};
+ghost use Rattle.pt_accounts.specs.DeskLives.{pids_of, linked_in, kept_by, watching_in, forgotten, latest_end};
+ghost use Rattle.pt_accounts.specs.SlotState.{Finds, IsCounted, reasons_of, end_of, left_of, living_of};
+ghost use Rattle.pt_accounts.specs.Steps.{shown, MaySee, IsNextOf};
 
+use crate::Account;
 use crate::life::Life;
 use pt_events::Event;
-use pt_signal::Pid;
+use pt_signal::{Ids, Pid, Reason, Ref};
 use std::alloc::{AllocError, Global};
 use std::marker::Model;
+use std::mem::size_of;
+
+const _: () = prove!(size_of::<Reason>() <= 8);
 
 /// By version; the first is version 1.
+///
+/// All but the newest have ended. Of those that are forgotten only the reasons are kept.
 #[derive(Drop)]
 pub(crate) struct Slot {
-    lives: Vec<Life>,
+    desk: u8,
+    slot: u32,
+    /// It has room for all that are not forgotten yet.
+    forgotten: Vec<Reason>,
+    ended: Vec<Life>,
+    newest: Option<Life>,
 }
 
 impl Model for Slot {
-    ghost use Rattle.std.specs.Prelude.{List};
+    ghost use Rattle.std.specs.Prelude.{List, vec_capacity};
     ghost use Rattle.pt_accounts.specs.LifeState.{LifeState};
+    ghost use Rattle.pt_accounts.specs.SlotState.{lives_of, IsSlot};
 
     ghost Value = { List LifeState };
 
-    ghost view = { λ s. s.lives.items };
+    ghost view = { λ s. lives_of s.desk s.slot s.forgotten.items s.ended.items s.newest };
+
+    ghost invariant = { λ s.
+        IsSlot s.desk s.slot s.forgotten.items (vec_capacity s.forgotten) s.ended.items s.newest };
+}
+
+/// The one in this place of those that are not forgotten.
+fn recent<'a>(ended: &'a [Life], newest: &'a Option<Life>, place: usize) -> Option<&'a Life>
+    ensures { option_map (λ life. life.now) result ≡ slice_get (ended.now ++ option_to_list newest.now) place }
+{
+    if place < ended.len() {
+        Some(&ended[place])
+    } else if place == ended.len() {
+        newest.as_ref()
+    } else {
+        None
+    }
+}
+
+/// Adds a reason, if there is one.
+fn add_reason(forgotten: &mut Vec<Reason>, reason: Option<Reason>)
+    requires { vec_len forgotten.old + length (option_to_list reason) ≤ vec_capacity forgotten.old }
+    ensures items { forgotten.new.items ≡ forgotten.old.items ++ option_to_list reason }
+    ensures room { vec_capacity forgotten.new ≡ vec_capacity forgotten.old }
+{
+    if let Some(reason) = reason {
+        forgotten.push_reserved(reason);
+    }
+}
+
+/// Adds why they ended.
+fn add_reasons(forgotten: &mut Vec<Reason>, ended: &[Life])
+    requires { vec_len forgotten.old + length ended.now ≤ vec_capacity forgotten.old }
+    ensures items { forgotten.new.items ≡ forgotten.old.items ++ reasons_of ended.now }
+    ensures room { vec_capacity forgotten.new ≡ vec_capacity forgotten.old }
+{
+    for place in 0..ended.len() {
+        add_reason(forgotten, ended[place].ended());
+    }
+}
+
+/// What it takes counts anew. One that has ended goes, and its reason is answered.
+fn forget_newest(newest: &mut Option<Life>) -> Option<Reason>
+    ensures reason { result ≡ end_of newest.old }
+    ensures left { newest.new ≡ left_of newest.old }
+{
+    let Some(life) = newest else {
+        return None;
+    };
+    let reason = life.ended();
+    if reason.is_some() {
+        *newest = None;
+    } else {
+        life.count_anew();
+    }
+    reason
+}
+
+/// The newest, if there is one, joins those that ended. After a refusal both are as before.
+fn move_newest(ended: &mut Vec<Life>, newest: &mut Option<Life>) -> Result<(), AllocError>
+    ensures moved { OnOk result (ended.new.items ≡ ended.old.items ++ option_to_list newest.old) }
+    ensures gone { OnOk result (newest.new ≡ None) }
+    ensures ended { OnErr result (ended.new.items ≡ ended.old.items) }
+    ensures newest { OnErr result (newest.new ≡ newest.old) }
+{
+    if newest.is_none() {
+        return Ok(());
+    }
+    ended.reserve(1)?;
+    if let Some(life) = newest.take() {
+        ended.push_reserved(life);
+    }
+    Ok(())
+}
+
+/// How many there are: one or none.
+fn count(newest: &Option<Life>) -> usize
+    ensures { result ≡ length (option_to_list newest.now) }
+{
+    match newest {
+        Some(_) => 1,
+        None => 0,
+    }
+}
+
+/// How many live.
+fn living(newest: &Option<Life>) -> usize
+    ensures { result ≡ living_of newest.now }
+{
+    match newest {
+        Some(life) if life.ended().is_none() => 1,
+        _ => 0,
+    }
 }
 
 impl Slot {
-    pub fn new(alloc: Global) -> Slot
+    pub(crate) fn new(alloc: Global) -> Slot
         ensures { result ≡ [] }
     {
         Slot {
-            lives: Vec::new(alloc),
+            desk: 0,
+            slot: 0,
+            forgotten: Vec::new(alloc),
+            ended: Vec::new(alloc),
+            newest: None,
         }
     }
 
-    pub fn version(&self, version: u32) -> Option<&Life>
-        ensures { option_map (λ life. life.now) result ≡ of_version self.now version }
+    /// How many versions there were.
+    fn len(&self) -> usize
+        ensures len { result ≡ length self.now }
+        ensures few { result < 2 ^ 32 }
     {
-        if version == 0 {
-            return None;
-        }
-        let place = version as usize - 1;
-        if place < self.lives.len() {
-            Some(&self.lives[place])
-        } else {
-            None
-        }
+        self.forgotten.len() + self.ended.len() + count(&self.newest)
     }
 
-    /// One of that version's own events happens.
-    pub fn see(&mut self, version: u32, event: Event) -> Result<(), AllocError>
+    /// One of that version's own events happens. After a refusal each is as before.
+    pub(crate) fn see(&mut self, version: u32, event: Event) -> Result<(), AllocError>
         requires { IfSome (of_version self.old version) (MaySee event) }
         ensures versions { OnOk result
             ((v : ℕ)
             → of_version self.new v
             ≡ cond (version == v) (option_map (shown event) (of_version self.old v)) (of_version self.old v)) }
         ensures length { OnOk result (length self.new ≡ length self.old) }
+        ensures refused { OnErr result (self.new ≡ self.old) }
     {
-        if version == 0 {
+        let before = self.forgotten.len() + self.ended.len();
+        let Some(life) = &mut self.newest else {
+            return Ok(());
+        };
+        if version as usize != before + 1 {
             return Ok(());
         }
-        let place = version as usize - 1;
-        if place < self.lives.len() {
-            self.lives[place].see(event)?;
-        }
+        life.see(event)
+    }
+
+    /// Adds the next version. After a refusal each is as before.
+    pub(crate) fn push(&mut self, pid: Pid, life: Life) -> Result<(), AllocError>
+        requires pid { life.pid ≡ pid }
+        requires next { IsNextOf pid self.old }
+        ensures added { OnOk result (self.new ≡ self.old ++ life ∷ []) }
+        ensures refused { OnErr result (self.new ≡ self.old) }
+    {
+        self.forgotten.reserve(self.ended.len() + 2)?;
+        move_newest(&mut self.ended, &mut self.newest)?;
+        self.desk = pid.shard;
+        self.slot = pid.slot;
+        self.newest = Some(life);
         Ok(())
     }
 
-    pub fn push(&mut self, life: Life) -> Result<(), AllocError>
-        ensures { OnOk result (self.new ≡ self.old ++ life ∷ []) }
+    /// Takes back the newest, which has not ended.
+    pub(crate) fn pop(&mut self)
+        requires { (lives : List LifeState) × (life : LifeState) × (self.old ≡ lives ++ life ∷ [])
+            × (is_ended life.phase ≡ false) }
+        ensures { (lives : List LifeState) (life : LifeState) → self.old ≡ lives ++ life ∷ [] → self.new ≡ lives }
     {
-        self.lives.push(life)?;
-        Ok(())
+        self.newest = self.ended.pop();
+    }
+
+    /// Of each that has ended the reason alone is kept, and what it took counts anew.
+    pub(crate) fn forget(&mut self)
+        ensures { self.new ≡ map forgotten self.old }
+    {
+        add_reasons(&mut self.forgotten, self.ended.as_slice());
+        self.ended.clear();
+        self.ended.shrink_to_fit();
+        let reason = forget_newest(&mut self.newest);
+        add_reason(&mut self.forgotten, reason);
+    }
+
+    /// The latest that has ended.
+    pub(crate) fn latest_end(&self) -> Option<Pid>
+        ensures { result ≡ latest_end self.now }
+    {
+        let ended = self.len() - living(&self.newest);
+        if ended == 0 {
+            return None;
+        }
+        Some(Pid {
+            shard: self.desk,
+            slot: self.slot,
+            version: ended as u32,
+        })
     }
 
     /// Adds the pids, by version.
-    pub fn list(&self, pids: &mut Vec<Pid>) -> Result<(), AllocError>
+    pub(crate) fn list(&self, pids: &mut Vec<Pid>) -> Result<(), AllocError>
         ensures { OnOk result (pids.new.items ≡ pids.old.items ++ pids_of self.now) }
     {
-        for place in 0..self.lives.len() {
-            pids.push(self.lives[place].pid())?;
+        for place in 0..self.len() {
+            pids.push(Pid {
+                shard: self.desk,
+                slot: self.slot,
+                version: place as u32 + 1,
+            })?;
         }
         Ok(())
+    }
+
+    fn life(&self, version: u32) -> Option<&Life>
+        ensures { Finds (of_version self.now version) (option_map (λ life. life.now) result) }
+    {
+        let before = self.forgotten.len();
+        let version = version as usize;
+        if version <= before {
+            return None;
+        }
+        recent(self.ended.as_slice(), &self.newest, version - before - 1)
+    }
+
+    pub(crate) fn account(&self, version: u32) -> Option<Account>
+        requires { IfSome (of_version self.now version) (IsCounted (2 ^ 64 - 1)) }
+        ensures { result ≡ option_map account_of (of_version self.now version) }
+    {
+        if version == 0 {
+            return None;
+        }
+        let place = version as usize - 1;
+        let before = self.forgotten.len();
+        if place < before {
+            return Some(Account::forgotten(self.forgotten[place]));
+        }
+        match recent(self.ended.as_slice(), &self.newest, place - before) {
+            Some(life) => Some(life.account()),
+            None => None,
+        }
+    }
+
+    pub(crate) fn linked(&self, version: u32, peer: Pid) -> Option<Ids>
+        ensures { result ≡ linked_in (of_version self.now version) peer }
+    {
+        match self.life(version) {
+            Some(life) => life.linked(peer),
+            None => None,
+        }
+    }
+
+    pub(crate) fn kept(&self, version: u32, monitor: Ref) -> bool
+        ensures { result ≡ kept_by (of_version self.now version) monitor }
+    {
+        match self.life(version) {
+            Some(life) => life.kept(monitor),
+            None => false,
+        }
+    }
+
+    pub(crate) fn watching(&self, version: u32, monitor: Ref) -> bool
+        ensures { result ≡ watching_in (of_version self.now version) monitor }
+    {
+        match self.life(version) {
+            Some(life) => life.watching(monitor),
+            None => false,
+        }
     }
 }

@@ -6,3 +6,4 @@ pub mod Making
 pub mod Meeting
 pub mod Rooms
 pub mod Taking
+pub mod Posting

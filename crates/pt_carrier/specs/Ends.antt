@@ -62,6 +62,10 @@ one_more lists k letter = slice_set lists k (slice_index_or lists k [] ++ letter
 abbrev pub IsFull : OutEnds → ℕ → Type 0
 IsFull o k = length (slice_index_or o.posted k []) ≡ slice_index_or o.capacity k 0 + slice_index_or o.seen k 0
 
+-- they number less: the lane has a place that this end knows of
+abbrev pub HasPlace : OutEnds → ℕ → Type 0
+HasPlace o k = length (slice_index_or o.posted k []) < slice_index_or o.capacity k 0 + slice_index_or o.seen k 0
+
 -- the lane to desk k may have been looked at, and no other
 pub record LooksAt (old new : OutEnds) (k : ℕ) : Type 0 where
   pub more : slice_index_or old.seen k 0 ≤ slice_index_or new.seen k 0

@@ -1,11 +1,12 @@
 //! The ends of one desk.
 
 ghost use Rattle.std.specs.Prelude.{◌≡◌, ◌≢◌, ℕ, ◌⊎◌, ◌+◌, ◌*◌, ◌-◌, ◌%◌, ◌^◌, ◌<◌, ◌≤◌, min, length, [], IsOk, OnOk};
-ghost use Rattle.std.specs.Prelude.{IfErr, IfSome, IfNone, slice_index_or};
+ghost use Rattle.std.specs.Prelude.{IfErr, IfSome, IfNone, false, slice_index_or};
+ghost use Rattle.std.specs.Bool.{OnTrue, OnFalse};
 ghost use Rattle.pt_signal.specs.declared.letter.Letter.{Letter};
 ghost use Rattle.pt_carrier.specs.declared.ends.TheConstants.{MAX_DESKS};
 ghost use Rattle.pt_carrier.specs.Ends.{OutEnds, InEnds, out_ends, in_ends, GoOutFrom, ComeInTo, one_more, IsFull};
-ghost use Rattle.pt_carrier.specs.Ends.{LooksAt, Collects, Shows, ShowNone, IsFirstFromCursor, IsFront};
+ghost use Rattle.pt_carrier.specs.Ends.{HasPlace, LooksAt, Collects, Shows, ShowNone, IsFirstFromCursor, IsFront};
 ghost use Rattle.pt_carrier.specs.Node.{lists};
 ghost use Rattle.pt_carrier.specs.Meeting.{HaveMet, Meets};
 ghost use Rattle.pt_carrier.specs.Reunion.{HasRoom, room_at};
@@ -106,19 +107,50 @@ impl Outs {
         ensures cause { IfErr result (λ e. e.cause ≡ PostCause.Full) }
         ensures full { IfErr result
             (λ e. (e.letter ≡ letter) × (self.new.posted ≡ self.old.posted) × IsFull self.new to) }
-        ensures room { length (slice_index_or self.old.posted to [])
-            < slice_index_or self.old.capacity to 0 + slice_index_or self.old.seen to 0 → IsOk result }
+        ensures room { HasPlace self.old to → IsOk result }
         ensures capacity { self.new.capacity ≡ self.old.capacity }
         ensures looks { LooksAt self.old self.new to }
     {
-        if self.lanes[usize::from(to)].post(letter) {
-            Ok(())
-        } else {
-            Err(Refused {
+        if self.is_full(to) {
+            return Err(Refused {
                 cause: PostCause::Full,
                 letter,
-            })
+            });
         }
+        self.post_reserved(to, letter);
+        Ok(())
+    }
+
+    /// Whether the lane to desk `to` is full: the letters posted to that desk, less those that this end knows to be
+    /// collected, number the capacity, after it has looked again.
+    ///
+    /// With `post_reserved` it is what `post` does, for a caller that takes a letter only where there is a place for
+    /// it. Takes no memory and waits for nobody.
+    #[inline(always)]
+    pub fn is_full(&mut self, to: u8) -> bool
+        requires { to < length self.old.place.rings }
+        ensures same { (self.new.place ≡ self.old.place) × (self.new.posted ≡ self.old.posted)
+            × (self.new.capacity ≡ self.old.capacity) }
+        ensures full { OnTrue result (IsFull self.new to) }
+        ensures room { OnFalse result (HasPlace self.new to) }
+        ensures known { HasPlace self.old to → result ≡ false }
+        ensures looks { LooksAt self.old self.new to }
+    {
+        self.lanes[usize::from(to)].is_full()
+    }
+
+    /// Posts a letter as `post` does, where the lane is known to have a place for it.
+    #[inline(always)]
+    pub fn post_reserved(&mut self, to: u8, letter: Letter)
+        requires to { to < length self.old.place.rings }
+        requires from_here { letter.from.shard ≡ self.old.place.number }
+        requires to_there { letter.to.shard ≡ to }
+        requires room { HasPlace self.old to }
+        ensures same { (self.new.place ≡ self.old.place) × (self.new.capacity ≡ self.old.capacity)
+            × (self.new.seen ≡ self.old.seen) }
+        ensures posted { self.new.posted ≡ one_more self.old.posted to letter }
+    {
+        self.lanes[usize::from(to)].post_reserved(letter);
     }
 
     /// How many letters were posted to desk `to`, staying at `u64::MAX` once it is reached.

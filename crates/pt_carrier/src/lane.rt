@@ -1,7 +1,7 @@
 //! One lane: a ring with an end that sends and an end that receives.
 
 ghost use Rattle.std.specs.Prelude.{◌≡◌, ◌↔◌, ◌+◌, ◌-◌, ◌^◌, ◌<◌, ◌≤◌, min, vec_len, length, map, [], ◌∷◌, ◌++◌};
-ghost use Rattle.std.specs.Prelude.{IsTrue, IfOk, IfSome};
+ghost use Rattle.std.specs.Prelude.{IsTrue, IfOk, IfSome, false};
 ghost use Rattle.std.specs.Bool.{OnTrue, OnFalse};
 ghost use mathlib.Core.List.{IsPrefix};
 ghost use Rattle.std.specs.Vec.{vec_capacity};
@@ -64,23 +64,30 @@ impl Model for InLane {
 }
 
 impl OutLane {
-    /// Posts the letter where a place is free, and tells whether it did.
+    /// Whether no place is free. What is known already is asked first, which leaves the other end's memory alone.
     #[inline(always)]
-    pub(crate) fn post(&mut self, letter: Letter) -> bool
-        requires { (letter.from.shard ≡ self.old.from) × (letter.to.shard ≡ self.old.to) }
-        ensures same { (self.new.ring ≡ self.old.ring) × (self.new.from ≡ self.old.from) × (self.new.to ≡ self.old.to) }
-        ensures posted { OnTrue result (self.new.posted ≡ self.old.posted ++ letter ∷ []) }
-        ensures full { OnFalse result
-            ((self.new.posted ≡ self.old.posted) × (length self.old.posted ≡ self.new.capacity + self.new.seen)) }
+    pub(crate) fn is_full(&mut self) -> bool
+        ensures same { (self.new.ring ≡ self.old.ring) × (self.new.from ≡ self.old.from) × (self.new.to ≡ self.old.to)
+            × (self.new.posted ≡ self.old.posted) }
+        ensures full { OnTrue result (length self.new.posted ≡ self.new.capacity + self.new.seen) }
+        ensures room { OnFalse result (length self.new.posted < self.new.capacity + self.new.seen) }
+        ensures known { length self.old.posted < self.old.capacity + self.old.seen → result ≡ false }
         ensures knows { (self.new.capacity ≡ self.old.capacity) × (self.old.seen ≤ self.new.seen) }
-        ensures room { length self.old.posted < self.old.capacity + self.old.seen → IsTrue result }
     {
-        if self.ring.is_full() {
-            return false;
-        }
+        self.ring.is_full()
+    }
+
+    /// Posts the letter into a place that is known to be free.
+    #[inline(always)]
+    pub(crate) fn post_reserved(&mut self, letter: Letter)
+        requires names { (letter.from.shard ≡ self.old.from) × (letter.to.shard ≡ self.old.to) }
+        requires room { length self.old.posted < self.old.capacity + self.old.seen }
+        ensures same { (self.new.ring ≡ self.old.ring) × (self.new.from ≡ self.old.from) × (self.new.to ≡ self.old.to) }
+        ensures posted { self.new.posted ≡ self.old.posted ++ letter ∷ [] }
+        ensures knows { (self.new.capacity ≡ self.old.capacity) × (self.new.seen ≡ self.old.seen) }
+    {
         self.ring.push_reserved(letter);
         self.count = self.count.saturating_add(1);
-        true
     }
 
     /// How many letters were posted.

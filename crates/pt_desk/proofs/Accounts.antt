@@ -41,7 +41,6 @@ module _ (s : ShardState) (o : OutEnds) (i : InEnds) (boxes : length s.outbox �
 
     pub accounted_handled : IsAccounted (holding None (handled l s)) o i
     accounted_handled = record {
-      first = acc.first;
       out_number = acc.out_number;
       in_number = acc.in_number;
       out_desks = acc.out_desks;
@@ -56,7 +55,6 @@ module _ (s : ShardState) (o : OutEnds) (i : InEnds) (boxes : length s.outbox �
 module _ (s : ShardState) (o : OutEnds) (i : InEnds) (acc : IsAccounted s o i) where
   pub accounted_taken : (i' : InEnds) (l : Letter) → s.hold ≡ None → Collects i i' l.from.shard l → i'.place ≡ i.place → IsAccounted (holding (Some l) s) o i'
   accounted_taken i' l free takes place = record {
-    first = acc.first;
     out_number = acc.out_number;
     in_number = ap (λ p. p.number) place ∙ acc.in_number;
     out_desks = acc.out_desks;
@@ -88,7 +86,6 @@ pub accounted_posted : (s s' : ShardState) (o o' : OutEnds) (i : InEnds) (e : �
     → o'.posted ≡ one_more o.posted e l → o'.place ≡ o.place → IsAccounted s' o' i
 accounted_posted s s' o o' i e l e_in fit acc first after more place =
     subst (λ z. IsAccounted z o' i) (sym after) (record {
-      first = acc.first;
       out_number = ap (λ p. p.number) place ∙ acc.out_number;
       in_number = acc.in_number;
       out_desks = ap (λ p. length p.rings) place ∙ acc.out_desks;
@@ -133,7 +130,6 @@ module _ (s : ShardState) (o : OutEnds) (i : InEnds) (fit : IsFit s) (acc : IsAc
 -- ends that looked at each other keep the accounts
 pub accounted_met : (s : ShardState) (o o' : OutEnds) (i i' : InEnds) → IsAccounted s o i → out_kept o' ≡ out_kept o → in_kept i' ≡ in_kept i → IsAccounted s o' i'
 accounted_met s o o' i i' acc p q = record {
-  first = acc.first;
   out_number = ap (λ (k : Place × List (List Letter) × List ℕ). k.0.number) p ∙ acc.out_number;
   in_number = ap (λ (k : Place × ℕ × List (List Letter)). k.0.number) q ∙ acc.in_number;
   out_desks = ap (λ (k : Place × List (List Letter) × List ℕ). length k.0.rings) p ∙ acc.out_desks;

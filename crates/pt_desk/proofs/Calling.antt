@@ -53,7 +53,6 @@ IsStep old new = (new ≡ old) ⊎ ((event : Event) × Writes event old new)
 pub written_accounted : (s : ShardState) (o : OutEnds) (i : InEnds) (n : ℕ) (event : Event) (vacant : Option Pid) → ((d n : ℕ) → got_of d n event ≡ []) → length s.outbox ≡ s.config.desks → IsAccounted s o i
     → IsAccounted (next_shard n event vacant s) o i
 written_accounted s o i n event vacant nothing_came boxes acc = record {
-  first = acc.first;
   out_number = acc.out_number;
   in_number = acc.in_number;
   out_desks = acc.out_desks;

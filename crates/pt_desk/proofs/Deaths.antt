@@ -16,7 +16,7 @@ use Rattle.pt_directory.specs.Views.{deaths_at, last_version, last_stamp, Covers
 use Rattle.pt_directory.specs.Seats.{death_of}
 use Rattle.pt_directory.proofs.Lists.{at_append, at_behind, at_single, at_nothing, among, from_among, is_at-true, true-is_at}
 use Rattle.pt_shard.specs.ShardState.{ended_in}
-use Rattle.pt_desk.specs.Sight.{death_by, deaths_before, deaths_in, pid_of, AreOldEnds, KnowsOldEnds}
+use Rattle.pt_desk.specs.Sight.{death_by, deaths_in, WasInTurn}
 use Rattle.pt_desk.proofs.Ending.{ends, of_home, ended_by_it, no_birth, at_version, birth_known}
 
 born_ended : (f : Phase) → is_ended f ≡ true → is_unborn f ≡ false
@@ -40,39 +40,46 @@ last_of P [] h each = h
 last_of P (x ∷ []) h each = each 0 x refl
 last_of P (x ∷ y ∷ xs) h each = last_of P (y ∷ xs) h (λ k z at. each (suc k) z at)
 
+-- whose death it is
+abbrev pub pid_of : Death → Pid
+pid_of x = record { shard = x.shard; slot = x.slot; version = x.version }
+
+-- what desk d knows of the ends before its journal: those that were told are its own, and of whoever has ended its end
+-- was told, or a later one of its slot
+pub record AreOldEnds (known : List Death) (start : Start) (slots low d : ℕ) : Type 0 where
+  pub told : (k : ℕ) (x : Death) → get_elem? known k ≡ some x → (x.shard ≡ d) × (x.stamp ≤ low) × (is_ended (at_start start (pid_of x)) ≡ true)
+  pub all : (p : Pid) → is_ended (at_start start p) ≡ true
+      → (k : ℕ) × (x : Death) × (get_elem? known k ≡ some x) × (x.shard ≡ p.shard) × (x.slot ≡ p.slot) × (p.version ≤ x.version)
+  pub turns : (p : Pid) → is_unborn (at_start start p) ≡ false → WasInTurn start slots p
+
 -- who has ended has died -----------------------------------------------------------------
 
 -- one that had not ended before the journal
-pub died : (start : Start) (low : ℕ) (p : Pid) → is_ended (at_start start p) ≡ false → (journal : List Stamped) → is_ended (life start (events journal) p) ≡ true
-    → (k : ℕ) × (n : ℕ) × (get_elem? (deaths_in start low journal) k ≡ some (death_of p n))
-died start low p new [] h = absurd (cc)
-died start low p new (s ∷ journal) h = go (is_ended (life start (events journal) p)) refl (died start low p new journal)
+pub died : (known : List Death) (start : Start) (p : Pid) → is_ended (at_start start p) ≡ false → (journal : List Stamped) → is_ended (life start (events journal) p) ≡ true
+    → (k : ℕ) × (n : ℕ) × (get_elem? (deaths_in known start journal) k ≡ some (death_of p n))
+died known start p new [] h = absurd (cc)
+died known start p new (s ∷ journal) h = go (is_ended (life start (events journal) p)) refl (died known start p new journal)
   where
     go : (t : Bool) → is_ended (life start (events journal) p) ≡ t
-        → (is_ended (life start (events journal) p) ≡ true → (k : ℕ) × (n : ℕ) × (get_elem? (deaths_in start low journal) k ≡ some (death_of p n)))
-        → (k : ℕ) × (n : ℕ) × (get_elem? (deaths_in start low (s ∷ journal)) k ≡ some (death_of p n))
-    go true e before = let x = before e in (x.0, x.1, at_longer (deaths_in start low journal) (death_by (ended_in start (events journal) s.event) s.stamp) x.0 (death_of p x.1) x.2)
+        → (is_ended (life start (events journal) p) ≡ true → (k : ℕ) × (n : ℕ) × (get_elem? (deaths_in known start journal) k ≡ some (death_of p n)))
+        → (k : ℕ) × (n : ℕ) × (get_elem? (deaths_in known start (s ∷ journal)) k ≡ some (death_of p n))
+    go true e before = let x = before e in (x.0, x.1, at_longer (deaths_in known start journal) (death_by (ended_in start (events journal) s.event) s.stamp) x.0 (death_of p x.1) x.2)
     go false e before =
         let is = ended_by_it start (events journal) p e s.event h in
-        let x = at_behind (deaths_in start low journal) (death_by (ended_in start (events journal) s.event) s.stamp) 0 (death_of p s.stamp) (ap (λ o. get_elem? (death_by o s.stamp) 0) is) in
+        let x = at_behind (deaths_in known start journal) (death_by (ended_in start (events journal) s.event) s.stamp) 0 (death_of p s.stamp) (ap (λ o. get_elem? (death_by o s.stamp) 0) is) in
         (x.0, s.stamp, x.1)
 
 -- what was told before the journal is still told
-was_told : (start : Start) (low : ℕ) (journal : List Stamped) (k : ℕ) (x : Death) → get_elem? (deaths_before start low) k ≡ some x → get_elem? (deaths_in start low journal) k ≡ some x
-was_told start low [] k x at = at
-was_told start low (s ∷ journal) k x at = at_longer (deaths_in start low journal) (death_by (ended_in start (events journal) s.event) s.stamp) k x (was_told start low journal k x at)
-
--- where nobody was before, nobody has ended
-pub old_ends : (start : Start) (slots low d : ℕ) → KnowsOldEnds start slots low d → AreOldEnds start slots low d
-old_ends [] slots low d h = record { told = λ k x at. absurd (at_nothing x k at); all = λ p e. absurd (cc); turns = λ p e. absurd (cc) }
-old_ends (b ∷ start) slots low d h = h
+was_told : (known : List Death) (start : Start) (journal : List Stamped) (k : ℕ) (x : Death) → get_elem? known k ≡ some x → get_elem? (deaths_in known start journal) k ≡ some x
+was_told known start [] k x at = at
+was_told known start (s ∷ journal) k x at = at_longer (deaths_in known start journal) (death_by (ended_in start (events journal) s.event) s.stamp) k x (was_told known start journal k x at)
 
 -- who had ended before the journal has ended
 had_ended : (start : Start) (p : Pid) → is_ended (at_start start p) ≡ true → (past : Past) → is_ended (life start past p) ≡ true
 had_ended start p h [] = h
 had_ended start p h (e ∷ past) = still_ended p e (life start past p) (had_ended start p h past)
 
-module _ (start : Start) (slots low top d : ℕ) (old : AreOldEnds start slots low d) where
+module _ (known : List Death) (start : Start) (slots low top d : ℕ) (old : AreOldEnds known start slots low d) where
   -- who has died has ended ------------------------------------------------------------------
 
   -- a death of the journal is of one of the desk who has ended, at that stamp
@@ -99,13 +106,13 @@ module _ (start : Start) (slots low top d : ℕ) (old : AreOldEnds start slots l
         ended = λ n k. ended_at start p low top d n [] s journal l k h;
       })
 
-  pub told : (journal : List Stamped) → IsLocal start low top d journal → (k : ℕ) (x : Death) → get_elem? (deaths_in start low journal) k ≡ some x → IsTold journal x
+  pub told : (journal : List Stamped) → IsLocal start low top d journal → (k : ℕ) (x : Death) → get_elem? (deaths_in known start journal) k ≡ some x → IsTold journal x
   told [] l k x at = let t = old.told k x at in record { shard = t.0; stamp = t.1; ended = λ n h. t.2 }
   told (s ∷ journal) l k x at =
       ⊎_elim
       (λ h. told_more s journal x l.0.later (told journal l.1 k x h))
       (λ t. told_now s journal l (ended_in start (events journal) s.event) (ends start (events journal) s.event l.0.may) (of_home start (events journal) d s.event l.0.home) t.0 x t.1)
-      (at_append (deaths_in start low journal) (death_by (ended_in start (events journal) s.event) s.stamp) k x at)
+      (at_append (deaths_in known start journal) (death_by (ended_in start (events journal) s.event) s.stamp) k x at)
 
   -- the versions of a slot follow one another -----------------------------------------------
 
@@ -145,11 +152,11 @@ module _ (start : Start) (slots low top d : ℕ) (old : AreOldEnds start slots l
 
   module _ (journal : List Stamped) (l : IsLocal start low top d journal) where
     -- whoever died has ended by the whole journal
-    dead : (k : ℕ) (x : Death) → get_elem? (deaths_in start low journal) k ≡ some x → is_ended (life start (events journal) (pid_of x)) ≡ true
+    dead : (k : ℕ) (x : Death) → get_elem? (deaths_in known start journal) k ≡ some x → is_ended (life start (events journal) (pid_of x)) ≡ true
     dead k x at = ended_below start (pid_of x) low top d (x.stamp + 1) journal l ((told journal l k x at).ended (x.stamp + 1) (omega arith))
 
     -- the versions of a slot that have died are below the one that lives
-    below_living : (p : Pid) → is_living (life start (events journal) p) ≡ true → (k : ℕ) (x : Death) → get_elem? (deaths_in start low journal) k ≡ some x
+    below_living : (p : Pid) → is_living (life start (events journal) p) ≡ true → (k : ℕ) (x : Death) → get_elem? (deaths_in known start journal) k ≡ some x
         → x.shard ≡ p.shard → x.slot ≡ p.slot → x.version < p.version
     below_living p lives k x at shard slot =
         let gone = dead k x at in
@@ -172,33 +179,33 @@ module _ (start : Start) (slots low top d : ℕ) (old : AreOldEnds start slots l
 
     -- the end of a process that lives may be told
     pub deaths_rise : (p : Pid) → is_living (life start (events journal) p) ≡ true
-        → (last_version (deaths_at p.shard p.slot (deaths_in start low journal)) < p.version) × (last_stamp (deaths_at p.shard p.slot (deaths_in start low journal)) ≤ clock low journal)
+        → (last_version (deaths_at p.shard p.slot (deaths_in known start journal)) < p.version) × (last_stamp (deaths_at p.shard p.slot (deaths_in known start journal)) ≤ clock low journal)
     deaths_rise p lives =
         let turn = in_turn journal l p (born_living (life start (events journal) p) lives) in
         let first = turn.version in
-        last_of (λ v n. (v < p.version) × (n ≤ clock low journal)) (deaths_at p.shard p.slot (deaths_in start low journal))
+        last_of (λ v n. (v < p.version) × (n ≤ clock low journal)) (deaths_at p.shard p.slot (deaths_in known start journal))
         (first, omega arith)
         (λ k x at.
-        let m = from_among (deaths_in start low journal) k x p.shard p.slot at in
+        let m = from_among (deaths_in known start journal) k x p.shard p.slot at in
         let is = true-is_at x p.shard p.slot m.2 in
         (below_living p lives m.0 x m.1 is.0 is.1, (told journal l m.0 x m.1).stamp))
 
     -- whoever has ended has died, as the seat of the desk knows
     pub own_death : (p : Pid) → is_ended (life start (events journal) p) ≡ true
-        → (k : ℕ) × (x : Death) × (get_elem? (deaths_in start low journal) k ≡ some x) × (x.shard ≡ p.shard) × (x.slot ≡ p.slot) × (p.version ≤ x.version)
+        → (k : ℕ) × (x : Death) × (get_elem? (deaths_in known start journal) k ≡ some x) × (x.shard ≡ p.shard) × (x.slot ≡ p.slot) × (p.version ≤ x.version)
     own_death p h = go (is_ended (at_start start p)) refl
       where
         go : (b : Bool) → is_ended (at_start start p) ≡ b
-            → (k : ℕ) × (x : Death) × (get_elem? (deaths_in start low journal) k ≡ some x) × (x.shard ≡ p.shard) × (x.slot ≡ p.slot) × (p.version ≤ x.version)
-        go true e = let t = old.all p e in (t.0, t.1, was_told start low journal t.0 t.1 t.2, t.3, t.4, t.5)
-        go false e = let t = died start low p e journal h in (t.0, death_of p t.1, t.2, refl, refl, le_refl p.version)
+            → (k : ℕ) × (x : Death) × (get_elem? (deaths_in known start journal) k ≡ some x) × (x.shard ≡ p.shard) × (x.slot ≡ p.slot) × (p.version ≤ x.version)
+        go true e = let t = old.all p e in (t.0, t.1, was_told known start journal t.0 t.1 t.2, t.3, t.4, t.5)
+        go false e = let t = died known start p e journal h in (t.0, death_of p t.1, t.2, refl, refl, le_refl p.version)
 
     -- where a version has died, each of its slot up to that version has ended, at a stamp that is at most the greatest of their deaths
-    pub ended_before : (p : Pid) (version n m : ℕ) → Covers (deaths_at p.shard p.slot (deaths_in start low journal)) version n → 0 < p.version → p.version ≤ version → n < m
+    pub ended_before : (p : Pid) (version n m : ℕ) → Covers (deaths_at p.shard p.slot (deaths_in known start journal)) version n → 0 < p.version → p.version ≤ version → n < m
         → is_ended (life start (events (stamped_below m journal)) p) ≡ true
     ended_before p version n m covers issued up_to later =
         let seen = covers.died in
-        let at = from_among (deaths_in start low journal) seen.0 seen.1 p.shard p.slot seen.2 in
+        let at = from_among (deaths_in known start journal) seen.0 seen.1 p.shard p.slot seen.2 in
         let is = true-is_at seen.1 p.shard p.slot at.2 in
         let gone = dead at.0 seen.1 at.1 in
         let born = in_turn journal l (pid_of seen.1) (born_ended (life start (events journal) (pid_of seen.1)) gone) in
@@ -216,7 +223,7 @@ module _ (start : Start) (slots low top d : ℕ) (old : AreOldEnds start slots l
         go : is_ended (life start (events journal) p) ≡ true → (b : Bool) → is_ended (at_start start p) ≡ b → is_ended (life start (events (stamped_below m journal)) p) ≡ true
         go has true e = had_ended start p e (events (stamped_below m journal))
         go has false e =
-            let own = died start low p e journal has in
-            let there = among (deaths_in start low journal) own.0 (death_of p own.1) p.shard p.slot own.2 (is_at-true (death_of p own.1) p.shard p.slot refl refl) in
+            let own = died known start p e journal has in
+            let there = among (deaths_in known start journal) own.0 (death_of p own.1) p.shard p.slot own.2 (is_at-true (death_of p own.1) p.shard p.slot refl refl) in
             let within = covers.latest there.0 (death_of p own.1) there.1 up_to in
             (told journal l own.0 (death_of p own.1) own.2).ended m (omega (arith, within))

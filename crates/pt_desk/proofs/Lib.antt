@@ -6,6 +6,7 @@ pub mod Calling
 pub mod Fresh
 pub mod Ending
 pub mod Deaths
+pub mod Before
 pub mod Seating
 mod Looking
 mod Telling

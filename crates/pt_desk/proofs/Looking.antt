@@ -1,30 +1,29 @@
 -- A desk looks whether a process has ended, and refuses the call that is to reach for it.
-use Rattle.std.proofs.Common.{◌≡◌, ℕ, ◌+◌, ◌<◌, ◌≤◌, true, [], ◌∷◌, max, Option, refl, sym, ap, ◌∙◌, subst, arith}
+use Rattle.std.proofs.Common.{◌≡◌, ℕ, ◌+◌, ◌<◌, true, [], ◌∷◌, max, Option, refl, sym, ap, ◌∙◌, subst, arith}
 use Rattle.std.specs.Prelude.{IsSome}
 use Rattle.std.proofs.lemmas.Bool.Decides.{nat_tests}
 use Rattle.pt_signal.specs.declared.pid.Pid.{Pid}
 use Rattle.pt_events.specs.declared.event.Event.TheVariants.{Refused}
 use Rattle.pt_events.specs.History.{is_ended}
-use mathlib.Core.Option.{some}
-use lib.ListN.{get_elem?}
 use Rattle.atomic_table.proofs.Lists.{at_longer}
 use Rattle.pt_directory.specs.declared.view.Read.{Read}
-use Rattle.pt_directory.specs.declared.view.Death.{Death}
+use Rattle.pt_accounts.specs.DeskLives.{DeskTable}
 use Rattle.pt_directory.specs.Seats.{DirectoryState, SeatState, HasWordsFor, add_read, Probes, HasReadOf, HasToldOf}
 use Rattle.pt_carrier.specs.Ends.{OutEnds, InEnds}
 use Rattle.pt_shard.specs.declared.fault.Fault.{Fault}
 use Rattle.pt_shard.specs.declared.fault.Fault.TheVariants as fault
-use Rattle.pt_shard.specs.ShardState.{ShardState, past, phase_of}
+use Rattle.pt_shard.specs.ShardState.{ShardState, phase_of}
 use Rattle.pt_shard.specs.Known.{knows}
 use Rattle.pt_shard.specs.Fit.{IsFit}
 use Rattle.pt_shard.specs.Calls.{Refuses}
-use Rattle.pt_desk.specs.Sight.{Sight, IsSeen, IsSeated, SeesOn, deaths_in, seat_of}
+use Rattle.pt_desk.specs.Sight.{Sight, IsSeen, IsSeated, SeesOn, deaths_before, seat_of}
 use Rattle.pt_desk.specs.DeskState.{IsAccounted}
 use Rattle.pt_desk.specs.Reaching.{Looks}
 use Rattle.pt_desk.proofs.Posted.{of_parts}
 use Rattle.pt_desk.proofs.Seating.{IsWhole, sight_of, seated_read, seated_written, seat_written}
 use Rattle.pt_desk.proofs.Calling.{written_accounted}
-use Rattle.pt_desk.proofs.Deaths.{old_ends, own_death}
+use Rattle.pt_desk.proofs.Deaths.{own_death}
+use Rattle.pt_desk.proofs.Before.{old_ends}
 
 known_range : (s : ShardState) (t : Pid) → knows s t ≡ true → (t.shard < s.config.desks) × (t.slot < s.config.slots) × (0 < t.version)
 known_range s t h = (grind (arith, nat_tests), grind (arith, nat_tests), grind (arith, nat_tests))
@@ -32,9 +31,9 @@ known_range s t h = (grind (arith, nat_tests), grind (arith, nat_tests), grind (
 pub known_near : (s : ShardState) (t : Pid) → knows s t ≡ true → t.shard < s.config.desks
 known_near s t h = (known_range s t h).0
 
-module _ (s : ShardState) (o : OutEnds) (i : InEnds) (directory : DirectoryState) (seat : SeatState) where
+module _ (s : ShardState) (o : OutEnds) (i : InEnds) (directory : DirectoryState) (seat : SeatState) (table : DeskTable) where
   abbrev before : Sight
-  before = sight_of directory seat
+  before = sight_of directory seat table
 
   module _ (whole : IsWhole s o i before seat) where
     pub same_name : seat.name ≡ directory.name
@@ -50,27 +49,27 @@ module _ (s : ShardState) (o : OutEnds) (i : InEnds) (directory : DirectoryState
       -- whoever has ended here, its end is told
       own_end : (p : Pid) → is_ended (phase_of s p) ≡ true → HasToldOf p (seat_of s before)
       own_end p ends =
-          own_death s.start s.config.slots s.config.start s.config.top_version s.number (old_ends s.start s.config.slots s.config.start s.number whole.0.seated.old) s.journal whole.0.fit.local p ends
+          own_death (deaths_before table s.config.start) s.start s.config.slots s.config.start s.config.top_version s.number (old_ends s before whole.0.fit whole.0.seated) s.journal whole.0.fit.local p ends
 
       pub looked : (seat' : SeatState) (answer : Option ℕ) → Probes t seat answer seat' → (HasReadOf t seat → IsSome answer) → (HasToldOf t seat → IsSome answer)
-          → Looks t (of_parts s o i before) answer (sight_of directory seat')
+          → Looks t (of_parts s o i before) answer (sight_of directory seat' table)
       looked seat' answer probes again own = record {
         found = probes.0;
-        read = ap (sight_of directory) probes.1;
+        read = ap (λ z. sight_of directory z table) probes.1;
         ended = probes.2;
         again = λ k r at end. again (k, r, at, end.shard, end.slot, end.version);
         own = λ here ends. own (subst (HasToldOf t) (sym whole.1) (own_end t ends));
       }
 
-    pub read_whole : (seat' : SeatState) (x : Read) → x.shard < s.config.desks → seat' ≡ add_read x seat → IsWhole s o i (sight_of directory seat') seat'
+    pub read_whole : (seat' : SeatState) (x : Read) → x.shard < s.config.desks → seat' ≡ add_read x seat → IsWhole s o i (sight_of directory seat' table) seat'
     read_whole seat' x here is =
-        subst (λ z. IsWhole s o i (sight_of directory z) z) (sym is)
+        subst (λ z. IsWhole s o i (sight_of directory z table) z) (sym is)
         (record { fit = whole.0.fit; accounts = whole.0.accounts; seated = seated_read s before x here whole.0.seated }, ap (add_read x) whole.1)
 
 -- the sight goes on with one more read
-pub sees_more : (directory : DirectoryState) (seat seat' : SeatState) (x : Read) → seat' ≡ add_read x seat → SeesOn (sight_of directory seat) (sight_of directory seat')
-sees_more directory seat seat' x is =
-    subst (λ z. SeesOn (sight_of directory seat) (sight_of directory z)) (sym is) (record { directory = refl; reads = λ k r at. at_longer seat.reads (x ∷ []) k r at })
+pub sees_more : (directory : DirectoryState) (table : DeskTable) (seat seat' : SeatState) (x : Read) → seat' ≡ add_read x seat → SeesOn (sight_of directory seat table) (sight_of directory seat' table)
+sees_more directory table seat seat' x is =
+    subst (λ z. SeesOn (sight_of directory seat table) (sight_of directory z table)) (sym is) (record { directory = refl; reads = λ k r at. at_longer seat.reads (x ∷ []) k r at })
 
 -- a refused call leaves the desk whole
 pub refused_whole : (s s' : ShardState) (o : OutEnds) (i : InEnds) (v : Sight) (seat : SeatState) (p t : Pid) (n : ℕ) (f : Fault) → Refuses p t n s f s' → IsFit s'

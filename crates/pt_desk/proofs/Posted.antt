@@ -1,5 +1,5 @@
 -- What a post does to the lanes out of a desk.
-use Rattle.std.proofs.Common.{◌≡◌, ℕ, ◌+◌, ◌<◌, ◌≤◌, inl, inr, below_more, true, false, List, [], ◌∷◌, ◌++◌, length, take, drop, get_or, refl, sym, ap, ◌∙◌, subst, append_assoc, append-nil, length-drop, get_or-drop, arith}
+use Rattle.std.proofs.Common.{◌≡◌, ℕ, ◌+◌, ◌<◌, ◌≤◌, inl, inr, below_more, true, false, List, [], ◌∷◌, ◌++◌, length, take, drop, get_or, set, refl, sym, ap, ◌∙◌, subst, append_assoc, append-nil, length-drop, get_or-drop, arith}
 use Rattle.std.proofs.lemmas.List.{take_more, drop-drop, drop_all, get_or-set_same, get_or-set_other}
 use Rattle.pt_signal.specs.declared.letter.Letter.{Letter}
 use Rattle.pt_carrier.specs.Ends.{OutEnds, InEnds, one_more, LooksAt}
@@ -14,6 +14,13 @@ use Rattle.pt_desk.proofs.Letters.{total_more}
 -- the desk of these parts
 abbrev pub of_parts : ShardState → OutEnds → InEnds → Sight → DeskState
 of_parts s o i v = record { shard = s; outs = o; ins = i; sight = v }
+
+-- a lane that was looked at, and what this end knows since
+pub looked_then : (old mid new : OutEnds) (e : ℕ) → LooksAt old mid e → new.seen ≡ mid.seen → LooksAt old new e
+looked_then old mid new e looks same = record {
+  more = omega (arith, looks.more, ap (λ z. get_or z e 0) same);
+  others = same ∙ looks.others ∙ ap (set old.seen e) (ap (λ z. get_or z e 0) (sym same));
+}
 
 pub posts_one : (s s' : ShardState) (o o' : OutEnds) (i : InEnds) (v : Sight) (e : ℕ) (l : Letter) → e < s.config.desks → IsFit s → IsAccounted s o i
     → get_or s.outbox e [] ≡ l ∷ drop 1 (get_or s.outbox e []) → s' ≡ sent_on e s
@@ -96,7 +103,7 @@ front_one old mid new e n front (l, first, posted, left, some) = record {
 
 pub front_stops : (old mid new : DeskState) (e n : ℕ) → PostsFront e n old mid → PostsOne e mid false new → PostsTo e old new × PostsSome e n old new
 front_stops old mid new e n front (full, posted, left, some) = (
-  record { count = n; posted = posted ∙ front.posted; left = left ∙ front.left; full = elim full [ inl none ↦ inl (left ∙ none) | inr f ↦ inr f ]; seen = omega (arith, front.some.seen, some.seen) },
+  record { count = n; posted = posted ∙ front.posted; left = left ∙ front.left; full = inr full; seen = omega (arith, front.some.seen, some.seen) },
   subst (λ k. PostsSome e k old new) (omega arith) (some_then old mid new e n 0 front.some some),
 )
 

@@ -9,17 +9,20 @@ use Rattle.pt_events.specs.declared.event.Event.TheVariants.{Born}
 use Rattle.pt_events.specs.declared.event.Stamped.{Stamped}
 use Rattle.pt_events.specs.History.{Start, Phase, unborn, living, ended, life, is_birth, is_unborn, is_living}
 use Rattle.pt_events.specs.Journal.{clock, events}
+use Rattle.pt_directory.specs.declared.view.Death.{Death}
+use Rattle.pt_accounts.specs.DeskLives.{DeskTable}
 use Rattle.pt_directory.specs.Views.{deaths_at, last_version, last_stamp}
 use Rattle.pt_directory.specs.Seats.{DirectoryState, SeatState}
 use Rattle.pt_carrier.specs.Ends.{OutEnds, InEnds}
 use Rattle.pt_shard.specs.ShardState.{ShardState, past, lives, written, came, handled, is_ended_by, ended_in, ended_by}
-use Rattle.pt_desk.specs.Sight.{Sight, AreOldEnds, IsSeen, IsSeated, HasWordsAt, AllHaveWords, deaths_in, seat_of}
+use Rattle.pt_desk.specs.Sight.{Sight, IsSeen, IsSeated, HasWordsAt, AllHaveWords, deaths_before, seat_of}
 use Rattle.pt_shard.specs.Fit.{IsFit}
 use Rattle.pt_desk.specs.DeskState.{IsAccounted}
 use Rattle.pt_desk.specs.InPlace.{CanTell, told}
-use Rattle.pt_desk.proofs.Seating.{IsWhole, SameJournal, sight_of, seated_written, seat_written, seat_ended, same_seated, same_seat}
+use Rattle.pt_desk.proofs.Seating.{IsWhole, SameJournal, deaths_of, sight_of, seated_written, seat_written, seat_ended, same_seated, same_seat}
 use Rattle.pt_desk.proofs.Ending.{no_birth}
-use Rattle.pt_desk.proofs.Deaths.{old_ends, deaths_rise}
+use Rattle.pt_desk.proofs.Deaths.{AreOldEnds, deaths_rise}
+use Rattle.pt_desk.proofs.Before.{old_ends}
 
 -- the slot of a process that was born
 at_birth : (slots : ℕ) (p : Pid) (e : Event) → is_birth p e ≡ true → HasWordsAt slots e → p.slot < slots
@@ -31,21 +34,21 @@ was_born unborn h = absurd (cc)
 was_born (living s) h = refl
 was_born (ended r s) h = refl
 
-slot_of_born : (start : Start) (slots low d : ℕ) → AreOldEnds start slots low d → (p : Pid) (journal : List Stamped) → AllHaveWords slots journal → is_unborn (life start (events journal) p) ≡ false → p.slot < slots
-slot_of_born start slots low d old p [] words h = (old.turns p h).slot
-slot_of_born start slots low d old p (s ∷ journal) words h = go (is_birth p s.event) refl (is_unborn (life start (events journal) p)) refl (slot_of_born start slots low d old p journal words.1)
+slot_of_born : (known : List Death) (start : Start) (slots low d : ℕ) → AreOldEnds known start slots low d → (p : Pid) (journal : List Stamped) → AllHaveWords slots journal → is_unborn (life start (events journal) p) ≡ false → p.slot < slots
+slot_of_born known start slots low d old p [] words h = (old.turns p h).slot
+slot_of_born known start slots low d old p (s ∷ journal) words h = go (is_birth p s.event) refl (is_unborn (life start (events journal) p)) refl (slot_of_born known start slots low d old p journal words.1)
   where
     go : (b : Bool) → is_birth p s.event ≡ b → (u : Bool) → is_unborn (life start (events journal) p) ≡ u → (is_unborn (life start (events journal) p) ≡ false → p.slot < slots) → p.slot < slots
     go true e u k before = at_birth slots p s.event e words.0
     go false e false k before = before k
     go false e true k before = let n = no_birth p s.event (life start (events journal) p) e k in absurd (cc)
 
-module _ (s : ShardState) (o : OutEnds) (i : InEnds) (directory : DirectoryState) (seat : SeatState) (whole : IsWhole s o i (sight_of directory seat) seat) where
+module _ (s : ShardState) (o : OutEnds) (i : InEnds) (directory : DirectoryState) (seat : SeatState) (before : DeskTable) (whole : IsWhole s o i (sight_of directory seat before) seat) where
   module _ (p : Pid) (alive : lives s p ≡ true) (home : p.shard ≡ s.number) (n : ℕ) (later : s.clock < n) where
     -- the seat told of none of p's slot that is not earlier
-    rises : (last_version (deaths_at p.shard p.slot (deaths_in s.start s.config.start s.journal)) < p.version)
-        × (last_stamp (deaths_at p.shard p.slot (deaths_in s.start s.config.start s.journal)) ≤ clock s.config.start s.journal)
-    rises = deaths_rise s.start s.config.slots s.config.start s.config.top_version s.number (old_ends s.start s.config.slots s.config.start s.number whole.0.seated.old) s.journal whole.0.fit.local p alive
+    rises : (last_version (deaths_at p.shard p.slot (deaths_of s (sight_of directory seat before))) < p.version)
+        × (last_stamp (deaths_at p.shard p.slot (deaths_of s (sight_of directory seat before))) ≤ clock s.config.start s.journal)
+    rises = deaths_rise (deaths_before before s.config.start) s.start s.config.slots s.config.start s.config.top_version s.number (old_ends s (sight_of directory seat before) whole.0.fit whole.0.seated) s.journal whole.0.fit.local p alive
 
     version_rises : last_version (deaths_at p.shard p.slot seat.deaths) < p.version
     version_rises = subst (λ (z : SeatState). last_version (deaths_at p.shard p.slot z.deaths) < p.version) (sym whole.1) rises.0
@@ -59,7 +62,7 @@ module _ (s : ShardState) (o : OutEnds) (i : InEnds) (directory : DirectoryState
       name = ap (λ (z : SeatState). z.name) whole.1;
       home = ap (λ (z : SeatState). z.homes) whole.1 ∙ ap (λ d. d ∷ []) (sym home);
       words =
-          let slot = slot_of_born s.start s.config.slots s.config.start s.number (old_ends s.start s.config.slots s.config.start s.number whole.0.seated.old) p s.journal whole.0.seated.words (was_born (life s.start (past s) p) alive) in
+          let slot = slot_of_born (deaths_before before s.config.start) s.start s.config.slots s.config.start s.number (old_ends s (sight_of directory seat before) whole.0.fit whole.0.seated) p s.journal whole.0.seated.words (was_born (life s.start (past s) p) alive) in
           (omega (arith, home, whole.0.fit.here, whole.0.seated.desks), omega (arith, slot, whole.0.seated.slots));
       version = version_rises;
       stamp = stamp_rises;
@@ -81,16 +84,16 @@ module _ (s : ShardState) (o : OutEnds) (i : InEnds) (directory : DirectoryState
   -- the sight and the seat after one more event, whose end was told if it is one; the letters that wait may move too
   module _ (n : ℕ) (e : Event) (s' : ShardState) (same : SameJournal (written n e s) s') (seen : IsSeen seat.reads n e) (words : HasWordsAt s.config.slots e) where
     abbrev pub Sits : SeatState → Type 0
-    Sits seat' = IsSeated s' (sight_of directory seat') × (seat' ≡ seat_of s' (sight_of directory seat'))
+    Sits seat' = IsSeated s' (sight_of directory seat' before) × (seat' ≡ seat_of s' (sight_of directory seat' before))
 
     abbrev v : Sight
-    v = sight_of directory seat
+    v = sight_of directory seat before
 
     seat_told : (o : Option Pid) → ended_in s.start (past s) e ≡ o → seat_of (written n e s) v ≡ told o n (seat_of s v)
     seat_told None is = seat_written s v n e (written n e s).vacant is
     seat_told (Some p) is = seat_ended s v n e p (written n e s).vacant is
 
-    same_reads : (o : Option Pid) → sight_of directory (told o n seat) ≡ v
+    same_reads : (o : Option Pid) → sight_of directory (told o n seat) before ≡ v
     same_reads None = refl
     same_reads (Some p) = refl
 
@@ -104,12 +107,12 @@ module _ (s : ShardState) (o : OutEnds) (i : InEnds) (directory : DirectoryState
 
   -- so after a letter was handled
   pub handled_whole : (l : Letter) (s' : ShardState) (o' : OutEnds) (i' : InEnds) (who : Option Pid) (seat' : SeatState) → SameJournal (handled l s) s' → who ≡ ended_by s (came l)
-      → seat' ≡ told who (max s.clock l.stamp + 1) seat → IsFit s' → IsAccounted s' o' i' → IsWhole s' o' i' (sight_of directory seat') seat'
+      → seat' ≡ told who (max s.clock l.stamp + 1) seat → IsFit s' → IsAccounted s' o' i' → IsWhole s' o' i' (sight_of directory seat' before) seat'
   handled_whole l s' o' i' who seat' same ends is fit accounts =
       let seats = sits (max s.clock l.stamp + 1) (came l) s' same tt tt who seat' ends is in
       (record { fit = fit; accounts = accounts; seated = seats.0 }, seats.1)
 
 -- what it sees does not change by it
-pub told_sight : (directory : DirectoryState) (who : Option Pid) (n : ℕ) (seat seat' : SeatState) → seat' ≡ told who n seat → sight_of directory seat' ≡ sight_of directory seat
-told_sight directory None n seat seat' is = ap (sight_of directory) is
-told_sight directory (Some p) n seat seat' is = ap (sight_of directory) is
+pub told_sight : (directory : DirectoryState) (before : DeskTable) (who : Option Pid) (n : ℕ) (seat seat' : SeatState) → seat' ≡ told who n seat → sight_of directory seat' before ≡ sight_of directory seat before
+told_sight directory before None n seat seat' is = ap (λ z. sight_of directory z before) is
+told_sight directory before (Some p) n seat seat' is = ap (λ z. sight_of directory z before) is

@@ -33,10 +33,8 @@ abbrev pub collected_from : DeskState → ℕ → List Letter
 collected_from d e = slice_index_or d.ins.collected e []
 
 -- what the journal sent to each desk is what was posted there, then what waits to be posted;
--- what was collected from each desk is what came from it, then the letter in the hold;
--- and nothing was before its journal
+-- what was collected from each desk is what came from it, then the letter in the hold
 pub record IsAccounted (s : ShardState) (o : OutEnds) (i : InEnds) : Type 0 where
-  pub first : s.start ≡ []
   pub out_number : o.place.number ≡ s.number
   pub in_number : i.place.number ≡ s.number
   pub out_desks : length o.place.rings ≡ s.config.desks

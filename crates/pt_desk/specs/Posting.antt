@@ -45,11 +45,11 @@ pub record PostsSome (e count : ℕ) (old new : DeskState) : Type 0 where
   pub seen : slice_index_or old.outs.seen e 0 ≤ slice_index_or new.outs.seen e 0
   pub counted : total new.outs.posted ≡ total old.outs.posted + count
 
--- the oldest letter that waits for desk e is posted; else none waits, or the lane is full
+-- the oldest letter that waits for desk e is posted, unless the lane is full
 abbrev pub PostsOne : ℕ → DeskState → Bool → DeskState → Type 0
 PostsOne e old true new =
     (l : Letter) × (waits_for old e ≡ l ∷ drop 1 (waits_for old e)) × (posted_to new e ≡ posted_to old e ++ l ∷ [])
     × (waits_for new e ≡ drop 1 (waits_for old e)) × PostsSome e 1 old new
 PostsOne e old false new =
-    ((waits_for old e ≡ []) ⊎ IsFull new.outs e) × (posted_to new e ≡ posted_to old e)
-    × (waits_for new e ≡ waits_for old e) × PostsSome e 0 old new
+    IsFull new.outs e × (posted_to new e ≡ posted_to old e) × (waits_for new e ≡ waits_for old e)
+    × PostsSome e 0 old new

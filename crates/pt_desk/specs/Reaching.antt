@@ -22,6 +22,7 @@ pub record Looks (t : Pid) (old : DeskState) (answer : Option ℕ) (sight : Sigh
   pub read : sight ≡ record {
     directory = old.sight.directory;
     reads = old.sight.reads ++ new_read t.shard t.slot found answer ∷ [];
+    before = old.sight.before;
   }
   pub ended : MatchOption answer (found < t.version) (λ n. t.version ≤ found)
   -- it has one where it was seen before that t has ended

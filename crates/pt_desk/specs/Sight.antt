@@ -1,44 +1,38 @@
 -- What a desk sees of the ends that the desks of its node told.
-use Rattle.std.specs.Prelude.{◌≡◌, ℕ, ◌<◌, ◌≤◌, ◌==◌, nat_lt, Bool, true, false, ◌&&◌, not, map, filter, List, [], ◌∷◌}
-use Rattle.std.specs.Prelude.{◌++◌, Option, Some, None, ⊤}
-use Rattle.std.specs.List.{list_any}
+use Rattle.std.specs.Prelude.{◌≡◌, ℕ, ◌<◌, ◌≤◌, true, false, map, List, [], ◌∷◌, ◌++◌, Option, Some, None, ⊤}
 use mathlib.Core.Option.{some}
 use lib.ListN.{get_elem?}
 use Rattle.pt_signal.specs.declared.pid.Pid.{Pid}
 use Rattle.pt_events.specs.declared.event.Event.{Event}
 use Rattle.pt_events.specs.declared.event.Event.TheVariants.{Born, Refused}
 use Rattle.pt_events.specs.declared.event.Stamped.{Stamped}
-use Rattle.pt_events.specs.History.{Start, Phase, at_start, is_unborn, is_ended}
+use Rattle.pt_events.specs.History.{Start, at_start, is_unborn, is_ended}
 use Rattle.pt_events.specs.Journal.{events}
 use Rattle.pt_directory.specs.declared.view.Read.{Read}
 use Rattle.pt_directory.specs.declared.view.Death.{Death}
 use Rattle.pt_directory.specs.Seats.{DirectoryState, SeatState, death_of}
+use Rattle.pt_accounts.specs.DeskLives.{DeskTable, IsTableOf, latest_ends}
 use Rattle.pt_shard.specs.ShardState.{ShardState, ended_in}
 
--- the directory of its node, and what it read there, oldest first
+-- the directory of its node; what it read there, oldest first; and what became of the processes before the journal
 pub record Sight : Type 0 where
   pub directory : DirectoryState
   pub reads : List Read
+  pub before : DeskTable
 
 abbrev pub death_by : Option Pid → ℕ → List Death
 death_by None n = []
 death_by (Some p) n = death_of p n ∷ []
 
--- it has ended before the journal, and no later process of its slot has
-abbrev pub is_latest_end : Start → Pid × Phase → Bool
-is_latest_end start b =
-    is_ended b.1
-    && not (list_any (λ c. is_ended c.1 && ((c.0.slot == b.0.slot) && nat_lt b.0.version c.0.version)) start)
-
 -- the latest end of each slot before the journal, as deaths, at the stamp that the desk began with
-abbrev pub deaths_before : Start → ℕ → List Death
-deaths_before start low = map (λ b. death_of b.0 low) (filter (is_latest_end start) start)
+abbrev pub deaths_before : DeskTable → ℕ → List Death
+deaths_before before low = map (λ p. death_of p low) (latest_ends before)
 
 -- and then the ends of the journal, oldest first
-abbrev pub deaths_in : Start → ℕ → List Stamped → List Death
-deaths_in start low [] = deaths_before start low
-deaths_in start low (s ∷ journal) =
-    deaths_in start low journal ++ death_by (ended_in start (events journal) s.event) s.stamp
+abbrev pub deaths_in : List Death → Start → List Stamped → List Death
+deaths_in before start [] = before
+deaths_in before start (s ∷ journal) =
+    deaths_in before start journal ++ death_by (ended_in start (events journal) s.event) s.stamp
 
 -- the seat of a desk: it is the home of that desk alone, and has told these ends, each and no other
 abbrev pub seat_of : ShardState → Sight → SeatState
@@ -46,7 +40,7 @@ seat_of s v = record {
   name = v.directory.name;
   homes = s.number ∷ [];
   reads = v.reads;
-  deaths = deaths_in s.start s.config.start s.journal;
+  deaths = deaths_in (deaths_before v.before s.config.start) s.start s.journal;
 }
 
 -- a read that found the end of p, or of a later process of its slot
@@ -79,31 +73,12 @@ abbrev pub AllHaveWords : ℕ → List Stamped → Type 0
 AllHaveWords slots [] = ⊤
 AllHaveWords slots (s ∷ journal) = HasWordsAt slots s.event × AllHaveWords slots journal
 
--- whose death it is
-abbrev pub pid_of : Death → Pid
-pid_of x = record { shard = x.shard; slot = x.slot; version = x.version }
-
 -- whoever was born before the journal is of a slot of the desk and has a version, and those before it in its slot have
 -- ended
 pub record WasInTurn (start : Start) (slots : ℕ) (p : Pid) : Type 0 where
   pub slot : p.slot < slots
   pub version : 0 < p.version
   pub before : (v : ℕ) → 0 < v → v < p.version → is_ended (at_start start (record p { version = v })) ≡ true
-
--- what desk d knows of the ends before its journal: those that were told are its own, and of whoever has ended its end
--- was told, or a later one of its slot
-pub record AreOldEnds (start : Start) (slots low d : ℕ) : Type 0 where
-  pub told : (k : ℕ) (x : Death) → get_elem? (deaths_before start low) k ≡ some x
-      → (x.shard ≡ d) × (x.stamp ≤ low) × (is_ended (at_start start (pid_of x)) ≡ true)
-  pub all : (p : Pid) → is_ended (at_start start p) ≡ true
-      → (k : ℕ) × (x : Death) × (get_elem? (deaths_before start low) k ≡ some x) × (x.shard ≡ p.shard)
-      × (x.slot ≡ p.slot) × (p.version ≤ x.version)
-  pub turns : (p : Pid) → is_unborn (at_start start p) ≡ false → WasInTurn start slots p
-
--- where nobody was before, there is nothing to know
-abbrev pub KnowsOldEnds : Start → ℕ → ℕ → ℕ → Type 0
-KnowsOldEnds [] slots low d = ⊤
-KnowsOldEnds (b ∷ start) slots low d = AreOldEnds (b ∷ start) slots low d
 
 -- what holds of the sight of every desk
 pub record IsSeated (s : ShardState) (v : Sight) : Type 0 where
@@ -113,7 +88,10 @@ pub record IsSeated (s : ShardState) (v : Sight) : Type 0 where
   pub near : (k : ℕ) (r : Read) → get_elem? v.reads k ≡ some r → r.shard < s.config.desks
   pub seen : AllSeen v.reads s.journal
   pub words : AllHaveWords s.config.slots s.journal
-  pub old : KnowsOldEnds s.start s.config.slots s.config.start s.number
+  -- what it knows of those before its journal is what they were, and nothing of the journal
+  pub told : IsTableOf s.start s.number [] v.before
+  pub unread : v.before.read ≡ 0
+  pub turns : (p : Pid) → is_unborn (at_start s.start p) ≡ false → WasInTurn s.start s.config.slots p
 
 -- the sight later: of the same directory, and what it read stands where it stood
 pub record SeesOn (old new : Sight) : Type 0 where

@@ -1,7 +1,7 @@
 //! A desk of a node.
 
 ghost use Rattle.std.specs.Prelude.{◌≡◌, ◌<◌, ◌+◌, ◌-◌, ◌^◌, ◌∷◌, ◌++◌, ℕ, [], length, min, true, Some, None, IfSome};
-ghost use Rattle.std.specs.Prelude.{IfOk, IsOk, cond, is_some, slice_index_or};
+ghost use Rattle.std.specs.Prelude.{IfOk, IsOk, cond, is_some, slice_index_or, ◌==◌};
 ghost use Rattle.std.specs.Option.{option_copied};
 ghost use Rattle.pt_signal.specs.declared.signal.Signal.{Signal};
 ghost use Rattle.pt_events.specs.declared.event.Event.{Event};
@@ -9,6 +9,8 @@ ghost use Rattle.pt_events.specs.Journal.{IsLocal, Agrees, posts, gots, clock};
 ghost use Rattle.pt_carrier.specs.Meeting.{Meets};
 ghost use Rattle.pt_shard.specs.ShardState.{lives, state_in};
 ghost use Rattle.pt_shard.specs.Known.{knows};
+ghost use Rattle.pt_shard.specs.Living.{living_count, living_in, living_pids};
+ghost use Rattle.pt_signal.specs.declared.pid.Pid.{Pid};
 ghost use Rattle.pt_shard.specs.Reading.{read_of};
 ghost use Rattle.pt_shard.specs.Outbox.{count_pending, held_from};
 ghost use Rattle.pt_shard.specs.Fit.{IsFit};
@@ -26,18 +28,19 @@ ghost use Rattle.pt_desk.specs.InPlace.{HandlesFront, HoldsFront, CanTell, told}
 ghost use Rattle.pt_desk.specs.Turns.{HandlesAtMostOne, Turns};
 
 use crate::turned::Turned;
+use pt_accounts::DeskLives;
 use pt_carrier::{Ins, Outs};
 use pt_directory::{Directory, Seat};
 use pt_events::Journal;
 use pt_process::Process;
 use pt_shard::{Config, Fault, Shard, Stop};
 use pt_signal::{Body, Ids, Item, Pick, Pid, Reason, Ref};
-use std::alloc::Global;
+use std::alloc::{AllocError, Global};
 use std::marker::Model;
 use std::sync::Arc;
 
-/// A desk of a node: its processes, its journal, the letters that wait in it, its ends of the lanes, and its seat in
-/// the directory of ended processes.
+/// A desk of a node: its processes, its journal, the letters that wait in it, its ends of the lanes, its seat in the
+/// directory of ended processes, and the table of what became of its processes before the journal.
 ///
 /// It cannot be dropped: [`Desk::apart`] takes it, and so does the gathering of a node.
 pub struct Desk {
@@ -46,6 +49,7 @@ pub struct Desk {
     ins: Ins,
     directory: Arc<Directory, Global>,
     seat: Seat,
+    before: DeskLives,
 }
 
 impl Model for Desk {
@@ -60,7 +64,7 @@ impl Model for Desk {
       shard = d.shard;
       outs = d.outs;
       ins = d.ins;
-      sight = record { directory = arc_value d.directory; reads = d.seat.reads };
+      sight = record { directory = arc_value d.directory; reads = d.seat.reads; before = d.before };
     } };
 
     ghost invariant = { λ d.
@@ -68,34 +72,47 @@ impl Model for Desk {
           shard = d.shard;
           outs = d.outs;
           ins = d.ins;
-          sight = record { directory = arc_value d.directory; reads = d.seat.reads };
+          sight = record { directory = arc_value d.directory; reads = d.seat.reads; before = d.before };
         })
-        × (d.seat ≡ seat_of d.shard (record { directory = arc_value d.directory; reads = d.seat.reads })) };
+        × (d.seat ≡ seat_of d.shard (record {
+          directory = arc_value d.directory;
+          reads = d.seat.reads;
+          before = d.before;
+        })) };
 }
 
 impl Desk {
-    /// The desk of this shard, with its ends of the lanes and its seat in the directory.
+    /// The desk of this shard, with its ends of the lanes, its seat in the directory and its table of what was before.
     ///
     /// The ends are those of the shard's number, and the accounts agree: what the shard's journal sent to each desk is
     /// what was posted there and then what waits in its outbox, and what was collected from each desk is what its
-    /// journal received from there and then the letter in its hold. Nothing was before the journal. The seat is the
-    /// home of this desk alone, and the ends that it has told are those of the journal; of each refused call it had
-    /// seen the end, at a lower stamp.
+    /// journal received from there and then the letter in its hold. The seat is the home of this desk alone, and the
+    /// ends that it has told are the latest of each slot before the journal and then those of the journal; of each
+    /// refused call it had seen the end, at a lower stamp. The table has what the shard's start says of its processes.
     pub fn whole(
         shard: Shard,
         outs: Outs,
         ins: Ins,
         directory: Arc<Directory, Global>,
         seat: Seat,
+        before: DeskLives,
     ) -> Desk
         requires accounted { IsAccounted shard outs ins }
-        requires seated { IsSeated shard (record { directory = arc_value directory; reads = seat.reads }) }
-        requires seat { seat ≡ seat_of shard (record { directory = arc_value directory; reads = seat.reads }) }
+        requires seated { IsSeated shard (record {
+          directory = arc_value directory;
+          reads = seat.reads;
+          before = before;
+        }) }
+        requires seat { seat ≡ seat_of shard (record {
+          directory = arc_value directory;
+          reads = seat.reads;
+          before = before;
+        }) }
         ensures { result ≡ record {
           shard = shard;
           outs = outs;
           ins = ins;
-          sight = record { directory = arc_value directory; reads = seat.reads };
+          sight = record { directory = arc_value directory; reads = seat.reads; before = before };
         } }
     {
         // read for the proof alone: it says what holds of every shard
@@ -106,13 +123,15 @@ impl Desk {
             ins,
             directory,
             seat,
+            before,
         }
     }
 
     /// Takes the desk apart: the reverse of `whole`, and the same holds of what it gives.
-    pub fn apart(self) -> (Shard, Outs, Ins, Arc<Directory, Global>, Seat)
+    pub fn apart(self) -> (Shard, Outs, Ins, Arc<Directory, Global>, Seat, DeskLives)
         ensures parts { (self.shard ≡ result.0) × (self.outs ≡ result.1) × (self.ins ≡ result.2) }
-        ensures sight { self.sight ≡ record { directory = arc_value result.3; reads = result.4.reads } }
+        ensures sight { self.sight
+            ≡ record { directory = arc_value result.3; reads = result.4.reads; before = result.5 } }
         ensures fit { IsFit result.0 }
         ensures accounts { IsAccounted result.0 result.1 result.2 }
         ensures seated { IsSeated self.shard self.sight }
@@ -124,8 +143,9 @@ impl Desk {
             ins,
             directory,
             seat,
+            before,
         } = self;
-        (shard, outs, ins, directory, seat)
+        (shard, outs, ins, directory, seat, before)
     }
 
     /// What happened here, oldest event first.
@@ -176,6 +196,37 @@ impl Desk {
         ensures { result ≡ lives self.now.shard p }
     {
         self.shard.alive_here(p)
+    }
+
+    /// The process that lives in that slot, or `None` where nobody does. So a program goes over all who live here, by
+    /// the slots below `Config::slots`.
+    pub fn lives_in(&self, slot: u32) -> Option<Pid>
+        ensures is { result ≡ living_in self.now.shard slot }
+        ensures only { (p : Pid) → lives self.now.shard p ≡ true → p.slot ≡ slot → result ≡ Some p }
+    {
+        self.shard.lives_in(slot)
+    }
+
+    /// The processes that live here, by slot: Erlang's `processes/0` of this desk. It looks into each slot. Refused
+    /// only where there is no memory for the list.
+    pub fn pids(&self, alloc: Global) -> Result<Vec<Pid>, AllocError>
+        ensures { IfOk result (λ v. v.items ≡ living_pids self.now.shard) }
+    {
+        self.shard.pids(alloc)
+    }
+
+    /// How many processes live here: Erlang's `length(processes())` of this desk, in constant time.
+    pub fn len(&self) -> u32
+        ensures { result ≡ living_count self.now.shard }
+    {
+        self.shard.len()
+    }
+
+    /// Whether no process lives here.
+    pub fn is_empty(&self) -> bool
+        ensures { result ≡ (living_count self.now.shard == 0) }
+    {
+        self.shard.is_empty()
     }
 
     /// The items that wait in the mailbox of p, oldest first, or `None` where it does not live here.
@@ -542,18 +593,19 @@ impl Desk {
         posted
     }
 
-    /// Posts the oldest letter that waits for desk `to`, if there is one and the lane has a place.
+    /// Posts the oldest letter that waits for desk `to`, if the lane has a place.
     fn post_one(&mut self, to: u8) -> bool
-        requires { to < self.old.shard.config.desks }
+        requires desk { to < self.old.shard.config.desks }
+        requires waits { 0 < length (waits_for self.old to) }
         ensures { PostsOne to self.old result self.new }
     {
-        let Some(letter) = self.shard.first_out(to) else {
+        if self.outs.is_full(to) {
             return false;
+        }
+        let Some(letter) = self.shard.next_out(to) else {
+            unreachable!();
         };
-        let Ok(()) = self.outs.post(to, letter) else {
-            return false;
-        };
-        let _ = self.shard.next_out(to);
+        self.outs.post_reserved(to, letter);
         true
     }
 

@@ -5,7 +5,7 @@ use atomic_table::{Join, Play, Split, TableRule};
 use std::marker::{Brand, PhantomData};
 
 /// Words and reads agree with the deaths that the seats told.
-pub struct DirectoryRule;
+pub(crate) struct DirectoryRule;
 
 impl TableRule<(), View, Shape> for DirectoryRule {
     ghost use Rattle.pt_directory.specs.Rule.{Ruled, first_view};
@@ -16,7 +16,7 @@ impl TableRule<(), View, Shape> for DirectoryRule {
 }
 
 /// The numbers of the pid that a step is about. Proofs choose them at each call.
-pub trait Numbers {
+pub(crate) trait Numbers {
     ghost use Rattle.std.specs.Prelude.{ℕ};
 
     ghost shard: { ℕ };
@@ -35,7 +35,7 @@ impl Numbers for Brand {
 }
 
 /// The load of a version word.
-pub struct LoadVersion<N> {
+pub(crate) struct LoadVersion<N> {
     numbers: PhantomData<N>,
 }
 
@@ -46,7 +46,7 @@ impl<N: Numbers> Play<(), View> for LoadVersion<N> {
 }
 
 /// The load of a death word, after that of the slot's version word.
-pub struct LoadDeath;
+pub(crate) struct LoadDeath;
 
 impl Play<(), View> for LoadDeath {
     ghost use Rattle.pt_directory.specs.Rule.{DeathLoaded};
@@ -55,7 +55,7 @@ impl Play<(), View> for LoadDeath {
 }
 
 /// The store of a death word.
-pub struct StoreDeath<N> {
+pub(crate) struct StoreDeath<N> {
     numbers: PhantomData<N>,
 }
 
@@ -66,7 +66,7 @@ impl<N: Numbers> Play<(), View> for StoreDeath<N> {
 }
 
 /// The store of a version word, after that of the slot's death word.
-pub struct StoreVersion;
+pub(crate) struct StoreVersion;
 
 impl Play<(), View> for StoreVersion {
     ghost use Rattle.pt_directory.specs.Rule.{VersionStored};
@@ -75,7 +75,7 @@ impl Play<(), View> for StoreVersion {
 }
 
 /// The load that tells what the rule says of a view.
-pub struct Audit;
+pub(crate) struct Audit;
 
 impl Play<(), View> for Audit {
     ghost use Rattle.pt_directory.specs.Rule.{Audited};
@@ -84,7 +84,7 @@ impl Play<(), View> for Audit {
 }
 
 /// The load that makes a seat, the home of one desk.
-pub struct SplitHome;
+pub(crate) struct SplitHome;
 
 impl Split<View> for SplitHome {
     ghost use Rattle.pt_directory.specs.Rule.{one_home, other_homes};
@@ -95,7 +95,7 @@ impl Split<View> for SplitHome {
 }
 
 /// The load that joins two seats.
-pub struct JoinViews;
+pub(crate) struct JoinViews;
 
 impl Join<View> for JoinViews {
     ghost use Rattle.std.specs.Prelude.{[]};

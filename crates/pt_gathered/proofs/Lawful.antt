@@ -15,7 +15,6 @@ use Rattle.pt_laws.specs.MonitorLaws.{QuietMonitorSince, QuietWatchOver}
 use Rattle.pt_laws.specs.Resumed.{AllNewTo}
 use Rattle.pt_laws.specs.ResumedLaws.{StampsAreNew}
 use Rattle.pt_shard.specs.ShardState.{ShardState}
-use Rattle.pt_shard.specs.Fit.{IsFit}
 use Rattle.pt_gathered.specs.Gathered.{GatheredState, IsGathered, begins, journals, over}
 use Rattle.pt_gathered.specs.Settling.{load_of, Settles, NothingLeft}
 use Rattle.pt_gathered.specs.Lawful.{IsLegalNode, KeepsHeadline, IsQuietNode, IsBounded, LinksStand, WatchesStand, AnswersHold, QuestionsAnswered}
@@ -90,7 +89,7 @@ module _ (g : GatheredState) (whole : IsGathered g) where
       locals lanes_agree whole.refusals m (quiet merged m).1 other lives
 
   -- what the node made since it began is new to what was made before
-  made_new : StampsAreNew → (merged : List Stamped) → IsMerge (journals g) merged → AllNewTo whole.begun.past (events merged)
+  pub made_new : StampsAreNew → (merged : List Stamped) → IsMerge (journals g) merged → AllNewTo whole.begun.past (events merged)
   made_new law merged m = law (begins g) g.config.start g.config.top_version (journals g) merged whole.begun.past whole.begun.numbered locals m
 
   pub watches_stand : IsQuietNode g → StampsAreNew → QuietMonitorSince → QuietWatchOver → WatchesStand g

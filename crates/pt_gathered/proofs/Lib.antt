@@ -1,5 +1,6 @@
 pub mod Overs
 pub mod Starts
+pub mod Once
 pub mod Owned
 pub mod Loads
 pub mod Agreeing
@@ -8,9 +9,15 @@ pub mod Settled
 pub mod Boxes
 pub mod Stepping
 pub mod Lawful
+pub mod Pasts
+pub mod Beginnings
 pub mod Told
+pub mod Clocks
+pub mod InTurn
+pub mod Ends
 pub mod Again
 pub mod Histories
 pub mod Places
 pub mod Posted
 pub mod Shards
+pub mod StartStates

@@ -11,7 +11,7 @@ use Rattle.pt_signal.specs.Process.{ProcessState}
 use Rattle.pt_events.specs.declared.event.Event.{Event}
 use Rattle.pt_events.specs.declared.event.Event.TheVariants.{Born, Said, Came, Took, Flag, Left, Refused}
 use Rattle.pt_events.specs.declared.event.Stamped.{Stamped}
-use Rattle.pt_events.specs.History.{Past, Start, at_start, life, alive, state, state_of, after, is_living, is_unborn, is_ended, unborn, sent_by, got_sends, left_sends, MaySay, MayBear}
+use Rattle.pt_events.specs.History.{Past, Start, at_start, life, alive, state, state_of, after, is_living, is_unborn, is_ended, sent_by, got_sends, left_sends, MaySay, MayBear}
 use Rattle.pt_events.specs.Journal.{events, letter, letters, posts, IsOf, IsHome, MayHere, IsKnown, IsNext, IsLocal}
 
 module _ (one two : Start) (d : ℕ) (same : (p : Pid) → p.shard ≡ d → at_start one p ≡ at_start two p) where

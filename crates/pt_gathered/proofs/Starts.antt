@@ -10,7 +10,6 @@ use Rattle.pt_events.specs.History.{Start, at_start, phase_or_unborn, unborn}
 use Rattle.pt_shard.specs.declared.config.Config.{Config}
 use Rattle.pt_shard.specs.ShardState.{ShardState}
 use Rattle.pt_shard.specs.Begun.{Every}
-use Rattle.pt_gathered.specs.Beginning.{IsBeginning}
 use Rattle.pt_gathered.specs.Gathered.{start_of}
 use Rattle.pt_gathered.specs.Taking.{AreShards}
 
@@ -20,11 +19,11 @@ all_empty [] h = refl
 all_empty (s ∷ shards) h = rw (h 0 s (omega arith)) (all_empty shards (λ d x l. h (suc d) x (omega arith)))
 
 -- the processes of each desk, numbered from n on, are of that desk
-abbrev Own : ℕ → List ShardState → Type 0
+abbrev pub Own : ℕ → List ShardState → Type 0
 Own n [] = ⊤
 Own n (s ∷ shards) = Every (λ b. b.0.shard ≡ n) s.start × Own (suc n) shards
 
-own_each : (n : ℕ) (shards : List ShardState) → ((i : ℕ) (x : ShardState) → i < length shards → Every (λ b. b.0.shard ≡ n + i) (get_or shards i x).start) → Own n shards
+pub own_each : (n : ℕ) (shards : List ShardState) → ((i : ℕ) (x : ShardState) → i < length shards → Every (λ b. b.0.shard ≡ n + i) (get_or shards i x).start) → Own n shards
 own_each n [] h = tt
 own_each n (s ∷ shards) h =
     let here : n + 0 ≡ n = omega arith in (
@@ -32,11 +31,11 @@ own_each n (s ∷ shards) h =
       own_each (suc n) shards (λ i x l. let next : n + suc i ≡ suc n + i = omega arith in subst (λ k. Every (λ b. b.0.shard ≡ k) (get_or shards i x).start) next (h (suc i) x (omega arith))),
     )
 
-elsewhere : (p q : Pid) → (p.shard ≡ q.shard → ⊥) → same_pid p q ≡ false
+pub elsewhere : (p q : Pid) → (p.shard ≡ q.shard → ⊥) → same_pid p q ≡ false
 elsewhere p q other = rw (ne_eqb p.shard q.shard other) refl
 
 -- whom the first list has not, the second has, or nobody; and the other way round
-other_first : (n : ℕ) (xs ys : Start) (p : Pid) → Every (λ b. b.0.shard ≡ n) xs → (p.shard ≡ n → ⊥) → lookup (same_pid p) (xs ++ ys) ≡ lookup (same_pid p) ys
+pub other_first : (n : ℕ) (xs ys : Start) (p : Pid) → Every (λ b. b.0.shard ≡ n) xs → (p.shard ≡ n → ⊥) → lookup (same_pid p) (xs ++ ys) ≡ lookup (same_pid p) ys
 other_first n [] ys p own other = refl
 other_first n (b ∷ xs) ys p own other = rw (elsewhere p b.0 (λ e. other (e ∙ own.0))) (other_first n xs ys p own.1 other)
 
@@ -53,19 +52,19 @@ below_all n [] own p below = refl
 below_all n (s ∷ shards) own p below =
     other_first n s.start (start_of shards) p own.0 (λ e. absurd (omega (arith, e))) ∙ below_all (suc n) shards own.1 p (omega arith)
 
-above_all : (n : ℕ) (shards : List ShardState) → Own n shards → (p : Pid) → n + length shards ≤ p.shard → lookup (same_pid p) (start_of shards) ≡ None
+pub above_all : (n : ℕ) (shards : List ShardState) → Own n shards → (p : Pid) → n + length shards ≤ p.shard → lookup (same_pid p) (start_of shards) ≡ None
 above_all n [] own p above = refl
 above_all n (s ∷ shards) own p above =
     other_first n s.start (start_of shards) p own.0 (λ e. absurd (omega (arith, e))) ∙ above_all (suc n) shards own.1 p (omega arith)
 
-at_own : (n : ℕ) (shards : List ShardState) → Own n shards → (i : ℕ) (x : ShardState) → i < length shards → (p : Pid) → p.shard ≡ n + i
+pub at_own : (n : ℕ) (shards : List ShardState) → Own n shards → (i : ℕ) (x : ShardState) → i < length shards → (p : Pid) → p.shard ≡ n + i
     → lookup (same_pid p) (get_or shards i x).start ≡ lookup (same_pid p) (start_of shards)
 at_own n [] own i x h p e = absurd (omega arith)
 at_own n (s ∷ shards) own zero x h p e = sym (not_after s.start (start_of shards) p (below_all (suc n) shards own.1 p (omega arith)))
 at_own n (s ∷ shards) own (suc i) x h p e =
     at_own (suc n) shards own.1 i x (omega arith) p (omega arith) ∙ sym (other_first n s.start (start_of shards) p own.0 (λ k. absurd (omega (arith, e, k))))
 
-owned : (config : Config) (shards : List ShardState) → AreShards config shards → Own 0 shards
+pub owned : (config : Config) (shards : List ShardState) → AreShards config shards → Own 0 shards
 owned config shards all =
     own_each 0 shards (λ i x h.
     let at : (get_or shards i x).number ≡ 0 + i = (all i x h).number ∙ omega arith in
@@ -87,15 +86,3 @@ same_starts old new same = of_starts new ∙ ap (flat_map (λ (b : Start). b)) s
     of_starts : (shards : List ShardState) → start_of shards ≡ flat_map (λ (b : Start). b) (map (λ (s : ShardState). s.start) shards)
     of_starts [] = refl
     of_starts (s ∷ shards) = ap (λ z. s.start ++ z) (of_starts shards)
-
--- a node that is opened begins with nothing, which nothing has left behind
-pub from_nothing : (low : ℕ) → IsBeginning low []
-from_nothing low = record {
-  past = [];
-  left = record { legal = tt; quiet = refl; alike = λ p. refl };
-  known = tt;
-  home = tt;
-  numbered = (λ i h. refl, λ m h. refl);
-  once = λ p. refl;
-  refs = λ w m. (omega arith, λ h. refl);
-}

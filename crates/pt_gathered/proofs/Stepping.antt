@@ -389,13 +389,13 @@ module _ (config : Config) (shards : List ShardState) (lanes : List (List Letter
 
     pub gathered_after : AreShards config shards2 → IsGathered new_node
     gathered_after fit = record {
+      some = omega (arith, whole.some, count2);
       desks = count2 ∙ whole.desks;
       lanes = took.lane_count ∙ whole.lanes ∙ ap (λ n. n * n) (sym count2);
       shards = fit;
       agree = λ i k hi hk. agree_step old_node new_node whole d e l receives d_in e_in i k (omega (arith, hi, count2)) (omega (arith, hk, count2));
       refusals = refusals_two;
       begun = subst (IsBeginning config.start) (sym same_begins) whole.begun;
-      nobody = same_begins ∙ whole.nobody;
     }
 
 -- the receiver and the sender of the first letter are of the two desks

@@ -1,6 +1,7 @@
 -- The state that a node goes on from.
-use Rattle.std.specs.Prelude.{ℕ, []}
-use Rattle.pt_events.specs.History.{Past, Start}
+use Rattle.std.specs.Prelude.{◌≡◌, ℕ, ◌<◌, false, []}
+use Rattle.pt_signal.specs.declared.pid.Pid.{Pid}
+use Rattle.pt_events.specs.History.{Past, Start, at_start, is_unborn}
 use Rattle.pt_laws.specs.Load.{IsStart}
 use Rattle.pt_laws.specs.Links.{IsKnownSaid, IsBornHome}
 use Rattle.pt_laws.specs.MonitorLaws.{HasOldRefs}
@@ -16,3 +17,5 @@ pub record IsBeginning (low : ℕ) (start : Start) : Type 0 where
   -- each process stands in it once, and the references that are open in it are old
   pub once : IsStart start
   pub refs : HasOldRefs low start
+  -- whoever is there was born at a stamp that is not 0
+  pub since : (p : Pid) → is_unborn (at_start start p) ≡ false → 0 < low

@@ -22,7 +22,7 @@ pub record GatheredState : Type 0 where
 abbrev pub start_of : List ShardState → Start
 start_of shards = flat_map (λ (s : ShardState). s.start) shards
 
--- what was before a node: the state that it was opened with, in which there is nobody
+-- what was before a node: the state that it was opened with, in which there is nobody, or that it goes on from
 abbrev pub begins : GatheredState → Start
 begins g = start_of g.shards
 
@@ -56,6 +56,7 @@ pub record IsShardOf (config : Config) (d : ℕ) (s : ShardState) : Type 0 where
   pub fit : IsFit s
 
 pub record IsGathered (g : GatheredState) : Type 0 where
+  pub some : 0 < length g.shards
   pub desks : length g.shards ≡ g.config.desks
   pub lanes : length g.lanes ≡ length g.shards * length g.shards
   pub shards : (d : ℕ) (x : ShardState) → d < length g.shards → IsShardOf g.config d (slice_index_or g.shards d x)
@@ -63,5 +64,3 @@ pub record IsGathered (g : GatheredState) : Type 0 where
       → Agrees (posts (begins g) (journals g d) e) (gots (journals g e) d) (over_in g.shards g.lanes d e)
   pub refusals : RefusalsAreTrue (begins g) (journals g)
   pub begun : IsBeginning g.config.start (begins g)
-  -- nothing was before any journal
-  pub nobody : begins g ≡ []

@@ -1,12 +1,12 @@
 -- What the laws of histories say of a node whose desks were gathered, and of one that was settled.
-use Rattle.std.specs.Prelude.{◌≡◌, ◌+◌, ◌≤◌, Bool, true, false, List, Contains}
+use Rattle.std.specs.Prelude.{◌≡◌, ℕ, ◌+◌, ◌≤◌, Bool, true, false, List, Contains, map}
 use Rattle.pt_signal.specs.declared.pid.Pid.{Pid}
 use Rattle.pt_signal.specs.declared.ids.Ref.{Ref}
 use Rattle.pt_signal.specs.declared.item.Item.{Item}
 use Rattle.pt_signal.specs.Values.{same_pid}
 use Rattle.pt_events.specs.declared.event.Stamped.{Stamped}
 use Rattle.pt_events.specs.History.{Past, Start, IsLegal, life, alive, arrived_since}
-use Rattle.pt_events.specs.Journal.{events, LanesAgree, IsMerge}
+use Rattle.pt_events.specs.Journal.{events, clock, LanesAgree, IsMerge}
 use Rattle.pt_laws.specs.Laws.{LegalWithLeftOver}
 use Rattle.pt_laws.specs.Load.{IsQuiet, load}
 use Rattle.pt_laws.specs.Links.{LinksAgree}
@@ -14,7 +14,9 @@ use Rattle.pt_laws.specs.Headline.{IsHeadline}
 use Rattle.pt_laws.specs.Watch.{count, said_to, open_in, kept_in}
 use Rattle.pt_laws.specs.MonitorLaws.{demonitors_and_downs, times_made}
 use Rattle.pt_laws.specs.Asking.{IsAnswer, is_question, is_answer}
-use Rattle.pt_gathered.specs.Gathered.{GatheredState, begins, journals, over}
+use Rattle.pt_shard.specs.Restart.{restarted}
+use Rattle.pt_gathered.specs.Beginning.{IsBeginning}
+use Rattle.pt_gathered.specs.Gathered.{GatheredState, begins, journals, over, start_of}
 use Rattle.pt_gathered.specs.Settling.{event_count}
 
 -- the merge is legal, and what is in flight in it is what is left over
@@ -75,3 +77,9 @@ QuestionsAnswered g =
     (merged : List Stamped) (q t : Pid) (m : Ref) → IsMerge (journals g) merged
     → alive (begins g) (events merged) q ≡ true
     → count (is_answer m t) (arrived_since (begins g) (events merged) q) ≡ said_to q t (is_question m) (events merged)
+
+-- what its desks leave behind is again a state to go on from, at each stamp that no clock has passed
+abbrev pub BeginsAgain : GatheredState → Type 0
+BeginsAgain g =
+    (n : ℕ) → ((d : ℕ) → clock g.config.start (journals g d) ≤ n)
+    → IsBeginning n (start_of (map (restarted n) g.shards))

@@ -1,10 +1,12 @@
 pub mod Beginning
 pub mod Gathered
+pub mod Tables
 pub mod LeftOvers
 pub mod Text
 pub mod Settling
 pub mod Order
 pub mod Lawful
+pub mod Pasts
 pub mod Quiet
 pub mod History
 pub mod Waits

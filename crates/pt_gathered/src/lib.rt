@@ -37,24 +37,34 @@
 //! each one ended, how many items arrived, were taken and wait, and what it is linked with, keeps and watches; of an
 //! ended process what it held at its end.
 //!
+//! # Going on
+//!
+//! A quiet node may go on with empty journals: what its desks leave behind is again a state as a node begins with, at
+//! the stamp [`Quiet::clock`] or a later one ([`Quiet::laws`]). [`Quiet::into_parts`] gives the desks, and of each the
+//! table of what became of its processes, into which the next journal is read; [`Quiet::latest_ends`] tells a new
+//! directory who has ended. [`Quiet::state`] is what the judge begins with that is to judge the next history alone.
+//!
 //! # Cost
 //!
 //! A letter that settling handles costs its receipt and, where it is the only one of its pass, three simple tests for
 //! each desk, 192 in a node of 64; letters of one pass share these. Desks to which nothing is left over are not looked
-//! at, and each lane is looked at in full once. No list of letters is moved and no journal is copied; reading the
-//! journals takes constant time, on average, for each event. `history` takes the logarithm of the number of desks for
-//! each event.
+//! at, and each lane is looked at in full once. No list of letters is moved, no journal and no table is copied; reading
+//! the journals takes constant time, on average, for each event. `history` takes the logarithm of the number of desks
+//! for each event.
 #![tactic(auto, unfolding(crate::specs::Text::left_over_text))]
 
 mod gathered;
 mod left_over;
+mod node;
 mod node_laws;
 mod quiet;
+mod resumed;
 mod settling;
 
-pub use gathered::{Gathered, Lane};
+pub use gathered::Gathered;
 pub use left_over::LeftOver;
+pub use node::Lane;
 pub use node_laws::laws_of;
-pub use pt_accounts::Account;
+pub use pt_accounts::{Account, DeskLives};
 pub use quiet::Quiet;
 pub use settling::Unsettled;

@@ -3,12 +3,14 @@
 ghost use Rattle.pt_gathered.specs.Gathered.{GatheredState};
 ghost use Rattle.pt_gathered.specs.Settling.{Settles, NothingLeft};
 ghost use Rattle.pt_gathered.specs.Lawful.{LanesKeep, KeepsHeadline, IsLegalNode, IsQuietNode, IsBounded, LinksStand};
-ghost use Rattle.pt_gathered.specs.Lawful.{WatchesStand, AnswersHold, QuestionsAnswered};
+ghost use Rattle.pt_gathered.specs.Lawful.{WatchesStand, AnswersHold, QuestionsAnswered, BeginsAgain};
+ghost use Rattle.pt_gathered.specs.Pasts.{IsLegalWhole, IsQuietWhole, BeginsAgainAfter};
 
 use crate::gathered::Gathered;
+use crate::node::Node;
 use pt_laws::{laws, links};
 
-/// What the laws of histories say of a node whose desks were gathered.
+/// What the laws of histories say of a node whose desks were gathered. It does nothing.
 pub fn laws_of(gathered: &Gathered)
     ensures lanes { LanesKeep gathered.now }
     ensures headline { KeepsHeadline gathered.now }
@@ -19,6 +21,29 @@ pub fn laws_of(gathered: &Gathered)
     ensures links { NothingLeft gathered.now → LinksStand gathered.now }
     ensures watches { NothingLeft gathered.now → WatchesStand gathered.now }
     ensures questions { NothingLeft gathered.now → QuestionsAnswered gathered.now }
+    ensures again { NothingLeft gathered.now → BeginsAgain gathered.now }
+    ensures whole { IsLegalWhole gathered.now }
+    ensures quiet_whole { NothingLeft gathered.now → IsQuietWhole gathered.now }
+    ensures after { NothingLeft gathered.now → BeginsAgainAfter gathered.now }
+{
+    laws_of_node(gathered.node());
+}
+
+/// The same of a node without its tables.
+pub(crate) fn laws_of_node(gathered: &Node)
+    ensures lanes { LanesKeep gathered.now }
+    ensures headline { KeepsHeadline gathered.now }
+    ensures legal { IsLegalNode gathered.now }
+    ensures answers { AnswersHold gathered.now }
+    ensures bounded { (new : GatheredState) → Settles gathered.now new → IsBounded gathered.now new }
+    ensures quiet { NothingLeft gathered.now → IsQuietNode gathered.now }
+    ensures links { NothingLeft gathered.now → LinksStand gathered.now }
+    ensures watches { NothingLeft gathered.now → WatchesStand gathered.now }
+    ensures questions { NothingLeft gathered.now → QuestionsAnswered gathered.now }
+    ensures again { NothingLeft gathered.now → BeginsAgain gathered.now }
+    ensures whole { IsLegalWhole gathered.now }
+    ensures quiet_whole { NothingLeft gathered.now → IsQuietWhole gathered.now }
+    ensures after { NothingLeft gathered.now → BeginsAgainAfter gathered.now }
 {
     laws::headline_holds();
     laws::merge_is_legal();
@@ -27,7 +52,11 @@ pub fn laws_of(gathered: &Gathered)
     laws::quiet_monitors();
     laws::stamps_make_new_ids();
     laws::answers_are_true();
+    laws::resumed_is_legal();
+    laws::journals_tell_their_pids();
+    laws::journals_have_one_merge();
     links::resumed_links();
+    links::merge_known();
     // read for the proof alone: it says what holds of every gathered node
     let _desks = gathered.desks();
 }

@@ -1,35 +1,43 @@
 //! A node in which no letter is left over.
 
-ghost use Rattle.std.specs.Prelude.{◌≡◌, reverse, is_some, IfOk};
+ghost use Rattle.pt_carrier.specs.declared.ends.TheConstants.{MAX_DESKS};
+ghost use Rattle.pt_events.specs.declared.event.TheConstants.{MAX_STAMP};
+ghost use Rattle.std.specs.Prelude.{◌≡◌, ◌<◌, ◌≤◌, ℕ, [], ◌++◌, length, slice_index_or, reverse, is_some, IfOk};
 ghost use Rattle.std.specs.Map.{lookup};
 ghost use Rattle.std.specs.List.{list_any};
 ghost use Rattle.pt_signal.specs.Values.{same_ref};
 ghost use Rattle.pt_signal.specs.Process.{held};
-ghost use Rattle.pt_events.specs.History.{life, state, open_monitors};
-ghost use Rattle.pt_events.specs.Journal.{IsMerge, events};
+ghost use Rattle.pt_events.specs.History.{IsLegal, Past, life, state, open_monitors};
+ghost use Rattle.pt_events.specs.Journal.{IsMerge, clock, events};
 ghost use Rattle.pt_laws.specs.Laws.{LegalWithLeftOver};
 ghost use Rattle.pt_laws.specs.Load.{IsQuiet};
+ghost use Rattle.pt_accounts.specs.DeskLives.{DeskTable};
 ghost use Rattle.pt_accounts.specs.LivesState.{AreAllPids, InEveryMerge, account_in};
-ghost use Rattle.pt_gathered.specs.Gathered.{begins, journals, over};
-ghost use Rattle.pt_gathered.specs.Quiet.{IsSettled};
+ghost use Rattle.pt_shard.specs.ShardState.{ShardState};
+ghost use Rattle.pt_gathered.specs.Gathered.{IsGathered, begins, journals, over};
+ghost use Rattle.pt_gathered.specs.Tables.{IsTold};
+ghost use Rattle.pt_gathered.specs.Quiet.{AreBornLater, AreInTurn, IsSettled, latest_stamp, ends_of};
 ghost use Rattle.pt_gathered.specs.Settling.{NothingLeft};
 ghost use Rattle.pt_gathered.specs.Lawful.{LanesKeep, KeepsHeadline, IsQuietNode, LinksStand, WatchesStand};
-ghost use Rattle.pt_gathered.specs.Lawful.{AnswersHold, QuestionsAnswered};
+ghost use Rattle.pt_gathered.specs.Lawful.{AnswersHold, QuestionsAnswered, BeginsAgain};
+ghost use Rattle.pt_gathered.specs.Pasts.{GoesOnFrom, IsQuietWhole, BeginsAgainAfter};
 
-use crate::gathered::Gathered;
-use crate::node_laws::laws_of;
-use pt_accounts::{Account, Lives};
+use crate::node::Node;
+use crate::node_laws::laws_of_node;
+use pt_accounts::{Account, DeskLives, Lives};
 use pt_events::Stamped;
+use pt_shard::{Config, Shard};
 use pt_signal::{Ids, Pid, Ref};
 use std::alloc::AllocError;
 use std::marker::Model;
 
 /// A node in which no letter is left over, and what became of its processes.
 ///
-/// What it tells of a process holds in every merge of the journals. Of its calls `history` alone takes memory.
+/// What it tells of a process holds in every merge of the journals. Of its calls `history`, `latest_ends` and
+/// `state` alone take memory.
 #[derive(Drop)]
 pub struct Quiet {
-    gathered: Gathered,
+    node: Node,
     handled: u64,
     lives: Lives,
 }
@@ -39,21 +47,27 @@ impl Model for Quiet {
 
     ghost Value = { QuietState };
 
-    ghost view = { λ q. record { gathered = q.gathered; handled = q.handled } };
+    ghost view = { λ q. record { gathered = q.node; handled = q.handled; lives = q.lives } };
 
-    ghost invariant = { λ q. IsSettled q.gathered q.lives };
+    ghost invariant = { λ q. IsSettled q.node q.lives };
 }
 
 impl Quiet {
-    pub(crate) fn of(gathered: Gathered, handled: u64, lives: Lives) -> Quiet
-        requires { IsSettled gathered lives }
-        ensures { result ≡ record { gathered = gathered; handled = handled } }
+    pub(crate) fn of(node: Node, handled: u64, lives: Lives) -> Quiet
+        requires { IsSettled node lives }
+        ensures { result ≡ record { gathered = node; handled = handled; lives = lives } }
     {
         Quiet {
-            gathered,
+            node,
             handled,
             lives,
         }
+    }
+
+    pub(crate) fn node(&self) -> &Node
+        ensures { result.now ≡ self.now.gathered }
+    {
+        &self.node
     }
 
     /// How many letters were handled, staying at `u64::MAX` once it is reached.
@@ -63,15 +77,90 @@ impl Quiet {
         self.handled
     }
 
-    /// The events of all desks in the order of stamp, then desk: a legal history in which nothing is on its way.
+    /// The events of all desks in the order of stamp, then desk: a legal history in which nothing is on its way. Put
+    /// behind what the node goes on from, it is such a history from the very beginning on.
     pub fn history(&self) -> Result<Vec<Stamped>, AllocError>
         ensures merge { IfOk result (λ h. IsMerge (journals self.now.gathered) (reverse h.items)) }
         ensures legal { IfOk result
             (λ h. LegalWithLeftOver (begins self.now.gathered) (reverse h.items) (over self.now.gathered)) }
         ensures quiet { IfOk result (λ h. IsQuiet (begins self.now.gathered) (events (reverse h.items))) }
+        ensures whole { IfOk result (λ h. (past : Past) → GoesOnFrom past self.now.gathered
+            → IsLegal [] (events (reverse h.items) ++ past) × IsQuiet [] (events (reverse h.items) ++ past)) }
     {
         self.laws();
-        self.gathered.history()
+        self.node.history()
+    }
+
+    /// How many desks the node has.
+    pub fn desks(&self) -> u8
+        ensures count { result ≡ length self.now.gathered.shards }
+        ensures few { length self.now.gathered.shards ≤ MAX_DESKS }
+        ensures gathered { IsGathered self.now.gathered }
+    {
+        self.node.desks()
+    }
+
+    /// The settings of the node.
+    pub fn config(&self) -> Config
+        ensures { result ≡ self.now.gathered.config }
+    {
+        self.node.config()
+    }
+
+    /// The greatest stamp of the history, or the number above which stamps began where nothing happened.
+    pub fn clock(&self) -> u64
+        ensures latest { result ≡ latest_stamp self.now.gathered }
+        ensures journals { (d : ℕ) → clock self.now.gathered.config.start (journals self.now.gathered d) ≤ result }
+        ensures shards { (d : ℕ) (x : ShardState) → d < length self.now.gathered.shards
+            → (slice_index_or self.now.gathered.shards d x).clock ≤ result }
+        ensures within { 0 < length self.now.gathered.shards → result ≤ MAX_STAMP }
+    {
+        // read for the proof alone: it says what holds of every gathered node
+        let _desks = self.node.desks();
+        self.node.clock()
+    }
+
+    /// The processes whose end is the latest of their slot, by shard and slot, each with this stamp.
+    pub fn latest_ends(&self, stamp: u64) -> Result<Vec<(Pid, u64)>, AllocError>
+        ensures { IfOk result (λ ends. ends.items ≡ ends_of stamp self.now.lives) }
+    {
+        let mut ends = Vec::new(self.node.alloc());
+        let desks = self.lives.desks();
+        for which in 0..desks.len() {
+            desks[which].latest_ends(stamp, &mut ends)?;
+        }
+        Ok(ends)
+    }
+
+    /// The desks, in order of number, and of each desk the table of what became of its processes.
+    pub fn into_parts(self) -> (Config, Vec<Shard>, Vec<DeskLives>)
+        ensures config { result.0 ≡ self.gathered.config }
+        ensures shards { result.1.items ≡ self.gathered.shards }
+        ensures lives { result.2.items ≡ self.lives }
+        ensures count { length self.lives ≡ length self.gathered.shards }
+        ensures told { (d : ℕ) (x : ShardState) (t : DeskTable) → d < length self.gathered.shards
+            → IsTold (slice_index_or self.gathered.shards d x) (slice_index_or self.lives d t) }
+    {
+        // read for the proof alone: it says what holds of every gathered node
+        let _desks = self.node.desks();
+        let Quiet { node, lives, .. } = self;
+        let (config, shards) = node.into_parts();
+        (config, shards, lives.into_desks())
+    }
+
+    /// What holds of whoever was born on a desk: it is of one of its slots, those before it there have ended, and the
+    /// latest stamp is not 0; and of the tables, each of which has what the desk's journal says. It does nothing.
+    pub fn versions(&self)
+        ensures turns { AreInTurn self.now.gathered.shards }
+        ensures later { AreBornLater self.now.gathered }
+        ensures gathered { IsGathered self.now.gathered }
+        ensures count { length self.now.lives ≡ length self.now.gathered.shards }
+        ensures told { (d : ℕ) (x : ShardState) (t : DeskTable) → d < length self.now.gathered.shards
+            → IsTold (slice_index_or self.now.gathered.shards d x) (slice_index_or self.now.lives d t) }
+    {
+        // read for the proof alone: it says what holds of every gathered node
+        let _desks = self.node.desks();
+        self.node.versions();
     }
 
     /// What the laws of histories say of a node in which nothing is on its way, for who has only the quiet node. It
@@ -85,8 +174,11 @@ impl Quiet {
         ensures watches { WatchesStand self.now.gathered }
         ensures answers { AnswersHold self.now.gathered }
         ensures questions { QuestionsAnswered self.now.gathered }
+        ensures again { BeginsAgain self.now.gathered }
+        ensures whole { IsQuietWhole self.now.gathered }
+        ensures after { BeginsAgainAfter self.now.gathered }
     {
-        laws_of(&self.gathered);
+        laws_of_node(&self.node);
     }
 
     /// The pids of all processes that were ever born, each once, by shard, slot and version.
@@ -98,7 +190,8 @@ impl Quiet {
     }
 
     /// Why the process ended, if it has, and how many items arrived in its mailbox, were taken, and wait or were left
-    /// untaken at its end; `None` exactly where it was never born.
+    /// untaken at its end; `None` exactly where it was never born. In a node that was resumed the counts begin with
+    /// what waited then; of a process that had ended before they are 0.
     pub fn account(&self, pid: Pid) -> Option<Account>
         ensures { InEveryMerge (journals self.now.gathered)
             (λ past. result ≡ account_in (begins self.now.gathered) past pid) }
@@ -106,7 +199,8 @@ impl Quiet {
         self.lives.account(pid)
     }
 
-    /// The ids under which a process is linked with another one, or was just after its own end.
+    /// The ids under which a process is linked with another one, or was just after its own end; none where it had ended
+    /// before the node was resumed.
     pub fn linked(&self, pid: Pid, peer: Pid) -> Option<Ids>
         ensures { InEveryMerge (journals self.now.gathered)
             (λ past. result ≡ held (state (begins self.now.gathered) past pid).links peer) }
@@ -114,7 +208,8 @@ impl Quiet {
         self.lives.linked(pid, peer)
     }
 
-    /// Whether a process keeps a watch of this reference for its watcher, or did just after its own end.
+    /// Whether a process keeps a watch of this reference for its watcher, or did just after its own end; not where it
+    /// had ended before the node was resumed.
     pub fn kept(&self, target: Pid, monitor: Ref) -> bool
         ensures { InEveryMerge (journals self.now.gathered)
             (λ past.

@@ -2,18 +2,24 @@
 
 ghost use Rattle.std.specs.Prelude.{◌≡◌, ℕ, ◌<◌, ◌≤◌, length, [], OnOk, IfOk, IfErr};
 ghost use Rattle.pt_shard.specs.declared.stop.Stop.TheVariants.{Memory};
-ghost use Rattle.pt_gathered.specs.Gathered.{over_in};
+ghost use Rattle.pt_gathered.specs.Gathered.{begins, journals, over_in};
 ghost use Rattle.pt_gathered.specs.Settling.{Runs, Moves, Settles, NothingLeft, NothingTo, NothingBelow};
 ghost use Rattle.pt_gathered.specs.Order.{Passes, SettlingStops, Pass, PassStops, DeskComes, DeskStops, LaneComes};
-ghost use Rattle.pt_gathered.specs.Order.{LaneStops};
+ghost use Rattle.pt_gathered.specs.Order.{LaneStops, PassesStop};
 ghost use Rattle.pt_gathered.specs.Waits.{Waits, Marks, AreLeast, IsLeast, KeepsNone, NonePosted, posted_in};
 ghost use Rattle.pt_gathered.specs.Lawful.{LanesKeep, KeepsHeadline, IsLegalNode, IsQuietNode, IsBounded, LinksStand};
 ghost use Rattle.pt_gathered.specs.Lawful.{WatchesStand, AnswersHold, QuestionsAnswered};
+ghost use Rattle.pt_gathered.specs.Pasts.{KeepsPast};
+ghost use Rattle.pt_gathered.specs.Tables.{AreTables, AreTold};
+ghost use Rattle.pt_accounts.specs.LivesState.{AreLivesOf};
 
 use crate::gathered::Gathered;
+use crate::node::Node;
 use crate::node_laws::laws_of;
 use crate::quiet::Quiet;
+use pt_accounts::{DeskLives, Lives};
 use pt_shard::Stop;
+use std::alloc::AllocError;
 use std::error::Error;
 use std::fmt;
 
@@ -53,13 +59,13 @@ impl Gathered {
     /// whether a process is alive is true, and each such question of a live process has its one answer.
     ///
     /// Once no letter is left over, each journal is read once, from its first event to its last, for what the quiet
-    /// node tells of its processes.
+    /// node tells of its processes; what was before it is not read anew.
     ///
     /// Where a receipt is refused, as `Worn` where its stamp would pass the limit of clocks, else as `Memory`, the node
     /// comes back with what was handled so far, of which all holds that holds of a gathered node; settling it again
     /// goes on from there. Where the reading of the journals finds no memory, the fault is `Memory` too, and no letter
     /// is left over in the node that comes back; settling that again changes nothing of it, and reads the journals
-    /// anew.
+    /// on from where it stopped.
     ///
     /// A letter costs what its receipt costs, and tests. Where it is the only one of its pass there are three for each
     /// desk, each of one mark or of one count: whether letters may be left over to the desk, whether the desk has any
@@ -77,6 +83,7 @@ impl Gathered {
         ensures watches { IfOk result (λ q. WatchesStand q.gathered) }
         ensures answers { IfOk result (λ q. AnswersHold q.gathered) }
         ensures questions { IfOk result (λ q. QuestionsAnswered q.gathered) }
+        ensures past { IfOk result (λ q. KeepsPast self q.gathered) }
         ensures again { NothingLeft self → IfOk result (λ q. (q.gathered ≡ self) × (q.handled ≡ 0)) }
         ensures refused { IfErr result (λ u. Settles self u.gathered) }
         ensures refused_order { IfErr result (λ u. SettlingStops (length self.shards) u.fault self u.gathered) }
@@ -85,32 +92,90 @@ impl Gathered {
         ensures refused_headline { IfErr result (λ u. KeepsHeadline u.gathered) }
         ensures refused_legal { IfErr result (λ u. IsLegalNode u.gathered) }
         ensures refused_answers { IfErr result (λ u. AnswersHold u.gathered) }
+        ensures refused_past { IfErr result (λ u. KeepsPast self u.gathered) }
         ensures refused_again { NothingLeft self → IfErr result (λ u. (u.gathered ≡ self) × (u.fault ≡ Memory)) }
     {
         laws_of(&self);
-        let mut gathered = self;
-        let mut waits = [true; 64];
-        let mut least = [0; 64];
-        let mut handled = 0;
-        let mut more = true;
-        while more {
-            match pass(&mut gathered, &mut waits, &mut least, &mut handled) {
-                Ok(moved) => more = moved,
-                Err(fault) => {
-                    laws_of(&gathered);
-                    return Err(Unsettled { fault, gathered });
-                }
+        let (mut node, lives) = self.apart();
+        // read for the proof alone, here and below: it says what holds of every gathered node
+        let _before = node.desks();
+        let handled = match run_passes(&mut node) {
+            Ok(handled) => handled,
+            Err(fault) => {
+                let _after = node.desks();
+                let gathered = Gathered::with(node, lives);
+                laws_of(&gathered);
+                return Err(Unsettled { fault, gathered });
+            }
+        };
+        let _after = node.desks();
+        match told(&node, lives) {
+            Ok(lives) => {
+                let quiet = Quiet::of(node, handled, lives);
+                quiet.laws();
+                Ok(quiet)
+            }
+            Err(lives) => {
+                let gathered = Gathered::with(node, lives);
+                laws_of(&gathered);
+                let fault = Stop::Memory;
+                Err(Unsettled { fault, gathered })
             }
         }
-        laws_of(&gathered);
-        match gathered.lives() {
-            Ok(lives) => Ok(Quiet::of(gathered, handled, lives)),
-            Err(_) => Err(Unsettled {
-                fault: Stop::Memory,
-                gathered,
-            }),
+    }
+}
+
+/// One pass after the other, until no letter is left over; how many letters were handled.
+fn run_passes(gathered: &mut Node) -> Result<u64, Stop>
+    ensures order { IfOk result
+        (λ handled. (count : ℕ) × Passes (length gathered.old.shards) count gathered.old gathered.new) }
+    ensures runs { IfOk result (λ handled. Runs gathered.old 0 gathered.new handled) }
+    ensures nothing_left { IfOk result (λ handled. NothingLeft gathered.new) }
+    ensures refused { IfErr result (λ stop. Settles gathered.old gathered.new) }
+    ensures stops { IfErr result (λ stop. PassesStop (length gathered.old.shards) stop gathered.old gathered.new) }
+{
+    let mut waits = [true; 64];
+    let mut least = [0; 64];
+    let mut handled = 0;
+    let mut more = true;
+    while more {
+        match pass(gathered, &mut waits, &mut least, &mut handled) {
+            Ok(moved) => more = moved,
+            Err(stop) => return Err(stop),
         }
     }
+    Ok(handled)
+}
+
+/// What is told of the processes once each journal is read to its end, from where its table stands; where there is no
+/// memory, the tables as far as they came.
+fn told(node: &Node, lives: Vec<DeskLives>) -> Result<Lives, Vec<DeskLives>>
+    requires { AreTables node.now.shards lives.items }
+    ensures told { IfOk result (λ lives. AreLivesOf (begins node.now) (journals node.now) lives) }
+    ensures count { IfOk result (λ lives. length lives ≡ length node.now.shards) }
+    ensures back { IfErr result (λ lives. AreTables node.now.shards lives.items) }
+{
+    // read for the proof alone: it says what holds of every gathered node
+    let _desks = node.desks();
+    let mut lives = lives;
+    match read_journals(node, &mut lives) {
+        Ok(()) => Lives::of(node.alloc(), lives),
+        Err(_) => Err(lives),
+    }
+}
+
+/// Reads each journal to its end, from where its table stands.
+fn read_journals(node: &Node, lives: &mut Vec<DeskLives>) -> Result<(), AllocError>
+    requires { AreTables node.now.shards lives.old.items }
+    ensures tables { AreTables node.now.shards lives.new.items }
+    ensures told { OnOk result (AreTold node.now lives.new.items) }
+{
+    // read for the proof alone: it says what holds of every gathered node
+    let _desks = node.desks();
+    for which in 0..node.shards().len() {
+        lives[which].read(node.shards()[which].journal())?;
+    }
+    Ok(())
 }
 
 /// One pass: each receiving desk, from desk 0.
@@ -119,7 +184,7 @@ impl Gathered {
 /// to hold for a desk so that any can be left over between the two: 0 until that desk was come to, and 1 from then on,
 /// since all letters to it then wait in outboxes.
 fn pass(
-    gathered: &mut Gathered,
+    gathered: &mut Node,
     waits: &mut [bool; 64],
     least: &mut [usize; 64],
     handled: &mut u64,
@@ -152,7 +217,7 @@ fn pass(
 
 /// The letters to desk e, if it is marked.
 fn settle_desk(
-    gathered: &mut Gathered,
+    gathered: &mut Node,
     e: u8,
     waits: &mut [bool; 64],
     least: &mut [usize; 64],
@@ -187,7 +252,7 @@ fn settle_desk(
 }
 
 /// Marks the desks for which desk d has letters in its outbox.
-fn mark(gathered: &Gathered, d: u8, waits: &mut [bool; 64])
+fn mark(gathered: &Node, d: u8, waits: &mut [bool; 64])
     requires { d < length gathered.now.shards }
     ensures { Marks d (length gathered.now.shards) gathered.now waits.old waits.new }
 {
@@ -199,7 +264,7 @@ fn mark(gathered: &Gathered, d: u8, waits: &mut [bool; 64])
 }
 
 /// The letters to desk e: each sending desk, from desk 0.
-fn settle_to(gathered: &mut Gathered, e: u8, least: usize, handled: &mut u64) -> Result<bool, Stop>
+fn settle_to(gathered: &mut Node, e: u8, least: usize, handled: &mut u64) -> Result<bool, Stop>
     requires desk { e < length gathered.old.shards }
     requires least { IsLeast e least gathered.old }
     ensures runs { Runs gathered.old handled.old gathered.new handled.new }
@@ -228,7 +293,7 @@ fn settle_to(gathered: &mut Gathered, e: u8, least: usize, handled: &mut u64) ->
 
 /// The letters that are now left over from desk d to desk e: none where the outbox holds fewer than `least` for it.
 fn settle_lane(
-    gathered: &mut Gathered,
+    gathered: &mut Node,
     d: u8,
     e: u8,
     least: usize,

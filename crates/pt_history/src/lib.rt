@@ -49,6 +49,6 @@
 #![tactic(auto)]
 
 pub use pt_events::{Event, Journal, Stamped};
-pub use pt_judge::{Cause, State, replay, replay_from};
+pub use pt_judge::{Cause, Holding, State, replay, replay_from};
 pub use pt_laws::{laws, links};
 pub use pt_merge::merge;

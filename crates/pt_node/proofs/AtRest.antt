@@ -19,7 +19,7 @@ use Rattle.pt_node.specs.declared.stillness.Stopped.{Stopped}
 use Rattle.pt_node.proofs.Burning.{room}
 use Rattle.pt_node.proofs.Idle.{IsIdle, lane_still, none_held}
 use Rattle.pt_node.proofs.Meeting.{Kept, kept_collected, kept_count, kept_posted, kept_shard}
-use Rattle.pt_node.proofs.Resting.{turn_of, turns_burn, turns_go_on}
+use Rattle.pt_node.proofs.TurnsOf.{turn_of, turns_burn, turns_go_on}
 
 -- a round in which no turn handled anything or was stopped
 pub record IsQuiet (budget : ℕ) (old new : List DeskState) : Type 0 where

@@ -1,11 +1,10 @@
 -- No more letters are handled than the load of the desks' one history.
 use Rattle.std.proofs.Common.{◌≡◌, ℕ, zero, suc, ◌+◌, ◌-◌, ◌<◌, ◌≤◌, ◌⊎◌, inl, inr, List, [], ◌∷◌, ◌++◌, length, map, get_or, refl, sym, ap, ◌∙◌, subst, ⊎_elim, arith}
 use Rattle.std.proofs.lemmas.Bool.{cases_lt}
-use Rattle.std.proofs.lemmas.List.{get_or-map, get_or_past, length-map, same_lists}
+use Rattle.std.proofs.lemmas.List.{get_or-map, get_or_past, length-map}
 use Rattle.std.proofs.lemmas.List.Sums.{sum_by-cons}
 use Rattle.pt_signal.specs.declared.letter.Letter.{Letter}
 use Rattle.pt_events.specs.declared.event.Stamped.{Stamped}
-use Rattle.pt_events.specs.History.{Start}
 use Rattle.pt_events.specs.Journal.{Agrees, IsLocal, IsMerge, LanesAgree, events, gots, posts}
 use Rattle.pt_laws.specs.Load.{IsStart, below, load, load_by_desk}
 use Rattle.pt_laws.proofs.DeskLoads.{merge_load}
@@ -17,12 +16,13 @@ use Rattle.pt_gathered.specs.Settling.{Follows}
 use Rattle.pt_gathered.specs.Taking.{AreShards}
 use Rattle.pt_gathered.proofs.Agreeing.{local_as}
 use Rattle.pt_gathered.proofs.Owned.{local_same, posts_same}
-use Rattle.pt_gathered.proofs.Starts.{all_empty, from_nothing, nobody_beyond, same_starts, start_same}
+use Rattle.pt_gathered.proofs.Starts.{nobody_beyond, start_same}
 use Rattle.pt_desk.specs.DeskState.{DeskState, collected_from, posted_to, waits_for}
 use Rattle.pt_node.specs.Desks.{AreDesks, AreDesksOf, AreWhole, all_shards}
 use Rattle.pt_node.specs.Load.{IsWithinLoad}
 use Rattle.pt_node.specs.Looking.{HaveLanes}
 use Rattle.pt_node.specs.Stillness.{AllDesksGoOn, count_events}
+use Rattle.pt_node.proofs.Begun.{starts_stay}
 use Rattle.pt_node.proofs.Receiving.{AllReceive}
 use Rattle.pt_node.proofs.Together.{lane_agrees}
 use Rattle.pt_node.proofs.TrueReads.{number_at}
@@ -143,15 +143,8 @@ module _ (config : Config) (desks : List DeskState) (node : AreDesksOf config de
   local_at : (d : ℕ) → IsLocal (start_of (all_shards desks)) config.start config.top_version d (journal_at (all_shards desks) d)
   local_at d = ⊎_elim (λ (h : d < length desks). local_here d h) (λ (h : length desks ≤ d). rw (past_end d h) tt) (cases_lt d (length desks))
 
-  nobody : start_of (all_shards desks) ≡ []
-  nobody =
-      all_empty (all_shards desks) (λ d y h.
-      let here : d < length desks = omega (arith, h, shard_count) in
-      ap (λ (s : ShardState). s.start) (shard_at d y here) ∙ (whole d x here).accounts.first)
-
-  -- what was before is a start: nobody, with whom each desk begins
   pub begins_once : IsStart (start_of (all_shards desks))
-  begins_once = subst IsStart (sym nobody) (from_nothing config.start).once
+  begins_once = node.begun.once
 
   pub load_is : (merged : List Stamped) → IsMerge (journal_at (all_shards desks)) merged
       → load_by_desk (start_of (all_shards desks)) (journal_at (all_shards desks)) over (length desks) ≡ load (start_of (all_shards desks)) (events merged)
@@ -164,28 +157,12 @@ some_desk : (desks : List DeskState) → 0 < length desks → DeskState
 some_desk [] h = absurd (omega (arith, h))
 some_desk (x ∷ desks) h = x
 
--- desks that go on have what was before them
-starts_stay : (old new : List DeskState) (x : DeskState) → AllDesksGoOn old new → start_of (all_shards new) ≡ start_of (all_shards old)
-starts_stay old new x goes =
-    same_starts (all_shards old) (all_shards new)
-    (same_lists (map (λ (s : ShardState). s.start) (all_shards new)) (map (λ (s : ShardState). s.start) (all_shards old))
-    (length-map (all_shards new) (λ (s : ShardState). s.start) ∙ length-map new (λ (d : DeskState). d.shard) ∙ goes.count ∙ sym (length-map old (λ (d : DeskState). d.shard)) ∙ sym (length-map (all_shards old) (λ (s : ShardState). s.start)))
-    (λ k y l.
-    let k_new : k < length new = omega (arith, l, length-map (all_shards new) (λ (s : ShardState). s.start), length-map new (λ (d : DeskState). d.shard)) in
-    let k_old : k < length old = omega (arith, k_new, goes.count) in
-    start_at new k y k_new ∙ (goes.each k x k_old).shard.start ∙ sym (start_at old k y k_old)))
-  where
-    start_at : (desks : List DeskState) (k : ℕ) (y : Start) → k < length desks → get_or (map (λ (s : ShardState). s.start) (all_shards desks)) k y ≡ (get_or desks k x).shard.start
-    start_at desks k y h =
-        get_or-map (λ (s : ShardState). s.start) (all_shards desks) k x.shard y (omega (arith, h, length-map desks (λ (d : DeskState). d.shard)))
-        ∙ ap (λ (s : ShardState). s.start) (get_or-map (λ (d : DeskState). d.shard) desks k x x.shard h)
-
 module _ (old new : List DeskState) (old_node : AreDesks old) (new_node : AreDesks new) (old_whole : AreWhole old) (new_whole : AreWhole new) (old_lanes : HaveLanes old) (new_lanes : HaveLanes new)
     (goes : AllDesksGoOn old new) (receive : AllReceive old new) where
   pub bounded : (handled : ℕ) → handled ≤ count_events new - count_events old → IsWithinLoad old handled
   bounded handled counted merged m =
       let x : DeskState = some_desk old old_node.1.some in
-      let same = starts_stay old new x goes in
+      let same = starts_stay old new goes.count (λ d y h. (goes.each d y h).shard.start) in
       let was = old_node.1 in
       let is = new_node.1 in
       let lower = receipts_lower (length old) (start_of (all_shards old)) new_node.0.start new_node.0.top_version (journal_at (all_shards old)) (journal_at (all_shards new)) (over old_node.0 old was old_whole old_lanes x) (over new_node.0 new is new_whole new_lanes x)

@@ -30,7 +30,7 @@ module _ (desks : List DeskState) (d : ℕ) (old : DeskState) (within : d < leng
       subst (λ k. TurnsAll budget k start after (set desks d new)) e (desks, before, next, so_far, turned_one budget next new turns goes, is_both)
 
   pub called_desks : AreDesks desks → (new : DeskState) → GoesOn old new → AreDesks (set desks d new)
-  called_desks node new g = still_desks desks d old new node within is (g.place, g.shard.config, g.sight.directory)
+  called_desks node new g = still_desks desks d old new node within is (g.place, g.shard.config, g.sight.directory, g.shard.start)
 
   pub number_is : AreDesks desks → IsDesk old → old.shard.number ≡ d
   number_is node whole =

@@ -9,11 +9,15 @@ use Rattle.pt_carrier.specs.Node.{places, IsNode, IsNew}
 use Rattle.pt_shard.specs.declared.config.Config.{Config}
 use Rattle.pt_shard.specs.ShardState.{ShardState}
 use Rattle.pt_shard.specs.Opening.{IsInRange, fresh}
-use Rattle.pt_desk.specs.Sight.{Sight}
+use Rattle.pt_gathered.specs.Gathered.{start_of}
+use Rattle.pt_gathered.specs.Pasts.{IsBeginningOf}
+use Rattle.pt_gathered.proofs.Starts.{all_empty}
+use Rattle.pt_gathered.proofs.Pasts.{from_first}
+use Rattle.pt_directory.specs.Seats.{reopened_seat}
 use Rattle.pt_desk.specs.DeskState.{DeskState, IsAccounted}
-use Rattle.pt_node.specs.Desks.{AreAccounted, all_ends, all_shards}
+use Rattle.pt_node.specs.Desks.{AreAccounted, AreDesksOf, all_ends, all_shards}
 use Rattle.pt_node.specs.Opening.{AreFreshShards, AreFresh}
-use Rattle.pt_node.specs.Seating.{Seated, seat_in, all_seats, sight_of, AreFreshSeats}
+use Rattle.pt_node.specs.Seating.{Seated, seat_in, all_seats, AreFreshSeats}
 use Rattle.pt_node.proofs.SeatsOf.{fresh_seat}
 use Rattle.pt_node.proofs.Wholes.{accounted_each}
 
@@ -39,7 +43,6 @@ module _ (config : Config) (shards : List ShardState) (pairs : List (OutEnds × 
           let fresh_ends = new k p in_desks in
           let all : length (map places pairs) ≡ config.desks = length-map pairs places ∙ count in
           subst (λ z. IsAccounted z (get_or pairs k p).0 (get_or pairs k p).1) (sym (are.fresh_each k s h)) (record {
-            first = refl;
             out_number = ap (λ (z : Place × Place). z.0.number) (sym at) ∙ numbers.0;
             in_number = ap (λ (z : Place × Place). z.1.number) (sym at) ∙ numbers.1;
             out_desks = ap (λ (z : Place × Place). length z.0.rings) (sym at) ∙ rings.0 ∙ all;
@@ -51,7 +54,7 @@ module _ (config : Config) (shards : List ShardState) (pairs : List (OutEnds × 
           })
 
   module _ (range : IsInRange config) (desks : List DeskState) (ends_are : all_ends desks ≡ pairs) (shards_are : all_shards desks ≡ shards)
-      (seats : List Seated) (looked : AreFreshSeats config seats) (seats_are : all_seats desks ≡ seats) where
+      (seats : List Seated) (looked : AreFreshSeats config [] seats) (seats_are : all_seats desks ≡ seats) where
     desk_count : length desks ≡ config.desks
     desk_count = sym (length-map desks (λ (d : DeskState). d.shard)) ∙ ap length shards_are ∙ are.count
 
@@ -59,23 +62,33 @@ module _ (config : Config) (shards : List ShardState) (pairs : List (OutEnds × 
     shard_is d x h =
         sym (get_or-map (λ (d : DeskState). d.shard) desks d x x.shard h) ∙ ap (λ z. get_or z d x.shard) shards_are ∙ are.fresh_each d x.shard (omega (arith, h, desk_count, are.count))
 
-    sight_is : (d : ℕ) (x : DeskState) → d < length desks → (get_or desks d x).sight ≡ record { directory = looked.directory; reads = [] }
-    sight_is d x h =
-        ap sight_of (sym (get_or-map seat_in desks d x (seat_in x) h) ∙ ap (λ z. get_or z d (seat_in x)) seats_are ∙ fresh_seat config seats looked d (seat_in x) (omega (arith, h, desk_count)))
+    seat_is : (d : ℕ) (x : DeskState) → d < length desks → seat_in (get_or desks d x) ≡ (looked.directory, reopened_seat looked.directory.name [] d)
+    seat_is d x h = sym (get_or-map seat_in desks d x (seat_in x) h) ∙ ap (λ z. get_or z d (seat_in x)) seats_are ∙ fresh_seat config [] seats looked d (seat_in x) (omega (arith, h, desk_count))
+
+    nobody : start_of (all_shards desks) ≡ []
+    nobody = ap start_of shards_are ∙ all_empty shards (λ d x h. ap (λ (s : ShardState). s.start) (are.fresh_each d x h))
+
+    from_opening : IsBeginningOf [] config.start (start_of (all_shards desks))
+    from_opening = subst (IsBeginningOf [] config.start) (sym nobody) (from_first config.start)
+
+    fresh_node : AreDesksOf config desks
+    fresh_node = record {
+      some = omega (arith, desk_count, range.some_desks);
+      count = desk_count;
+      node = subst IsNode (sym (sym (map-map places (λ (d : DeskState). (d.outs, d.ins)) desks) ∙ ap (map places) ends_are)) node;
+      configs = λ d x h. ap (λ (s : ShardState). s.config) (shard_is d x h);
+      directory = looked.directory;
+      directories = λ d x h. ap (λ (p : Seated). p.0) (seat_is d x h);
+      begun = from_opening.begun;
+    }
 
     pub fresh_desks : AreFresh config desks
     fresh_desks = record {
-      node = record {
-        some = omega (arith, desk_count, range.some_desks);
-        count = desk_count;
-        node = subst IsNode (sym (sym (map-map places (λ (d : DeskState). (d.outs, d.ins)) desks) ∙ ap (map places) ends_are)) node;
-        configs = λ d x h. ap (λ (s : ShardState). s.config) (shard_is d x h);
-        directory = looked.directory;
-        directories = λ d x h. ap (λ (s : Sight). s.directory) (sight_is d x h);
-      };
+      node = fresh_node;
       shards = shard_is;
       ends = λ d x h.
           subst (IsNew config.desks config.lane) (sym (ap (λ z. get_or z d (x.outs, x.ins)) ends_are) ∙ get_or-map (λ (d : DeskState). (d.outs, d.ins)) desks d x (x.outs, x.ins) h)
           (new d (x.outs, x.ins) (omega (arith, h, desk_count)));
-      unread = λ d x h. ap (λ (s : Sight). s.reads) (sight_is d x h);
+      unread = λ d x h. ap (λ (p : Seated). p.1.reads) (seat_is d x h);
+      first = record { config = config; node = fresh_node; begun = from_opening };
     }

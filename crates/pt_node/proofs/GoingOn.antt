@@ -8,8 +8,11 @@ use Rattle.pt_carrier.specs.Node.{IsNode}
 use Rattle.pt_shard.specs.declared.config.Config.{Config}
 use Rattle.pt_desk.specs.DeskState.{DeskState, GoesOn, place}
 use Rattle.pt_desk.proofs.Turning.{extends, goes_on_then}
-use Rattle.pt_node.specs.Desks.{AreDesksOf, AreDesks}
+use Rattle.pt_gathered.specs.Beginning.{IsBeginning}
+use Rattle.pt_gathered.specs.Gathered.{start_of}
+use Rattle.pt_node.specs.Desks.{AreDesksOf, AreDesks, all_shards}
 use Rattle.pt_node.specs.Running.{AllGoOn}
+use Rattle.pt_node.proofs.Begun.{starts_stay}
 
 pub stays : (d : DeskState) → GoesOn d d
 stays d = record { shard = extends d.shard; place = refl; sight = record { directory = refl; reads = λ k r h. h } }
@@ -83,7 +86,17 @@ module _ {W : Type 0} where
             let before : d < length old = omega (arith, within, c.count) in
             ap (λ (z : DeskState). z.sight.directory) (get_or-map desk new d x y within) ∙ (c.each d x before).sight.directory
             ∙ ap (λ (z : DeskState). z.sight.directory) (sym (get_or-map desk old d x y before)) ∙ are.directories d y (omega (arith, l, lengths));
+        begun = subst (IsBeginning config.start) (sym begins) are.begun;
       }
+    where
+      begins : start_of (all_shards (map (λ (p : DeskState × W). p.0) new)) ≡ start_of (all_shards (map (λ (p : DeskState × W). p.0) (x ∷ xs)))
+      begins =
+          let old = x ∷ xs in
+          let desk : DeskState × W → DeskState = λ p. p.0 in
+          starts_stay (map desk old) (map desk new) (length-map new desk ∙ c.count ∙ sym (length-map old desk)) (λ d y l.
+          let before : d < length old = omega (arith, l, length-map old desk) in
+          ap (λ (z : DeskState). z.shard.start) (get_or-map desk new d x y (omega (arith, before, c.count)))
+          ∙ (c.each d x before).shard.start ∙ ap (λ (z : DeskState). z.shard.start) (sym (get_or-map desk old d x y before)))
 
   pub still_desks : (old new : List (DeskState × W)) → AllGoOn old new → AreDesks (map (λ (p : DeskState × W). p.0) old) → AreDesks (map (λ (p : DeskState × W). p.0) new)
   still_desks old new c are = (are.0, same_node are.0 old new c are.1)

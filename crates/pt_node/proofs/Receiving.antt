@@ -15,7 +15,7 @@ use Rattle.pt_node.specs.Stillness.{LooksAgain, Rounds, RunsRounds, TurnEach}
 use Rattle.pt_node.specs.declared.stillness.Rested.{Rested}
 use Rattle.pt_node.specs.declared.stillness.Stopped.{Stopped}
 use Rattle.pt_node.proofs.Meeting.{kept_count, kept_shard}
-use Rattle.pt_node.proofs.Resting.{TurnAt, beside, now, same_count, was}
+use Rattle.pt_node.proofs.TurnsOf.{TurnAt, beside, now, same_count, was}
 
 -- the journal of the desk goes on with receipts
 abbrev pub Receives : DeskState → DeskState → Type 0

@@ -11,7 +11,7 @@ use Rattle.pt_node.specs.declared.stillness.Stopped.{Stopped}
 use Rattle.pt_node.proofs.GoingOn.{stays}
 use Rattle.pt_node.proofs.Burning.{AllBurn, burn_then, none_burns}
 use Rattle.pt_node.proofs.Meeting.{Kept, kept_at, kept_count}
-use Rattle.pt_node.proofs.Resting.{all_stay, all_then, turn_stopped, turns_burn, turns_go_on}
+use Rattle.pt_node.proofs.TurnsOf.{all_stay, all_then, turn_stopped, turns_burn, turns_go_on}
 use Rattle.pt_node.proofs.AtRest.{kept_room, kept_sum}
 
 -- a look at the lanes keeps each desk

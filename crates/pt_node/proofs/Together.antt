@@ -19,10 +19,10 @@ use Rattle.pt_carrier.specs.Node.{all_posted, all_collected, entry}
 use Rattle.pt_shard.specs.declared.config.Config.{Config}
 use Rattle.pt_shard.specs.ShardState.{ShardState}
 use Rattle.pt_shard.specs.Outbox.{held_from}
-use Rattle.pt_gathered.specs.Gathered.{GatheredState, IsGathered, begins, IsShardOf, journal_at, box_at, hold_at, over_in}
+use Rattle.pt_gathered.specs.Gathered.{GatheredState, IsGathered, begins, start_of, IsShardOf, journal_at, box_at, hold_at, over_in}
 use Rattle.pt_gathered.specs.Taking.{AreShards}
 use Rattle.pt_gathered.specs.Beginning.{IsBeginning}
-use Rattle.pt_gathered.proofs.Starts.{all_empty, start_same, from_nothing}
+use Rattle.pt_gathered.proofs.Starts.{start_same}
 use Rattle.pt_gathered.proofs.Agreeing.{local_as}
 use Rattle.pt_gathered.proofs.Owned.{life_same, posts_same}
 use Rattle.pt_events.proofs.Agreeing.{Agrees-posted}
@@ -90,13 +90,6 @@ module _ (desks : List DeskState) (g : GatheredState) (whole : AreWhole desks) (
   are_shards : AreShards g.config g.shards
   are_shards d y h = is_shard d y (omega (arith, h, count))
 
-  nobody : begins g ≡ []
-  nobody =
-      all_empty g.shards (λ d y h.
-      let d_in : d < length desks = omega (arith, h, count) in
-      let x : DeskState = some_desk desks d d_in in
-      ap (λ (s : ShardState). s.start) (shard_at d x y d_in) ∙ (whole d x d_in).accounts.first)
-
   agree_at : (d e : ℕ) → d < length desks → e < length desks → Agrees (posts (begins g) (journal_at g.shards d) e) (gots (journal_at g.shards e) d) (over_in g.shards g.lanes d e)
   agree_at d e h k =
       let x : DeskState = some_desk desks d h in
@@ -163,13 +156,13 @@ module _ (desks : List DeskState) (g : GatheredState) (whole : AreWhole desks) (
 
   pub gathered_whole : IsGathered g
   gathered_whole = record {
+    some = omega (arith, count, gathers.node.some);
     desks = count ∙ gathers.node.count;
     lanes = gathers.left.count ∙ ap (λ n. n * n) (ends_count ∙ sym count);
     shards = λ d x h. is_shard d x (omega (arith, h, count));
     agree = λ d e h k. agree_at d e (omega (arith, h, count)) (omega (arith, k, count));
     refusals = refusals_at;
-    begun = subst (IsBeginning g.config.start) (sym nobody) (from_nothing g.config.start);
-    nobody = nobody;
+    begun = subst (λ s. IsBeginning g.config.start (start_of s)) (sym gathers.shards) gathers.node.begun;
   }
 
 pub same_journals : (desks : List DeskState) (g : GatheredState) → g.shards ≡ all_shards desks → HasJournalsOf desks g

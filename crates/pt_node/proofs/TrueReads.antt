@@ -17,15 +17,16 @@ use Rattle.pt_directory.specs.Views.{deaths_at, Covers}
 use Rattle.pt_directory.proofs.Lists.{at_append, at_behind, at_nothing, among, from_among, true-is_at}
 use Rattle.pt_shard.specs.declared.config.Config.{Config}
 use Rattle.pt_shard.specs.ShardState.{ShardState}
-use Rattle.pt_desk.specs.Sight.{deaths_in, AreOldEnds, HasEndOf}
+use Rattle.pt_desk.specs.Sight.{deaths_before, deaths_in, HasEndOf}
 use Rattle.pt_desk.specs.DeskState.{DeskState, place}
-use Rattle.pt_desk.proofs.Deaths.{old_ends, told, ended_before}
+use Rattle.pt_desk.proofs.Deaths.{AreOldEnds, told, ended_before}
+use Rattle.pt_desk.proofs.Before.{old_ends}
 use Rattle.pt_node.specs.Desks.{AreDesksOf, AreWhole}
 use Rattle.pt_node.specs.Seating.{all_seats, together, AreAudited}
 
 -- the ends that a desk's seat was told of
 abbrev pub deaths_of : DeskState → List Death
-deaths_of d = deaths_in d.shard.start d.shard.config.start d.shard.journal
+deaths_of d = deaths_in (deaths_before d.sight.before d.shard.config.start) d.shard.start d.shard.journal
 
 -- what the seats know together --------------------------------------------------------
 
@@ -71,8 +72,11 @@ module _ (config : Config) (desks : List DeskState) (node : AreDesksOf config de
   abbrev shard_of : ℕ → DeskState → ShardState
   shard_of d x = (get_or desks d x).shard
 
-  ends_of : (d : ℕ) (x : DeskState) → d < length desks → AreOldEnds (shard_of d x).start (shard_of d x).config.slots (shard_of d x).config.start (shard_of d x).number
-  ends_of d x h = let s = shard_of d x in old_ends s.start s.config.slots s.config.start s.number (whole d x h).seated.old
+  abbrev known_of : ℕ → DeskState → List Death
+  known_of d x = deaths_before (get_or desks d x).sight.before (shard_of d x).config.start
+
+  ends_of : (d : ℕ) (x : DeskState) → d < length desks → AreOldEnds (known_of d x) (shard_of d x).start (shard_of d x).config.slots (shard_of d x).config.start (shard_of d x).number
+  ends_of d x h = old_ends (shard_of d x) (get_or desks d x).sight (whole d x h).fit (whole d x h).seated
 
   -- the deaths of a slot that all seats know are those that its own desk told
   own_deaths : (d : ℕ) (x : DeskState) → d < length desks → (slot version n : ℕ) → Covers (deaths_at d slot (together audited.0 (all_seats desks)).deaths) version n
@@ -87,7 +91,7 @@ module _ (config : Config) (desks : List DeskState) (node : AreDesksOf config de
       let e = from.0 in
       let here : get_elem? (deaths_of (get_or desks e x)) from.1 ≡ some z = from.3 in
       let s = shard_of e x in
-      let t = told s.start s.config.slots s.config.start s.config.top_version s.number (ends_of e x from.2) s.journal (whole e x from.2).fit.local from.1 z here in
+      let t = told (known_of e x) s.start s.config.slots s.config.start s.config.top_version s.number (ends_of e x from.2) s.journal (whole e x from.2).fit.local from.1 z here in
       let same : e ≡ d = sym (number_at config desks node whole e x from.2) ∙ sym t.shard ∙ is.0 in
       let mine : get_elem? (deaths_of (get_or desks d x)) from.1 ≡ some z = subst (λ i. get_elem? (deaths_of (get_or desks i x)) from.1 ≡ some z) same here in
       let found = among (deaths_of (get_or desks d x)) from.1 z d slot mine there.2 in
@@ -117,5 +121,5 @@ module _ (config : Config) (desks : List DeskState) (node : AreDesksOf config de
       (subst (λ s. Covers (deaths_at s r.slot (together audited.0 (all_seats desks)).deaths) r.version n) ends.shard covers) in
       let s = (get_or desks p.shard x).shard in (
         within,
-        ended_before s.start s.config.slots s.config.start s.config.top_version s.number (ends_of p.shard x within) s.journal (whole p.shard x within).fit.local p r.version n m (own_deaths p.shard x within p.slot r.version n at_p) ends.issued ends.version later,
+        ended_before (known_of p.shard x) s.start s.config.slots s.config.start s.config.top_version s.number (ends_of p.shard x within) s.journal (whole p.shard x within).fit.local p r.version n m (own_deaths p.shard x within p.slot r.version n at_p) ends.issued ends.version later,
       )

@@ -5,7 +5,7 @@ use Rattle.pt_carrier.specs.Node.{kept}
 use Rattle.pt_shard.specs.ShardState.{ShardState}
 use Rattle.pt_desk.specs.DeskState.{DeskState, IsAccounted}
 use Rattle.pt_node.specs.Desks.{AreAccounted, AreWhole, all_ends, all_shards, desk_kept}
-use Rattle.pt_node.specs.Seating.{seat_in, all_seats, sight_of}
+use Rattle.pt_node.specs.Seating.{seat_in, all_seats, all_tables, sight_of}
 
 -- each at its place
 pub accounted_each : (ss : List ShardState) (ps : List (OutEnds × InEnds)) → length ss ≡ length ps
@@ -34,7 +34,6 @@ kept_accounted s p q k a =
     let in_place : p.1.place ≡ q.1.place = ap (λ z. z.1.0) k in
     let collected : p.1.collected ≡ q.1.collected = ap (λ z. z.1.2) k in
     record {
-      first = a.first;
       out_number = ap (λ (z : Place). z.number) (sym out_place) ∙ a.out_number;
       in_number = ap (λ (z : Place). z.number) (sym in_place) ∙ a.in_number;
       out_desks = ap (λ (z : Place). length z.rings) (sym out_place) ∙ a.out_desks;
@@ -56,18 +55,20 @@ accounted_kept (s ∷ ss) (p ∷ ps) (q ∷ qs) k h =
     let rest : map kept qs ≡ map kept ps = cc in
     (kept_accounted s p q first h.0, accounted_kept ss ps qs rest h.1)
 
--- the desks made of the same shards, of the same seats and of ends that were kept are kept
-pub desks_kept : (new old : List DeskState) → all_shards new ≡ all_shards old → all_seats new ≡ all_seats old → map kept (all_ends new) ≡ map kept (all_ends old) → map desk_kept new ≡ map desk_kept old
-desks_kept [] [] s q k = refl
-desks_kept [] (d ∷ ds) s q k = absurd cc
-desks_kept (n ∷ ns) [] s q k = absurd cc
-desks_kept (n ∷ ns) (d ∷ ds) s q k =
+-- the desks made of the same shards, of the same seats and tables and of ends that were kept are kept
+pub desks_kept : (new old : List DeskState) → all_shards new ≡ all_shards old → all_seats new ≡ all_seats old → all_tables new ≡ all_tables old → map kept (all_ends new) ≡ map kept (all_ends old) → map desk_kept new ≡ map desk_kept old
+desks_kept [] [] s q t k = refl
+desks_kept [] (d ∷ ds) s q t k = absurd cc
+desks_kept (n ∷ ns) [] s q t k = absurd cc
+desks_kept (n ∷ ns) (d ∷ ds) s q t k =
     let shard : n.shard ≡ d.shard = cc in
     let seat : seat_in n ≡ seat_in d = cc in
-    let sight : n.sight ≡ d.sight = ap sight_of seat in
+    let table : n.sight.before ≡ d.sight.before = cc in
+    let sight : n.sight ≡ d.sight = λ i. sight_of (seat i) (table i) in
     let ends : kept (n.outs, n.ins) ≡ kept (d.outs, d.ins) = cc in
     let shards : all_shards ns ≡ all_shards ds = cc in
     let seats : all_seats ns ≡ all_seats ds = cc in
+    let tables : all_tables ns ≡ all_tables ds = cc in
     let all : map kept (all_ends ns) ≡ map kept (all_ends ds) = cc in
     let first : desk_kept n ≡ desk_kept d = λ i. (shard i, sight i, (ends i).0, (ends i).1) in
-    ap (λ z. z ∷ map desk_kept ns) first ∙ ap (λ z. desk_kept d ∷ z) (desks_kept ns ds shards seats all)
+    ap (λ z. z ∷ map desk_kept ns) first ∙ ap (λ z. desk_kept d ∷ z) (desks_kept ns ds shards seats tables all)

@@ -6,11 +6,19 @@ use Rattle.pt_carrier.specs.Node.{IsNode, kept}
 use Rattle.pt_shard.specs.declared.config.Config.{Config}
 use Rattle.pt_shard.specs.ShardState.{ShardState}
 use Rattle.pt_directory.specs.Seats.{DirectoryState}
+use Rattle.pt_gathered.specs.Beginning.{IsBeginning}
+use Rattle.pt_gathered.specs.Gathered.{start_of}
 use Rattle.pt_desk.specs.Sight.{Sight}
 use Rattle.pt_desk.specs.DeskState.{DeskState, IsDesk, IsAccounted, place}
 
--- all desks of one opening with these settings, each once and in order: no call of a desk changes its settings or its
--- place
+abbrev pub all_ends : List DeskState → List (OutEnds × InEnds)
+all_ends desks = map (λ (d : DeskState). (d.outs, d.ins)) desks
+
+abbrev pub all_shards : List DeskState → List ShardState
+all_shards desks = map (λ (d : DeskState). d.shard) desks
+
+-- all desks of one opening, or of one resumption, with these settings, each once and in order: no call of a desk
+-- changes its settings, its place or what was before its journal
 pub record AreDesksOf (config : Config) (desks : List DeskState) : Type 0 where
   pub some : 0 < length desks
   pub count : length desks ≡ config.desks
@@ -19,21 +27,19 @@ pub record AreDesksOf (config : Config) (desks : List DeskState) : Type 0 where
   -- they have one directory
   pub directory : DirectoryState
   pub directories : (d : ℕ) (x : DeskState) → d < length desks → (slice_index_or desks d x).sight.directory ≡ directory
+  -- what was before their journals is what one node left behind
+  pub begun : IsBeginning config.start (start_of (all_shards desks))
 
 abbrev pub AreDesks : List DeskState → Type 0
 AreDesks desks = (config : Config) × AreDesksOf config desks
 
 -- what a caller needs of what it does to one of the desks, so that all of them stay the desks of their node: the desk
--- keeps its place among the lanes, its settings and its directory, as each call of a desk does
+-- keeps its place among the lanes, its settings, its directory and what was before its journal, as each call of a
+-- desk does
 abbrev pub IsStill : DeskState → DeskState → Type 0
 IsStill old new =
     (place new ≡ place old) × (new.shard.config ≡ old.shard.config) × (new.sight.directory ≡ old.sight.directory)
-
-abbrev pub all_ends : List DeskState → List (OutEnds × InEnds)
-all_ends desks = map (λ (d : DeskState). (d.outs, d.ins)) desks
-
-abbrev pub all_shards : List DeskState → List ShardState
-all_shards desks = map (λ (d : DeskState). d.shard) desks
+    × (new.shard.start ≡ old.shard.start)
 
 -- all of a desk but what its ends know of the other end of each lane
 abbrev pub desk_kept : DeskState

@@ -1,5 +1,7 @@
 pub mod Desks
+pub mod Pasts
 pub mod Opening
+pub mod Resuming
 pub mod Gathering
 pub mod Running
 pub mod Seating

@@ -1,8 +1,10 @@
 -- The seats of the desks, while they are made, taken out and brought together. No public clause cites this module.
-use Rattle.std.specs.Prelude.{◌≡◌, List, [], ◌∷◌, map, ⊤}
+use Rattle.std.specs.Prelude.{◌≡◌, ℕ, List, [], ◌∷◌, map, ⊤}
 use Rattle.atomic_table.specs.Seated.{TableId}
 use Rattle.pt_directory.specs.Views.{up_from}
-use Rattle.pt_directory.specs.Seats.{DirectoryState, SeatState, new_seat, join_seats, IsAudited}
+use Rattle.pt_directory.specs.Seats.{DirectoryState, SeatState, reopened_seat, join_seats, IsAudited}
+use Rattle.pt_accounts.specs.DeskLives.{DeskTable}
+use Rattle.pt_signal.specs.declared.pid.Pid.{Pid}
 use Rattle.pt_shard.specs.declared.config.Config.{Config}
 use Rattle.pt_shard.specs.ShardState.{ShardState}
 use Rattle.pt_desk.specs.Sight.{Sight, IsSeated, seat_of}
@@ -12,8 +14,9 @@ use Rattle.pt_desk.specs.DeskState.{DeskState}
 abbrev pub Seated : Type 0
 Seated = DirectoryState × SeatState
 
-abbrev pub sight_of : Seated → Sight
-sight_of p = record { directory = p.0; reads = p.1.reads }
+-- with the table of what was before
+abbrev pub sight_of : Seated → DeskTable → Sight
+sight_of p t = record { directory = p.0; reads = p.1.reads; before = t }
 
 abbrev pub seat_in : DeskState → Seated
 seat_in d = (d.sight.directory, seat_of d.shard d.sight)
@@ -21,22 +24,25 @@ seat_in d = (d.sight.directory, seat_of d.shard d.sight)
 abbrev pub all_seats : List DeskState → List Seated
 all_seats desks = map seat_in desks
 
--- this is the seat of that desk
-abbrev pub IsSeatOf : ShardState → Seated → Type 0
-IsSeatOf s p = IsSeated s (sight_of p) × (p.1 ≡ seat_of s (sight_of p))
+abbrev pub all_tables : List DeskState → List DeskTable
+all_tables desks = map (λ (d : DeskState). d.sight.before) desks
 
--- as many shards as seats, and each has the one at its place
-abbrev pub AreSeated : List ShardState → List Seated → Type 0
-AreSeated [] [] = ⊤
-AreSeated (s ∷ shards) (p ∷ seats) = IsSeatOf s p × AreSeated shards seats
-AreSeated _ _ = ⊥
+-- this is the seat of that desk, and its table
+abbrev pub IsSeatOf : ShardState → Seated → DeskTable → Type 0
+IsSeatOf s p t = IsSeated s (sight_of p t) × (p.1 ≡ seat_of s (sight_of p t))
 
--- the seats of a directory of this node in which nobody has looked
-pub record AreFreshSeats (config : Config) (seats : List Seated) : Type 0 where
+-- as many shards as seats and tables, and each has those at its place
+abbrev pub AreSeated : List ShardState → List Seated → List DeskTable → Type 0
+AreSeated [] [] [] = ⊤
+AreSeated (s ∷ shards) (p ∷ seats) (t ∷ tables) = IsSeatOf s p t × AreSeated shards seats tables
+AreSeated _ _ _ = ⊥
+
+-- the seats of a directory of this node in which these pids have ended, and nobody has looked
+pub record AreFreshSeats (config : Config) (ended : List (Pid × ℕ)) (seats : List Seated) : Type 0 where
   pub directory : DirectoryState
   pub desks : directory.desks ≡ config.desks
   pub slots : directory.slots ≡ config.slots
-  pub all : seats ≡ map (λ n. (directory, new_seat directory.name n)) (up_from 0 config.desks)
+  pub all : seats ≡ map (λ n. (directory, reopened_seat directory.name ended n)) (up_from 0 config.desks)
 
 -- all are of one directory
 abbrev pub AreOf : TableId → List Seated → Type 0

@@ -7,6 +7,7 @@ ghost use Rattle.pt_carrier.specs.declared.reunion.Cause.{Cause};
 ghost use Rattle.pt_gathered.specs.Lawful.{LanesKeep, KeepsHeadline, IsLegalNode, AnswersHold};
 ghost use Rattle.pt_node.specs.Desks.{AreDesks, desk_kept};
 ghost use Rattle.pt_node.specs.Gathering.{Gathers, HasJournalsOf, ReadsAreTrue};
+ghost use Rattle.pt_node.specs.Pasts.{GathersPast};
 
 use crate::making::{look, make_whole, take_apart};
 use crate::seating::audit_all;
@@ -71,14 +72,15 @@ impl DesksBack {
 pub fn abandon(desks: Vec<Desk>) {
     let mut desks = desks;
     while let Some(desk) = desks.pop() {
-        let (_shard, outs, ins, _directory, _seat) = desk.apart();
+        let (_shard, outs, ins, _directory, _seat, _before) = desk.apart();
         outs.close();
         ins.close();
     }
     desks.destroy_empty();
 }
 
-/// Brings the desks of a node together: all desks of one [`open`](crate::open), each once and in order.
+/// Brings the desks of a node together: all desks of one [`open`](crate::open), or of one [`resume`](crate::resume),
+/// each once and in order.
 ///
 /// The journals are those of the desks, event for event. For any two desks, what the one sent to the other is what
 /// came there, one for one and in order, and then what is left over. So whatever was called on the desks, in whatever
@@ -99,6 +101,7 @@ pub fn gather(alloc: Global, desks: Vec<Desk>) -> Result<Gathered, DesksBack>
     ensures legal { IfOk result (λ g. IsLegalNode g) }
     ensures answers { IfOk result (λ g. AnswersHold g) }
     ensures reads { IfOk result (λ g. ReadsAreTrue desks.items g) }
+    ensures past { IfOk result (λ g. GathersPast desks.items g) }
     ensures back { IfErr result (λ b. map desk_kept b ≡ map desk_kept desks.items) }
 {
     look(desks.as_slice());
@@ -117,21 +120,24 @@ pub fn gather(alloc: Global, desks: Vec<Desk>) -> Result<Gathered, DesksBack>
     let Ok(mut seats) = Vec::with_capacity(alloc, count) else {
         return Err(DesksBack { desks });
     };
+    let Ok(mut tables) = Vec::with_capacity(alloc, count) else {
+        return Err(DesksBack { desks });
+    };
     let Ok(mut pairs) = Vec::with_capacity(alloc, count) else {
         return Err(DesksBack { desks });
     };
-    take_apart(&mut desks, &mut pairs, &mut shards, &mut seats);
+    take_apart(&mut desks, &mut pairs, &mut shards, &mut seats, &mut tables);
     match reunite(alloc, pairs) {
         Ok(left) => {
             desks.destroy_empty();
             fill(left.lanes, &mut lanes);
             audit_all(seats);
-            let gathered = Gathered::of(alloc, config, shards, lanes);
+            let gathered = Gathered::of(alloc, config, shards, lanes, tables);
             laws_of(&gathered);
             Ok(gathered)
         }
         Err(back) => {
-            make_whole(back.into_ends(), shards, seats, &mut desks);
+            make_whole(back.into_ends(), shards, seats, tables, &mut desks);
             Err(DesksBack { desks })
         }
     }

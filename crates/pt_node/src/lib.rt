@@ -38,6 +38,13 @@
 //! threads, of each sender the messages to each mailbox, in order and each once, are then those that came before its
 //! birth, those that arrived, those that came after its end, and those left over; nothing entered a mailbox after its
 //! process ended; what was taken and what waits together are what arrived; and a monitor had one `DOWN` at most.
+//!
+//! # Going on
+//!
+//! A journal grows with each event. So a node that runs for long is gathered and settled from time to time, its history
+//! written out, and [`resume`] goes on from the quiet node with empty journals over what they left behind. The dead
+//! stay dead, the versions and the clocks go on, and whatever holds of an opened node holds of this one, over that
+//! start; it may be resumed any number of times.
 #![tactic(auto)]
 
 mod gathering;
@@ -47,6 +54,7 @@ mod node_fault;
 mod node_running;
 mod opening;
 mod pairs;
+mod resuming;
 mod run_fault;
 mod running;
 mod seating;
@@ -68,6 +76,7 @@ pub use pt_shard::{
     Config, Fault, MAX_DESKS, MAX_LANE, MAX_SLOTS, MAX_STAMP, OpenError, Setting, Stop,
 };
 pub use pt_signal::{Body, Ids, Item, Letter, LinkId, Pick, Pid, Reason, Ref, Signal};
+pub use resuming::{Resting, resume};
 pub use run_fault::RunFault;
 pub use running::{FreeGate, Gate, Ran, run, run_single};
 pub use stillness::{Rested, Stopped};

@@ -6,6 +6,7 @@ ghost use Rattle.std.specs.Option.{option_copied, option_map};
 ghost use Rattle.pt_signal.specs.declared.signal.Signal.{Signal};
 ghost use Rattle.pt_events.specs.declared.event.Event.{Event};
 ghost use Rattle.pt_shard.specs.ShardState.{lives, state_in};
+ghost use Rattle.pt_shard.specs.Living.{living_count, living_in, living_pids};
 ghost use Rattle.pt_shard.specs.Reading.{read_of};
 ghost use Rattle.pt_shard.specs.Calls.{Calls, Monitors, Bears, BearsChild, link_event, unlink_event, first_match};
 ghost use Rattle.pt_shard.specs.Calls.{take_event, demonitor_event, held_by, new_ref};
@@ -14,11 +15,13 @@ ghost use Rattle.pt_gathered.specs.Settling.{NothingLeft};
 ghost use Rattle.pt_desk.specs.Reaching.{Reaches, has_link_to_make, has_monitor_to_make};
 ghost use Rattle.pt_node.specs.Desks.{AreDesks, AreDesksOf, desk_kept};
 ghost use Rattle.pt_node.specs.Gathering.{Gathers, HasJournalsOf, ReadsAreTrue};
+ghost use Rattle.pt_node.specs.Pasts.{GathersPast};
 ghost use Rattle.pt_node.specs.NodeRunning.{RunsNode};
 ghost use Rattle.pt_node.specs.Running.{AllWork, InRounds, begins_by};
 ghost use Rattle.pt_node.specs.Node.{CallsAt, CallsTo, Inside, OpensNode, ReadsAt, TurnsAll, TurnsAt, answered};
 ghost use Rattle.pt_node.specs.Node.{both_turned};
 ghost use Rattle.pt_node.specs.Load.{IsWithinLoad};
+ghost use Rattle.pt_node.specs.Resuming.{Resumes};
 ghost use Rattle.pt_node.specs.Stillness.{AllDesksGoOn, AreStill, RunsRounds, StoppedAt, count_events};
 
 use crate::gathering::{abandon, gather};
@@ -26,23 +29,25 @@ use crate::making::look;
 use crate::node_fault::NodeFault;
 use crate::node_running::{run_desks, run_desks_single};
 use crate::opening::open;
+use crate::resuming::{Resting, resume};
 use crate::run_fault::RunFault;
 use crate::running::Gate;
 use crate::stillness::{Rested, until_still};
 use crate::work::Task;
 use pt_desk::{Desk, Turned};
 use pt_events::Journal;
-use pt_gathered::Gathered;
+use pt_gathered::{Gathered, Quiet};
 use pt_process::Process;
 use pt_shard::{Config, Fault, OpenError};
 use pt_signal::{Body, Ids, Item, Pick, Pid, Reason, Ref};
-use std::alloc::Global;
+use std::alloc::{AllocError, Global};
 use std::error::Error;
 use std::fmt;
 use std::marker::Model;
 use std::thread::Threads;
 
-/// The desks of one [`open`](Node::open), each once and in order, with calls of their processes by pid.
+/// The desks of one [`open`](Node::open), or of one [`resume`](Node::resume), each once and in order, with calls of
+/// their processes by pid.
 ///
 /// A call of a process is made on the desk of its pid, and does there what the desk's call of that name does; the other
 /// desks stay. No call asks anything of its caller: what the node cannot do it refuses, by a [`NodeFault`].
@@ -108,7 +113,19 @@ impl Node {
         }
     }
 
-    /// The node of these desks, which are all desks of one [`open`](crate::open), each once and in order.
+    /// Goes on from a quiet node, as [`resume`](crate::resume) does. Refused only where there is no memory.
+    pub fn resume(alloc: Global, quiet: Quiet) -> Result<Node, Resting>
+        ensures resumes { IfOk result (λ desks. Resumes quiet.gathered desks) }
+        ensures resting { IfErr result (λ back. back.quiet ≡ quiet) }
+    {
+        match resume(alloc, quiet) {
+            Ok(desks) => Ok(Node { alloc, desks }),
+            Err(back) => Err(back),
+        }
+    }
+
+    /// The node of these desks, which are all desks of one [`open`](crate::open) or of one [`resume`](crate::resume),
+    /// each once and in order.
     pub fn of_desks(alloc: Global, desks: Vec<Desk>) -> Node
         requires { AreDesks desks.items }
         ensures { result ≡ desks.items }
@@ -194,6 +211,42 @@ impl Node {
         self.desks[d].alive_here(p)
     }
 
+    /// The process that lives in that slot of that desk, or `None` where nobody does, and where the node has no such
+    /// desk. So a program goes over all who live, by the desks and the slots below those of the settings.
+    pub fn lives_in(&self, desk: u8, slot: u32) -> Option<Pid>
+        ensures { ReadsAt desk (λ x. living_in x.shard slot) None self.now result }
+    {
+        let d = usize::from(desk);
+        if d >= self.desks.len() {
+            return None;
+        }
+        self.desks[d].lives_in(slot)
+    }
+
+    /// The processes that live on that desk, by slot: Erlang's `processes/0` of it; `None` where the node has no such
+    /// desk. It looks into each slot. Refused only where there is no memory for the list.
+    pub fn pids(&self, desk: u8) -> Result<Option<Vec<Pid>>, AllocError>
+        ensures { IfOk result (λ v. ReadsAt desk (λ x. Some (living_pids x.shard)) None self.now
+            (option_map (λ w. w.items) v)) }
+    {
+        let d = usize::from(desk);
+        if d >= self.desks.len() {
+            return Ok(None);
+        }
+        Ok(Some(self.desks[d].pids(self.alloc)?))
+    }
+
+    /// How many processes live on that desk, in constant time; `None` where the node has no such desk.
+    pub fn len(&self, desk: u8) -> Option<u32>
+        ensures { ReadsAt desk (λ x. Some (living_count x.shard)) None self.now result }
+    {
+        let d = usize::from(desk);
+        if d >= self.desks.len() {
+            return None;
+        }
+        Some(self.desks[d].len())
+    }
+
     /// The items that wait in the mailbox of p, oldest first, or `None` where it does not live.
     pub fn waiting(&self, p: Pid) -> Option<&[Item]>
         ensures { ReadsAt p.shard (λ x. cond (lives x.shard p) (Some (state_in x.shard p).waiting) None) None self.now
@@ -247,6 +300,7 @@ impl Node {
         ensures legal { IfOk result (λ g. IsLegalNode g) }
         ensures answers { IfOk result (λ g. AnswersHold g) }
         ensures reads { IfOk result (λ g. ReadsAreTrue self g) }
+        ensures past { IfOk result (λ g. GathersPast self g) }
         ensures still { AreStill self → IfOk result (λ g. NothingLeft g) }
         ensures back { IfErr result (λ b. map desk_kept b.node ≡ map desk_kept self) }
     {

@@ -1,6 +1,7 @@
 //! Why a call of a node is refused.
 
 use pt_shard::Fault;
+use std::alloc::{AllocError, AllocFailed};
 use thiserror::Error;
 
 /// Why a call of a node is refused.
@@ -16,7 +17,43 @@ pub enum NodeFault {
     /// of the acting process's desk, which has not issued its version.
     #[error("the target is not known")]
     Unknown,
-    /// The desk refused the call.
+    /// The desk refused the call. By `?` it is also what a growth of the program's own becomes that found no memory:
+    /// `Refused(Fault::Memory)`.
     #[error("{0}")]
     Refused(Fault),
+}
+
+impl From<Fault> for NodeFault {
+    ghost use Rattle.std.specs.Prelude.{◌≡◌};
+    ghost use Rattle.pt_node.specs.declared.node_fault.NodeFault.TheVariants.{Refused};
+
+    ghost from_gives = { λ fault f. f ≡ Refused fault };
+
+    fn from(fault: Fault) -> NodeFault {
+        NodeFault::Refused(fault)
+    }
+}
+
+impl From<AllocError> for NodeFault {
+    ghost use Rattle.std.specs.Prelude.{◌≡◌};
+    ghost use Rattle.pt_shard.specs.declared.fault.Fault.TheVariants.{Memory};
+    ghost use Rattle.pt_node.specs.declared.node_fault.NodeFault.TheVariants.{Refused};
+
+    ghost from_gives = { λ _ f. f ≡ Refused Memory };
+
+    fn from(_error: AllocError) -> NodeFault {
+        NodeFault::Refused(Fault::Memory)
+    }
+}
+
+impl<T: Drop> From<AllocFailed<T>> for NodeFault {
+    ghost use Rattle.std.specs.Prelude.{◌≡◌};
+    ghost use Rattle.pt_shard.specs.declared.fault.Fault.TheVariants.{Memory};
+    ghost use Rattle.pt_node.specs.declared.node_fault.NodeFault.TheVariants.{Refused};
+
+    ghost from_gives = { λ _ f. f ≡ Refused Memory };
+
+    fn from(_failed: AllocFailed<T>) -> NodeFault {
+        NodeFault::Refused(Fault::Memory)
+    }
 }

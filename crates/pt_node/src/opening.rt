@@ -2,10 +2,11 @@
 
 ghost use Rattle.std.specs.Prelude.{◌≡◌, IfOk};
 ghost use Rattle.pt_shard.specs.Opening.{IsInRange};
-ghost use Rattle.pt_node.specs.Opening.{Opens, AreFreshShards};
+ghost use Rattle.pt_node.specs.Opening.{Opens, AreFreshShards, AreFreshTables};
 
 use crate::making::make_whole;
 use crate::seating::fresh_seats;
+use pt_accounts::DeskLives;
 use pt_desk::Desk;
 use pt_shard::{Config, OpenError, Shard};
 use std::alloc::{AllocError, Global};
@@ -24,7 +25,10 @@ pub fn open(alloc: Global, config: Config) -> Result<Vec<Desk>, OpenError>
     let Ok(shards) = fresh_shards(alloc, config) else {
         return Err(OpenError::Memory);
     };
-    let Ok(seats) = fresh_seats(alloc, config) else {
+    let Ok(tables) = fresh_tables(alloc, config) else {
+        return Err(OpenError::Memory);
+    };
+    let Ok(seats) = fresh_seats(alloc, config, &[]) else {
         return Err(OpenError::Memory);
     };
     let Ok(mut desks) = Vec::with_capacity(alloc, usize::from(config.desks)) else {
@@ -34,7 +38,7 @@ pub fn open(alloc: Global, config: Config) -> Result<Vec<Desk>, OpenError>
         desks.destroy_empty();
         return Err(OpenError::Memory);
     };
-    make_whole(pairs, shards, seats, &mut desks);
+    make_whole(pairs, shards, seats, tables, &mut desks);
     Ok(desks)
 }
 
@@ -48,4 +52,15 @@ fn fresh_shards(alloc: Global, config: Config) -> Result<Vec<Shard>, AllocError>
         shards.push(Shard::new(alloc, config, number)?)?;
     }
     Ok(shards)
+}
+
+/// For each desk the table of what was before its journal, where nothing was.
+fn fresh_tables(alloc: Global, config: Config) -> Result<Vec<DeskLives>, AllocError>
+    ensures { IfOk result (λ v. AreFreshTables config v.items) }
+{
+    let mut tables = Vec::with_capacity(alloc, usize::from(config.desks))?;
+    for number in 0..config.desks {
+        tables.push(DeskLives::new(alloc, number))?;
+    }
+    Ok(tables)
 }

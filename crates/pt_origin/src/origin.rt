@@ -39,6 +39,7 @@ impl Origin {
     pub fn left_behind(&self, journal: &Journal) -> Origin
         ensures { result.start ≡ start_after self.now.start (events journal.now.past) }
     {
+        // the clause alone reads it
         let _ = journal;
         Origin {}
     }

@@ -23,7 +23,7 @@ const MOST: usize = 1 << 62;
 /// costs O(n), a look-up O(1), and an insertion and a removal O(1) amortised. A key that comes again while its gap
 /// stands costs what entered after it.
 #[derive(Drop)]
-pub struct Many<K: Eq + Hash + Copy, V: Copy> {
+pub(crate) struct Many<K: Eq + Hash + Copy, V: Copy> {
     /// The entries in order of entry, where `None` is a gap.
     places: IndexMap<K, Option<V>>,
     /// How many entries there are.
@@ -48,7 +48,7 @@ impl<K: Eq + Hash + Copy, V: Copy> Model for Many<K, V> {
 
 impl<K: Eq + Hash + Copy, V: Copy> Many<K, V> {
     /// No entries, and room for this many.
-    pub fn with_room(alloc: Global, room: usize) -> Result<Self, AllocError>
+    pub(crate) fn with_room(alloc: Global, room: usize) -> Result<Self, AllocError>
         requires { room ≤ 2 ^ 62 }
         ensures entries { IfOk result (λ m. m.entries ≡ []) }
         ensures room { IfOk result (λ m. room ≤ m.room) }
@@ -58,7 +58,7 @@ impl<K: Eq + Hash + Copy, V: Copy> Many<K, V> {
     }
 
     /// How many entries there are.
-    pub fn len(&self) -> usize
+    pub(crate) fn len(&self) -> usize
         ensures len { result ≡ length self.now.entries }
         ensures small { result ≤ 2 ^ 62 }
     {
@@ -66,7 +66,7 @@ impl<K: Eq + Hash + Copy, V: Copy> Many<K, V> {
     }
 
     /// The value at a key.
-    pub fn get(&self, key: &K) -> Option<V>
+    pub(crate) fn get(&self, key: &K) -> Option<V>
         ensures { result ≡ lookup (K.eq key.now) self.now.entries }
     {
         match self.places.get(key) {
@@ -76,7 +76,7 @@ impl<K: Eq + Hash + Copy, V: Copy> Many<K, V> {
     }
 
     /// Makes room for one more entry.
-    pub fn reserve(&mut self) -> Result<(), AllocError>
+    pub(crate) fn reserve(&mut self) -> Result<(), AllocError>
         ensures same { self.new.entries ≡ self.old.entries }
         ensures ok { OnOk result (0 < self.new.room) }
         ensures room { self.old.room ≤ self.new.room }
@@ -89,7 +89,7 @@ impl<K: Eq + Hash + Copy, V: Copy> Many<K, V> {
     }
 
     /// Gives a key that is there this value, in its place.
-    pub fn set(&mut self, key: K, value: V)
+    pub(crate) fn set(&mut self, key: K, value: V)
         requires { IsSome (lookup (K.eq key) self.old.entries) }
         ensures { self.new.entries ≡ set_value (K.eq key) self.old.entries value }
     {
@@ -99,7 +99,7 @@ impl<K: Eq + Hash + Copy, V: Copy> Many<K, V> {
     }
 
     /// Adds an entry at the end.
-    pub fn push(&mut self, key: K, value: V)
+    pub(crate) fn push(&mut self, key: K, value: V)
         requires absent { lookup (K.eq key) self.old.entries ≡ None }
         requires room { 0 < self.old.room }
         ensures entries { self.new.entries ≡ self.old.entries ++ (key, value) ∷ [] }
@@ -112,7 +112,7 @@ impl<K: Eq + Hash + Copy, V: Copy> Many<K, V> {
     }
 
     /// Takes the key's entry out; the others keep their order.
-    pub fn remove(&mut self, key: &K) -> Option<V>
+    pub(crate) fn remove(&mut self, key: &K) -> Option<V>
         ensures value { result ≡ lookup (K.eq key.now) self.old.entries }
         ensures rest { self.new.entries ≡ remove_entry (K.eq key.now) self.old.entries }
         ensures room { self.old.room ≤ self.new.room }
@@ -128,7 +128,7 @@ impl<K: Eq + Hash + Copy, V: Copy> Many<K, V> {
     }
 
     /// Closes the gaps.
-    pub fn close(&mut self)
+    pub(crate) fn close(&mut self)
         ensures entries { self.new.entries ≡ self.old.entries }
         ensures closed { self.new.gaps ≡ 0 }
         ensures room { self.old.room ≤ self.new.room }
@@ -137,7 +137,7 @@ impl<K: Eq + Hash + Copy, V: Copy> Many<K, V> {
     }
 
     /// The entry with this number, in order of entry. The gaps are closed first, if there are any.
-    pub fn nth(&mut self, i: usize) -> (K, V)
+    pub(crate) fn nth(&mut self, i: usize) -> (K, V)
         requires { i < length self.old.entries }
         ensures entry { slice_get self.old.entries i ≡ Some result }
         ensures same { self.new.entries ≡ self.old.entries }
@@ -150,7 +150,7 @@ impl<K: Eq + Hash + Copy, V: Copy> Many<K, V> {
     }
 
     /// The entry with this number, in order of entry, where there is no gap.
-    pub fn at(&self, i: usize) -> (K, V)
+    pub(crate) fn at(&self, i: usize) -> (K, V)
         requires closed { self.now.gaps ≡ 0 }
         requires within { i < length self.now.entries }
         ensures { slice_get self.now.entries i ≡ Some result }
@@ -160,7 +160,7 @@ impl<K: Eq + Hash + Copy, V: Copy> Many<K, V> {
     }
 
     /// The entry with this number, in order of entry, if there are so many. Where there are gaps it walks to it.
-    pub fn read(&self, i: usize) -> Option<(K, V)>
+    pub(crate) fn read(&self, i: usize) -> Option<(K, V)>
         ensures { result ≡ slice_get self.now.entries i }
     {
         if i >= self.count {
@@ -175,7 +175,7 @@ impl<K: Eq + Hash + Copy, V: Copy> Many<K, V> {
 
 impl<J: PartialEq + Eq + Hash + Copy, K: Eq + Hash + Copy, V: Copy> Many<(J, K), V> {
     /// Whether the first part of a key is this.
-    pub fn has_first(&self, first: J) -> bool
+    pub(crate) fn has_first(&self, first: J) -> bool
         ensures { result ≡ list_any (λ k. J.eq first k.0) (keys_of self.now.entries) }
     {
         any_first(&self.places, first)

@@ -15,7 +15,11 @@ mod Bearing
 mod Standing
 mod Left
 mod Restarting
+mod InTurn
 mod Acted
 mod Taken
 mod Vacancy
 mod Noting
+mod Living
+mod Counted
+mod Listed

@@ -8,6 +8,7 @@ pub mod Known
 pub mod Extends
 pub mod Fit
 pub mod Restart
+pub mod InTurn
 pub mod Calls
 pub mod Outbox
 pub mod Faults
@@ -21,3 +22,4 @@ pub mod Sound
 pub mod Whole
 pub mod Deliveries
 pub mod Backs
+pub mod Living

@@ -32,7 +32,7 @@ use std::marker::Model;
 ///
 /// An event is prepared first, which may be refused; what is written then finds room.
 #[derive(Drop)]
-pub struct Ledger {
+pub(crate) struct Ledger {
     clock: u64,
     // What was before the journal, for clauses alone.
     origin: Origin,
@@ -99,7 +99,7 @@ fn reserve_owed(outbox: &mut Vec<Letters>, process: &mut Process) -> Result<(), 
 }
 
 impl Ledger {
-    pub fn new(alloc: Global, desk: u8, desks: u8, start: u64) -> Result<Ledger, AllocError>
+    pub(crate) fn new(alloc: Global, desk: u8, desks: u8, start: u64) -> Result<Ledger, AllocError>
         ensures { IfOk result (λ l. l.book ≡ record {
           start = [];
           desk = desk;
@@ -119,7 +119,7 @@ impl Ledger {
     }
 
     /// Begins an empty journal over the start that the one so far leaves behind, with the clock at `start`.
-    pub fn restart(&mut self, start: u64)
+    pub(crate) fn restart(&mut self, start: u64)
         ensures { self.new.book ≡ restarted_book start self.old.book }
     {
         self.origin = self.origin.left_behind(&self.journal);
@@ -127,13 +127,13 @@ impl Ledger {
         self.clock = start;
     }
 
-    pub fn clock(&self) -> u64
+    pub(crate) fn clock(&self) -> u64
         ensures { result ≡ self.now.book.clock }
     {
         self.clock
     }
 
-    pub fn journal(&self) -> &Journal
+    pub(crate) fn journal(&self) -> &Journal
         ensures desk { result.now.desk ≡ self.now.book.desk }
         ensures past { result.now.past ≡ self.now.book.journal }
     {
@@ -142,14 +142,14 @@ impl Ledger {
 
     /// Whether no event can be stamped above `floor`.
     #[inline(always)]
-    pub fn is_worn(&self, floor: u64) -> bool
+    pub(crate) fn is_worn(&self, floor: u64) -> bool
         ensures { result ≡ nat_le MAX_STAMP (max self.now.book.clock floor) }
     {
         self.clock.max(floor) >= MAX_STAMP
     }
 
     /// The reference that the next event makes.
-    pub fn next_ref(&self) -> Ref
+    pub(crate) fn next_ref(&self) -> Ref
         requires { self.now.book.clock < MAX_STAMP }
         ensures { result ≡ record { desk = self.now.book.desk; number = self.now.book.clock + 1 } }
     {
@@ -160,7 +160,7 @@ impl Ledger {
     }
 
     /// The id of a link that the next event makes.
-    pub fn next_link(&self) -> LinkId
+    pub(crate) fn next_link(&self) -> LinkId
         requires { self.now.book.clock < MAX_STAMP }
         ensures { result ≡ record { desk = self.now.book.desk; number = self.now.book.clock + 1 } }
     {
@@ -170,7 +170,7 @@ impl Ledger {
 
     /// Makes room for an event that is stamped above `floor`.
     #[inline(always)]
-    pub fn prepare(&mut self, floor: u64) -> Result<(), Stop>
+    pub(crate) fn prepare(&mut self, floor: u64) -> Result<(), Stop>
         ensures does { Prepares floor HasNoNeed self.old result self.new }
         ensures same { self.new.rooms ≡ self.old.rooms }
     {
@@ -183,7 +183,7 @@ impl Ledger {
 
     /// Makes room for an event that is stamped above `floor`, and for a letter to this process.
     #[inline(always)]
-    pub fn prepare_letter(&mut self, floor: u64, to: Pid) -> Result<(), Stop>
+    pub(crate) fn prepare_said(&mut self, floor: u64, to: Pid) -> Result<(), Stop>
         requires { to.shard < length self.old.book.outbox }
         ensures { Prepares floor (HasRoomAt to.shard) self.old result self.new }
     {
@@ -194,18 +194,23 @@ impl Ledger {
 
     /// Makes room for an event that is stamped above `floor`, and for a letter to this process, if there is one.
     #[inline(always)]
-    pub fn prepare_back(&mut self, floor: u64, back: Option<Signal>, to: Pid) -> Result<(), Stop>
+    pub(crate) fn prepare_came(
+        &mut self,
+        floor: u64,
+        back: Option<Signal>,
+        to: Pid,
+    ) -> Result<(), Stop>
         requires { to.shard < length self.old.book.outbox }
         ensures { Prepares floor (HasRoomFor back to.shard) self.old result self.new }
     {
         match back {
-            Some(_) => self.prepare_letter(floor, to),
+            Some(_) => self.prepare_said(floor, to),
             None => self.prepare(floor),
         }
     }
 
     /// Makes room for an event that is stamped above `floor`, and for what a process would owe at its end.
-    pub fn prepare_end(&mut self, floor: u64, process: &mut Process) -> Result<(), Stop>
+    pub(crate) fn prepare_end(&mut self, floor: u64, process: &mut Process) -> Result<(), Stop>
         requires few { length self.old.book.outbox ≤ MAX_DESKS }
         requires near { Every (λ q. q.shard < length self.old.book.outbox) (peers process.old.state) }
         ensures does { Prepares floor (HasRoomToAll (peers process.old.state)) self.old result self.new }
@@ -223,7 +228,7 @@ impl Ledger {
     /// Writes an event, stamped above `floor` too, for which there is room, and answers the stamp.
     #[tactic(auto, using(crate::proofs::Ledgers::newer_above))]
     #[inline(always)]
-    pub fn write(&mut self, floor: u64, event: Event) -> u64
+    pub(crate) fn write(&mut self, floor: u64, event: Event) -> u64
         requires can { max self.old.book.clock floor < MAX_STAMP }
         requires room { 0 < self.old.room }
         ensures stamp { result ≡ max self.old.book.clock floor + 1 }
@@ -252,7 +257,7 @@ impl Ledger {
 
     /// Writes that a process says a signal, and sends it, for both of which there is room.
     #[inline(always)]
-    pub fn say(&mut self, from: Pid, to: Pid, signal: Signal)
+    pub(crate) fn write_said(&mut self, from: Pid, to: Pid, signal: Signal)
         requires can { max self.old.book.clock 0 < MAX_STAMP }
         requires room { 0 < self.old.room }
         requires to { to.shard < length self.old.book.outbox }
@@ -272,7 +277,7 @@ impl Ledger {
 
     /// Writes that a letter came, and sends what goes back, if anything, for both of which there is room.
     #[inline(always)]
-    pub fn receive(&mut self, letter: &Letter, back: Option<Signal>)
+    pub(crate) fn write_came(&mut self, letter: &Letter, back: Option<Signal>)
         requires can { max self.old.book.clock letter.now.stamp < MAX_STAMP }
         requires room { 0 < self.old.room }
         requires from { letter.now.from.shard < length self.old.book.outbox }
@@ -296,7 +301,7 @@ impl Ledger {
 
     /// Writes the event that ends a process, stamped above `floor` too, and sends what the process owes, for all of
     /// which there is room.
-    pub fn close(&mut self, floor: u64, event: Event, from: Pid, estate: &Estate)
+    pub(crate) fn write_end(&mut self, floor: u64, event: Event, from: Pid, estate: &Estate)
         requires can { max self.old.book.clock floor < MAX_STAMP }
         requires room { 0 < self.old.room }
         requires from { estate.now.from ≡ from }
@@ -318,28 +323,21 @@ impl Ledger {
         }
     }
 
-    pub fn count_out(&self, to: u8) -> usize
+    pub(crate) fn count_out(&self, to: u8) -> usize
         requires { to < length self.now.book.outbox }
         ensures { result ≡ length (slice_index_or self.now.book.outbox to []) }
     {
         self.outbox[usize::from(to)].len()
     }
 
-    pub fn first_out(&self, to: u8) -> Option<Letter>
-        requires { to < length self.now.book.outbox }
-        ensures { result ≡ slice_get (slice_index_or self.now.book.outbox to []) 0 }
-    {
-        self.outbox[usize::from(to)].first()
-    }
-
-    pub fn out_at(&self, to: u8, place: usize) -> Option<Letter>
+    pub(crate) fn out_at(&self, to: u8, place: usize) -> Option<Letter>
         requires { to < length self.now.book.outbox }
         ensures { result ≡ slice_get (slice_index_or self.now.book.outbox to []) place }
     {
         self.outbox[usize::from(to)].at(place)
     }
 
-    pub fn next_out(&mut self, to: u8) -> Option<Letter>
+    pub(crate) fn next_out(&mut self, to: u8) -> Option<Letter>
         requires { to < length self.old.book.outbox }
         ensures first { result ≡ slice_get (slice_index_or self.old.book.outbox to []) 0 }
         ensures rest { self.new.book
@@ -351,34 +349,34 @@ impl Ledger {
         self.outbox[usize::from(to)].pop()
     }
 
-    pub fn held(&self) -> Option<Letter>
+    pub(crate) fn held(&self) -> Option<Letter>
         ensures { result ≡ self.now.book.hold }
     {
         self.hold
     }
 
     #[inline(always)]
-    pub fn holds(&self) -> bool
+    pub(crate) fn holds(&self) -> bool
         ensures { result ≡ is_some self.now.book.hold }
     {
         self.hold.is_some()
     }
 
-    pub fn take_hold(&mut self) -> Option<Letter>
+    pub(crate) fn take_hold(&mut self) -> Option<Letter>
         ensures held { result ≡ self.old.book.hold }
         ensures rest { self.new.book ≡ record self.old.book { hold = None } }
     {
         self.hold.take()
     }
 
-    pub fn put_hold(&mut self, letter: Letter)
+    pub(crate) fn put_hold(&mut self, letter: Letter)
         ensures { self.new.book ≡ record self.old.book { hold = Some letter } }
     {
         self.hold = Some(letter);
     }
 
     /// How many letters wait here, staying at `u64::MAX` once it is reached.
-    pub fn pending(&self) -> u64
+    pub(crate) fn pending(&self) -> u64
         ensures { result ≡ min (sum_by length self.now.book.outbox + count_held self.now.book.hold) (2 ^ 64 - 1) }
     {
         let mut count: u64 = if self.hold.is_some() { 1 } else { 0 };

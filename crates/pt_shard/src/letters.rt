@@ -9,7 +9,7 @@ use std::marker::Model;
 
 /// The letters that wait for one desk, oldest first.
 #[derive(Drop)]
-pub struct Letters {
+pub(crate) struct Letters {
     letters: VecDeque<Letter>,
 }
 
@@ -24,7 +24,7 @@ impl Model for Letters {
 }
 
 impl Letters {
-    pub fn new(alloc: Global) -> Letters
+    pub(crate) fn new(alloc: Global) -> Letters
         ensures { result.letters ≡ [] }
     {
         Letters {
@@ -33,28 +33,21 @@ impl Letters {
     }
 
     #[inline(always)]
-    pub fn len(&self) -> usize
+    pub(crate) fn len(&self) -> usize
         ensures { result ≡ length self.now.letters }
     {
         self.letters.len()
     }
 
-    #[inline(always)]
-    pub fn first(&self) -> Option<Letter>
-        ensures { result ≡ slice_get self.now.letters 0 }
-    {
-        self.letters.front().copied()
-    }
-
     /// The letter at this place, counted from the oldest.
-    pub fn at(&self, place: usize) -> Option<Letter>
+    pub(crate) fn at(&self, place: usize) -> Option<Letter>
         ensures { result ≡ slice_get self.now.letters place }
     {
         self.letters.get(place).copied()
     }
 
     #[inline(always)]
-    pub fn pop(&mut self) -> Option<Letter>
+    pub(crate) fn pop(&mut self) -> Option<Letter>
         ensures first { result ≡ slice_get self.old.letters 0 }
         ensures rest { self.new.letters ≡ drop 1 self.old.letters }
     {
@@ -63,7 +56,7 @@ impl Letters {
 
     /// Makes room for so many more letters.
     #[inline(always)]
-    pub fn reserve(&mut self, count: usize) -> Result<(), AllocError>
+    pub(crate) fn reserve(&mut self, count: usize) -> Result<(), AllocError>
         ensures same { self.new.letters ≡ self.old.letters }
         ensures room { OnOk result (count ≤ self.new.room) }
     {
@@ -75,7 +68,7 @@ impl Letters {
 
     /// Adds a letter, for which there is room.
     #[inline(always)]
-    pub fn push(&mut self, letter: Letter)
+    pub(crate) fn push(&mut self, letter: Letter)
         requires { 0 < self.old.room }
         ensures letters { self.new.letters ≡ self.old.letters ++ letter ∷ [] }
         ensures room { self.new.room + 1 ≡ self.old.room }

@@ -1,10 +1,11 @@
 //! The processes of a desk, by their slots.
 
-ghost use Rattle.std.specs.Prelude.{◌≡◌, ◌<◌, ◌≤◌, Some, None, IsSome, IfOk, IfSome, OnOk, OnErr};
+ghost use Rattle.std.specs.Prelude.{◌≡◌, ℕ, ◌<◌, ◌≤◌, Some, None, IsSome, IfOk, IfSome, OnOk, OnErr};
 ghost use Rattle.std.specs.Option.{option_copied};
 ghost use Rattle.pt_signal.specs.Process.{fresh};
 ghost use Rattle.pt_slots.specs.State.{issued, next_key};
 ghost use Rattle.pt_slots.specs.Calls.{IsEmpty, Inserted};
+ghost use Rattle.pt_slots.specs.Taken.{taken_slots};
 ghost use Rattle.pt_events.specs.History.{linked};
 ghost use Rattle.std.specs.Borrow.{sem};
 ghost use Rattle.std.specs.Option.{option_copied_mut};
@@ -19,7 +20,7 @@ use std::marker::Model;
 
 /// The processes that live on a desk.
 #[derive(Drop)]
-pub struct Processes {
+pub(crate) struct Processes {
     desk: u8,
     table: Slots<Process>,
 }
@@ -46,7 +47,7 @@ fn key_of(p: Pid) -> Key
 impl Processes {
     ghost use Rattle.pt_shard.specs.Lending.{LendsProcess};
 
-    pub fn new(
+    pub(crate) fn new(
         alloc: Global,
         desk: u8,
         slots: u32,
@@ -63,22 +64,37 @@ impl Processes {
     }
 
     /// The number of the desk.
-    pub fn desk(&self) -> u8
+    pub(crate) fn desk(&self) -> u8
         ensures { result ≡ self.now.desk }
     {
         self.desk
     }
 
+    /// How many slots the desk has. No other slot has had a process.
+    pub fn slots(&self) -> u32
+        ensures slots { result ≡ self.now.table.capacity }
+        ensures beyond { (slot : ℕ) → self.now.table.capacity ≤ slot → issued self.now.table slot ≡ 0 }
+    {
+        self.table.capacity()
+    }
+
+    /// How many processes live here.
+    pub(crate) fn len(&self) -> u32
+        ensures { result ≡ taken_slots self.now.table }
+    {
+        self.table.len()
+    }
+
     /// The latest version of a slot.
     #[inline(always)]
-    pub fn issued(&self, slot: u32) -> u32
+    pub(crate) fn issued(&self, slot: u32) -> u32
         ensures { result ≡ issued self.now.table slot }
     {
         self.table.issued(slot)
     }
 
     /// The process, if it lives here.
-    pub fn find(&self, p: Pid) -> Option<&Process>
+    pub(crate) fn find(&self, p: Pid) -> Option<&Process>
         ensures { seen (option_copied result) ≡ process_at self.now.desk self.now.table p }
     {
         if p.shard != self.desk {
@@ -88,7 +104,7 @@ impl Processes {
     }
 
     /// The process, to be changed, if it lives here.
-    pub fn find_mut(&mut self, p: Pid) -> Option<&mut Process>
+    pub(crate) fn find_mut(&mut self, p: Pid) -> Option<&mut Process>
         ensures* writes_back { sem 𝓛 (LendsProcess self.entry p result) }
         ensures value { option_copied_mut result ≡ living_at self.old.desk self.old.table p }
     {
@@ -102,7 +118,7 @@ impl Processes {
     }
 
     /// The pid that the next birth has, or `None` where no slot is free.
-    pub fn vacant(&self) -> Option<Pid>
+    pub(crate) fn vacant(&self) -> Option<Pid>
         ensures { result ≡ vacant_at self.now.desk self.now.table }
     {
         let key = self.table.next()?;
@@ -114,7 +130,7 @@ impl Processes {
     }
 
     /// Takes a new process in, under the pid that is vacant.
-    pub fn admit(&mut self, process: Process) -> Result<(), AllocError>
+    pub(crate) fn admit(&mut self, process: Process) -> Result<(), AllocError>
         requires { IsSome (next_key self.old.table) }
         ensures desk { self.new.desk ≡ self.old.desk }
         ensures ok { OnOk result
@@ -129,7 +145,7 @@ impl Processes {
     }
 
     /// The half of the link with its child, if there is one, that a parent keeps, which lives here.
-    pub fn link_parent(&mut self, parent: Pid, child: Pid, link: Option<LinkId>)
+    pub(crate) fn link_parent(&mut self, parent: Pid, child: Pid, link: Option<LinkId>)
         requires lives { IsSome (in_place self.old.table parent) }
         requires room { HasRoomFor link parent self.old.table }
         ensures desk { self.new.desk ≡ self.old.desk }
@@ -147,7 +163,7 @@ impl Processes {
     }
 
     /// Takes a process out that lives here and ends with this reason, and gives what it owes.
-    pub fn end(&mut self, p: Pid, reason: Reason) -> Estate
+    pub(crate) fn end(&mut self, p: Pid, reason: Reason) -> Estate
         requires { IsSome (in_place self.old.table p) }
         ensures desk { self.new.desk ≡ self.old.desk }
         ensures ends { Ends p reason result self.old.table self.new.table }
@@ -160,7 +176,7 @@ impl Processes {
 }
 
 /// A new process, which is linked with its parent where there is a link.
-pub fn new_process(
+pub(crate) fn new_process(
     alloc: Global,
     me: Pid,
     parent: Pid,

@@ -1,16 +1,19 @@
 //! A desk without its lanes.
 
 ghost use Rattle.std.specs.Prelude.{◌≡◌, true, ◌<◌, ◌≤◌, ◌^◌, ◌-◌, min, max, drop, length, slice_get, Some, None};
-ghost use Rattle.std.specs.Prelude.{IfSome, IsSome, IfOk, OnOk, cond, is_some};
+ghost use Rattle.std.specs.Prelude.{IfSome, IsSome, IfOk, OnOk, cond, false, is_some, option_to_list, ◌==◌, ◌++◌};
 ghost use Rattle.std.specs.Option.{option_copied};
 ghost use Rattle.pt_signal.specs.declared.signal.Signal.{Signal};
 ghost use Rattle.pt_events.specs.declared.event.Event.{Event};
 ghost use Rattle.pt_carrier.specs.declared.ends.TheConstants.{MAX_DESKS};
 ghost use Rattle.pt_shard.specs.ShardState.{phase_of, lives, state_in, box, Handles};
 ghost use Rattle.pt_shard.specs.Restart.{restarted};
+ghost use Rattle.pt_shard.specs.InTurn.{IsInTurn};
+ghost use Rattle.pt_events.specs.History.{is_unborn};
 ghost use Rattle.pt_events.specs.Leaving.{outcome};
 ghost use Rattle.pt_signal.specs.declared.pid.Pid.{Pid};
 ghost use Rattle.pt_shard.specs.Opening.{IsInRange, fresh};
+ghost use Rattle.pt_shard.specs.Living.{living_in, living_count, living_pids};
 ghost use Rattle.pt_shard.specs.Known.{knows};
 ghost use Rattle.pt_shard.specs.Reading.{read_of};
 ghost use Rattle.pt_shard.specs.Extends.{Extends};
@@ -149,6 +152,57 @@ impl Shard {
         self.processes.find(p).is_some()
     }
 
+    /// The process that lives in that slot, or `None` where nobody does. So a program goes over all who live here, by
+    /// the slots below `Config::slots`.
+    pub fn lives_in(&self, slot: u32) -> Option<Pid>
+        ensures is { result ≡ living_in self.now slot }
+        ensures only { (p : Pid) → lives self.now p ≡ true → p.slot ≡ slot → result ≡ Some p }
+    {
+        let p = Pid {
+            shard: self.processes.desk(),
+            slot,
+            version: self.processes.issued(slot),
+        };
+        if self.alive_here(p) { Some(p) } else { None }
+    }
+
+    /// The processes that live here, by slot: Erlang's `processes/0` of this desk. It looks into each slot. Refused
+    /// only where there is no memory for the list.
+    pub fn pids(&self, alloc: Global) -> Result<Vec<Pid>, AllocError>
+        ensures { IfOk result (λ v. v.items ≡ living_pids self.now) }
+    {
+        let mut pids = Vec::new(alloc);
+        for slot in 0..self.config().slots {
+            self.list_slot(slot, &mut pids)?;
+        }
+        Ok(pids)
+    }
+
+    /// Lists who lives in that slot, if anybody does.
+    fn list_slot(&self, slot: u32, pids: &mut Vec<Pid>) -> Result<(), AllocError>
+        ensures { OnOk result (pids.new.items ≡ pids.old.items ++ option_to_list (living_in self.now slot)) }
+    {
+        let Some(p) = self.lives_in(slot) else {
+            return Ok(());
+        };
+        pids.push(p)?;
+        Ok(())
+    }
+
+    /// How many processes live here.
+    pub fn len(&self) -> u32
+        ensures { result ≡ living_count self.now }
+    {
+        self.processes.len()
+    }
+
+    /// Whether no process lives here.
+    pub fn is_empty(&self) -> bool
+        ensures { result ≡ (living_count self.now == 0) }
+    {
+        self.len() == 0
+    }
+
     /// The items that wait in the mailbox of p, oldest first, or `None` where it does not live here.
     pub fn waiting(&self, p: Pid) -> Option<&[Item]>
         ensures { option_copied result ≡ cond (lives self.now p) (Some (state_in self.now p).waiting) None }
@@ -217,6 +271,15 @@ impl Shard {
         ensures { result ≡ self.now.vacant }
     {
         self.processes.vacant()
+    }
+
+    /// What holds of whoever was born here: it is of a slot of the desk and has a version, and those before it in its
+    /// slot have ended. It does nothing.
+    pub fn versions(&self)
+        ensures { (p : Pid) → is_unborn (phase_of self.now p) ≡ false → IsInTurn self.now p }
+    {
+        // read for the proof alone: it says that no slot beyond those of the desk has had a process
+        let _ = self.processes.slots();
     }
 
     /// Writes that a process sends a message, and puts its letter out.
@@ -398,7 +461,7 @@ impl Shard {
         };
         self.ledger.prepare_end(0, process)?;
         let estate = self.processes.end(p, reason);
-        self.ledger.close(0, Event::Left(p, reason), p, &estate);
+        self.ledger.write_end(0, Event::Left(p, reason), p, &estate);
         Ok(())
     }
 
@@ -498,14 +561,6 @@ impl Shard {
         self.ledger.count_out(to)
     }
 
-    /// The oldest letter that waits to be posted to desk `to`.
-    pub fn first_out(&self, to: u8) -> Option<Letter>
-        requires { to < self.now.config.desks }
-        ensures { result ≡ slice_get (box self.now to) 0 }
-    {
-        self.ledger.first_out(to)
-    }
-
     /// The letter at this place among those that wait to be posted to desk `to`, counted from the oldest.
     pub fn out_at(&self, to: u8, place: usize) -> Option<Letter>
         requires { to < self.now.config.desks }
@@ -586,8 +641,8 @@ fn tell(ledger: &mut Ledger, from: Pid, to: Pid, signal: Signal) -> Result<(), F
     requires { to.shard < length ledger.old.book.outbox }
     ensures { Tells (Event.Said from to signal) tt ledger.old result ledger.new }
 {
-    ledger.prepare_letter(0, to)?;
-    ledger.say(from, to, signal);
+    ledger.prepare_said(0, to)?;
+    ledger.write_said(from, to, signal);
     Ok(())
 }
 
@@ -597,9 +652,9 @@ fn ask(ledger: &mut Ledger, p: Pid, t: Pid) -> Result<Ref, Fault>
     ensures { Tells (Event.Said p t (Signal.AliveAsk (ref_after ledger.old.book)))
         (ref_after ledger.old.book) ledger.old result ledger.new }
 {
-    ledger.prepare_letter(0, t)?;
+    ledger.prepare_said(0, t)?;
     let question = ledger.next_ref();
-    ledger.say(p, t, Signal::AliveAsk(question));
+    ledger.write_said(p, t, Signal::AliveAsk(question));
     Ok(question)
 }
 
@@ -623,10 +678,10 @@ fn keep_link(process: &mut Process, ledger: &mut Ledger, p: Pid, to: Pid) -> Res
     if p == to || process.linked(to).is_some() {
         return Ok(());
     }
-    ledger.prepare_letter(0, to)?;
+    ledger.prepare_said(0, to)?;
     let id = ledger.next_link();
     process.add_link(to, id)?;
-    ledger.say(p, to, Signal::Link(id));
+    ledger.write_said(p, to, Signal::Link(id));
     Ok(())
 }
 
@@ -638,9 +693,9 @@ fn drop_link(process: &mut Process, ledger: &mut Ledger, p: Pid, to: Pid) -> Res
     let Some(ids) = process.linked(to) else {
         return Ok(());
     };
-    ledger.prepare_letter(0, to)?;
+    ledger.prepare_said(0, to)?;
     process.cut_link(to);
-    ledger.say(p, to, Signal::Unlink(ids));
+    ledger.write_said(p, to, Signal::Unlink(ids));
     Ok(())
 }
 
@@ -651,10 +706,10 @@ fn open_monitor(process: &mut Process, ledger: &mut Ledger, w: Pid, t: Pid) -> R
     ensures { Acts (Some (Event.Said w t (Signal.Monitor (ref_after ledger.old.book))))
         (ref_after ledger.old.book) process.old ledger.old result process.new ledger.new }
 {
-    ledger.prepare_letter(0, t)?;
+    ledger.prepare_said(0, t)?;
     let monitor = ledger.next_ref();
     process.add_monitor(monitor, t)?;
-    ledger.say(w, t, Signal::Monitor(monitor));
+    ledger.write_said(w, t, Signal::Monitor(monitor));
     Ok(monitor)
 }
 
@@ -679,9 +734,9 @@ fn close_monitor(
         let taken = take(process, ledger, w, Pick::DownOf(monitor))?;
         return Ok(taken.is_some());
     };
-    ledger.prepare_letter(0, t)?;
+    ledger.prepare_said(0, t)?;
     process.cut_monitor(monitor);
-    ledger.say(w, t, Signal::Demonitor(monitor));
+    ledger.write_said(w, t, Signal::Demonitor(monitor));
     Ok(true)
 }
 
@@ -764,8 +819,8 @@ fn give_back(ledger: &mut Ledger, letter: &Letter, back: Option<Signal>) -> Resu
     requires { letter.now.from.shard < length ledger.old.book.outbox }
     ensures { GivesBack letter.now back ledger.old result ledger.new }
 {
-    ledger.prepare_back(letter.stamp, back, letter.from)?;
-    ledger.receive(letter, back);
+    ledger.prepare_came(letter.stamp, back, letter.from)?;
+    ledger.write_came(letter, back);
     Ok(())
 }
 
@@ -792,5 +847,5 @@ fn end_by(processes: &mut Processes, ledger: &mut Ledger, letter: &Letter, reaso
 {
     let estate = processes.end(letter.to, reason);
     let event = Event::Came(letter.from, letter.to, letter.signal);
-    ledger.close(letter.stamp, event, letter.to, &estate);
+    ledger.write_end(letter.stamp, event, letter.to, &estate);
 }

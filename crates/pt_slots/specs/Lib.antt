@@ -1,6 +1,7 @@
 pub mod State
 pub mod Calls
 pub mod Offers
+pub mod Taken
 pub mod Keys
 pub mod Lends
 pub mod Sound

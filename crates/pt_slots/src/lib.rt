@@ -50,6 +50,7 @@ ghost use Rattle.std.specs.Borrow.{Lends, sem};
 ghost use Rattle.std.specs.Option.Follows.{option_follows_value};
 ghost use Rattle.pt_slots.specs.State.{at, issued, live_count, retired_count, first_free, free_slot, next_key};
 ghost use Rattle.pt_slots.specs.State.{with_value};
+ghost use Rattle.pt_slots.specs.Taken.{taken_slots};
 ghost use Rattle.pt_slots.specs.Offers.{OffersTheFree};
 ghost use Rattle.pt_slots.specs.Calls.{IsEmpty, Inserts, Removes, Written};
 ghost use Rattle.pt_slots.specs.Grows.{Grows};
@@ -211,7 +212,8 @@ impl<T> Slots<T> {
 
     /// How many values are live.
     pub fn len(&self) -> u32
-        ensures { result ≡ live_count self.now }
+        ensures count { result ≡ live_count self.now }
+        ensures slots { result ≡ taken_slots self.now }
     {
         self.entries.len() as u32 - self.retired
     }
@@ -222,6 +224,14 @@ impl<T> Slots<T> {
         ensures { result ≡ retired_count self.now }
     {
         self.retired
+    }
+
+    /// How many slots there are. No other slot has issued a version.
+    pub fn capacity(&self) -> u32
+        ensures capacity { result ≡ self.now.capacity }
+        ensures beyond { (slot : ℕ) → self.now.capacity ≤ slot → issued self.now slot ≡ 0 }
+    {
+        self.capacity
     }
 
     /// The latest version that a slot has issued, or 0 where it has issued none. It never falls.

@@ -3,11 +3,15 @@ use Rattle.std.specs.Arc.{arc_value}
 use Rattle.std.proofs.lemmas.Simd.{map-map}
 use Rattle.pt_carrier.specs.Node.{places, kept, IsNode, AreLeft, lists}
 use Rattle.pt_gathered.specs.Gathered.{GatheredState}
+use Rattle.pt_gathered.specs.Tables.{AreTables}
 use Rattle.pt_desk.specs.DeskState.{DeskState}
 use Rattle.pt_node.specs.Desks.{AreDesksOf, AreAccounted, AreWhole, all_ends, all_shards}
 use Rattle.pt_node.specs.Gathering.{ReadsAreTrue}
-use Rattle.pt_node.specs.Seating.{AreSeated, AreOf, AreAudited}
+use Rattle.pt_node.specs.Pasts.{GathersPast}
+use Rattle.pt_node.specs.Seating.{AreSeated, AreOf, AreAudited, all_seats}
+use Rattle.pt_node.proofs.Pasts.{gathers_past}
 use Rattle.pt_node.proofs.SeatsOf.{whole_seated, of_one}
+use Rattle.pt_node.proofs.Tables.{are_tables}
 use Rattle.pt_node.proofs.Together.{gathered_whole, reads_true, same_journals}
 use Rattle.pt_node.proofs.Wholes.{whole_accounted, accounted_kept, desks_kept}
 use Rattle.pt_node.proofs.gathering.gather.Goals as goal
@@ -23,8 +27,14 @@ audit_all-requires-clause-one c =
     let node = c.requires.1 in
     (node.directory.name, subst (AreOf node.directory.name) (sym c.take_apart.ensures.seats) (of_one node.directory.name desks (λ d x h. ap (λ z. z.name) (node.directories d x h))))
 
-pub of-gathered-requires : goal.of-gathered-requires
-of-gathered-requires c =
+pub of-gathered-requires-clause-tables : goal.of-gathered-requires-clause-tables
+of-gathered-requires-clause-tables c =
+    let desks = c.args.desks.items in
+    subst (λ s. AreTables s c.take_apart.new.tables.items) (sym c.take_apart.ensures.shards)
+    (subst (AreTables (all_shards desks)) (sym c.take_apart.ensures.tables) (are_tables desks (subst AreWhole c.as_slice.ensures.value c.look.ensures)))
+
+pub of-gathered-requires-clause-gathered : goal.of-gathered-requires-clause-gathered
+of-gathered-requires-clause-gathered c =
     let desks = c.args.desks.items in
     let node = c.requires.1 in
     let r = c.index.result.now in
@@ -47,8 +57,9 @@ make_whole-requires-clause-accounted c =
 pub make_whole-requires-clause-seated : goal.make_whole-requires-clause-seated
 make_whole-requires-clause-seated c =
     let desks = c.args.desks.items in
-    subst (λ s. AreSeated s (map (λ p. (arc_value p.0, p.1)) c.take_apart.new.seats.items)) (sym c.take_apart.ensures.shards)
-    (subst (AreSeated (all_shards desks)) (sym c.take_apart.ensures.seats) (whole_seated desks (subst AreWhole c.as_slice.ensures.value c.look.ensures)))
+    subst (λ s. AreSeated s (map (λ p. (arc_value p.0, p.1)) c.take_apart.new.seats.items) c.take_apart.new.tables.items) (sym c.take_apart.ensures.shards)
+    (subst (λ z. AreSeated (all_shards desks) z c.take_apart.new.tables.items) (sym c.take_apart.ensures.seats)
+    (subst (AreSeated (all_shards desks) (all_seats desks)) (sym c.take_apart.ensures.tables) (whole_seated desks (subst AreWhole c.as_slice.ensures.value c.look.ensures))))
 
 pub returns-in-Ok-reunite-clause-journals : goal.returns-in-Ok-reunite-clause-journals
 returns-in-Ok-reunite-clause-journals c =
@@ -68,8 +79,20 @@ returns-in-Ok-reunite-clause-reads c =
     (record { node = subst (λ k. AreDesksOf k desks) (sym config_is) node; shards = c.take_apart.ensures.shards; left = left })
     (subst AreAudited c.take_apart.ensures.seats c.audit_all.ensures))
 
+pub returns-in-Ok-reunite-clause-past : goal.returns-in-Ok-reunite-clause-past
+returns-in-Ok-reunite-clause-past c =
+    let desks = c.args.desks.items in
+    let node = c.requires.1 in
+    let r = c.index.result.now in
+    let config_is : c.config-config.result ≡ c.requires.0 = c.config-config.ensures ∙ ap (λ (d : DeskState). d.shard.config) c.index.ensures ∙ node.configs 0 r node.some in
+    let left : AreLeft (all_ends desks) c.fill.new.lanes.items
+    = subst (AreLeft (all_ends desks)) (sym c.fill.ensures) (subst (λ p. AreLeft p (lists c.in-Ok-reunite.left.lanes.items)) c.take_apart.ensures.pairs c.in-Ok-reunite.ensures.ok) in
+    subst (GathersPast desks) (sym c.of-gathered.ensures)
+    (gathers_past desks (record { config = c.config-config.result; shards = c.take_apart.new.shards.items; lanes = c.fill.new.lanes.items })
+    (record { node = subst (λ k. AreDesksOf k desks) (sym config_is) node; shards = c.take_apart.ensures.shards; left = left }))
+
 pub returns-in-Err-clause-back : goal.returns-in-Err-clause-back
 returns-in-Err-clause-back c =
     let desks = c.args.desks.items in
-    desks_kept c.make_whole.new.desks.items desks (c.make_whole.ensures.shards ∙ c.take_apart.ensures.shards) (c.make_whole.ensures.seats ∙ c.take_apart.ensures.seats)
+    desks_kept c.make_whole.new.desks.items desks (c.make_whole.ensures.shards ∙ c.take_apart.ensures.shards) (c.make_whole.ensures.seats ∙ c.take_apart.ensures.seats) (c.make_whole.ensures.tables ∙ c.take_apart.ensures.tables)
     (ap (map kept) (c.make_whole.ensures.pairs ∙ c.into_ends.ensures) ∙ c.in-Err.ensures.back ∙ ap (map kept) c.take_apart.ensures.pairs)

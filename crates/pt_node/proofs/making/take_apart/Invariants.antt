@@ -2,7 +2,7 @@ use Rattle.std.proofs.Common.{◌≡◌, ◌+◌, ◌≤◌, ◌++◌, map, reve
 use Rattle.std.specs.Arc.{arc_value}
 use Rattle.std.specs.Vec.{vec_capacity}
 use Rattle.pt_node.specs.Desks.{all_ends, all_shards}
-use Rattle.pt_node.specs.Seating.{all_seats}
+use Rattle.pt_node.specs.Seating.{all_seats, all_tables}
 use Rattle.pt_node.proofs.making.take_apart.Given as goal
 
 abbrev pub invariant-loop-desk : goal.invariant-loop-desk
@@ -13,6 +13,8 @@ invariant-loop-desk l = record {
   pair_room : vec_len l.pairs + vec_len l.desks ≤ vec_capacity l.pairs;
   seats : map (λ p. (arc_value p.0, p.1)) l.seats.items ++ all_seats (reverse l.desks.items) ≡ all_seats l.fn.desks.items;
   seat_room : vec_len l.seats + vec_len l.desks ≤ vec_capacity l.seats;
+  tables : l.tables.items ++ all_tables (reverse l.desks.items) ≡ all_tables l.fn.desks.items;
+  table_room : vec_len l.tables + vec_len l.desks ≤ vec_capacity l.tables;
   shard_room : vec_len l.shards + vec_len l.desks ≤ vec_capacity l.shards;
 }
 

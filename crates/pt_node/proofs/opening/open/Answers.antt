@@ -12,7 +12,8 @@ make_whole-requires-clause-accounted c =
 
 pub make_whole-requires-clause-seated : goal.make_whole-requires-clause-seated
 make_whole-requires-clause-seated c =
-    fresh_seated c.args.config (map (λ p. (arc_value p.0, p.1)) c.in-Ok-fresh_seats.seats.items) c.in-Ok-fresh_seats.ensures c.in-Ok.shards.items c.in-Ok.ensures
+    fresh_seated c.args.config (map (λ p. (arc_value p.0, p.1)) c.in-Ok-fresh_seats.seats.items) c.in-Ok-fresh_seats.ensures c.in-Ok.shards.items c.in-Ok-fresh_tables.tables.items c.in-Ok.ensures
+    c.in-Ok-fresh_tables.ensures
 
 pub returns : goal.returns
 returns c =

@@ -4,7 +4,7 @@ use Rattle.pt_shard.specs.declared.config.Config.{Config}
 use Rattle.pt_desk.specs.DeskState.{DeskState}
 use Rattle.pt_node.specs.Stillness.{both_rested}
 use Rattle.pt_node.proofs.Calling.{called_desks}
-use Rattle.pt_node.proofs.Resting.{turn_more}
+use Rattle.pt_node.proofs.TurnsOf.{turn_more}
 use Rattle.pt_node.proofs.stillness.turn_each.Goals as goal
 
 pub loop-d-preserved : goal.loop-d-preserved

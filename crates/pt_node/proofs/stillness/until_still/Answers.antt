@@ -7,7 +7,7 @@ use Rattle.pt_node.specs.Stillness.{RunsRounds, TurnEach}
 use Rattle.pt_node.specs.declared.stillness.Rested.{Rested}
 use Rattle.pt_node.proofs.StillDesks.{kept_desks}
 use Rattle.pt_node.proofs.Meeting.{kept_count}
-use Rattle.pt_node.proofs.Resting.{next_none}
+use Rattle.pt_node.proofs.TurnsOf.{next_none}
 use Rattle.pt_node.proofs.Laned.{first_looked, met_lanes, still_lanes, were_looked}
 use Rattle.pt_node.proofs.AtRest.{look_again, no_look_again, none_stopped, quiet_round, room_falls, rounds_more, second_quiet}
 use Rattle.pt_node.proofs.stillness.until_still.Goals as goal

@@ -1,10 +1,10 @@
 use Rattle.pt_shard.proofs.shard.end_by.Goals as goal
 
-pub close-requires-clause-from : goal.close-requires-clause-from
-close-requires-clause-from c = (c.requires.owes c.end-estate.new.self c.end-estate.result c.end-estate.ensures.desk c.end-estate.ensures.ends).0
+pub write_end-requires-clause-from : goal.write_end-requires-clause-from
+write_end-requires-clause-from c = (c.requires.owes c.end-estate.new.self c.end-estate.result c.end-estate.ensures.desk c.end-estate.ensures.ends).0
 
-pub close-requires-clause-to : goal.close-requires-clause-to
-close-requires-clause-to c = (c.requires.owes c.end-estate.new.self c.end-estate.result c.end-estate.ensures.desk c.end-estate.ensures.ends).1
+pub write_end-requires-clause-to : goal.write_end-requires-clause-to
+write_end-requires-clause-to c = (c.requires.owes c.end-estate.new.self c.end-estate.result c.end-estate.ensures.desk c.end-estate.ensures.ends).1
 
-pub close-requires-clause-letters : goal.close-requires-clause-letters
-close-requires-clause-letters c = (c.requires.owes c.end-estate.new.self c.end-estate.result c.end-estate.ensures.desk c.end-estate.ensures.ends).2
+pub write_end-requires-clause-letters : goal.write_end-requires-clause-letters
+write_end-requires-clause-letters c = (c.requires.owes c.end-estate.new.self c.end-estate.result c.end-estate.ensures.desk c.end-estate.ensures.ends).2

@@ -1,23 +1,60 @@
-use Rattle.std.proofs.Common.{arith, ◌≡◌, ◌-◌, ◌<◌, ◌≤◌, ◌==◌, ℕ, List, cond, set, get_or, length, subst}
+use Rattle.std.proofs.Common.{◌≡◌, ◌∙◌, ◌==◌, ℕ, Some, cond, List, Result, Ok, Err, ap, sym, subst, arith, inl, inr, vec_capacity}
+use Rattle.std.specs.Prelude.{IfSome, OnOk}
 use Rattle.std.specs.Option.{option_map}
 use Rattle.pt_accounts.specs.LifeState.{LifeState}
 use Rattle.pt_accounts.specs.Table.{of_version}
-use Rattle.pt_accounts.specs.Steps.{shown}
-use Rattle.pt_accounts.proofs.Places.{seen_version, unseen_version}
+use Rattle.pt_accounts.specs.SlotState.{lives_of}
+use Rattle.pt_accounts.specs.Steps.{shown, MaySee}
+use Rattle.pt_accounts.proofs.SlotLives.{seen_newest, unseen, kept_slot, newest_at}
 use Rattle.pt_accounts.proofs.slot.Slot.see.Goals as goal
 
-seen : (xs now : List LifeState) (n : ℕ) (f : LifeState → LifeState) (x y : LifeState) → xs ≡ now → (n ≡ 0 → ⊥) → n - 1 < length xs → x ≡ get_or xs (n - 1) x → y ≡ f x
-    → (v : ℕ) → of_version (set xs (n - 1) y) v ≡ cond (n == v) (option_map f (of_version now v)) (of_version now v)
-seen xs now n f x y e = subst (λ z. (n ≡ 0 → ⊥) → n - 1 < length xs → x ≡ get_or xs (n - 1) x → y ≡ f x → (v : ℕ) → of_version (set xs (n - 1) y) v ≡ cond (n == v) (option_map f (of_version z v)) (of_version z v)) e (seen_version xs n f x y)
+-- where the slot is read by its parts
+moved : (parts now : List LifeState) (new : List LifeState) (w : ℕ) (f : LifeState → LifeState) → parts ≡ now
+    → ((v : ℕ) → of_version new v ≡ cond (w == v) (option_map f (of_version parts v)) (of_version parts v)) → (v : ℕ) → of_version new v ≡ cond (w == v) (option_map f (of_version now v)) (of_version now v)
+moved parts now new w f e = subst (λ z. (v : ℕ) → of_version new v ≡ cond (w == v) (option_map f (of_version z v)) (of_version z v)) e
 
-unseen : (xs now : List LifeState) (n : ℕ) (f : LifeState → LifeState) → xs ≡ now → (n ≡ 0 → ⊥) → length xs ≤ n - 1
-    → (v : ℕ) → of_version now v ≡ cond (n == v) (option_map f (of_version now v)) (of_version now v)
-unseen xs now n f e = subst (λ z. (n ≡ 0 → ⊥) → length xs ≤ n - 1 → (v : ℕ) → of_version z v ≡ cond (n == v) (option_map f (of_version z v)) (of_version z v)) e (unseen_version xs n f)
+pub returns-in_default-clause-versions : goal.returns-in_default-clause-versions
+returns-in_default-clause-versions c =
+    let s = c.self.inside in
+    let parts : List LifeState = lives_of s.desk s.slot s.forgotten.items s.ended.items s.newest in
+    moved parts c.args.self.now parts c.args.version (shown c.args.event) c.self.view_is
+    (unseen s.desk s.slot (vec_capacity s.forgotten) s.forgotten.items s.ended.items s.newest c.self.invariant c.args.version c.args.event (inl c.in_default.is) (subst (λ l. IfSome (of_version l c.args.version) (MaySee c.args.event)) (sym c.self.view_is) c.requires))
 
-pub returns-in_ok-see-clause-versions : goal.returns-in_ok-see-clause-versions
-returns-in_ok-see-clause-versions c =
-    seen c.self.inside.lives.items c.args.self.now c.args.version (shown c.args.event) c.index_mut.result.now c.see.new.self c.self.view_is c.if-version-eq0.false (omega arith) c.index_mut.ensures.value c.in_ok-see.ensures
+pub returns-then-version-before-clause-versions : goal.returns-then-version-before-clause-versions
+returns-then-version-before-clause-versions c =
+    let s = c.self.inside in
+    let parts : List LifeState = lives_of s.desk s.slot s.forgotten.items s.ended.items s.newest in
+    let a = s.forgotten.ok.0 in
+    let b = s.ended.ok.0 in
+    subst (λ o. (v : ℕ) → of_version (lives_of s.desk s.slot s.forgotten.items s.ended.items o) v ≡ cond (c.args.version == v) (option_map (shown c.args.event) (of_version c.args.self.now v)) (of_version c.args.self.now v)) c.in-Some.is
+    (moved parts c.args.self.now parts c.args.version (shown c.args.event) c.self.view_is
+    (unseen s.desk s.slot (vec_capacity s.forgotten) s.forgotten.items s.ended.items s.newest c.self.invariant c.args.version c.args.event (inr (λ e. c.if-version-before.true (omega arith))) (subst (λ l. IfSome (of_version l c.args.version) (MaySee c.args.event)) (sym c.self.view_is) c.requires)))
 
-pub returns-else-place-len-clause-versions : goal.returns-else-place-len-clause-versions
-returns-else-place-len-clause-versions c =
-    unseen c.self.inside.lives.items c.args.self.now c.args.version (shown c.args.event) c.self.view_is c.if-version-eq0.false (omega arith)
+pub see-requires : goal.see-requires
+see-requires c =
+    let s = c.self.inside in
+    let a = s.forgotten.ok.0 in
+    let b = s.ended.ok.0 in
+    let k = newest_at s.desk s.slot (vec_capacity s.forgotten) s.forgotten.items s.ended.items s.newest c.self.invariant c.args.version c.in-Some.life c.in-Some.is (omega arith) in
+    let m : IfSome (Some c.in-Some.life) (MaySee c.args.event) = subst (λ o. IfSome o (MaySee c.args.event)) (sym (ap (λ l. of_version l c.args.version) c.self.view_is) ∙ k) c.requires in
+    m
+
+pub invariant_of-self-2 : goal.invariant_of-self-2
+invariant_of-self-2 c =
+    let s = c.self.inside in
+    kept_slot s.desk s.slot (vec_capacity s.forgotten) s.forgotten.items s.ended.items s.newest c.self.invariant c.in-Some.life c.see.new.self c.in-Some.is c.see.ensures.pid
+
+on_ok : {T E : Type 0} (P Q : Type 0) (r : Result T E) → (P → Q) → OnOk r P → OnOk r Q
+on_ok P Q (Ok x) f h = f h
+on_ok P Q (Err e) f h = h
+
+pub returns-clause-versions : goal.returns-clause-versions
+returns-clause-versions c =
+    let s = c.self.inside in
+    let parts : List LifeState = lives_of s.desk s.slot s.forgotten.items s.ended.items s.newest in
+    let a = s.forgotten.ok.0 in
+    let b = s.ended.ok.0 in
+    on_ok _ _ c.see.result
+    (λ (e : c.see.new.self ≡ shown c.args.event c.in-Some.life).
+    moved parts c.args.self.now (lives_of s.desk s.slot s.forgotten.items s.ended.items (Some c.see.new.self)) c.args.version (shown c.args.event) c.self.view_is
+    (seen_newest s.desk s.slot (vec_capacity s.forgotten) s.forgotten.items s.ended.items s.newest c.self.invariant c.args.version (shown c.args.event) c.in-Some.life c.see.new.self c.in-Some.is (omega arith) e)) c.see.ensures.shown

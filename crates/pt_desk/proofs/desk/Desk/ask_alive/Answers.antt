@@ -11,5 +11,5 @@ pub invariant_of-self : goal.invariant_of-self
 invariant_of-self c =
     let s = c.self.inside.shard in
     let does = c.ask_alive.ensures.does in
-    step_whole s c.ask_alive.new.self c.self.inside.outs c.self.inside.ins (sight_of (arc_value c.self.inside.directory) c.self.inside.seat) c.self.inside.seat
+    step_whole s c.ask_alive.new.self c.self.inside.outs c.self.inside.ins (sight_of (arc_value c.self.inside.directory) c.self.inside.seat c.self.inside.before) c.self.inside.seat
     (calls_step c.args.p (Some (Said c.args.p c.args.t (AliveAsk (new_ref s)))) (new_ref s) s c.ask_alive.result c.ask_alive.new.self (own_said _ _ _) does) c.self.invariant c.ask_alive.ensures.fit

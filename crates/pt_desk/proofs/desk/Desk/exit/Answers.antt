@@ -17,7 +17,7 @@ tell_end-requires c =
     let local = subst (λ (z : ShardState). IsLocal z.start z.config.start z.config.top_version z.number z.journal) told.does.3 told.fit.local in
     let now = ap (λ (z : ShardState). z.clock) told.does.3 in
     subst (λ directory. CanTell directory i.seat c.exit.new.self.clock c.args.p) (sym c.deref.ensures)
-    (may_tell i.shard i.outs i.ins (arc_value i.directory) i.seat c.self.invariant c.args.p told.does.0 local.0.home c.exit.new.self.clock (omega (arith, now)))
+    (may_tell i.shard i.outs i.ins (arc_value i.directory) i.seat i.before c.self.invariant c.args.p told.does.0 local.0.home c.exit.new.self.clock (omega (arith, now)))
 
 pub invariant_of-self-2 : goal.invariant_of-self-2
 invariant_of-self-2 c =
@@ -28,7 +28,7 @@ invariant_of-self-2 c =
     let n = s.clock + 1 in
     let is = told.does.3 in
     let stamp : c.exit.new.self.clock ≡ n = ap (λ (z : ShardState). z.clock) is in
-    let seats = sits s i.outs i.ins (arc_value i.directory) i.seat c.self.invariant n left c.exit.new.self
+    let seats = sits s i.outs i.ins (arc_value i.directory) i.seat i.before c.self.invariant n left c.exit.new.self
     (record {
       start = ap (λ (z : ShardState). z.start) is;
       number = ap (λ (z : ShardState). z.number) is;

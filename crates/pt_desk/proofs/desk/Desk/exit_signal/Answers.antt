@@ -10,5 +10,5 @@ pub invariant_of-self : goal.invariant_of-self
 invariant_of-self c =
     let s = c.self.inside.shard in
     let does = c.exit_signal.ensures.does in
-    step_whole s c.exit_signal.new.self c.self.inside.outs c.self.inside.ins (sight_of (arc_value c.self.inside.directory) c.self.inside.seat) c.self.inside.seat
+    step_whole s c.exit_signal.new.self c.self.inside.outs c.self.inside.ins (sight_of (arc_value c.self.inside.directory) c.self.inside.seat c.self.inside.before) c.self.inside.seat
     (calls_step c.args.from (Some (Said c.args.from c.args.to (Signal.Exit c.args.reason))) tt s c.exit_signal.result c.exit_signal.new.self (own_said _ _ _) does) c.self.invariant c.exit_signal.ensures.fit

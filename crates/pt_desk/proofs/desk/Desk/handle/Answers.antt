@@ -50,13 +50,13 @@ tell_ended-requires c =
     let does = front_handled c.in-Some.from c.next_from.new.self c.pass.new.self l i.shard c.handle_front.new.shard (Ok c.in-Ok.ended) c.in-Ok.ensures.does passes.collects.1 in
     let now = ap (λ (z : ShardState). z.clock) does.1 in
     subst (λ directory. IfSome c.in-Ok.ended (CanTell directory i.seat c.handle_front.new.shard.clock)) (sym c.deref.ensures)
-    (may_tell_ended i.shard i.outs i.ins (arc_value i.directory) i.seat c.self.invariant l (takes.to_here ∙ c.self.invariant.0.accounts.in_number) c.handle_front.new.shard.clock (omega (arith, now)) c.in-Ok.ended does.2)
+    (may_tell_ended i.shard i.outs i.ins (arc_value i.directory) i.seat i.before c.self.invariant l (takes.to_here ∙ c.self.invariant.0.accounts.in_number) c.handle_front.new.shard.clock (omega (arith, now)) c.in-Ok.ended does.2)
 
 pub invariant_of-self-in-Ok : goal.invariant_of-self-in-Ok
 invariant_of-self-in-Ok c =
     let i = c.self.inside in
     let is = (done c).1 in
-    handled_whole i.shard i.outs i.ins (arc_value i.directory) i.seat c.self.invariant c.pass.ensures.collects.0 c.handle_front.new.shard i.outs c.pass.new.self c.in-Ok.ended c.tell_ended.new.seat
+    handled_whole i.shard i.outs i.ins (arc_value i.directory) i.seat i.before c.self.invariant c.pass.ensures.collects.0 c.handle_front.new.shard i.outs c.pass.new.self c.in-Ok.ended c.tell_ended.new.seat
     (record {
       start = ap (λ (z : ShardState). z.start) is;
       number = ap (λ (z : ShardState). z.number) is;
@@ -65,7 +65,7 @@ invariant_of-self-in-Ok c =
     })
     (done c).2 (c.tell_ended.ensures ∙ ap (λ m. told c.in-Ok.ended m i.seat) (ap (λ (z : ShardState). z.clock) is))
     c.in-Ok.ensures.fit
-    (collected_accounted i.shard i.outs i.ins c.pass.new.self (sight_of (arc_value i.directory) i.seat) c.in-Some.from c.pass.ensures.collects.0 (is_free i.shard.hold (sym c.if-holds.ensures)) (taken c)
+    (collected_accounted i.shard i.outs i.ins c.pass.new.self (sight_of (arc_value i.directory) i.seat i.before) c.in-Some.from c.pass.ensures.collects.0 (is_free i.shard.hold (sym c.if-holds.ensures)) (taken c)
     (c.pass.ensures.place ∙ c.in-Some.ensures.same.0) c.handle_front.new.shard c.self.invariant.0.fit.boxes c.self.invariant.0.accounts is)
 
 pub returns-in-Ok : goal.returns-in-Ok
@@ -76,9 +76,9 @@ returns-in-Ok c =
     let first = is_first i.ins c.next_from.new.self c.pass.new.self c.in-Some.from c.pass.ensures.collects.0 found.same.0 found.same.2 found.some.0 passes.collects.1 passes.others found.some.1 in (
       c.pass.ensures.collects.0,
       subst (λ v. HandlesNext c.pass.ensures.collects.0 c.args.self.now (of_parts c.handle_front.new.shard i.outs c.pass.new.self v))
-          (sym (told_sight (arc_value i.directory) c.in-Ok.ended c.handle_front.new.shard.clock i.seat c.tell_ended.new.seat c.tell_ended.ensures))
-          (subst (λ d. HandlesNext c.pass.ensures.collects.0 d (of_parts c.handle_front.new.shard i.outs c.pass.new.self (sight_of (arc_value i.directory) i.seat))) c.self.view_is
-          (next_collected i.shard i.outs i.ins c.pass.new.self (sight_of (arc_value i.directory) i.seat) c.in-Some.from c.pass.ensures.collects.0 (is_free i.shard.hold (sym c.if-holds.ensures)) (taken c)
+          (sym (told_sight (arc_value i.directory) i.before c.in-Ok.ended c.handle_front.new.shard.clock i.seat c.tell_ended.new.seat c.tell_ended.ensures))
+          (subst (λ d. HandlesNext c.pass.ensures.collects.0 d (of_parts c.handle_front.new.shard i.outs c.pass.new.self (sight_of (arc_value i.directory) i.seat i.before))) c.self.view_is
+          (next_collected i.shard i.outs i.ins c.pass.new.self (sight_of (arc_value i.directory) i.seat i.before) c.in-Some.from c.pass.ensures.collects.0 (is_free i.shard.hold (sym c.if-holds.ensures)) (taken c)
           (passes.place ∙ found.same.0) first c.handle_front.new.shard (done c).0 (done c).1)),
     )
 
@@ -100,7 +100,7 @@ invariant_of-self-in-Err c =
     let i = c.self.inside in
     let takes = c.hold_front.ensures.holds in
     let is = takes.held ∙ ap (holding (Some takes.letter)) (front_refused c.in-Some.from c.next_from.new.self i.shard c.handle_front.new.shard c.in-Err.stop c.in-Err.ensures.does) in
-    same_whole i.shard c.hold_front.new.shard i.outs i.outs i.ins c.hold_front.new.ins (sight_of (arc_value i.directory) i.seat) i.seat
+    same_whole i.shard c.hold_front.new.shard i.outs i.outs i.ins c.hold_front.new.ins (sight_of (arc_value i.directory) i.seat i.before) i.seat
     (record {
       start = ap (λ (z : ShardState). z.start) is;
       number = ap (λ (z : ShardState). z.number) is;
@@ -108,7 +108,7 @@ invariant_of-self-in-Err c =
       journal = ap (λ (z : ShardState). z.journal) is;
     })
     c.hold_front.ensures.fit
-    (refused_accounted i.shard i.outs i.ins c.hold_front.new.ins (sight_of (arc_value i.directory) i.seat) c.in-Some.from takes.letter (is_free i.shard.hold (sym c.if-holds.ensures)) (held c)
+    (refused_accounted i.shard i.outs i.ins c.hold_front.new.ins (sight_of (arc_value i.directory) i.seat i.before) c.in-Some.from takes.letter (is_free i.shard.hold (sym c.if-holds.ensures)) (held c)
     (takes.place ∙ c.in-Some.ensures.same.0) c.handle_front.new.shard c.hold_front.new.shard c.in-Err.stop c.self.invariant.0.accounts (stopped c) takes.held)
     c.self.invariant
 
@@ -118,6 +118,6 @@ returns-in-Err c =
     let found = c.in-Some.ensures in
     let takes = c.hold_front.ensures.holds in
     let first = is_first i.ins c.next_from.new.self c.hold_front.new.ins c.in-Some.from takes.letter found.same.0 found.same.2 found.some.0 takes.collects takes.others found.some.1 in
-    subst (λ d. Stays c.in-Err.stop d (of_parts c.hold_front.new.shard i.outs c.hold_front.new.ins (sight_of (arc_value i.directory) i.seat))) c.self.view_is
-    (stays_collected i.shard i.outs i.ins c.hold_front.new.ins (sight_of (arc_value i.directory) i.seat) c.in-Some.from takes.letter (is_free i.shard.hold (sym c.if-holds.ensures)) (held c)
+    subst (λ d. Stays c.in-Err.stop d (of_parts c.hold_front.new.shard i.outs c.hold_front.new.ins (sight_of (arc_value i.directory) i.seat i.before))) c.self.view_is
+    (stays_collected i.shard i.outs i.ins c.hold_front.new.ins (sight_of (arc_value i.directory) i.seat i.before) c.in-Some.from takes.letter (is_free i.shard.hold (sym c.if-holds.ensures)) (held c)
     (takes.place ∙ found.same.0) first c.handle_front.new.shard c.hold_front.new.shard c.in-Err.stop (stopped c) takes.held)

@@ -16,7 +16,7 @@ tell_ended-requires c =
     let now = ap (λ (z : ShardState). z.clock) (c.take_hold.ensures.rest ∙ ap (holding None) does.1) in
     let held = (subst (λ o. IfSome o (λ m. (m.to.shard ≡ i.shard.number) × (m.from.shard < i.shard.config.desks))) (sym c.held.ensures ∙ c.in-Some.is) c.self.invariant.0.fit.held).0 in
     subst (λ directory. IfSome c.in_ok-ended.ended (CanTell directory i.seat c.take_hold.new.self.clock)) (sym c.deref.ensures)
-    (may_tell_ended i.shard i.outs i.ins (arc_value i.directory) i.seat c.self.invariant l held c.take_hold.new.self.clock (omega (arith, now)) c.in_ok-ended.ended does.2)
+    (may_tell_ended i.shard i.outs i.ins (arc_value i.directory) i.seat i.before c.self.invariant l held c.take_hold.new.self.clock (omega (arith, now)) c.in_ok-ended.ended does.2)
 
 pub invariant_of-self-2 : goal.invariant_of-self-2
 invariant_of-self-2 c =
@@ -24,7 +24,7 @@ invariant_of-self-2 c =
     let does = c.in_ok-ended.ensures.does in
     let l = c.in-Some.letter in
     let is = c.take_hold.ensures.rest ∙ ap (holding None) does.1 in
-    handled_whole i.shard i.outs i.ins (arc_value i.directory) i.seat c.self.invariant l c.take_hold.new.self i.outs i.ins c.in_ok-ended.ended c.tell_ended.new.seat
+    handled_whole i.shard i.outs i.ins (arc_value i.directory) i.seat i.before c.self.invariant l c.take_hold.new.self i.outs i.ins c.in_ok-ended.ended c.tell_ended.new.seat
     (record {
       start = ap (λ (z : ShardState). z.start) is;
       number = ap (λ (z : ShardState). z.number) is;

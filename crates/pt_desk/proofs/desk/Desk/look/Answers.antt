@@ -21,17 +21,17 @@ pub invariant_of-self-in-None : goal.invariant_of-self-in-None
 invariant_of-self-in-None c =
     let i = c.self.inside in
     let read = c.in-None.ensures.read in
-    read_whole i.shard i.outs i.ins (arc_value i.directory) i.seat c.self.invariant c.probe.new.seat (new_read c.args.t.shard c.args.t.slot read.0 None)
+    read_whole i.shard i.outs i.ins (arc_value i.directory) i.seat i.before c.self.invariant c.probe.new.seat (new_read c.args.t.shard c.args.t.slot read.0 None)
     (known_near i.shard c.args.t (known c)) read.1
 
 pub returns-in-None-clause-looks : goal.returns-in-None-clause-looks
 returns-in-None-clause-looks c =
     let i = c.self.inside in
     let told = c.in-None.ensures in
-    subst (λ d. LooksFirst c.args.p c.args.t ((true ≡ true) × (i.shard ≡ d.shard)) d (Ok tt) (of_parts i.shard i.outs i.ins (sight_of (arc_value i.directory) c.probe.new.seat))) c.self.view_is
+    subst (λ d. LooksFirst c.args.p c.args.t ((true ≡ true) × (i.shard ≡ d.shard)) d (Ok tt) (of_parts i.shard i.outs i.ins (sight_of (arc_value i.directory) c.probe.new.seat i.before))) c.self.view_is
     (record {
       seen = None;
-      looks = looked i.shard i.outs i.ins (arc_value i.directory) i.seat c.self.invariant c.args.t (known c) c.probe.new.seat None told.read told.again told.own;
+      looks = looked i.shard i.outs i.ins (arc_value i.directory) i.seat i.before c.self.invariant c.args.t (known c) c.probe.new.seat None told.read told.again told.own;
       does = (refl, refl);
     })
 
@@ -39,8 +39,8 @@ pub returns-in-None-clause-goes_on : goal.returns-in-None-clause-goes_on
 returns-in-None-clause-goes_on c =
     let i = c.self.inside in
     let read = c.in-None.ensures.read in
-    subst (λ d. GoesOn d (of_parts i.shard i.outs i.ins (sight_of (arc_value i.directory) c.probe.new.seat))) c.self.view_is
-    (record { shard = extends i.shard; place = refl; sight = sees_more (arc_value i.directory) i.seat c.probe.new.seat (new_read c.args.t.shard c.args.t.slot read.0 None) read.1 })
+    subst (λ d. GoesOn d (of_parts i.shard i.outs i.ins (sight_of (arc_value i.directory) c.probe.new.seat i.before))) c.self.view_is
+    (record { shard = extends i.shard; place = refl; sight = sees_more (arc_value i.directory) i.before i.seat c.probe.new.seat (new_read c.args.t.shard c.args.t.slot read.0 None) read.1 })
 
 -- the end was seen: one more read, and a note
 pub invariant_of-self : goal.invariant_of-self
@@ -50,15 +50,15 @@ invariant_of-self c =
     let known : knows i.shard c.args.t ≡ true = subst (λ (d : DeskState). knows d.shard c.args.t ≡ true) (sym c.self.view_is) c.requires.known in
     let x = new_read c.args.t.shard c.args.t.slot read.0 (Some c.in-Some.seen) in
     let n = max i.shard.clock c.in-Some.seen + 1 in
-    let v = sight_of (arc_value i.directory) c.probe.new.seat in
+    let v = sight_of (arc_value i.directory) c.probe.new.seat i.before in
     refused_whole i.shard c.refuse.new.self i.outs i.ins v c.probe.new.seat c.args.p c.args.t c.in-Some.seen c.refuse.result c.refuse.ensures.does c.refuse.ensures.fit
     (subst (λ (z : SeatState). IsSeen z.reads n (Refused c.args.p c.args.t)) (sym read.1)
-    (seen_now i.seat.reads c.args.p c.args.t read.0 c.in-Some.seen n (words i.shard i.outs i.ins (arc_value i.directory) i.seat c.self.invariant c.args.t known).1 read.2 (omega arith)))
-    (read_whole i.shard i.outs i.ins (arc_value i.directory) i.seat c.self.invariant c.probe.new.seat x (known_near i.shard c.args.t known) read.1)
+    (seen_now i.seat.reads c.args.p c.args.t read.0 c.in-Some.seen n (words i.shard i.outs i.ins (arc_value i.directory) i.seat i.before c.self.invariant c.args.t known).1 read.2 (omega arith)))
+    (read_whole i.shard i.outs i.ins (arc_value i.directory) i.seat i.before c.self.invariant c.probe.new.seat x (known_near i.shard c.args.t known) read.1)
 
 pub returns-in-Some-clause-goes_on : goal.returns-in-Some-clause-goes_on
 returns-in-Some-clause-goes_on c =
     let i = c.self.inside in
     let read = c.in-Some.ensures.read in
-    subst (λ d. GoesOn d (of_parts c.refuse.new.self i.outs i.ins (sight_of (arc_value i.directory) c.probe.new.seat))) c.self.view_is
-    (record { shard = c.refuse.ensures.extends; place = refl; sight = sees_more (arc_value i.directory) i.seat c.probe.new.seat (new_read c.args.t.shard c.args.t.slot read.0 (Some c.in-Some.seen)) read.1 })
+    subst (λ d. GoesOn d (of_parts c.refuse.new.self i.outs i.ins (sight_of (arc_value i.directory) c.probe.new.seat i.before))) c.self.view_is
+    (record { shard = c.refuse.ensures.extends; place = refl; sight = sees_more (arc_value i.directory) i.before i.seat c.probe.new.seat (new_read c.args.t.shard c.args.t.slot read.0 (Some c.in-Some.seen)) read.1 })

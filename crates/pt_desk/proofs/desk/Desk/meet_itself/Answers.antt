@@ -9,7 +9,7 @@ meet-requires c = rw (← c.self.view_is) at c.requires
 pub invariant_of-self : goal.invariant_of-self
 invariant_of-self c =
     let i = c.self.inside in
-    met_whole i.shard i.outs c.meet.new.outs i.ins c.meet.new.self (sight_of (arc_value i.directory) i.seat) i.seat c.meet.ensures.outs c.meet.ensures.ins c.self.invariant
+    met_whole i.shard i.outs c.meet.new.outs i.ins c.meet.new.self (sight_of (arc_value i.directory) i.seat i.before) i.seat c.meet.ensures.outs c.meet.ensures.ins c.self.invariant
 
 pub returns : goal.returns
 returns c = rw (← c.self.view_is) (record { kept = refl; met = c.meet.ensures })

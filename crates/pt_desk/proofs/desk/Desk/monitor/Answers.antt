@@ -11,12 +11,12 @@ pub invariant_of-self : goal.invariant_of-self
 invariant_of-self c =
     let i = c.self.inside in
     let s = i.shard in
-    step_whole s c.monitor.new.self i.outs i.ins (sight_of (arc_value i.directory) i.seat) i.seat
+    step_whole s c.monitor.new.self i.outs i.ins (sight_of (arc_value i.directory) i.seat i.before) i.seat
     (monitors_step c.args.w c.args.t s c.monitor.result c.monitor.new.self c.monitor.ensures.does) c.self.invariant c.monitor.ensures.fit
 
 pub returns-clause-goes_on : goal.returns-clause-goes_on
 returns-clause-goes_on c =
     let i = c.self.inside in
-    let new = of_parts c.monitor.new.self i.outs i.ins (sight_of (arc_value i.directory) i.seat) in
+    let new = of_parts c.monitor.new.self i.outs i.ins (sight_of (arc_value i.directory) i.seat i.before) in
     goes_on_then c.args.self.now c.reach.new.self new c.in_ok-reach.ensures.goes_on
-    (subst (λ d. GoesOn d new) c.self.view_is (shard_goes_on i.shard c.monitor.new.self i.outs i.ins (sight_of (arc_value i.directory) i.seat) c.monitor.ensures.extends))
+    (subst (λ d. GoesOn d new) c.self.view_is (shard_goes_on i.shard c.monitor.new.self i.outs i.ins (sight_of (arc_value i.directory) i.seat i.before) c.monitor.ensures.extends))

@@ -8,5 +8,5 @@ pub invariant_of-self : goal.invariant_of-self
 invariant_of-self c =
     let s = c.self.inside.shard in
     let does = c.unlink.ensures.does in
-    step_whole s c.unlink.new.self c.self.inside.outs c.self.inside.ins (sight_of (arc_value c.self.inside.directory) c.self.inside.seat) c.self.inside.seat
+    step_whole s c.unlink.new.self c.self.inside.outs c.self.inside.ins (sight_of (arc_value c.self.inside.directory) c.self.inside.seat c.self.inside.before) c.self.inside.seat
     (calls_step c.args.p (unlink_event s c.args.p c.args.to) tt s c.unlink.result c.unlink.new.self (own_unlink s c.args.p c.args.to) does) c.self.invariant c.unlink.ensures.fit

@@ -10,4 +10,4 @@ use Rattle.pt_gathered.proofs.quiet.Quiet.kept.Goals as goal
 pub returns : goal.returns
 returns c =
     subst (λ (q : QuietState). InEveryMerge (journals q.gathered) (λ past. c.kept.result ≡ list_any (λ k. same_ref c.args.monitor k.0) (state (begins q.gathered) past c.args.target).kept)) c.self.view_is
-    (c.kept.ensures (begins c.self.inside.gathered) (journals c.self.inside.gathered) c.self.invariant.lives_are)
+    (c.kept.ensures (begins c.self.inside.node) (journals c.self.inside.node) c.self.invariant.lives_are)

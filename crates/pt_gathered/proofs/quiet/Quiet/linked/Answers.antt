@@ -9,4 +9,4 @@ use Rattle.pt_gathered.proofs.quiet.Quiet.linked.Goals as goal
 pub returns : goal.returns
 returns c =
     subst (λ (q : QuietState). InEveryMerge (journals q.gathered) (λ past. c.linked.result ≡ held (state (begins q.gathered) past c.args.pid).links c.args.peer)) c.self.view_is
-    (c.linked.ensures (begins c.self.inside.gathered) (journals c.self.inside.gathered) c.self.invariant.lives_are)
+    (c.linked.ensures (begins c.self.inside.node) (journals c.self.inside.node) c.self.invariant.lives_are)

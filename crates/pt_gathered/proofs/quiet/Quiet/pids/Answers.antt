@@ -7,4 +7,4 @@ use Rattle.pt_gathered.proofs.quiet.Quiet.pids.Goals as goal
 pub returns : goal.returns
 returns c =
     subst (λ (q : QuietState). InEveryMerge (journals q.gathered) (λ past. AreAllPids (begins q.gathered) past c.pids.result.now)) c.self.view_is
-    (c.pids.ensures (begins c.self.inside.gathered) (journals c.self.inside.gathered) c.self.invariant.lives_are)
+    (c.pids.ensures (begins c.self.inside.node) (journals c.self.inside.node) c.self.invariant.lives_are)

@@ -10,4 +10,4 @@ use Rattle.pt_gathered.proofs.quiet.Quiet.watching.Goals as goal
 pub returns : goal.returns
 returns c =
     subst (λ (q : QuietState). InEveryMerge (journals q.gathered) (λ past. c.watching.result ≡ is_some (lookup (same_ref c.args.monitor) (open_monitors (life (begins q.gathered) past c.args.watcher))))) c.self.view_is
-    (c.watching.ensures (begins c.self.inside.gathered) (journals c.self.inside.gathered) c.self.invariant.lives_are)
+    (c.watching.ensures (begins c.self.inside.node) (journals c.self.inside.node) c.self.invariant.lives_are)

@@ -42,22 +42,22 @@ end-estate-requires c =
     let i = c.self.inside in
     still_there (parts_of i.config i.ledger.book i.processes) c.self.invariant c.args.p c.in-Some.process.now c.in-Some.ensures.value c.prepare_end.new.process c.prepare_end.ensures.me c.prepare_end.ensures.state
 
-pub close-requires-clause-from : goal.close-requires-clause-from
-close-requires-clause-from c =
+pub write_end-requires-clause-from : goal.write_end-requires-clause-from
+write_end-requires-clause-from c =
     let i = c.self.inside in
     let fits = owing_fits (parts_of i.config i.ledger.book i.processes) c.self.invariant c.args.p c.in-Some.process.now c.in-Some.ensures.value c.prepare_end.new.process c.prepare_end.ensures.me c.prepare_end.ensures.state
     c.args.reason c.end-estate.result c.end-estate.new.self c.end-estate.ensures.ends c.prepare_end.new.self c.in_ok-prepare_end.ensures.does.0 c.in_ok-prepare_end.ensures.does.3 in
     fits.0
 
-pub close-requires-clause-to : goal.close-requires-clause-to
-close-requires-clause-to c =
+pub write_end-requires-clause-to : goal.write_end-requires-clause-to
+write_end-requires-clause-to c =
     let i = c.self.inside in
     let fits = owing_fits (parts_of i.config i.ledger.book i.processes) c.self.invariant c.args.p c.in-Some.process.now c.in-Some.ensures.value c.prepare_end.new.process c.prepare_end.ensures.me c.prepare_end.ensures.state
     c.args.reason c.end-estate.result c.end-estate.new.self c.end-estate.ensures.ends c.prepare_end.new.self c.in_ok-prepare_end.ensures.does.0 c.in_ok-prepare_end.ensures.does.3 in
     fits.1
 
-pub close-requires-clause-letters : goal.close-requires-clause-letters
-close-requires-clause-letters c =
+pub write_end-requires-clause-letters : goal.write_end-requires-clause-letters
+write_end-requires-clause-letters c =
     let i = c.self.inside in
     let fits = owing_fits (parts_of i.config i.ledger.book i.processes) c.self.invariant c.args.p c.in-Some.process.now c.in-Some.ensures.value c.prepare_end.new.process c.prepare_end.ensures.me c.prepare_end.ensures.state
     c.args.reason c.end-estate.result c.end-estate.new.self c.end-estate.ensures.ends c.prepare_end.new.self c.in_ok-prepare_end.ensures.does.0 c.in_ok-prepare_end.ensures.does.3 in
@@ -68,7 +68,7 @@ invariant_of-self-2 c =
     let i = c.self.inside in
     let can : i.ledger.book.clock < 2 ^ 62 = (let k = c.in_ok-prepare_end.ensures.does.1 in omega arith) in
     let one = exited (parts_of i.config i.ledger.book i.processes) c.self.invariant c.args.p c.in-Some.process.now c.in-Some.ensures.value c.prepare_end.new.process c.prepare_end.ensures.me c.prepare_end.ensures.state
-    c.args.reason c.end-estate.result c.end-estate.new.self c.end-estate.ensures.desk c.end-estate.ensures.ends can c.prepare_end.new.self.book c.close.new.self.book c.in_ok-prepare_end.ensures.does.0 c.close.ensures in
+    c.args.reason c.end-estate.result c.end-estate.new.self c.end-estate.ensures.desk c.end-estate.ensures.ends can c.prepare_end.new.self.book c.write_end.new.self.book c.in_ok-prepare_end.ensures.does.0 c.write_end.ensures in
     one.whole
 
 pub returns-clause-does : goal.returns-clause-does
@@ -76,21 +76,21 @@ returns-clause-does c =
     let i = c.self.inside in
     let can : i.ledger.book.clock < 2 ^ 62 = (let k = c.in_ok-prepare_end.ensures.does.1 in omega arith) in
     let one = exited (parts_of i.config i.ledger.book i.processes) c.self.invariant c.args.p c.in-Some.process.now c.in-Some.ensures.value c.prepare_end.new.process c.prepare_end.ensures.me c.prepare_end.ensures.state
-    c.args.reason c.end-estate.result c.end-estate.new.self c.end-estate.ensures.desk c.end-estate.ensures.ends can c.prepare_end.new.self.book c.close.new.self.book c.in_ok-prepare_end.ensures.does.0 c.close.ensures in
-    subst (λ d. Calls c.args.p (Some (Left c.args.p c.args.reason)) (tt {0}) d (Ok (tt {0})) (shard_of (parts_of i.config c.close.new.self.book c.end-estate.new.self))) c.self.view_is one.does
+    c.args.reason c.end-estate.result c.end-estate.new.self c.end-estate.ensures.desk c.end-estate.ensures.ends can c.prepare_end.new.self.book c.write_end.new.self.book c.in_ok-prepare_end.ensures.does.0 c.write_end.ensures in
+    subst (λ d. Calls c.args.p (Some (Left c.args.p c.args.reason)) (tt {0}) d (Ok (tt {0})) (shard_of (parts_of i.config c.write_end.new.self.book c.end-estate.new.self))) c.self.view_is one.does
 
 pub returns-clause-extends : goal.returns-clause-extends
 returns-clause-extends c =
     let i = c.self.inside in
     let can : i.ledger.book.clock < 2 ^ 62 = (let k = c.in_ok-prepare_end.ensures.does.1 in omega arith) in
     let one = exited (parts_of i.config i.ledger.book i.processes) c.self.invariant c.args.p c.in-Some.process.now c.in-Some.ensures.value c.prepare_end.new.process c.prepare_end.ensures.me c.prepare_end.ensures.state
-    c.args.reason c.end-estate.result c.end-estate.new.self c.end-estate.ensures.desk c.end-estate.ensures.ends can c.prepare_end.new.self.book c.close.new.self.book c.in_ok-prepare_end.ensures.does.0 c.close.ensures in
-    subst (λ d. Extends d (shard_of (parts_of i.config c.close.new.self.book c.end-estate.new.self))) c.self.view_is one.extends
+    c.args.reason c.end-estate.result c.end-estate.new.self c.end-estate.ensures.desk c.end-estate.ensures.ends can c.prepare_end.new.self.book c.write_end.new.self.book c.in_ok-prepare_end.ensures.does.0 c.write_end.ensures in
+    subst (λ d. Extends d (shard_of (parts_of i.config c.write_end.new.self.book c.end-estate.new.self))) c.self.view_is one.extends
 
 pub returns-clause-fit : goal.returns-clause-fit
 returns-clause-fit c =
     let i = c.self.inside in
     let can : i.ledger.book.clock < 2 ^ 62 = (let k = c.in_ok-prepare_end.ensures.does.1 in omega arith) in
     let one = exited (parts_of i.config i.ledger.book i.processes) c.self.invariant c.args.p c.in-Some.process.now c.in-Some.ensures.value c.prepare_end.new.process c.prepare_end.ensures.me c.prepare_end.ensures.state
-    c.args.reason c.end-estate.result c.end-estate.new.self c.end-estate.ensures.desk c.end-estate.ensures.ends can c.prepare_end.new.self.book c.close.new.self.book c.in_ok-prepare_end.ensures.does.0 c.close.ensures in
+    c.args.reason c.end-estate.result c.end-estate.new.self c.end-estate.ensures.desk c.end-estate.ensures.ends can c.prepare_end.new.self.book c.write_end.new.self.book c.in_ok-prepare_end.ensures.does.0 c.write_end.ensures in
     one.fit

@@ -1,0 +1,72 @@
+-- What happened on a node from its first opening on.
+use Rattle.std.proofs.Common.{ℕ, List, [], ◌++◌, map, refl, sym, ap, ◌∙◌, subst, arith}
+use Rattle.std.specs.Prelude.{filter}
+use Rattle.pt_events.specs.declared.event.Stamped.{Stamped}
+use Rattle.pt_events.specs.History.{Past, IsLegal}
+use Rattle.pt_events.specs.Journal.{events, in_lane, IsMerge}
+use Rattle.pt_laws.specs.Laws.{MergeLegal, LanesFly}
+use Rattle.pt_laws.specs.Load.{IsQuiet}
+use Rattle.pt_laws.specs.JournalLaws.{JournalsSay}
+use Rattle.pt_laws.specs.LinkLaws.{MergeKnown, KnownAgain}
+use Rattle.pt_laws.specs.Resumed.{AllNewTo}
+use Rattle.pt_laws.specs.ResumedLaws.{LeftAgain, StampsNumber, BothNumber, StampsAreNew, OldRefsResumed}
+use Rattle.pt_laws.proofs.living.Resumed.{over_legal, over_flying}
+use Rattle.pt_shard.specs.declared.config.Config.{Config}
+use Rattle.pt_shard.specs.Opening.{fresh}
+use Rattle.pt_shard.specs.Restart.{restarted}
+use Rattle.pt_gathered.specs.Beginning.{IsBeginning}
+use Rattle.pt_gathered.specs.Gathered.{GatheredState, IsGathered, begins, journals, over, start_of}
+use Rattle.pt_gathered.specs.Lawful.{IsQuietNode}
+use Rattle.pt_gathered.specs.Pasts.{IsBeginningOf, KeepsPast, IsLegalWhole, IsQuietWhole, BeginsAgainAfter}
+use Rattle.pt_gathered.specs.Settling.{Settles}
+use Rattle.pt_gathered.proofs.Lawful.{legal_node, made_new}
+use Rattle.pt_gathered.proofs.Beginnings.{from_merge}
+
+-- a node that is opened begins with nothing, which nothing has left behind
+pub from_first : (low : ℕ) → IsBeginningOf [] low []
+from_first low = record {
+  begun = record {
+    past = [];
+    left = record { legal = tt; quiet = refl; alike = λ p. refl };
+    known = tt;
+    home = tt;
+    numbered = (λ i h. refl, λ m h. refl);
+    once = λ p. refl;
+    refs = λ w m. (omega arith, λ h. refl);
+    since = λ p born. absurd (cc);
+  };
+  past_is = refl;
+}
+
+-- settling changes neither the settings nor what was before
+pub settles_keep : (old new : GatheredState) → Settles old new → KeepsPast old new
+settles_keep old new s past from =
+    subst (λ (c : Config). IsBeginningOf past c.start (begins new)) (sym s.config) (subst (IsBeginningOf past old.config.start) (sym s.start) from)
+
+module _ (g : GatheredState) (whole : IsGathered g) where
+  -- what was made since is new to whatever it began with
+  new_to : StampsAreNew → (b : IsBeginning g.config.start (begins g)) (merged : List Stamped) → IsMerge (journals g) merged → AllNewTo b.past (events merged)
+  new_to new b merged m = made_new g (record whole { begun = b }) new merged m
+
+  pub legal_whole : MergeLegal → StampsAreNew → IsLegalWhole g
+  legal_whole law new past merged from m =
+      let b = from.begun in
+      let l = legal_node g whole law merged m in
+      subst (λ (p : Past). IsLegal [] (events merged ++ p) × LanesFly [] (events merged ++ p) (over g)) from.past_is (
+        over_legal [] (begins g) b.past b.left.legal b.left.quiet b.left.alike (events merged) (new_to new b merged m) l.0,
+        λ d e. ap (filter (in_lane d e)) (sym (over_flying [] (begins g) b.past b.left.legal b.left.quiet b.left.alike (events merged))) ∙ l.1 d e,
+      )
+
+  pub quiet_whole : IsQuietNode g → StampsAreNew → IsQuietWhole g
+  quiet_whole quiet new past merged from m =
+      let b = from.begun in
+      let q = quiet merged m in
+      subst (λ (p : Past). IsLegal [] (events merged ++ p) × IsQuiet [] (events merged ++ p)) from.past_is (
+        over_legal [] (begins g) b.past b.left.legal b.left.quiet b.left.alike (events merged) (new_to new b merged m) q.0,
+        sym (over_flying [] (begins g) b.past b.left.legal b.left.quiet b.left.alike (events merged)) ∙ q.1,
+      )
+
+  pub begins_after : IsQuietNode g → JournalsSay → StampsAreNew → LeftAgain → MergeKnown → KnownAgain → StampsNumber → BothNumber → OldRefsResumed → BeginsAgainAfter g
+  begins_after quiet say new again known known_again stamps both refs past merged n from m above =
+      subst (λ (p : Past). IsBeginningOf (events merged ++ p) n (start_of (map (restarted n) g.shards))) from.past_is
+      (from_merge g (record whole { begun = from.begun }) quiet say new again known known_again stamps both refs n above (fresh g.config 0) merged m)

@@ -1,0 +1,53 @@
+-- What desks go on from.
+use Rattle.std.proofs.Common.{◌≡◌, ◌<◌, List, [], ◌∷◌, map, length, sym, ap, ◌∙◌, subst, arith}
+use Rattle.std.proofs.lemmas.List.{get_or-map, length-map}
+use Rattle.pt_events.specs.History.{Past}
+use Rattle.pt_shard.specs.declared.config.Config.{Config}
+use Rattle.pt_gathered.specs.Gathered.{GatheredState, start_of}
+use Rattle.pt_gathered.specs.Pasts.{IsBeginningOf}
+use Rattle.pt_desk.specs.DeskState.{DeskState}
+use Rattle.pt_node.specs.Desks.{AreDesksOf, all_shards}
+use Rattle.pt_node.specs.Gathering.{Gathers}
+use Rattle.pt_node.specs.Pasts.{GoOnFrom, GathersPast}
+use Rattle.pt_node.specs.Running.{AllGoOn}
+use Rattle.pt_node.proofs.Begun.{starts_stay}
+use Rattle.pt_node.proofs.GoingOn.{still_desks}
+
+-- the desks of one node have one setting
+one_config : (one two : Config) (desks : List DeskState) → AreDesksOf one desks → AreDesksOf two desks → one ≡ two
+one_config one two [] a b = absurd (omega (arith, a.some))
+one_config one two (x ∷ desks) a b = sym (a.configs 0 x a.some) ∙ b.configs 0 x b.some
+
+-- a gathering changes nothing of it
+pub gathers_past : (desks : List DeskState) (g : GatheredState) → Gathers desks g → GathersPast desks g
+gathers_past desks g gathers past from =
+    subst (λ s. IsBeginningOf past g.config.start (start_of s)) (sym gathers.shards)
+    (subst (λ (c : Config). IsBeginningOf past c.start (start_of (all_shards desks))) (one_config from.config g.config desks from.node gathers.node) from.begun)
+
+module _ {W : Type 0} where
+  -- nor does whatever is done to the desks, each of which goes on
+  pub go_on_past : (old new : List (DeskState × W)) → AllGoOn old new → (past : Past) → GoOnFrom past (map (λ (p : DeskState × W). p.0) old) → GoOnFrom past (map (λ (p : DeskState × W). p.0) new)
+  go_on_past [] new c past from = absurd (omega (arith, from.node.some))
+  go_on_past (x ∷ xs) new c past from =
+      let old = x ∷ xs in
+      let desk : DeskState × W → DeskState = λ p. p.0 in
+      let are = still_desks old new c (from.config, from.node) in
+      let some : 0 < length new = omega (arith, c.count) in
+      let same : are.0 ≡ from.config =
+      sym (are.1.configs 0 x.0 (omega (arith, some, length-map new desk)))
+      ∙ ap (λ (z : DeskState). z.shard.config) (get_or-map desk new 0 x x.0 some)
+      ∙ (c.each 0 x (omega arith)).shard.config ∙ from.node.configs 0 x.0 (omega arith) in
+      record {
+        config = from.config;
+        node = subst (λ k. AreDesksOf k (map desk new)) same are.1;
+        begun = subst (IsBeginningOf past from.config.start) (sym begins) from.begun;
+      }
+    where
+      begins : start_of (all_shards (map (λ (p : DeskState × W). p.0) new)) ≡ start_of (all_shards (map (λ (p : DeskState × W). p.0) (x ∷ xs)))
+      begins =
+          let old = x ∷ xs in
+          let desk : DeskState × W → DeskState = λ p. p.0 in
+          starts_stay (map desk old) (map desk new) (length-map new desk ∙ c.count ∙ sym (length-map old desk)) (λ d y l.
+          let before : d < length old = omega (arith, l, length-map old desk) in
+          ap (λ (z : DeskState). z.shard.start) (get_or-map desk new d x y (omega (arith, before, c.count)))
+          ∙ (c.each d x before).shard.start ∙ ap (λ (z : DeskState). z.shard.start) (sym (get_or-map desk old d x y before)))

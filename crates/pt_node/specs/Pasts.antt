@@ -1,0 +1,19 @@
+-- What happened on the node of these desks before their journals, from its first opening on.
+use Rattle.std.specs.Prelude.{List}
+use Rattle.pt_events.specs.History.{Past}
+use Rattle.pt_shard.specs.declared.config.Config.{Config}
+use Rattle.pt_gathered.specs.Gathered.{GatheredState, start_of}
+use Rattle.pt_gathered.specs.Pasts.{IsBeginningOf, GoesOnFrom}
+use Rattle.pt_desk.specs.DeskState.{DeskState}
+use Rattle.pt_node.specs.Desks.{AreDesksOf, all_shards}
+
+-- desks of one node that go on from this history: from [] where the node was opened, and else from all that happened on
+-- it before their journals. No call of a desk changes it
+pub record GoOnFrom (past : Past) (desks : List DeskState) : Type 0 where
+  pub config : Config
+  pub node : AreDesksOf config desks
+  pub begun : IsBeginningOf past config.start (start_of (all_shards desks))
+
+-- the gathered node goes on from what its desks went on from
+abbrev pub GathersPast : List DeskState → GatheredState → Type 0
+GathersPast desks g = (past : Past) → GoOnFrom past desks → GoesOnFrom past g

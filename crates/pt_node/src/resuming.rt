@@ -1,0 +1,165 @@
+//! A quiet node goes on.
+
+ghost use Rattle.std.specs.Prelude.{◌≡◌, ◌≤◌, [], length, map, IfErr, IfOk, vec_len};
+ghost use Rattle.std.specs.Arc.{arc_value};
+ghost use Rattle.std.specs.Vec.{vec_capacity};
+ghost use Rattle.pt_events.specs.declared.event.TheConstants.{MAX_STAMP};
+ghost use Rattle.pt_shard.specs.Begun.{Every};
+ghost use Rattle.pt_shard.specs.Restart.{restarted};
+ghost use Rattle.pt_accounts.specs.DeskLives.{all_forgotten};
+ghost use Rattle.pt_gathered.specs.Quiet.{ends_of, latest_stamp};
+ghost use Rattle.pt_node.specs.Seating.{AreFreshSeats};
+ghost use Rattle.pt_node.specs.Resuming.{AreNewPairs, AreResumed, Resumes};
+
+use crate::making::make_whole;
+use crate::seating::{Seated, fresh_seats};
+use pt_accounts::DeskLives;
+use pt_carrier::{Ins, Outs};
+use pt_desk::Desk;
+use pt_gathered::Quiet;
+use pt_shard::{Config, Shard};
+use std::alloc::{AllocError, Global};
+use std::error::Error;
+use std::fmt;
+
+/// A quiet node that has not gone on, since there was no memory for it.
+#[derive(Drop)]
+pub struct Resting {
+    /// The node, as it was.
+    pub quiet: Quiet,
+}
+
+impl fmt::Debug for Resting {
+    fn fmt<W: fmt::Write>(&self, f: &mut fmt::Formatter<W>) -> fmt::Result {
+        write!(f, "Resting {{ .. }}")
+    }
+}
+
+impl fmt::Display for Resting {
+    fn fmt<W: fmt::Write>(&self, f: &mut fmt::Formatter<W>) -> fmt::Result {
+        write!(f, "there was no memory to go on from the quiet node")
+    }
+}
+
+impl Error for Resting {}
+
+/// The memory that a quiet node takes to go on: its lanes, its seats in a directory of who has ended, and the lists of
+/// its shards and of its desks, which are empty.
+struct Room {
+    pairs: Vec<(Outs, Ins)>,
+    seats: Vec<Seated>,
+    shards: Vec<Shard>,
+    desks: Vec<Desk>,
+}
+
+/// Goes on from a quiet node: its desks, in order, with empty journals over what their histories left behind.
+///
+/// The processes are as they were. Whoever lives has its links, its open monitors, its watchers, its flag and its
+/// waiting items. Whoever has ended stays dead for ever: that it ended, and why, is known, and nothing is left of what
+/// it held. The versions of each slot go on from its last one, and a slot that was retired stays so. The clocks of all
+/// desks begin at the greatest stamp of the history, or where it has no event, where they began before; so whatever is
+/// made from here on is new. The lanes are new, and so is the directory, in which the latest end of each slot stands.
+///
+/// What holds of a node that was opened holds of this one, over what was before as its start: it may be gathered,
+/// settled and resumed again. All that happened on the node from its first opening on, over any number of resumptions,
+/// is one legal history, and the desks go on from it. The quiet node is spent with its journals: take its
+/// [`history`](Quiet::history) before, where it is to be kept.
+///
+/// Refused only where there is no memory: the quiet node then comes back, as it was.
+pub fn resume(alloc: Global, quiet: Quiet) -> Result<Vec<Desk>, Resting>
+    ensures resumes { IfOk result (λ desks. Resumes quiet.gathered desks.items) }
+    ensures resting { IfErr result (λ back. back.quiet ≡ quiet) }
+{
+    let start = quiet.clock();
+    match prepare(alloc, &quiet, start) {
+        Ok(room) => Ok(go_on(quiet, start, room)),
+        Err(_) => Err(Resting { quiet }),
+    }
+}
+
+/// Takes all memory that a quiet node needs to go on from this stamp, its latest.
+fn prepare(alloc: Global, quiet: &Quiet, start: u64) -> Result<Room, AllocError>
+    requires latest { start ≡ latest_stamp quiet.now.gathered }
+    requires within { start ≤ MAX_STAMP }
+    ensures pairs { IfOk result (λ room. AreNewPairs quiet.now.gathered room.pairs.items) }
+    ensures seats { IfOk result
+        (λ room. AreFreshSeats (record quiet.now.gathered.config { start = start }) (ends_of start quiet.now.lives)
+        (map (λ p. (arc_value p.0, p.1)) room.seats.items)) }
+    ensures shards { IfOk result (λ room. (room.shards.items ≡ [])
+        × (length quiet.now.gathered.shards ≤ vec_capacity room.shards)) }
+    ensures desks { IfOk result (λ room. (room.desks.items ≡ [])
+        × (length quiet.now.gathered.shards ≤ vec_capacity room.desks)) }
+{
+    quiet.versions();
+    let config = Config {
+        start,
+        ..quiet.config()
+    };
+    let count = usize::from(quiet.desks());
+    let ended = quiet.latest_ends(start)?;
+    let seats = fresh_seats(alloc, config, ended.as_slice())?;
+    let shards = Vec::with_capacity(alloc, count)?;
+    let mut desks = Vec::with_capacity(alloc, count)?;
+    let Ok(pairs) = pt_carrier::open(alloc, config.desks, config.lane) else {
+        desks.destroy_empty();
+        return Err(AllocError);
+    };
+    Ok(Room {
+        pairs,
+        seats,
+        shards,
+        desks,
+    })
+}
+
+/// Makes the desks of a quiet node that goes on from this stamp, its latest. It takes no memory.
+fn go_on(quiet: Quiet, start: u64, room: Room) -> Vec<Desk>
+    requires latest { start ≡ latest_stamp quiet.gathered }
+    requires within { start ≤ MAX_STAMP }
+    requires pairs { AreNewPairs quiet.gathered room.pairs.items }
+    requires seats { AreFreshSeats (record quiet.gathered.config { start = start }) (ends_of start quiet.lives)
+        (map (λ p. (arc_value p.0, p.1)) room.seats.items) }
+    requires shards { (room.shards.items ≡ []) × (length quiet.gathered.shards ≤ vec_capacity room.shards) }
+    requires desks { (room.desks.items ≡ []) × (length quiet.gathered.shards ≤ vec_capacity room.desks) }
+    ensures { AreResumed quiet.gathered start result.items }
+{
+    let Room {
+        pairs,
+        seats,
+        mut shards,
+        mut desks,
+    } = room;
+    // read for the proof alone: what the desks leave behind, whose processes they had, and where their clocks stand
+    quiet.laws();
+    quiet.versions();
+    let _desks = quiet.desks();
+    let _clock = quiet.clock();
+    let (_config, old, mut tables) = quiet.into_parts();
+    restart_all(old, start, &mut shards);
+    forget_all(tables.as_mut_slice());
+    make_whole(pairs, shards, seats, tables, &mut desks);
+    desks
+}
+
+/// Each shard goes on from this stamp, in order.
+fn restart_all(old: Vec<Shard>, start: u64, shards: &mut Vec<Shard>)
+    requires later { Every (λ s. s.clock ≤ start) old.items }
+    requires within { start ≤ MAX_STAMP }
+    requires room { (shards.old.items ≡ []) × (vec_len old ≤ vec_capacity shards.old) }
+    ensures { shards.new.items ≡ map (restarted start) old.items }
+{
+    let mut old = old;
+    old.reverse();
+    while let Some(shard) = old.pop() {
+        shards.push_reserved(shard.restart(start));
+    }
+}
+
+/// Each table forgets what the ended processes held.
+fn forget_all(tables: &mut [DeskLives])
+    ensures { tables.new ≡ map all_forgotten tables.old }
+{
+    for which in 0..tables.len() {
+        tables[which].forget();
+    }
+}
