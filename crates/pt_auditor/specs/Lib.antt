@@ -1,4 +1,6 @@
 pub mod Hearings
 pub mod Objecting
 pub mod Reading
+pub mod Selecting
+pub mod Standings
 pub mod Text

@@ -1,8 +1,70 @@
--- The printed text of a verdict, as a list of characters.
-use Rattle.std.specs.Prelude.{ℕ, List, ◌++◌, codes, decimal}
+-- The printed texts of verdicts, of what became of processes, and of faults, as lists of characters.
+use Rattle.std.specs.Prelude.{ℕ, List, ◌++◌, codes, decimal, Option, Some, None}
+use Rattle.pt_signal.specs.declared.reason.Reason.{Reason}
+use Rattle.pt_signal.specs.declared.item.Item.{Item}
+use Rattle.pt_signal.specs.declared.signal.Signal.{Signal}
+use Rattle.pt_signal.specs.Text.{pid_text, reason_text, item_text, signal_text, letter_text}
+use Rattle.pt_events.specs.Text.{stamped_text}
+use Rattle.pt_judge.specs.Text.{cause_text}
 use Rattle.pt_auditor.specs.declared.hearing.Verdict.{Verdict}
+use Rattle.pt_auditor.specs.declared.standing.Standing.{Standing}
+use Rattle.pt_auditor.specs.declared.objection.Contradiction.{Contradiction}
+use Rattle.pt_auditor.specs.declared.objection.Contradiction.TheVariants.{Oldest, First, Dead, Nothing}
+use Rattle.pt_auditor.specs.declared.objection.Objection.{Objection}
+use Rattle.pt_auditor.specs.declared.objection.Objection.TheVariants as no
+use Rattle.pt_auditor.specs.declared.fault.Why.{Why}
+use Rattle.pt_auditor.specs.declared.fault.Why.TheVariants.{Unread, Event, Letter, Over, Long}
+use Rattle.pt_auditor.specs.declared.fault.Why.TheVariants as why
+use Rattle.pt_auditor.specs.declared.fault.Fault.{Fault}
 
 unfoldable pub verdict_text : Verdict → List ℕ
 verdict_text v =
     codes "legal: " ++ decimal v.events ++ codes " events, " ++ decimal v.desks ++ codes " desks, " ++ decimal v.letters
     ++ codes " letters on their way"
+
+unfoldable pub fate_text : Option Reason → List ℕ
+fate_text None = codes "alive"
+fate_text (Some r) = codes "ended " ++ reason_text r
+
+unfoldable pub standing_text : Standing → List ℕ
+standing_text s = pid_text s.pid ++ codes " " ++ fate_text s.ended ++ codes " waiting " ++ decimal s.waiting
+
+unfoldable pub any_signal_text : Option Signal → List ℕ
+any_signal_text None = codes "nothing"
+any_signal_text (Some x) = signal_text x
+
+unfoldable pub any_item_text : Option Item → List ℕ
+any_item_text None = codes "nothing"
+any_item_text (Some i) = item_text i
+
+unfoldable pub absence_text : Option Reason → List ℕ
+absence_text None = codes "was never born"
+absence_text (Some r) = codes "ended with " ++ reason_text r
+
+unfoldable pub contradiction_text : Contradiction → List ℕ
+contradiction_text (Oldest x) = codes "; the oldest on its way between the two: " ++ any_signal_text x
+contradiction_text (First i) = codes "; the first that fits: " ++ any_item_text i
+contradiction_text (Dead p r) = codes "; " ++ pid_text p ++ codes " " ++ absence_text r
+contradiction_text Nothing = codes ""
+
+unfoldable pub objection_text : Objection → List ℕ
+objection_text no.Behind = codes "an event behind a letter left over"
+objection_text (no.Sinks last) = codes "its stamp and desk do not rise above those of: " ++ stamped_text last
+objection_text (no.MayNot c against) = cause_text c ++ contradiction_text against
+objection_text no.OtherDesks = codes "the desks are not those of the sender and the receiver"
+objection_text (no.OtherLetter x) =
+    codes "it is not the oldest on its way between the two, which is: " ++ any_signal_text x
+objection_text (no.Untold a b x) =
+    codes "no line tells of what is on its way: " ++ pid_text a ++ codes " -> " ++ pid_text b ++ codes " " ++ signal_text x
+objection_text no.Memory = codes "memory refused"
+
+unfoldable pub why_text : Why → List ℕ
+why_text (Unread column) = codes "column " ++ decimal column ++ codes ": no event and no letter left over"
+why_text (Event s o) = stamped_text s ++ codes ": " ++ objection_text o
+why_text (Letter l o) = letter_text l.letter ++ codes ": " ++ objection_text o
+why_text (Over o) = objection_text o
+why_text Long = codes "more than 1024 bytes"
+why_text why.Memory = codes "memory refused"
+
+unfoldable pub fault_text : Fault → List ℕ
+fault_text f = codes "line " ++ decimal f.line ++ codes ": " ++ why_text f.why

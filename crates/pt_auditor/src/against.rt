@@ -34,7 +34,7 @@ fn dead(state: &State, pid: Option<Pid>) -> Contradiction
 }
 
 /// What the event contradicts, where it may not come for that cause.
-pub fn contradiction(state: &State, event: Event, cause: Cause) -> Contradiction
+pub(crate) fn contradiction(state: &State, event: Event, cause: Cause) -> Contradiction
     ensures { result ≡ contradiction (known state.now) event cause }
 {
     match (cause, event) {

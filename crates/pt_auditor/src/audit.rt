@@ -40,10 +40,9 @@ fn conclude(hearing: Hearing, lines: u64) -> Result<Verdict, Fault>
 }
 
 /// The fault of the line behind as many lines. The hearing goes.
-fn stop(hearing: Hearing, lines: u64, why: Why) -> Fault
+fn stop(_hearing: Hearing, lines: u64, why: Why) -> Fault
     ensures { result ≡ record { line = min (lines + 1) (2 ^ 64 - 1); why = why } }
 {
-    let _ = hearing;
     Fault {
         line: one_more(lines),
         why,
@@ -102,6 +101,13 @@ impl Audit {
             line,
             lines,
         })
+    }
+
+    /// What the lines that are over tell.
+    pub fn hearing(&self) -> &Hearing
+        ensures { result.now ≡ self.now.hearing }
+    {
+        &self.hearing
     }
 
     /// The verdict on the whole text, whose last line needs no line feed.

@@ -1,11 +1,14 @@
 //! A history heard event by event.
 
-ghost use Rattle.std.specs.Prelude.{◌≡◌, ◌+◌, ◌-◌, ◌^◌, [], None, min, max};
-ghost use Rattle.pt_judge.specs.Judging.{cause, known};
+ghost use Rattle.std.specs.Prelude.{◌≡◌, ◌+◌, ◌-◌, ◌^◌, [], None, min, max, slice_get};
+ghost use Rattle.std.specs.Map.{keys_of};
+ghost use Rattle.std.specs.Option.{option_map};
+ghost use Rattle.pt_judge.specs.Judging.{cause, known, now_is};
 ghost use Rattle.pt_auditor.specs.Hearings.{Heard, IsHeard, Hears, Tells, Ends, IsSunk, IsWithout, Objects, follows};
+ghost use Rattle.pt_auditor.specs.Standings.{IsTrueOf, standing_of, waiting_of};
 
-use crate::Objection;
 use crate::against::contradiction;
+use crate::{Objection, Standing};
 use pt_events::{Event, Stamped};
 use pt_judge::State;
 use pt_signal::{Letter, Pid};
@@ -175,6 +178,36 @@ impl Hearing {
             events,
             desks,
             letters: one_more(letters),
+        }
+    }
+
+    /// What became of the process that was born as the one with this number, counted from 0, by the events heard.
+    pub fn standing(&self, number: usize) -> Option<Standing>
+        ensures born { option_map (λ s. s.pid) result ≡ slice_get (keys_of self.now.state.lives) number }
+        ensures told { (heard : Heard) → IsHeard heard self.now → IsTrueOf heard result }
+    {
+        match self.state.born(number) {
+            Some(pid) => Some(self.standing_of(pid)),
+            None => None,
+        }
+    }
+
+    fn standing_of(&self, pid: Pid) -> Standing
+        ensures { result ≡ standing_of pid (now_is self.now.state pid) }
+    {
+        Standing {
+            pid,
+            ended: self.state.ended(pid),
+            waiting: self.waiting(pid),
+        }
+    }
+
+    fn waiting(&self, pid: Pid) -> u64
+        ensures { result ≡ waiting_of (now_is self.now.state pid) }
+    {
+        match self.state.waiting(pid) {
+            Some(items) => items.len() as u64,
+            None => 0,
         }
     }
 

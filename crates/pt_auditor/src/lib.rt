@@ -7,7 +7,7 @@
 //! An [`Audit`] reads the same from bytes, as a program prints a history: a line an event, then a line a letter left
 //! over. It takes the bytes in pieces of any size, keeps one line of them, and answers the first line at fault by its
 //! number.
-#![tactic(auto, unfolding(crate::specs::Text::verdict_text))]
+#![tactic(auto)]
 
 mod against;
 mod audit;
@@ -15,9 +15,13 @@ mod fault;
 mod hearing;
 mod line;
 mod objection;
+mod selection;
+mod standing;
 mod text;
 
 pub use audit::Audit;
 pub use fault::{Fault, MOST_LINE, Why};
 pub use hearing::{Hearing, Verdict};
 pub use objection::{Contradiction, Objection};
+pub use selection::Selection;
+pub use standing::Standing;

@@ -28,7 +28,7 @@ fn further(one: usize, other: usize) -> usize
 }
 
 /// Hears the event, or the letter left over, that the line is.
-pub fn hear_line(alloc: Global, hearing: Hearing, line: &[u8]) -> Result<Hearing, Why>
+pub(crate) fn hear_line(alloc: Global, hearing: Hearing, line: &[u8]) -> Result<Hearing, Why>
     ensures { (heard : Heard) → IsHeard heard hearing → HearsLine heard (bare line.now) result }
 {
     let line = bare(line);

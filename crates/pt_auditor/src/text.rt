@@ -1,6 +1,8 @@
-//! What is printed of verdicts and faults.
+//! What is printed of verdicts, processes and faults.
 
-use crate::{Contradiction, Fault, Objection, Verdict, Why};
+#![tactic(auto, unfolding(crate::specs::Text::verdict_text, crate::specs::Text::fate_text, crate::specs::Text::standing_text, crate::specs::Text::any_signal_text, crate::specs::Text::any_item_text, crate::specs::Text::absence_text, crate::specs::Text::contradiction_text, crate::specs::Text::objection_text, crate::specs::Text::why_text, crate::specs::Text::fault_text,))]
+
+use crate::{Contradiction, Fault, Objection, Standing, Verdict, Why};
 use pt_signal::{Item, Reason, Signal};
 use std::fmt;
 
@@ -16,7 +18,47 @@ struct AnyItem(Option<Item>);
 #[derive(Clone, Copy)]
 struct Absence(Option<Reason>);
 
+/// Whether a process is alive, or the reason it ended with.
+#[derive(Clone, Copy)]
+struct Fate(Option<Reason>);
+
+impl fmt::Display for Fate {
+    ghost use Rattle.std.specs.Prelude.{Some};
+    ghost use Rattle.pt_auditor.specs.Text.{fate_text};
+
+    ghost output = { λ f. Some (fate_text f.0) };
+
+    fn fmt<W: fmt::Write>(&self, f: &mut fmt::Formatter<W>) -> fmt::Result {
+        match self.0 {
+            Some(reason) => write!(f, "ended {reason}"),
+            None => f.write_str("alive"),
+        }
+    }
+}
+
+impl fmt::Display for Standing {
+    ghost use Rattle.std.specs.Prelude.{Some};
+    ghost use Rattle.pt_auditor.specs.Text.{standing_text};
+
+    ghost output = { λ s. Some (standing_text s) };
+
+    fn fmt<W: fmt::Write>(&self, f: &mut fmt::Formatter<W>) -> fmt::Result {
+        let Standing {
+            pid,
+            ended,
+            waiting,
+        } = *self;
+        let fate = Fate(ended);
+        write!(f, "{pid} {fate} waiting {waiting}")
+    }
+}
+
 impl fmt::Display for AnySignal {
+    ghost use Rattle.std.specs.Prelude.{Some};
+    ghost use Rattle.pt_auditor.specs.Text.{any_signal_text};
+
+    ghost output = { λ x. Some (any_signal_text x.0) };
+
     fn fmt<W: fmt::Write>(&self, f: &mut fmt::Formatter<W>) -> fmt::Result {
         match self.0 {
             Some(signal) => write!(f, "{signal}"),
@@ -26,6 +68,11 @@ impl fmt::Display for AnySignal {
 }
 
 impl fmt::Display for AnyItem {
+    ghost use Rattle.std.specs.Prelude.{Some};
+    ghost use Rattle.pt_auditor.specs.Text.{any_item_text};
+
+    ghost output = { λ i. Some (any_item_text i.0) };
+
     fn fmt<W: fmt::Write>(&self, f: &mut fmt::Formatter<W>) -> fmt::Result {
         match self.0 {
             Some(item) => write!(f, "{item}"),
@@ -35,6 +82,11 @@ impl fmt::Display for AnyItem {
 }
 
 impl fmt::Display for Absence {
+    ghost use Rattle.std.specs.Prelude.{Some};
+    ghost use Rattle.pt_auditor.specs.Text.{absence_text};
+
+    ghost output = { λ a. Some (absence_text a.0) };
+
     fn fmt<W: fmt::Write>(&self, f: &mut fmt::Formatter<W>) -> fmt::Result {
         match self.0 {
             Some(reason) => write!(f, "ended with {reason}"),
@@ -63,6 +115,11 @@ impl fmt::Display for Verdict {
 }
 
 impl fmt::Display for Contradiction {
+    ghost use Rattle.std.specs.Prelude.{Some};
+    ghost use Rattle.pt_auditor.specs.Text.{contradiction_text};
+
+    ghost output = { λ c. Some (contradiction_text c) };
+
     fn fmt<W: fmt::Write>(&self, f: &mut fmt::Formatter<W>) -> fmt::Result {
         match *self {
             Contradiction::Oldest(signal) => {
@@ -83,6 +140,11 @@ impl fmt::Display for Contradiction {
 }
 
 impl fmt::Display for Objection {
+    ghost use Rattle.std.specs.Prelude.{Some};
+    ghost use Rattle.pt_auditor.specs.Text.{objection_text};
+
+    ghost output = { λ o. Some (objection_text o) };
+
     fn fmt<W: fmt::Write>(&self, f: &mut fmt::Formatter<W>) -> fmt::Result {
         match *self {
             Objection::Behind => f.write_str("an event behind a letter left over"),
@@ -112,6 +174,11 @@ impl fmt::Display for Objection {
 }
 
 impl fmt::Display for Why {
+    ghost use Rattle.std.specs.Prelude.{Some};
+    ghost use Rattle.pt_auditor.specs.Text.{why_text};
+
+    ghost output = { λ w. Some (why_text w) };
+
     fn fmt<W: fmt::Write>(&self, f: &mut fmt::Formatter<W>) -> fmt::Result {
         match *self {
             Why::Unread(column) => {
@@ -130,6 +197,11 @@ impl fmt::Display for Why {
 }
 
 impl fmt::Display for Fault {
+    ghost use Rattle.std.specs.Prelude.{Some};
+    ghost use Rattle.pt_auditor.specs.Text.{fault_text};
+
+    ghost output = { λ f. Some (fault_text f) };
+
     fn fmt<W: fmt::Write>(&self, f: &mut fmt::Formatter<W>) -> fmt::Result {
         let Fault { line, why } = *self;
         write!(f, "line {line}: {why}")

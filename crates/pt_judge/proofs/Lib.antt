@@ -1,7 +1,10 @@
 pub mod Judge
+pub mod Filed
 pub mod FirstPlaces
 pub mod Lives
 pub mod KeptNext
+pub mod Starting
 pub mod SameValues
 pub mod Judged
+pub mod Queued
 pub mod Trial

@@ -18,12 +18,14 @@ use Rattle.pt_judge.specs.declared.cause.Cause.{Cause}
 use Rattle.pt_judge.specs.declared.cause.Cause.TheVariants.{BornTwice, NotAlive, NotFront, NotFirstMatch, Unlawful}
 use Rattle.pt_events.specs.declared.event.Event.{Event}
 use Rattle.pt_events.specs.declared.event.Event.TheVariants.{Born, Said, Came, Took, Flag, Left, Refused}
+use Rattle.pt_signal.specs.contracts.item.ItemPartialEq.TheImpl.{ghosts as of_item}
+use Rattle.pt_signal.specs.contracts.ids.IdsPartialEq.TheImpl.{ghosts as of_ids}
+use Rattle.pt_signal.specs.contracts.signal.SignalPartialEq.TheImpl.{ghosts as of_signal}
 use Rattle.pt_signal.specs.Values.{same_pid, same_ref, same_link, fits}
 use Rattle.pt_signal.specs.Process.{ProcessState, held, handle, obey, verdict, Sent, sent, bounce}
 use Rattle.pt_events.specs.History.{Past, Start, Phase, unborn, is_birth, is_living, is_unborn, is_the, is_between}
 use Rattle.pt_events.specs.History.{at_start, after, landed, reason_of, state_of, end_sends, life, flying, makes_link}
 use Rattle.pt_events.specs.History.{makes_ref, made_link, made_ref}
-use Rattle.pt_judge.specs.Same.{same_item, same_ids, same_signal}
 
 -- what the judge knows: the ids of links and the references that were made; what each process is that was born; and
 -- what is on its way
@@ -157,17 +159,18 @@ abbrev pub IsHeldBy : JudgeState → Pid → Option ProcessState → Type 0
 IsHeldBy s p None = now_is s p ≡ unborn
 IsHeldBy s p (Some held) = held ≡ state_of (now_is s p)
 
+-- whether it is there and the same, as the derived `==` of its type tells
 abbrev pub is_item : Option Item → Item → Bool
 is_item None i = false
-is_item (Some j) i = same_item j i
+is_item (Some j) i = of_item.eq j i
 
 abbrev pub is_ids : Option Ids → Ids → Bool
 is_ids None ids = false
-is_ids (Some held) ids = same_ids held ids
+is_ids (Some held) ids = of_ids.eq held ids
 
 abbrev pub is_signal : Option Signal → Signal → Bool
 is_signal None x = false
-is_signal (Some y) x = same_signal y x
+is_signal (Some y) x = of_signal.eq y x
 
 abbrev pub may_say : Known → Pid → Pid → Signal → Bool
 may_say k a b (Message body) = true

@@ -1,4 +1,5 @@
+pub mod Filing
 pub mod Judging
 pub mod Judge
 pub mod Places
-pub mod Same
+pub mod Text

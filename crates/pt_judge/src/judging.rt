@@ -5,9 +5,11 @@ mod flights;
 mod holdings;
 mod links;
 mod lives;
-mod same;
+mod queues;
+mod resumed;
 mod state;
 mod trial;
 
+pub use resumed::Holding;
 pub use state::State;
 pub use trial::{replay, replay_from};

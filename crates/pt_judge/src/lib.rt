@@ -2,18 +2,21 @@
 //!
 //! [`replay`] runs through a history from its first event. It answers the [`State`] after the last one exactly
 //! where each event may come after those before it, and else the place of the first that may not, with the lowest
-//! [`Cause`] that fits. [`replay_from`] goes on from a state, so a long history is judged piece by piece. The judge is
-//! written from the definitions, and shares with a desk no more than the values of `pt_signal` with their methods. Use
-//! it to judge what another program wrote, or in tests. In a `State` the links, watches and flag of a process that
-//! ended are those that it had at its end; it has no open monitor and nothing waits.
+//! [`Cause`] that fits. [`replay_from`] goes on from a state, so a long history is judged piece by piece. Where the
+//! state is that of the processes which one history left behind ([`State::with_living`], [`State::with_ended`]), the
+//! history that goes on from there is judged over it alone. The judge is written from the definitions, and shares with
+//! a desk no more than the values of `pt_signal` with their methods. Use it to judge what another program wrote, or in
+//! tests. In a `State` the links, watches and flag of a process that ended are those that it had at its end; it has no
+//! open monitor and nothing waits.
 //!
 //! An event is shown to the processes that it is of alone, each found by its pid; ids of links and references that were
-//! made stand in sets. What an event costs still grows with the letters on their way, which a receipt looks through,
-//! and with the lists of the one process that it is of.
-#![tactic(auto)]
+//! made stand in sets; letters on their way stand by number, and the numbers of each two processes in a queue. So what
+//! an event costs grows with the logarithm of the letters on their way, and with the lists of the one process that it
+//! is of.
+#![tactic(auto, unfolding(crate::specs::Text::cause_text))]
 
 mod cause;
 mod judging;
 
 pub use cause::Cause;
-pub use judging::{State, replay, replay_from};
+pub use judging::{Holding, State, replay, replay_from};

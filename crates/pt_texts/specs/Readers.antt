@@ -81,6 +81,16 @@ pick_at =
     (or_else (codes "alive-of ") (mapped Pick.AliveOf ref_at)
     none_of_these)))))
 
+-- a signal of a monitor, or of the question whether a process is alive
+abbrev pub other_signal_at : Reader Signal
+other_signal_at =
+    or_else (codes "monitor ") (mapped Monitor ref_at)
+    (or_else (codes "demonitor ") (mapped Demonitor ref_at)
+    (or_else (codes "down ") (mapped (λ x. Signal.Down x.0 x.1) (pair ref_at (before (codes " ") reason_at)))
+    (or_else (codes "alive-ask ") (mapped AliveAsk ref_at)
+    (or_else (codes "alive-say ") (mapped (λ x. AliveSay x.0 x.1) (pair ref_at (before (codes " ") yes_or_no_at)))
+    none_of_these))))
+
 unfoldable pub signal_at : Reader Signal
 signal_at =
     or_else (codes "message ") (mapped Message body_at)
@@ -88,12 +98,7 @@ signal_at =
     (or_else (codes "unlink ") (mapped Unlink ids_at)
     (or_else (codes "exit ") (mapped Signal.Exit reason_at)
     (or_else (codes "link-exit ") (mapped (λ x. LinkExit x.0 x.1) (pair ids_at (before (codes " ") reason_at)))
-    (or_else (codes "monitor ") (mapped Monitor ref_at)
-    (or_else (codes "demonitor ") (mapped Demonitor ref_at)
-    (or_else (codes "down ") (mapped (λ x. Signal.Down x.0 x.1) (pair ref_at (before (codes " ") reason_at)))
-    (or_else (codes "alive-ask ") (mapped AliveAsk ref_at)
-    (or_else (codes "alive-say ") (mapped (λ x. AliveSay x.0 x.1) (pair ref_at (before (codes " ") yes_or_no_at)))
-    none_of_these)))))))))
+    other_signal_at))))
 
 unfoldable pub route_at : Reader (Pid × Pid)
 route_at = pair pid_at (before (codes " -> ") pid_at)

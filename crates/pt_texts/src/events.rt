@@ -61,7 +61,7 @@ fn birth_at(text: &[u8]) -> Read<'_, Event>
 }
 
 #[tactic(auto, unfolding(crate::specs::Readers::event_at))]
-pub fn event_at(text: &[u8]) -> Read<'_, Event>
+pub(crate) fn event_at(text: &[u8]) -> Read<'_, Event>
     ensures { Gives (λ read. (read.0, read.1.now)) result (event_at text.now) }
 {
     if let Some(text) = behind("said ", text) {
@@ -101,7 +101,7 @@ pub fn event_at(text: &[u8]) -> Read<'_, Event>
 }
 
 #[tactic(auto, unfolding(crate::specs::Readers::stamped_at))]
-pub fn stamped_at(text: &[u8]) -> Read<'_, Stamped>
+pub(crate) fn stamped_at(text: &[u8]) -> Read<'_, Stamped>
     ensures { Gives (λ read. (read.0, read.1.now)) result (stamped_at text.now) }
 {
     let (stamp, rest) = u64_at(text)?;

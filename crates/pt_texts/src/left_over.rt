@@ -20,7 +20,7 @@ pub struct LeftOver {
 }
 
 #[tactic(auto, unfolding(crate::specs::Readers::left_over_at))]
-pub fn left_over_at(text: &[u8]) -> Read<'_, LeftOver>
+pub(crate) fn left_over_at(text: &[u8]) -> Read<'_, LeftOver>
     ensures { Gives (λ read. (read.0, read.1.now)) result (left_over_at text.now) }
 {
     let (from_desk, rest) = u8_at(word_at("left-over ", text)?)?;

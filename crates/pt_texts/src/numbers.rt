@@ -53,7 +53,7 @@ fn number_at(most: u64, text: &[u8]) -> Read<'_, u64>
 }
 
 /// A number of 8 bits.
-pub fn u8_at(text: &[u8]) -> Read<'_, u8>
+pub(crate) fn u8_at(text: &[u8]) -> Read<'_, u8>
     ensures { Gives (λ read. (read.0, read.1.now)) result (u8_at text.now) }
 {
     let (number, rest) = number_at(255, text)?;
@@ -61,7 +61,7 @@ pub fn u8_at(text: &[u8]) -> Read<'_, u8>
 }
 
 /// A number of 32 bits.
-pub fn u32_at(text: &[u8]) -> Read<'_, u32>
+pub(crate) fn u32_at(text: &[u8]) -> Read<'_, u32>
     ensures { Gives (λ read. (read.0, read.1.now)) result (u32_at text.now) }
 {
     let (number, rest) = number_at(4_294_967_295, text)?;
@@ -69,14 +69,14 @@ pub fn u32_at(text: &[u8]) -> Read<'_, u32>
 }
 
 /// A number of 64 bits.
-pub fn u64_at(text: &[u8]) -> Read<'_, u64>
+pub(crate) fn u64_at(text: &[u8]) -> Read<'_, u64>
     ensures { Gives (λ read. (read.0, read.1.now)) result (u64_at text.now) }
 {
     number_at(18_446_744_073_709_551_615, text)
 }
 
 /// A number of 64 bits with its sign.
-pub fn i64_at(text: &[u8]) -> Read<'_, i64>
+pub(crate) fn i64_at(text: &[u8]) -> Read<'_, i64>
     ensures { Gives (λ read. (read.0, read.1.now)) result (i64_at text.now) }
 {
     match behind("-", text) {

@@ -1,7 +1,7 @@
 //! What stands in a mailbox, what a receive takes, and signals on their way.
 
 ghost use Rattle.pt_texts.specs.Steps.{Gives};
-ghost use Rattle.pt_texts.specs.Readers.{item_at, pick_at, signal_at, route_at, letter_at};
+ghost use Rattle.pt_texts.specs.Readers.{item_at, pick_at, signal_at, other_signal_at, route_at, letter_at};
 
 use crate::numbers::{u32_at, u64_at};
 use crate::steps::{Read, behind, word_at};
@@ -9,7 +9,7 @@ use crate::values::{body_at, ids_at, link_id_at, pid_at, reason_at, ref_at, yes_
 use pt_signal::{Item, Letter, Pick, Pid, Signal};
 
 #[tactic(auto, unfolding(crate::specs::Readers::item_at))]
-pub fn item_at(text: &[u8]) -> Read<'_, Item>
+pub(crate) fn item_at(text: &[u8]) -> Read<'_, Item>
     ensures { Gives (λ read. (read.0, read.1.now)) result (item_at text.now) }
 {
     if let Some(text) = behind("user ", text) {
@@ -38,7 +38,7 @@ pub fn item_at(text: &[u8]) -> Read<'_, Item>
 }
 
 #[tactic(auto, unfolding(crate::specs::Readers::pick_at))]
-pub fn pick_at(text: &[u8]) -> Read<'_, Pick>
+pub(crate) fn pick_at(text: &[u8]) -> Read<'_, Pick>
     ensures { Gives (λ read. (read.0, read.1.now)) result (pick_at text.now) }
 {
     if let Some(rest) = behind("any", text) {
@@ -68,7 +68,7 @@ pub fn pick_at(text: &[u8]) -> Read<'_, Pick>
 }
 
 #[tactic(auto, unfolding(crate::specs::Readers::signal_at))]
-pub fn signal_at(text: &[u8]) -> Read<'_, Signal>
+pub(crate) fn signal_at(text: &[u8]) -> Read<'_, Signal>
     ensures { Gives (λ read. (read.0, read.1.now)) result (signal_at text.now) }
 {
     if let Some(text) = behind("message ", text) {
@@ -92,6 +92,13 @@ pub fn signal_at(text: &[u8]) -> Read<'_, Signal>
         let (reason, rest) = reason_at(word_at(" ", rest)?)?;
         return Ok((Signal::LinkExit(ids, reason), rest));
     }
+    other_signal_at(text)
+}
+
+/// A signal of a monitor, or of the question whether a process is alive.
+fn other_signal_at(text: &[u8]) -> Read<'_, Signal>
+    ensures { Gives (λ read. (read.0, read.1.now)) result (other_signal_at text.now) }
+{
     if let Some(text) = behind("monitor ", text) {
         let (monitor, rest) = ref_at(text)?;
         return Ok((Signal::Monitor(monitor), rest));
@@ -119,7 +126,7 @@ pub fn signal_at(text: &[u8]) -> Read<'_, Signal>
 
 /// Who sends, and to whom.
 #[tactic(auto, unfolding(crate::specs::Readers::route_at))]
-pub fn route_at(text: &[u8]) -> Read<'_, (Pid, Pid)>
+pub(crate) fn route_at(text: &[u8]) -> Read<'_, (Pid, Pid)>
     ensures { Gives (λ read. (read.0, read.1.now)) result (route_at text.now) }
 {
     let (from, rest) = pid_at(text)?;
@@ -128,7 +135,7 @@ pub fn route_at(text: &[u8]) -> Read<'_, (Pid, Pid)>
 }
 
 #[tactic(auto, unfolding(crate::specs::Readers::letter_at))]
-pub fn letter_at(text: &[u8]) -> Read<'_, Letter>
+pub(crate) fn letter_at(text: &[u8]) -> Read<'_, Letter>
     ensures { Gives (λ read. (read.0, read.1.now)) result (letter_at text.now) }
 {
     let ((from, to), rest) = route_at(text)?;

@@ -4,11 +4,11 @@ ghost use Rattle.std.specs.Prelude.{◌≡◌, option_map};
 ghost use Rattle.pt_texts.specs.Steps.{Gives, behind, word_at};
 
 /// A value and the text behind it, or how many bytes are left where reading stops.
-pub type Read<'a, T> = Result<(T, &'a [u8]), usize>;
+pub(crate) type Read<'a, T> = Result<(T, &'a [u8]), usize>;
 
 /// What stands behind the word, where the text begins with it.
 #[tactic(auto, using(crate::proofs::OneMore::behind_step, crate::proofs::OneMore::behind_short))]
-pub fn behind<'a>(word: &str, text: &'a [u8]) -> Option<&'a [u8]>
+pub(crate) fn behind<'a>(word: &str, text: &'a [u8]) -> Option<&'a [u8]>
     ensures { option_map (λ rest. rest.now) result ≡ behind word.now text.now }
 {
     let word = word.as_bytes();
@@ -24,7 +24,7 @@ pub fn behind<'a>(word: &str, text: &'a [u8]) -> Option<&'a [u8]>
 }
 
 /// What stands behind the word, which the text has to begin with.
-pub fn word_at<'a>(word: &str, text: &'a [u8]) -> Result<&'a [u8], usize>
+pub(crate) fn word_at<'a>(word: &str, text: &'a [u8]) -> Result<&'a [u8], usize>
     ensures { Gives (λ rest. rest.now) result (word_at word.now text.now) }
 {
     match behind(word, text) {

@@ -8,7 +8,7 @@ use crate::steps::{Read, behind, word_at};
 use pt_signal::{Body, Ids, LinkId, Pid, Reason, Ref};
 
 #[tactic(auto, unfolding(crate::specs::Readers::pid_at))]
-pub fn pid_at(text: &[u8]) -> Read<'_, Pid>
+pub(crate) fn pid_at(text: &[u8]) -> Read<'_, Pid>
     ensures { Gives (λ read. (read.0, read.1.now)) result (pid_at text.now) }
 {
     let text = word_at("<", text)?;
@@ -27,7 +27,7 @@ pub fn pid_at(text: &[u8]) -> Read<'_, Pid>
 }
 
 #[tactic(auto, unfolding(crate::specs::Readers::ref_at))]
-pub fn ref_at(text: &[u8]) -> Read<'_, Ref>
+pub(crate) fn ref_at(text: &[u8]) -> Read<'_, Ref>
     ensures { Gives (λ read. (read.0, read.1.now)) result (ref_at text.now) }
 {
     let text = word_at("#", text)?;
@@ -38,7 +38,7 @@ pub fn ref_at(text: &[u8]) -> Read<'_, Ref>
 }
 
 #[tactic(auto, unfolding(crate::specs::Readers::link_id_at))]
-pub fn link_id_at(text: &[u8]) -> Read<'_, LinkId>
+pub(crate) fn link_id_at(text: &[u8]) -> Read<'_, LinkId>
     ensures { Gives (λ read. (read.0, read.1.now)) result (link_id_at text.now) }
 {
     let text = word_at("~", text)?;
@@ -49,7 +49,7 @@ pub fn link_id_at(text: &[u8]) -> Read<'_, LinkId>
 }
 
 #[tactic(auto, unfolding(crate::specs::Readers::ids_at))]
-pub fn ids_at(text: &[u8]) -> Read<'_, Ids>
+pub(crate) fn ids_at(text: &[u8]) -> Read<'_, Ids>
     ensures { Gives (λ read. (read.0, read.1.now)) result (ids_at text.now) }
 {
     let (one, rest) = link_id_at(text)?;
@@ -64,7 +64,7 @@ pub fn ids_at(text: &[u8]) -> Read<'_, Ids>
 }
 
 #[tactic(auto, unfolding(crate::specs::Readers::body_at))]
-pub fn body_at(text: &[u8]) -> Read<'_, Body>
+pub(crate) fn body_at(text: &[u8]) -> Read<'_, Body>
     ensures { Gives (λ read. (read.0, read.1.now)) result (body_at text.now) }
 {
     let (kind, rest) = u32_at(text)?;
@@ -84,7 +84,7 @@ pub fn body_at(text: &[u8]) -> Read<'_, Body>
 }
 
 #[tactic(auto, unfolding(crate::specs::Readers::reason_at))]
-pub fn reason_at(text: &[u8]) -> Read<'_, Reason>
+pub(crate) fn reason_at(text: &[u8]) -> Read<'_, Reason>
     ensures { Gives (λ read. (read.0, read.1.now)) result (reason_at text.now) }
 {
     if let Some(rest) = behind("normal", text) {
@@ -110,7 +110,7 @@ pub fn reason_at(text: &[u8]) -> Read<'_, Reason>
 }
 
 #[tactic(auto, unfolding(crate::specs::Readers::yes_or_no_at))]
-pub fn yes_or_no_at(text: &[u8]) -> Read<'_, bool>
+pub(crate) fn yes_or_no_at(text: &[u8]) -> Read<'_, bool>
     ensures { Gives (λ read. (read.0, read.1.now)) result (yes_or_no_at text.now) }
 {
     if let Some(rest) = behind("yes", text) {

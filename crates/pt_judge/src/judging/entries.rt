@@ -7,7 +7,7 @@ ghost use Rattle.pt_signal.specs.Values.{without_first};
 ghost use Rattle.pt_judge.specs.Places.{first_place};
 
 /// What is looked for in a list.
-pub trait Test<T> {
+pub(crate) trait Test<T> {
     ghost passes: { Self → T → Bool };
 
     fn passes(&self, item: &T) -> bool
@@ -15,7 +15,7 @@ pub trait Test<T> {
 }
 
 /// The place of the first that passes, or the length of the list.
-pub fn place_of<T, K: Test<T>>(list: &[T], test: &K) -> usize
+pub(crate) fn place_of<T, K: Test<T>>(list: &[T], test: &K) -> usize
     ensures { result ≡ first_place (K.passes test.now) list.now }
 {
     for place in 0..list.len() {
@@ -27,7 +27,7 @@ pub fn place_of<T, K: Test<T>>(list: &[T], test: &K) -> usize
 }
 
 /// The first that passes.
-pub fn first<'a, T, K: Test<T>>(list: &'a [T], test: &K) -> Option<&'a T>
+pub(crate) fn first<'a, T, K: Test<T>>(list: &'a [T], test: &K) -> Option<&'a T>
     ensures { option_map (λ item. item.now) result ≡ find (K.passes test.now) list.now }
 {
     let place = place_of(list, test);
@@ -39,14 +39,14 @@ pub fn first<'a, T, K: Test<T>>(list: &'a [T], test: &K) -> Option<&'a T>
 }
 
 /// A copy of the first that passes.
-pub fn find<T: Copy, K: Test<T>>(list: &[T], test: &K) -> Option<T>
+pub(crate) fn find<T: Copy, K: Test<T>>(list: &[T], test: &K) -> Option<T>
     ensures { result ≡ find (K.passes test.now) list.now }
 {
     first(list, test).copied()
 }
 
 /// Takes out the first that passes.
-pub fn take_out<T: Drop, K: Test<T>>(list: &mut Vec<T>, test: &K)
+pub(crate) fn take_out<T: Drop, K: Test<T>>(list: &mut Vec<T>, test: &K)
     ensures { list.new.items ≡ without_first (K.passes test.now) list.old.items }
 {
     let place = place_of(list.as_slice(), test);

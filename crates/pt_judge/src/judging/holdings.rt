@@ -14,7 +14,7 @@ use std::alloc::{AllocError, Global};
 use std::marker::Model;
 
 #[derive(Drop)]
-pub struct Holdings {
+pub(crate) struct Holdings {
     waiting: Vec<Item>,
     links: Vec<(Pid, Ids)>,
     watching: Vec<(Ref, Pid)>,
@@ -55,7 +55,7 @@ fn is_normal(reason: Reason) -> bool
 }
 
 impl Holdings {
-    pub fn new(alloc: Global) -> Holdings
+    pub(crate) fn new(alloc: Global) -> Holdings
         ensures { result ≡ fresh }
     {
         Holdings {
@@ -67,38 +67,63 @@ impl Holdings {
         }
     }
 
+    /// What a process holds, list by list.
+    pub(crate) fn of(
+        waiting: Vec<Item>,
+        links: Vec<(Pid, Ids)>,
+        watching: Vec<(Ref, Pid)>,
+        kept: Vec<(Ref, Pid)>,
+        traps: bool,
+    ) -> Holdings
+        ensures { result ≡ record {
+          waiting = waiting.items;
+          links = links.items;
+          watching = watching.items;
+          kept = kept.items;
+          traps = traps;
+        } }
+    {
+        Holdings {
+            waiting,
+            links,
+            watching,
+            kept,
+            traps,
+        }
+    }
+
     /// Links it with the peer under the id.
-    pub fn link(&mut self, peer: Pid, id: LinkId) -> Result<(), AllocError>
+    pub(crate) fn link(&mut self, peer: Pid, id: LinkId) -> Result<(), AllocError>
         ensures { OnOk result (self.new ≡ record self.old { links = enter peer id self.old.links }) }
     {
         enter(&mut self.links, peer, id)
     }
 
-    pub fn waiting(&self) -> &[Item]
+    pub(crate) fn waiting(&self) -> &[Item]
         ensures { result.now ≡ self.now.waiting }
     {
         self.waiting.as_slice()
     }
 
-    pub fn links(&self) -> &[(Pid, Ids)]
+    pub(crate) fn links(&self) -> &[(Pid, Ids)]
         ensures { result.now ≡ self.now.links }
     {
         self.links.as_slice()
     }
 
-    pub fn watching(&self) -> &[(Ref, Pid)]
+    pub(crate) fn watching(&self) -> &[(Ref, Pid)]
         ensures { result.now ≡ self.now.watching }
     {
         self.watching.as_slice()
     }
 
-    pub fn kept(&self) -> &[(Ref, Pid)]
+    pub(crate) fn kept(&self) -> &[(Ref, Pid)]
         ensures { result.now ≡ self.now.kept }
     {
         self.kept.as_slice()
     }
 
-    pub fn traps(&self) -> bool
+    pub(crate) fn traps(&self) -> bool
         ensures { result ≡ self.now.traps }
     {
         self.traps
@@ -196,7 +221,7 @@ impl Holdings {
     }
 
     /// One of the process's own events happens while it lives; gives the reason of the end, where it ends.
-    pub fn change(&mut self, me: Pid, event: Event) -> Result<Option<Reason>, AllocError>
+    pub(crate) fn change(&mut self, me: Pid, event: Event) -> Result<Option<Reason>, AllocError>
         ensures { IfOk result (λ ending. live_or_end ending self.new ≡ change me event (living self.old)) }
     {
         match event {

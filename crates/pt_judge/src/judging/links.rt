@@ -55,7 +55,7 @@ impl Test<Item> for Pick {
 }
 
 /// The ids under which the process is linked with the peer.
-pub fn ids_with(links: &[(Pid, Ids)], peer: Pid) -> Option<Ids>
+pub(crate) fn ids_with(links: &[(Pid, Ids)], peer: Pid) -> Option<Ids>
     ensures { result ≡ held links.now peer }
 {
     match find(links, &peer) {
@@ -65,7 +65,7 @@ pub fn ids_with(links: &[(Pid, Ids)], peer: Pid) -> Option<Ids>
 }
 
 /// Takes out the whole entry of the peer.
-pub fn leave(links: &mut Vec<(Pid, Ids)>, peer: Pid)
+pub(crate) fn leave(links: &mut Vec<(Pid, Ids)>, peer: Pid)
     ensures { links.new.items ≡ remove_entry (same_pid peer) links.old.items }
 {
     take_out(links, &peer);
@@ -82,7 +82,7 @@ fn set_ids(links: &mut Vec<(Pid, Ids)>, peer: Pid, ids: Ids)
 }
 
 /// The id enters at the peer, unless there are two.
-pub fn enter(links: &mut Vec<(Pid, Ids)>, peer: Pid, id: LinkId) -> Result<(), AllocError>
+pub(crate) fn enter(links: &mut Vec<(Pid, Ids)>, peer: Pid, id: LinkId) -> Result<(), AllocError>
     ensures { OnOk result (links.new.items ≡ enter peer id links.old.items) }
 {
     match ids_with(links.as_slice(), peer) {
@@ -93,7 +93,7 @@ pub fn enter(links: &mut Vec<(Pid, Ids)>, peer: Pid, id: LinkId) -> Result<(), A
 }
 
 /// The named ids leave at the peer.
-pub fn cut(links: &mut Vec<(Pid, Ids)>, peer: Pid, named: Ids)
+pub(crate) fn cut(links: &mut Vec<(Pid, Ids)>, peer: Pid, named: Ids)
     ensures { links.new.items ≡ cut peer named links.old.items }
 {
     if let Some(ids) = ids_with(links.as_slice(), peer) {
@@ -105,7 +105,7 @@ pub fn cut(links: &mut Vec<(Pid, Ids)>, peer: Pid, named: Ids)
 }
 
 /// The process that is watched under the reference.
-pub fn target_of(watching: &[(Ref, Pid)], monitor: Ref) -> Option<Pid>
+pub(crate) fn target_of(watching: &[(Ref, Pid)], monitor: Ref) -> Option<Pid>
     ensures { result ≡ lookup (same_ref monitor) watching.now }
 {
     match find(watching, &monitor) {
@@ -115,21 +115,21 @@ pub fn target_of(watching: &[(Ref, Pid)], monitor: Ref) -> Option<Pid>
 }
 
 /// Closes the monitor.
-pub fn close(watching: &mut Vec<(Ref, Pid)>, monitor: Ref)
+pub(crate) fn close(watching: &mut Vec<(Ref, Pid)>, monitor: Ref)
     ensures { watching.new.items ≡ remove_entry (same_ref monitor) watching.old.items }
 {
     take_out(watching, &monitor);
 }
 
 /// Whether the watch is kept.
-pub fn keeps(kept: &[(Ref, Pid)], monitor: Ref, watcher: Pid) -> bool
+pub(crate) fn keeps(kept: &[(Ref, Pid)], monitor: Ref, watcher: Pid) -> bool
     ensures { result ≡ list_any (same_watch monitor watcher) kept.now }
 {
     find(kept, &Watch(monitor, watcher)).is_some()
 }
 
 /// Keeps the watch, if it is not kept.
-pub fn keep(kept: &mut Vec<(Ref, Pid)>, monitor: Ref, watcher: Pid) -> Result<(), AllocError>
+pub(crate) fn keep(kept: &mut Vec<(Ref, Pid)>, monitor: Ref, watcher: Pid) -> Result<(), AllocError>
     ensures { OnOk result (kept.new.items ≡ keep monitor watcher kept.old.items) }
 {
     if !keeps(kept.as_slice(), monitor, watcher) {
@@ -139,21 +139,21 @@ pub fn keep(kept: &mut Vec<(Ref, Pid)>, monitor: Ref, watcher: Pid) -> Result<()
 }
 
 /// Keeps the watch no more.
-pub fn forget(kept: &mut Vec<(Ref, Pid)>, monitor: Ref, watcher: Pid)
+pub(crate) fn forget(kept: &mut Vec<(Ref, Pid)>, monitor: Ref, watcher: Pid)
     ensures { kept.new.items ≡ without_first (same_watch monitor watcher) kept.old.items }
 {
     take_out(kept, &Watch(monitor, watcher));
 }
 
 /// The first item that the pick fits.
-pub fn first_match(waiting: &[Item], pick: Pick) -> Option<Item>
+pub(crate) fn first_match(waiting: &[Item], pick: Pick) -> Option<Item>
     ensures { result ≡ find (fits pick) waiting.now }
 {
     find(waiting, &pick)
 }
 
 /// Takes out the first item that the pick fits.
-pub fn take(waiting: &mut Vec<Item>, pick: Pick)
+pub(crate) fn take(waiting: &mut Vec<Item>, pick: Pick)
     ensures { waiting.new.items ≡ without_first (fits pick) waiting.old.items }
 {
     take_out(waiting, &pick);

@@ -1,10 +1,11 @@
 //! The lives of all processes.
 
-ghost use Rattle.std.specs.Prelude.{◌≡◌, [], ◌∷◌, ◌++◌, false, is_some, IfOk, OnOk};
+ghost use Rattle.std.specs.Prelude.{◌≡◌, [], ◌∷◌, ◌++◌, false, slice_get, is_some, IfOk, OnOk};
 ghost use Rattle.std.specs.Option.{option_map};
-ghost use Rattle.std.specs.Map.{lookup};
+ghost use Rattle.std.specs.Map.{lookup, keys_of};
 ghost use Rattle.pt_signal.specs.Values.{same_pid};
-ghost use Rattle.pt_events.specs.History.{Phase, unborn, newborn, is_living, reason_of, state_of, touches, at_start};
+ghost use Rattle.pt_events.specs.History.{Phase, unborn, newborn, live_or_end, is_living, reason_of, state_of};
+ghost use Rattle.pt_events.specs.History.{touches, at_start};
 ghost use Rattle.pt_judge.specs.Judging.{shown, ShownTo, IsShownToParent, MayBeBorn, IsObserved, lived};
 ghost use Rattle.pt_judge.specs.Places.{first_place};
 ghost use Rattle.pt_signal.specs.declared.pid.Pid.{Pid};
@@ -18,7 +19,7 @@ use std::marker::Model;
 
 /// One process, from its birth on.
 #[derive(Drop)]
-pub struct Life {
+pub(crate) struct Life {
     pid: Pid,
     ended: Option<Reason>,
     holdings: Holdings,
@@ -49,6 +50,17 @@ fn touches(pid: Pid, event: Event) -> bool
 }
 
 impl Life {
+    /// A process that lives, or has ended, with what it holds.
+    pub(crate) fn of(pid: Pid, ended: Option<Reason>, holdings: Holdings) -> Life
+        ensures { result ≡ (pid, live_or_end ended holdings) }
+    {
+        Life {
+            pid,
+            ended,
+            holdings,
+        }
+    }
+
     fn born(
         alloc: Global,
         pid: Pid,
@@ -68,7 +80,7 @@ impl Life {
         })
     }
 
-    pub fn is_living(&self) -> bool
+    pub(crate) fn is_living(&self) -> bool
         ensures { result ≡ is_living self.now.1 }
     {
         match self.ended {
@@ -77,7 +89,7 @@ impl Life {
         }
     }
 
-    pub fn reason(&self) -> Option<Reason>
+    pub(crate) fn reason(&self) -> Option<Reason>
         ensures { result ≡ reason_of self.now.1 }
     {
         match self.ended {
@@ -86,7 +98,7 @@ impl Life {
         }
     }
 
-    pub fn holdings(&self) -> &Holdings
+    pub(crate) fn holdings(&self) -> &Holdings
         ensures { result.now ≡ state_of self.now.1 }
     {
         match self.ended {
@@ -107,7 +119,7 @@ impl Life {
 
 /// All processes that were born, in order of birth.
 #[derive(Drop)]
-pub struct Lives {
+pub(crate) struct Lives {
     /// The pids of the list, which tell the place of each.
     pids: IndexSet<Pid>,
     list: Vec<Life>,
@@ -126,13 +138,20 @@ impl Model for Lives {
 
 impl Lives {
     /// Nobody.
-    pub fn new(alloc: Global) -> Lives
+    pub(crate) fn new(alloc: Global) -> Lives
         ensures { result ≡ [] }
     {
         Lives {
             pids: IndexSet::new(alloc),
             list: Vec::new(alloc),
         }
+    }
+
+    /// The pid at the place, in order of birth.
+    pub(crate) fn born(&self, place: usize) -> Option<Pid>
+        ensures { result ≡ slice_get (keys_of self.now) place }
+    {
+        self.pids.get_index(place).copied()
     }
 
     /// The place of the pid, or the length of the list.
@@ -170,7 +189,7 @@ impl Lives {
     }
 
     /// One process more, whose pid none of them has.
-    fn with(self, life: Life) -> Result<Lives, AllocError>
+    pub(crate) fn with(self, life: Life) -> Result<Lives, AllocError>
         requires { is_some (lookup (same_pid life.0) self) ≡ false }
         ensures { IfOk result (λ lives. lives ≡ self ++ life ∷ []) }
     {
@@ -192,7 +211,7 @@ fn shown_to_parent(lives: Lives, parent: Option<Pid>, event: Event) -> Result<Li
 }
 
 /// The event happens.
-pub fn observe(alloc: Global, lives: Lives, event: Event) -> Result<Lives, AllocError>
+pub(crate) fn observe(alloc: Global, lives: Lives, event: Event) -> Result<Lives, AllocError>
     requires { MayBeBorn lives event }
     ensures { IfOk result (λ new. IsObserved lives new event) }
 {
@@ -211,13 +230,13 @@ pub fn observe(alloc: Global, lives: Lives, event: Event) -> Result<Lives, Alloc
 }
 
 /// Whether the process was born.
-pub fn is_known(lives: &Lives, pid: Pid) -> bool
+pub(crate) fn is_known(lives: &Lives, pid: Pid) -> bool
     ensures { result ≡ is_some (lookup (same_pid pid) lives.now) }
 {
     lives.found(pid).is_some()
 }
 
-pub fn is_living(lives: &Lives, pid: Pid) -> bool
+pub(crate) fn is_living(lives: &Lives, pid: Pid) -> bool
     ensures { result ≡ is_living (at_start lives.now pid) }
 {
     match lives.found(pid) {
@@ -226,7 +245,7 @@ pub fn is_living(lives: &Lives, pid: Pid) -> bool
     }
 }
 
-pub fn reason(lives: &Lives, pid: Pid) -> Option<Reason>
+pub(crate) fn reason(lives: &Lives, pid: Pid) -> Option<Reason>
     ensures { result ≡ reason_of (at_start lives.now pid) }
 {
     match lives.found(pid) {
@@ -236,7 +255,7 @@ pub fn reason(lives: &Lives, pid: Pid) -> Option<Reason>
 }
 
 /// What the process holds, or held just after its end.
-pub fn holdings(lives: &Lives, pid: Pid) -> Option<&Holdings>
+pub(crate) fn holdings(lives: &Lives, pid: Pid) -> Option<&Holdings>
     ensures { option_map (λ held. held.now) result ≡ option_map state_of (lookup (same_pid pid) lives.now) }
 {
     match lives.found(pid) {
@@ -246,7 +265,7 @@ pub fn holdings(lives: &Lives, pid: Pid) -> Option<&Holdings>
 }
 
 /// Whether the receiver of what came, or who leaves, lives.
-pub fn lived(lives: &Lives, event: Event) -> bool
+pub(crate) fn lived(lives: &Lives, event: Event) -> bool
     ensures { result ≡ lived lives.now event }
 {
     match event {

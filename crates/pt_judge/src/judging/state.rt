@@ -1,9 +1,10 @@
 //! What a legal history leads to.
 
-ghost use Rattle.std.specs.Prelude.{◌≡◌, ◌∷◌, [], Some, None, cond, length, slice_get, is_some, ◌||◌, IfOk, OnOk};
+ghost use Rattle.std.specs.Prelude.{◌≡◌, ◌∷◌, ◌++◌, [], true, false, Some, None, cond, length, slice_get};
+ghost use Rattle.std.specs.Prelude.{is_some, ◌||◌, IfOk, OnOk};
 ghost use Rattle.indexmap.specs.IndexSet.{contains};
 ghost use Rattle.std.specs.Option.{option_map};
-ghost use Rattle.std.specs.Map.{lookup};
+ghost use Rattle.std.specs.Map.{lookup, keys_of};
 ghost use Rattle.std.specs.List.{find};
 ghost use Rattle.pt_signal.specs.Values.{same_ref, same_link, fits, without_first};
 ghost use Rattle.pt_signal.specs.Process.{held, sent};
@@ -16,11 +17,10 @@ ghost use Rattle.pt_judge.specs.Judging.{now_is, known, cause, may_say, lacks, u
 ghost use Rattle.pt_judge.specs.Judging.{is_signal, IsHeldBy, IsStep};
 
 use crate::Cause;
-use crate::judging::flights::{Flight, dispatch, front, land, oldest, take_oldest};
+use crate::judging::flights::Flights;
 use crate::judging::holdings::Holdings;
 use crate::judging::links::{first_match, ids_with, target_of};
-use crate::judging::lives::{Lives, holdings, is_known, is_living, lived, observe, reason};
-use crate::judging::same;
+use crate::judging::lives::{Life, Lives, holdings, is_known, is_living, lived, observe, reason};
 use indexmap::IndexSet;
 use pt_events::Event;
 use pt_signal::{Ids, Item, LinkId, Pick, Pid, Reason, Ref, Signal};
@@ -37,7 +37,7 @@ pub struct State {
     links: IndexSet<LinkId>,
     refs: IndexSet<Ref>,
     lives: Lives,
-    flights: Vec<Flight>,
+    flights: Flights,
 }
 
 impl Model for State {
@@ -49,7 +49,7 @@ impl Model for State {
       links = s.links.keys;
       refs = s.refs.keys;
       lives = s.lives;
-      flights = s.flights.items;
+      flights = s.flights;
     } };
 
     ghost invariant = { λ s. ListsBorn s.lives };
@@ -98,8 +98,15 @@ impl State {
             links: IndexSet::new(alloc),
             refs: IndexSet::new(alloc),
             lives: Lives::new(alloc),
-            flights: Vec::new(alloc),
+            flights: Flights::new(alloc),
         }
+    }
+
+    /// The process that was born as the one with this number, counted from 0.
+    pub fn born(&self, number: usize) -> Option<Pid>
+        ensures { result ≡ slice_get (keys_of self.now.lives) number }
+    {
+        self.lives.born(number)
     }
 
     /// Whether the process was born and has not ended.
@@ -177,21 +184,21 @@ impl State {
     pub fn in_flight(&self) -> u64
         ensures { result ≡ length self.now.flights }
     {
-        self.flights.len() as u64
+        self.flights.len()
     }
 
     /// The oldest signal on its way from the one process to the other: the only one of the two that may come next.
     pub fn oldest(&self, from: Pid, to: Pid) -> Option<Signal>
         ensures { result ≡ option_map (λ flight. flight.signal) (find (is_between from to) self.now.flights) }
     {
-        oldest(self.flights.as_slice(), from, to)
+        self.flights.oldest(from, to)
     }
 
     /// The sender, the receiver and the signal of what has been on its way for longest.
     pub fn front(&self) -> Option<(Pid, Pid, Signal)>
         ensures { option_map (λ flight. sent flight.0 flight.1 flight.2) result ≡ slice_get self.now.flights 0 }
     {
-        front(self.flights.as_slice())
+        self.flights.front()
     }
 
     /// The first item waiting at the process that the pick fits: the only one that it may take by that pick next.
@@ -214,15 +221,35 @@ impl State {
             links,
             refs,
             lives,
-            mut flights,
+            flights,
         } = self;
-        take_oldest(&mut flights, from, to);
         State {
             links,
             refs,
             lives,
-            flights,
+            flights: flights.without_oldest(from, to),
         }
+    }
+
+    /// The state with one process more.
+    pub(crate) fn with(self, life: Life) -> Result<State, AllocError>
+        requires new { is_unborn (now_is self life.0) ≡ true }
+        requires born { is_unborn life.1 ≡ false }
+        ensures { IfOk result (λ state. state ≡ record self { lives = self.lives ++ life ∷ [] }) }
+    {
+        let State {
+            links,
+            refs,
+            lives,
+            flights,
+        } = self;
+        let lives = lives.with(life)?;
+        Ok(State {
+            links,
+            refs,
+            lives,
+            flights,
+        })
     }
 
     fn holdings(&self, pid: Pid) -> Option<&Holdings>
@@ -253,7 +280,7 @@ impl State {
         ensures { result ≡ is_item (find (fits pick) (state_of (now_is self.now pid)).waiting) item }
     {
         match self.fitting(pid, pick) {
-            Some(first) => same::items(first, item),
+            Some(first) => first == item,
             None => false,
         }
     }
@@ -263,7 +290,7 @@ impl State {
             ≡ is_signal (option_map (λ flight. flight.signal) (find (is_between from to) self.now.flights)) signal }
     {
         match self.oldest(from, to) {
-            Some(first) => same::signals(first, signal),
+            Some(first) => first == signal,
             None => false,
         }
     }
@@ -272,7 +299,7 @@ impl State {
         ensures { result ≡ is_ids (held (state_of (now_is self.now pid)).links peer) ids }
     {
         match self.linked(pid, peer) {
-            Some(held) => same::ids(held, ids),
+            Some(held) => held == ids,
             None => false,
         }
     }
@@ -425,12 +452,11 @@ impl State {
             mut links,
             mut refs,
             lives,
-            mut flights,
+            flights,
         } = self;
         let lived = lived(&lives, event);
         let lives = observe(alloc, lives, event)?;
-        land(&mut flights, event);
-        dispatch(&mut flights, &lives, lived, event)?;
+        let flights = flights.landed(event).dispatched(&lives, lived, event)?;
         note_link(&mut links, event)?;
         note_ref(&mut refs, event)?;
         Ok(State {

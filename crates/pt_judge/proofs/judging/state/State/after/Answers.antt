@@ -7,7 +7,7 @@ use Rattle.pt_judge.proofs.judging.state.State.after.Goals as goal
 pub observe-requires : goal.observe-requires
 observe-requires c =
     let s = c.self.inside in
-    let old : JudgeState = record { links = s.links.keys; refs = s.refs.keys; lives = s.lives; flights = s.flights.items } in
+    let old : JudgeState = record { links = s.links.keys; refs = s.refs.keys; lives = s.lives; flights = s.flights } in
     may_be_born old c.args.event c.self.invariant (subst (λ z. cause (known z) c.args.event ≡ None) (sym c.self.view_is) c.requires)
 
 pub invariant_of-result : goal.invariant_of-result
@@ -19,17 +19,17 @@ returns c =
     let e = c.args.event in
     let lives = c.in_ok-lives.lives in
     let seen : IsObserved s.lives lives e = c.in_ok-lives.ensures in
-    let old : JudgeState = record { links = s.links.keys; refs = s.refs.keys; lives = s.lives; flights = s.flights.items } in
-    let new : JudgeState = record { links = c.note_link.new.links.keys; refs = c.note_ref.new.refs.keys; lives = lives; flights = c.dispatch.new.flights.items } in
+    let old : JudgeState = record { links = s.links.keys; refs = s.refs.keys; lives = s.lives; flights = s.flights } in
+    let new : JudgeState = record { links = c.note_link.new.links.keys; refs = c.note_ref.new.refs.keys; lives = lives; flights = c.in_ok-flights.flights } in
     let step : IsStep old e new =
     record {
       links = c.in_ok-note_link.ensures;
       refs = c.in_ok-note_ref.ensures;
       lives = seen.lives;
       flights =
-          c.in_ok-dispatch.ensures
-          ∙ ap (λ z. z ++ sends lives c.lived-lived.result e) c.land.ensures
-          ∙ ap (λ b. landed e s.flights.items ++ sends lives b e) c.lived-lived.ensures;
+          c.in_ok-flights.ensures
+          ∙ ap (λ z. z ++ sends lives c.lived-lived.result e) c.landed.ensures
+          ∙ ap (λ b. landed e s.flights ++ sends lives b e) c.lived-lived.ensures;
     }
     in
     let stepped = subst (λ z. IsStep z e new) c.self.view_is step in

@@ -1,0 +1,234 @@
+//! Histories are heard, and what is asked for of them is printed.
+
+use crate::asked::{Asked, Print};
+use crate::output::Output;
+use crate::refusal::{Refusal, wants_memory};
+use crate::source::{PIECE, Source};
+use pt_auditor::{Audit, Fault, Hearing, Verdict};
+use pt_chart::chart;
+use pt_events::{Event, Stamped};
+use pt_render::{JsonEvent, JsonLeftOver, MERMAID_HEAD, MermaidEvent, MermaidLeftOver};
+use pt_texts::LeftOver;
+use std::alloc::Global;
+use std::io::{Read, Write};
+
+/// Reads one history to its end, piece by piece.
+pub fn audit_pieces<R: Read + Drop>(alloc: Global, from: R) -> Result<Verdict, Refusal> {
+    let mut from = from;
+    let mut piece = vec![in alloc; 0u8; PIECE]?;
+    let mut audit = Audit::new(alloc);
+    for _ in 0..u64::MAX {
+        let count = from.read(piece.as_mut_slice())?;
+        if count == 0 {
+            return Ok(audit.end(alloc)?);
+        }
+        audit = audit.read(alloc, &piece.as_slice()[..count])?;
+    }
+    Err(Refusal::File)
+}
+
+/// Reads all files, merged by stamp and desk, and prints what is asked for before the verdict.
+pub fn audit_lines<R: Read + Drop, W: Write>(
+    alloc: Global,
+    sources: Vec<Source<R>>,
+    asked: &Asked,
+    out: &mut Output<W>,
+) -> Result<Verdict, Refusal> {
+    let mut sources = sources;
+    let mut audit = Audit::new(alloc);
+    print_head(asked, out)?;
+    for place in 0..sources.len() {
+        sources[place].advance()?;
+    }
+    for _ in 0..u64::MAX {
+        let place = first_of(sources.as_slice());
+        if place >= sources.len() {
+            return conclude(alloc, audit, asked, out);
+        }
+        audit = hear(alloc, audit, &sources[place], sources.len() > 1)?;
+        print_event(&sources[place], asked, out)?;
+        sources[place].advance()?;
+    }
+    Err(Refusal::File)
+}
+
+/// The place of the file whose line comes first, or how many files there are where none has a line.
+fn first_of<R: Read + Drop>(sources: &[Source<R>]) -> usize {
+    let mut first = sources.len();
+    for place in 0..sources.len() {
+        let source = &sources[place];
+        if source.is_open() && (first >= sources.len() || source.is_before(&sources[first])) {
+            first = place;
+        }
+    }
+    first
+}
+
+/// Hears the line of the file. A fault of several files names its own.
+fn hear<R: Read + Drop>(
+    alloc: Global,
+    audit: Audit,
+    source: &Source<R>,
+    names_file: bool,
+) -> Result<Audit, Refusal> {
+    let heard = match audit.read(alloc, source.line()) {
+        Ok(audit) => audit.read(alloc, b"\n".as_slice()),
+        Err(fault) => Err(fault),
+    };
+    match heard {
+        Ok(audit) => Ok(audit),
+        Err(fault) => {
+            if names_file && !wants_memory(fault) {
+                let name = String::from_str(alloc, source.name())?;
+                let line = source.number();
+                let why = fault.why;
+                Err(Refusal::InFile(name, Fault { line, why }))
+            } else {
+                Err(Refusal::from(fault))
+            }
+        }
+    }
+}
+
+/// Prints the line of the file, if it is an event that is asked for, or a letter left over that is shown.
+fn print_event<R: Read + Drop, W: Write>(
+    source: &Source<R>,
+    asked: &Asked,
+    out: &mut Output<W>,
+) -> Result<(), Refusal> {
+    let Some(event) = source.event() else {
+        return print_left_over(source, asked, out);
+    };
+    if !asked.selection.has_event(event) {
+        return Ok(());
+    }
+    match asked.print {
+        Print::History => writeln!(out.writer, "{event}")?,
+        Print::Chart => {
+            if out.drawn.push(event).is_err() {
+                return Err(Refusal::Memory);
+            }
+        }
+        Print::Mermaid => {
+            let event = MermaidEvent(event);
+            writeln!(out.writer, "{event}")?;
+        }
+        Print::Json => {
+            let event = JsonEvent(event);
+            writeln!(out.writer, "{event}")?;
+        }
+        _ => {}
+    }
+    Ok(())
+}
+
+/// Prints the line of the file in a diagram or as JSON, if it tells of a letter left over whose sending is asked for.
+fn print_left_over<R: Read + Drop, W: Write>(
+    source: &Source<R>,
+    asked: &Asked,
+    out: &mut Output<W>,
+) -> Result<(), Refusal> {
+    let Some(left_over) = source.left_over() else {
+        return Ok(());
+    };
+    let LeftOver {
+        from_desk,
+        to_desk,
+        letter,
+    } = left_over;
+    let sending = Stamped {
+        stamp: letter.stamp,
+        desk: from_desk,
+        event: Event::Said(letter.from, letter.to, letter.signal),
+    };
+    if !asked.selection.has_event(sending) {
+        return Ok(());
+    }
+    match asked.print {
+        Print::Mermaid => {
+            let letter = MermaidLeftOver(letter);
+            writeln!(out.writer, "{letter}")?;
+        }
+        Print::Json => {
+            let letter = JsonLeftOver {
+                from_desk,
+                to_desk,
+                letter,
+            };
+            writeln!(out.writer, "{letter}")?;
+        }
+        _ => {}
+    }
+    Ok(())
+}
+
+/// Prints what stands before all events: the first line of a diagram.
+fn print_head<W: Write>(asked: &Asked, out: &mut Output<W>) -> Result<(), Refusal> {
+    if asked.print == Print::Mermaid {
+        writeln!(out.writer, "{MERMAID_HEAD}")?;
+    }
+    Ok(())
+}
+
+/// Prints the verdict of a history, in the form of what stands before it, and passes on what the writer holds back.
+pub fn print_verdict<W: Write>(
+    verdict: Verdict,
+    print: Print,
+    out: &mut Output<W>,
+) -> Result<(), Refusal> {
+    let Verdict {
+        events,
+        desks,
+        letters,
+    } = verdict;
+    match print {
+        Print::Chart => writeln!(out.writer, "<!-- {verdict} -->")?,
+        Print::Mermaid => writeln!(out.writer, "    %% {verdict}")?,
+        Print::Json => writeln!(
+            out.writer,
+            "{{\"verdict\":\"legal\",\"events\":{events},\"desks\":{desks},\"letters\":{letters}}}"
+        )?,
+        _ => writeln!(out.writer, "{verdict}")?,
+    }
+    out.writer.flush()?;
+    Ok(())
+}
+
+/// The verdict on all that was heard, and before it what became of each process, or the chart, where that is asked for.
+fn conclude<W: Write>(
+    alloc: Global,
+    audit: Audit,
+    asked: &Asked,
+    out: &mut Output<W>,
+) -> Result<Verdict, Refusal> {
+    let hearing = audit.hearing();
+    if asked.print == Print::Summary && hearing.end().is_ok() {
+        print_summary(hearing, asked, out)?;
+    }
+    if asked.print == Print::Chart && hearing.end().is_ok() {
+        print_chart(alloc, out)?;
+    }
+    Ok(audit.end(alloc)?)
+}
+
+fn print_chart<W: Write>(alloc: Global, out: &mut Output<W>) -> Result<(), Refusal> {
+    let drawing = chart(alloc, out.drawn.as_slice(), &[])?;
+    out.writer.write_all(drawing.as_str().as_bytes())?;
+    Ok(())
+}
+
+fn print_summary<W: Write>(
+    hearing: &Hearing,
+    asked: &Asked,
+    out: &mut Output<W>,
+) -> Result<(), Refusal> {
+    for number in 0..usize::MAX {
+        let Some(standing) = hearing.standing(number) else {
+            return Ok(());
+        };
+        if asked.selection.has_process(standing.pid) {
+            writeln!(out.writer, "{standing}")?;
+        }
+    }
+    Ok(())
+}

@@ -1,0 +1,132 @@
+//! One file of a history, line by line.
+
+use crate::refusal::Refusal;
+use pt_auditor::MOST_LINE;
+use pt_events::Stamped;
+use pt_texts::{LeftOver, parse_left_over, parse_stamped};
+use std::alloc::{AllocError, Global};
+use std::io::Read;
+
+/// How many bytes are read at once.
+pub const PIECE: usize = 65_536;
+
+/// A file, and its line that is next.
+#[derive(Drop)]
+pub struct Source<R> {
+    reader: R,
+    name: String,
+    piece: Vec<u8>,
+    /// How many bytes of the piece were read, and the place of the next.
+    filled: usize,
+    place: usize,
+    line: Vec<u8>,
+    number: u64,
+    is_open: bool,
+    event: Option<Stamped>,
+}
+
+impl<R: Read + Drop> Source<R> {
+    pub fn new(alloc: Global, name: &str, reader: R) -> Result<Source<R>, AllocError> {
+        Ok(Source {
+            reader,
+            name: String::from_str(alloc, name)?,
+            piece: vec![in alloc; 0u8; PIECE]?,
+            filled: 0,
+            place: 0,
+            line: Vec::new(alloc),
+            number: 0,
+            is_open: true,
+            event: None,
+        })
+    }
+
+    pub fn name(&self) -> &str {
+        self.name.as_str()
+    }
+
+    /// Whether there is a line.
+    pub fn is_open(&self) -> bool {
+        self.is_open
+    }
+
+    /// The line, without its line feed; where it is too long, one byte more of it than a line may have.
+    pub fn line(&self) -> &[u8] {
+        self.line.as_slice()
+    }
+
+    /// The number of the line, from 1 on.
+    pub fn number(&self) -> u64 {
+        self.number
+    }
+
+    /// The event that the line is, if it is one.
+    pub fn event(&self) -> Option<Stamped> {
+        self.event
+    }
+
+    /// The letter left over that the line tells of, if it tells of one.
+    pub fn left_over(&self) -> Option<LeftOver> {
+        parse_left_over(bare(self.line.as_slice())).ok()
+    }
+
+    /// Whether the line comes before that of the other: events by stamp and desk, and then all other lines.
+    pub fn is_before(&self, other: &Source<R>) -> bool {
+        match (self.event, other.event) {
+            (Some(one), Some(two)) => one.stamp < two.stamp
+                || (one.stamp == two.stamp && one.desk < two.desk),
+            (Some(_), None) => true,
+            _ => false,
+        }
+    }
+
+    /// Goes on to the next line.
+    pub fn advance(&mut self) -> Result<(), Refusal> {
+        self.is_open = self.read_line()?;
+        self.number = self.number.saturating_add(1);
+        self.event = event_of(self.line.as_slice());
+        Ok(())
+    }
+
+    fn read_line(&mut self) -> Result<bool, Refusal> {
+        self.line.clear();
+        for _ in 0..u64::MAX {
+            let Some(byte) = self.next_byte()? else {
+                return Ok(self.line.len() > 0);
+            };
+            if byte == 10 || self.line.len() > MOST_LINE {
+                return Ok(true);
+            }
+            if self.line.push(byte).is_err() {
+                return Err(Refusal::Memory);
+            }
+        }
+        Ok(false)
+    }
+
+    fn next_byte(&mut self) -> Result<Option<u8>, Refusal> {
+        if self.place >= self.filled {
+            self.filled = self.reader.read(self.piece.as_mut_slice())?;
+            self.place = 0;
+        }
+        if self.place >= self.filled || self.place >= self.piece.len() {
+            return Ok(None);
+        }
+        let byte = self.piece[self.place];
+        self.place += 1;
+        Ok(Some(byte))
+    }
+}
+
+/// The line without a carriage return at its end.
+fn bare(line: &[u8]) -> &[u8] {
+    let len = line.len();
+    if len > 0 && line[len - 1] == 13 {
+        &line[..len - 1]
+    } else {
+        line
+    }
+}
+
+fn event_of(line: &[u8]) -> Option<Stamped> {
+    parse_stamped(bare(line)).ok()
+}

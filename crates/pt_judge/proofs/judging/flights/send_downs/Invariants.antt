@@ -1,7 +1,0 @@
-use Rattle.std.proofs.Common.{◌≡◌, ◌++◌, map, take}
-use Rattle.pt_signal.specs.declared.signal.Signal.{Signal}
-use Rattle.pt_signal.specs.Process.{sent}
-use Rattle.pt_judge.proofs.judging.flights.send_downs.Given as goal
-
-abbrev pub invariant-loop-place : goal.invariant-loop-place
-invariant-loop-place l = l.flights.items ≡ l.fn.flights.items ++ map (λ k. sent l.me k.1 (Signal.Down k.0 l.reason)) (take l.place l.kept)

@@ -1,0 +1,21 @@
+//! What happened to processes, written for other programs: as JSON, an object an event, and as a sequence diagram of
+//! Mermaid, which code hosts draw.
+//!
+//! ```
+//! let event = JsonEvent(stamped);
+//! writeln!(out, "{event}")?;            // {"stamp":4,"desk":0,"event":"left","pid":"<0.1.1>","reason":"other:7"}
+//! writeln!(out, "{MERMAID_HEAD}")?;     // sequenceDiagram
+//! let event = MermaidEvent(stamped);
+//! writeln!(out, "{event}")?;            //     Note over p0_1_1: 4@0 left other:7
+//! ```
+//!
+//! Each value is a `Display`, and what it prints is its contract: `specs/Json` and `specs/Mermaid` have the texts. None
+//! ends with a line feed, and none needs memory.
+#![tactic(auto, unfolding(crate::specs::Json::body_members, crate::specs::Json::links_member, crate::specs::Json::signal_members, crate::specs::Json::item_members, crate::specs::Json::pick_members, crate::specs::Json::event_members, crate::specs::Json::letter_members, crate::specs::Json::left_over_members, crate::specs::Json::json_text, crate::specs::Json::json_left_over_text, crate::specs::Mermaid::place_text, crate::specs::Mermaid::pid_label, crate::specs::Mermaid::ref_label, crate::specs::Mermaid::body_label, crate::specs::Mermaid::signal_label, crate::specs::Mermaid::item_label, crate::specs::Mermaid::pick_label, crate::specs::Mermaid::scene_text, crate::specs::Mermaid::deed_text, crate::specs::Mermaid::mermaid_text, crate::specs::Mermaid::mermaid_left_over_text))]
+
+mod json;
+mod labels;
+mod mermaid;
+
+pub use json::{JsonEvent, JsonLeftOver};
+pub use mermaid::{MERMAID_HEAD, MermaidEvent, MermaidLeftOver};
