@@ -31,7 +31,7 @@ any_anew x None h = tt
 any_anew x (Some s) h = h s
 
 said_anew : (past : Past) (p a b : Pid) (x : Signal) (s : ProcessState) → MaySay [] past s a b x → IfSome (live_state (life [] past p)) (IsAnew x)
-said_anew past p a b (Monitor m) s may = closed_anew m (life [] past p) (unmade_closed m past p may.0)
+said_anew past p a b (Monitor m) s may = closed_anew m (life [] past p) (unmade_closed m [] past p refl may.0)
 said_anew past p a b x s may = any_anew x (live_state (life [] past p)) (λ z. tt)
 
 opens_anew : (past : Past) (p : Pid) (e : Event) → May [] past e → OpensAnew e (followed p (life [] past p))

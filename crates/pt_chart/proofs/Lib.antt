@@ -1,8 +1,9 @@
 pub mod Tracing
 pub mod Arrows
 pub mod Rows
-pub mod Receipts
+pub mod Arrivals
 pub mod Answering
 pub mod Legal
 pub mod Numbering
 pub mod Writing
+pub mod Calling

@@ -6,8 +6,8 @@ use Rattle.pt_events.specs.declared.event.Event.TheVariants.{Born}
 use Rattle.pt_chart.specs.declared.part.Part.{Part}
 use Rattle.pt_chart.specs.Drawing.{numbered}
 
-module _ {X : Type 0} (f : ℕ → X → List Part) where
-  abbrev from : ℕ → List X → List Part
+module _ {X Y : Type 0} (f : ℕ → X → List Y) where
+  abbrev from : ℕ → List X → List Y
   from n xs = flat_map (λ (x : ℕ × X). f x.0 x.1) (enumerate_from n xs)
 
   pub from_more : (n : ℕ) (xs : List X) (i : ℕ) (d : X) → i < length xs → from n (take (suc i) xs) ≡ from n (take i xs) ++ f (n + i) (get_or xs i d)
@@ -25,17 +25,17 @@ module _ {X : Type 0} (f : ℕ → X → List Part) where
       ap (λ k. from 0 (take i xs) ++ f k (get_or xs i x)) (sym here) ∙ sym (from_more 0 xs i x h) ∙ ap (λ k. from 0 (take k xs)) there
 
   -- what the next one gives stands behind
-  pub one_more : (start before after : List Part) (xs : List X) (i : ℕ) (x : X) → i < length xs → get_or xs i x ≡ x → before ≡ start ++ numbered f (take i xs) → after ≡ before ++ f i x
+  pub one_more_at : (start before after : List Y) (xs : List X) (i : ℕ) (d : X) → i < length xs → before ≡ start ++ numbered f (take i xs) → after ≡ before ++ f i (get_or xs i d) → after ≡ start ++ numbered f (take (i + 1) xs)
+  one_more_at start before after xs i d h b a =
+      a ∙ ap (λ ps. ps ++ f i (get_or xs i d)) b ∙ append_assoc start (numbered f (take i xs)) (f i (get_or xs i d)) ∙ ap (λ ps. start ++ ps) (next xs i d h)
+
+  pub one_more : (start before after : List Y) (xs : List X) (i : ℕ) (x : X) → i < length xs → get_or xs i x ≡ x → before ≡ start ++ numbered f (take i xs) → after ≡ before ++ f i x
       → after ≡ start ++ numbered f (take (i + 1) xs)
-  one_more start before after xs i x h is b a =
-      let e : suc i ≡ i + 1 = omega arith in
-      a ∙ ap (λ y. before ++ f i y) (sym is) ∙ ap (λ ps. ps ++ f i (get_or xs i x)) b ∙ append_assoc start (numbered f (take i xs)) (f i (get_or xs i x))
-      ∙ ap (λ ps. start ++ ps) (next xs i x h)
+  one_more start before after xs i x h is b a = one_more_at start before after xs i x h b (a ∙ ap (λ y. before ++ f i y) (sym is))
 
 abbrev nothing : Stamped
 nothing = record { stamp = 0; desk = 0; event = Born (record { shard = 0; slot = 0; version = 0 }) None None }
 
 pub one_more_event : (f : ℕ → Stamped → List Part) (start before after : List Part) (events : List Stamped) (i : ℕ) → i < length events → before ≡ start ++ numbered f (take i events)
     → after ≡ before ++ f i (get_or events i nothing) → after ≡ start ++ numbered f (take (i + 1) events)
-one_more_event f start before after events i h b a =
-    a ∙ ap (λ ps. ps ++ f i (get_or events i nothing)) b ∙ append_assoc start (numbered f (take i events)) (f i (get_or events i nothing)) ∙ ap (λ ps. start ++ ps) (next f events i nothing h)
+one_more_event f start before after events i h b a = one_more_at f start before after events i nothing h b a

@@ -8,8 +8,7 @@ use Rattle.pt_signal.specs.declared.pid.Pid.{Pid}
 use Rattle.pt_signal.specs.Process.{Sent}
 use Rattle.pt_events.specs.declared.event.Stamped.{Stamped}
 use Rattle.pt_events.specs.History.{Past}
-use Rattle.pt_events.specs.Text.{stamped_text}
-use Rattle.pt_chart.specs.Drawing.{label_beside, longest_beside, longest_line}
+use Rattle.pt_chart.specs.Drawing.{label_beside, longest_beside}
 use Rattle.pt_chart.specs.declared.layout.Column.{Column}
 use Rattle.pt_chart.specs.declared.layout.Sending.{Sending}
 use Rattle.pt_chart.specs.Chart.{everyone, joined, named, past_of, in_row}
@@ -34,12 +33,7 @@ paid row start before after owed i l b g a =
 pub everyone_more : (events : List Stamped) (i : ℕ) (d : Stamped) → i < length events → everyone (take (i + 1) events) ≡ joined (everyone (take i events)) (named (get_or events i d).event)
 everyone_more events i d h = fold_more (λ ps s. joined ps (named s.event)) [] events i d h
 
--- the longest line, and the longest label, of one more event
-pub longest_line_more : (events : List Stamped) (i n : ℕ) (d : Stamped) → i < length events → n ≡ longest_line (take i events)
-    → max (length (stamped_text (get_or events i d))) n ≡ longest_line (take (i + 1) events)
-longest_line_more events i n d h is =
-    ap (max (length (stamped_text (get_or events i d)))) is ∙ sym (fold_more (λ (n : ℕ) (s : Stamped). max (length (stamped_text s)) n) 0 events i d h)
-
+-- the longest label of one more event
 pub longest_beside_more : (events : List Stamped) (i n : ℕ) (d : Stamped) → i < length events → n ≡ longest_beside (take i events)
     → max (length (label_beside (get_or events i d).event)) n ≡ longest_beside (take (i + 1) events)
 longest_beside_more events i n d h is =

@@ -1,7 +1,7 @@
 -- What a chart of a history shows. A history stands here oldest first; rows and columns are numbered from 0.
-use Rattle.std.specs.Prelude.{◌≡◌, ℕ, ◌+◌, Bool, false, cond, ◌&&◌, List, [], ◌∷◌, ◌++◌, length, map, fold, position}
-use Rattle.std.specs.Prelude.{unwrap_or, count_by, slice_get, reverse, Option, Some, None, All, ⊤}
-use Rattle.std.specs.List.{list_any}
+use Rattle.std.specs.Prelude.{◌≡◌, ℕ, ◌+◌, Bool, false, cond, ◌&&◌, List, [], ◌∷◌, ◌++◌, length, map, fold}
+use Rattle.std.specs.Prelude.{position, nat_lt, unwrap_or, count_by, slice_get, reverse, Option, Some, None, All, ⊤}
+use Rattle.std.specs.List.{list_any, insert}
 use Rattle.pt_signal.specs.declared.pid.Pid.{Pid}
 use Rattle.pt_signal.specs.declared.reason.Reason.{Reason}
 use Rattle.pt_signal.specs.Values.{same_pid}
@@ -30,14 +30,18 @@ named (Flag p on) = p ∷ []
 named (Left p r) = p ∷ []
 named (Refused a b) = a ∷ []
 
--- one more stands behind the others, unless it is among them
+-- behind all of its own desk and of the desks before it
+abbrev pub place_behind : List Pid → Pid → ℕ
+place_behind ps p = unwrap_or (position (λ q. nat_lt p.shard q.shard) ps) (length ps)
+
+-- one more stands there, unless it is among them
 abbrev pub join : List Pid → Pid → List Pid
-join ps p = cond (list_any (same_pid p) ps) ps (ps ++ p ∷ [])
+join ps p = cond (list_any (same_pid p) ps) ps (insert ps (place_behind ps p) p)
 
 abbrev pub joined : List Pid → List Pid → List Pid
 joined ps qs = fold join ps qs
 
--- each that is named, once, in order of first appearance
+-- each that is named, once, by desk and then in order of first appearance
 abbrev pub everyone : List Stamped → List Pid
 everyone events = fold (λ ps s. joined ps (named s.event)) [] events
 

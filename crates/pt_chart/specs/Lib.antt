@@ -1,6 +1,7 @@
 pub mod Chart
 pub mod Following
 pub mod Page
+pub mod Receiving
 pub mod Replying
 pub mod Points
 pub mod Text

@@ -1,6 +1,5 @@
 -- Points of the page, and their texts.
 use Rattle.std.specs.Prelude.{ℕ, ◌+◌, ◌==◌, if◌then◌else◌, List, ◌++◌, codes, decimal}
-use Rattle.pt_chart.specs.declared.page.Page.{Page}
 use Rattle.pt_chart.specs.declared.point.Point.{Point}
 use Rattle.pt_chart.specs.Page.{capped, x_of, y_of}
 
@@ -14,8 +13,8 @@ abbrev pub point : ℕ → ℕ → Point
 point x y = record { x = x; y = y }
 
 -- where a column and a row meet
-abbrev pub spot : Page → ℕ → ℕ → Point
-spot p k row = point (x_of p k) (y_of row)
+abbrev pub spot : ℕ → ℕ → Point
+spot k row = point (x_of k) (y_of row)
 
 -- the points between which an arrow is bent: straight to another column, and by the right back to its own
 abbrev pub bend : Point → Point → Point × Point

@@ -1,6 +1,6 @@
 -- The text of each part of a drawing, as SVG. Numbers are pixels.
-use Rattle.std.specs.Prelude.{ℕ, ◌+◌, ◌==◌, nat_lt, if◌then◌else◌, Bool, true, false, List, [], ◌∷◌, ◌++◌, codes}
-use Rattle.std.specs.Prelude.{decimal, Option, Some, None}
+use Rattle.std.specs.Prelude.{ℕ, ◌+◌, ◌%◌, ◌==◌, nat_lt, if◌then◌else◌, Bool, true, false, List, [], ◌∷◌, ◌++◌, codes}
+use Rattle.std.specs.Prelude.{decimal, length, slice_index_or, Option, Some, None}
 use Rattle.std.specs.List.{flat_map}
 use Rattle.pt_signal.specs.declared.pid.Pid.{Pid}
 use Rattle.pt_signal.specs.declared.reason.Reason.{Reason}
@@ -14,13 +14,14 @@ use Rattle.pt_chart.specs.declared.page.Page.{Page}
 use Rattle.pt_chart.specs.declared.part.Part.{Part}
 use Rattle.pt_chart.specs.declared.point.Point.{Point}
 use Rattle.pt_chart.specs.Points.{point_text, at_text, point, spot, bend}
-use Rattle.pt_chart.specs.declared.part.Part.TheVariants.{Line, Column, Life, Letter, Mark, End}
+use Rattle.pt_chart.specs.declared.part.Part.TheVariants.{Ground, Desk, Column, Life, Letter, Saying, Mark, End}
+use Rattle.pt_chart.specs.declared.part.Part.TheVariants.{Name, Row}
 use Rattle.pt_chart.specs.declared.part.Mark as mark
-use Rattle.pt_chart.specs.declared.part.Mark.TheVariants.{Bearing, Birth, Saying, Taking, Trapping, Refusal}
+use Rattle.pt_chart.specs.declared.part.Mark.TheVariants.{Bearing, Birth, Taking, Trapping, Refusal}
 use Rattle.pt_chart.specs.declared.strokes.Stroke.{Stroke}
 use Rattle.pt_chart.specs.declared.strokes.Stroke.TheVariants as stroke
 use Rattle.pt_chart.specs.declared.style.TheConstants.{STYLE}
-use Rattle.pt_chart.specs.Page.{capped, gutter_of, x_of, y_of, row_or_end, width_of, height_of}
+use Rattle.pt_chart.specs.Page.{capped, above, x_of, y_of, row_or_end, width_of, height_of}
 
 -- by which stroke the letter of a signal is drawn
 abbrev pub stroke_of : Signal → Stroke
@@ -53,24 +54,37 @@ escape text = flat_map escape_one text
 
 -- one element each -------------------------------------------------------------------------------------
 
-unfoldable pub size_text : ℕ → ℕ → List ℕ
-size_text width height =
+unfoldable pub size_text : ℕ → ℕ → ℕ → ℕ → List ℕ
+size_text width height rows columns =
     codes "<svg xmlns=\"http://www.w3.org/2000/svg\" width=\"" ++ decimal width ++ codes "\" height=\""
-    ++ decimal height
-    ++ codes "\" viewBox=\"0 0 " ++ decimal width ++ codes " " ++ decimal height ++ codes "\">\n"
+    ++ decimal height ++ codes "\" viewBox=\"0 0 " ++ decimal width ++ codes " " ++ decimal height
+    ++ codes "\" role=\"img\" aria-labelledby=\"title desc\">\n<title id=\"title\">A history: events "
+    ++ decimal rows ++ codes ", processes " ++ decimal columns ++ codes "</title>\n"
 
-unfoldable pub rule_text : Point → ℕ → List ℕ
-rule_text from width =
-    codes "<path class=\"row\" d=\"M" ++ point_text from ++ codes "H" ++ decimal width ++ codes "\"/>\n"
+unfoldable pub strip_text : ℕ → ℕ → List ℕ → List ℕ
+strip_text y width said =
+    codes "<g class=\"row\"><title>" ++ said ++ codes "</title><rect y=\"" ++ decimal y ++ codes "\" width=\""
+    ++ decimal width ++ codes "\" height=\"24\"/></g>\n"
 
-unfoldable pub said_text : Point → List ℕ → List ℕ
-said_text at said = codes "<text class=\"event\" " ++ at_text at ++ codes " dy=\"4\">" ++ said ++ codes "</text>\n"
+unfoldable pub number_text : Point → ℕ → List ℕ
+number_text at n = codes "<text class=\"number\" " ++ at_text at ++ codes " dy=\"4\">" ++ decimal n ++ codes "</text>\n"
+
+unfoldable pub stripe_text : ℕ → ℕ → ℕ → List ℕ
+stripe_text parity x height =
+    codes "<rect class=\"band" ++ decimal parity ++ codes "\" x=\"" ++ decimal x
+    ++ codes "\" y=\"48\" width=\"140\" height=\"" ++ decimal height ++ codes "\"/>\n"
+
+unfoldable pub desk_text : ℕ → ℕ → List ℕ
+desk_text x desk =
+    codes "<text class=\"desk\" x=\"" ++ decimal x ++ codes "\" y=\"62\">desk " ++ decimal desk ++ codes "</text>\n"
 
 unfoldable pub before_text : ℕ → ℕ → List ℕ
-before_text x end = codes "<path class=\"before\" d=\"M" ++ decimal x ++ codes " 30V" ++ decimal end ++ codes "\"/>\n"
+before_text x end = codes "<path class=\"before\" d=\"M" ++ decimal x ++ codes " 98V" ++ decimal end ++ codes "\"/>\n"
 
-unfoldable pub name_text : Point → List ℕ → List ℕ
-name_text at name = codes "<text class=\"name\" " ++ at_text at ++ codes ">" ++ name ++ codes "</text>\n"
+-- a name or a pid, and what presses it into its column
+unfoldable pub name_text : Point → List ℕ → List ℕ → List ℕ
+name_text at fit name =
+    codes "<text class=\"name\" " ++ at_text at ++ fit ++ codes ">" ++ name ++ codes "</text>\n"
 
 unfoldable pub alive_text : Point → ℕ → List ℕ
 alive_text from to = codes "<path class=\"life\" d=\"M" ++ point_text from ++ codes "V" ++ decimal to ++ codes "\"/>\n"
@@ -99,27 +113,39 @@ label_text stroke at side said =
 -- the parts --------------------------------------------------------------------------------------------
 
 abbrev pub head_text : Page → List ℕ
-head_text p = size_text (width_of p) (height_of p) ++ STYLE.now
+head_text p = size_text (width_of p) (height_of p) p.rows p.columns ++ STYLE.now
 
--- the line of an event, and a rule across the page
-abbrev pub said_line_text : Page → ℕ → List ℕ → List ℕ
-said_line_text p row said =
-    rule_text (point (gutter_of p) (y_of row)) (width_of p) ++ said_text (point 12 (y_of row)) said
+-- the row of an event, whose title is its line, and its number
+abbrev pub said_row_text : Page → ℕ → List ℕ → List ℕ
+said_row_text p row said =
+    strip_text (above (y_of row) 12) (width_of p) said ++ number_text (point 8 (y_of row)) (capped (row + 1))
 
-abbrev pub line_text : Page → ℕ → Stamped → List ℕ
-line_text p row s = said_line_text p row (escape (stamped_text s))
+abbrev pub row_text : Page → ℕ → Stamped → List ℕ
+row_text p row s = said_row_text p row (escape (stamped_text s))
 
--- the name of a process above and below its column
-abbrev pub named_column_text : Page → ℕ → List ℕ → List ℕ
-named_column_text p k name =
-    before_text (x_of p k) (y_of p.rows) ++ name_text (point (x_of p k) 22) name
-    ++ name_text (point (x_of p k) (capped (y_of p.rows + 48))) name
+-- a name of more characters than a column is wide is pressed into it
+abbrev pub fit_text : ℕ → List ℕ
+fit_text n = if nat_lt 20 n then codes " textLength=\"132\" lengthAdjust=\"spacingAndGlyphs\"" else []
 
-abbrev pub column_text : Page → ℕ → Pid → List ℕ
-column_text p k pid = named_column_text p k (escape (pid_text pid))
+-- a name above a row; an empty one is none
+abbrev pub name_above_text : ℕ → ℕ → List ℕ → List ℕ
+name_above_text row k name =
+    if length name == 0 then []
+    else name_text (point (x_of k) (above (y_of row) 40)) (fit_text (length name)) (escape name)
+
+abbrev pub pid_above_text : ℕ → ℕ → List ℕ → List ℕ
+pid_above_text row k said = name_text (point (x_of k) (above (y_of row) 26)) [] said
+
+-- the head of a column above a row: the name of the process, if it has one, and below it the pid
+abbrev pub head_above_text : ℕ → ℕ → List ℕ → Pid → List ℕ
+head_above_text row k name pid = name_above_text row k name ++ pid_above_text row k (escape (pid_text pid))
+
+-- the ground of a column, darker behind every other desk
+abbrev pub ground_text : Page → ℕ → ℕ → List ℕ
+ground_text p k desk = stripe_text (desk % 2) (above (x_of k) 70) (above (y_of p.rows) 48)
 
 abbrev pub life_text : Page → ℕ → ℕ → Option ℕ → List ℕ
-life_text p k born ended = alive_text (spot p k born) (row_or_end p ended)
+life_text p k born ended = alive_text (spot k born) (row_or_end p ended)
 
 -- a letter that came has a full head, one that did not an open one
 abbrev pub head_of : Option ℕ → List ℕ
@@ -129,66 +155,97 @@ head_of (Some row) = codes "came"
 abbrev pub arrow_text : Stroke → Point → Point → List ℕ → List ℕ
 arrow_text stroke from to head = curve_text stroke from (bend from to) to ++ marker_text stroke head
 
+-- where the arrow of a letter ends
+abbrev pub tip : Page → Arrow → Point
+tip p a = point (x_of a.to) (row_or_end p a.came)
+
 abbrev pub letter_text : Page → ℕ → Arrow → List ℕ
-letter_text p k a =
-    arrow_text (stroke_of a.signal) (spot p k a.sent) (point (x_of p a.to) (row_or_end p a.came)) (head_of a.came)
+letter_text p k a = arrow_text (stroke_of a.signal) (spot k a.sent) (tip p a) (head_of a.came)
+
+-- what a process owes at its end or answers: several letters may go out in one row
+abbrev pub is_owed : Signal → Bool
+is_owed (signal.Message body) = false
+is_owed (signal.Link i) = false
+is_owed (signal.Unlink ids) = false
+is_owed (signal.Exit r) = false
+is_owed (signal.LinkExit ids r) = true
+is_owed (signal.Monitor m) = false
+is_owed (signal.Demonitor m) = true
+is_owed (signal.Down m r) = true
+is_owed (signal.AliveAsk m) = false
+is_owed (signal.AliveSay m x) = true
+
+-- towards the other end of an arrow: left of a point, or right of it
+abbrev pub side_text : Bool → List ℕ
+side_text true = codes " dx=\"-8\" dy=\"-4\" text-anchor=\"end\""
+side_text false = codes " dx=\"8\" dy=\"-4\""
+
+-- beside the receiver, or beside the sender
+abbrev pub letter_label_text : Page → ℕ → Arrow → Bool → List ℕ → List ℕ
+letter_label_text p k a true said = label_text (stroke_of a.signal) (tip p a) (side_text (nat_lt k a.to)) said
+letter_label_text p k a false said = label_text (stroke_of a.signal) (spot k a.sent) (side_text (nat_lt a.to k)) said
+
+-- what a letter says, where it comes if it is owed, else where it is sent
+abbrev pub saying_text : Page → ℕ → Arrow → List ℕ
+saying_text p k a = letter_label_text p k a (is_owed a.signal) (escape (signal_text a.signal))
 
 abbrev pub bearing_class : Bool → List ℕ
 bearing_class true = codes "link"
 bearing_class false = codes "before"
 
-abbrev pub bearing_text : Page → ℕ → ℕ → ℕ → Bool → List ℕ
-bearing_text p row parent child linked = level_text (bearing_class linked) (spot p parent row) (x_of p child)
+abbrev pub bearing_label : Bool → List ℕ
+bearing_label true = codes "spawn, linked"
+bearing_label false = codes "spawn"
+
+abbrev pub bearing_text : ℕ → ℕ → ℕ → Bool → List ℕ
+bearing_text row parent child linked =
+    level_text (bearing_class linked) (spot parent row) (x_of child)
+    ++ label_text stroke.Link (spot parent row) (side_text (nat_lt child parent)) (bearing_label linked)
 
 abbrev pub named_birth_text : Point → List ℕ → List ℕ
-named_birth_text at name = shape_text (codes "birth") at ++ name_text (point at.x (capped (at.y + 4))) name
+named_birth_text at name = shape_text (codes "birth") at ++ name_text (point at.x (capped (at.y + 4))) [] name
 
-abbrev pub birth_text : Page → ℕ → ℕ → Pid → List ℕ
-birth_text p row k pid = named_birth_text (spot p k row) (escape (pid_text pid))
+abbrev pub birth_text : ℕ → ℕ → Pid → List ℕ
+birth_text row k pid = named_birth_text (spot k row) (escape (pid_text pid))
 
--- beside the sender, towards the receiver
-abbrev pub side_text : Bool → List ℕ
-side_text true = codes " dx=\"-6\" dy=\"-4\" text-anchor=\"end\""
-side_text false = codes " dx=\"6\" dy=\"-4\""
-
-abbrev pub saying_text : Page → ℕ → ℕ → ℕ → Signal → List ℕ
-saying_text p row from to x =
-    label_text (stroke_of x) (spot p from row) (side_text (nat_lt to from)) (escape (signal_text x))
-
-abbrev pub taking_text : Page → ℕ → ℕ → List ℕ
-taking_text p row k = shape_text (codes "taking") (spot p k row)
+abbrev pub taking_text : ℕ → ℕ → List ℕ
+taking_text row k = shape_text (codes "taking") (spot k row)
 
 abbrev pub trap_text : Bool → List ℕ
-trap_text true = codes "traps"
-trap_text false = codes "traps no more"
+trap_text true = codes "traps exits"
+trap_text false = codes "traps exits no more"
 
-abbrev pub trapping_text : Page → ℕ → ℕ → Bool → List ℕ
-trapping_text p row k on =
-    shape_text (codes "trapping") (spot p k row)
-    ++ label_text stroke.Message (spot p k row) (side_text false) (trap_text on)
+abbrev pub trapping_text : ℕ → ℕ → Bool → List ℕ
+trapping_text row k on =
+    shape_text (codes "trapping") (spot k row)
+    ++ label_text stroke.Message (spot k row) (side_text false) (trap_text on)
 
-abbrev pub refusal_text : Page → ℕ → ℕ → Pid → List ℕ
-refusal_text p row k to =
-    label_text stroke.Exit (spot p k row) (side_text false) (escape (codes "refused " ++ pid_text to))
+abbrev pub refusal_text : ℕ → ℕ → Pid → List ℕ
+refusal_text row k to =
+    label_text stroke.Exit (spot k row) (side_text false) (escape (codes "refused " ++ pid_text to))
 
 abbrev pub said_end_text : Point → List ℕ → List ℕ
 said_end_text at said = shape_text (codes "end") at ++ label_text stroke.Exit at (codes " dx=\"10\" dy=\"12\"") said
 
-abbrev pub end_text : Page → ℕ → ℕ → Reason → List ℕ
-end_text p row k r = said_end_text (spot p k row) (escape (reason_text r))
+abbrev pub end_text : ℕ → ℕ → Reason → List ℕ
+end_text row k r = said_end_text (spot k row) (escape (reason_text r))
 
-abbrev pub mark_text : Page → ℕ → mark.Mark → List ℕ
-mark_text p row (Bearing parent child linked) = bearing_text p row parent child linked
-mark_text p row (Birth k pid) = birth_text p row k pid
-mark_text p row (Saying from to x) = saying_text p row from to x
-mark_text p row (Taking k) = taking_text p row k
-mark_text p row (Trapping k on) = trapping_text p row k on
-mark_text p row (Refusal k to) = refusal_text p row k to
+abbrev pub mark_text : ℕ → mark.Mark → List ℕ
+mark_text row (Bearing parent child linked) = bearing_text row parent child linked
+mark_text row (Birth k pid) = birth_text row k pid
+mark_text row (Taking k) = taking_text row k
+mark_text row (Trapping k on) = trapping_text row k on
+mark_text row (Refusal k to) = refusal_text row k to
 
-abbrev pub part_text : Page → Part → List ℕ
-part_text p (Line row s) = line_text p row s
-part_text p (Column k pid) = column_text p k pid
-part_text p (Life k born ended) = life_text p k born ended
-part_text p (Letter k a) = letter_text p k a
-part_text p (Mark row m) = mark_text p row m
-part_text p (End row k r) = end_text p row k r
+-- a part, where the processes of the columns have these names
+abbrev pub part_text : Page → List (List ℕ) → Part → List ℕ
+part_text p names (Ground k desk) = ground_text p k desk
+part_text p names (Desk k desk) = desk_text (above (x_of k) 62) desk
+part_text p names (Column k) = before_text (x_of k) (y_of p.rows)
+part_text p names (Life k born ended) = life_text p k born ended
+part_text p names (Letter k a) = letter_text p k a
+part_text p names (Saying k a) = saying_text p k a
+part_text p names (Mark row m) = mark_text row m
+part_text p names (End row k r) = end_text row k r
+part_text p names (Name row k pid) = head_above_text row k (slice_index_or names k []) pid
+part_text p names (Row row s) = row_text p row s

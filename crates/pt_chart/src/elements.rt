@@ -1,48 +1,101 @@
 //! The elements of SVG that a chart is made of.
 
 ghost use Rattle.std.specs.Prelude.{◌≡◌, ◌++◌, OnOk, string_bytes};
-ghost use Rattle.pt_chart.specs.Text.{alive_text, before_text, curve_text, label_text, level_text, marker_text};
-ghost use Rattle.pt_chart.specs.Text.{name_text, rule_text, said_text, shape_text, size_text};
+ghost use Rattle.pt_chart.specs.Text.{alive_text, before_text, curve_text, desk_text, label_text, level_text};
+ghost use Rattle.pt_chart.specs.Text.{marker_text, name_text, number_text, shape_text, size_text, strip_text};
+ghost use Rattle.pt_chart.specs.Text.{stripe_text};
 
 use crate::point::{At, Point};
 use crate::strokes::Stroke;
 use std::alloc::AllocError;
 
-pub(crate) fn write_size(width: u64, height: u64, text: &mut String) -> Result<(), AllocError>
-    ensures { OnOk result (string_bytes text.new ≡ string_bytes text.old ++ size_text width height) }
+/// The begin of the drawing: its size, and its title for those who listen.
+pub(crate) fn write_size(
+    width: u64,
+    height: u64,
+    rows: usize,
+    columns: usize,
+    text: &mut String,
+) -> Result<(), AllocError>
+    ensures { OnOk result (string_bytes text.new ≡ string_bytes text.old ++ size_text width height rows columns) }
 {
     write!(
         text,
-        "<svg xmlns=\"http://www.w3.org/2000/svg\" width=\"{width}\" height=\"{height}\" viewBox=\"0 0 {width} {height}\">\n"
+        "<svg xmlns=\"http://www.w3.org/2000/svg\" width=\"{width}\" height=\"{height}\" \
+         viewBox=\"0 0 {width} {height}\" role=\"img\" aria-labelledby=\"title desc\">\n\
+         <title id=\"title\">A history: events {rows}, processes {columns}</title>\n"
     )
 }
 
-/// A line across the page, in the row of an event.
-pub(crate) fn write_rule(from: Point, width: u64, text: &mut String) -> Result<(), AllocError>
-    ensures { OnOk result (string_bytes text.new ≡ string_bytes text.old ++ rule_text from width) }
+/// The row of an event, across the page: it shows no more than what it is while a pointer is over it.
+pub(crate) fn write_strip(
+    y: u64,
+    width: u64,
+    said: &str,
+    text: &mut String,
+) -> Result<(), AllocError>
+    ensures { OnOk result (string_bytes text.new ≡ string_bytes text.old ++ strip_text y width said.now) }
 {
-    write!(text, "<path class=\"row\" d=\"M{from}H{width}\"/>\n")
+    write!(
+        text,
+        "<g class=\"row\"><title>{said}</title><rect y=\"{y}\" width=\"{width}\" height=\"24\"/></g>\n"
+    )
 }
 
-pub(crate) fn write_said(at: Point, said: &str, text: &mut String) -> Result<(), AllocError>
-    ensures { OnOk result (string_bytes text.new ≡ string_bytes text.old ++ said_text at said.now) }
+/// The number of a row.
+pub(crate) fn write_number(at: Point, number: u64, text: &mut String) -> Result<(), AllocError>
+    ensures { OnOk result (string_bytes text.new ≡ string_bytes text.old ++ number_text at number) }
 {
     let at = At(at);
-    write!(text, "<text class=\"event\" {at} dy=\"4\">{said}</text>\n")
+    write!(
+        text,
+        "<text class=\"number\" {at} dy=\"4\">{number}</text>\n"
+    )
+}
+
+/// A desk's ground behind a column.
+pub(crate) fn write_stripe(
+    parity: u8,
+    x: u64,
+    height: u64,
+    text: &mut String,
+) -> Result<(), AllocError>
+    ensures { OnOk result (string_bytes text.new ≡ string_bytes text.old ++ stripe_text parity x height) }
+{
+    write!(
+        text,
+        "<rect class=\"band{parity}\" x=\"{x}\" y=\"48\" width=\"140\" height=\"{height}\"/>\n"
+    )
+}
+
+/// The name of a desk.
+pub(crate) fn write_desk(x: u64, desk: u8, text: &mut String) -> Result<(), AllocError>
+    ensures { OnOk result (string_bytes text.new ≡ string_bytes text.old ++ desk_text x desk) }
+{
+    write!(
+        text,
+        "<text class=\"desk\" x=\"{x}\" y=\"62\">desk {desk}</text>\n"
+    )
 }
 
 /// The line of a column, from head to foot.
 pub(crate) fn write_before(x: u64, end: u64, text: &mut String) -> Result<(), AllocError>
     ensures { OnOk result (string_bytes text.new ≡ string_bytes text.old ++ before_text x end) }
 {
-    write!(text, "<path class=\"before\" d=\"M{x} 30V{end}\"/>\n")
+    write!(text, "<path class=\"before\" d=\"M{x} 98V{end}\"/>\n")
 }
 
-pub(crate) fn write_name(at: Point, name: &str, text: &mut String) -> Result<(), AllocError>
-    ensures { OnOk result (string_bytes text.new ≡ string_bytes text.old ++ name_text at name.now) }
+/// A name or a pid, and what presses it into its column.
+pub(crate) fn write_name(
+    at: Point,
+    fit: &str,
+    name: &str,
+    text: &mut String,
+) -> Result<(), AllocError>
+    ensures { OnOk result (string_bytes text.new ≡ string_bytes text.old ++ name_text at fit.now name.now) }
 {
     let at = At(at);
-    write!(text, "<text class=\"name\" {at}>{name}</text>\n")
+    write!(text, "<text class=\"name\" {at}{fit}>{name}</text>\n")
 }
 
 pub(crate) fn write_alive(from: Point, to: u64, text: &mut String) -> Result<(), AllocError>

@@ -41,7 +41,7 @@ impl Model for Follower {
 
 impl Follower {
     /// One that is not born yet.
-    pub fn new(me: Pid) -> Follower
+    pub(crate) fn new(me: Pid) -> Follower
         ensures { result ≡ followed me unborn }
     {
         Follower {
@@ -53,7 +53,7 @@ impl Follower {
 
     /// The event of a row happens. What it sends by that joins what it has sent; the answer is the reason with which
     /// it ends, if it does.
-    pub fn see(
+    pub(crate) fn see(
         &mut self,
         alloc: Global,
         row: usize,

@@ -1,15 +1,16 @@
 //! Where the parts of a chart stand: its columns, its rows and the arrows between them, as numbers.
 
-ghost use Rattle.std.specs.Prelude.{◌≡◌, ◌++◌, [], All, IfOk, OnOk, position, slice_get};
+ghost use Rattle.std.specs.Prelude.{◌≡◌, ◌<◌, ◌≤◌, ◌++◌, [], All, IfOk, IfSome, OnOk, length, nat_lt, position};
 ghost use Rattle.std.specs.List.{list_any};
 ghost use Rattle.pt_signal.specs.Values.{same_pid};
 ghost use Rattle.pt_events.specs.History.{is_birth};
-ghost use Rattle.pt_chart.specs.Chart.{IsLayout, IsColumn, IsLegalHistory, ShowsLife, MonitorsAnew, arrow, arrows};
-ghost use Rattle.pt_chart.specs.Chart.{end_of, everyone, is_receipt, join, joined, named, past_of, place, receipts};
+ghost use Rattle.pt_chart.specs.Chart.{IsLayout, IsColumn, IsLegalHistory, ShowsLife, MonitorsAnew, arrows};
+ghost use Rattle.pt_chart.specs.Chart.{end_of, everyone, join, joined, named, past_of, place, place_behind};
 ghost use Rattle.pt_chart.specs.Chart.{sent_of};
 ghost use Rattle.pt_chart.specs.Following.{noted};
 
 use crate::follower::Follower;
+use crate::receipts::receipts_of;
 use pt_events::{Event, Stamped};
 use pt_signal::{Pid, Reason, Signal};
 use std::alloc::{AllocError, Global};
@@ -56,9 +57,9 @@ pub struct Layout {
 
 /// Lays a history out.
 ///
-/// Each process that is named is a column, in order of first appearance, and each event a row, in the order of the
-/// history. An arrow goes from the row in which a letter is sent to the row in which it came: of two processes, the
-/// nth letter from the one to the other is the nth that comes.
+/// Each process that is named is a column, by desk and then in order of first appearance, and each event a row, in the
+/// order of the history. An arrow goes from the row in which a letter is sent to the row in which it came: of two
+/// processes, the nth letter from the one to the other is the nth that comes.
 ///
 /// In a legal history, as the one of a gathered node is, every end and every arrow stands so. In any other one those of
 /// a process do that opens no monitor under a reference that it has open.
@@ -79,7 +80,7 @@ pub fn lay_out(alloc: Global, events: &[Stamped]) -> Result<Layout, AllocError>
     })
 }
 
-/// Whom the history names, in order of first appearance.
+/// Whom the history names, by desk and then in order of first appearance.
 fn pids_of(alloc: Global, events: &[Stamped]) -> Result<Vec<Pid>, AllocError>
     ensures { IfOk result (λ v. v.items ≡ everyone events.now) }
 {
@@ -117,8 +118,27 @@ fn join(pids: &mut Vec<Pid>, pid: Pid) -> Result<(), AllocError>
     if is_among(pids, pid) {
         return Ok(());
     }
-    pids.push(pid)?;
+    pids.insert(place_behind(pids, pid), pid)?;
     Ok(())
+}
+
+/// The place behind all of its own desk and of the desks before it.
+fn place_behind(pids: &[Pid], pid: Pid) -> usize
+    ensures place { result ≡ place_behind pids.now pid }
+    ensures within { result ≤ length pids.now }
+{
+    match first_behind(pids, pid) {
+        Some(place) => place,
+        None => pids.len(),
+    }
+}
+
+/// The place of the first of a later desk.
+fn first_behind(pids: &[Pid], pid: Pid) -> Option<usize>
+    ensures place { result ≡ position (λ q. nat_lt pid.shard q.shard) pids.now }
+    ensures within { IfSome result (λ place. place < length pids.now) }
+{
+    pids.iter().position(|other| pid.shard < other.shard)
 }
 
 fn is_among(pids: &[Pid], pid: Pid) -> bool
@@ -212,31 +232,24 @@ fn arrows_of(
     ensures { IfOk result (λ v. v.items ≡ arrows events.now pids.now from [] sent.now) }
 {
     let mut arrows = Vec::with_capacity(alloc, sent.len())?;
+    let mut receipts = receipts_of(alloc, events, from)?;
     for k in 0..sent.len() {
-        arrows.push_reserved(arrow_of(events, pids, from, &sent[..k], sent[k]));
+        let came = receipts.pop(sent[k].to);
+        arrows.push_reserved(arrow_of(pids, sent[k], came));
     }
     Ok(arrows)
 }
 
-/// The arrow of a letter, where these were sent before it.
-fn arrow_of(
-    events: &[Stamped],
-    pids: &[Pid],
-    from: Pid,
-    earlier: &[Sending],
-    sending: Sending,
-) -> Arrow
-    ensures { result ≡ arrow events.now pids.now from earlier.now sending }
+/// The arrow of a letter that came in this row, if it did.
+fn arrow_of(pids: &[Pid], sending: Sending, came: Option<usize>) -> Arrow
+    ensures { result
+        ≡ record { to = place pids.now sending.to; signal = sending.signal; sent = sending.row; came = came } }
 {
-    let before = earlier
-        .iter()
-        .filter(|other| sending.to == other.to)
-        .count();
     Arrow {
         to: place(pids, sending.to),
         signal: sending.signal,
         sent: sending.row,
-        came: receipt(events, from, sending.to, before),
+        came,
     }
 }
 
@@ -251,30 +264,4 @@ fn position_of(pids: &[Pid], pid: Pid) -> Option<usize>
     ensures { result ≡ position (same_pid pid) pids.now }
 {
     pids.iter().position(|other| pid == *other)
-}
-
-/// The row of the nth letter that came from the one to the other.
-fn receipt(events: &[Stamped], from: Pid, to: Pid, n: usize) -> Option<usize>
-    ensures { result ≡ slice_get (receipts from to events.now) n }
-{
-    let mut left = n;
-    for row in 0..events.len() {
-        if !is_receipt(from, to, events[row].event) {
-            continue;
-        }
-        if left == 0 {
-            return Some(row);
-        }
-        left -= 1;
-    }
-    None
-}
-
-fn is_receipt(from: Pid, to: Pid, event: Event) -> bool
-    ensures { result ≡ is_receipt from to event }
-{
-    match event {
-        Event::Came(sender, receiver, _) => from == sender && to == receiver,
-        _ => false,
-    }
 }

@@ -2,20 +2,24 @@
 
 use crate::layout::Arrow;
 use pt_events::Stamped;
-use pt_signal::{Pid, Reason, Signal};
+use pt_signal::{Pid, Reason};
 
 /// One thing that is drawn.
 #[derive(Clone, Copy)]
 pub(crate) enum Part {
-    /// The line of an event, at the left of its row.
-    Line {
-        row: usize,
-        event: Stamped,
+    /// The ground of a column, which shows its desk.
+    Ground {
+        column: usize,
+        desk: u8,
     },
-    /// The name of a process, above and below its column, and the line between the two.
+    /// The name of a desk, above its first column.
+    Desk {
+        column: usize,
+        desk: u8,
+    },
+    /// The line of a column, from head to foot.
     Column {
         column: usize,
-        pid: Pid,
     },
     /// The life of a process, from the row of its birth to that of its end, or to the last one.
     Life {
@@ -25,6 +29,11 @@ pub(crate) enum Part {
     },
     /// A letter, from the column of its sender.
     Letter {
+        column: usize,
+        arrow: Arrow,
+    },
+    /// What a letter says, beside its arrow.
+    Saying {
         column: usize,
         arrow: Arrow,
     },
@@ -38,6 +47,17 @@ pub(crate) enum Part {
         row: usize,
         column: usize,
         reason: Reason,
+    },
+    /// The name of a process, above a row.
+    Name {
+        row: usize,
+        column: usize,
+        pid: Pid,
+    },
+    /// The row of an event, which tells its line and its number.
+    Row {
+        row: usize,
+        event: Stamped,
     },
 }
 
@@ -54,12 +74,6 @@ pub(crate) enum Mark {
     Birth {
         column: usize,
         pid: Pid,
-    },
-    /// What a process says, beside it and towards the receiver.
-    Saying {
-        from: usize,
-        to: usize,
-        signal: Signal,
     },
     /// The dot of an item that is taken.
     Taking {

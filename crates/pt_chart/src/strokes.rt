@@ -1,7 +1,7 @@
 //! How a signal is drawn.
 
 ghost use Rattle.std.specs.Prelude.{◌≡◌};
-ghost use Rattle.pt_chart.specs.Text.{stroke_of};
+ghost use Rattle.pt_chart.specs.Text.{is_owed, stroke_of};
 
 use pt_signal::Signal;
 use std::fmt;
@@ -18,7 +18,7 @@ pub(crate) enum Stroke {
 
 impl Stroke {
     /// How the letter of a signal is drawn.
-    pub fn of(signal: &Signal) -> Stroke
+    pub(crate) fn of(signal: &Signal) -> Stroke
         ensures { result ≡ stroke_of signal.now }
     {
         match signal {
@@ -28,6 +28,24 @@ impl Stroke {
             Signal::Monitor(_) | Signal::Demonitor(_) | Signal::Down(_, _) => Stroke::Monitor,
             Signal::AliveAsk(_) | Signal::AliveSay(_, _) => Stroke::Question,
         }
+    }
+}
+
+/// Whether a process owes it at its end or answers it. Several such letters may go out in one row.
+pub(crate) fn is_owed(signal: &Signal) -> bool
+    ensures { result ≡ is_owed signal.now }
+{
+    match signal {
+        Signal::LinkExit(_, _)
+        | Signal::Demonitor(_)
+        | Signal::Down(_, _)
+        | Signal::AliveSay(_, _) => true,
+        Signal::Message(_)
+        | Signal::Link(_)
+        | Signal::Unlink(_)
+        | Signal::Exit(_)
+        | Signal::Monitor(_)
+        | Signal::AliveAsk(_) => false,
     }
 }
 

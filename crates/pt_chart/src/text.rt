@@ -1,151 +1,205 @@
 //! The text of what is drawn, as SVG.
 
-ghost use Rattle.std.specs.Prelude.{◌≡◌, ◌++◌, IfOk, OnOk, string_bytes};
+ghost use Rattle.std.specs.Prelude.{◌≡◌, [], ◌++◌, IfOk, OnOk, map, slice_index_or, string_bytes};
 ghost use Rattle.std.specs.List.{flat_map};
 ghost use Rattle.pt_chart.specs.Points.{bend, spot};
-ghost use Rattle.pt_chart.specs.Text.{arrow_text, bearing_text, birth_text, column_text, end_text, escape, escape_one};
-ghost use Rattle.pt_chart.specs.Text.{head_text, letter_text, life_text, line_text, mark_text, named_birth_text};
-ghost use Rattle.pt_chart.specs.Text.{named_column_text, part_text, refusal_text, said_end_text, said_line_text};
-ghost use Rattle.pt_chart.specs.Text.{saying_text, side_text, trapping_text};
+ghost use Rattle.pt_chart.specs.Text.{arrow_text, bearing_text, birth_text, end_text, escape, escape_one, fit_text};
+ghost use Rattle.pt_chart.specs.Text.{ground_text, head_above_text, head_text, is_owed, letter_label_text};
+ghost use Rattle.pt_chart.specs.Text.{letter_text, life_text, mark_text, name_above_text, named_birth_text};
+ghost use Rattle.pt_chart.specs.Text.{part_text, pid_above_text, refusal_text, row_text, said_end_text};
+ghost use Rattle.pt_chart.specs.Text.{said_row_text, saying_text, side_text, tip, trapping_text};
 
 use crate::elements::{
-    write_alive, write_before, write_curve, write_label, write_level, write_marker, write_name,
-    write_rule, write_said, write_shape, write_size,
+    write_alive, write_before, write_curve, write_desk, write_label, write_level, write_marker,
+    write_name, write_number, write_shape, write_size, write_strip, write_stripe,
 };
 use crate::layout::Arrow;
-use crate::page::Page;
+use crate::page::{Page, above, x, y};
 use crate::part::{Mark, Part};
 use crate::point::Point;
-use crate::strokes::Stroke;
+use crate::strokes::{Stroke, is_owed};
 use crate::style::STYLE;
 use pt_events::Stamped;
-use pt_signal::{Pid, Reason, Signal};
+use pt_signal::{Pid, Reason};
 use std::alloc::{AllocError, Global};
 
 /// What the drawing begins with: the size of the page, and how its parts look.
 pub(crate) fn write_head(page: &Page, text: &mut String) -> Result<(), AllocError>
     ensures { OnOk result (string_bytes text.new ≡ string_bytes text.old ++ head_text page.now) }
 {
-    write_size(page.width(), page.height(), text)?;
+    write_size(page.width(), page.height(), page.rows, page.columns, text)?;
     text.push_str(STYLE)
 }
 
-/// Writes the parts, one after the other.
+/// Writes the parts, one after the other, where the processes of the columns have these names.
 pub(crate) fn write_parts(
     alloc: Global,
     page: &Page,
+    names: &[&str],
     parts: &[Part],
     text: &mut String,
 ) -> Result<(), AllocError>
-    ensures { OnOk result (string_bytes text.new ≡ string_bytes text.old ++ flat_map (part_text page.now) parts.now) }
+    ensures { OnOk result (string_bytes text.new
+        ≡ string_bytes text.old ++ flat_map (part_text page.now (map (λ n. n.now) names.now)) parts.now) }
 {
     for part in parts {
-        write_part(alloc, page, *part, text)?;
+        write_part(alloc, page, names, *part, text)?;
     }
     Ok(())
 }
 
-fn write_part(alloc: Global, page: &Page, part: Part, text: &mut String) -> Result<(), AllocError>
-    ensures { OnOk result (string_bytes text.new ≡ string_bytes text.old ++ part_text page.now part) }
+fn write_part(
+    alloc: Global,
+    page: &Page,
+    names: &[&str],
+    part: Part,
+    text: &mut String,
+) -> Result<(), AllocError>
+    ensures { OnOk result
+        (string_bytes text.new ≡ string_bytes text.old ++ part_text page.now (map (λ n. n.now) names.now) part) }
 {
     match part {
-        Part::Line { row, event } => write_line(alloc, page, row, event, text),
-        Part::Column { column, pid } => write_column(alloc, page, column, pid, text),
+        Part::Ground { column, desk } => write_ground(page, column, desk, text),
+        Part::Desk { column, desk } => write_desk(above(x(column), 62), desk, text),
+        Part::Column { column } => write_before(x(column), page.end(), text),
         Part::Life {
             column,
             born,
             ended,
         } => write_life(page, column, born, ended, text),
         Part::Letter { column, arrow } => write_letter(page, column, arrow, text),
-        Part::Mark { row, mark } => write_mark(alloc, page, row, mark, text),
+        Part::Saying { column, arrow } => write_saying(alloc, page, column, arrow, text),
+        Part::Mark { row, mark } => write_mark(alloc, row, mark, text),
         Part::End {
             row,
             column,
             reason,
-        } => write_end(alloc, page, row, column, reason, text),
+        } => write_end(alloc, row, column, reason, text),
+        Part::Name { row, column, pid } => {
+            let name = name_at(names, column);
+            write_head_above(alloc, row, column, name, pid, text)
+        }
+        Part::Row { row, event } => write_row(alloc, page, row, event, text),
     }
 }
 
 /// The mark of an event, in its row.
-fn write_mark(
-    alloc: Global,
-    page: &Page,
-    row: usize,
-    mark: Mark,
-    text: &mut String,
-) -> Result<(), AllocError>
-    ensures { OnOk result (string_bytes text.new ≡ string_bytes text.old ++ mark_text page.now row mark) }
+fn write_mark(alloc: Global, row: usize, mark: Mark, text: &mut String) -> Result<(), AllocError>
+    ensures { OnOk result (string_bytes text.new ≡ string_bytes text.old ++ mark_text row mark) }
 {
     match mark {
         Mark::Bearing {
             parent,
             child,
             linked,
-        } => write_bearing(page, row, parent, child, linked, text),
-        Mark::Birth { column, pid } => write_birth(alloc, page, row, column, pid, text),
-        Mark::Saying { from, to, signal } => {
-            write_saying(alloc, page, row, from, to, signal, text)
-        }
-        Mark::Taking { column } => write_shape("taking", spot(page, column, row), text),
-        Mark::Trapping { column, on } => write_trapping(page, row, column, on, text),
-        Mark::Refusal { column, to } => write_refusal(alloc, page, row, column, to, text),
+        } => write_bearing(row, parent, child, linked, text),
+        Mark::Birth { column, pid } => write_birth(alloc, row, column, pid, text),
+        Mark::Taking { column } => write_shape("taking", spot(column, row), text),
+        Mark::Trapping { column, on } => write_trapping(row, column, on, text),
+        Mark::Refusal { column, to } => write_refusal(alloc, row, column, to, text),
     }
 }
 
-/// The line of an event, and a rule across the page.
-fn write_line(
+/// The row of an event, whose title is its line, and its number.
+fn write_row(
     alloc: Global,
     page: &Page,
     row: usize,
     event: Stamped,
     text: &mut String,
 ) -> Result<(), AllocError>
-    ensures { OnOk result (string_bytes text.new ≡ string_bytes text.old ++ line_text page.now row event) }
+    ensures { OnOk result (string_bytes text.new ≡ string_bytes text.old ++ row_text page.now row event) }
 {
     let said = escaped(alloc, format!(in alloc; "{event}")?.as_str())?;
-    write_said_line(page, row, said.as_str(), text)
+    write_said_row(page, row, said.as_str(), text)
 }
 
-fn write_said_line(page: &Page, row: usize, said: &str, text: &mut String) -> Result<(), AllocError>
-    ensures { OnOk result (string_bytes text.new ≡ string_bytes text.old ++ said_line_text page.now row said.now) }
+fn write_said_row(page: &Page, row: usize, said: &str, text: &mut String) -> Result<(), AllocError>
+    ensures { OnOk result (string_bytes text.new ≡ string_bytes text.old ++ said_row_text page.now row said.now) }
 {
-    let y = page.y(row);
-    let from = Point {
-        x: page.gutter(),
-        y,
-    };
-    write_rule(from, page.width(), text)?;
-    write_said(Point { x: 12, y }, said, text)
+    let middle = y(row);
+    write_strip(above(middle, 12), page.width(), said, text)?;
+    let number = (row as u64).saturating_add(1);
+    write_number(Point { x: 8, y: middle }, number, text)
 }
 
-/// The name of a process, above and below its column.
-fn write_column(
+/// The name of the process of a column; empty where it has none.
+fn name_at<'a>(names: &[&'a str], column: usize) -> &'a str
+    ensures { result.now ≡ slice_index_or (map (λ n. n.now) names.now) column [] }
+{
+    match names.get(column) {
+        Some(name) => *name,
+        None => "",
+    }
+}
+
+/// The head of a column above a row: the name of the process, if it has one, and its pid.
+fn write_head_above(
     alloc: Global,
-    page: &Page,
+    row: usize,
     column: usize,
+    name: &str,
     pid: Pid,
     text: &mut String,
 ) -> Result<(), AllocError>
-    ensures { OnOk result (string_bytes text.new ≡ string_bytes text.old ++ column_text page.now column pid) }
+    ensures { OnOk result (string_bytes text.new ≡ string_bytes text.old ++ head_above_text row column name.now pid) }
 {
-    let name = escaped(alloc, format!(in alloc; "{pid}")?.as_str())?;
-    write_named_column(page, column, name.as_str(), text)
+    write_name_above(alloc, row, column, name, text)?;
+    let said = escaped(alloc, format!(in alloc; "{pid}")?.as_str())?;
+    write_pid_above(row, column, said.as_str(), text)
 }
 
-fn write_named_column(
-    page: &Page,
+fn write_pid_above(
+    row: usize,
+    column: usize,
+    said: &str,
+    text: &mut String,
+) -> Result<(), AllocError>
+    ensures { OnOk result (string_bytes text.new ≡ string_bytes text.old ++ pid_above_text row column said.now) }
+{
+    let at = Point {
+        x: x(column),
+        y: above(y(row), 26),
+    };
+    write_name(at, "", said, text)
+}
+
+fn write_name_above(
+    alloc: Global,
+    row: usize,
     column: usize,
     name: &str,
     text: &mut String,
 ) -> Result<(), AllocError>
-    ensures { OnOk result
-        (string_bytes text.new ≡ string_bytes text.old ++ named_column_text page.now column name.now) }
+    ensures { OnOk result (string_bytes text.new ≡ string_bytes text.old ++ name_above_text row column name.now) }
 {
-    let (x, end) = (page.x(column), page.end());
-    write_before(x, end, text)?;
-    write_name(Point { x, y: 22 }, name, text)?;
-    let y = end.saturating_add(48);
-    write_name(Point { x, y }, name, text)
+    if name.is_empty() {
+        return Ok(());
+    }
+    let said = escaped(alloc, name)?;
+    let at = Point {
+        x: x(column),
+        y: above(y(row), 40),
+    };
+    write_name(at, fit_of(name.len()), said.as_str(), text)
+}
+
+/// Presses a name of so many characters into its column, where it is longer than that is wide.
+fn fit_of(characters: usize) -> &'static str
+    ensures { result.now ≡ fit_text characters }
+{
+    if 20 < characters {
+        " textLength=\"132\" lengthAdjust=\"spacingAndGlyphs\""
+    } else {
+        ""
+    }
+}
+
+/// The ground of a column, darker behind every other desk.
+fn write_ground(page: &Page, column: usize, desk: u8, text: &mut String) -> Result<(), AllocError>
+    ensures { OnOk result (string_bytes text.new ≡ string_bytes text.old ++ ground_text page.now column desk) }
+{
+    write_stripe(desk % 2, above(x(column), 70), above(page.end(), 48), text)
 }
 
 fn write_life(
@@ -157,7 +211,7 @@ fn write_life(
 ) -> Result<(), AllocError>
     ensures { OnOk result (string_bytes text.new ≡ string_bytes text.old ++ life_text page.now column born ended) }
 {
-    write_alive(spot(page, column, born), page.row_or_end(ended), text)
+    write_alive(spot(column, born), page.row_or_end(ended), text)
 }
 
 /// An arrow to the receipt of a letter, or one with an open head where it did not come.
@@ -169,16 +223,64 @@ fn write_letter(
 ) -> Result<(), AllocError>
     ensures { OnOk result (string_bytes text.new ≡ string_bytes text.old ++ letter_text page.now column arrow) }
 {
-    let from = spot(page, column, arrow.sent);
-    let to = Point {
-        x: page.x(arrow.to),
-        y: page.row_or_end(arrow.came),
-    };
     let head = match arrow.came {
         Some(_) => "came",
         None => "sent",
     };
-    write_arrow(Stroke::of(&arrow.signal), from, to, head, text)
+    write_arrow(
+        Stroke::of(&arrow.signal),
+        spot(column, arrow.sent),
+        tip(page, arrow),
+        head,
+        text,
+    )
+}
+
+/// Where the arrow of a letter ends.
+fn tip(page: &Page, arrow: Arrow) -> Point
+    ensures { result ≡ tip page.now arrow }
+{
+    Point {
+        x: x(arrow.to),
+        y: page.row_or_end(arrow.came),
+    }
+}
+
+/// What a letter says: where it comes if it is owed, else where it is sent.
+fn write_saying(
+    alloc: Global,
+    page: &Page,
+    column: usize,
+    arrow: Arrow,
+    text: &mut String,
+) -> Result<(), AllocError>
+    ensures { OnOk result (string_bytes text.new ≡ string_bytes text.old ++ saying_text page.now column arrow) }
+{
+    let signal = arrow.signal;
+    let said = escaped(alloc, format!(in alloc; "{signal}")?.as_str())?;
+    write_letter_label(page, column, arrow, is_owed(&signal), said.as_str(), text)
+}
+
+/// A label beside the receiver of a letter, or beside its sender.
+fn write_letter_label(
+    page: &Page,
+    column: usize,
+    arrow: Arrow,
+    owed: bool,
+    said: &str,
+    text: &mut String,
+) -> Result<(), AllocError>
+    ensures { OnOk result
+        (string_bytes text.new ≡ string_bytes text.old ++ letter_label_text page.now column arrow owed said.now) }
+{
+    let stroke = Stroke::of(&arrow.signal);
+    if owed {
+        let side = side_of(column < arrow.to);
+        write_label(stroke, tip(page, arrow), side, said, text)
+    } else {
+        let side = side_of(arrow.to < column);
+        write_label(stroke, spot(column, arrow.sent), side, said, text)
+    }
 }
 
 fn write_arrow(
@@ -207,46 +309,45 @@ fn bend(from: Point, to: Point) -> (Point, Point)
 }
 
 /// Where a column and a row meet.
-fn spot(page: &Page, column: usize, row: usize) -> Point
-    ensures { result ≡ spot page.now column row }
+fn spot(column: usize, row: usize) -> Point
+    ensures { result ≡ spot column row }
 {
     Point {
-        x: page.x(column),
-        y: page.y(row),
+        x: x(column),
+        y: y(row),
     }
 }
 
 fn write_bearing(
-    page: &Page,
     row: usize,
     parent: usize,
     child: usize,
     linked: bool,
     text: &mut String,
 ) -> Result<(), AllocError>
-    ensures { OnOk result
-        (string_bytes text.new ≡ string_bytes text.old ++ bearing_text page.now row parent child linked) }
+    ensures { OnOk result (string_bytes text.new ≡ string_bytes text.old ++ bearing_text row parent child linked) }
 {
-    let (from, to) = (spot(page, parent, row), page.x(child));
-    if linked {
-        write_level("link", from, to, text)
+    let (class, said) = if linked {
+        ("link", "spawn, linked")
     } else {
-        write_level("before", from, to, text)
-    }
+        ("before", "spawn")
+    };
+    let at = spot(parent, row);
+    write_level(class, at, x(child), text)?;
+    write_label(Stroke::Link, at, side_of(child < parent), said, text)
 }
 
 fn write_birth(
     alloc: Global,
-    page: &Page,
     row: usize,
     column: usize,
     pid: Pid,
     text: &mut String,
 ) -> Result<(), AllocError>
-    ensures { OnOk result (string_bytes text.new ≡ string_bytes text.old ++ birth_text page.now row column pid) }
+    ensures { OnOk result (string_bytes text.new ≡ string_bytes text.old ++ birth_text row column pid) }
 {
     let name = escaped(alloc, format!(in alloc; "{pid}")?.as_str())?;
-    write_named_birth(spot(page, column, row), name.as_str(), text)
+    write_named_birth(spot(column, row), name.as_str(), text)
 }
 
 fn write_named_birth(at: Point, name: &str, text: &mut String) -> Result<(), AllocError>
@@ -254,29 +355,7 @@ fn write_named_birth(at: Point, name: &str, text: &mut String) -> Result<(), All
 {
     write_shape("birth", at, text)?;
     let y = at.y.saturating_add(4);
-    write_name(Point { x: at.x, y }, name, text)
-}
-
-fn write_saying(
-    alloc: Global,
-    page: &Page,
-    row: usize,
-    from: usize,
-    to: usize,
-    signal: Signal,
-    text: &mut String,
-) -> Result<(), AllocError>
-    ensures { OnOk result (string_bytes text.new ≡ string_bytes text.old ++ saying_text page.now row from to signal) }
-{
-    let said = escaped(alloc, format!(in alloc; "{signal}")?.as_str())?;
-    let at = spot(page, from, row);
-    write_label(
-        Stroke::of(&signal),
-        at,
-        side_of(to < from),
-        said.as_str(),
-        text,
-    )
+    write_name(Point { x: at.x, y }, "", name, text)
 }
 
 /// Where a label stands: left of a point, or right of it.
@@ -284,44 +363,43 @@ fn side_of(left: bool) -> &'static str
     ensures { result.now ≡ side_text left }
 {
     if left {
-        " dx=\"-6\" dy=\"-4\" text-anchor=\"end\""
+        " dx=\"-8\" dy=\"-4\" text-anchor=\"end\""
     } else {
-        " dx=\"6\" dy=\"-4\""
+        " dx=\"8\" dy=\"-4\""
     }
 }
 
-fn write_trapping(
-    page: &Page,
-    row: usize,
-    column: usize,
-    on: bool,
-    text: &mut String,
-) -> Result<(), AllocError>
-    ensures { OnOk result (string_bytes text.new ≡ string_bytes text.old ++ trapping_text page.now row column on) }
+fn write_trapping(row: usize, column: usize, on: bool, text: &mut String) -> Result<(), AllocError>
+    ensures { OnOk result (string_bytes text.new ≡ string_bytes text.old ++ trapping_text row column on) }
 {
-    let at = spot(page, column, row);
+    let at = spot(column, row);
     write_shape("trapping", at, text)?;
     if on {
-        write_label(Stroke::Message, at, side_of(false), "traps", text)
+        write_label(Stroke::Message, at, side_of(false), "traps exits", text)
     } else {
-        write_label(Stroke::Message, at, side_of(false), "traps no more", text)
+        write_label(
+            Stroke::Message,
+            at,
+            side_of(false),
+            "traps exits no more",
+            text,
+        )
     }
 }
 
 fn write_refusal(
     alloc: Global,
-    page: &Page,
     row: usize,
     column: usize,
     to: Pid,
     text: &mut String,
 ) -> Result<(), AllocError>
-    ensures { OnOk result (string_bytes text.new ≡ string_bytes text.old ++ refusal_text page.now row column to) }
+    ensures { OnOk result (string_bytes text.new ≡ string_bytes text.old ++ refusal_text row column to) }
 {
     let said = escaped(alloc, format!(in alloc; "refused {to}")?.as_str())?;
     write_label(
         Stroke::Exit,
-        spot(page, column, row),
+        spot(column, row),
         side_of(false),
         said.as_str(),
         text,
@@ -330,16 +408,15 @@ fn write_refusal(
 
 fn write_end(
     alloc: Global,
-    page: &Page,
     row: usize,
     column: usize,
     reason: Reason,
     text: &mut String,
 ) -> Result<(), AllocError>
-    ensures { OnOk result (string_bytes text.new ≡ string_bytes text.old ++ end_text page.now row column reason) }
+    ensures { OnOk result (string_bytes text.new ≡ string_bytes text.old ++ end_text row column reason) }
 {
     let said = escaped(alloc, format!(in alloc; "{reason}")?.as_str())?;
-    write_said_end(spot(page, column, row), said.as_str(), text)
+    write_said_end(spot(column, row), said.as_str(), text)
 }
 
 fn write_said_end(at: Point, said: &str, text: &mut String) -> Result<(), AllocError>

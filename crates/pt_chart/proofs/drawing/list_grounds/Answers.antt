@@ -1,0 +1,8 @@
+use Rattle.std.proofs.Common.{rules, arith}
+use Rattle.pt_chart.proofs.Numbering.{one_more}
+use Rattle.pt_chart.specs.Drawing.{ground}
+use Rattle.pt_chart.proofs.drawing.list_grounds.Goals as goal
+
+pub loop-place-preserved : goal.loop-place-preserved
+loop-place-preserved c =
+    one_more (ground c.args.columns.now) c.args.parts.now.items c.loop-place.parts.items c.list_ground.new.parts.items c.args.columns.now c.loop-place.place c.index-columns-place.result (omega arith) (search rules) c.loop-place.invariant c.in_ok-list_ground.ensures

@@ -1,0 +1,6 @@
+use Rattle.std.proofs.Common.{◌≡◌, ◌++◌, map, take}
+use Rattle.pt_chart.specs.declared.part.Part.TheVariants.{Saying}
+use Rattle.pt_chart.proofs.drawing.list_sayings_of.Given as goal
+
+abbrev pub invariant-loop-arrow : goal.invariant-loop-arrow
+invariant-loop-arrow l = l.parts.items ≡ l.fn.parts.items ++ map (Saying l.place) (take l.arrow-index l.shown.arrows.items)

@@ -1,8 +1,0 @@
-use Rattle.std.proofs.Common.{append_assoc}
-use Rattle.pt_chart.specs.Text.{said_text}
-use Rattle.pt_chart.proofs.Writing.{reads_as}
-use Rattle.pt_chart.proofs.elements.write_said.Goals as goal
-
-pub returns : goal.returns
-unfolding said_text
-returns c = reads_as _ _ _ _ (said_text c.args.at c.args.said.now) c.write.ensures.bytes (simp append_assoc)

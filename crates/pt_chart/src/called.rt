@@ -1,0 +1,48 @@
+//! What processes are called.
+
+ghost use Rattle.std.specs.Prelude.{◌≡◌, ◌<◌, IfOk, IfSome, length, map, position};
+ghost use Rattle.pt_signal.specs.Values.{same_pid};
+ghost use Rattle.pt_chart.specs.Drawing.{given, name_of, names_of};
+
+use crate::layout::Column;
+use pt_signal::Pid;
+use std::alloc::{AllocError, Global};
+
+/// The name of a process.
+#[derive(Clone, Copy, Debug)]
+pub struct Called<'a> {
+    pub pid: Pid,
+    pub name: &'a str,
+}
+
+/// The names of the columns' processes, each empty where none is given.
+pub(crate) fn names_of<'a>(
+    alloc: Global,
+    called: &[Called<'a>],
+    columns: &[Column],
+) -> Result<Vec<&'a str>, AllocError>
+    ensures { IfOk result (λ names. map (λ n. n.now) names.items ≡ names_of (map given called.now) columns.now) }
+{
+    let mut names = Vec::with_capacity(alloc, columns.len())?;
+    for column in columns {
+        names.push(name_of(called, column.pid))?;
+    }
+    Ok(names)
+}
+
+/// The first name that is given to the pid, or an empty one.
+fn name_of<'a>(called: &[Called<'a>], pid: Pid) -> &'a str
+    ensures { result.now ≡ name_of (map given called.now) pid }
+{
+    match place_of(called, pid) {
+        Some(place) => called[place].name,
+        None => "",
+    }
+}
+
+fn place_of(called: &[Called<'_>], pid: Pid) -> Option<usize>
+    ensures place { result ≡ position (λ c. same_pid pid c.pid) called.now }
+    ensures within { IfSome result (λ place. place < length called.now) }
+{
+    called.iter().position(|one| pid == one.pid)
+}
