@@ -1,5 +1,5 @@
 -- Each item that is taken is handed on.
-use Rattle.std.proofs.Common.{◌≡◌, List, [], ◌∷◌, ◌++◌, Option, Some, None, Result, Ok, Err, refl, sym, ap, subst, ◌∙◌, append_assoc}
+use Rattle.std.proofs.Common.{◌≡◌, ◌⊎◌, inl, inr, Bool, true, false, List, [], ◌∷◌, ◌++◌, Option, Some, None, Result, Ok, Err, refl, sym, ap, subst, ◌∙◌, append_assoc}
 use Rattle.pt_signal.specs.declared.pid.Pid.{Pid}
 use Rattle.pt_signal.specs.declared.item.Item.{Item}
 use Rattle.pt_signal.specs.declared.item.Pick.{Pick}
@@ -9,12 +9,16 @@ use Rattle.pt_signal.proofs.Same.{same_pid_is}
 use Rattle.pt_events.specs.declared.event.Event.TheVariants.{Left}
 use Rattle.pt_shard.specs.declared.fault.Fault.{Fault}
 use Rattle.pt_shard.specs.declared.fault.Fault.TheVariants.{Full, Memory, Worn, Gone, Myself, NoProc}
-use Rattle.pt_shard.specs.ShardState.{ShardState}
+use Rattle.pt_shard.specs.ShardState.{ShardState, lives}
 use Rattle.pt_shard.specs.Calls.{Calls, take_event, first_match}
 use Rattle.pt_crew.specs.declared.behaviour.Next.{Next}
-use Rattle.pt_crew.specs.declared.behaviour.Next.TheVariants.{Wait, Stop}
-use Rattle.pt_crew.specs.Visiting.{Answers, Roles, AreSame, AreWith, ComesTo, SeesTo, EndsAs, TakesAs, Visits, takes}
-use Rattle.pt_crew.specs.Handing.{MayLeave, HandsAll, Handed}
+use Rattle.pt_crew.specs.declared.behaviour.Next.TheVariants.{Wait, Proceed, Stop}
+use Rattle.pt_crew.specs.declared.crew.Tended.{Tended}
+use Rattle.pt_crew.specs.declared.crew.Tended.TheVariants.{Idle, Refused as Denied}
+use Rattle.pt_crew.specs.Visiting.{Answers, Roles, AreSame, AreWith, Scene, HandsTo, LeavesAs, StaysAs, ComesTo, SeesTo, EndsAs, TakesAs, VisitsOne, Visits, takes}
+use Rattle.pt_crew.specs.Crews.{Rounds}
+use Rattle.pt_crew.specs.Handing.{MayLeave, MayBeHanded, HandsAll, Handed, item_of, items_of}
+use Rattle.std.specs.Prelude.{MatchBool}
 use Rattle.pt_crew.proofs.Waking.{by_cases, elsewhere}
 use Rattle.pt_crew.proofs.Takes.{left_takes, none_taken, one_taken, refused_taken}
 
@@ -36,23 +40,29 @@ module _ {B : Type 0} where
       (λ same. ap old (sym (same_pid_is p q same)) ∙ sym stays ∙ ap new (same_pid_is p q same) ∙ is)
       (λ other. sym (elsewhere old new p (new p) with_p q other) ∙ is)
 
-module _ {B : Type 0} (answers : Answers B) where
-  absorb : (taken : List (Pid × Item)) (old mid new : Roles B) → HandsAll answers taken old mid → MayLeave mid new → HandsAll answers taken old new
-  absorb [] old mid new a k = leave_then old mid new a k
-  absorb (t ∷ taken) old mid new a k = (a.0, a.1, a.2, a.3, leave_then a.1 mid new a.4 k)
+-- the items of what was handed before and then
+items_then : (xs ys : List (Pid × Option Item)) → items_of (xs ++ ys) ≡ items_of xs ++ items_of ys
+items_then [] ys = refl
+items_then (t ∷ xs) ys = ap (λ (l : List (Pid × Item)). item_of t.0 t.1 ++ l) (items_then xs ys) ∙ sym (append_assoc (item_of t.0 t.1) (items_of xs) (items_of ys))
 
-  all_then : (first later : List (Pid × Item)) (old mid new : Roles B) → HandsAll answers first old mid → HandsAll answers later mid new → HandsAll answers (later ++ first) old new
+module _ {B : Type 0} (answers : Answers B) where
+  absorb : (handed : List (Pid × Option Item)) (old mid new : Roles B) → HandsAll answers handed old mid → MayLeave mid new → HandsAll answers handed old new
+  absorb [] old mid new a k = leave_then old mid new a k
+  absorb (t ∷ handed) old mid new a k = (a.0, a.1, a.2, a.3, leave_then a.1 mid new a.4 k)
+
+  all_then : (first later : List (Pid × Option Item)) (old mid new : Roles B) → HandsAll answers first old mid → HandsAll answers later mid new → HandsAll answers (later ++ first) old new
   all_then first [] old mid new a b = absorb first old mid new a b
   all_then first (t ∷ later) old mid new a b = (b.0, b.1, all_then first later old mid b.0 a b.2, b.3, b.4)
 
   handed_none : (old new : Roles B) (d e : ShardState) → MayLeave old new → takes e.journal ≡ takes d.journal → Handed answers old d new e
-  handed_none old new d e k same = record { taken = []; hands = k; takes = same }
+  handed_none old new d e k same = record { handed = []; hands = k; takes = same }
 
   handed_then : (old mid new : Roles B) (d f e : ShardState) → Handed answers old d mid f → Handed answers mid f new e → Handed answers old d new e
   handed_then old mid new d f e a b = record {
-    taken = b.taken ++ a.taken;
-    hands = all_then a.taken b.taken old mid new a.hands b.hands;
-    takes = b.takes ∙ ap (λ (l : List (Pid × Item)). b.taken ++ l) a.takes ∙ sym (append_assoc b.taken a.taken (takes d.journal));
+    handed = b.handed ++ a.handed;
+    hands = all_then a.handed b.handed old mid new a.hands b.hands;
+    takes = b.takes ∙ ap (λ (l : List (Pid × Item)). items_of b.handed ++ l) a.takes ∙ sym (append_assoc (items_of b.handed) (items_of a.handed) (takes d.journal))
+        ∙ ap (λ (l : List (Pid × Item)). l ++ takes d.journal) (sym (items_then b.handed a.handed));
   }
 
   module _ (p : Pid) (old new : Roles B) (d e : ShardState) (with_p : AreWith p (new p) old new) where
@@ -62,54 +72,86 @@ module _ {B : Type 0} (answers : Answers B) where
     stays : (role : B × Next) → old p ≡ Some role → new p ≡ Some role → takes e.journal ≡ takes d.journal → Handed answers old d new e
     stays role was is same = handed_none old new d e (stays_leaves p old new with_p (is ∙ sym was)) same
 
-    ended : (b : B) (r : Reason) (result : Result (Unit {0}) Fault) → old p ≡ Some (b, Stop r) → Calls p (Some (Left p r)) (tt {0}) d result e → EndsAs (b, Stop r) result (new p) → Handed answers old d new e
-    ended b r (Ok x) was calls ends = gone ends (left_takes p r d e (Ok x) calls)
-    ended b r (Err Gone) was calls ends = gone ends (left_takes p r d e (Err Gone) calls)
-    ended b r (Err Full) was calls ends = absurd calls
-    ended b r (Err Memory) was calls ends = stays (b, Stop r) was ends (left_takes p r d e (Err Memory) calls)
-    ended b r (Err Worn) was calls ends = stays (b, Stop r) was ends (left_takes p r d e (Err Worn) calls)
-    ended b r (Err Myself) was calls ends = absurd calls
-    ended b r (Err NoProc) was calls ends = absurd calls
+    left : (mid : ShardState) (t : Tended) → takes mid.journal ≡ takes d.journal → LeavesAs mid t (new p) e → Handed answers old d new e
+    left mid t same h = gone h.1 (ap (λ (x : ShardState). takes x.journal) h.2 ∙ same)
 
-    took : (b : B) (k : Pick) (result : Result (Option Item) Fault) (mid : ShardState) → old p ≡ Some (b, Wait k) → Calls p (take_event d p k) (first_match d p k) d result mid
-        → TakesAs answers p (b, Wait k) mid result (new p) e → Handed answers old d new e
-    took b k (Ok None) mid was calls h = stays (b, Wait k) was h.0 (ap (λ (x : ShardState). takes x.journal) h.1 ∙ none_taken p k d mid calls)
-    took b k (Ok (Some i)) mid was calls h = record {
-      taken = (p, i) ∷ [];
+    stood : (mid : ShardState) (as_is t : Tended) (role : B × Next) → old p ≡ Some role → takes mid.journal ≡ takes d.journal → StaysAs as_is role mid t (new p) e → Handed answers old d new e
+    stood mid as_is t role was same h = stays role was h.1 (ap (λ (x : ShardState). takes x.journal) h.2 ∙ same)
+
+    one : (b : B) (before : Next) (item : Option Item) (mid : ShardState) (t : Tended) → old p ≡ Some (b, before) → MayBeHanded before item → takes mid.journal ≡ items_of ((p, item) ∷ []) ++ takes d.journal
+        → HandsTo answers p b item mid t (new p) e → Handed answers old d new e
+    one b before item mid t was may same h = record {
+      handed = (p, item) ∷ [];
       hands = (
         old,
         new,
         (λ q role is. is),
         record {
           was = b;
-          pick = k;
+          before = before;
           waited = was;
-          now = h.0;
-          next = h.1;
-          answer = h.2;
-          after = subst (λ (o : Option (B × Next)). AreWith p o old new) h.3 with_p;
+          may = may;
+          now = h.behaviour;
+          next = h.next;
+          answer = h.answer;
+          after = subst (λ (o : Option (B × Next)). AreWith p o old new) h.now_is with_p;
         },
         (λ q role is. is),
       );
-      takes = h.4 ∙ one_taken p k i d mid calls;
+      takes = h.takes ∙ same;
     }
-    took b k (Err Gone) mid was calls h = gone h.0 (ap (λ (x : ShardState). takes x.journal) h.1 ∙ refused_taken p k Gone d mid calls)
-    took b k (Err Full) mid was calls h = absurd calls
-    took b k (Err Memory) mid was calls h = stays (b, Wait k) was h.0 (ap (λ (x : ShardState). takes x.journal) h.1 ∙ refused_taken p k Memory d mid calls)
-    took b k (Err Worn) mid was calls h = stays (b, Wait k) was h.0 (ap (λ (x : ShardState). takes x.journal) h.1 ∙ refused_taken p k Worn d mid calls)
-    took b k (Err Myself) mid was calls h = absurd calls
-    took b k (Err NoProc) mid was calls h = absurd calls
 
-    seen : (b : B) (n : Next) → old p ≡ Some (b, n) → SeesTo answers p b n d (new p) e → Handed answers old d new e
-    seen b (Stop r) was h = ended b r h.0 was h.1 h.2
-    seen b (Wait k) was h = took b k h.0 h.1 was h.2 h.3
+    ended : (b : B) (r : Reason) (t : Tended) (result : Result (Unit {0}) Fault) → old p ≡ Some (b, Stop r) → Calls p (Some (Left p r)) (tt {0}) d result e → EndsAs (b, Stop r) result t (new p) → Handed answers old d new e
+    ended b r t (Ok x) was calls ends = gone ends.1 (left_takes p r d e (Ok x) calls)
+    ended b r t (Err Gone) was calls ends = gone ends.1 (left_takes p r d e (Err Gone) calls)
+    ended b r t (Err Full) was calls ends = absurd calls
+    ended b r t (Err Memory) was calls ends = stays (b, Stop r) was ends.1 (left_takes p r d e (Err Memory) calls)
+    ended b r t (Err Worn) was calls ends = stays (b, Stop r) was ends.1 (left_takes p r d e (Err Worn) calls)
+    ended b r t (Err Myself) was calls ends = absurd calls
+    ended b r t (Err NoProc) was calls ends = absurd calls
 
-    came : (o : Option (B × Next)) → old p ≡ o → ComesTo answers p o d (new p) e → Handed answers old d new e
-    came None was h = gone h.0 (ap (λ (x : ShardState). takes x.journal) h.1)
-    came (Some role) was h = seen role.0 role.1 was h
+    took : (b : B) (k : Pick) (t : Tended) (result : Result (Option Item) Fault) (mid : ShardState) → old p ≡ Some (b, Wait k) → Calls p (take_event d p k) (first_match d p k) d result mid
+        → TakesAs answers p (b, Wait k) mid result t (new p) e → Handed answers old d new e
+    took b k t (Ok None) mid was calls h = stood mid Idle t (b, Wait k) was (none_taken p k d mid calls) h
+    took b k t (Ok (Some i)) mid was calls h = one b (Wait k) (Some i) mid t was (k, refl) (one_taken p k i d mid calls) h
+    took b k t (Err Gone) mid was calls h = left mid t (refused_taken p k Gone d mid calls) h
+    took b k t (Err Full) mid was calls h = absurd calls
+    took b k t (Err Memory) mid was calls h = stood mid Denied t (b, Wait k) was (refused_taken p k Memory d mid calls) h
+    took b k t (Err Worn) mid was calls h = stood mid Denied t (b, Wait k) was (refused_taken p k Worn d mid calls) h
+    took b k t (Err Myself) mid was calls h = absurd calls
+    took b k t (Err NoProc) mid was calls h = absurd calls
+
+    proceeds : (b : B) (t : Tended) (living : Bool) → old p ≡ Some (b, Proceed) → MatchBool living (HandsTo answers p b None d t (new p) e) (LeavesAs d t (new p) e) → Handed answers old d new e
+    proceeds b t true was h = one b Proceed None d t was refl refl h
+    proceeds b t false was h = left d t refl h
+
+    seen : (b : B) (n : Next) (t : Tended) → old p ≡ Some (b, n) → SeesTo answers p b n d t (new p) e → Handed answers old d new e
+    seen b (Stop r) t was h = ended b r t h.0 was h.1 h.2
+    seen b Proceed t was h = proceeds b t (lives d p) was h
+    seen b (Wait k) t was h = took b k t h.0 h.1 was h.2 h.3
+
+    found : (role : B × Next) (t : Tended) → old p ≡ Some role → StaysAs Denied role d t (new p) e ⊎ SeesTo answers p role.0 role.1 d t (new p) e → Handed answers old d new e
+    found role t was (inl h) = stood d Denied t role was refl h
+    found role t was (inr h) = seen role.0 role.1 t was h
+
+    came : (o : Option (B × Next)) (t : Tended) → old p ≡ o → ComesTo answers p o d t (new p) e → Handed answers old d new e
+    came None t was h = gone h.1 (ap (λ (x : ShardState). takes x.journal) h.2)
+    came (Some role) t was h = found role t was h
+
+  one_hands : (p : Pid) (old new : Scene B) → VisitsOne answers p old new → Handed answers old.roles old.desk new.roles new.desk
+  one_hands p old new h = came p old.roles new.roles old.desk new.desk h.others (old.roles p) h.tended refl h.comes
+
+  same_hands : (old new : Scene B) → new ≡ old → Handed answers old.roles old.desk new.roles new.desk
+  same_hands old new is = handed_none old.roles new.roles old.desk new.desk (same_leave old.roles new.roles (λ q. ap (λ (s : Scene B). s.roles q) is)) (ap (λ (s : Scene B). takes s.desk.journal) is)
 
   -- whoever is come to was handed what it took
-  pub visits_hand : (ps : List Pid) (old new : Roles B) (d e : ShardState) → Visits answers ps old d new e → Handed answers old d new e
-  visits_hand [] old new d e h = handed_none old new d e (same_leave old new h.0) (ap (λ (x : ShardState). takes x.journal) h.1)
-  visits_hand (p ∷ ps) old new d e h =
-      handed_then old h.0 new d h.1 e (came p old h.0 d h.1 h.2.0 (old p) refl h.2.1) (visits_hand ps h.0 new h.1 e h.3)
+  visits_hand : (ps : List Pid) (old new : Scene B) → Visits answers ps old new → Handed answers old.roles old.desk new.roles new.desk
+  visits_hand [] old new h = same_hands old new h
+  visits_hand (p ∷ ps) old new h =
+      handed_then old.roles h.0.roles new.roles old.desk h.0.desk new.desk (one_hands p old h.0 h.1) (visits_hand ps h.0 new h.2)
+
+  -- so in all rounds of a step
+  pub rounds_hand : (queues : List (List Pid)) (old new : Scene B) → Rounds answers queues old new → Handed answers old.roles old.desk new.roles new.desk
+  rounds_hand [] old new h = same_hands old new h
+  rounds_hand (queue ∷ queues) old new h =
+      handed_then old.roles h.0.roles new.roles old.desk h.0.desk new.desk (rounds_hand queues old h.0 h.1) (visits_hand queue (record h.0 { again = [] }) new h.3)

@@ -1,8 +1,12 @@
 pub mod Quiet
 pub mod Places
 pub mod Waking
+pub mod Beginning
 pub mod Reading
 pub mod Room
+pub mod Bearing
+pub mod Newborn
 pub mod Takes
 pub mod Visiting
 pub mod Handing
+pub mod Admitting

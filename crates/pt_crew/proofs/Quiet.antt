@@ -7,18 +7,17 @@ use Rattle.pt_signal.specs.declared.ids.LinkId.{LinkId}
 use Rattle.pt_signal.specs.declared.item.Item.{Item}
 use Rattle.pt_signal.specs.declared.item.Pick.{Pick}
 use Rattle.pt_signal.specs.declared.signal.Signal.{Signal}
-use Rattle.pt_signal.specs.declared.reason.Reason.{Reason}
 use Rattle.pt_signal.specs.Values.{same_pid, fits, without_first}
 use Rattle.pt_signal.specs.Process.{ProcessState, fresh, say}
 use Rattle.pt_events.specs.declared.event.Event.{Event}
 use Rattle.pt_events.specs.declared.event.Event.TheVariants.{Born, Said, Came, Took, Flag, Left, Refused}
 use Rattle.pt_events.specs.declared.event.Stamped.{Stamped}
-use Rattle.pt_events.specs.History.{Phase, unborn, living, ended, Start, life, after, touches, newborn, linked, while_living, leaves}
+use Rattle.pt_events.specs.History.{Phase, unborn, living, ended, Start, life, after, touches, newborn, linked, while_living}
 use Rattle.pt_events.specs.Journal.{events}
 use Rattle.pt_events.proofs.Phases.{each_branch}
 use Rattle.pt_laws.proofs.living.Fields.{say_keeps}
 use Rattle.pt_crew.specs.declared.behaviour.Next.{Next}
-use Rattle.pt_crew.specs.declared.behaviour.Next.TheVariants.{Wait, Stop}
+use Rattle.pt_crew.specs.declared.behaviour.Next.TheVariants.{Wait, Proceed, Stop}
 use Rattle.pt_crew.specs.Waking.{has_work, came_to, came_in}
 
 -- what is found without one item was there before
@@ -68,11 +67,6 @@ flag_kept k on unborn h = h
 flag_kept k on (living s) h = h
 flag_kept k on (ended r s) h = h
 
-left_kept : (k : Pick) (r : Reason) (f : Phase) → IsKept k f (leaves r f)
-left_kept k r unborn h = h
-left_kept k r (living s) h = absurd (cc)
-left_kept k r (ended w s) h = h
-
 event_kept : (k : Pick) (p : Pid) (e : Event) (f : Phase) → came_to p e ≡ false → IsKept k f (after p e f)
 event_kept k p (Born q parent link) f quiet =
     each_branch (IsKept k f) (touches p (Born q parent link)) _ _
@@ -82,7 +76,7 @@ event_kept k p (Came a b x) f quiet = rw quiet (λ h. h)
 event_kept k p (Took q j i) f quiet = each_branch (IsKept k f) (same_pid p q) _ _ (took_kept k j f) (λ h. h)
 event_kept k p (Flag q on) f quiet = each_branch (IsKept k f) (same_pid p q) _ _ (flag_kept k on f) (λ h. h)
 event_kept k p (Refused a b) f quiet = λ h. h
-event_kept k p (Left q r) f quiet = each_branch (IsKept k f) (same_pid p q) _ _ (left_kept k r f) (λ h. h)
+event_kept k p (Left q r) f quiet = rw quiet (λ h. h)
 
 pub neither : (a b : Bool) → (a || b) ≡ false → (a ≡ false) × (b ≡ false)
 neither true b h = absurd (cc)
@@ -92,6 +86,7 @@ neither false b h = (refl, h)
 pub quiet : (start : Start) (n : Next) (p : Pid) (more seen : List Stamped) → came_in p more ≡ false
     → has_work n (life start (events (more ++ seen)) p) ≡ true → has_work n (life start (events seen) p) ≡ true
 quiet start (Stop r) p more seen h w = refl
+quiet start Proceed p more seen h w = refl
 quiet start (Wait k) p [] seen h w = w
 quiet start (Wait k) p (s ∷ more) seen h w =
     let none = neither (came_to p s.event) (came_in p more) h in

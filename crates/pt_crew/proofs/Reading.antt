@@ -1,5 +1,5 @@
 -- One more event of the journal is read.
-use Rattle.std.proofs.Common.{◌≡◌, ◌+◌, ◌<◌, ◌≤◌, Bool, true, false, ◌||◌, Result, Ok, Err, OnOk, List, [], ◌∷◌, ◌++◌, length, reverse, get_or, Some, refl, sym, ap, subst, ◌∙◌, append_assoc, length-append, arith}
+use Rattle.std.proofs.Common.{◌≡◌, ◌+◌, ◌<◌, ◌≤◌, Bool, true, false, ◌||◌, Result, Ok, Err, OnOk, List, [], ◌∷◌, ◌++◌, length, reverse, get_or, Option, Some, None, refl, sym, ap, subst, ◌∙◌, append_assoc, length-append, arith}
 use Rattle.std.specs.Prelude.{is_err}
 use Rattle.std.proofs.lemmas.List.{reverse-append, reverse-reverse, length-reverse, get_or-append-add, get_or_default}
 use Rattle.std.proofs.lemmas.List.Folds.{list_any-append}
@@ -11,10 +11,12 @@ use Rattle.pt_events.specs.declared.event.Event.TheVariants.{Born, Said, Came, T
 use Rattle.pt_events.specs.declared.event.Stamped.{Stamped}
 use Rattle.pt_shard.specs.ShardState.{ShardState}
 use Rattle.pt_crew.specs.declared.crew.Crew.{Crew}
-use Rattle.pt_crew.specs.Waking.{Knows, IsAwake, came_to, came_in, in_queue}
-use Rattle.pt_crew.specs.Crews.{members, KnowsDesk, IsSame}
+use Rattle.pt_crew.specs.Waking.{Knows, IsAwake, came_to, came_in}
+use Rattle.std.specs.Option.{option_map}
+use Rattle.pt_crew.specs.declared.crew.Member.{Member}
+use Rattle.pt_crew.specs.Crews.{members, role, KnowsDesk, IsSame}
 use Rattle.pt_crew.specs.Parts.{Wakes, WakesBy}
-use Rattle.pt_crew.proofs.Waking.{by_cases}
+use Rattle.pt_crew.proofs.Waking.{by_cases, same_queue}
 use Rattle.pt_crew.proofs.Places.{same_pid_sym}
 
 -- the oldest of those that were not read
@@ -43,6 +45,11 @@ or_nil : (b : Bool) → (b || false) ≡ b
 or_nil true = refl
 or_nil false = refl
 
+-- whoever is of the crew was so before
+held_before : {B : Type 0} (was now : Option (Member B)) (m : Member B) → now ≡ Some m → option_map role now ≡ option_map role was → (v : Member B) × (was ≡ Some v)
+held_before None now m is same = absurd (let k : Some (role m) ≡ None = sym (ap (option_map role) is) ∙ same in cc)
+held_before (Some v) now m is same = (v, refl)
+
 module _ {B : Type 0} (old new : Crew B) (d : ShardState) (s : Stamped) (k : KnowsDesk old d) (o : Oldest k.more k.seen s) where
   quiet_front : (p : Pid) → came_in p o.front ≡ false → came_to p s.event ≡ false → came_in p k.more ≡ false
   quiet_front p a b =
@@ -59,7 +66,8 @@ module _ {B : Type 0} (old new : Crew B) (d : ShardState) (s : Stamped) (k : Kno
     seen = s ∷ k.seen;
     journal = journal_is;
     counted = let c = k.counted in omega (arith, c);
-    listed = λ p m at marked. subst (λ (q : List Pid). in_queue p q ≡ true) (sym same.queue) (k.listed p m (sym (same.members p) ∙ at) marked);
+    queued = same_queue (members old) (members new) old.queue.items new.queue.items same.members same.queue k.queued;
+    born = λ p m at. k.born p m (sym (same.members p) ∙ at);
     awake = λ p m at work quiet. k.awake p m (sym (same.members p) ∙ at) work (quiet_front p quiet (ap (came_to p) is ∙ none p));
   }
 
@@ -69,7 +77,8 @@ module _ {B : Type 0} (old new : Crew B) (d : ShardState) (s : Stamped) (k : Kno
     seen = s ∷ k.seen;
     journal = journal_is;
     counted = let c = k.counted in omega (arith, c);
-    listed = wakes.listed k.listed;
+    queued = wakes.queued k.queued;
+    born = λ p m at. let was = held_before (members old p) (members new p) m at (wakes.roles p) in k.born p was.0 was.1;
     awake = λ p m at work quiet. by_cases (same_pid b p)
         (λ same. wakes.marked m (subst (λ (q : Pid). members new q ≡ Some m) (sym (same_pid_is b p same)) at))
         (λ other. k.awake p m (sym (wakes.others p other) ∙ at) work (quiet_front p quiet (is p other)));
@@ -81,7 +90,7 @@ module _ {B : Type 0} (old new : Crew B) (d : ShardState) (s : Stamped) (k : Kno
   read_event (Came a b x) is h = read_came b (λ q other. ap (came_to q) is ∙ same_pid_sym q b ∙ other) h
   read_event (Took p q i) is h = read_other (Took p q i) is (λ q. refl) h
   read_event (Flag p on) is h = read_other (Flag p on) is (λ q. refl) h
-  read_event (Left p r) is h = read_came p (λ q other. ap (came_to q) is) h
+  read_event (Left p r) is h = read_came p (λ q other. ap (came_to q) is ∙ same_pid_sym q p ∙ other) h
   read_event (Refused a b) is h = read_other (Refused a b) is (λ q. refl) h
 
 -- the event at the place up to which was read
@@ -121,7 +130,7 @@ awake_all c d all k p m is work =
     let n = k.counted in
     let a = length-append k.more k.seen in
     let none : k.more ≡ [] = none_left k.more k.seen (omega (arith, l, n, a, all)) in
-    k.listed p m is (k.awake p m is work (ap (came_in p) none))
+    k.queued.listed p m is (k.awake p m is work (ap (came_in p) none))
 
 pub look_next : {B A E : Type 0} (old new : Crew B) (d : ShardState) (shown : List Stamped) (x : Stamped) (r : Result A E) → shown ≡ reverse d.journal → old.read < length shown → is_err r ≡ false
     → OnOk r (WakesBy (get_or shown old.read x).event old new) → KnowsDesk old d → Knows (members new) new.queue.items (new.read + 1) d

@@ -1,25 +1,34 @@
 -- Which calls take an item.
-use Rattle.std.proofs.Common.{◌≡◌, Bool, true, false, List, ◌∷◌, Option, Some, None, Result, Ok, Err, refl, sym, ap, ◌∙◌}
+use Rattle.std.proofs.Common.{◌≡◌, Bool, true, false, List, ◌∷◌, Option, Some, None, Result, Ok, Err, refl, sym, ap, subst, ◌∙◌}
 use Rattle.std.specs.Prelude.{MatchOption, ℕ, cond}
 use Rattle.std.specs.Result.{IsErrAnd}
 use Rattle.std.specs.Option.{option_map}
 use Rattle.pt_signal.specs.declared.pid.Pid.{Pid}
 use Rattle.pt_signal.specs.declared.ids.Ref.{Ref}
 use Rattle.pt_signal.specs.declared.ids.LinkId.{LinkId}
+use Rattle.pt_signal.specs.declared.ids.Ids.{Ids}
+use Rattle.pt_signal.specs.Values.{same_ref}
+use Rattle.std.specs.Map.{lookup}
 use Rattle.pt_signal.specs.declared.item.Item.{Item}
 use Rattle.pt_signal.specs.declared.item.Pick.{Pick}
 use Rattle.pt_signal.specs.declared.item.Body.{Body}
 use Rattle.pt_signal.specs.declared.reason.Reason.{Reason}
 use Rattle.pt_signal.specs.declared.signal.Signal.{Signal}
-use Rattle.pt_signal.specs.declared.signal.Signal.TheVariants.{Message, Link, Monitor}
+use Rattle.pt_signal.specs.declared.signal.Signal.TheVariants.{Message, Link, Unlink, Monitor, Demonitor}
 use Rattle.pt_events.specs.declared.event.Event.{Event}
-use Rattle.pt_events.specs.declared.event.Event.TheVariants.{Took, Left, Said}
+use Rattle.pt_events.specs.declared.event.Event.TheVariants.{Took, Left, Said, Flag}
 use Rattle.pt_shard.specs.declared.fault.Fault.{Fault}
 use Rattle.pt_shard.specs.declared.fault.Fault.TheVariants.{Full, Memory, Worn, Gone, Myself, NoProc}
-use Rattle.pt_shard.specs.ShardState.{ShardState, lives}
-use Rattle.pt_shard.specs.Calls.{BearsChild, Calls, Monitors, Refuses, after_if, new_ref, new_link, link_event, take_event, first_match}
+use Rattle.pt_shard.specs.ShardState.{ShardState, lives, phase_of, state_in}
+use Rattle.pt_shard.specs.Calls.{BearsChild, Calls, Monitors, Refuses, after_if, new_ref, new_link, held_by, link_event, unlink_event, demonitor_at, demonitor_event, take_event, first_match}
 use Rattle.pt_desk.specs.DeskState.{DeskState}
 use Rattle.pt_desk.specs.Reaching.{Reaches, has_link_to_make, has_monitor_to_make}
+use Rattle.std.specs.Prelude.{is_some}
+use Rattle.std.specs.List.{find}
+use Rattle.pt_signal.specs.Values.{fits}
+use Rattle.pt_events.specs.History.{Phase, unborn, living, ended, is_living, state_of}
+use Rattle.pt_crew.specs.declared.behaviour.Next.TheVariants.{Wait}
+use Rattle.pt_crew.specs.Waking.{has_work}
 use Rattle.pt_crew.specs.Visiting.{takes, takes_by}
 
 abbrev taken : ShardState → List (Pid × Item)
@@ -135,3 +144,35 @@ bore_takes p linked old new (Err Full) h = ap taken h.3
 bore_takes p linked old new (Err Memory) h = ap taken h.3
 bore_takes p linked old new (Err Myself) h = absurd h
 bore_takes p linked old new (Err NoProc) h = absurd h
+
+unlink_takes : (ids : Option Ids) (p t : Pid) (old new : ShardState) (r : Result (Unit {0}) Fault) → Calls p (option_map (λ (i : Ids). Said p t (Unlink i)) ids) (tt {0}) old r new → taken new ≡ taken old
+unlink_takes None p t old new r c = none_takes p tt old new r c
+unlink_takes (Some ids) p t old new r c = said_takes p t (Unlink ids) old new r c
+
+pub unlinked_takes : (p t : Pid) (old new : ShardState) (r : Result (Unit {0}) Fault) → Calls p (unlink_event old p t) (tt {0}) old r new → takes new.journal ≡ takes old.journal
+unlinked_takes p t old new r c = unlink_takes (held_by old p t) p t old new r c
+
+unwatch_takes : (t : Option Pid) (w : Pid) (m : Ref) (answer : Bool) (old new : ShardState) (r : Result Bool Fault) → Calls w (demonitor_at t old w m false) answer old r new → taken new ≡ taken old
+unwatch_takes None w m answer old new r c = none_takes w answer old new r c
+unwatch_takes (Some t) w m answer old new r c = other_takes w (Said w t (Demonitor m)) answer old new r refl c
+
+pub unwatched_takes : (w : Pid) (m : Ref) (answer : Bool) (old new : ShardState) (r : Result Bool Fault) → Calls w (demonitor_event old w m false) answer old r new → takes new.journal ≡ takes old.journal
+unwatched_takes w m answer old new r c = unwatch_takes (lookup (same_ref m) (state_in old w).watching) w m answer old new r c
+
+pub flag_takes : (p : Pid) (on answer : Bool) (old new : ShardState) (r : Result Bool Fault) → Calls p (Some (Flag p on)) answer old r new → takes new.journal ≡ takes old.journal
+flag_takes p on answer old new r c = other_takes p (Flag p on) answer old new r refl c
+
+idle_phase : (k : Pick) (f : Phase) → is_living f ≡ true → None ≡ find (fits k) (state_of f).waiting → has_work (Wait k) f ≡ false
+idle_phase k unborn lives none = absurd (cc)
+idle_phase k (living s) lives none = ap is_some (sym none)
+idle_phase k (ended r s) lives none = absurd (cc)
+
+none_found : (p : Pid) (k : Pick) (d e : ShardState) (found : Option Item) → None ≡ found → e ≡ after_if (option_map (Took p k) found) d → e ≡ d
+none_found p k d e None none is = is
+none_found p k d e (Some i) none is = absurd (cc)
+
+-- a process for which a receive finds nothing is idle
+pub idle_is : (p : Pid) (k : Pick) (old new : ShardState) → Calls p (take_event old p k) (first_match old p k) old (Ok None) new → has_work (Wait k) (phase_of new p) ≡ false
+idle_is p k old new c =
+    let same : new ≡ old = none_found p k old new (first_match old p k) c.2 c.3 in
+    subst (λ (d : ShardState). has_work (Wait k) (phase_of d p) ≡ false) (sym same) (idle_phase k (phase_of old p) c.0 c.2)

@@ -1,19 +1,23 @@
 -- Processes that are come to, one after the other.
-use Rattle.std.proofs.Common.{◌≡◌, ℕ, ◌+◌, ◌<◌, ◌≤◌, cond, List, [], ◌∷◌, ◌++◌, length, Option, Some, None, refl, sym, ap, subst, ◌∙◌, append_assoc, append-nil, length-append, arith}
+use Rattle.std.proofs.Common.{◌≡◌, ◌⊎◌, inl, inr, ℕ, ◌+◌, ◌<◌, ◌≤◌, Bool, true, false, ◌||◌, cond, List, [], ◌∷◌, ◌++◌, length, Option, Some, None, refl, sym, ap, subst, ◌∙◌, append_assoc, append-nil, length-append, arith}
+use Rattle.std.specs.Prelude.{max, is_some}
+use Rattle.std.specs.List.{IsDistinct}
 use Rattle.std.specs.Option.{option_map}
 use Rattle.pt_signal.specs.declared.pid.Pid.{Pid}
 use Rattle.pt_signal.specs.Values.{same_pid}
 use Rattle.pt_signal.proofs.Same.{same_pid_refl, same_pid_is}
 use Rattle.pt_events.specs.declared.event.Event.{Event}
 use Rattle.pt_events.specs.declared.event.Event.TheVariants.{Born, Said, Came, Took, Flag, Left, Refused}
-use Rattle.pt_shard.specs.ShardState.{ShardState}
+use Rattle.pt_shard.specs.ShardState.{ShardState, lives}
 use Rattle.pt_crew.specs.declared.crew.Member.{Member}
 use Rattle.pt_crew.specs.declared.crew.Crew.{Crew}
-use Rattle.pt_crew.specs.Waking.{Members}
-use Rattle.pt_crew.specs.Visiting.{Answers, Roles, AreSame, AreWith, ComesTo, SeesTo, VisitsOne, Visits}
-use Rattle.pt_crew.specs.Crews.{role, roles, queue, IsSame, VisitsAll}
-use Rattle.pt_crew.specs.Parts.{IsLonger, WakesBy, Serves}
-use Rattle.pt_crew.proofs.Waking.{by_cases, elsewhere, there}
+use Rattle.pt_crew.specs.declared.crew.Tended.{Tended}
+use Rattle.pt_crew.specs.declared.crew.Tended.TheVariants.{Idle, Refused as Denied}
+use Rattle.pt_crew.specs.Visiting.{Answers, Roles, AreSame, AreWith, Scene, StaysAs, Bears, ComesTo, SeesTo, VisitsOne, Visits, again_as, left_as, is_refused}
+use Rattle.pt_crew.specs.Crews.{members, role, roles, queue, waiting, left, scene, IsSame, KeepsRest, Attends, Rounds, AreOnce, Aboard, EntersAll, StepsOn}
+use Rattle.pt_crew.specs.declared.births.Role.{Role}
+use Rattle.pt_crew.specs.Parts.{IsLonger, WakesBy, Serves, Admits, AdmitsFirst, AdmitsOf, aboard}
+use Rattle.pt_crew.proofs.Waking.{by_cases, elsewhere, there, same_back}
 
 -- who reads what is new changes nobody ------------------------------------------------
 
@@ -44,123 +48,305 @@ woke_longer (Flag p on) old new h = same_longer old new h
 woke_longer (Left p r) old new h = h.longer
 woke_longer (Refused a b) old new h = same_longer old new h
 
+pub woke_rest : {B : Type 0} (e : Event) (old new : Crew B) → WakesBy e old new → KeepsRest old new
+woke_rest (Born p parent link) old new h = h.rest
+woke_rest (Said a b x) old new h = h.rest
+woke_rest (Came a b x) old new h = h.rest
+woke_rest (Took p q i) old new h = h.rest
+woke_rest (Flag p on) old new h = h.rest
+woke_rest (Left p r) old new h = h.rest
+woke_rest (Refused a b) old new h = h.rest
+
+pub rest_then : {B : Type 0} (old mid new : Crew B) → KeepsRest old mid → KeepsRest mid new → KeepsRest old new
+rest_then old mid new a b = record { waiting = b.waiting ∙ a.waiting; left = b.left ∙ a.left; refused = b.refused ∙ a.refused; rounds = b.rounds ∙ a.rounds }
+
+-- and what was read is one more
+pub rest_read : {B : Type 0} (old mid late new : Crew B) → waiting new ≡ waiting late → left new ≡ left late → new.refused ≡ late.refused → new.rounds ≡ late.rounds
+    → KeepsRest old mid → KeepsRest mid late → KeepsRest old new
+rest_read old mid late new w l r n a b = record { waiting = w ∙ b.waiting ∙ a.waiting; left = l ∙ b.left ∙ a.left; refused = r ∙ b.refused ∙ a.refused; rounds = n ∙ b.rounds ∙ a.rounds }
+
 pub same_then : {B : Type 0} (old mid new : Roles B) → AreSame old mid → AreSame mid new → AreSame old new
 same_then old mid new a b q = b q ∙ a q
+
+-- of the crew nothing is changed but its queue
+pub record IsOf {B : Type 0} (old new : Crew B) : Type 0 where
+  pub members : (q : Pid) → members new q ≡ members old q
+  pub waiting : waiting new ≡ waiting old
+  pub left : left new ≡ left old
+  pub refused : new.refused ≡ old.refused
+
+or_none : (b : Bool) → b ≡ (b || false)
+or_none true = refl
+or_none false = refl
+
+-- what a refusal says, and nothing else does
+pub says : (b : Bool) → true ≡ (b || true)
+says true = refl
+says false = refl
+
+pub says_nothing : (b : Bool) → b ≡ (b || false)
+says_nothing b = or_none b
+
+-- whoever leaves is listed as it was
+pub left_role : {B : Type 0} (p : Pid) (old mid : List (Role B)) (m v : Member B) → mid ≡ old → m ≡ v
+    → mid ++ record { pid = p; behaviour = m.behaviour; next = m.next } ∷ [] ≡ old ++ record { pid = p; behaviour = v.behaviour; next = v.next } ∷ []
+left_role p old mid m v same is i = same i ++ record { pid = p; behaviour = (is i).behaviour; next = (is i).next } ∷ []
+
+pub is_there : {X Y : Type 0} (r : Option X) (a : Option Y) (x : X) → r ≡ Some x → is_some r ≡ is_some a → (y : Y) × (a ≡ Some y)
+is_there r None x e h = absurd (let k = ap is_some e in cc)
+is_there r (Some y) x e h = (y, refl)
 
 module _ {B : Type 0} (answers : Answers B) where
   -- one is come to ------------------------------------------------------------------------
 
-  pub visited : (mem new : Members B) (p : Pid) (v : Member B) (w : Option (Member B)) (d e : ShardState) → mem p ≡ Some v
-      → ((q : Pid) → new q ≡ cond (same_pid p q) w (mem q)) → SeesTo answers p v.behaviour v.next d (option_map role w) e
-      → VisitsOne answers p (λ q. option_map role (mem q)) d (λ q. option_map role (new q)) e
-  visited mem new p v w d e held at sees = (
-    with_p,
-    subst (λ (o : Option _). ComesTo answers p o d (option_map role (new p)) e) (sym (ap (option_map role) held))
-        (subst (λ (o : Option _). ComesTo answers p (Some (role v)) d o e) (sym (ap (option_map role) (there mem new p w at p (same_pid_refl p)))) sees),
-  )
+  pub visited : (old new : Crew B) (p : Pid) (v : Member B) (w : Option (Member B)) (t : Tended) (d e : ShardState) → members old p ≡ Some v
+      → ((q : Pid) → members new q ≡ cond (same_pid p q) w (members old q))
+      → StaysAs Denied (role v) d t (option_map role w) e ⊎ SeesTo answers p v.behaviour v.next d t (option_map role w) e
+      → Bears t (waiting old) (waiting new) → left new ≡ left old ++ left_as p (Some (role v)) t → new.refused ≡ (old.refused || is_refused t)
+      → VisitsOne answers p (scene [] old d) (scene (again_as p t) new e)
+  visited old new p v w t d e held at sees bore gone says = record {
+    tended = t;
+    comes = subst (λ (o : Option _). ComesTo answers p o d t (roles new p) e) (sym (ap (option_map role) held))
+        (subst (λ (o : Option _). ComesTo answers p (Some (role v)) d t o e) (sym (ap (option_map role) (there (members old) (members new) p w at p (same_pid_refl p)))) sees);
+    others = with_p;
+    again = refl;
+    born = bore;
+    left = gone ∙ ap (λ (o : Option _). left old ++ left_as p o t) (sym (ap (option_map role) held));
+    refused = says;
+  }
     where
-      with_p : AreWith p (option_map role (new p)) (λ q. option_map role (mem q)) (λ q. option_map role (new q))
+      with_p : AreWith p (roles new p) (roles old) (roles new)
       with_p q = by_cases (same_pid p q)
-          (λ same. ap (λ (r : Pid). option_map role (new r)) (sym (same_pid_is p q same)) ∙ ap (λ b. cond b (option_map role (new p)) (option_map role (mem q))) (sym same))
-          (λ other. ap (option_map role) (elsewhere mem new p w at q other) ∙ ap (λ b. cond b (option_map role (new p)) (option_map role (mem q))) (sym other))
+          (λ same. ap (λ (r : Pid). roles new r) (sym (same_pid_is p q same)) ∙ ap (λ b. cond b (roles new p) (roles old q)) (sym same))
+          (λ other. ap (option_map role) (elsewhere (members old) (members new) p w at q other) ∙ ap (λ b. cond b (roles new p) (roles old q)) (sym other))
 
   -- who is not of the crew is passed over
-  pub passed : (mem : Members B) (p : Pid) (d : ShardState) → mem p ≡ None → VisitsOne answers p (λ q. option_map role (mem q)) d (λ q. option_map role (mem q)) d
-  passed mem p d none = (with_p, subst (λ (o : Option _). ComesTo answers p o d o d) (sym (ap (option_map role) none)) (refl, refl))
+  pub passed : (old new : Crew B) (p : Pid) (d : ShardState) → members old p ≡ None → IsOf old new → VisitsOne answers p (scene [] old d) (scene [] new d)
+  passed old new p d none same = record {
+    tended = Idle;
+    comes = subst (λ (o : Option _). ComesTo answers p o d Idle (roles new p) d) (sym (ap (option_map role) none)) (refl, ap (option_map role) (same.members p ∙ none), refl);
+    others = with_p;
+    again = refl;
+    born = same.waiting;
+    left = same.left ∙ sym (append-nil (left old)) ∙ ap (λ (o : Option _). left old ++ left_as p o Idle) (sym (ap (option_map role) none));
+    refused = same.refused ∙ or_none old.refused;
+  }
     where
-      with_p : AreWith p (option_map role (mem p)) (λ q. option_map role (mem q)) (λ q. option_map role (mem q))
+      with_p : AreWith p (roles new p) (roles old) (roles new)
       with_p q = by_cases (same_pid p q)
-          (λ same. ap (λ (r : Pid). option_map role (mem r)) (sym (same_pid_is p q same)) ∙ ap (λ b. cond b (option_map role (mem p)) (option_map role (mem q))) (sym same))
-          (λ other. ap (λ b. cond b (option_map role (mem p)) (option_map role (mem q))) (sym other))
+          (λ is. ap (λ (r : Pid). roles new r) (sym (same_pid_is p q is)) ∙ ap (λ b. cond b (roles new p) (roles old q)) (sym is))
+          (λ other. ap (option_map role) (same.members q) ∙ ap (λ b. cond b (roles new p) (roles old q)) (sym other))
 
   -- the first of the queue
-  pub serves_first : (start rest back later : List Pid) (p : Pid) (mem new : Members B) (v : Member B) (w : Option (Member B)) (d e : ShardState) → start ≡ p ∷ rest → later ≡ rest ++ back → mem p ≡ Some v
-      → ((q : Pid) → new q ≡ cond (same_pid p q) w (mem q)) → SeesTo answers p v.behaviour v.next d (option_map role w) e
-      → Serves answers start (λ q. option_map role (mem q)) d later (λ q. option_map role (new q)) e
-  serves_first start rest back later p mem new v w d e is later_is held at sees =
-      subst (λ (ps : List Pid). Serves answers ps (λ q. option_map role (mem q)) d later (λ q. option_map role (new q)) e) (sym is)
-      (visited mem new p v w d e held at sees, (back, later_is))
+  pub serves_first : (start rest : List Pid) (old new : Crew B) (p : Pid) (v : Member B) (w : Option (Member B)) (t : Tended) (d e : ShardState) → start ≡ p ∷ rest → queue new ≡ rest ++ again_as p t → members old p ≡ Some v
+      → ((q : Pid) → members new q ≡ cond (same_pid p q) w (members old q))
+      → StaysAs Denied (role v) d t (option_map role w) e ⊎ SeesTo answers p v.behaviour v.next d t (option_map role w) e
+      → Bears t (waiting old) (waiting new) → left new ≡ left old ++ left_as p (Some (role v)) t → new.refused ≡ (old.refused || is_refused t)
+      → Serves answers start old d new e
+  serves_first start rest old new p v w t d e is later held at sees bore gone says =
+      subst (λ (ps : List Pid). Serves answers ps old d new e) (sym is) (again_as p t, visited old new p v w t d e held at sees bore gone says, later)
 
-  pub passes_first : (start rest : List Pid) (p : Pid) (mem : Members B) (d : ShardState) → start ≡ p ∷ rest → mem p ≡ None
-      → Serves answers start (λ q. option_map role (mem q)) d rest (λ q. option_map role (mem q)) d
-  passes_first start rest p mem d is none =
-      subst (λ (ps : List Pid). Serves answers ps (λ q. option_map role (mem q)) d rest (λ q. option_map role (mem q)) d) (sym is)
-      (passed mem p d none, ([], sym (append-nil rest)))
+  pub passes_first : (start rest : List Pid) (old new : Crew B) (p : Pid) (d : ShardState) → start ≡ p ∷ rest → queue new ≡ rest → members old p ≡ None → IsOf old new → Serves answers start old d new d
+  passes_first start rest old new p d is later none same =
+      subst (λ (ps : List Pid). Serves answers ps old d new d) (sym is) ([], passed old new p d none same, later ∙ sym (append-nil rest))
+
+  -- there is no memory for whoever leaves
+  pub refused_first : (start rest : List Pid) (old new : Crew B) (p : Pid) (d : ShardState) → start ≡ p ∷ rest → queue new ≡ rest ++ p ∷ [] → ((q : Pid) → members new q ≡ members old q)
+      → waiting new ≡ waiting old → left new ≡ left old → new.refused ≡ true → (v : Member B) × (members old p ≡ Some v) → Serves answers start old d new d
+  refused_first start rest old new p d is later same bore gone on held =
+      serves_first start rest old new p held.0 (Some held.0) Denied d d is later held.1 (λ q. same q ∙ sym (same_back (members old) p held.0 held.1 q))
+      (inl (refl, refl, refl)) bore (gone ∙ sym (append-nil (left old))) (on ∙ says old.refused)
 
   -- several are come to -------------------------------------------------------------------
 
-  visits_from : (ps : List Pid) (old mid : Roles B) (d f : ShardState) (new : Roles B) (e : ShardState) → AreSame old mid → f ≡ d → Visits answers ps mid f new e → Visits answers ps old d new e
-  visits_from [] old mid d f new e same is h = (same_then old mid new same h.0, h.1 ∙ is)
-  visits_from (p ∷ ps) old mid d f new e same is h = (h.0, h.1, (λ q. h.2.0 q ∙ ap (λ (o : Option _). cond (same_pid p q) (h.0 p) o) (same q), comes), h.3)
-    where
-      comes : ComesTo answers p (old p) d (h.0 p) h.1
-      comes = subst (λ (g : ShardState). ComesTo answers p (old p) g (h.0 p) h.1) is (subst (λ (o : Option _). ComesTo answers p o f (h.0 p) h.1) (same p) h.2.1)
+  visits_then : (ps qs : List Pid) (old mid new : Scene B) → Visits answers ps old mid → Visits answers qs mid new → Visits answers (ps ++ qs) old new
+  visits_then [] qs old mid new a b = subst (λ (s : Scene B). Visits answers qs s new) a b
+  visits_then (p ∷ ps) qs old mid new a b = (a.0, a.1, visits_then ps qs a.0 mid new a.2 b)
 
-  pub visits_then : (ps qs : List Pid) (old mid new : Roles B) (d f e : ShardState) → Visits answers ps old d mid f → Visits answers qs mid f new e → Visits answers (ps ++ qs) old d new e
-  visits_then [] qs old mid new d f e a b = visits_from qs old mid d f new e a.0 a.1 b
-  visits_then (p ∷ ps) qs old mid new d f e a b = (a.0, a.1, a.2, visits_then ps qs a.0 mid new a.1 f e a.3 b)
-
-  one_visit : (p : Pid) (old new : Roles B) (d e : ShardState) → VisitsOne answers p old d new e → Visits answers (p ∷ []) old d new e
-  one_visit p old new d e h = (new, e, h, (λ q. refl, refl))
+  -- where others stood behind the queue before
+  further : (p : Pid) (before back : List Pid) (old new : Crew B) (d e : ShardState) → VisitsOne answers p (scene [] old d) (scene back new e) → VisitsOne answers p (scene before old d) (scene (before ++ back) new e)
+  further p before back old new d e h = record {
+    tended = h.tended;
+    comes = h.comes;
+    others = h.others;
+    again = ap (λ (l : List Pid). before ++ l) h.again;
+    born = h.born;
+    left = h.left;
+    refused = h.refused;
+  }
 
   -- so many of the queue, the first ones, were come to
-  pub record SoFar (start : List Pid) (n : ℕ) (old : Roles B) (d : ShardState) (now : List Pid) (new : Roles B) (e : ShardState) : Type 0 where
+  pub record SoFar (start : List Pid) (n : ℕ) (old : Crew B) (d : ShardState) (new : Crew B) (e : ShardState) : Type 0 where
     pub done : List Pid
     pub rest : List Pid
     pub back : List Pid
     pub all : start ≡ done ++ rest
-    pub now_is : now ≡ rest ++ back
+    pub now_is : queue new ≡ rest ++ back
     pub count : length done ≡ n
-    pub visits : Visits answers done old d new e
+    pub visits : Visits answers done (scene [] old d) (scene back new e)
 
-  pub none_so_far : (start : List Pid) (old : Roles B) (d : ShardState) → SoFar start 0 old d start old d
-  none_so_far start old d = record { done = []; rest = start; back = []; all = refl; now_is = sym (append-nil start); count = refl; visits = (λ q. refl, refl) }
+  pub none_so_far : (old : Crew B) (d : ShardState) → SoFar (queue old) 0 old d old d
+  none_so_far old d = record { done = []; rest = queue old; back = []; all = refl; now_is = sym (append-nil (queue old)); count = refl; visits = refl }
 
-  pub one_more : (start : List Pid) (n : ℕ) (old mid new : Roles B) (d f e : ShardState) (now later : List Pid) → n < length start
-      → SoFar start n old d now mid f → Serves answers now mid f later new e → SoFar start (n + 1) old d later new e
-  one_more start n old mid new d f e now later within so serves = go so.rest so.all so.now_is
+  pub one_more : (start : List Pid) (n : ℕ) (old mid new : Crew B) (d f e : ShardState) → n < length start
+      → SoFar start n old d mid f → Serves answers (queue mid) mid f new e → SoFar start (n + 1) old d new e
+  one_more start n old mid new d f e within so serves = go so.rest so.all so.now_is
     where
-      go : (rest : List Pid) → start ≡ so.done ++ rest → now ≡ rest ++ so.back → SoFar start (n + 1) old d later new e
+      go : (rest : List Pid) → start ≡ so.done ++ rest → queue mid ≡ rest ++ so.back → SoFar start (n + 1) old d new e
       go [] all is = absurd (let l = ap length all in let c = so.count in let a = length-append so.done [] in omega (arith, l, c, a, within))
       go (p ∷ rest) all is =
-          let one = subst (λ (ps : List Pid). Serves answers ps mid f later new e) is serves in
+          let one = subst (λ (ps : List Pid). Serves answers ps mid f new e) is serves in
           record {
             done = so.done ++ p ∷ [];
             rest = rest;
-            back = so.back ++ one.1.0;
+            back = so.back ++ one.0;
             all = all ∙ sym (append_assoc so.done (p ∷ []) rest);
-            now_is = one.1.1 ∙ append_assoc rest so.back one.1.0;
+            now_is = one.2 ∙ append_assoc rest so.back one.0;
             count = let c = so.count in let a = length-append so.done (p ∷ []) in omega (arith, c, a);
-            visits = visits_then so.done (p ∷ []) old mid new d f e so.visits (one_visit p mid new f e one.0);
+            visits = visits_then so.done (p ∷ []) (scene [] old d) (scene so.back mid f) (scene (so.back ++ one.0) new e) so.visits (scene (so.back ++ one.0) new e, further p so.back one.0 mid new f e one.1, refl);
           }
 
   no_rest : (rest : List Pid) → length rest ≤ 0 → rest ≡ []
   no_rest [] h = refl
   no_rest (p ∷ rest) h = absurd (omega (arith, h))
 
-  pub all_so_far : (start : List Pid) (n : ℕ) (old new : Roles B) (d e : ShardState) (now : List Pid) → length start ≤ n
-      → SoFar start n old d now new e → Visits answers start old d new e
-  all_so_far start n old new d e now all so =
+  pub all_so_far : (start : List Pid) (n : ℕ) (old new : Crew B) (d e : ShardState) → length start ≤ n
+      → SoFar start n old d new e → Visits answers start (scene [] old d) (scene (queue new) new e)
+  all_so_far start n old new d e all so =
       let l = ap length so.all in
       let a = length-append so.done so.rest in
       let c = so.count in
       let none : so.rest ≡ [] = no_rest so.rest (omega (arith, l, a, c, all)) in
-      subst (λ (ps : List Pid). Visits answers ps old d new e) (sym (so.all ∙ ap (λ (r : List Pid). so.done ++ r) none ∙ append-nil so.done)) so.visits
+      let now : queue new ≡ so.back = so.now_is ∙ ap (λ (r : List Pid). r ++ so.back) none in
+      let ps : so.done ≡ start = sym (so.all ∙ ap (λ (r : List Pid). so.done ++ r) none ∙ append-nil so.done) in
+      subst (λ (qs : List Pid). Visits answers start (scene [] old d) (scene qs new e)) (sym now)
+      (subst (λ (qs : List Pid). Visits answers qs (scene [] old d) (scene so.back new e)) ps so.visits)
 
   -- a step --------------------------------------------------------------------------------
 
-  -- the first round, after the journal was read
-  pub first_round : (start queue : List Pid) (old mid new : Roles B) (d e : ShardState) → AreSame old mid → IsLonger start queue → Visits answers queue mid d new e → VisitsAll answers start old d new e
-  first_round start queue old mid new d e same longer visits = record {
-    others = longer.0;
-    visits = subst (λ (ps : List Pid). Visits answers ps old d new e) longer.1 (visits_from queue old mid d d new e same refl visits);
+  -- the crew as its first round begins
+  abbrev begun : Crew B → List Pid → ShardState → Scene B
+  begun old woken d = record { roles = roles old; again = queue old ++ woken; born = waiting old; left = []; refused = false; desk = d }
+
+  -- so many rounds were made
+  pub record Stepping (n : ℕ) (old : Crew B) (d : ShardState) (now : Crew B) (e : ShardState) : Type 0 where
+    pub woken : List Pid
+    pub queues : List (List Pid)
+    pub rounds : Rounds answers queues (begun old woken d) (scene (queue now) now e)
+    pub count : length queues ≡ n
+    pub once : Attends old d → AreOnce queues
+    pub same : now.rounds ≡ old.rounds
+
+  pub none_yet : (old now : Crew B) (d : ShardState) → AreSame (roles old) (roles now) → IsLonger (queue old) (queue now) → waiting now ≡ waiting old → left now ≡ [] → now.refused ≡ false → now.rounds ≡ old.rounds → Stepping 0 old d now d
+  none_yet old now d kept longer waits bare quiet same = record {
+    woken = longer.0;
+    queues = [];
+    rounds = λ i. record { roles = λ q. kept q i; again = longer.1 i; born = waits i; left = bare i; refused = quiet i; desk = d };
+    count = refl;
+    once = λ a. tt;
+    same = same;
   }
 
-  pub next_round : (start ps : List Pid) (old mid new : Roles B) (d f e : ShardState) → VisitsAll answers start old d mid f → Visits answers ps mid f new e → VisitsAll answers start old d new e
-  next_round start ps old mid new d f e a b = record {
-    others = a.others ++ ps;
-    visits = subst (λ (qs : List Pid). Visits answers qs old d new e) (append_assoc start a.others ps) (visits_then (start ++ a.others) ps old mid new d f e a.visits b);
+  pub next_round : (n : ℕ) (old mid new : Crew B) (d f e : ShardState) → Stepping n old d mid f → Visits answers (queue mid) (scene [] mid f) (scene (queue new) new e)
+      → (Attends old d → IsDistinct same_pid (queue mid)) → new.rounds ≡ mid.rounds → Stepping (n + 1) old d new e
+  next_round n old mid new d f e so visits once same = record {
+    woken = so.woken;
+    queues = queue mid ∷ so.queues;
+    rounds = (scene (queue mid) mid f, so.rounds, refl, visits);
+    count = let c = so.count in omega (arith, c);
+    once = λ a. (once a, so.once a);
+    same = same ∙ so.same;
   }
 
-  pub last_look : (start : List Pid) (old mid new : Roles B) (d e : ShardState) → VisitsAll answers start old d mid e → AreSame mid new → VisitsAll answers start old d new e
-  last_look start old mid new d e a same = next_round start [] old mid new d e e a (same, refl)
+  pub last_look : (n : ℕ) (old mid late new : Crew B) (d e : ShardState) → Stepping n old d mid e → n ≡ max 1 old.rounds → Admits (lives e) mid late
+      → AreSame (roles late) (roles new) → IsLonger (queue late) (queue new) → KeepsRest late new → StepsOn answers old d new e
+  last_look n old mid late new d e so count admits kept longer rest = record {
+    woken = so.woken;
+    queues = so.queues;
+    last = scene (queue mid) mid e;
+    rounds = so.rounds;
+    count = so.count ∙ count;
+    once = so.once;
+    entered = admits.entered;
+    born = admits.born ∙ ap (λ (l : List (Role B)). admits.entered ++ l) (sym rest.waiting);
+    enters = subst (λ (x : Aboard B). EntersAll (lives e) admits.entered (roles mid, left mid) x) still admits.enters;
+    told = elim admits.told [ inl h ↦ inl (rest.waiting ∙ h.0, rest.refused ∙ h.1) | inr h ↦ inr (rest.refused ∙ h) ];
+    queue = longer_then (queue mid) (queue late) (queue new) admits.longer longer;
+    desk = refl;
+    same = rest.rounds ∙ admits.rounds ∙ so.same;
+  }
+    where
+      still : aboard late ≡ aboard new
+      still i = ((λ q. sym (kept q) i), sym rest.left i)
+
+-- those that were born enter ---------------------------------------------------------------
+
+module _ {B : Type 0} (lives : Pid → Bool) where
+  enters_then : (rs ss : List (Role B)) (old mid new : Aboard B) → EntersAll lives rs old mid → EntersAll lives ss mid new → EntersAll lives (rs ++ ss) old new
+  enters_then [] ss old mid new a b = subst (λ (x : Aboard B). EntersAll lives ss x new) a b
+  enters_then (r ∷ rs) ss old mid new a b = (a.0, a.1, enters_then rs ss a.0 mid new a.2 b)
+
+  -- so many of those that were born entered, unless it was refused
+  pub record Entering (n : ℕ) (old now : Crew B) : Type 0 where
+    pub entered : List (Role B)
+    pub born : waiting old ≡ entered ++ waiting now
+    pub enters : EntersAll lives entered (aboard old) (aboard now)
+    pub told : ((n + length (waiting now) ≡ length (waiting old)) × (now.refused ≡ old.refused)) ⊎ (now.refused ≡ true)
+    pub longer : IsLonger (queue old) (queue now)
+    pub rounds : now.rounds ≡ old.rounds
+
+  pub none_entered : (old : Crew B) → Entering 0 old old
+  none_entered old = record { entered = []; born = refl; enters = refl; told = inl (omega arith, refl); longer = ([], sym (append-nil (queue old))); rounds = refl }
+
+  pub next_enters : (n : ℕ) (old mid new : Crew B) → n < length (waiting old) → Entering n old mid → AdmitsFirst lives mid new → Entering (n + 1) old new
+  next_enters n old mid new within so first = elim first.admits [ inl h ↦ go (waiting mid) refl h | inr h ↦ still h.0 h.1 (inr h.2) ]
+    where
+      still : aboard new ≡ aboard mid → waiting new ≡ waiting mid
+          → ((n + 1 + length (waiting new) ≡ length (waiting old)) × (new.refused ≡ old.refused)) ⊎ (new.refused ≡ true) → Entering (n + 1) old new
+      still same waits told = record {
+        entered = so.entered;
+        born = so.born ∙ ap (λ (l : List (Role B)). so.entered ++ l) (sym waits);
+        enters = subst (λ (x : Aboard B). EntersAll lives so.entered (aboard old) x) (sym same) so.enters;
+        told = told;
+        longer = longer_then (queue old) (queue mid) (queue new) so.longer first.longer;
+        rounds = first.rounds ∙ so.rounds;
+      }
+
+      go : (w : List (Role B)) → waiting mid ≡ w → AdmitsOf lives w mid new → Entering (n + 1) old new
+      go [] is h = still h.0 (h.1 ∙ sym is)
+          (elim so.told [ inl k ↦ absurd (let l = ap length is in let c = k.0 in omega (arith, l, c, within)) | inr k ↦ inr (h.2 ∙ k) ])
+      go (r ∷ rs) is h = record {
+        entered = so.entered ++ r ∷ [];
+        born = so.born ∙ ap (λ (l : List (Role B)). so.entered ++ l) is ∙ sym (append_assoc so.entered (r ∷ []) rs) ∙ ap (λ (l : List (Role B)). (so.entered ++ r ∷ []) ++ l) (sym h.1);
+        enters = enters_then so.entered (r ∷ []) (aboard old) (aboard mid) (aboard new) so.enters (aboard new, h.0, refl);
+        told = elim so.told [
+          | inl k ↦ inl (let l = ap length is in let c = k.0 in let m = ap length h.1 in omega (arith, l, c, m), h.2 ∙ k.1)
+          | inr k ↦ inr (h.2 ∙ k)
+        ];
+        longer = longer_then (queue old) (queue mid) (queue new) so.longer first.longer;
+        rounds = first.rounds ∙ so.rounds;
+      }
+
+  none_waits : (rs : List (Role B)) → length rs ≤ 0 → rs ≡ []
+  none_waits [] h = refl
+  none_waits (r ∷ rs) h = absurd (omega (arith, h))
+
+  pub all_entered : (n : ℕ) (old now : Crew B) → length (waiting old) ≤ n → Entering n old now → Admits lives old now
+  all_entered n old now all so = record {
+    entered = so.entered;
+    born = so.born;
+    enters = so.enters;
+    told = elim so.told [ inl h ↦ inl (none_waits (waiting now) (let c = h.0 in omega (arith, c, all)), h.1) | inr h ↦ inr h ];
+    longer = so.longer;
+    rounds = so.rounds;
+  }
+
+-- how many rounds were made at the end
+pub all_rounds : (n r : ℕ) → 1 ≤ n → r ≤ n → n ≤ max 1 r → n ≡ max 1 r
+all_rounds n r low end high = omega (arith, low, end, high)
+
+pub one_fits : (r : ℕ) → 1 ≤ max 1 r
+one_fits r = omega arith
+
+pub next_fits : (n r : ℕ) → n < r → n + 1 ≤ max 1 r
+next_fits n r h = omega (arith, h)

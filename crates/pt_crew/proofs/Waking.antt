@@ -1,24 +1,27 @@
 -- What a crew knows stays so.
 use Rattle.std.proofs.Common.{◌≡◌, ℕ, Bool, true, false, cond, ◌||◌, List, [], ◌∷◌, ◌++◌, Option, Some, None, refl, sym, ap, subst, ◌∙◌, append_assoc, append-nil}
 use Rattle.std.proofs.lemmas.List.Folds.{list_any-append}
+use Rattle.std.proofs.lemmas.Map.Keys.{IsDistinct-head, IsDistinct-tail, IsDistinct-push}
 use Rattle.std.specs.Prelude.{is_some}
+use Rattle.std.specs.List.{AllByRecursion, IsDistinct}
 use Rattle.pt_signal.specs.declared.pid.Pid.{Pid}
 use Rattle.pt_signal.specs.Values.{same_pid}
 use Rattle.pt_events.specs.declared.event.Stamped.{Stamped}
-use Rattle.pt_events.specs.History.{Start, life}
+use Rattle.pt_events.specs.History.{Phase, unborn, living, ended, Start, life, is_living, is_unborn}
 use Rattle.pt_events.specs.Journal.{events}
+use Rattle.pt_events.proofs.Phases.{after_born}
 use Rattle.pt_shard.specs.ShardState.{ShardState, phase_of}
 use Rattle.pt_shard.specs.Extends.{Extends}
 use Rattle.pt_crew.specs.declared.behaviour.Next.{Next}
 use Rattle.pt_crew.specs.declared.crew.Member.{Member}
-use Rattle.pt_crew.specs.Waking.{Members, Knows, has_work, came_to, came_in, in_queue}
+use Rattle.pt_crew.specs.Waking.{Members, IsQueue, Knows, has_work, came_to, came_in, in_queue}
 use Rattle.pt_crew.specs.declared.crew.Crew.{Crew}
-use Rattle.pt_crew.specs.Crews.{members, role, queue, IsSame}
-use Rattle.pt_crew.specs.Parts.{Listed, IsLonger, Wakes}
+use Rattle.pt_crew.specs.Crews.{members, role, queue, IsSame, KeepsRest, KnowsDesk}
+use Rattle.pt_crew.specs.Parts.{Queued, IsLonger, Wakes, is_marked}
 use Rattle.std.specs.Option.{option_map}
 use Rattle.pt_signal.proofs.Same.{same_pid_refl, same_pid_is}
 use Rattle.pt_crew.proofs.Quiet.{quiet, neither}
-use Rattle.pt_crew.proofs.Places.{same_pid_sym}
+use Rattle.pt_crew.proofs.Places.{same_pid_sym, same_pid_laws}
 
 -- nothing came to p since the desk was so
 pub worked_before : (old new : ShardState) (e : Extends old new) (n : Next) (p : Pid) → came_in p e.more ≡ false → has_work n (phase_of new p) ≡ true → has_work n (phase_of old p) ≡ true
@@ -27,6 +30,16 @@ worked_before old new e n p none w =
     (subst (λ (j : List Stamped). has_work n (life old.start (events j) p) ≡ true) e.journal
     (subst (λ (t : Start). has_work n (life t (events new.journal) p) ≡ true) e.start w))
 
+-- who was born stays so
+born_on : (start : Start) (p : Pid) (more seen : List Stamped) → is_unborn (life start (events seen) p) ≡ false → is_unborn (life start (events (more ++ seen)) p) ≡ false
+born_on start p [] seen h = h
+born_on start p (s ∷ more) seen h = after_born p s.event (life start (events (more ++ seen)) p) (born_on start p more seen h)
+
+pub born_later : (old new : ShardState) (e : Extends old new) (p : Pid) → is_unborn (phase_of old p) ≡ false → is_unborn (phase_of new p) ≡ false
+born_later old new e p h =
+    subst (λ (t : Start). is_unborn (life t (events new.journal) p) ≡ false) (sym e.start)
+    (subst (λ (j : List Stamped). is_unborn (life old.start (events j) p) ≡ false) (sym e.journal) (born_on old.start p e.more old.journal h))
+
 -- the desk goes on: what is not read grows
 pub knows_later : {B : Type 0} (members : Members B) (queue : List Pid) (read : ℕ) (old new : ShardState) → Extends old new → Knows members queue read old → Knows members queue read new
 knows_later members queue read old new e k = record {
@@ -34,7 +47,8 @@ knows_later members queue read old new e k = record {
   seen = k.seen;
   journal = e.journal ∙ ap (λ j. e.more ++ j) k.journal ∙ sym (append_assoc e.more k.more k.seen);
   counted = k.counted;
-  listed = k.listed;
+  queued = k.queued;
+  born = λ p m is. born_later old new e p (k.born p m is);
   awake = λ p m is w none.
       let none2 = neither (came_in p e.more) (came_in p k.more) (sym (list_any-append (λ (s : Stamped). came_to p s.event) e.more k.more) ∙ none) in
       k.awake p m is (worked_before old new e m.next p none2.0 w) none2.1;
@@ -44,15 +58,20 @@ pub some_none : {X : Type 0} (a : Option X) (x : X) → a ≡ None → a ≡ Som
 some_none a x e f = absurd (cc)
 
 -- of a crew of nobody
-pub nobody : {B : Type 0} (members : Members B) (queue : List Pid) (d : ShardState) → ((p : Pid) → members p ≡ None) → Knows members queue 0 d
-nobody members queue d none = record {
+pub nobody : {B : Type 0} (members : Members B) (queue : List Pid) (d : ShardState) → queue ≡ [] → ((p : Pid) → members p ≡ None) → Knows members queue 0 d
+unfolding IsDistinct
+nobody {B} members queue d bare none = record {
   more = d.journal;
   seen = [];
   journal = sym (append-nil d.journal);
   counted = refl;
-  listed = λ p m is marked. some_none (members p) m (none p) is;
+  queued = subst (λ (ps : List Pid). IsQueue members ps) (sym bare) empty;
+  born = λ p m is. some_none (members p) m (none p) is;
   awake = λ p m is w quiet. some_none (members p) m (none p) is;
 }
+  where
+    empty : IsQueue members []
+    empty = record { listed = λ p m is marked. some_none (members p) m (none p) is; marked = λ p in_it. absurd (cc); once = tt }
 
 pub by_cases : {Y : Type 0} (b : Bool) → (b ≡ true → Y) → (b ≡ false → Y) → Y
 by_cases true h g = h refl
@@ -73,23 +92,161 @@ module _ {X : Type 0} (mem new : Pid → Option X) (p : Pid) (w : Option X) (at 
   pub there : (q : Pid) → same_pid p q ≡ true → new q ≡ w
   there q e = at q ∙ ap (λ b. cond b w (mem q)) e
 
--- the first of the queue is seen to
-pub served : {B : Type 0} (mem new : Members B) (p : Pid) (w : Option (Member B)) (rest queue : List Pid) (read : ℕ) (d later : ShardState) → Extends d later
+or_left : (a b : Bool) → a ≡ true → (a || b) ≡ true
+or_left true b h = refl
+or_left false b h = absurd (cc)
+
+or_right : (a b : Bool) → b ≡ true → (a || b) ≡ true
+or_right true b h = refl
+or_right false b h = h
+
+-- whoever is pushed stands in the queue, as whoever stood there
+pub pushed : (p : Pid) (ps : List Pid) → in_queue p (ps ++ p ∷ []) ≡ true
+pushed p ps = list_any-append (same_pid p) ps (p ∷ []) ∙ or_right (in_queue p ps) (in_queue p (p ∷ [])) (or_left (same_pid p p) false (same_pid_refl p))
+
+pub kept_in : (q p : Pid) (ps : List Pid) → in_queue q ps ≡ true → in_queue q (ps ++ p ∷ []) ≡ true
+kept_in q p ps h = list_any-append (same_pid q) ps (p ∷ []) ∙ or_left (in_queue q ps) (in_queue q (p ∷ [])) h
+
+-- whoever stands in the longer queue, and is not the one that was pushed
+was_in : (q p : Pid) (ps : List Pid) → same_pid q p ≡ false → in_queue q (ps ++ p ∷ []) ≡ true → in_queue q ps ≡ true
+was_in q p ps other h = go (in_queue q ps) refl
+  where
+    go : (b : Bool) → in_queue q ps ≡ b → in_queue q ps ≡ true
+    go true e = e
+    go false e = absurd (let k = sym (list_any-append (same_pid q) ps (p ∷ [])) ∙ h in let j : (in_queue q ps || (same_pid q p || false)) ≡ true = k in let i : (false || (false || false)) ≡ true = sym (λ n. e n || (other n || false)) ∙ j in cc)
+
+-- nobody of them is p
+none_of : (p : Pid) (ps : List Pid) → AllByRecursion (λ y. same_pid p y ≡ false) ps → in_queue p ps ≡ false
+none_of p [] h = refl
+none_of p (q ∷ ps) h = (λ n. h.0 n || none_of p ps h.1 n)
+
+-- the first of the queue leaves it, and is not marked any more, or not of the crew
+pub taken_out : {B : Type 0} (mem new : Members B) (p : Pid) (w : Option (Member B)) (rest : List Pid) → ((q : Pid) → new q ≡ cond (same_pid p q) w (mem q))
+    → ((m : Member B) → w ≡ Some m → m.queued ≡ false) → IsQueue mem (p ∷ rest) → IsQueue new rest
+taken_out {B} mem new p w rest at bare k = record {
+  listed = λ q m is on. by_cases (same_pid p q)
+      (λ same. absurd (let e = bare m (sym (there mem new p w at q same) ∙ is) in cc))
+      (λ other. either (same_pid q p) (in_queue q rest) (k.listed q m (sym (elsewhere mem new p w at q other) ∙ is) on) (same_pid_sym q p ∙ other));
+  marked = λ q in_it. by_cases (same_pid p q)
+      (λ same. absurd (let e = subst (λ (x : Pid). in_queue x rest ≡ true) (sym (same_pid_is p q same)) in_it in let f = none_of p rest (IsDistinct-head same_pid p rest k.once) in cc))
+      (λ other. let was = k.marked q (or_right (same_pid q p) (in_queue q rest) in_it) in (was.0, elsewhere mem new p w at q other ∙ was.1, was.2));
+  once = IsDistinct-tail same_pid p rest k.once;
+}
+
+-- one that is not there is marked, and pushed behind the queue
+pub put_in : {B : Type 0} (mem new : Members B) (p : Pid) (w : Member B) (queue : List Pid) → ((q : Pid) → new q ≡ cond (same_pid p q) (Some w) (mem q))
+    → w.queued ≡ true → in_queue p queue ≡ false → IsQueue mem queue → IsQueue new (queue ++ p ∷ [])
+put_in {B} mem new p w queue at on out k = record {
+  listed = λ q m is marked. by_cases (same_pid p q)
+      (λ same. subst (λ (x : Pid). in_queue x (queue ++ p ∷ []) ≡ true) (same_pid_is p q same) (pushed p queue))
+      (λ other. kept_in q p queue (k.listed q m (sym (elsewhere mem new p (Some w) at q other) ∙ is) marked));
+  marked = λ q in_it. by_cases (same_pid p q)
+      (λ same. (w, there mem new p (Some w) at q same, on))
+      (λ other. let was = k.marked q (was_in q p queue (same_pid_sym q p ∙ other) in_it) in (was.0, elsewhere mem new p (Some w) at q other ∙ was.1, was.2));
+  once = IsDistinct-push same_pid_laws queue p k.once out;
+}
+
+-- whoever is not marked does not stand in the queue
+pub not_in : {B : Type 0} (mem : Members B) (p : Pid) (queue : List Pid) → ((m : Member B) → mem p ≡ Some m → m.queued ≡ false) → IsQueue mem queue → in_queue p queue ≡ false
+not_in {B} mem p queue bare k = go (in_queue p queue) refl
+  where
+    go : (b : Bool) → in_queue p queue ≡ b → in_queue p queue ≡ false
+    go false e = e
+    go true e = absurd (let was = k.marked p e in let f = bare was.0 was.1 in let g = was.2 in cc)
+
+-- whoever is not of the crew, or not marked, is pushed behind the queue
+pub woken_queue : {B : Type 0} (mem new : Members B) (p : Pid) (w : Member B) (queue now : List Pid) → ((m : Member B) → mem p ≡ Some m → m.queued ≡ false)
+    → ((q : Pid) → new q ≡ cond (same_pid p q) (Some w) (mem q)) → w.queued ≡ true → now ≡ queue ++ p ∷ [] → IsQueue mem queue → IsQueue new now
+woken_queue mem new p w queue now bare at on is k =
+    subst (λ (ps : List Pid). IsQueue new ps) (sym is) (put_in mem new p w queue at on (not_in mem p queue bare k) k)
+
+pub marked_is : {B : Type 0} (o : Option (Member B)) → is_marked o ≡ true → (v : Member B) × (o ≡ Some v) × (v.queued ≡ true)
+marked_is None h = absurd (cc)
+marked_is (Some v) h = (v, refl, h)
+
+-- one that stands in the queue is replaced
+pub replaced : {B : Type 0} (mem new : Members B) (p : Pid) (w : Member B) (queue : List Pid) → is_marked (mem p) ≡ true → ((q : Pid) → new q ≡ cond (same_pid p q) (Some w) (mem q))
+    → w.queued ≡ true → IsQueue mem queue → IsQueue new queue
+replaced mem new p w queue stands at on k =
+    let was = marked_is (mem p) stands in
+    record {
+      listed = λ q m is marked. by_cases (same_pid p q)
+          (λ same. subst (λ (x : Pid). in_queue x queue ≡ true) (same_pid_is p q same) (k.listed p was.0 was.1 was.2))
+          (λ other. k.listed q m (sym (elsewhere mem new p (Some w) at q other) ∙ is) marked);
+      marked = λ q in_it. by_cases (same_pid p q)
+          (λ same. (w, there mem new p (Some w) at q same, on))
+          (λ other. let old = k.marked q in_it in (old.0, elsewhere mem new p (Some w) at q other ∙ old.1, old.2));
+      once = k.once;
+    }
+
+-- the first of the queue goes behind it
+pub put_back : {B : Type 0} (mem new : Members B) (p : Pid) (w : Member B) (rest now : List Pid) → ((q : Pid) → new q ≡ cond (same_pid p q) (Some w) (mem q))
+    → w.queued ≡ true → now ≡ rest ++ p ∷ [] → IsQueue mem (p ∷ rest) → IsQueue new now
+put_back {B} mem new p w rest now at on is k =
+    woken_queue mid new p w rest now (λ m is. absurd (let e = ap (λ b. cond b None (mem p)) (same_pid_refl p) in let f : None ≡ Some m = sym e ∙ is in cc)) again on is out
+  where
+    mid : Members B
+    mid q = cond (same_pid p q) None (mem q)
+
+    out : IsQueue mid rest
+    out = taken_out mem mid p None rest (λ q. refl) (λ m is. absurd (cc)) k
+
+    twice : (b : Bool) (x : Option (Member B)) → cond b (Some w) x ≡ cond b (Some w) (cond b None x)
+    twice true x = refl
+    twice false x = refl
+
+    again : (q : Pid) → new q ≡ cond (same_pid p q) (Some w) (mid q)
+    again q = at q ∙ twice (same_pid p q) (mem q)
+
+-- nobody is changed, and the first of the queue goes behind it
+rotated : {B : Type 0} (mem : Members B) (p : Pid) (rest : List Pid) → IsQueue mem (p ∷ rest) → IsQueue mem (rest ++ p ∷ [])
+rotated mem p rest k = record {
+  listed = λ q m is on. by_cases (same_pid q p)
+      (λ same. subst (λ (x : Pid). in_queue x (rest ++ p ∷ []) ≡ true) (sym (same_pid_is q p same)) (pushed p rest))
+      (λ other. kept_in q p rest (either (same_pid q p) (in_queue q rest) (k.listed q m is on) other));
+  marked = λ q in_it. by_cases (same_pid q p)
+      (λ same. k.marked q (or_left (same_pid q p) (in_queue q rest) same))
+      (λ other. k.marked q (or_right (same_pid q p) (in_queue q rest) (was_in q p rest other in_it)));
+  once = IsDistinct-push same_pid_laws rest p (IsDistinct-tail same_pid p rest k.once) (none_of p rest (IsDistinct-head same_pid p rest k.once));
+}
+
+pub turned : {B : Type 0} (mem : Members B) (p : Pid) (rest now : List Pid) (read : ℕ) (d : ShardState) → now ≡ rest ++ p ∷ [] → Knows mem (p ∷ rest) read d → Knows mem now read d
+turned mem p rest now read d is k = record {
+  more = k.more;
+  seen = k.seen;
+  journal = k.journal;
+  counted = k.counted;
+  queued = subst (λ (ps : List Pid). IsQueue mem ps) (sym is) (rotated mem p rest k.queued);
+  born = k.born;
+  awake = k.awake;
+}
+
+-- the same members and the same queue
+pub same_queue : {B : Type 0} (mem new : Members B) (queue now : List Pid) → ((q : Pid) → new q ≡ mem q) → now ≡ queue → IsQueue mem queue → IsQueue new now
+same_queue {B} mem new queue now same items k = subst (λ (ps : List Pid). IsQueue new ps) (sym items) (record {
+  listed = λ q m is on. k.listed q m (sym (same q) ∙ is) on;
+  marked = λ q in_it. let was = k.marked q in_it in (was.0, same q ∙ was.1, was.2);
+  once = k.once;
+})
+
+-- one of the crew is changed, or enters, or leaves
+pub changed : {B : Type 0} (mem new : Members B) (p : Pid) (w : Option (Member B)) (before queue : List Pid) (read : ℕ) (d later : ShardState) → Extends d later
     → ((q : Pid) → new q ≡ cond (same_pid p q) w (mem q))
-    → ((q : Pid) → in_queue q rest ≡ true → in_queue q queue ≡ true)
-    → ((m : Member B) → w ≡ Some m → m.queued ≡ true → in_queue p queue ≡ true)
+    → (IsQueue mem before → IsQueue new queue)
+    → ((m : Member B) → w ≡ Some m → is_unborn (phase_of later p) ≡ false)
     → ((m : Member B) → w ≡ Some m → has_work m.next (phase_of later p) ≡ true → m.queued ≡ true)
-    → Knows mem (p ∷ rest) read d → Knows new queue read later
-served {B} mem new p w rest queue read d later e at stays here marked known =
-    let k = knows_later mem (p ∷ rest) read d later e known in
+    → Knows mem before read d → Knows new queue read later
+changed {B} mem new p w before queue read d later e at stays here marked known =
+    let k = knows_later mem before read d later e known in
     record {
       more = k.more;
       seen = k.seen;
       journal = k.journal;
       counted = k.counted;
-      listed = λ q m is on. by_cases (same_pid p q)
-          (λ same. let is_w : w ≡ Some m = sym (there mem new p w at q same) ∙ is in subst (λ (x : Pid). in_queue x queue ≡ true) (same_pid_is p q same) (here m is_w on))
-          (λ other. stays q (either (same_pid q p) (in_queue q rest) (k.listed q m (sym (elsewhere mem new p w at q other) ∙ is) on) (same_pid_sym q p ∙ other)));
+      queued = stays k.queued;
+      born = λ q m is. by_cases (same_pid p q)
+          (λ same. subst (λ (x : Pid). is_unborn (phase_of later x) ≡ false) (same_pid_is p q same) (here m (sym (there mem new p w at q same) ∙ is)))
+          (λ other. k.born q m (sym (elsewhere mem new p w at q other) ∙ is));
       awake = λ q m is work none. by_cases (same_pid p q)
           (λ same. let is_w : w ≡ Some m = sym (there mem new p w at q same) ∙ is in
           marked m is_w (subst (λ (x : Pid). has_work m.next (phase_of later x) ≡ true) (sym (same_pid_is p q same)) work))
@@ -98,10 +255,9 @@ served {B} mem new p w rest queue read d later e at stays here marked known =
 
 -- p is put into the queue, or stands there
 pub woken : {B : Type 0} (p : Pid) (old new : Crew B) (v w : Member B) → members old p ≡ Some v → ((q : Pid) → members new q ≡ cond (same_pid p q) (Some w) (members old q))
-    → w.queued ≡ true → w.next ≡ v.next → w.behaviour ≡ v.behaviour → (Listed old → in_queue p new.queue.items ≡ true)
-    → ((q : Pid) → in_queue q old.queue.items ≡ true → in_queue q new.queue.items ≡ true) → IsLonger (queue old) (queue new)
-    → new.read ≡ old.read → Wakes p old new
-woken {B} p old new v w held at on same_next same_behaviour in_new stays longer read = record {
+    → w.queued ≡ true → w.next ≡ v.next → w.behaviour ≡ v.behaviour → (Queued old → Queued new) → IsLonger (queue old) (queue new)
+    → new.read ≡ old.read → KeepsRest old new → Wakes p old new
+woken {B} p old new v w held at on same_next same_behaviour queued longer read rest = record {
   others = elsewhere (members old) (members new) p (Some w) at;
   marked = λ m is. subst (λ (x : Member B). x.queued ≡ true) (is_w m is) on;
   roles = λ q. by_cases (same_pid p q)
@@ -109,10 +265,9 @@ woken {B} p old new v w held at on same_next same_behaviour in_new stays longer 
       ∙ ap (option_map role) (sym held ∙ ap (members old) (same_pid_is p q same)))
       (λ other. ap (option_map role) (elsewhere (members old) (members new) p (Some w) at q other));
   longer = longer;
-  listed = λ k q m is marked. by_cases (same_pid p q)
-      (λ same. subst (λ (x : Pid). in_queue x new.queue.items ≡ true) (same_pid_is p q same) (in_new k))
-      (λ other. stays q (k q m (sym (elsewhere (members old) (members new) p (Some w) at q other) ∙ is) marked));
+  queued = queued;
   read = read;
+  rest = rest;
 }
   where
     same_role : Some (role w) ≡ Some (role v)
@@ -128,24 +283,10 @@ unknown {B} p old new none same = record {
   marked = λ m is. some_none (members old p) m none (sym (same.members p) ∙ is);
   roles = λ q. ap (option_map role) (same.members q);
   longer = ([], same.queue ∙ sym (append-nil (queue old)));
-  listed = λ k q m is marked. subst (λ (x : List Pid). in_queue q x ≡ true) (sym same.queue) (k q m (sym (same.members q) ∙ is) marked);
+  queued = λ k. same_queue (members old) (members new) (queue old) (queue new) same.members same.queue k;
   read = same.read;
+  rest = same.rest;
 }
-
-or_left : (a b : Bool) → a ≡ true → (a || b) ≡ true
-or_left true b h = refl
-or_left false b h = absurd (cc)
-
-or_right : (a b : Bool) → b ≡ true → (a || b) ≡ true
-or_right true b h = refl
-or_right false b h = h
-
--- whoever is pushed stands in the queue, as whoever stood there
-pub pushed : (p : Pid) (ps : List Pid) → in_queue p (ps ++ p ∷ []) ≡ true
-pushed p ps = list_any-append (same_pid p) ps (p ∷ []) ∙ or_right (in_queue p ps) (in_queue p (p ∷ [])) (or_left (same_pid p p) false (same_pid_refl p))
-
-pub kept_in : (q p : Pid) (ps : List Pid) → in_queue q ps ≡ true → in_queue q (ps ++ p ∷ []) ≡ true
-kept_in q p ps h = list_any-append (same_pid q) ps (p ∷ []) ∙ or_left (in_queue q ps) (in_queue q (p ∷ [])) h
 
 none_at : {X : Type 0} (b : Bool) (x : Option X) → (b ≡ true → x ≡ None) → x ≡ cond b None x
 none_at true x h = h refl
@@ -183,17 +324,16 @@ knows_same mem new queue now read d same items k = record {
   seen = k.seen;
   journal = k.journal;
   counted = k.counted;
-  listed = λ q m is on. subst (λ (ps : List Pid). in_queue q ps ≡ true) (sym items) (k.listed q m (sym (same q) ∙ is) on);
+  queued = same_queue mem new queue now same items k.queued;
+  born = λ q m is. k.born q m (sym (same q) ∙ is);
   awake = λ q m is work none. k.awake q m (sym (same q) ∙ is) work none;
 }
 
--- a queue with one more
-pub one_in_front : {B : Type 0} (mem : Members B) (p : Pid) (queue : List Pid) (read : ℕ) (d : ShardState) → Knows mem queue read d → Knows mem (p ∷ queue) read d
-one_in_front mem p queue read d k = record {
-  more = k.more;
-  seen = k.seen;
-  journal = k.journal;
-  counted = k.counted;
-  listed = λ q m is on. or_right (same_pid q p) (in_queue q queue) (k.listed q m is on);
-  awake = k.awake;
-}
+pub knows_is : {B : Type 0} (old new : Crew B) (d : ShardState) → IsSame old new → KnowsDesk old d → KnowsDesk new d
+knows_is old new d same k =
+    subst (λ n. Knows (members new) (queue new) n d) (sym same.read) (knows_same (members old) (members new) (queue old) (queue new) old.read d same.members same.queue k)
+
+pub living_born : (f : Phase) → is_living f ≡ true → is_unborn f ≡ false
+living_born unborn h = absurd (cc)
+living_born (living s) h = refl
+living_born (ended r s) h = refl

@@ -1,23 +1,26 @@
 -- What a crew knows, and what each of its calls does.
-use Rattle.std.specs.Prelude.{◌≡◌, ◌⊎◌, ℕ, ◌+◌, ◌≤◌, cond, List, [], ◌∷◌, ◌++◌, Some, None, Result, Ok, Err}
+use Rattle.std.specs.Prelude.{◌≡◌, ◌⊎◌, ⊤, ℕ, ◌+◌, ◌≤◌, max, cond, Bool, true, false, List, [], ◌∷◌, ◌++◌, length}
+use Rattle.std.specs.Prelude.{Some, None, MatchBool, Result, Ok, Err}
+use Rattle.std.specs.List.{IsDistinct}
 use Rattle.std.specs.Option.{option_map}
 use Rattle.indexmap.specs.IndexMap.{get}
 use Rattle.pt_signal.specs.declared.pid.Pid.{Pid}
-use Rattle.pt_signal.specs.declared.item.Pick.{Pick}
 use Rattle.pt_signal.specs.Values.{same_pid}
 use Rattle.pt_shard.specs.declared.fault.Fault.{Fault}
 use Rattle.pt_shard.specs.declared.fault.Fault.TheVariants.{Memory}
-use Rattle.pt_shard.specs.ShardState.{ShardState}
+use Rattle.pt_events.specs.History.{is_unborn}
+use Rattle.pt_shard.specs.ShardState.{ShardState, lives, phase_of}
 use Rattle.pt_shard.specs.Calls.{Bears}
 use Rattle.pt_desk.specs.DeskState.{DeskState}
 use Rattle.pt_desk.specs.Turns.{Turns}
 use Rattle.pt_desk.specs.declared.turned.Turned.{Turned}
 use Rattle.pt_crew.specs.declared.behaviour.Next.{Next}
-use Rattle.pt_crew.specs.declared.behaviour.Next.TheVariants.{Wait}
+use Rattle.pt_crew.specs.Births.{born}
 use Rattle.pt_crew.specs.declared.crew.Member.{Member}
+use Rattle.pt_crew.specs.declared.births.Role.{Role}
 use Rattle.pt_crew.specs.declared.crew.Crew.{Crew}
 use Rattle.pt_crew.specs.Waking.{Members, Knows, IsAwake}
-use Rattle.pt_crew.specs.Visiting.{Answers, Roles, AreWith, Visits}
+use Rattle.pt_crew.specs.Visiting.{Answers, Roles, AreSame, AreWith, Scene, Visits}
 use Rattle.pt_crew.specs.Handing.{Handed}
 
 abbrev pub members : {B : Type 0} → Crew B → Members B
@@ -33,6 +36,14 @@ roles c p = option_map role (members c p)
 -- the processes that may have something to do, the first of them first
 abbrev pub queue : {B : Type 0} → Crew B → List Pid
 queue c = c.queue.items
+
+-- who left in the last step, the first in front
+abbrev pub left : {B : Type 0} → Crew B → List (Role B)
+left c = c.left.items
+
+-- who was born and waits to enter, the first in front
+abbrev pub waiting : {B : Type 0} → Crew B → List (Role B)
+waiting c = born c.births
 
 -- what the crew knows of its desk
 abbrev pub KnowsDesk : {B : Type 0} → Crew B → ShardState → Type 0
@@ -52,33 +63,105 @@ pub record Attends {B : Type 0} (c : Crew B) (d : ShardState) : Type 0 where
   pub knows : KnowsDesk c d
   pub room : HasRoom c
 
+-- each process of the crew was born on the desk
+abbrev pub AreBorn : {B : Type 0} → Roles B → ShardState → Type 0
+AreBorn {B} roles d = (p : Pid) (r : B × Next) → roles p ≡ Some r → is_unborn (phase_of d p) ≡ false
+
+-- so many rounds, who waits to enter, and what the last step said, stay
+pub record KeepsRest {B : Type 0} (old new : Crew B) : Type 0 where
+  pub waiting : waiting new ≡ waiting old
+  pub left : left new ≡ left old
+  pub refused : new.refused ≡ old.refused
+  pub rounds : new.rounds ≡ old.rounds
+
 -- nothing that is known has changed
 pub record IsSame {B : Type 0} (old new : Crew B) : Type 0 where
   pub members : (q : Pid) → members new q ≡ members old q
   pub queue : queue new ≡ queue old
   pub read : new.read ≡ old.read
+  pub rest : KeepsRest old new
 
 -- A process is born and enters the crew, behind its queue; or nothing has changed, where the desk refused the birth or
 -- there was no memory.
-abbrev pub Enters : {B : Type 0} → B → Pick → Crew B → ShardState → Result Pid Fault → Crew B → ShardState → Type 0
-Enters b pick old d (Ok p) new e =
-    Bears None None d (Ok p) e × AreWith p (Some (b, Wait pick)) (roles old) (roles new)
-    × (queue new ≡ queue old ++ p ∷ [])
-Enters b pick old d (Err f) new e = (Bears None None d (Err f) e ⊎ ((f ≡ Memory) × (e ≡ d))) × IsSame old new
+abbrev pub Enters : {B : Type 0} → B → Next → Crew B → ShardState → Result Pid Fault → Crew B → ShardState → Type 0
+Enters b first old d (Ok p) new e =
+    Bears None None d (Ok p) e × AreWith p (Some (b, first)) (roles old) (roles new)
+    × (queue new ≡ queue old ++ p ∷ []) × KeepsRest old new
+Enters b first old d (Err f) new e = (Bears None None d (Err f) e ⊎ ((f ≡ Memory) × (e ≡ d))) × IsSame old new
 
--- those of the queue are come to, in its order, before any others
-pub record VisitsAll {B : Type 0} (answers : Answers B) (first : List Pid) (old : Roles B) (d : ShardState)
-    (new : Roles B) (e : ShardState) : Type 0 where
-  pub others : List Pid
-  pub visits : Visits answers (first ++ others) old d new e
+-- a crew with its desk in a step, where so many stand behind the queue
+abbrev pub scene : {B : Type 0} → List Pid → Crew B → ShardState → Scene B
+scene again c d = record {
+  roles = roles c;
+  again = again;
+  born = waiting c;
+  left = left c;
+  refused = c.refused;
+  desk = d;
+}
+
+-- Rounds, the last in front, each with the queue as it began: whoever stands in it is come to, in its order, and those
+-- that go behind it are the queue of the next.
+abbrev pub Rounds : {B : Type 0} → Answers B → List (List Pid) → Scene B → Scene B → Type 0
+Rounds answers [] old new = new ≡ old
+Rounds {B} answers (queue ∷ queues) old new =
+    (mid : Scene B) × Rounds answers queues old mid × (mid.again ≡ queue)
+    × Visits answers queue (record mid { again = [] }) new
+
+-- in none of the queues somebody stands twice
+abbrev pub AreOnce : List (List Pid) → Type 0
+AreOnce [] = ⊤
+AreOnce (queue ∷ queues) = IsDistinct same_pid queue × AreOnce queues
+
+-- the processes of a crew with their behaviours, and who left
+abbrev pub Aboard : Type 0 → Type 0
+Aboard B = Roles B × List (Role B)
+
+-- one that was born enters; or, where it has ended meanwhile, leaves at once
+abbrev pub EntersOne : {B : Type 0} → (Pid → Bool) → Role B → Aboard B → Aboard B → Type 0
+EntersOne lives r old new =
+    MatchBool (lives r.pid) (AreWith r.pid (Some (r.behaviour, r.next)) old.0 new.0 × (new.1 ≡ old.1))
+    (AreSame old.0 new.0 × (new.1 ≡ old.1 ++ r ∷ []))
+
+-- so these, one after the other
+abbrev pub EntersAll : {B : Type 0} → (Pid → Bool) → List (Role B) → Aboard B → Aboard B → Type 0
+EntersAll lives [] old new = new ≡ old
+EntersAll {B} lives (r ∷ rs) old new = (mid : Aboard B) × EntersOne lives r old mid × EntersAll lives rs mid new
+
+-- As many rounds as the crew makes in a step; then those that were born enter, all of them unless memory was refused;
+-- and whoever was woken meanwhile stands behind the queue.
+pub record StepsOn {B : Type 0} (answers : Answers B) (old : Crew B) (d : ShardState) (new : Crew B)
+    (e : ShardState) : Type 0 where
+  -- who stands behind the queue as the first round begins
+  pub woken : List Pid
+  pub queues : List (List Pid)
+  pub last : Scene B
+  pub rounds : Rounds answers queues
+      (record {
+        roles = roles old;
+        again = queue old ++ woken;
+        born = waiting old;
+        left = [];
+        refused = false;
+        desk = d;
+      }) last
+  pub count : length queues ≡ max 1 old.rounds
+  pub once : Attends old d → AreOnce queues
+  pub entered : List (Role B)
+  pub born : last.born ≡ entered ++ waiting new
+  pub enters : EntersAll (lives e) entered (last.roles, last.left) (roles new, left new)
+  pub told : ((waiting new ≡ []) × (new.refused ≡ last.refused)) ⊎ (new.refused ≡ true)
+  pub queue : (later : List Pid) × (queue new ≡ last.again ++ later)
+  pub desk : e ≡ last.desk
+  pub same : new.rounds ≡ old.rounds
 
 -- a step of a crew
 pub record CrewDoes {B : Type 0} (answers : Answers B) (old : Crew B) (d : ShardState) (new : Crew B)
     (e : ShardState) : Type 0 where
-  -- who stood in the queue is come to, in its order
-  pub visits : VisitsAll answers (queue old) (roles old) d (roles new) e
+  -- who stood in the queue is come to, in its order, once in each round
+  pub steps : StepsOn answers old d new e
   -- each item that was taken was handed to the behaviour of its process, once and in order
-  pub hands : Handed answers (roles old) d (roles new) e
+  pub hands : Handed answers (roles old) d steps.last.roles e
   pub attends : Attends old d → Attends new e
   -- no wake-up is lost
   pub awake : Attends old d → IsAwake (members new) (queue new) e

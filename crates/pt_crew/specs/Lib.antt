@@ -1,4 +1,5 @@
 pub mod Waking
+pub mod Births
 pub mod Visiting
 pub mod Handing
 pub mod Crews

@@ -1,5 +1,9 @@
 -- What the parts of a step do. No public clause cites this module.
-use Rattle.std.specs.Prelude.{◌≡◌, true, false, List, [], ◌∷◌, ◌++◌, Option, Some, None}
+use Rattle.std.specs.Prelude.{◌≡◌, ◌⊎◌, ◌+◌, ◌<◌, Bool, true, false, List, [], ◌∷◌, ◌++◌, length, Option, Some, None}
+use Rattle.std.specs.Prelude.{ℕ, drop, vec_len, vec_capacity}
+use Rattle.std.specs.List.{list_any}
+use Rattle.std.specs.Map.{keys_of}
+use Rattle.indexmap.specs.IndexMap.{spare}
 use Rattle.pt_signal.specs.declared.pid.Pid.{Pid}
 use Rattle.pt_signal.specs.Values.{same_pid}
 use Rattle.pt_events.specs.declared.event.Event.{Event}
@@ -9,13 +13,16 @@ use Rattle.pt_crew.specs.declared.behaviour.Next.{Next}
 use Rattle.pt_crew.specs.declared.crew.Member.{Member}
 use Rattle.pt_crew.specs.declared.crew.Crew.{Crew}
 use Rattle.pt_crew.specs.declared.crew.Tended.{Tended}
-use Rattle.pt_crew.specs.declared.crew.Tended.TheVariants.{Idle, Again, Gone}
-use Rattle.pt_crew.specs.Waking.{IsListed, has_work}
-use Rattle.pt_crew.specs.Visiting.{Answers, Roles, AreSame, VisitsOne}
-use Rattle.pt_crew.specs.Crews.{IsSame, members, queue, role, roles}
+use Rattle.pt_crew.specs.declared.crew.Tended.TheVariants.{Idle, Again, Refused, Gone}
+use Rattle.pt_crew.specs.Waking.{IsQueue, has_work}
+use Rattle.pt_crew.specs.Visiting.{Answers, AreSame, VisitsOne}
+use Rattle.pt_crew.specs.declared.births.Role.{Role}
+use Rattle.pt_crew.specs.Crews.{IsSame, KeepsRest, Aboard, EntersOne, EntersAll, members, queue, role, roles, left}
+use Rattle.pt_crew.specs.Crews.{waiting, scene}
 
-abbrev pub Listed : {B : Type 0} → Crew B → Type 0
-Listed c = IsListed (members c) (queue c)
+-- what the queue of a crew is
+abbrev pub Queued : {B : Type 0} → Crew B → Type 0
+Queued c = IsQueue (members c) (queue c)
 
 -- others stand behind the queue
 abbrev pub IsLonger : List Pid → List Pid → Type 0
@@ -26,9 +33,25 @@ pub record Wakes {B : Type 0} (p : Pid) (old new : Crew B) : Type 0 where
   pub others : (q : Pid) → same_pid p q ≡ false → members new q ≡ members old q
   pub marked : (m : Member B) → members new p ≡ Some m → m.queued ≡ true
   pub roles : AreSame (roles old) (roles new)
-  pub listed : Listed old → Listed new
+  pub queued : Queued old → Queued new
   pub longer : IsLonger (queue old) (queue new)
   pub read : new.read ≡ old.read
+  pub rest : KeepsRest old new
+
+-- whoever is of the crew, and not among these, is marked
+abbrev pub MarkedBut : {B : Type 0} → List Pid → Crew B → Type 0
+MarkedBut {B} rest c =
+    (p : Pid) (m : Member B) → list_any (same_pid p) rest ≡ false → members c p ≡ Some m → m.queued ≡ true
+
+-- the process at that place is marked, if there is one
+pub record WakesAt {B : Type 0} (place : ℕ) (old new : Crew B) : Type 0 where
+  pub keys : keys_of new.members.entries ≡ keys_of old.members.entries
+  pub marked : MarkedBut (drop place (keys_of old.members.entries)) old
+      → MarkedBut (drop (place + 1) (keys_of old.members.entries)) new
+  pub roles : AreSame (roles old) (roles new)
+  pub queued : Queued old → Queued new
+  pub longer : IsLonger (queue old) (queue new)
+  pub rest : KeepsRest old new
 
 -- who is woken by the event
 abbrev pub WakesBy : {B : Type 0} → Event → Crew B → Crew B → Type 0
@@ -40,16 +63,54 @@ WakesBy _ old new = IsSame old new
 abbrev pub Tends : {B : Type 0} → Pid → Tended → Member B → ShardState → Type 0
 Tends p Idle new d = has_work new.next (phase_of d p) ≡ false
 Tends p Again new d = Unit {0}
+Tends p Refused new d = Unit {0}
 Tends p Gone new d = Unit {0}
 
 -- what a process that was seen to is then
-abbrev pub left_as : {B : Type 0} → Tended → Member B → Option (B × Next)
-left_as Idle m = Some (role m)
-left_as Again m = Some (role m)
-left_as Gone m = None
+abbrev pub kept_as : {B : Type 0} → Tended → Member B → Option (B × Next)
+kept_as Idle m = Some (role m)
+kept_as Again m = Some (role m)
+kept_as Refused m = Some (role m)
+kept_as Gone m = None
+
+-- there is room for one who enters, or leaves at once
+abbrev pub CanEnter : {B : Type 0} → Crew B → Type 0
+CanEnter c =
+    (0 < spare c.members) × (c.queue.len + length c.members.entries < c.queue.cap)
+    × (vec_len c.left < vec_capacity c.left)
+
+-- it is of the crew and stands in the queue
+abbrev pub is_marked : {B : Type 0} → Option (Member B) → Bool
+is_marked None = false
+is_marked (Some m) = m.queued
+
+-- who is aboard
+abbrev pub aboard : {B : Type 0} → Crew B → Aboard B
+aboard c = (roles c, left c)
+
+-- the first of those that were born enters, if there is one, or it was refused for want of memory
+abbrev pub AdmitsOf : {B : Type 0} → (Pid → Bool) → List (Role B) → Crew B → Crew B → Type 0
+AdmitsOf lives [] old new = (aboard new ≡ aboard old) × (waiting new ≡ []) × (new.refused ≡ old.refused)
+AdmitsOf lives (r ∷ rs) old new =
+    EntersOne lives r (aboard old) (aboard new) × (waiting new ≡ rs) × (new.refused ≡ old.refused)
+
+pub record AdmitsFirst {B : Type 0} (lives : Pid → Bool) (old new : Crew B) : Type 0 where
+  pub admits : AdmitsOf lives (waiting old) old new
+      ⊎ ((aboard new ≡ aboard old) × (waiting new ≡ waiting old) × (new.refused ≡ true))
+  pub longer : IsLonger (queue old) (queue new)
+  pub rounds : new.rounds ≡ old.rounds
+
+-- those that were born enter, the first ones, and all unless it was refused
+pub record Admits {B : Type 0} (lives : Pid → Bool) (old new : Crew B) : Type 0 where
+  pub entered : List (Role B)
+  pub born : waiting old ≡ entered ++ waiting new
+  pub enters : EntersAll lives entered (aboard old) (aboard new)
+  pub told : ((waiting new ≡ []) × (new.refused ≡ old.refused)) ⊎ (new.refused ≡ true)
+  pub longer : IsLonger (queue old) (queue new)
+  pub rounds : new.rounds ≡ old.rounds
 
 -- the first of the queue is come to, and stands behind it then or nowhere
-abbrev pub Serves : {B : Type 0} → Answers B → List Pid → Roles B → ShardState → List Pid → Roles B → ShardState
-    → Type 0
-Serves answers [] old d later new e = Unit {0}
-Serves answers (p ∷ rest) old d later new e = VisitsOne answers p old d new e × IsLonger rest later
+abbrev pub Serves : {B : Type 0} → Answers B → List Pid → Crew B → ShardState → Crew B → ShardState → Type 0
+Serves answers [] old d new e = Unit {0}
+Serves answers (p ∷ rest) old d new e =
+    (back : List Pid) × VisitsOne answers p (scene [] old d) (scene back new e) × (queue new ≡ rest ++ back)

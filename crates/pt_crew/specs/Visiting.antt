@@ -1,6 +1,7 @@
 -- What it is to come to a process of a crew: its end is asked for, or one item that its pick fits, which is handed to
 -- its behaviour.
-use Rattle.std.specs.Prelude.{◌≡◌, cond, List, [], ◌∷◌, Option, Some, None, Result, Ok, Err}
+use Rattle.std.specs.Prelude.{◌≡◌, ◌⊎◌, cond, Bool, true, false, ◌||◌, List, [], ◌∷◌, ◌++◌, Option, Some, None}
+use Rattle.std.specs.Prelude.{MatchBool, Result, Ok, Err}
 use Rattle.pt_signal.specs.declared.pid.Pid.{Pid}
 use Rattle.pt_signal.specs.declared.item.Item.{Item}
 use Rattle.pt_signal.specs.Values.{same_pid}
@@ -9,17 +10,20 @@ use Rattle.pt_events.specs.declared.event.Event.TheVariants.{Took, Left}
 use Rattle.pt_events.specs.declared.event.Stamped.{Stamped}
 use Rattle.pt_shard.specs.declared.fault.Fault.{Fault}
 use Rattle.pt_shard.specs.declared.fault.Fault.TheVariants.{Gone}
-use Rattle.pt_shard.specs.ShardState.{ShardState}
+use Rattle.pt_shard.specs.ShardState.{ShardState, lives}
 use Rattle.pt_shard.specs.Calls.{Calls, take_event, first_match}
 use Rattle.pt_shard.specs.Extends.{Extends}
 use Rattle.pt_crew.specs.declared.behaviour.Next.{Next}
-use Rattle.pt_crew.specs.declared.behaviour.Next.TheVariants.{Wait, Stop}
+use Rattle.pt_crew.specs.declared.behaviour.Next.TheVariants.{Wait, Proceed, Stop}
+use Rattle.pt_crew.specs.declared.births.Role.{Role}
+use Rattle.pt_crew.specs.declared.crew.Tended.{Tended}
+use Rattle.pt_crew.specs.declared.crew.Tended.TheVariants.{Idle, Again, Refused, Gone as Ended}
 
--- what a behaviour may answer: it before, the process, the item, what the process does next, and it afterwards
+-- what a behaviour may answer: it before, the process, the item or none, what the process does next, and it afterwards
 abbrev pub Answers : Type 0 → Type 1
-Answers B = B → Pid → Item → Next → B → Type 0
+Answers B = B → Pid → Option Item → Next → B → Type 0
 
--- a crew as its callers see it: of each process its behaviour, and what it does next
+-- of each process of a crew its behaviour, and what it does next
 abbrev pub Roles : Type 0 → Type 0
 Roles B = Pid → Option (B × Next)
 
@@ -29,6 +33,19 @@ AreSame old new = (q : Pid) → new q ≡ old q
 -- p has this role, or none, and all others stay
 abbrev pub AreWith : {B : Type 0} → Pid → Option (B × Next) → Roles B → Roles B → Type 0
 AreWith p role old new = (q : Pid) → new q ≡ cond (same_pid p q) role (old q)
+
+-- a crew in a step as its callers see it, with its desk
+pub record Scene (B : Type 0) : Type 0 where
+  pub roles : Roles B
+  -- who stands behind the queue, to be come to in the next round
+  pub again : List Pid
+  -- who was born and waits to enter
+  pub born : List (Role B)
+  -- who left in this step
+  pub left : List (Role B)
+  -- whether a call was refused in this step
+  pub refused : Bool
+  pub desk : ShardState
 
 -- whoever took an item, and the item
 abbrev pub takes_by : Event → List (Pid × Item) → List (Pid × Item)
@@ -41,44 +58,96 @@ takes [] = []
 takes (s ∷ journal) = takes_by s.event (takes journal)
 
 -- an end was asked for: the process leaves the crew, unless the desk refused for want of memory or stamps
-abbrev pub EndsAs : {B : Type 0} → B × Next → Result (Unit {0}) Fault → Option (B × Next) → Type 0
-EndsAs role (Ok done) now = now ≡ None
-EndsAs role (Err Gone) now = now ≡ None
-EndsAs role (Err f) now = now ≡ Some role
+abbrev pub EndsAs : {B : Type 0} → B × Next → Result (Unit {0}) Fault → Tended → Option (B × Next) → Type 0
+EndsAs role (Ok done) t now = (t ≡ Ended) × (now ≡ None)
+EndsAs role (Err Gone) t now = (t ≡ Ended) × (now ≡ None)
+EndsAs role (Err f) t now = (t ≡ Refused) × (now ≡ Some role)
 
--- An item was asked for. One that was taken is handed to the behaviour, which takes none itself; a refusal for want of
--- memory or stamps leaves all as it is; and a process that had ended leaves the crew.
-abbrev pub TakesAs : {B : Type 0} → Answers B → Pid → B × Next → ShardState → Result (Option Item) Fault
+-- the item, or none, is handed to the behaviour, which takes none itself
+pub record HandsTo {B : Type 0} (answers : Answers B) (p : Pid) (b : B) (item : Option Item) (d : ShardState)
+    (t : Tended) (now : Option (B × Next)) (e : ShardState) : Type 0 where
+  pub behaviour : B
+  pub next : Next
+  pub answer : answers b p item next behaviour
+  pub tended : t ≡ Again
+  pub now_is : now ≡ Some (behaviour, next)
+  pub takes : takes e.journal ≡ takes d.journal
+  pub extends : Extends d e
+
+-- a process that had ended leaves the crew
+abbrev pub LeavesAs : {B : Type 0} → ShardState → Tended → Option (B × Next) → ShardState → Type 0
+LeavesAs d t now e = (t ≡ Ended) × (now ≡ None) × (e ≡ d)
+
+-- nothing has changed, and that is what came of it
+abbrev pub StaysAs : {B : Type 0} → Tended → B × Next → ShardState → Tended → Option (B × Next) → ShardState → Type 0
+StaysAs came role d t now e = (t ≡ came) × (now ≡ Some role) × (e ≡ d)
+
+-- An item was asked for. One that was taken is handed over; a refusal for want of memory or stamps leaves all as it is.
+abbrev pub TakesAs : {B : Type 0} → Answers B → Pid → B × Next → ShardState → Result (Option Item) Fault → Tended
     → Option (B × Next) → ShardState → Type 0
-TakesAs answers p role d (Ok None) now e = (now ≡ Some role) × (e ≡ d)
-TakesAs {B} answers p role d (Ok (Some item)) now e =
-    (b : B) × (next : Next) × answers role.0 p item next b × (now ≡ Some (b, next))
-    × (takes e.journal ≡ takes d.journal) × Extends d e
-TakesAs answers p role d (Err Gone) now e = (now ≡ None) × (e ≡ d)
-TakesAs answers p role d (Err f) now e = (now ≡ Some role) × (e ≡ d)
+TakesAs answers p role d (Ok None) t now e = StaysAs Idle role d t now e
+TakesAs answers p role d (Ok (Some item)) t now e = HandsTo answers p role.0 (Some item) d t now e
+TakesAs answers p role d (Err Gone) t now e = LeavesAs d t now e
+TakesAs answers p role d (Err f) t now e = StaysAs Refused role d t now e
 
--- the process p, which does this next, is seen to
-abbrev pub SeesTo : {B : Type 0} → Answers B → Pid → B → Next → ShardState → Option (B × Next) → ShardState → Type 0
-SeesTo answers p b (Stop reason) d now e =
+-- the process p, which does this next, is seen to, and that comes of it
+abbrev pub SeesTo : {B : Type 0} → Answers B → Pid → B → Next → ShardState → Tended → Option (B × Next) → ShardState
+    → Type 0
+SeesTo answers p b (Stop reason) d t now e =
     (result : Result (Unit {0}) Fault) × Calls p (Some (Left p reason)) (tt {0}) d result e
-    × EndsAs (b, Stop reason) result now
-SeesTo answers p b (Wait pick) d now e =
+    × EndsAs (b, Stop reason) result t now
+SeesTo answers p b Proceed d t now e =
+    MatchBool (lives d p) (HandsTo answers p b None d t now e) (LeavesAs d t now e)
+SeesTo answers p b (Wait pick) d t now e =
     (result : Result (Option Item) Fault) × (mid : ShardState)
     × Calls p (take_event d p pick) (first_match d p pick) d result mid
-    × TakesAs answers p (b, Wait pick) mid result now e
+    × TakesAs answers p (b, Wait pick) mid result t now e
 
--- nothing is done for one that is not of the crew
-abbrev pub ComesTo : {B : Type 0} → Answers B → Pid → Option (B × Next) → ShardState → Option (B × Next) → ShardState
-    → Type 0
-ComesTo answers p None d now e = (now ≡ None) × (e ≡ d)
-ComesTo answers p (Some role) d now e = SeesTo answers p role.0 role.1 d now e
+-- nothing is done for one that is not of the crew, nor where there is no memory to keep its behaviour if it leaves
+abbrev pub ComesTo : {B : Type 0} → Answers B → Pid → Option (B × Next) → ShardState → Tended → Option (B × Next)
+    → ShardState → Type 0
+ComesTo answers p None d t now e = (t ≡ Idle) × (now ≡ None) × (e ≡ d)
+ComesTo answers p (Some role) d t now e = StaysAs Refused role d t now e ⊎ SeesTo answers p role.0 role.1 d t now e
+
+-- whoever was handed an item, or was refused, goes behind the queue
+abbrev pub again_as : Pid → Tended → List Pid
+again_as p Idle = []
+again_as p Again = p ∷ []
+again_as p Refused = p ∷ []
+again_as p Ended = []
+
+-- whoever has ended leaves, as it was
+abbrev pub left_as : {B : Type 0} → Pid → Option (B × Next) → Tended → List (Role B)
+left_as p None t = []
+left_as p (Some role) Idle = []
+left_as p (Some role) Again = []
+left_as p (Some role) Refused = []
+left_as p (Some role) Ended = record { pid = p; behaviour = role.0; next = role.1 } ∷ []
+
+abbrev pub is_refused : Tended → Bool
+is_refused Idle = false
+is_refused Again = false
+is_refused Refused = true
+is_refused Ended = false
+
+-- only who is handed an item, or proceeds, bears children, which wait behind those who wait
+abbrev pub Bears : {B : Type 0} → Tended → List (Role B) → List (Role B) → Type 0
+Bears {B} Again old new = (bore : List (Role B)) × (new ≡ old ++ bore)
+Bears Idle old new = new ≡ old
+Bears Refused old new = new ≡ old
+Bears Ended old new = new ≡ old
 
 -- p is come to, and all others stay
-abbrev pub VisitsOne : {B : Type 0} → Answers B → Pid → Roles B → ShardState → Roles B → ShardState → Type 0
-VisitsOne answers p old d new e = AreWith p (new p) old new × ComesTo answers p (old p) d (new p) e
+pub record VisitsOne {B : Type 0} (answers : Answers B) (p : Pid) (old new : Scene B) : Type 0 where
+  pub tended : Tended
+  pub comes : ComesTo answers p (old.roles p) old.desk tended (new.roles p) new.desk
+  pub others : AreWith p (new.roles p) old.roles new.roles
+  pub again : new.again ≡ old.again ++ again_as p tended
+  pub born : Bears tended old.born new.born
+  pub left : new.left ≡ old.left ++ left_as p (old.roles p) tended
+  pub refused : new.refused ≡ (old.refused || is_refused tended)
 
 -- so these, one after the other
-abbrev pub Visits : {B : Type 0} → Answers B → List Pid → Roles B → ShardState → Roles B → ShardState → Type 0
-Visits answers [] old d new e = AreSame old new × (e ≡ d)
-Visits {B} answers (p ∷ ps) old d new e =
-    (mid : Roles B) × (f : ShardState) × VisitsOne answers p old d mid f × Visits answers ps mid f new e
+abbrev pub Visits : {B : Type 0} → Answers B → List Pid → Scene B → Scene B → Type 0
+Visits answers [] old new = new ≡ old
+Visits {B} answers (p ∷ ps) old new = (mid : Scene B) × VisitsOne answers p old mid × Visits answers ps mid new

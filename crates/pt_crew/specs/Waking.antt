@@ -1,26 +1,30 @@
 -- Who of a crew has something to do, and who of it stands in the queue.
 use Rattle.std.specs.Prelude.{◌≡◌, ℕ, Bool, true, false, List, length, ◌++◌, Option, Some, is_some}
-use Rattle.std.specs.List.{find, list_any}
+use Rattle.std.specs.List.{IsDistinct, find, list_any}
 use Rattle.pt_signal.specs.declared.pid.Pid.{Pid}
 use Rattle.pt_signal.specs.Values.{same_pid, fits}
 use Rattle.pt_events.specs.declared.event.Event.{Event}
-use Rattle.pt_events.specs.declared.event.Event.TheVariants.{Came}
+use Rattle.pt_events.specs.declared.event.Event.TheVariants.{Came, Left}
 use Rattle.pt_events.specs.declared.event.Stamped.{Stamped}
-use Rattle.pt_events.specs.History.{Phase, living}
+use Rattle.pt_events.specs.History.{Phase, unborn, living, ended, is_unborn}
 use Rattle.pt_shard.specs.ShardState.{ShardState, phase_of}
 use Rattle.pt_crew.specs.declared.behaviour.Next.{Next}
-use Rattle.pt_crew.specs.declared.behaviour.Next.TheVariants.{Wait, Stop}
+use Rattle.pt_crew.specs.declared.behaviour.Next.TheVariants.{Wait, Proceed, Stop}
 use Rattle.pt_crew.specs.declared.crew.Member.{Member}
 
--- a process in this phase has something to do: an item that its pick fits stands in its mailbox, or it is to end
+-- a process in this phase has something to do: an item that its pick fits stands in its mailbox, or it is to proceed
+-- or to end, or has ended and is to leave its crew
 abbrev pub has_work : Next → Phase → Bool
+has_work (Wait k) unborn = false
 has_work (Wait k) (living s) = is_some (find (fits k) s.waiting)
-has_work (Wait k) _ = false
+has_work (Wait k) (ended r s) = true
+has_work Proceed f = true
 has_work (Stop r) f = true
 
--- a signal came to p
+-- a signal came to p, or p ended by a call of its own
 abbrev pub came_to : Pid → Event → Bool
 came_to p (Came a b x) = same_pid p b
+came_to p (Left q r) = same_pid p q
 came_to p _ = false
 
 abbrev pub came_in : Pid → List Stamped → Bool
@@ -33,18 +37,21 @@ in_queue p queue = list_any (same_pid p) queue
 abbrev pub Members : Type 0 → Type 0
 Members B = Pid → Option (Member B)
 
--- whoever is marked stands in the queue
-abbrev pub IsListed : {B : Type 0} → Members B → List Pid → Type 0
-IsListed {B} members queue = (p : Pid) (m : Member B) → members p ≡ Some m → m.queued ≡ true → in_queue p queue ≡ true
+-- whoever is marked stands in the queue, and whoever stands in it is marked, and there once
+pub record IsQueue {B : Type 0} (members : Members B) (queue : List Pid) : Type 0 where
+  pub listed : (p : Pid) (m : Member B) → members p ≡ Some m → m.queued ≡ true → in_queue p queue ≡ true
+  pub marked : (p : Pid) → in_queue p queue ≡ true → (m : Member B) × (members p ≡ Some m) × (m.queued ≡ true)
+  pub once : IsDistinct same_pid queue
 
 -- Of the journal, `seen` was read and `more` was not. Whoever has something to do is marked, unless a signal that was
--- not read came to it.
+-- not read came to it, or its own end was not read.
 pub record Knows {B : Type 0} (members : Members B) (queue : List Pid) (read : ℕ) (d : ShardState) : Type 0 where
   pub more : List Stamped
   pub seen : List Stamped
   pub journal : d.journal ≡ more ++ seen
   pub counted : length seen ≡ read
-  pub listed : IsListed members queue
+  pub queued : IsQueue members queue
+  pub born : (p : Pid) (m : Member B) → members p ≡ Some m → is_unborn (phase_of d p) ≡ false
   pub awake : (p : Pid) (m : Member B) → members p ≡ Some m → has_work m.next (phase_of d p) ≡ true
       → came_in p more ≡ false → m.queued ≡ true
 

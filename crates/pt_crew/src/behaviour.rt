@@ -1,12 +1,14 @@
 //! What a process does with the items of its mailbox.
 
-ghost use Rattle.std.specs.Prelude.{◌≡◌};
+ghost use Rattle.std.specs.Prelude.{◌≡◌, Option, Some};
 ghost use Rattle.pt_desk.specs.DeskState.{GoesOn};
 ghost use Rattle.pt_signal.specs.declared.pid.Pid.{Pid};
 ghost use Rattle.pt_signal.specs.declared.item.Item.{Item};
 ghost use Rattle.pt_crew.specs.declared.behaviour.Next.{Next};
+ghost use Rattle.pt_crew.specs.Births.{kept};
 ghost use Rattle.pt_crew.specs.Visiting.{takes};
 
+use crate::births::Births;
 use pt_node::{Desk, Item, Pick, Pid, Reason};
 
 /// What a process does next.
@@ -14,6 +16,8 @@ use pt_node::{Desk, Item, Pick, Pid, Reason};
 pub enum Next {
     /// It waits for an item that this pick fits; the others stay in its mailbox, in order. `Pick::Any` fits each.
     Wait(Pick),
+    /// It goes on without an item, when it is come to next: Erlang's `{continue, ..}`.
+    Proceed,
     /// It ends with this reason, when it is come to next.
     Stop(Reason),
 }
@@ -24,14 +28,22 @@ pub enum Next {
 /// Its state is a value of the program's own, one of each process. What it may answer is its ghost member `answers`, in
 /// whose terms a step of a crew says what it did.
 pub trait Behaviour {
-    ghost answers: { Self → Pid → Item → Next → Self → Type 0 };
+    ghost answers: { Self → Pid → Option Item → Next → Self → Type 0 };
 
-    /// Sees to one item, which was taken out of the mailbox of `me`. It takes no other item out of a mailbox.
+    /// Sees to one item, which was taken out of the mailbox of `me`, or to none where `me` was to proceed. It takes no
+    /// other item out of a mailbox.
     ///
     /// The calls of a desk in the form of [`tell`](crate::tell), [`watch`](crate::watch) and their like keep what is
-    /// asked here.
-    fn handle(&mut self, desk: &mut Desk, me: Pid, item: Item) -> Next
+    /// asked here. The children that it bears ([`bear`](crate::bear)) enter the crew as the step ends.
+    fn handle(
+        &mut self,
+        desk: &mut Desk,
+        births: &mut Births<Self>,
+        me: Pid,
+        item: Option<Item>,
+    ) -> Next
         ensures answers { answers self.old me item result self.new }
         ensures takes { takes desk.new.shard.journal ≡ takes desk.old.shard.journal }
+        ensures kept { kept births.new ≡ kept births.old }
         ensures goes_on { GoesOn desk.old desk.new };
 }

@@ -3,12 +3,12 @@
 //! A target that the desk does not know is answered as one that it sees to have ended. None of them takes an item out
 //! of a mailbox, so a behaviour that makes no other calls is what [`Behaviour`](crate::Behaviour) asks of it.
 
-ghost use Rattle.std.specs.Prelude.{◌≡◌, Some};
+ghost use Rattle.std.specs.Prelude.{◌≡◌, Some, false, is_some};
 ghost use Rattle.pt_signal.specs.declared.signal.Signal.{Signal};
 ghost use Rattle.pt_events.specs.declared.event.Event.{Event};
 ghost use Rattle.pt_shard.specs.Known.{knows};
-ghost use Rattle.pt_shard.specs.ShardState.{lives};
-ghost use Rattle.pt_shard.specs.Calls.{BearsChild, Calls, Monitors, link_event};
+ghost use Rattle.pt_shard.specs.ShardState.{lives, state_in};
+ghost use Rattle.pt_shard.specs.Calls.{Calls, Monitors, demonitor_event, link_event, unlink_event};
 ghost use Rattle.pt_desk.specs.DeskState.{GoesOn};
 ghost use Rattle.pt_desk.specs.Reaching.{Reaches, has_link_to_make, has_monitor_to_make};
 ghost use Rattle.pt_crew.specs.Telling.{IfKnown};
@@ -90,14 +90,46 @@ pub fn bid_exit(desk: &mut Desk, me: Pid, to: Pid, reason: Reason) -> Result<(),
     desk.exit_signal(me, to, reason)
 }
 
-/// Bears a process on its own desk, linked with it where that is asked (`spawn`, `spawn_link`).
+/// Takes its link with a process away (`unlink`).
 ///
-/// The child is not of the crew: its mailbox is the program's to see to. It is refused as [`Desk::spawn_child`] is.
-#[tactic(auto, using(crate::proofs::Takes::bore_takes))]
-pub fn bear(desk: &mut Desk, me: Pid, linked: bool) -> Result<Pid, Fault>
-    ensures does { BearsChild me linked desk.old.shard result desk.new.shard }
+/// `NoProc` where the desk does not know the target, and nothing has changed then; else it is refused as
+/// [`Desk::unlink`] is.
+#[tactic(auto, using(pt_node::proofs::GoingOn::stays, crate::proofs::Takes::unlinked_takes))]
+pub fn part(desk: &mut Desk, me: Pid, to: Pid) -> Result<(), Fault>
+    ensures does { IfKnown (knows desk.old.shard to)
+        (Calls me (unlink_event desk.old.shard me to) tt desk.old.shard result desk.new.shard) desk.old result
+        desk.new }
     ensures takes { takes desk.new.shard.journal ≡ takes desk.old.shard.journal }
     ensures goes_on { GoesOn desk.old desk.new }
 {
-    desk.spawn_child(me, linked)
+    if !desk.knows(to) {
+        return Err(Fault::NoProc);
+    }
+    desk.unlink(me, to)
+}
+
+/// Gives a monitor up, and leaves a `DOWN` that has come where it is (`demonitor`).
+///
+/// It answers whether the monitor was open. It is refused as [`Desk::demonitor`] is.
+#[tactic(auto, using(crate::proofs::Takes::unwatched_takes))]
+pub fn unwatch(desk: &mut Desk, me: Pid, monitor: Ref) -> Result<bool, Fault>
+    ensures does { Calls me (demonitor_event desk.old.shard me monitor false)
+        (is_some (demonitor_event desk.old.shard me monitor false)) desk.old.shard result desk.new.shard }
+    ensures takes { takes desk.new.shard.journal ≡ takes desk.old.shard.journal }
+    ensures goes_on { GoesOn desk.old desk.new }
+{
+    desk.demonitor(me, monitor, false)
+}
+
+/// Sets whether it traps exits, and answers whether it did (`process_flag(trap_exit, _)`).
+///
+/// It is refused as [`Desk::trap`] is.
+#[tactic(auto, using(crate::proofs::Takes::flag_takes))]
+pub fn trap(desk: &mut Desk, me: Pid, on: bool) -> Result<bool, Fault>
+    ensures does { Calls me (Some (Event.Flag me on)) (state_in desk.old.shard me).traps desk.old.shard result
+        desk.new.shard }
+    ensures takes { takes desk.new.shard.journal ≡ takes desk.old.shard.journal }
+    ensures goes_on { GoesOn desk.old desk.new }
+{
+    desk.trap(me, on)
 }

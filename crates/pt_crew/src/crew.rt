@@ -1,20 +1,28 @@
 //! The crew of one desk.
 
-ghost use Rattle.std.specs.Prelude.{◌≡◌, ◌≤◌, OnOk, OnErr, IsOk, [], None, length};
+ghost use Rattle.std.specs.Prelude.{◌≡◌, ◌≤◌, ◌++◌, OnOk, OnErr, IsOk, [], None, Some, false, true, length};
+ghost use Rattle.std.specs.Prelude.{option_to_list};
 ghost use Rattle.std.specs.Option.{option_copied, option_map};
-ghost use Rattle.pt_shard.specs.ShardState.{ShardState};
+ghost use Rattle.std.specs.Map.{keys_of};
+ghost use Rattle.pt_events.specs.History.{is_unborn};
+ghost use Rattle.pt_shard.specs.ShardState.{ShardState, lives, phase_of};
 ghost use Rattle.pt_desk.specs.DeskState.{GoesOn};
-ghost use Rattle.pt_crew.specs.Visiting.{AreSame, SeesTo, Visits};
-ghost use Rattle.pt_crew.specs.Crews.{Attends, Enters, HasRoom, IsSame, KnowsDesk, Works, queue, roles};
-ghost use Rattle.pt_crew.specs.Parts.{IsLonger, Serves, Tends, Wakes, WakesBy, left_as};
+ghost use Rattle.pt_crew.specs.Births.{born};
+ghost use Rattle.pt_crew.specs.Visiting.{AreSame, AreWith, Bears, SeesTo, Visits, takes};
+ghost use Rattle.pt_crew.specs.Crews.{AreBorn, Attends, Enters, HasRoom, IsSame, KeepsRest, KnowsDesk, Works, left};
+ghost use Rattle.pt_crew.specs.Crews.{members, queue, roles, scene, waiting};
+ghost use Rattle.pt_crew.specs.Parts.{Admits, AdmitsFirst, CanEnter, IsLonger, Serves, Tends, Wakes, WakesAt};
+ghost use Rattle.pt_crew.specs.Parts.{WakesBy};
+ghost use Rattle.pt_crew.specs.Parts.{is_marked, kept_as};
 
 use crate::behaviour::{Behaviour, Next};
+use crate::births::{Births, Role};
 use indexmap::IndexMap;
-use pt_node::{Desk, Event, Fault, Pick, Pid, Turned, Work};
+use pt_node::{Desk, Event, Fault, Item, Pid, Turned, Work};
 use std::alloc::{AllocError, Global};
 use std::collections::VecDeque;
 
-/// A process of the crew.
+/// A process of the crew. It is public since the definitions of a crew name it; no call hands one out.
 #[derive(Drop)]
 pub struct Member<B> {
     behaviour: B,
@@ -23,14 +31,16 @@ pub struct Member<B> {
     queued: bool,
 }
 
-/// What came of it when a process of the queue was seen to.
+/// What came of it when a process of the queue was come to. It is public since the definitions of a visit name it.
 #[derive(Clone, Copy, Debug, PartialEq, Eq)]
 pub enum Tended {
-    /// Nothing fits: it leaves the queue.
+    /// Nothing fits, or it is not of the crew: it leaves the queue.
     Idle,
-    /// It stays in the queue.
+    /// It was handed an item, or went on without one, and goes behind the queue.
     Again,
-    /// It has ended.
+    /// A call was refused for want of memory or stamps, and nothing has changed: it goes behind the queue.
+    Refused,
+    /// It has ended, and leaves the crew.
     Gone,
 }
 
@@ -44,10 +54,16 @@ pub enum Tended {
 pub struct Crew<B> {
     members: IndexMap<Pid, Member<B>>,
     queue: VecDeque<Pid>,
+    /// Who was born and has not entered yet.
+    births: Births<B>,
+    /// Who left in the last step.
+    left: Vec<Role<B>>,
     /// How many events of the journal were read.
     read: usize,
     /// How many rounds through its queue a step makes.
     rounds: u32,
+    /// Whether a call was refused in the last step, for want of memory or stamps.
+    refused: bool,
 }
 
 impl<B: Behaviour + Drop> Crew<B> {
@@ -58,12 +74,19 @@ impl<B: Behaviour + Drop> Crew<B> {
         ensures attends { (d : ShardState) → Attends result d }
         ensures nobody { (p : Pid) → roles result p ≡ None }
         ensures queue { queue result ≡ [] }
+        ensures born { waiting result ≡ [] }
+        ensures left { left result ≡ [] }
+        ensures rounds { result.rounds ≡ rounds }
+        ensures refused { result.refused ≡ false }
     {
         Crew {
             members: IndexMap::new(alloc),
             queue: VecDeque::new(alloc),
+            births: Births::new(alloc),
+            left: Vec::new(alloc),
             read: 0,
             rounds,
+            refused: false,
         }
     }
 
@@ -101,6 +124,45 @@ impl<B: Behaviour + Drop> Crew<B> {
         }
     }
 
+    /// How many were born and have not entered yet: none, unless the last step was refused memory.
+    pub fn waiting(&self) -> usize
+        ensures { result ≡ length (waiting self.now) }
+    {
+        self.births.len()
+    }
+
+    /// Who left in the last step, the first in front.
+    ///
+    /// Each stands there with what it was to do: `Stop` with its reason where it ended by itself, and `Wait` or
+    /// `Proceed` where another ended it, or a call of its own.
+    pub fn left(&self) -> &[Role<B>]
+        ensures { result.now ≡ left self.now }
+    {
+        self.left.as_slice()
+    }
+
+    /// Takes one of those who left in the last step, the last of them first.
+    ///
+    /// Whoever is not taken is dropped as the next step begins.
+    pub fn take_left(&mut self) -> Option<Role<B>>
+        ensures left { left self.old ≡ left self.new ++ option_to_list result }
+        ensures attends { (d : ShardState) → Attends self.old d → Attends self.new d }
+        ensures roles { AreSame (roles self.old) (roles self.new) }
+        ensures queue { queue self.new ≡ queue self.old }
+        ensures rest { (self.new.rounds ≡ self.old.rounds) × (self.new.refused ≡ self.old.refused)
+            × (waiting self.new ≡ waiting self.old) }
+    {
+        self.left.pop()
+    }
+
+    /// Whether the last step was refused a call for want of memory or stamps. Whoever it was for is as it was, and
+    /// stands in the queue.
+    pub fn refused(&self) -> bool
+        ensures { result ≡ self.now.refused }
+    {
+        self.refused
+    }
+
     /// A step, and then a turn of the desk, as a run takes them; what the turn did.
     #[tactic(auto, using(pt_desk::proofs::Turning::goes_on_then))]
     pub fn work(&mut self, desk: &mut Desk, budget: u32) -> Turned
@@ -112,11 +174,12 @@ impl<B: Behaviour + Drop> Crew<B> {
         desk.turn(budget)
     }
 
-    /// A process is born on the desk and enters the crew; at first it waits for what this pick fits.
+    /// A process is born on the desk and enters the crew, and does this first: it waits for what a pick fits, or
+    /// proceeds, where its behaviour has something to do at its birth.
     ///
     /// It is refused as a birth is ([`Desk::spawn`]), and for want of memory in the crew; then nothing has changed.
-    pub fn enter(&mut self, desk: &mut Desk, behaviour: B, pick: Pick) -> Result<Pid, Fault>
-        ensures does { Enters behaviour pick self.old desk.old.shard result self.new desk.new.shard }
+    pub fn enter(&mut self, desk: &mut Desk, behaviour: B, first: Next) -> Result<Pid, Fault>
+        ensures does { Enters behaviour first self.old desk.old.shard result self.new desk.new.shard }
         ensures knows { KnowsDesk self.old desk.old.shard → KnowsDesk self.new desk.new.shard }
         ensures room { HasRoom self.old → HasRoom self.new }
         ensures goes_on { GoesOn desk.old desk.new }
@@ -127,9 +190,10 @@ impl<B: Behaviour + Drop> Crew<B> {
         };
         self.queue.reserve(room)?;
         let pid = desk.spawn()?;
+        let _lawful = desk.journal();
         let member = Member {
             behaviour,
-            next: Next::Wait(pick),
+            next: first,
             queued: true,
         };
         match self.members.insert(pid, member) {
@@ -141,9 +205,45 @@ impl<B: Behaviour + Drop> Crew<B> {
         }
     }
 
+    /// Goes on over the desk of the same number in a node that was resumed: it reads the journal of that desk from its
+    /// beginning, and comes to each of its processes in the next step. For what came to them while the node was settled
+    /// stands in no journal that is left.
+    ///
+    /// It costs the number of the processes. It is refused for want of memory only by a crew that attends no desk, and
+    /// then nobody is forgotten.
+    pub fn begin_again(&mut self) -> Result<(), AllocError>
+        ensures attends { OnOk result ((d e : ShardState) → Attends self.old d → AreBorn (roles self.old) e
+            → Attends self.new e) }
+        ensures all { OnOk result ((p : Pid) (m : Member B) → members self.new p ≡ Some m → m.queued ≡ true) }
+        ensures ok { HasRoom self.old → IsOk result }
+        ensures roles { AreSame (roles self.old) (roles self.new) }
+        ensures longer { IsLonger (queue self.old) (queue self.new) }
+        ensures rest { KeepsRest self.old self.new }
+    {
+        for place in 0..self.members.len() {
+            self.wake_at(place)?;
+        }
+        self.read = 0;
+        Ok(())
+    }
+
+    /// Puts the process at that place into the queue, if there is one and it is not there.
+    fn wake_at(&mut self, place: usize) -> Result<(), AllocError>
+        ensures wakes { OnOk result (WakesAt place self.old self.new) }
+        ensures refused { OnErr result (IsSame self.old self.new) }
+        ensures room { HasRoom self.old → IsOk result × HasRoom self.new }
+    {
+        let Some((p, _member)) = self.members.as_slice().get_index(place) else {
+            return Ok(());
+        };
+        let p = *p;
+        self.wake(p)
+    }
+
     /// Puts p into the queue, if it is of the crew and not there.
     fn wake(&mut self, p: Pid) -> Result<(), AllocError>
         ensures wakes { OnOk result (Wakes p self.old self.new) }
+        ensures keys { keys_of self.new.members.entries ≡ keys_of self.old.members.entries }
         ensures refused { OnErr result (IsSame self.old self.new) }
         ensures room { HasRoom self.old → IsOk result × HasRoom self.new }
     {
@@ -178,6 +278,7 @@ impl<B: Behaviour + Drop> Crew<B> {
         ensures knows { KnowsDesk self.old desk.now.shard → KnowsDesk self.new desk.now.shard }
         ensures kept { AreSame (roles self.old) (roles self.new) }
         ensures longer { IsLonger (queue self.old) (queue self.new) }
+        ensures rest { KeepsRest self.old self.new }
         ensures room { HasRoom self.old → (length desk.now.shard.journal ≤ self.new.read) × HasRoom self.new }
     {
         let events = desk.journal().events();
@@ -189,12 +290,97 @@ impl<B: Behaviour + Drop> Crew<B> {
         }
     }
 
+    /// Makes room for one who enters, or leaves at once.
+    fn make_room(&mut self) -> Result<(), AllocError>
+        ensures same { IsSame self.old self.new }
+        ensures ok { OnOk result (CanEnter self.new) }
+        ensures room { HasRoom self.old → HasRoom self.new }
+    {
+        self.members.reserve(1)?;
+        let Some(room) = self.members.len().checked_add(1) else {
+            return Err(AllocError);
+        };
+        self.queue.reserve(room)?;
+        self.left.reserve(1)
+    }
+
+    /// Lets the first of those that were born enter.
+    fn admit_one(&mut self, desk: &Desk)
+        ensures admits { AdmitsFirst (lives desk.now.shard) self.old self.new }
+        ensures knows { KnowsDesk self.old desk.now.shard → KnowsDesk self.new desk.now.shard }
+        ensures room { HasRoom self.old → HasRoom self.new }
+    {
+        if self.make_room().is_err() {
+            self.refused = true;
+            return;
+        }
+        let Some(newborn) = self.births.take_first() else {
+            return;
+        };
+        if !desk.alive_here(newborn.pid) {
+            self.left.push_reserved(newborn);
+            return;
+        }
+        self.take_in(newborn);
+    }
+
+    /// One who was born enters.
+    fn take_in(&mut self, newborn: Role<B>)
+        requires { CanEnter self.old }
+        ensures does { AreWith newborn.pid (Some (newborn.behaviour, newborn.next)) (roles self.old)
+            (roles self.new) }
+        ensures longer { IsLonger (queue self.old) (queue self.new) }
+        ensures rest { KeepsRest self.old self.new }
+        ensures knows { (d : ShardState) → is_unborn (phase_of d newborn.pid) ≡ false → KnowsDesk self.old d
+            → KnowsDesk self.new d }
+        ensures room { HasRoom self.old → HasRoom self.new }
+    {
+        let Role {
+            pid,
+            behaviour,
+            next,
+        } = newborn;
+        let member = Member {
+            behaviour,
+            next,
+            queued: true,
+        };
+        let stands = self.stands(pid);
+        if self.members.insert(pid, member).is_err() {
+            return;
+        }
+        if !stands {
+            self.queue.push_back_reserved(pid);
+        }
+    }
+
+    /// Whether p is of the crew and stands in the queue.
+    fn stands(&self, p: Pid) -> bool
+        ensures { result ≡ is_marked (members self.now p) }
+    {
+        match self.members.get(&p) {
+            Some(member) => member.queued,
+            None => false,
+        }
+    }
+
+    /// Lets those that were born enter, as far as there is memory.
+    fn admit(&mut self, desk: &Desk)
+        ensures admits { Admits (lives desk.now.shard) self.old self.new }
+        ensures knows { KnowsDesk self.old desk.now.shard → KnowsDesk self.new desk.now.shard }
+        ensures room { HasRoom self.old → HasRoom self.new }
+    {
+        for _place in 0..self.births.len() {
+            self.admit_one(desk);
+        }
+    }
+
     /// Sees to the first of the queue.
     fn serve(&mut self, desk: &mut Desk)
-        ensures serves { Serves B.answers (queue self.old) (roles self.old) desk.old.shard (queue self.new)
-            (roles self.new) desk.new.shard }
+        ensures serves { Serves B.answers (queue self.old) self.old desk.old.shard self.new desk.new.shard }
         ensures knows { KnowsDesk self.old desk.old.shard → KnowsDesk self.new desk.new.shard }
         ensures room { HasRoom self.old → HasRoom self.new }
+        ensures same { self.new.rounds ≡ self.old.rounds }
         ensures goes_on { GoesOn desk.old desk.new }
     {
         let Some(p) = self.queue.pop_front() else {
@@ -203,25 +389,47 @@ impl<B: Behaviour + Drop> Crew<B> {
         let Some(place) = self.members.get_index_of(&p) else {
             return;
         };
+        if self.left.reserve(1).is_err() {
+            self.refused = true;
+            self.queue.push_back_reserved(p);
+            return;
+        }
         let (_, member) = self.members.pair_mut(place);
-        match tend(member, desk, p) {
+        match tend(member, &mut self.births, desk, p) {
             Tended::Idle => member.queued = false,
             Tended::Again => {
                 member.queued = true;
                 self.queue.push_back_reserved(p);
             }
+            Tended::Refused => {
+                member.queued = true;
+                self.refused = true;
+                self.queue.push_back_reserved(p);
+            }
             Tended::Gone => {
-                let _ = self.members.shift_remove(&p);
+                if let Some(member) = self.members.shift_remove(&p) {
+                    let Member {
+                        behaviour,
+                        next,
+                        ..
+                    } = member;
+                    self.left.push_reserved(Role {
+                        pid: p,
+                        behaviour,
+                        next,
+                    });
+                }
             }
         }
     }
 
     /// Sees to each that stands in the queue now.
     fn round(&mut self, desk: &mut Desk)
-        ensures visits { Visits B.answers (queue self.old) (roles self.old) desk.old.shard
-            (roles self.new) desk.new.shard }
+        ensures visits { Visits B.answers (queue self.old) (scene [] self.old desk.old.shard)
+            (scene (queue self.new) self.new desk.new.shard) }
         ensures knows { KnowsDesk self.old desk.old.shard → KnowsDesk self.new desk.new.shard }
         ensures room { HasRoom self.old → HasRoom self.new }
+        ensures same { self.new.rounds ≡ self.old.rounds }
         ensures goes_on { GoesOn desk.old desk.new }
     {
         for _place in 0..self.queue.len() {
@@ -231,10 +439,17 @@ impl<B: Behaviour + Drop> Crew<B> {
 }
 
 /// Lets a process end, where it is to, or hands it the first item that fits.
-#[tactic(auto, using(pt_desk::proofs::Turning::goes_on_then))]
-fn tend<B: Behaviour>(member: &mut Member<B>, desk: &mut Desk, p: Pid) -> Tended
-    ensures sees { SeesTo B.answers p member.old.behaviour member.old.next desk.old.shard
-        (left_as result member.new) desk.new.shard }
+#[tactic(auto, using(pt_desk::proofs::Turning::goes_on_then, crate::proofs::Takes::idle_is))]
+fn tend<B: Behaviour + Drop>(
+    member: &mut Member<B>,
+    births: &mut Births<B>,
+    desk: &mut Desk,
+    p: Pid,
+) -> Tended
+    ensures sees { SeesTo B.answers p member.old.behaviour member.old.next desk.old.shard result
+        (kept_as result member.new) desk.new.shard }
+    ensures role { result ≡ Tended.Gone → member.new ≡ member.old }
+    ensures bears { Bears result (born births.old) (born births.new) }
     ensures tends { Tends p result member.new desk.new.shard }
     ensures goes_on { GoesOn desk.old desk.new }
 {
@@ -242,18 +457,42 @@ fn tend<B: Behaviour>(member: &mut Member<B>, desk: &mut Desk, p: Pid) -> Tended
         Next::Stop(reason) => match desk.exit(p, reason) {
             Ok(()) => Tended::Gone,
             Err(Fault::Gone) => Tended::Gone,
-            Err(_) => Tended::Again,
+            Err(_) => Tended::Refused,
         },
+        Next::Proceed => {
+            if !desk.alive_here(p) {
+                return Tended::Gone;
+            }
+            hand(member, births, desk, p, None);
+            Tended::Again
+        }
         Next::Wait(pick) => match desk.receive(p, pick) {
             Ok(None) => Tended::Idle,
             Ok(Some(item)) => {
-                member.next = member.behaviour.handle(desk, p, item);
+                hand(member, births, desk, p, Some(item));
                 Tended::Again
             }
             Err(Fault::Gone) => Tended::Gone,
-            Err(_) => Tended::Again,
+            Err(_) => Tended::Refused,
         },
     }
+}
+
+/// Hands an item, or none, to the behaviour of a process, which says what it does next.
+fn hand<B: Behaviour + Drop>(
+    member: &mut Member<B>,
+    births: &mut Births<B>,
+    desk: &mut Desk,
+    p: Pid,
+    item: Option<Item>,
+)
+    ensures answers { B.answers member.old.behaviour p item member.new.next member.new.behaviour }
+    ensures bears { Bears Tended.Again (born births.old) (born births.new) }
+    ensures takes { takes desk.new.shard.journal ≡ takes desk.old.shard.journal }
+    ensures goes_on { GoesOn desk.old desk.new }
+{
+    births.begin();
+    member.next = member.behaviour.handle(desk, births, p, item);
 }
 
 impl<B: Behaviour + Drop> Work for Crew<B> {
@@ -262,11 +501,14 @@ impl<B: Behaviour + Drop> Work for Crew<B> {
     ghost does = { λ old d new e. CrewDoes B.answers old d.shard new e.shard };
 
     fn step(&mut self, desk: &mut Desk) {
+        self.left.clear();
+        self.refused = false;
         self.look(desk);
         self.round(desk);
-        for _ in 1..self.rounds {
+        for _round in 1..self.rounds {
             self.round(desk);
         }
+        self.admit(desk);
         self.look(desk);
     }
 }

@@ -5,9 +5,11 @@
 #![tactic(auto)]
 
 mod behaviour;
+mod births;
 mod calls;
 mod crew;
 
 pub use behaviour::{Behaviour, Next};
-pub use calls::{bear, bid_exit, join, tell, watch};
+pub use births::{Births, Role, bear};
+pub use calls::{bid_exit, join, part, tell, trap, unwatch, watch};
 pub use crew::Crew;

@@ -1,5 +1,5 @@
-use Rattle.std.proofs.Common.{arith}
-use Rattle.pt_crew.specs.Crews.{queue, roles}
+use Rattle.std.proofs.Common.{arith, refl, ◌∙◌}
+use Rattle.pt_crew.specs.Crews.{queue}
 use Rattle.pt_crew.proofs.Visiting.{none_so_far, one_more, all_so_far}
 use Rattle.pt_desk.proofs.Turning.{goes_on_then}
 use Rattle.pt_node.proofs.GoingOn.{stays}
@@ -7,9 +7,10 @@ use Rattle.pt_crew.proofs.crew.Crew.round.Goals as goal
 
 pub loop-place-init : goal.loop-place-init
 loop-place-init g c = record {
-  so_far = none_so_far g.B.Behaviour.answers (queue c.args.self.now) (roles c.args.self.now) c.args.desk.now.shard;
+  so_far = none_so_far g.B.Behaviour.answers c.args.self.now c.args.desk.now.shard;
   knows = λ k. k;
   room = λ r. r;
+  same = refl;
   goes_on = stays c.args.desk.now;
 }
 
@@ -18,15 +19,16 @@ loop-place-preserved g c =
     let inv = c.loop-place.invariant in
     let len = c.len-place-end.ensures in
     record {
-      so_far = one_more g.B.Behaviour.answers (queue c.args.self.now) c.loop-place._place (roles c.args.self.now) (roles c.loop-place.self) (roles c.serve.new.self) c.args.desk.now.shard c.loop-place.desk.shard c.serve.new.desk.shard
-          (queue c.loop-place.self) (queue c.serve.new.self) (omega (arith, c.loop-place-test.true, len)) inv.so_far c.serve.ensures.serves;
+      so_far = one_more g.B.Behaviour.answers (queue c.args.self.now) c.loop-place._place c.args.self.now c.loop-place.self c.serve.new.self c.args.desk.now.shard c.loop-place.desk.shard c.serve.new.desk.shard
+          (omega (arith, c.loop-place-test.true, len)) inv.so_far c.serve.ensures.serves;
       knows = λ k. c.serve.ensures.knows (inv.knows k);
       room = λ r. c.serve.ensures.room (inv.room r);
+      same = c.serve.ensures.same ∙ inv.same;
       goes_on = goes_on_then c.args.desk.now c.loop-place.desk c.serve.new.desk inv.goes_on c.serve.ensures.goes_on;
     }
 
 pub returns-clause-visits : goal.returns-clause-visits
 returns-clause-visits g c =
     let len = c.len-place-end.ensures in
-    all_so_far g.B.Behaviour.answers (queue c.args.self.now) c.loop-place._place (roles c.args.self.now) (roles c.loop-place.self) c.args.desk.now.shard c.loop-place.desk.shard (queue c.loop-place.self)
+    all_so_far g.B.Behaviour.answers (queue c.args.self.now) c.loop-place._place c.args.self.now c.loop-place.self c.args.desk.now.shard c.loop-place.desk.shard
     (omega (arith, c.loop-place-test.false, len)) c.loop-place.invariant.so_far

@@ -1,12 +1,14 @@
+use Rattle.std.proofs.Common.{◌≡◌}
 use Rattle.pt_desk.specs.DeskState.{GoesOn}
-use Rattle.pt_crew.specs.Crews.{KnowsDesk, HasRoom, queue, roles}
+use Rattle.pt_crew.specs.Crews.{KnowsDesk, HasRoom, queue}
 use Rattle.pt_crew.proofs.Visiting.{SoFar}
 use Rattle.pt_crew.proofs.crew.Crew.round.Given as goal
 
 abbrev pub invariant-loop-place : goal.invariant-loop-place
 invariant-loop-place g l = record {
-  so_far : SoFar g.B.Behaviour.answers (queue l.fn.self) l._place (roles l.fn.self) l.fn.desk.shard (queue l.self) (roles l.self) l.desk.shard;
+  so_far : SoFar g.B.Behaviour.answers (queue l.fn.self) l._place l.fn.self l.fn.desk.shard l.self l.desk.shard;
   knows : KnowsDesk l.fn.self l.fn.desk.shard → KnowsDesk l.self l.desk.shard;
   room : HasRoom l.fn.self → HasRoom l.self;
+  same : l.self.rounds ≡ l.fn.self.rounds;
   goes_on : GoesOn l.fn.desk l.desk;
 }

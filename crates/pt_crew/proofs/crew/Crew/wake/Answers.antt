@@ -1,10 +1,10 @@
-use Rattle.std.proofs.Common.{◌≡◌, List, [], ◌∷◌, ◌++◌, Bool, true, cond, ap, sym, subst, refl, ◌∙◌, append-nil, arith}
+use Rattle.std.proofs.Common.{◌≡◌, List, [], ◌∷◌, ◌++◌, Bool, true, cond, ap, sym, refl, ◌∙◌, append-nil, arith}
 use Rattle.pt_signal.specs.declared.pid.Pid.{Pid}
-use Rattle.pt_crew.specs.Waking.{in_queue}
-use Rattle.pt_crew.proofs.Waking.{woken, pushed, kept_in, same_back}
+use Rattle.pt_crew.proofs.Waking.{woken, same_back, same_queue, same_some, woken_queue}
 use Rattle.pt_crew.proofs.Room.{unmarked_set, bare, on_err}
 use Rattle.pt_crew.specs.Crews.{members}
 use Rattle.pt_crew.proofs.Places.{held_at, written_at}
+use Rattle.pt_crew.proofs.Beginning.{keys_set}
 use Rattle.pt_crew.proofs.crew.Crew.wake.Goals as goal
 
 pub returns-then-member-clause-wakes : goal.returns-then-member-clause-wakes
@@ -12,16 +12,16 @@ returns-then-member-clause-wakes g c =
     let m = c.args.self.now.members in
     let p = c.args.p in
     let i = c.in-Some.place in
-    let k = c.pair_mut-member.result.0.now in
+    let k0 = c.pair_mut-member.result.0.now in
     let v = c.pair_mut-member.result.1.now in
     let at = c.pair_mut-member.ensures.value in
     let unique = c.pair_mut-member.ensures.unique in
-    let held = held_at m p i k v c.in-Some.ensures.index at unique in
-    woken p c.args.self.now _ v v held (written_at m p i k v c.in-Some.ensures.index at unique v).0 c.if-member.true refl refl
-    (λ listed. listed p v held c.if-member.true)
-    (λ q h. h)
+    let held = held_at m p i k0 v c.in-Some.ensures.index at unique in
+    woken p c.args.self.now _ v v held (written_at m p i k0 v c.in-Some.ensures.index at unique v).0 c.if-member.true refl refl
+    (λ k. same_queue (members c.args.self.now) _ c.args.self.now.queue.items _ (λ q. (written_at m p i k0 v c.in-Some.ensures.index at unique v).0 q ∙ same_back (members c.args.self.now) p v held q) refl k)
     ([], sym (append-nil c.args.self.now.queue.items))
     refl
+    (record { waiting = refl; left = refl; refused = refl; rounds = refl })
 
 pub returns-then-member-clause-room : goal.returns-then-member-clause-room
 returns-then-member-clause-room g c =
@@ -43,6 +43,7 @@ returns-in_err-reserve-clause-refused g c =
       members = λ q. (written_at m p i k v c.in-Some.ensures.index at unique v).0 q ∙ same_back (members c.args.self.now) p v held q;
       queue = c.reserve.ensures.items;
       read = refl;
+      rest = record { waiting = refl; left = refl; refused = refl; rounds = refl };
     })
 
 pub returns-in_err-reserve-clause-room : goal.returns-in_err-reserve-clause-room
@@ -76,8 +77,18 @@ returns-clause-wakes g c =
     let held = held_at m p i k v c.in-Some.ensures.index at unique in
     let w = record v { queued = true } in
     let items = c.push_back_reserved.ensures.items ∙ ap (λ (ps : List Pid). ps ++ p ∷ []) c.reserve.ensures.items in
-    woken p c.args.self.now _ v w held (written_at m p i k v c.in-Some.ensures.index at unique w).0 refl refl refl
-    (λ listed. subst (λ (q : List Pid). in_queue p q ≡ true) (sym items) (pushed p c.args.self.now.queue.items))
-    (λ q h. subst (λ (ps : List Pid). in_queue q ps ≡ true) (sym items) (kept_in q p c.args.self.now.queue.items h))
+    let at2 = (written_at m p i k v c.in-Some.ensures.index at unique w).0 in
+    woken p c.args.self.now _ v w held at2 refl refl refl
+    (λ k. woken_queue (members c.args.self.now) _ p w c.args.self.now.queue.items _ (λ m2 is. ap (λ (x : _). x.queued) (sym (same_some v m2 (sym held ∙ is))) ∙ c.if-member.false) at2 refl items k)
     (p ∷ [], items)
     refl
+    (record { waiting = refl; left = refl; refused = refl; rounds = refl })
+
+pub returns-then-member-clause-keys : goal.returns-then-member-clause-keys
+returns-then-member-clause-keys g c = keys_set c.args.self.now.members.entries c.in-Some.place c.pair_mut-member.result.1.now
+
+pub returns-in_err-reserve-clause-keys : goal.returns-in_err-reserve-clause-keys
+returns-in_err-reserve-clause-keys g c = keys_set c.args.self.now.members.entries c.in-Some.place c.pair_mut-member.result.1.now
+
+pub returns-clause-keys : goal.returns-clause-keys
+returns-clause-keys g c = keys_set c.args.self.now.members.entries c.in-Some.place (record c.pair_mut-member.result.1.now { queued = true })

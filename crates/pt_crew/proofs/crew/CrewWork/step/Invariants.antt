@@ -1,10 +1,15 @@
+use Rattle.std.proofs.Common.{◌≤◌}
+use Rattle.std.specs.Prelude.{max}
 use Rattle.pt_desk.specs.DeskState.{GoesOn}
-use Rattle.pt_crew.specs.Crews.{KnowsDesk, HasRoom, VisitsAll, queue, roles}
+use Rattle.pt_crew.specs.Crews.{KnowsDesk, HasRoom}
+use Rattle.pt_crew.proofs.Visiting.{Stepping}
 use Rattle.pt_crew.proofs.crew.CrewWork.step.Given as goal
 
-abbrev pub invariant-loop : goal.invariant-loop
-invariant-loop g l = record {
-  visits : VisitsAll g.B.Behaviour.answers (queue l.fn.self) (roles l.fn.self) l.fn.desk.shard (roles l.self) l.desk.shard;
+abbrev pub invariant-loop-round : goal.invariant-loop-round
+invariant-loop-round g l = record {
+  so_far : Stepping g.B.Behaviour.answers l._round l.fn.self l.fn.desk.shard l.self l.desk.shard;
+  low : 1 ≤ l._round;
+  high : l._round ≤ max 1 l.fn.self.rounds;
   knows : KnowsDesk l.fn.self l.fn.desk.shard → KnowsDesk l.self l.desk.shard;
   room : HasRoom l.fn.self → HasRoom l.self;
   goes_on : GoesOn l.fn.desk l.desk;

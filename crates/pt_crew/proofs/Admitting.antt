@@ -1,0 +1,51 @@
+-- One that was born enters.
+use Rattle.std.proofs.Common.{◌≡◌, inl, inr, Bool, true, false, List, [], ◌∷◌, ◌++◌, Some, refl, sym, ap, subst, ◌∙◌, append-nil}
+use Rattle.std.specs.Prelude.{MatchBool}
+use Rattle.pt_signal.specs.declared.pid.Pid.{Pid}
+use Rattle.pt_crew.specs.declared.crew.Crew.{Crew}
+use Rattle.pt_crew.specs.declared.births.Role.{Role}
+use Rattle.pt_crew.specs.Visiting.{AreSame, AreWith}
+use Rattle.pt_crew.specs.Crews.{roles, left, waiting, queue, IsSame, Aboard, EntersOne}
+use Rattle.pt_crew.specs.Parts.{aboard, AdmitsOf, AdmitsFirst, IsLonger}
+use Rattle.pt_crew.proofs.Visiting.{same_roles}
+
+module _ {B : Type 0} (lives : Pid → Bool) (old mid new : Crew B) (room : IsSame old mid) where
+  same_aboard : aboard mid ≡ aboard old
+  same_aboard i = ((λ q. same_roles old mid room q i), room.rest.left i)
+
+  longer_from : IsLonger (queue mid) (queue new) → IsLonger (queue old) (queue new)
+  longer_from l = (l.0, l.1 ∙ ap (λ (ps : List Pid). ps ++ l.0) room.queue)
+
+  pub denied : aboard new ≡ aboard mid → waiting new ≡ waiting mid → new.refused ≡ true → queue new ≡ queue mid → new.rounds ≡ mid.rounds → AdmitsFirst lives old new
+  denied same waits on stands rounds = record {
+    admits = inr (same ∙ same_aboard, waits ∙ room.rest.waiting, on);
+    longer = longer_from ([], stands ∙ sym (append-nil (queue mid)));
+    rounds = rounds ∙ room.rest.rounds;
+  }
+
+  pub nobody_waits : waiting mid ≡ [] → aboard new ≡ aboard mid → waiting new ≡ [] → new.refused ≡ mid.refused → queue new ≡ queue mid → new.rounds ≡ mid.rounds → AdmitsFirst lives old new
+  nobody_waits none same waits quiet stands rounds = record {
+    admits = inl (subst (λ (w : List (Role B)). AdmitsOf lives w old new) (sym (sym room.rest.waiting ∙ none)) (same ∙ same_aboard, waits, quiet ∙ room.rest.refused));
+    longer = longer_from ([], stands ∙ sym (append-nil (queue mid)));
+    rounds = rounds ∙ room.rest.rounds;
+  }
+
+  one_admitted : (r : Role B) → waiting mid ≡ r ∷ waiting new → EntersOne lives r (aboard mid) (aboard new) → new.refused ≡ mid.refused → IsLonger (queue mid) (queue new) → new.rounds ≡ mid.rounds → AdmitsFirst lives old new
+  one_admitted r first enters quiet longer rounds = record {
+    admits = inl (subst (λ (w : List (Role B)). AdmitsOf lives w old new) (sym (sym room.rest.waiting ∙ first))
+        (subst (λ (x : Aboard B). EntersOne lives r x (aboard new)) same_aboard enters, refl, quiet ∙ room.rest.refused));
+    longer = longer_from longer;
+    rounds = rounds ∙ room.rest.rounds;
+  }
+
+  pub leaves_at_once : (r : Role B) → waiting mid ≡ r ∷ waiting new → false ≡ lives r.pid → AreSame (roles mid) (roles new) → left new ≡ left mid ++ r ∷ [] → new.refused ≡ mid.refused → queue new ≡ queue mid → new.rounds ≡ mid.rounds → AdmitsFirst lives old new
+  leaves_at_once r first dead same gone quiet stands rounds =
+      one_admitted r first
+      (subst (λ (b : Bool). MatchBool b (AreWith r.pid (Some (r.behaviour, r.next)) (roles mid) (roles new) × (left new ≡ left mid)) (AreSame (roles mid) (roles new) × (left new ≡ left mid ++ r ∷ []))) dead (same, gone))
+      quiet ([], stands ∙ sym (append-nil (queue mid))) rounds
+
+  pub enters_alive : (r : Role B) → waiting mid ≡ r ∷ waiting new → true ≡ lives r.pid → AreWith r.pid (Some (r.behaviour, r.next)) (roles mid) (roles new) → left new ≡ left mid → new.refused ≡ mid.refused → IsLonger (queue mid) (queue new) → new.rounds ≡ mid.rounds → AdmitsFirst lives old new
+  enters_alive r first alive with_r stays quiet longer rounds =
+      one_admitted r first
+      (subst (λ (b : Bool). MatchBool b (AreWith r.pid (Some (r.behaviour, r.next)) (roles mid) (roles new) × (left new ≡ left mid)) (AreSame (roles mid) (roles new) × (left new ≡ left mid ++ r ∷ []))) alive (with_r, stays))
+      quiet longer rounds

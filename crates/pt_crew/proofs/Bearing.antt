@@ -1,0 +1,27 @@
+-- Those that waited before still do, in front.
+use Rattle.std.proofs.Common.{◌≡◌, ℕ, ◌+◌, ◌-◌, List, [], ◌∷◌, ◌++◌, length, take, drop, sym, ap, ◌∙◌, length-append, take-append-drop, arith}
+use Rattle.std.proofs.lemmas.List.{take-append-le}
+use Rattle.pt_crew.specs.declared.births.Births.{Births}
+use Rattle.pt_crew.specs.declared.births.Role.{Role}
+use Rattle.pt_node.proofs.GoingOn.{stays}
+use Rattle.pt_crew.specs.Births.{born, kept}
+use Rattle.pt_crew.proofs.Takes.{bore_takes}
+
+taken_off : {X : Type 0} (xs : List X) (x : X) (n m : ℕ) → m ≡ n + 1 → take (length (xs ++ x ∷ []) - m) (xs ++ x ∷ []) ≡ take (length xs - n) xs
+taken_off xs x n m is =
+    let l = length-append xs (x ∷ []) in
+    let same : length (xs ++ x ∷ []) - m ≡ length xs - n = omega (arith, l, is) in
+    ap (λ k. take k (xs ++ x ∷ [])) same ∙ take-append-le (length xs - n) xs (x ∷ []) (omega arith)
+
+-- one more is born
+pub kept_more : {B : Type 0} (old new : Births B) (r : Role B) → born new ≡ born old ++ r ∷ [] → new.fresh ≡ old.fresh + 1 → kept new ≡ kept old
+kept_more old new r is fresh =
+    ap (λ (xs : List (Role _)). take (length xs - new.fresh) xs) is ∙ taken_off (born old) r old.fresh new.fresh fresh
+
+-- so what a behaviour leaves begins with what was there
+pub grown : {B : Type 0} (old mid new : Births B) → kept mid ≡ born old → kept new ≡ kept mid → (bore : List (Role B)) × (born new ≡ born old ++ bore)
+grown old mid new all same =
+    (drop (length (born new) - new.fresh) (born new), sym (take-append-drop (length (born new) - new.fresh) (born new)) ∙ ap (λ xs. xs ++ drop (length (born new) - new.fresh) (born new)) (same ∙ all))
+
+-- for the call that bears a child
+pub ruleset bearing = (bore_takes, kept_more, stays)

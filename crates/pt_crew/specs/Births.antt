@@ -1,0 +1,27 @@
+-- The children that a behaviour bears.
+use Rattle.std.specs.Prelude.{◌≡◌, ◌⊎◌, ◌-◌, Bool, List, [], ◌∷◌, ◌++◌, length, take, Result, Ok, Err}
+use Rattle.pt_signal.specs.declared.pid.Pid.{Pid}
+use Rattle.pt_shard.specs.declared.fault.Fault.{Fault}
+use Rattle.pt_shard.specs.declared.fault.Fault.TheVariants.{Memory}
+use Rattle.pt_shard.specs.ShardState.{ShardState}
+use Rattle.pt_shard.specs.Calls.{BearsChild}
+use Rattle.pt_crew.specs.declared.behaviour.Next.{Next}
+use Rattle.pt_crew.specs.declared.births.Role.{Role}
+use Rattle.pt_crew.specs.declared.births.Births.{Births}
+
+-- those that were born and wait to enter their crew, the first in front
+abbrev pub born : {B : Type 0} → Births B → List (Role B)
+born b = b.list.items
+
+-- those of them that waited before a behaviour was handed its item
+abbrev pub kept : {B : Type 0} → Births B → List (Role B)
+kept b = take (length b.list.items - b.fresh) b.list.items
+
+-- a child is born, and waits behind those who wait; or nothing has changed, where the desk refused the birth or there
+-- was no memory
+abbrev pub Bore : {B : Type 0} → Pid → Bool → B → Next → ShardState → List (Role B) → Result Pid Fault → ShardState
+    → List (Role B) → Type 0
+Bore me linked b first d wait (Ok p) e waiting =
+    BearsChild me linked d (Ok p) e × (waiting ≡ wait ++ record { pid = p; behaviour = b; next = first } ∷ [])
+Bore me linked b first d wait (Err f) e waiting =
+    (BearsChild me linked d (Err f) e ⊎ ((f ≡ Memory) × (e ≡ d))) × (waiting ≡ wait)

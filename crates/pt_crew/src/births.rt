@@ -1,0 +1,96 @@
+//! The children that behaviours bear.
+
+ghost use Rattle.std.specs.Prelude.{◌≡◌, [], ◌∷◌, length, MatchOption};
+ghost use Rattle.pt_desk.specs.DeskState.{GoesOn};
+ghost use Rattle.pt_crew.specs.Births.{Bore, born, kept};
+ghost use Rattle.pt_crew.specs.Visiting.{takes};
+
+use crate::behaviour::Next;
+use pt_node::{Desk, Fault, Pid};
+use std::alloc::Global;
+use std::collections::VecDeque;
+
+/// A process with its behaviour, and what it does next.
+#[derive(Drop)]
+pub struct Role<B> {
+    pub pid: Pid,
+    pub behaviour: B,
+    pub next: Next,
+}
+
+/// Children that were born with a behaviour, and wait to enter their crew, the first in front.
+#[derive(Drop)]
+pub struct Births<B> {
+    list: VecDeque<Role<B>>,
+    /// How many of them, the last, were born since a behaviour was handed its item.
+    fresh: usize,
+}
+
+impl<B: Drop> Births<B> {
+    /// None yet.
+    pub fn new(alloc: Global) -> Births<B>
+        ensures { born result ≡ [] }
+    {
+        Births {
+            list: VecDeque::new(alloc),
+            fresh: 0,
+        }
+    }
+
+    /// How many wait.
+    pub fn len(&self) -> usize
+        ensures { result ≡ length (born self.now) }
+    {
+        self.list.len()
+    }
+
+    /// Those who wait now are not of the behaviour that is handed an item next.
+    pub(crate) fn begin(&mut self)
+        ensures same { born self.new ≡ born self.old }
+        ensures all { kept self.new ≡ born self.old }
+    {
+        self.fresh = 0;
+    }
+
+    /// Takes the first of those that wait.
+    pub(crate) fn take_first(&mut self) -> Option<Role<B>>
+        ensures { MatchOption result ((born self.old ≡ []) × (born self.new ≡ []))
+            (λ r. born self.old ≡ r ∷ born self.new) }
+    {
+        self.list.pop_front()
+    }
+}
+
+/// Bears a process on its own desk, linked with it where that is asked, which has this behaviour and does this first
+/// (`spawn`, `spawn_link`).
+///
+/// The child enters the crew as the step ends. It is refused as [`Desk::spawn_child`] is, and for want of memory here;
+/// nothing has changed then.
+#[tactic(auto, using(crate::proofs::Bearing::bearing))]
+pub fn bear<B: Drop>(
+    desk: &mut Desk,
+    births: &mut Births<B>,
+    me: Pid,
+    linked: bool,
+    behaviour: B,
+    first: Next,
+) -> Result<Pid, Fault>
+    ensures does { Bore me linked behaviour first desk.old.shard (born births.old) result desk.new.shard
+        (born births.new) }
+    ensures takes { takes desk.new.shard.journal ≡ takes desk.old.shard.journal }
+    ensures kept { kept births.new ≡ kept births.old }
+    ensures goes_on { GoesOn desk.old desk.new }
+{
+    let Some(fresh) = births.fresh.checked_add(1) else {
+        return Err(Fault::Memory);
+    };
+    births.list.reserve(1)?;
+    let pid = desk.spawn_child(me, linked)?;
+    births.list.push_back_reserved(Role {
+        pid,
+        behaviour,
+        next: first,
+    });
+    births.fresh = fresh;
+    Ok(pid)
+}

@@ -1,0 +1,14 @@
+use Rattle.std.proofs.Common.{◌≡◌}
+use Rattle.rtrb.specs.Ring.{received}
+use Rattle.pt_desk.specs.DeskState.{GoesOn}
+use Rattle.pt_resting.proofs.Bringing.{SoFar}
+use Rattle.pt_resting.proofs.door.Porter.bring.Given as goal
+
+abbrev pub invariant-loop-place : goal.invariant-loop-place
+invariant-loop-place g l = record {
+  so_far : SoFar l.fn.self.me (received l.fn.self.ring) l.fn.desk (received l.self.ring) l.desk;
+  me : l.fn.self.me ≡ l.self.me;
+  most : l.fn.self.most ≡ l.self.most;
+  work : l.fn.self.work ≡ l.self.work;
+  goes_on : GoesOn l.fn.desk l.desk;
+}

@@ -1,0 +1,52 @@
+-- What a porter does with what came in at its door.
+use Rattle.std.specs.Prelude.{◌≡◌, ◌⊎◌, ⊤, Bool, true, false, List, [], ◌∷◌, ◌++◌, Some, Result, Ok, Err}
+use Rattle.pt_signal.specs.declared.pid.Pid.{Pid}
+use Rattle.pt_signal.specs.declared.signal.Signal.TheVariants.{Message}
+use Rattle.pt_events.specs.declared.event.Event.TheVariants.{Said}
+use Rattle.pt_shard.specs.declared.fault.Fault.{Fault}
+use Rattle.pt_shard.specs.declared.fault.Fault.TheVariants.{NoProc}
+use Rattle.pt_shard.specs.Known.{knows}
+use Rattle.pt_shard.specs.ShardState.{lives}
+use Rattle.pt_shard.specs.Calls.{Calls}
+use Rattle.pt_desk.specs.DeskState.{DeskState}
+use Rattle.pt_desk.specs.Reaching.{Reaches}
+use Rattle.pt_crew.specs.Telling.{IfKnown}
+use Rattle.pt_resting.specs.declared.door.Post.{Post}
+
+-- the desk was asked to send the message of `me`, and answered so
+abbrev pub Tells : Pid → Post → DeskState → Result ⊤ Fault → DeskState → Type 0
+Tells me post d answer e =
+    IfKnown (knows d.shard post.to)
+    (Reaches (lives d.shard me) me post.to
+    (Calls me (Some (Said me post.to (Message post.body))) tt d.shard answer e.shard) d answer e)
+    d answer e
+
+-- it was sent, or its receiver is seen to have ended, or not known
+abbrev pub IsDone : Result ⊤ Fault → Type 0
+IsDone answer = (answer ≡ Ok tt) ⊎ (answer ≡ Err NoProc)
+
+-- these were sent on, in order
+abbrev pub SendsOn : Pid → List Post → DeskState → DeskState → Type 0
+SendsOn me [] d e = e ≡ d
+SendsOn me (post ∷ posts) d e =
+    (mid : DeskState) × (answer : Result ⊤ Fault) × Tells me post d answer mid × IsDone answer × SendsOn me posts mid e
+
+-- nothing was sent on: none waited, or the desk refused it for another cause, and it stays
+abbrev pub Keeps : Pid → DeskState → DeskState → Type 0
+Keeps me d e =
+    (e ≡ d) ⊎ ((post : Post) × (answer : Result ⊤ Fault) × Tells me post d answer e × (IsDone answer → ⊥))
+
+-- the first that waits is taken out and sent on, or stays; of what was taken out before and after
+abbrev pub BringsFirst : Pid → List Post → DeskState → Bool → List Post → DeskState → Type 0
+BringsFirst me before d true after e =
+    (post : Post) × (after ≡ before ++ post ∷ []) × SendsOn me (post ∷ []) d e
+BringsFirst me before d false after e = (after ≡ before) × Keeps me d e
+
+-- What was taken out of the way in, in its order, was sent on, each once, and nothing else was; what is refused for
+-- want of memory or stamps, or since `me` has ended, stays in front of what waits.
+pub record Brings (me : Pid) (before : List Post) (d : DeskState) (after : List Post) (e : DeskState) : Type 0 where
+  pub posts : List Post
+  pub taken : after ≡ before ++ posts
+  pub mid : DeskState
+  pub sends : SendsOn me posts d mid
+  pub keeps : Keeps me mid e

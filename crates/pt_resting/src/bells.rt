@@ -1,0 +1,132 @@
+//! What the workers of a node share, to wake one another.
+
+ghost use Rattle.std.specs.Prelude.{◌≡◌, OnOk};
+
+use std::alloc::{AllocError, Global};
+use std::sync::Wait;
+use std::sync::atomic::{AtomicU64, Ordering};
+use std::time::Duration;
+
+/// What stands at one desk.
+#[derive(Drop)]
+struct Bell {
+    /// How often it was rung; only its lower half is looked at.
+    rings: AtomicU64,
+    /// How often it had been rung before the turn that began last, and before the one before that.
+    heard: AtomicU64,
+    heard_before: AtomicU64,
+    /// Whether the worker found nothing to do in its last step.
+    idle: AtomicU64,
+    /// Whether the worker rests, or is about to.
+    rests: AtomicU64,
+    /// To which desks its next turn may post, a bit for each.
+    posts: AtomicU64,
+}
+
+/// The bells of a node, one at each desk, and whether its workers are to stop.
+///
+/// All workers of the node, and threads beside them, share one value of it. What is told here wakes workers and nothing
+/// else: a node does the same whether it was told or not.
+#[derive(Drop)]
+pub struct Bells {
+    bells: Vec<Bell>,
+    stopped: AtomicU64,
+}
+
+/// The lower half of a count, which a sleeper can compare.
+fn low(count: u64) -> u32 {
+    (count & 0xffff_ffff) as u32
+}
+
+impl Bells {
+    /// The bells of so many desks, none of them rung. Refused where there is no memory.
+    pub fn new(alloc: Global, desks: u8) -> Result<Bells, AllocError> {
+        let mut bells = Vec::new(alloc);
+        for _desk in 0..desks {
+            bells.push(Bell {
+                rings: AtomicU64::new(0),
+                heard: AtomicU64::new(0),
+                heard_before: AtomicU64::new(0),
+                idle: AtomicU64::new(0),
+                rests: AtomicU64::new(0),
+                posts: AtomicU64::new(0),
+            })?;
+        }
+        Ok(Bells {
+            bells,
+            stopped: AtomicU64::new(0),
+        })
+    }
+
+    /// Rings at that desk, so that its worker does not rest on, nor begins to; nothing where there is no such desk.
+    pub fn ring(&self, desk: u8) {
+        let Some(bell) = self.bells.get(desk as usize) else {
+            return;
+        };
+        bell.rings.fetch_add(1, Ordering::SeqCst);
+        if bell.rests.load(Ordering::SeqCst) != 0 {
+            bell.rings.wake_all();
+        }
+    }
+
+    /// Rings at all desks.
+    pub fn ring_all(&self) {
+        for desk in 0..64 {
+            self.ring(desk);
+        }
+    }
+
+    /// Has all workers whose gate has these bells end before their next turn: from a worker, or from outside.
+    pub fn stop(&self) {
+        self.stopped.store(1, Ordering::SeqCst);
+        self.ring_all();
+    }
+
+    /// Whether the workers are to end.
+    pub fn is_stopped(&self) -> bool {
+        self.stopped.load(Ordering::SeqCst) != 0
+    }
+
+    /// Notes what a step of that desk left: whether there is nothing to do, and to which desks the next turn may post.
+    pub(crate) fn tell(&self, desk: u8, idle: bool, posts: u64) {
+        let Some(bell) = self.bells.get(desk as usize) else {
+            return;
+        };
+        bell.idle.store(if idle { 1 } else { 0 }, Ordering::SeqCst);
+        bell.posts.store(posts, Ordering::SeqCst);
+    }
+
+    /// Rings at each desk to which the turn that was just done may have posted.
+    pub(crate) fn ring_posted(&self, desk: u8) {
+        let Some(bell) = self.bells.get(desk as usize) else {
+            return;
+        };
+        let posts = bell.posts.load(Ordering::SeqCst);
+        for other in 0..64 {
+            if other != desk && (posts >> other) & 1 == 1 {
+                self.ring(other);
+            }
+        }
+    }
+
+    /// Rests where that desk has nothing to do and was not rung since before its last turn but one, for no longer than
+    /// the longest rest; then it notes how often it was rung.
+    ///
+    /// That nothing is to do was found in the last step, so of the turn before it. Whoever posted since then rings
+    /// after it has posted: so whatever has come and was not seen has rung, or will.
+    pub(crate) fn rest<R: Wait>(&self, rt: &R, desk: u8, longest: Duration) {
+        let Some(bell) = self.bells.get(desk as usize) else {
+            return;
+        };
+        if bell.idle.load(Ordering::SeqCst) != 0 && !self.is_stopped() {
+            bell.rests.store(1, Ordering::SeqCst);
+            let seen = low(bell.heard_before.load(Ordering::SeqCst));
+            bell.rings.park_timeout(rt, seen, longest);
+            bell.rests.store(0, Ordering::SeqCst);
+        }
+        let heard = bell.heard.load(Ordering::SeqCst);
+        bell.heard_before.store(heard, Ordering::SeqCst);
+        let rings = bell.rings.load(Ordering::SeqCst);
+        bell.heard.store(rings, Ordering::SeqCst);
+    }
+}

@@ -1,0 +1,164 @@
+//! The way in: messages from threads that have no desk.
+
+ghost use Rattle.std.specs.Prelude.{◌≡◌, [], ◌∷◌, ◌++◌, OnOk, IfOk, IfErr, false};
+ghost use Rattle.rtrb.specs.Ring.{IsPair, received, sent};
+ghost use Rattle.pt_desk.specs.DeskState.{DeskState, GoesOn};
+ghost use Rattle.pt_resting.specs.Bringing.{BringsFirst, Brings};
+
+use crate::bells::Bells;
+use crate::resting::Rests;
+use pt_crew::tell;
+use pt_node::{Body, Desk, Fault, Pid, Work};
+use rtrb::{Consumer, Producer, PushError, RingBuffer};
+use std::alloc::{AllocError, Global};
+
+/// A message from outside, to a process of any desk.
+#[derive(Clone, Copy, Debug, PartialEq, Eq)]
+pub struct Post {
+    pub to: Pid,
+    pub body: Body,
+}
+
+/// The end of a way in that a thread without a desk holds: a socket's reader, say, or a caller from C.
+#[derive(Drop)]
+pub struct Door<'a> {
+    ring: Producer<Post>,
+    bells: &'a Bells,
+    desk: u8,
+}
+
+impl<'a> Door<'a> {
+    /// Hands in a message, and rings at the desk. It is given back, and nothing has changed, exactly where as many wait
+    /// as the way in has places.
+    pub fn post(&mut self, post: Post) -> Result<(), Post>
+        ensures taken { OnOk result (sent self.new.ring ≡ sent self.old.ring ++ post ∷ []) }
+        ensures full { IfErr result (λ p. (p ≡ post) × (sent self.new.ring ≡ sent self.old.ring)) }
+    {
+        match self.ring.push(post) {
+            Ok(()) => {
+                self.bells.ring(self.desk);
+                Ok(())
+            }
+            Err(PushError::Full(post)) => Err(post),
+        }
+    }
+}
+
+/// The work of a desk that sends on what came in at a door, as a process of the desk, before it does the work that it
+/// was made with.
+///
+/// A message that it took out of the way in was sent, or its receiver was seen to have ended or is not known. Where the
+/// desk refuses it for want of memory or stamps, or since the process has ended, it stays where it is, in front of the
+/// others.
+#[derive(Drop)]
+pub struct Porter<W> {
+    ring: Consumer<Post>,
+    me: Pid,
+    most: u32,
+    /// Whether messages may have been left in the last step.
+    more: bool,
+    work: W,
+}
+
+/// A way in with so many places, for messages that the process `me` of that desk sends on, at most `most` in a step
+/// (0 is taken as 1); and the work of the desk with it. Refused where there is no memory.
+pub fn way_in<'a, W: Drop>(
+    alloc: Global,
+    bells: &'a Bells,
+    places: u32,
+    me: Pid,
+    most: u32,
+    work: W,
+) -> Result<(Door<'a>, Porter<W>), AllocError>
+    ensures { IfOk result (λ r. IsPair r.0.ring r.1.ring × (sent r.0.ring ≡ []) × (received r.1.ring ≡ [])
+        × (r.1.me ≡ me) × (r.1.work ≡ work)) }
+{
+    let (producer, consumer) = RingBuffer::new(alloc, places as usize)?;
+    let door = Door {
+        ring: producer,
+        bells,
+        desk: me.shard,
+    };
+    let porter = Porter {
+        ring: consumer,
+        me,
+        most: most.max(1),
+        more: false,
+        work,
+    };
+    Ok((door, porter))
+}
+
+impl<W> Porter<W> {
+    /// The work, to be read.
+    pub fn work(&self) -> &W
+        ensures { result.now ≡ self.now.work }
+    {
+        &self.work
+    }
+
+    /// The work, as it is now; what waits in the way in is given up.
+    pub fn into_work(self) -> W
+        ensures { result ≡ self.work }
+    {
+        let Porter { work, .. } = self;
+        work
+    }
+
+    /// Sends on the first message that waits, and whether it was taken out.
+    #[tactic(auto, using(pt_node::proofs::GoingOn::stays))]
+    fn bring_one(&mut self, desk: &mut Desk) -> bool
+        ensures brings { BringsFirst self.old.me (received self.old.ring) desk.old result (received self.new.ring)
+            desk.new }
+        ensures me { self.old.me ≡ self.new.me }
+        ensures most { self.old.most ≡ self.new.most }
+        ensures work { self.old.work ≡ self.new.work }
+        ensures goes_on { GoesOn desk.old desk.new }
+    {
+        self.more = self.ring.slots() > 0;
+        if !self.more {
+            return false;
+        }
+        let post = *self.ring.peek_known();
+        match tell(desk, self.me, post.to, post.body) {
+            Ok(()) | Err(Fault::NoProc) => {
+                let _ = self.ring.pop_known();
+                true
+            }
+            Err(_) => false,
+        }
+    }
+
+    /// Sends on as many as it may in a step.
+    #[tactic(auto, using(pt_node::proofs::GoingOn::stays, pt_desk::proofs::Turning::goes_on_then))]
+    fn bring(&mut self, desk: &mut Desk)
+        ensures brings { Brings self.old.me (received self.old.ring) desk.old (received self.new.ring) desk.new }
+        ensures me { self.old.me ≡ self.new.me }
+        ensures most { self.old.most ≡ self.new.most }
+        ensures work { self.old.work ≡ self.new.work }
+        ensures goes_on { GoesOn desk.old desk.new }
+    {
+        for _place in 0..self.most {
+            if !self.bring_one(desk) {
+                return;
+            }
+        }
+    }
+}
+
+impl<W: Work> Work for Porter<W> {
+    ghost does = { λ old d new e. (mid : DeskState) × Brings old.me (received old.ring) d (received new.ring) mid
+        × W.Work.does old.work mid new.work e };
+
+    #[tactic(auto, using(pt_node::proofs::GoingOn::stays, pt_desk::proofs::Turning::goes_on_then))]
+    fn step(&mut self, desk: &mut Desk) {
+        self.bring(desk);
+        self.work.step(desk);
+    }
+}
+
+impl<W: Rests> Rests for Porter<W> {
+    fn has_work(&self) -> bool {
+        self.more || self.work.has_work()
+    }
+}

@@ -1,0 +1,17 @@
+//! Where a node meets the threads of its program: desks that rest while nothing is to be done, and the way in for
+//! messages from threads that have no desk.
+//!
+//! [`Bells`] are what the workers of a node wake each other by. A [`RestGate`] lets the worker of a desk rest on which
+//! nothing is to be done, and lets every worker go on until [`Bells::stop`]; a [`Resting`] is the work that tells it.
+//! A [`Door`] takes messages from a thread without a desk; a [`Porter`] sends them on, as a process of its desk.
+#![tactic(auto)]
+
+mod bells;
+mod door;
+mod gate;
+mod resting;
+
+pub use bells::Bells;
+pub use door::{Door, Porter, Post, way_in};
+pub use gate::RestGate;
+pub use resting::{Resting, Rests};

@@ -1,0 +1,110 @@
+//! A work that tells its bells when there is nothing to do.
+
+ghost use Rattle.std.specs.Prelude.{◌≡◌, Bool};
+
+use crate::bells::Bells;
+use pt_crew::{Behaviour, Crew};
+use pt_node::{Desk, Event, Pid, Stamped, Work};
+
+/// A work that knows whether it has something to do by itself, though nothing comes to its desk.
+pub trait Rests: Work {
+    /// Whether its next step has something to do, as far as it knows.
+    fn has_work(&self) -> bool;
+}
+
+/// A crew has something to do while somebody stands in its queue, or waits to enter.
+impl<B: Behaviour + Drop> Rests for Crew<B> {
+    fn has_work(&self) -> bool {
+        self.queued() > 0 || self.waiting() > 0
+    }
+}
+
+/// A work whose desk rests while nothing is to be done on it: where its last turn handled nothing, its step wrote no
+/// event, no letter waits in its outbox or its hold, and the work has nothing to do by itself.
+///
+/// It does what the work does, and nothing else to the desk.
+#[derive(Drop)]
+pub struct Resting<'a, W> {
+    work: W,
+    bells: &'a Bells,
+    /// The desk's clock as the last step ended; none before the first.
+    clock: Option<u64>,
+    /// To which desks letters may wait in the outbox.
+    posts: u64,
+}
+
+impl<'a, W: Rests> Resting<'a, W> {
+    /// The work of a desk of the node whose bells these are.
+    pub fn new(work: W, bells: &'a Bells) -> Resting<'a, W>
+        ensures { result.work ≡ work }
+    {
+        Resting {
+            work,
+            bells,
+            clock: None,
+            posts: 0,
+        }
+    }
+
+    /// The work, to be read.
+    pub fn work(&self) -> &W
+        ensures { result.now ≡ self.now.work }
+    {
+        &self.work
+    }
+
+    /// The work, as it is now.
+    pub fn into_work(self) -> W
+        ensures { result ≡ self.entry.work }
+    {
+        let Resting { work, .. } = self;
+        work
+    }
+}
+
+/// The bit of a desk.
+fn bit(desk: u8) -> u64 {
+    if desk < 64 { 1 << desk } else { 0 }
+}
+
+/// To which desks an event may send letters: whoever has ended owes some to any.
+fn targets(desk: &Desk, event: &Event) -> u64 {
+    match event {
+        Event::Said(_, to, _) => bit(to.shard),
+        Event::Came(from, to, _) => {
+            if desk.alive_here(*to) {
+                bit(from.shard)
+            } else {
+                u64::MAX
+            }
+        }
+        Event::Left(_, _) => u64::MAX,
+        _ => 0,
+    }
+}
+
+/// To which desks these events may send letters.
+fn targets_of(desk: &Desk, events: &[Stamped]) -> u64 {
+    let mut posts = 0;
+    for stamped in events {
+        posts |= targets(desk, &stamped.event);
+    }
+    posts
+}
+
+impl<'a, W: Rests> Work for Resting<'a, W> {
+    ghost does = { λ old d new e. W.Work.does old.work d new.work e };
+
+    fn step(&mut self, desk: &mut Desk) {
+        let before = desk.clock();
+        let quiet = self.clock == Some(before) && desk.pending() == 0;
+        let posted = if desk.pending() == 0 { 0 } else { self.posts };
+        let since = self.clock.unwrap_or(0);
+        self.work.step(desk);
+        let clock = desk.clock();
+        self.posts = posted | targets_of(desk, desk.journal().since(since));
+        let idle = quiet && clock == before && desk.pending() == 0 && !self.work.has_work();
+        self.bells.tell(desk.number(), idle, self.posts);
+        self.clock = Some(clock);
+    }
+}

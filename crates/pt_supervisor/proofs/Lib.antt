@@ -1,0 +1,3 @@
+pub mod Limiting
+pub mod Wanting
+pub mod Starting

@@ -1,0 +1,6 @@
+use Rattle.std.proofs.Common.{◌≡◌}
+use Rattle.pt_supervisor.specs.Children.{last_alive}
+use Rattle.pt_supervisor.proofs.children.last_alive.Given as goal
+
+abbrev pub invariant-loop-place : goal.invariant-loop-place
+invariant-loop-place l = l.last ≡ last_alive l.children l.first l.place

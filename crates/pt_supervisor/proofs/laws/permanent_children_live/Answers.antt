@@ -1,0 +1,10 @@
+use Rattle.std.proofs.lemmas.Option.{slice_get_within}
+use Rattle.pt_supervisor.proofs.Wanting.{heard_keeps, lives_when_wanted}
+use Rattle.pt_supervisor.proofs.laws.permanent_children_live.Goals as goal
+
+pub returns-clause-stays : goal.returns-clause-stays
+returns-clause-stays c = heard_keeps
+
+pub returns-clause-live : goal.returns-clause-live
+returns-clause-live c s waits k place child at is =
+    lives_when_wanted child (k place child at is) (waits.0 place child (slice_get_within s.children place child at) at)

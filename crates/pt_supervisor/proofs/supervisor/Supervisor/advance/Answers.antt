@@ -1,0 +1,21 @@
+use Rattle.std.proofs.Common.{◌≡◌, length, None, refl, sym, ap, ◌∙◌, arith}
+use Rattle.pt_supervisor.specs.Children.{last_alive}
+use Rattle.pt_supervisor.specs.Hearing.{Standing}
+use Rattle.pt_supervisor.proofs.Starting.{none_live}
+use Rattle.pt_supervisor.proofs.supervisor.Supervisor.advance.Goals as goal
+
+pub returns-in-Some-stopping-clause-supervises : goal.returns-in-Some-stopping-clause-supervises
+returns-in-Some-stopping-clause-supervises g c =
+    let s = c.args.self.now in
+    let none : last_alive s.children.items s.ending (length s.children.items) ≡ None = cc in
+    (c.in-Some-stopping.is, none_live s.children.items s.ending (s.all c.in-Some-stopping.reason c.in-Some-stopping.is) none)
+
+pub returns-then-start_missing-clause-supervises :
+    goal.returns-then-start_missing-clause-supervises
+returns-then-start_missing-clause-supervises g c =
+    let rest = c.start_missing.ensures.rest in
+    let len : c.len-self.result ≡ length c.args.self.now.children.items = omega arith in (
+      c.if-start_missing.ensures.started refl,
+      ap (λ (s : Standing). s.ending) rest ∙ (len ∙ sym c.start_missing.ensures.count),
+      ap (λ (s : Standing). s.stopping) rest ∙ c.in_default-stopping.is,
+    )

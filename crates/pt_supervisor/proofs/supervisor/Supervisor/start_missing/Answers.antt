@@ -1,0 +1,44 @@
+use Rattle.std.proofs.Common.{true, refl, ◌∙◌, ap, arith}
+use Rattle.pt_desk.proofs.Turning.{goes_on_then}
+use Rattle.pt_crew.specs.Births.{born}
+use Rattle.pt_supervisor.specs.Hearing.{Standing, standing}
+use Rattle.pt_supervisor.proofs.Starting.{one_started, first_more}
+use Rattle.pt_supervisor.proofs.supervisor.Supervisor.start_missing.Goals as goal
+
+pub loop-place-preserved : goal.loop-place-preserved
+loop-place-preserved g c =
+    let inv = c.loop-place.invariant in
+    record {
+      does = first_more g.S.Start.starts c.args.me c.loop-place.place _ _ _ inv.does c.if-not-start_at.ensures.does;
+      rest = c.start_at.ensures.rest ∙ ap (λ (s : Standing). record s { children = (standing c.start_at.new.self).children }) inv.rest;
+      started = one_started c.loop-place.place true (standing c.loop-place.self).children (standing c.start_at.new.self).children refl c.if-not-start_at.ensures.at inv.started;
+      permanent = λ k. c.start_at.ensures.at.permanent (inv.permanent k);
+      count = c.start_at.ensures.at.count ∙ inv.count;
+      takes = c.start_at.ensures.takes ∙ inv.takes;
+      kept = c.start_at.ensures.kept ∙ inv.kept;
+      goes_on = goes_on_then c.args.desk.now c.loop-place.desk c.start_at.new.desk inv.goes_on c.start_at.ensures.goes_on;
+    }
+
+pub returns-then-not-start_at-clause-goes_on : goal.returns-then-not-start_at-clause-goes_on
+returns-then-not-start_at-clause-goes_on g c =
+    goes_on_then c.args.desk.now c.loop-place.desk c.start_at.new.desk c.loop-place.invariant.goes_on c.start_at.ensures.goes_on
+
+pub returns-then-not-start_at-clause-does : goal.returns-then-not-start_at-clause-does
+returns-then-not-start_at-clause-does g c = (
+  c.loop-place.place,
+  omega arith,
+  record {
+    start = c.loop-place.self.start;
+    children = (standing c.loop-place.self).children;
+    desk = c.loop-place.desk.shard;
+    born = born c.loop-place.births;
+  },
+  c.loop-place.invariant.does,
+  c.if-not-start_at.ensures.does,
+)
+
+pub returns-then-not-start_at-clause-permanent : goal.returns-then-not-start_at-clause-permanent
+returns-then-not-start_at-clause-permanent g c = λ k. c.start_at.ensures.at.permanent (c.loop-place.invariant.permanent k)
+
+pub returns-clause-permanent : goal.returns-clause-permanent
+returns-clause-permanent g c = c.loop-place.invariant.permanent

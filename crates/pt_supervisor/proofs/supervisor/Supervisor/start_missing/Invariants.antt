@@ -1,0 +1,30 @@
+use Rattle.std.proofs.Common.{◌≡◌, length}
+use Rattle.pt_desk.specs.DeskState.{GoesOn}
+use Rattle.pt_crew.specs.Births.{born, kept}
+use Rattle.pt_crew.specs.Visiting.{takes}
+use Rattle.pt_supervisor.specs.Children.{AreStarted, PermanentAreWanted}
+use Rattle.pt_supervisor.specs.Hearing.{standing}
+use Rattle.pt_supervisor.specs.Supervising.{StartsFirst}
+use Rattle.pt_supervisor.proofs.supervisor.Supervisor.start_missing.Given as goal
+
+abbrev pub invariant-loop-place : goal.invariant-loop-place
+invariant-loop-place g l = record {
+  does : StartsFirst g.S.Start.starts l.me l.place (record {
+    start = l.fn.self.start;
+    children = (standing l.fn.self).children;
+    desk = l.fn.desk.shard;
+    born = born l.fn.births;
+  }) (record {
+    start = l.self.start;
+    children = (standing l.self).children;
+    desk = l.desk.shard;
+    born = born l.births;
+  });
+  rest : standing l.self ≡ record (standing l.fn.self) { children = (standing l.self).children };
+  started : AreStarted (standing l.self).children l.place;
+  permanent : PermanentAreWanted (standing l.fn.self).children → PermanentAreWanted (standing l.self).children;
+  count : length (standing l.self).children ≡ length (standing l.fn.self).children;
+  takes : takes l.desk.shard.journal ≡ takes l.fn.desk.shard.journal;
+  kept : kept l.births ≡ kept l.fn.births;
+  goes_on : GoesOn l.fn.desk l.desk;
+}

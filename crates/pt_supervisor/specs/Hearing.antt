@@ -1,0 +1,104 @@
+-- What a supervisor knows, and what it makes of an end of which it hears.
+use Rattle.std.specs.Prelude.{ℕ, nat_le, cond, Bool, true, false, ◌&&◌, not, List, length, Option, Some, None}
+use Rattle.std.specs.Prelude.{position, slice_get, slice_set}
+use Rattle.pt_signal.specs.declared.pid.Pid.{Pid}
+use Rattle.pt_signal.specs.declared.reason.Reason.{Reason}
+use Rattle.pt_supervisor.specs.declared.children.Child.{Child}
+use Rattle.pt_supervisor.specs.declared.limit.Limit.{Limit}
+use Rattle.pt_supervisor.specs.declared.restart.Restart.{Restart}
+use Rattle.pt_supervisor.specs.declared.restart.Restart.TheVariants.{Permanent, Transient, Temporary}
+use Rattle.pt_supervisor.specs.declared.restart.Strategy.{Strategy}
+use Rattle.pt_supervisor.specs.declared.supervisor.Supervisor.{Supervisor}
+use Rattle.pt_supervisor.specs.Restarts.{starts_again, ends_from}
+use Rattle.pt_supervisor.specs.Limits.{recent, allows, counted}
+use Rattle.pt_supervisor.specs.Children.{is_of}
+
+pub record Standing : Type 0 where
+  pub children : List Child
+  pub strategy : Strategy
+  -- with whose end it ends
+  pub parent : Option Pid
+  -- when its last restarts were, and how many may be in how many stamps
+  pub times : List ℕ
+  pub most : ℕ
+  pub span : ℕ
+  -- from this place on children are ended, from the last to the first, before any is started
+  pub ending : ℕ
+  -- with what it is to end, once all its children have
+  pub stopping : Option Reason
+
+abbrev pub standing : {S : Type 0} → Supervisor S → Standing
+standing s = record {
+  children = s.children.items;
+  strategy = s.strategy;
+  parent = s.parent;
+  times = s.limit.times.items;
+  most = s.limit.most;
+  span = s.limit.span;
+  ending = s.ending;
+  stopping = s.stopping;
+}
+
+-- a new supervisor: nobody is to end
+abbrev pub begun : Strategy → List Child → Limit → Standing
+begun strategy children limit = record {
+  children = children;
+  strategy = strategy;
+  parent = None;
+  times = limit.times.items;
+  most = limit.most;
+  span = limit.span;
+  ending = length children;
+  stopping = None;
+}
+
+-- all its children are to end, and then it with this reason
+abbrev pub stopped : Reason → Standing → Standing
+stopped reason s = record s { ending = 0; stopping = Some reason }
+
+abbrev pub is_temporary : Restart → Bool
+is_temporary Permanent = false
+is_temporary Transient = false
+is_temporary Temporary = true
+
+-- whether a child is to live again: one that its supervisor ended unless it is temporary, and one that ended by itself
+-- where its rule says so
+abbrev pub lives_again : Bool → Restart → Reason → Bool
+lives_again true restart reason = not (is_temporary restart)
+lives_again false restart reason = starts_again restart reason
+
+-- a child that has ended
+abbrev pub gone : Bool → Reason → Child → Child
+gone bidden reason c = record c { pid = None; wanted = lives_again bidden c.restart reason }
+
+-- One more restart, for the child at a place, if it is allowed: those whom the strategy names are ended first. Else the
+-- supervisor gives up.
+abbrev pub restarted : Bool → ℕ → ℕ → Standing → Standing
+restarted true now place s = record s {
+  times = counted true now (recent now s.span s.times);
+  ending = ends_from s.strategy place (length s.children);
+}
+restarted false now place s = stopped Reason.Shutdown (record s { times = recent now s.span s.times })
+
+-- one that its supervisor ended, or that is not to live again, makes no restart of its own
+abbrev pub started_again : Bool → ℕ → ℕ → Standing → Standing
+started_again true now place s = restarted (allows now s.span s.most s.times) now place s
+started_again false now place s = s
+
+-- the child at a place has ended
+abbrev pub lost : ℕ → Reason → ℕ → Option Child → Standing → Standing
+lost now reason place None s = s
+lost now reason place (Some c) s =
+    let bidden = nat_le s.ending place in
+    started_again (not bidden && lives_again bidden c.restart reason) now place
+    (record s { children = slice_set s.children place (gone bidden reason c) })
+
+abbrev pub heard_at : Option ℕ → ℕ → Reason → Standing → Standing
+heard_at None now reason s = s
+heard_at (Some place) now reason s = lost now reason place (slice_get s.children place) s
+
+-- It hears that a process has ended. With its parent it ends itself; a child is lost; of any other nothing comes.
+abbrev pub heard : ℕ → Pid → Reason → Standing → Standing
+heard now from reason s =
+    cond (is_of s.parent from) (stopped reason s)
+    (heard_at (position (λ c. is_of c.pid from) s.children) now reason s)

@@ -1,0 +1,5 @@
+pub mod Restarts
+pub mod Limits
+pub mod Children
+pub mod Hearing
+pub mod Supervising

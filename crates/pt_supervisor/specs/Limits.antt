@@ -1,0 +1,26 @@
+-- How many restarts a supervisor makes.
+use Rattle.std.specs.Prelude.{◌≡◌, ℕ, ◌-◌, nat_lt, Bool, true, false, List, [], ◌∷◌, ◌++◌, length, filter}
+use Rattle.pt_supervisor.specs.declared.limit.Limit.{Limit}
+
+-- no restart was made
+abbrev pub is_none : ℕ → ℕ → Limit → Type 0
+is_none most span l = (l.times.items ≡ []) × (l.most ≡ most) × (l.span ≡ span)
+
+-- of these times those that were within the last span of stamps
+abbrev pub recent : ℕ → ℕ → List ℕ → List ℕ
+recent now span times = filter (λ time. nat_lt (now - time) span) times
+
+-- one more restart is allowed where there were fewer than the most
+abbrev pub allows : ℕ → ℕ → ℕ → List ℕ → Bool
+allows now span most times = nat_lt (length (recent now span times)) most
+
+abbrev pub counted : Bool → ℕ → List ℕ → List ℕ
+counted true now times = times ++ now ∷ []
+counted false now times = times
+
+-- where one more is allowed it is counted; older ones are forgotten
+abbrev pub Allows : ℕ → Limit → Bool → Limit → Type 0
+Allows now old answer new =
+    (answer ≡ allows now old.span old.most old.times.items)
+    × (new.times.items ≡ counted answer now (recent now old.span old.times.items))
+    × (new.most ≡ old.most) × (new.span ≡ old.span)

@@ -1,0 +1,181 @@
+-- What a supervisor does with an item, and what it does next.
+use Rattle.std.specs.Prelude.{◌≡◌, ℕ, zero, suc, ◌<◌, cond, Bool, true, false, List, length, Option, Some, None}
+use Rattle.std.specs.Prelude.{MatchBool, Result, Ok, Err, is_ok, is_some, slice_get, slice_set}
+use Rattle.pt_signal.specs.declared.pid.Pid.{Pid}
+use Rattle.pt_signal.specs.declared.item.Item.{Item}
+use Rattle.pt_signal.specs.declared.item.Item.TheVariants.{Exit}
+use Rattle.pt_signal.specs.declared.item.Pick.{Pick}
+use Rattle.pt_signal.specs.declared.reason.Reason.{Reason}
+use Rattle.pt_signal.specs.declared.signal.Signal.{Signal}
+use Rattle.pt_events.specs.declared.event.Event.TheVariants.{Said, Flag}
+use Rattle.pt_shard.specs.declared.fault.Fault.{Fault}
+use Rattle.pt_shard.specs.ShardState.{ShardState, state_in}
+use Rattle.pt_shard.specs.Known.{knows}
+use Rattle.pt_shard.specs.Calls.{Calls}
+use Rattle.pt_desk.specs.DeskState.{DeskState}
+use Rattle.pt_crew.specs.declared.behaviour.Next.{Next}
+use Rattle.pt_crew.specs.declared.behaviour.Next.TheVariants.{Wait, Proceed, Stop}
+use Rattle.pt_crew.specs.declared.births.Role.{Role}
+use Rattle.pt_crew.specs.Births.{Bore}
+use Rattle.pt_crew.specs.Telling.{IfKnown}
+use Rattle.pt_supervisor.specs.declared.children.Child.{Child}
+use Rattle.pt_supervisor.specs.declared.restart.Restart.{Restart}
+use Rattle.pt_supervisor.specs.Children.{AreStarted, NoneLives, PermanentAreWanted}
+use Rattle.pt_supervisor.specs.Children.{is_missing, last_alive}
+use Rattle.pt_supervisor.specs.Hearing.{Standing, heard}
+
+-- the program's `Start`: it before, the supervisor, the place, what it answers, and it afterwards
+abbrev pub StartsOf : Type 0 → Type 0 → Type 1
+StartsOf S B = S → Pid → ℕ → Result (B × Next) Fault → S → Type 0
+
+-- a supervisor that starts its children, and its desk
+pub record Nursery (S B : Type 0) : Type 0 where
+  pub start : S
+  pub children : List Child
+  pub desk : ShardState
+  -- who was born and waits to enter the crew
+  pub born : List (Role B)
+
+-- the child c at a place has the pid that was born, if one was
+abbrev pub with_pid : ℕ → Child → Result Pid Fault → List Child → List Child
+with_pid place c (Ok p) children = slice_set children place (record c { pid = Some p })
+with_pid place c (Err f) children = children
+
+-- What the program answers as the child c is to be started: its behaviour, with which it is born, linked with its
+-- supervisor, if the desk does not refuse that; or a refusal of its own.
+abbrev pub BearsAs : {S B : Type 0} → Pid → ℕ → Child → Result (B × Next) Fault → Nursery S B → Bool → Nursery S B
+    → Type 0
+BearsAs me place c (Err f) old answer new =
+    (answer ≡ false) × (new.children ≡ old.children) × (new.desk ≡ old.desk) × (new.born ≡ old.born)
+BearsAs me place c (Ok (b, first)) old answer new =
+    (born : Result Pid Fault) × Bore me true b first old.desk old.born born new.desk new.born × (answer ≡ is_ok born)
+    × (new.children ≡ with_pid place c born old.children)
+
+-- the child at a place is started, if it is missing; whether nothing was refused
+abbrev pub StartsAt : {S B : Type 0} → StartsOf S B → Pid → ℕ → Option Child → Nursery S B → Bool → Nursery S B
+    → Type 0
+StartsAt starts me place None old answer new = ⊥
+StartsAt {S} {B} starts me place (Some c) old answer new =
+    MatchBool (is_missing c)
+    ((begins : Result (B × Next) Fault) × starts old.start me place begins new.start
+    × BearsAs me place c begins old answer new) ((answer ≡ true) × (new ≡ old))
+
+abbrev pub StartsOne : {S B : Type 0} → StartsOf S B → Pid → ℕ → Nursery S B → Bool → Nursery S B → Type 0
+StartsOne starts me place old answer new = StartsAt starts me place (slice_get old.children place) old answer new
+
+-- at most the child at a place is changed; and it is not missing where nothing was refused
+pub record SetsAt (place : ℕ) (answer : Bool) (old new : List Child) : Type 0 where
+  pub count : length new ≡ length old
+  pub others : (j : ℕ) → (j ≡ place → ⊥) → slice_get new j ≡ slice_get old j
+  pub started : answer ≡ true → (c : Child) → slice_get new place ≡ Some c → is_missing c ≡ false
+  pub permanent : PermanentAreWanted old → PermanentAreWanted new
+
+-- those at the first places, in order, and nothing was refused
+abbrev pub StartsFirst : {S B : Type 0} → StartsOf S B → Pid → ℕ → Nursery S B → Nursery S B → Type 0
+StartsFirst starts me zero old new = new ≡ old
+StartsFirst {S} {B} starts me (suc n) old new =
+    (mid : Nursery S B) × StartsFirst starts me n old mid × StartsOne starts me n mid true new
+
+-- so many children, in order, up to the first one that is refused
+abbrev pub StartsAll : {S B : Type 0} → StartsOf S B → Pid → ℕ → Nursery S B → Bool → Nursery S B → Type 0
+StartsAll starts me count old true new = StartsFirst starts me count old new
+StartsAll {S} {B} starts me count old false new =
+    (place : ℕ) × (place < count) × (mid : Nursery S B) × StartsFirst starts me place old mid
+    × StartsOne starts me place mid false new
+
+-- a supervisor, its desk, and who was born
+pub record Scene (S B : Type 0) : Type 0 where
+  pub start : S
+  pub standing : Standing
+  pub desk : DeskState
+  pub born : List (Role B)
+
+abbrev pub nursery : {S B : Type 0} → Scene S B → Nursery S B
+nursery s = record { start = s.start; children = s.standing.children; desk = s.desk.shard; born = s.born }
+
+-- it waits for the end of one whom it has told to end, and tries again where that was refused
+abbrev pub after_bid : Pid → Result (Unit {0}) Fault → Next
+after_bid p (Ok done) = Wait (Pick.ExitOf p)
+after_bid p (Err f) = Proceed
+
+-- it tells one to end, by an exit signal
+pub record Bids {S B : Type 0} (me p : Pid) (reason : Reason) (old : Scene S B) (next : Next) (new : Scene S B)
+    : Type 0 where
+  pub result : Result (Unit {0}) Fault
+  pub signal : IfKnown (knows old.desk.shard p)
+      (Calls me (Some (Said me p (Signal.Exit reason))) (tt {0}) old.desk.shard result new.desk.shard) old.desk result
+      new.desk
+  pub next_is : next ≡ after_bid p result
+  pub same : (new.start ≡ old.start) × (new.standing ≡ old.standing) × (new.born ≡ old.born)
+
+-- nobody is to end any more: it ends, if it is to, or starts who is missing, and tries again where that was refused
+abbrev pub Settles : {S B : Type 0} → StartsOf S B → Pid → Option Reason → Scene S B → Next → Scene S B → Type 0
+Settles starts me (Some reason) old next new = (next ≡ Stop reason) × (new ≡ old)
+Settles starts me None old next new =
+    (answer : Bool) × StartsAll starts me (length old.standing.children) (nursery old) answer (nursery new)
+    × (next ≡ cond answer (Wait Pick.Any) Proceed)
+    × (new.standing ≡ record (old.standing) {
+      children = new.standing.children;
+      ending = length old.standing.children;
+    })
+
+abbrev pub AdvancesAs : {S B : Type 0} → StartsOf S B → Pid → Option (Pid × Reason) → Scene S B → Next → Scene S B
+    → Type 0
+AdvancesAs starts me (Some (p, reason)) old next new = Bids me p reason old next new
+AdvancesAs starts me None old next new = Settles starts me old.standing.stopping old next new
+
+-- the last of those that are to end is told so; where none of them lives, it goes on
+abbrev pub Advances : {S B : Type 0} → StartsOf S B → Pid → Scene S B → Next → Scene S B → Type 0
+Advances starts me old next new =
+    AdvancesAs starts me (last_alive old.standing.children old.standing.ending (length old.standing.children)) old next
+    new
+
+-- It sees to an item: of an end it hears, and where it proceeds without one it sets its trap; whether nothing was
+-- refused.
+abbrev pub Attends : Pid → Option Item → Standing → DeskState → Bool → Standing → DeskState → Type 0
+Attends me (Some (Exit from reason)) old d answer new e =
+    (answer ≡ true) × (new ≡ heard d.shard.clock from reason old) × (e ≡ d)
+Attends me (Some _) old d answer new e = (answer ≡ true) × (new ≡ old) × (e ≡ d)
+Attends me None old d answer new e =
+    (result : Result Bool Fault)
+    × Calls me (Some (Flag me true)) (state_in d.shard me).traps d.shard result e.shard × (answer ≡ is_ok result)
+    × (new ≡ old)
+
+abbrev pub after_attending : {S B : Type 0} → StartsOf S B → Pid → Bool → Scene S B → Next → Scene S B → Type 0
+after_attending starts me true mid next new = Advances starts me mid next new
+after_attending starts me false mid next new = (next ≡ Proceed) × (new ≡ mid)
+
+-- so it handles an item, or none
+pub record Handles {S B : Type 0} (starts : StartsOf S B) (me : Pid) (item : Option Item) (old : Scene S B)
+    (next : Next) (new : Scene S B) : Type 0 where
+  pub mid : Scene S B
+  pub answer : Bool
+  pub attends : Attends me item old.standing old.desk answer mid.standing mid.desk
+  pub same : (mid.start ≡ old.start) × (mid.born ≡ old.born)
+  pub goes : after_attending starts me answer mid next new
+
+-- What it waits for tells how its children stand: for any item where each that is to live was started, and none is to
+-- end; for the end of one, where that is the last of those that are to end; and it ends where none lives.
+abbrev pub WaitsFor : Pick → Standing → Type 0
+WaitsFor Pick.Any s =
+    AreStarted s.children (length s.children) × (s.ending ≡ length s.children) × (s.stopping ≡ None)
+WaitsFor (Pick.ExitOf p) s =
+    (reason : Reason) × (last_alive s.children s.ending (length s.children) ≡ Some (p, reason))
+WaitsFor _ s = ⊥
+
+abbrev pub Supervises : Next → Standing → Type 0
+Supervises (Wait pick) s = WaitsFor pick s
+Supervises Proceed s = Unit {0}
+Supervises (Stop reason) s = (s.stopping ≡ Some reason) × NoneLives s.children
+
+-- no end of which a supervisor hears makes that a permanent child is not to live
+abbrev pub StaysWanted : Type 0
+StaysWanted =
+    (now : ℕ) (from : Pid) (reason : Reason) (s : Standing) → PermanentAreWanted s.children
+    → PermanentAreWanted (heard now from reason s).children
+
+-- so where it waits for any item each of its permanent children lives, by all that it has heard
+abbrev pub PermanentLive : Type 0
+PermanentLive =
+    (s : Standing) → Supervises (Wait Pick.Any) s → PermanentAreWanted s.children → (place : ℕ) (c : Child)
+    → slice_get s.children place ≡ Some c → c.restart ≡ Restart.Permanent → is_some c.pid ≡ true

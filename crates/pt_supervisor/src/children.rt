@@ -1,0 +1,117 @@
+//! The children of a supervisor.
+
+ghost use Rattle.std.specs.Prelude.{◌≡◌, ◌<◌, IfSome, None, true, position, length};
+ghost use Rattle.std.specs.Option.{option_map};
+ghost use Rattle.pt_supervisor.specs.Children.{bids, is_missing, is_of, last_alive, leaving};
+
+use crate::restart::Restart;
+use pt_node::{Pid, Reason};
+
+/// How a supervisor ends a child: `shutdown` of a child's specification.
+#[derive(Clone, Copy, Debug, PartialEq, Eq)]
+pub enum Shutdown {
+    /// By an exit signal `shutdown`, and it waits for the end however long that takes, as Erlang's `infinity` says: a
+    /// child that traps exits hears it as an item, and ends by itself.
+    Infinity,
+    /// By an exit signal `kill`, which no trap holds off: `brutal_kill`.
+    BrutalKill,
+}
+
+impl Shutdown {
+    /// The reason that the exit signal carries.
+    pub fn bids(&self) -> Reason
+        ensures { result ≡ bids self.now }
+    {
+        match *self {
+            Shutdown::Infinity => Reason::Shutdown,
+            Shutdown::BrutalKill => Reason::Kill,
+        }
+    }
+}
+
+/// A child of a supervisor, in its place.
+#[derive(Clone, Copy, Debug, PartialEq, Eq)]
+pub struct Child {
+    /// Its pid, while it has not been heard to have ended.
+    pub pid: Option<Pid>,
+    pub restart: Restart,
+    pub shutdown: Shutdown,
+    /// Whether it is to live.
+    pub wanted: bool,
+}
+
+impl Child {
+    /// A child that is to be started, and is ended by `shutdown`.
+    pub fn new(restart: Restart) -> Child
+        ensures { result ≡ record { pid = None; restart = restart; shutdown = Shutdown.Infinity; wanted = true } }
+    {
+        Child {
+            pid: None,
+            restart,
+            shutdown: Shutdown::Infinity,
+            wanted: true,
+        }
+    }
+
+    /// The same child, which is ended in this way.
+    pub fn ended_by(self, shutdown: Shutdown) -> Child
+        ensures { result ≡ record self { shutdown = shutdown } }
+    {
+        Child { shutdown, ..self }
+    }
+
+    /// Whether it is to be started.
+    pub fn is_missing(&self) -> bool
+        ensures { result ≡ is_missing self.now }
+    {
+        self.wanted && self.pid.is_none()
+    }
+
+    /// Whether it is this process.
+    pub fn is_of(&self, pid: Pid) -> bool
+        ensures { result ≡ is_of self.now.pid pid }
+    {
+        is_process(self.pid, pid)
+    }
+
+    /// Its pid, while it lives, and with what reason it is bidden to end.
+    pub fn leaving(&self) -> Option<(Pid, Reason)>
+        ensures { result ≡ leaving self.now }
+    {
+        match self.pid {
+            Some(pid) => Some((pid, self.shutdown.bids())),
+            None => None,
+        }
+    }
+}
+
+/// Whether there is a process, and it is this one.
+pub(crate) fn is_process(known: Option<Pid>, pid: Pid) -> bool
+    ensures { result ≡ is_of known pid }
+{
+    match known {
+        Some(own) => own == pid,
+        None => false,
+    }
+}
+
+/// The place of a child by its pid.
+pub fn place_of(children: &[Child], pid: Pid) -> Option<usize>
+    ensures place { result ≡ position (λ c. is_of c.pid pid) children.now }
+    ensures within { IfSome result (λ i. i < length children.now) }
+{
+    children.iter().position(|child| child.is_of(pid))
+}
+
+/// The last child from the place `first` on that lives, and with what reason it is bidden to end.
+pub fn last_alive(children: &[Child], first: usize) -> Option<(Pid, Reason)>
+    ensures { result ≡ last_alive children.now first (length children.now) }
+{
+    let mut last = None;
+    for place in 0..children.len() {
+        if place >= first && children[place].pid.is_some() {
+            last = children[place].leaving();
+        }
+    }
+    last
+}

@@ -1,0 +1,339 @@
+//! A supervisor.
+
+ghost use Rattle.std.specs.Prelude.{◌≡◌, ⊤, ℕ, Result};
+ghost use Rattle.std.specs.Option.{ForSome};
+ghost use Rattle.pt_signal.specs.declared.pid.Pid.{Pid};
+ghost use Rattle.pt_shard.specs.declared.fault.Fault.{Fault};
+ghost use Rattle.pt_crew.specs.declared.behaviour.Next.{Next};
+
+use crate::children::{Child, is_process, last_alive, place_of};
+use crate::limit::Limit;
+use crate::restart::{Restart, Strategy};
+use pt_crew::{Births, Next, bear, bid_exit, trap};
+use pt_node::{Desk, Fault, Item, Pick, Pid, Reason};
+
+/// What the children of a supervisor do.
+pub trait Start<B> {
+    /// What it may answer, for those who want a supervisor's contracts to say what its children begin with: it before,
+    /// the supervisor, the place of the child, the answer, and it afterwards.
+    ghost starts: { Self → Pid → ℕ → Result (B × Next) Fault → Self → Type 0 } = { λ _ _ _ _ _. ⊤ };
+
+    /// The behaviour of the child at a place, as it is started, and what it does first.
+    ///
+    /// Where it refuses, as for want of memory, the supervisor proceeds and asks again.
+    fn start(&mut self, supervisor: Pid, place: usize) -> Result<(B, Next), Fault>
+        ensures { starts self.old supervisor place result self.new };
+}
+
+/// A supervisor: it traps exits, starts its children in order, linked with it, and when one ends does what its strategy
+/// says.
+#[derive(Drop)]
+pub struct Supervisor<S> {
+    start: S,
+    strategy: Strategy,
+    children: Vec<Child>,
+    limit: Limit,
+    /// With whose end it ends.
+    parent: Option<Pid>,
+    /// From this place on children are ended, from the last to the first, before any is started.
+    ending: usize,
+    /// With what it is to end, once all its children have.
+    stopping: Option<Reason>,
+    ghost all: { ForSome stopping (λ r. ending ≡ 0) },
+}
+
+impl<S> Supervisor<S> {
+    ghost use Rattle.std.specs.Prelude.{◌<◌, true, length, slice_get};
+    ghost use Rattle.pt_desk.specs.DeskState.{GoesOn};
+    ghost use Rattle.pt_crew.specs.Births.{born, kept};
+    ghost use Rattle.pt_crew.specs.Visiting.{takes};
+    ghost use Rattle.pt_supervisor.specs.Children.{AreStarted, PermanentAreWanted};
+    ghost use Rattle.pt_supervisor.specs.Hearing.{begun, heard, lost, standing, started_again, stopped};
+    ghost use Rattle.pt_supervisor.specs.Supervising.{Advances, Attends, Handles, SetsAt, StartsAll};
+    ghost use Rattle.pt_supervisor.specs.Supervising.{StartsOne, Supervises};
+
+    /// A supervisor of these children, each with the rule by which it is started again. It has no parent: see
+    /// [`Supervisor::under`].
+    pub fn new(start: S, strategy: Strategy, children: Vec<Child>, limit: Limit) -> Supervisor<S>
+        ensures standing { standing result ≡ begun strategy children.items limit }
+        ensures start { result.start ≡ start }
+    {
+        let ending = children.len();
+        Supervisor {
+            start,
+            strategy,
+            children,
+            limit,
+            parent: None,
+            ending,
+            stopping: None,
+        }
+    }
+
+    /// The same supervisor as a child of another process, its parent: where it hears of the end of its parent, or is
+    /// bidden by it to end, it ends its children from the last to the first, and then itself with the same reason.
+    ///
+    /// Of a supervisor that another one starts the parent is the `supervisor` of [`Start::start`].
+    pub fn under(self, parent: Pid) -> Supervisor<S>
+        ensures standing { standing result ≡ record (standing self) { parent = Some parent } }
+        ensures start { result.start ≡ self.start }
+    {
+        let Supervisor {
+            start,
+            strategy,
+            children,
+            limit,
+            parent: _,
+            ending,
+            stopping,
+        } = self;
+        Supervisor {
+            start,
+            strategy,
+            children,
+            limit,
+            parent: Some(parent),
+            ending,
+            stopping,
+        }
+    }
+
+    /// Its children, in their places.
+    pub fn children(&self) -> &[Child]
+        ensures { result.now ≡ (standing self.now).children }
+    {
+        self.children.as_slice()
+    }
+
+    /// All children are to end, from the last to the first, and then the supervisor with this reason. It sees to that
+    /// as it next handles an item, or proceeds.
+    pub fn stop(&mut self, reason: Reason)
+        ensures standing { standing self.new ≡ stopped reason (standing self.old) }
+        ensures start { self.new.start ≡ self.old.start }
+    {
+        self.ending = 0;
+        self.stopping = Some(reason);
+    }
+
+    /// Sees to an item, or begins; what the supervisor does next.
+    ///
+    /// Where a call is refused for want of memory or stamps, or the program refuses to start a child, it proceeds, and
+    /// tries again as it does. An item that is neither the end of its parent nor that of a child changes nothing.
+    #[tactic(auto, using(pt_node::proofs::GoingOn::stays, pt_desk::proofs::Turning::goes_on_then))]
+    pub fn handle<B: Drop>(
+        &mut self,
+        desk: &mut Desk,
+        births: &mut Births<B>,
+        me: Pid,
+        item: Option<Item>,
+    ) -> Next
+    where
+        S: Start<B>,
+        ensures does { Handles S.starts me item
+            (record { start = self.old.start; standing = standing self.old; desk = desk.old; born = born births.old })
+            result
+            (record { start = self.new.start; standing = standing self.new; desk = desk.new; born = born births.new }) }
+        ensures supervises { Supervises result (standing self.new) }
+        ensures permanent { PermanentAreWanted (standing self.old).children
+            → PermanentAreWanted (standing self.new).children }
+        ensures takes { takes desk.new.shard.journal ≡ takes desk.old.shard.journal }
+        ensures kept { kept births.new ≡ kept births.old }
+        ensures goes_on { GoesOn desk.old desk.new }
+    {
+        if !self.attend(desk, me, item) {
+            return Next::Proceed;
+        }
+        self.advance(desk, births, me)
+    }
+
+    /// Hears of an end, or begins to trap exits; whether nothing was refused.
+    #[tactic(auto, using(pt_node::proofs::GoingOn::stays))]
+    fn attend(&mut self, desk: &mut Desk, me: Pid, item: Option<Item>) -> bool
+        ensures does { Attends me item (standing self.old) desk.old result (standing self.new) desk.new }
+        ensures permanent { PermanentAreWanted (standing self.old).children
+            → PermanentAreWanted (standing self.new).children }
+        ensures start { self.new.start ≡ self.old.start }
+        ensures takes { takes desk.new.shard.journal ≡ takes desk.old.shard.journal }
+        ensures goes_on { GoesOn desk.old desk.new }
+    {
+        match item {
+            Some(Item::Exit(from, reason)) => {
+                self.hear(desk.clock(), from, reason);
+                true
+            }
+            Some(_) => true,
+            None => trap(desk, me, true).is_ok(),
+        }
+    }
+
+    /// A process has ended: what is to be done about it.
+    fn hear(&mut self, now: u64, from: Pid, reason: Reason)
+        ensures standing { standing self.new ≡ heard now from reason (standing self.old) }
+        ensures start { self.new.start ≡ self.old.start }
+    {
+        if is_process(self.parent, from) {
+            self.stop(reason);
+            return;
+        }
+        if let Some(place) = place_of(self.children.as_slice(), from) {
+            self.lose(now, place, reason);
+        }
+    }
+
+    /// The child at a place has ended.
+    fn lose(&mut self, now: u64, place: usize, reason: Reason)
+        requires { place < length (standing self.old).children }
+        ensures standing { standing self.new
+            ≡ lost now reason place (slice_get (standing self.old).children place) (standing self.old) }
+        ensures start { self.new.start ≡ self.old.start }
+    {
+        let bidden = place >= self.ending;
+        let child = self.children[place];
+        let again = if bidden {
+            child.restart != Restart::Temporary
+        } else {
+            child.restart.starts_again(reason)
+        };
+        self.children[place] = Child {
+            pid: None,
+            wanted: again,
+            ..child
+        };
+        if !bidden && again {
+            self.restart(now, place);
+        }
+    }
+
+    /// The child at a place is to be started again: if that is allowed those whom the strategy names end first; else
+    /// all do, and the supervisor.
+    fn restart(&mut self, now: u64, place: usize)
+        requires { 0 < self.old.ending }
+        ensures standing { standing self.new ≡ started_again true now place (standing self.old) }
+        ensures start { self.new.start ≡ self.old.start }
+    {
+        if self.limit.allows(now) {
+            self.ending = self.strategy.ends_from(place, self.children.len());
+        } else {
+            self.stop(Reason::Shutdown);
+        }
+    }
+
+    /// Ends the last of those that are to end; where none is left, ends itself, or starts who is missing.
+    #[tactic(auto, using(pt_node::proofs::GoingOn::stays))]
+    fn advance<B: Drop>(&mut self, desk: &mut Desk, births: &mut Births<B>, me: Pid) -> Next
+    where
+        S: Start<B>,
+        ensures does { Advances S.starts me
+            (record { start = self.old.start; standing = standing self.old; desk = desk.old; born = born births.old })
+            result
+            (record { start = self.new.start; standing = standing self.new; desk = desk.new; born = born births.new }) }
+        ensures supervises { Supervises result (standing self.new) }
+        ensures permanent { PermanentAreWanted (standing self.old).children
+            → PermanentAreWanted (standing self.new).children }
+        ensures takes { takes desk.new.shard.journal ≡ takes desk.old.shard.journal }
+        ensures kept { kept births.new ≡ kept births.old }
+        ensures goes_on { GoesOn desk.old desk.new }
+    {
+        if let Some((pid, reason)) = last_alive(self.children.as_slice(), self.ending) {
+            return match bid_exit(desk, me, pid, reason) {
+                Ok(()) => Next::Wait(Pick::ExitOf(pid)),
+                Err(_) => Next::Proceed,
+            };
+        }
+        if let Some(reason) = self.stopping {
+            return Next::Stop(reason);
+        }
+        self.ending = self.children.len();
+        if self.start_missing(desk, births, me) {
+            Next::Wait(Pick::Any)
+        } else {
+            Next::Proceed
+        }
+    }
+
+    /// Starts the children that are missing, in order; whether nothing was refused.
+    fn start_missing<B: Drop>(&mut self, desk: &mut Desk, births: &mut Births<B>, me: Pid) -> bool
+    where
+        S: Start<B>,
+        ensures does { StartsAll S.starts me (length (standing self.old).children)
+            (record {
+              start = self.old.start;
+              children = (standing self.old).children;
+              desk = desk.old.shard;
+              born = born births.old;
+            })
+            result
+            (record {
+              start = self.new.start;
+              children = (standing self.new).children;
+              desk = desk.new.shard;
+              born = born births.new;
+            }) }
+        ensures rest { standing self.new
+            ≡ record (standing self.old) { children = (standing self.new).children } }
+        ensures count { length (standing self.new).children ≡ length (standing self.old).children }
+        ensures permanent { PermanentAreWanted (standing self.old).children
+            → PermanentAreWanted (standing self.new).children }
+        ensures started { result ≡ true
+            → AreStarted (standing self.new).children (length (standing self.new).children) }
+        ensures takes { takes desk.new.shard.journal ≡ takes desk.old.shard.journal }
+        ensures kept { kept births.new ≡ kept births.old }
+        ensures goes_on { GoesOn desk.old desk.new }
+    {
+        for place in 0..self.children.len() {
+            if !self.start_at(desk, births, me, place) {
+                return false;
+            }
+        }
+        true
+    }
+
+    /// Starts the child at a place, if it is missing; whether nothing was refused.
+    fn start_at<B: Drop>(
+        &mut self,
+        desk: &mut Desk,
+        births: &mut Births<B>,
+        me: Pid,
+        place: usize,
+    ) -> bool
+    where
+        S: Start<B>,
+        requires { place < length (standing self.old).children }
+        ensures does { StartsOne S.starts me place
+            (record {
+              start = self.old.start;
+              children = (standing self.old).children;
+              desk = desk.old.shard;
+              born = born births.old;
+            })
+            result
+            (record {
+              start = self.new.start;
+              children = (standing self.new).children;
+              desk = desk.new.shard;
+              born = born births.new;
+            }) }
+        ensures rest { standing self.new
+            ≡ record (standing self.old) { children = (standing self.new).children } }
+        ensures at { SetsAt place result (standing self.old).children (standing self.new).children }
+        ensures takes { takes desk.new.shard.journal ≡ takes desk.old.shard.journal }
+        ensures kept { kept births.new ≡ kept births.old }
+        ensures goes_on { GoesOn desk.old desk.new }
+    {
+        let child = self.children[place];
+        if !child.is_missing() {
+            return true;
+        }
+        let Ok((behaviour, first)) = self.start.start(me, place) else {
+            return false;
+        };
+        let Ok(pid) = bear(desk, births, me, true, behaviour, first) else {
+            return false;
+        };
+        self.children[place] = Child {
+            pid: Some(pid),
+            ..child
+        };
+        true
+    }
+}
