@@ -1,0 +1,106 @@
+/* Compares what the library says of itself with pundewo.h: sizes, where the fields stand, and codes. */
+#include <stdio.h>
+#include <string.h>
+
+#include "pundewo.h"
+
+static int wrong = 0;
+static uint64_t next;
+
+static void is(const char *what, uint64_t got, uint64_t want) {
+    if (got != want) {
+        printf("%s: %llu in the library, ", what, (unsigned long long)got);
+        printf("%llu in the header\n", (unsigned long long)want);
+        wrong++;
+    }
+}
+
+/* The next field of a sample: its number, or a bool that is true. */
+#define NEXT(field) is(#field, (uint64_t)(field), ++next)
+#define TRUE(field) (++next, is(#field, (field), 1))
+
+static void pid(pt_pid p) { NEXT(p.shard); NEXT(p.slot); NEXT(p.version); }
+static void ref(pt_ref m) { NEXT(m.desk); NEXT(m.number); }
+static void ids(pt_ids i) { ref(i.one); TRUE(i.has_two); ref(i.two); }
+static void reason(pt_reason r) { NEXT(r.code); NEXT(r.number); }
+static void body(pt_body b) { NEXT(b.kind); NEXT(b.num); TRUE(b.has_who); pid(b.who); }
+static void item(pt_item i) {
+    NEXT(i.code); TRUE(i.alive); pid(i.pid); ref(i.reference); reason(i.reason); body(i.body);
+}
+static void pick(pt_pick k) { NEXT(k.code); NEXT(k.kind); pid(k.pid); ref(k.reference); }
+static void sent(pt_signal x) {
+    NEXT(x.code); TRUE(x.alive); reason(x.reason); ref(x.reference); ids(x.ids); body(x.body);
+}
+
+/* A sample is written between two guards, which stay as they are. */
+#define SAMPLE(type, value, write)                                                                                   \
+    struct { unsigned char before[16]; type value; unsigned char after[16]; } guarded_##value;                     \
+    memset(&guarded_##value, 0xA5, sizeof guarded_##value);                                                        \
+    write(&guarded_##value.value);                                                                                 \
+    for (int k = 0; k < 16; k++) {                                                                                 \
+        is(#type " before", guarded_##value.before[k], 0xA5);                                                      \
+        is(#type " after", guarded_##value.after[k], 0xA5);                                                        \
+    }                                                                                                              \
+    type value = guarded_##value.value;                                                                            \
+    next = 0
+
+static void samples(void) {
+    SAMPLE(pt_event, e, pt_about_event);
+    NEXT(e.stamp); NEXT(e.desk); TRUE(e.has_peer); TRUE(e.has_link); TRUE(e.on); NEXT(e.code);
+    pid(e.pid); pid(e.peer); ref(e.link); reason(e.reason); pick(e.pick); item(e.item); sent(e.signal);
+    SAMPLE(pt_left_over, l, pt_about_left_over);
+    NEXT(l.from_desk); NEXT(l.to_desk); pid(l.from); pid(l.to); NEXT(l.stamp); sent(l.signal);
+    SAMPLE(pt_turned, t, pt_about_turned);
+    NEXT(t.posted); NEXT(t.handled); NEXT(t.stopped);
+    SAMPLE(pt_account, a, pt_about_account);
+    TRUE(a.has_ended); reason(a.ended); NEXT(a.arrived); NEXT(a.taken); NEXT(a.waiting);
+    SAMPLE(pt_config, c, pt_about_config);
+    NEXT(c.slots); NEXT(c.top_version); NEXT(c.lane); NEXT(c.start);
+}
+
+static void sizes(void) {
+    pt_sizes s;
+    pt_about_sizes(&s);
+    is("pt_pid", s.pid, sizeof(pt_pid));
+    is("pt_ref", s.reference, sizeof(pt_ref));
+    is("pt_ids", s.ids, sizeof(pt_ids));
+    is("pt_reason", s.reason, sizeof(pt_reason));
+    is("pt_body", s.body, sizeof(pt_body));
+    is("pt_item", s.item, sizeof(pt_item));
+    is("pt_pick", s.pick, sizeof(pt_pick));
+    is("pt_signal", s.signal, sizeof(pt_signal));
+    is("pt_event", s.event, sizeof(pt_event));
+    is("pt_left_over", s.left_over, sizeof(pt_left_over));
+    is("pt_turned", s.turned, sizeof(pt_turned));
+    is("pt_account", s.account, sizeof(pt_account));
+    is("pt_config", s.config, sizeof(pt_config));
+    is("pt_codes", s.codes, sizeof(pt_codes));
+}
+
+static void codes(void) {
+    static const uint32_t all[] = {
+        PT_OK, PT_FULL, PT_MEMORY, PT_WORN, PT_GONE, PT_MYSELF, PT_NOPROC, PT_UNKNOWN, PT_NOTHING, PT_EMPTY, PT_FILLED,
+        PT_BAD_DESKS, PT_BAD_SLOTS, PT_BAD_TOP_VERSION, PT_BAD_LANE, PT_BAD_START,
+        PT_NORMAL, PT_KILL, PT_KILLED, PT_NO_PROCESS, PT_SHUTDOWN, PT_OTHER,
+        PT_ITEM_USER, PT_ITEM_EXIT, PT_ITEM_DOWN, PT_ITEM_ALIVE,
+        PT_PICK_KIND, PT_PICK_FROM, PT_PICK_EXIT_OF, PT_PICK_DOWN_OF, PT_PICK_ALIVE_OF, PT_PICK_ANY,
+        PT_SIGNAL_MESSAGE, PT_SIGNAL_LINK, PT_SIGNAL_UNLINK, PT_SIGNAL_EXIT, PT_SIGNAL_LINK_EXIT, PT_SIGNAL_MONITOR,
+        PT_SIGNAL_DEMONITOR, PT_SIGNAL_DOWN, PT_SIGNAL_ALIVE_ASK, PT_SIGNAL_ALIVE_SAY,
+        PT_EVENT_BORN, PT_EVENT_SAID, PT_EVENT_CAME, PT_EVENT_TOOK, PT_EVENT_FLAG, PT_EVENT_LEFT, PT_EVENT_REFUSED,
+    };
+    pt_codes told;
+    uint32_t written[sizeof told / sizeof(uint32_t)];
+    pt_about_codes(&told);
+    memcpy(written, &told, sizeof told);
+    is("how many codes", sizeof written, sizeof all);
+    for (size_t k = 0; k < sizeof all / sizeof *all && sizeof written == sizeof all; k++)
+        is("a code", written[k], all[k]);
+}
+
+int main(void) {
+    samples();
+    sizes();
+    codes();
+    printf("c: about, %d wrong\n", wrong);
+    return wrong != 0;
+}

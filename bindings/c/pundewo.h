@@ -1,0 +1,266 @@
+/* The process table of Pundewo, for C and C++.
+ *
+ * A node is a set of desks. Each desk holds processes, keeps a journal of what happened on it, and belongs to one
+ * thread at a time. docs/EMBEDDING.md says which call comes when; docs/API.md and the Erlang manual say what the calls
+ * mean.
+ *
+ * Each call answers a code of `enum pt_code`. After each but PT_OK what was passed out is as it was, and so is the
+ * desk, except that a call which answers PT_NOPROC is noted in the journal. All of this is proved of the library, for
+ * callers that keep to what they owe:
+ *
+ *  - a handle begins as PT_NO_DESK, PT_NO_GATHERED, PT_NO_QUIET or PT_NO_HISTORY, is changed by the functions below
+ *    alone, and is never copied. An empty handle is tested for, and answered by PT_EMPTY;
+ *  - one call at a time on one handle. It may go to another thread (the library proves that its type is `Send`): order
+ *    that by a lock, a thread's start or join, a channel, or a sequentially consistent atomic;
+ *  - every pointer is valid and aligned, what it points to is initialized, and no two pointers of one call overlap;
+ *  - a bool is 0 or 1;
+ *  - pt_gather gets all desks of one pt_open or of one pt_resume, each once and in order;
+ *  - malloc, realloc and free come from one allocator, with malloc's usual alignment; no call is made from a signal
+ *    handler, nor in the forked child of a process with threads.
+ */
+#ifndef PUNDEWO_H
+#define PUNDEWO_H
+
+#include <stdbool.h>
+#include <stddef.h>
+#include <stdint.h>
+
+#ifdef __cplusplus
+extern "C" {
+#endif
+
+/* Handles: each is one pointer, and null where it is empty. */
+typedef struct { void *at; } pt_desk;
+typedef struct { void *at; } pt_gathered;
+typedef struct { void *at; } pt_quiet;
+typedef struct { void *at; } pt_history;
+
+#ifdef __cplusplus
+#define PT_NO_DESK pt_desk{nullptr}
+#define PT_NO_GATHERED pt_gathered{nullptr}
+#define PT_NO_QUIET pt_quiet{nullptr}
+#define PT_NO_HISTORY pt_history{nullptr}
+#else
+#define PT_NO_DESK ((pt_desk){0})
+#define PT_NO_GATHERED ((pt_gathered){0})
+#define PT_NO_QUIET ((pt_quiet){0})
+#define PT_NO_HISTORY ((pt_history){0})
+#endif
+
+/* What calls answer. */
+enum pt_code {
+    PT_OK = 0,
+    PT_FULL = 1,            /* no slot is free */
+    PT_MEMORY = 2,          /* malloc or realloc refused; the call may be made again */
+    PT_WORN = 3,            /* the clock stands at its limit, 2^62 */
+    PT_GONE = 4,            /* the acting process does not live on this desk */
+    PT_MYSELF = 5,          /* a process cannot monitor itself */
+    PT_NOPROC = 6,          /* the other process is seen to have ended */
+    PT_UNKNOWN = 7,         /* the desk cannot have had the other process */
+    PT_NOTHING = 8,         /* there is nothing of what was asked for */
+    PT_EMPTY = 9,           /* a handle is empty */
+    PT_FILLED = 10,         /* a handle that is to be filled is not empty */
+    PT_BAD_DESKS = 11,      /* the first setting that is out of its range: 1 to 64 desks */
+    PT_BAD_SLOTS = 12,      /* 1 to 65,536 */
+    PT_BAD_TOP_VERSION = 13, /* at least 1 */
+    PT_BAD_LANE = 14,       /* 1 to 65,536 */
+    PT_BAD_START = 15       /* at most 2^62 */
+};
+
+/* The name of a process: its desk, its slot there, and how often the slot was given out. No two have the same. */
+typedef struct { uint8_t shard; uint32_t slot; uint32_t version; } pt_pid;
+
+/* The reference of a monitor or of a question, or the id of a link: the desk and the stamp of the event that made
+ * it. */
+typedef struct { uint8_t desk; uint64_t number; } pt_ref;
+
+/* The ids under which two processes are linked: two, where both sides made the link at the same time. */
+typedef struct { pt_ref one; bool has_two; pt_ref two; } pt_ids;
+
+/* An exit reason; `number` counts for PT_OTHER alone. Any code that is not below counts as PT_OTHER. */
+enum { PT_NORMAL = 0, PT_KILL = 1, PT_KILLED = 2, PT_NO_PROCESS = 3, PT_SHUTDOWN = 4, PT_OTHER = 5 };
+typedef struct { uint32_t code; uint32_t number; } pt_reason;
+
+/* What a message holds: a kind and a number of the caller's own, and a process, where `has_who`. A payload is kept by
+ * the caller, under `num`; docs/EMBEDDING.md says when it may be freed. */
+typedef struct { uint32_t kind; int64_t num; bool has_who; pt_pid who; } pt_body;
+
+/* What stands in a mailbox: a message (pid, body), a trapped exit signal (pid, reason), a DOWN (reference, pid, reason)
+ * or the answer to the question whether a process is alive (reference, pid, alive). */
+enum { PT_ITEM_USER = 0, PT_ITEM_EXIT = 1, PT_ITEM_DOWN = 2, PT_ITEM_ALIVE = 3 };
+typedef struct { uint32_t code; bool alive; pt_pid pid; pt_ref reference; pt_reason reason; pt_body body; } pt_item;
+
+/* Which items a receive takes: messages of `kind`, messages from `pid`, trapped exits of `pid`, the DOWN of
+ * `reference`, the answer to the question `reference`, or, by PT_PICK_ANY and each other code, all. */
+enum {
+    PT_PICK_KIND = 0, PT_PICK_FROM = 1, PT_PICK_EXIT_OF = 2, PT_PICK_DOWN_OF = 3, PT_PICK_ALIVE_OF = 4, PT_PICK_ANY = 5
+};
+typedef struct { uint32_t code; uint32_t kind; pt_pid pid; pt_ref reference; } pt_pick;
+
+/* What one process sends another. */
+enum {
+    PT_SIGNAL_MESSAGE = 0,   /* body */
+    PT_SIGNAL_LINK = 1,      /* ids.one */
+    PT_SIGNAL_UNLINK = 2,    /* ids */
+    PT_SIGNAL_EXIT = 3,      /* reason */
+    PT_SIGNAL_LINK_EXIT = 4, /* ids, reason */
+    PT_SIGNAL_MONITOR = 5,   /* reference */
+    PT_SIGNAL_DEMONITOR = 6, /* reference */
+    PT_SIGNAL_DOWN = 7,      /* reference, reason */
+    PT_SIGNAL_ALIVE_ASK = 8, /* reference */
+    PT_SIGNAL_ALIVE_SAY = 9  /* reference, alive */
+};
+typedef struct {
+    uint32_t code; bool alive; pt_reason reason; pt_ref reference; pt_ids ids; pt_body body;
+} pt_signal;
+
+/* What happened. `pid` is the process whose event it is, and `peer` the other one. */
+enum {
+    PT_EVENT_BORN = 0,   /* peer, the parent, where has_peer; link, made with it, where has_link */
+    PT_EVENT_SAID = 1,   /* peer, to whom; signal */
+    PT_EVENT_CAME = 2,   /* peer, from whom; signal */
+    PT_EVENT_TOOK = 3,   /* pick, item */
+    PT_EVENT_FLAG = 4,   /* on */
+    PT_EVENT_LEFT = 5,   /* reason: it ended by its own exit */
+    PT_EVENT_REFUSED = 6 /* peer, which had ended */
+};
+typedef struct {
+    uint64_t stamp; uint8_t desk; bool has_peer; bool has_link; bool on; uint32_t code;
+    pt_pid pid; pt_pid peer; pt_ref link; pt_reason reason; pt_pick pick; pt_item item; pt_signal signal;
+} pt_event;
+
+/* A letter that was sent and had not come when the desks were gathered. */
+typedef struct {
+    uint8_t from_desk; uint8_t to_desk; pt_pid from; pt_pid to; uint64_t stamp; pt_signal signal;
+} pt_left_over;
+
+/* What a turn did; `stopped` is PT_OK, or PT_MEMORY or PT_WORN where it stopped at a letter, which stays. */
+typedef struct { uint64_t posted; uint64_t handled; uint32_t stopped; } pt_turned;
+
+/* What became of a process: its exit reason, where it ended, and how many items came, were taken, and wait. */
+typedef struct { bool has_ended; pt_reason ended; uint64_t arrived; uint64_t taken; uint64_t waiting; } pt_account;
+
+/* The settings of a node: slots of a desk, greatest version of a slot, letters that a lane holds, start of the
+ * clocks. */
+typedef struct { uint32_t slots; uint32_t top_version; uint32_t lane; uint64_t start; } pt_config;
+
+/* ---- nodes */
+
+/* Opens a node: the `count` handles, all empty, get its desks, in order. PT_FILLED, PT_MEMORY, PT_BAD_.. */
+uint32_t pt_open(pt_desk *desks, size_t count, pt_config config);
+
+/* Brings all desks of one pt_open or one pt_resume together, in order: their handles are empty then, and `out` has the
+ * node. PT_EMPTY where a desk is missing, PT_FILLED where `out` has a node; PT_MEMORY, and then all desks are as they
+ * were. */
+uint32_t pt_gather(pt_desk *desks, size_t count, pt_gathered *out);
+
+/* Brings the letters left over to their receivers: `node` is empty then, and `out` has the settled node. PT_EMPTY,
+ * PT_FILLED; PT_MEMORY, PT_WORN, and then `node` has what was handled so far, and may be settled again. */
+uint32_t pt_settle(pt_gathered *node, pt_quiet *out);
+
+/* Goes on from a settled node: `node` is empty then, and the `count` handles, all empty before, have its desks, in
+ * order, with empty journals. Who lives has its links, monitors, flag and waiting items; who ended stays ended; clocks
+ * and the versions of slots go on. Take the node's history before, where it is to be kept: it is spent. PT_EMPTY;
+ * PT_FILLED where a desk's handle is not empty; PT_BAD_DESKS where the node has not `count` desks; PT_MEMORY, and then
+ * `node` is as it was. */
+uint32_t pt_resume(pt_quiet *node, pt_desk *desks, size_t count);
+
+/* Give up what a handle has, and its memory: the handle is empty. PT_EMPTY, where it was. */
+uint32_t pt_give_up(pt_desk *desk);
+uint32_t pt_gathered_give_up(pt_gathered *node);
+uint32_t pt_quiet_give_up(pt_quiet *node);
+uint32_t pt_history_give_up(pt_history *history);
+
+/* ---- calls of a process on its desk. Each may answer PT_GONE, PT_WORN, PT_MEMORY and PT_EMPTY */
+
+uint32_t pt_spawn(pt_desk *desk, pt_pid *out);                                            /* no PT_GONE; PT_FULL */
+uint32_t pt_spawn_child(pt_desk *desk, pt_pid parent, bool linked, pt_pid *out);          /* PT_FULL */
+uint32_t pt_send(pt_desk *desk, pt_pid from, pt_pid to, pt_body body);                    /* PT_NOPROC, PT_UNKNOWN */
+uint32_t pt_exit_signal(pt_desk *desk, pt_pid from, pt_pid to, pt_reason reason);         /* PT_UNKNOWN */
+uint32_t pt_link(pt_desk *desk, pt_pid p, pt_pid to);                                     /* PT_NOPROC, PT_UNKNOWN */
+uint32_t pt_unlink(pt_desk *desk, pt_pid p, pt_pid to);                                   /* PT_UNKNOWN */
+uint32_t pt_monitor(pt_desk *desk, pt_pid watcher, pt_pid target, pt_ref *out); /* PT_MYSELF, PT_NOPROC, PT_UNKNOWN */
+uint32_t pt_demonitor(pt_desk *desk, pt_pid watcher, pt_ref monitor, bool flush, bool *wrote);
+uint32_t pt_ask_alive(pt_desk *desk, pt_pid p, pt_pid target, pt_ref *out);               /* PT_UNKNOWN */
+uint32_t pt_trap(pt_desk *desk, pt_pid p, bool on, bool *was);
+uint32_t pt_receive(pt_desk *desk, pt_pid p, pt_pick pick, pt_item *out);                 /* PT_NOTHING: none fits */
+uint32_t pt_exit(pt_desk *desk, pt_pid p, pt_reason reason);
+
+/* Posts the letters that wait, and handles at most `budget`. PT_EMPTY; what stopped it stands in `out`. */
+uint32_t pt_turn(pt_desk *desk, uint32_t budget, pt_turned *out);
+
+/* ---- what a desk tells. Each may answer PT_EMPTY */
+
+uint32_t pt_clock(pt_desk *desk, uint64_t *out);
+uint32_t pt_number(pt_desk *desk, uint8_t *out);
+uint32_t pt_alive(pt_desk *desk, pt_pid p, bool *out);
+uint32_t pt_knows(pt_desk *desk, pt_pid p, bool *out);
+uint32_t pt_pending(pt_desk *desk, uint64_t *out);
+uint32_t pt_vacant(pt_desk *desk, pt_pid *out);                                   /* PT_NOTHING: no slot is free */
+uint32_t pt_waiting(pt_desk *desk, pt_pid p, size_t *out);                        /* PT_NOTHING: p does not live here */
+uint32_t pt_peek(pt_desk *desk, pt_pid p, size_t place, pt_item *out);            /* PT_NOTHING: no item there */
+uint32_t pt_linked(pt_desk *desk, pt_pid p, pt_pid peer, pt_ids *out);            /* PT_NOTHING: no link */
+uint32_t pt_event_count(pt_desk *desk, size_t *out);
+uint32_t pt_event_at(pt_desk *desk, size_t place, pt_event *out);                 /* PT_NOTHING: no such event */
+
+/* The next process to which a signal came, or that left, from the event at place `*at` on; `*at` is then behind that
+ * event. Nobody who got an item or ended is missed (that is proved); a named process need not have got an item, as by a
+ * link. Each such event is told once by a caller that keeps `*at`. PT_NOTHING: no more, and `*at` is behind the newest
+ * event. */
+uint32_t pt_next_woken(pt_desk *desk, size_t *at, pt_pid *out);
+
+/* ---- what a gathered node tells. Each may answer PT_EMPTY */
+
+uint32_t pt_gathered_desks(pt_gathered *node, uint8_t *out);
+
+/* `out`, empty, gets the events of all desks in one legal order, and the letters left over. PT_FILLED, PT_MEMORY. */
+uint32_t pt_gathered_history(pt_gathered *node, pt_history *out);
+
+/* ---- what a settled node tells. Each may answer PT_EMPTY */
+
+uint32_t pt_quiet_history(pt_quiet *node, pt_history *out);                       /* PT_FILLED, PT_MEMORY */
+uint32_t pt_quiet_desks(pt_quiet *node, uint8_t *out);
+uint32_t pt_quiet_handled(pt_quiet *node, uint64_t *out);
+uint32_t pt_quiet_pid_count(pt_quiet *node, size_t *out);
+uint32_t pt_quiet_pid_at(pt_quiet *node, size_t place, pt_pid *out);              /* PT_NOTHING */
+uint32_t pt_quiet_account(pt_quiet *node, pt_pid p, pt_account *out);             /* PT_NOTHING: never born */
+uint32_t pt_quiet_linked(pt_quiet *node, pt_pid p, pt_pid peer, pt_ids *out);     /* PT_NOTHING */
+uint32_t pt_quiet_kept(pt_quiet *node, pt_pid target, pt_ref monitor, bool *out);
+uint32_t pt_quiet_watching(pt_quiet *node, pt_pid watcher, pt_ref monitor, bool *out);
+
+/* ---- what a history tells. Each may answer PT_EMPTY */
+
+uint32_t pt_history_count(pt_history *history, size_t *out);
+uint32_t pt_history_at(pt_history *history, size_t place, pt_event *out);         /* PT_NOTHING */
+uint32_t pt_history_left_count(pt_history *history, size_t *out);
+uint32_t pt_history_left_at(pt_history *history, size_t place, pt_left_over *out); /* PT_NOTHING */
+
+/* ---- what the library says of itself, to be compared with this header (about.c does) */
+
+typedef struct {
+    uint32_t
+        done, full, memory, worn, gone, myself, noproc, unknown, nothing, empty, filled, bad_desks, bad_slots,
+        bad_top_version, bad_lane, bad_start, reason_normal, reason_kill, reason_killed, reason_noproc,
+        reason_shutdown, reason_other, item_user, item_exit, item_down, item_alive, pick_kind, pick_from,
+        pick_exit_of, pick_down_of, pick_alive_of, pick_any, signal_message, signal_link, signal_unlink,
+        signal_exit, signal_link_exit, signal_monitor, signal_demonitor, signal_down, signal_alive_ask,
+        signal_alive_say, event_born, event_said, event_came, event_took, event_flag, event_left, event_refused;
+} pt_codes;
+typedef struct {
+    size_t
+        pid, reference, ids, reason, body, item, pick, signal, event, left_over, turned, account, config, codes;
+} pt_sizes;
+void pt_about_codes(pt_codes *out);
+void pt_about_sizes(pt_sizes *out);
+
+/* Samples: the fields have the numbers 1, 2, 3 and so on in order, a bool being true. */
+void pt_about_event(pt_event *out);
+void pt_about_left_over(pt_left_over *out);
+void pt_about_turned(pt_turned *out);
+void pt_about_account(pt_account *out);
+void pt_about_config(pt_config *out);
+
+#ifdef __cplusplus
+}
+#endif
+#endif

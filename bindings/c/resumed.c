@@ -1,0 +1,53 @@
+/* A node goes on: a watcher and a worker; the node is brought to rest, its history printed and given up, and the same
+ * processes go on with empty journals. */
+#include <assert.h>
+#include <stdio.h>
+
+#include "pundewo.h"
+#include "pundewo_text.h"
+
+/* Gathers and settles the node, prints its history, and goes on from it. */
+static void epoch(pt_desk *desks, size_t count) {
+    pt_gathered node = PT_NO_GATHERED;
+    pt_quiet quiet = PT_NO_QUIET;
+    pt_history history = PT_NO_HISTORY;
+    pt_event event;
+    assert(pt_gather(desks, count, &node) == PT_OK && pt_settle(&node, &quiet) == PT_OK);
+    assert(pt_quiet_history(&quiet, &history) == PT_OK);
+    for (size_t k = 0; pt_history_at(&history, k, &event) == PT_OK; k++) {
+        pt_print_event(stdout, event);
+        puts("");
+    }
+    puts("--");
+    assert(pt_history_give_up(&history) == PT_OK);
+    /* a wrong number of handles is refused, and nothing is lost */
+    assert(pt_resume(&quiet, desks, count - 1) == PT_BAD_DESKS);
+    assert(pt_resume(&quiet, desks, count) == PT_OK && quiet.at == NULL);
+    assert(pt_resume(&quiet, desks, count) == PT_EMPTY);
+}
+
+int main(void) {
+    pt_desk desks[2] = {PT_NO_DESK, PT_NO_DESK};
+    pt_pid boss, worker;
+    pt_ref watch;
+    pt_turned turned;
+    pt_item item;
+    size_t events;
+    assert(pt_open(desks, 2, (pt_config){.slots = 4, .top_version = 100, .lane = 8, .start = 0}) == PT_OK);
+    assert(pt_spawn(&desks[0], &boss) == PT_OK && pt_spawn(&desks[1], &worker) == PT_OK);
+    assert(pt_monitor(&desks[0], boss, worker, &watch) == PT_OK);
+    epoch(desks, 2);
+    assert(pt_event_count(&desks[0], &events) == PT_OK && events == 0);
+    /* the monitor still stands */
+    assert(pt_exit(&desks[1], worker, (pt_reason){PT_OTHER, 7}) == PT_OK);
+    assert(pt_turn(&desks[1], 64, &turned) == PT_OK && pt_turn(&desks[0], 64, &turned) == PT_OK);
+    assert(pt_receive(&desks[0], boss, (pt_pick){.code = PT_PICK_DOWN_OF, .reference = watch}, &item) == PT_OK);
+    assert(item.reason.code == PT_OTHER && item.reason.number == 7);
+    epoch(desks, 2);
+    /* the dead stay dead: the slot is given out again under the next version */
+    assert(pt_send(&desks[1], worker, boss, (pt_body){.kind = 1}) == PT_GONE);
+    assert(pt_spawn(&desks[1], &worker) == PT_OK && worker.version == 2);
+    epoch(desks, 2);
+    assert(pt_give_up(&desks[0]) == PT_OK && pt_give_up(&desks[1]) == PT_OK);
+    return 0;
+}

@@ -1,0 +1,127 @@
+#!/usr/bin/env bash
+# Builds the static library and what stands over it, and runs all of it: C, Rust and Python play one table of calls, the
+# worked rows of the Rattle tests, and compare each answer; each compares its structs and codes with what the library
+# says of itself; the C examples run under valgrind.
+#
+#   bindings/run.sh           everything, over an archive of `rt lib`, which proves what was not proved on this machine
+#   bindings/run.sh --gate    everything, over an archive that is built on the libraries which `rt ci` has just proved
+#                             and left in this tree: the library itself is checked once more, and nothing below it
+#   bindings/run.sh --tools   only says which tools are missing
+#   bindings/run.sh --speed   the ping-pong through C, Rust and Python, and what the calls of C cost
+#
+# PT_C_ARCHIVE names an archive that was built before, and RT another 'rt'. Nothing is passed over: where a tool is
+# missing the script says which, and how it is had, and fails.
+set -euo pipefail
+
+mode=${1:-all}
+here=$(cd "$(dirname "$0")" && pwd)
+crates=$here/../crates
+bench=$here/../bench/bindings
+rt=${RT:-rt}
+
+missing=0
+needs() { # TOOL WHAT-FOR HOW
+    command -v "$1" >/dev/null || { echo "bindings: missing: $1, for $2: $3"; missing=1; }
+}
+needs "$rt" "the archive" "it is the toolchain's own command"
+needs cc "the C examples" "apt-get install gcc libc6-dev"
+needs cargo "the Rust crate" "apt-get install cargo, or https://rustup.rs (1.85 or later)"
+needs python3 "the Python module" "apt-get install python3 (3.9 or later)"
+[ "$missing" -eq 0 ] || exit 1
+# (only what is wrong with memory shows under it)
+if ! command -v valgrind >/dev/null; then
+    echo "bindings: no valgrind: the memory of the C examples is not looked at (apt-get install valgrind libc6-dbg)"
+fi
+[ "$mode" != --tools ] || exit 0
+
+kit=$(dirname "$("$rt" doc)")
+work=$(mktemp -d)
+trap 'rm -rf "$work"' EXIT
+mkdir "$work/lib"
+
+# The archive over the libraries that `rt ci` built: the compiler's own command, as the gate calls it for a program.
+build_over_gate() {
+    local words=(--crate-name pt_c src/lib.rt --crate-type staticlib --links pt_c= --jobs "$(nproc)")
+    local name folder
+    for name in std $(sed -n 's/^pt_c staticlib: //p' ../../crates.txt); do
+        folder=../$name/out/rlib
+        [ -d "../$name" ] || folder=$kit/rlibs
+        words+=(--extern "$name=$folder/$name.rlib")
+    done
+    for folder in "$kit/rlibs" ../*/out/rlib; do
+        words+=(-L "dependency=$folder")
+    done
+    words+=(--antt-project "$kit/rattle/logic/antt-project.json" --logic-built "$kit/logic_built")
+    "$kit/bin/rattle" build "${words[@]}" --toolchain "$kit/toolchain" --backend llvm -o "$work/lib/libpt_c.a"
+}
+
+build_by_lib() {
+    "$rt" lib && cp out/libpt_c.a "$work/lib/libpt_c.a"
+}
+
+build_archive() {
+    local how=build_by_lib
+    # (a library with a stamp is one of `rt check`, which `rt ci` puts back: `rt lib` sees whether it is up to date)
+    [ "$mode" != --gate ] || [ -e "$crates/pt_node/out/rlib/stamp" ] || how=build_over_gate
+    (cd "$crates/pt_c" && $how) >"$work/log" 2>&1 || { tail -n 30 "$work/log"; exit 1; }
+}
+
+if [ -n "${PT_C_ARCHIVE:-}" ]; then
+    cp "$PT_C_ARCHIVE" "$work/lib/libpt_c.a"
+else
+    build_archive
+fi
+
+c="cc -std=c11 -D_GNU_SOURCE -O2 -Wall -Wextra -Werror"
+build() { # PROGRAM [FOLDER]
+    $c -pthread -I "$here/c" -o "$work/$1" "${2:-$here/c}/$1.c" "$work/lib/libpt_c.a" "$kit/c/liblibc_c.a"
+}
+cc -shared -o "$work/libpundewo.so" -Wl,--whole-archive "$work/lib/libpt_c.a" -Wl,--no-whole-archive \
+    "$kit/c/liblibc_c.a"
+export PUNDEWO_LIB=$work/lib PUNDEWO_HEAP=$kit/c PUNDEWO_ROWS=$work/table PUNDEWO_SO=$work/libpundewo.so
+export CARGO_TARGET_DIR=$work/target PYTHONDONTWRITEBYTECODE=1
+
+if [ "$mode" = --speed ]; then
+    build ping_pong
+    build calls "$bench"
+    echo "C: $("$work/ping_pong")"
+    (cd "$here/rust" && echo "Rust: $(cargo run -q --offline --release --example ping_pong)")
+    (cd "$here/python" && echo "Python: $(python3 ping_pong.py)")
+    "$bench/instructions.sh" "$work/calls"
+    exit
+fi
+
+"$here/rows.py" >"$work/table"
+
+# C, and C++ for the header
+build about
+build rows
+build supervisor
+build ring
+build resumed
+build no_memory
+"$work/about"
+"$work/rows" "$work/table"
+"$work/no_memory"
+"$work/supervisor" | diff "$here/c/supervisor.out" -
+"$work/resumed" | diff "$here/c/resumed.out" -
+"$work/ring" >"$work/printed"
+echo '#include "pundewo.h"' | cc -x c++ -I "$here/c" -Wall -Wextra -Werror -fsyntax-only -
+if command -v valgrind >/dev/null; then
+    memory="valgrind -q --error-exitcode=9 --leak-check=full --show-leak-kinds=all --errors-for-leak-kinds=all"
+    for program in about "rows $work/table" supervisor resumed "ring 20"; do
+        $memory "$work/"$program >"$work/printed" 2>&1 \
+            || { cat "$work/printed"; echo "valgrind: $program is not clean"; exit 1; }
+    done
+    echo "c: valgrind finds no error and no leak"
+fi
+echo "c: examples passed"
+
+# Rust: tests, examples of the documentation, and the pages themselves
+(cd "$here/rust" && cargo test -q --offline && cargo doc -q --offline --no-deps && cargo build -q --offline --examples)
+echo "rust: tests and pages passed"
+
+# Python
+(cd "$here/python" && python3 -m unittest -q)
+echo "python: tests passed"
+echo "bindings: all passed"

@@ -1,0 +1,175 @@
+//! The C interface, as `pundewo.h` has it. `tests/about.rs` compares both with what the library says of itself.
+
+use crate::{Config, Pid};
+
+#[repr(C)]
+pub struct Handle {
+    pub at: *mut u8,
+}
+
+#[repr(C)]
+#[derive(Clone, Copy, Default)]
+pub struct RawRef {
+    pub desk: u8,
+    pub number: u64,
+}
+
+#[repr(C)]
+#[derive(Clone, Copy, Default)]
+pub struct RawIds {
+    pub one: RawRef,
+    pub has_two: bool,
+    pub two: RawRef,
+}
+
+#[repr(C)]
+#[derive(Clone, Copy, Default)]
+pub struct RawReason {
+    pub code: u32,
+    pub number: u32,
+}
+
+#[repr(C)]
+#[derive(Clone, Copy, Default)]
+pub struct RawBody {
+    pub kind: u32,
+    pub num: i64,
+    pub has_who: bool,
+    pub who: Pid,
+}
+
+#[repr(C)]
+#[derive(Clone, Copy, Default)]
+pub struct RawItem {
+    pub code: u32,
+    pub alive: bool,
+    pub pid: Pid,
+    pub reference: RawRef,
+    pub reason: RawReason,
+    pub body: RawBody,
+}
+
+#[repr(C)]
+#[derive(Clone, Copy, Default)]
+pub struct RawPick {
+    pub code: u32,
+    pub kind: u32,
+    pub pid: Pid,
+    pub reference: RawRef,
+}
+
+#[repr(C)]
+#[derive(Clone, Copy, Default)]
+pub struct RawSignal {
+    pub code: u32,
+    pub alive: bool,
+    pub reason: RawReason,
+    pub reference: RawRef,
+    pub ids: RawIds,
+    pub body: RawBody,
+}
+
+#[repr(C)]
+#[derive(Clone, Copy, Default)]
+pub struct RawEvent {
+    pub stamp: u64,
+    pub desk: u8,
+    pub has_peer: bool,
+    pub has_link: bool,
+    pub on: bool,
+    pub code: u32,
+    pub pid: Pid,
+    pub peer: Pid,
+    pub link: RawRef,
+    pub reason: RawReason,
+    pub pick: RawPick,
+    pub item: RawItem,
+    pub signal: RawSignal,
+}
+
+#[repr(C)]
+#[derive(Clone, Copy, Default)]
+pub struct RawLeftOver {
+    pub from_desk: u8,
+    pub to_desk: u8,
+    pub from: Pid,
+    pub to: Pid,
+    pub stamp: u64,
+    pub signal: RawSignal,
+}
+
+#[repr(C)]
+#[derive(Clone, Copy, Default)]
+pub struct RawTurned {
+    pub posted: u64,
+    pub handled: u64,
+    pub stopped: u32,
+}
+
+#[repr(C)]
+#[derive(Clone, Copy, Default)]
+pub struct RawAccount {
+    pub has_ended: bool,
+    pub ended: RawReason,
+    pub arrived: u64,
+    pub taken: u64,
+    pub waiting: u64,
+}
+
+unsafe extern "C" {
+    pub fn pt_open(desks: *mut Handle, count: usize, config: Config) -> u32;
+    pub fn pt_gather(desks: *mut Handle, count: usize, out: &mut Handle) -> u32;
+    pub fn pt_settle(node: &mut Handle, out: &mut Handle) -> u32;
+    pub fn pt_resume(node: &mut Handle, desks: *mut Handle, count: usize) -> u32;
+    pub fn pt_give_up(desk: &mut Handle) -> u32;
+    pub fn pt_gathered_give_up(node: &mut Handle) -> u32;
+    pub fn pt_quiet_give_up(node: &mut Handle) -> u32;
+    pub fn pt_history_give_up(history: &mut Handle) -> u32;
+    pub fn pt_spawn(h: &mut Handle, out: &mut Pid) -> u32;
+    pub fn pt_spawn_child(h: &mut Handle, parent: Pid, linked: bool, out: &mut Pid) -> u32;
+    pub fn pt_send(h: &mut Handle, from: Pid, to: Pid, body: RawBody) -> u32;
+    pub fn pt_exit_signal(h: &mut Handle, from: Pid, to: Pid, reason: RawReason) -> u32;
+    pub fn pt_link(h: &mut Handle, p: Pid, to: Pid) -> u32;
+    pub fn pt_unlink(h: &mut Handle, p: Pid, to: Pid) -> u32;
+    pub fn pt_monitor(h: &mut Handle, watcher: Pid, target: Pid, out: &mut RawRef) -> u32;
+    pub fn pt_demonitor(h: &mut Handle, watcher: Pid, monitor: RawRef, flush: bool, wrote: &mut bool) -> u32;
+    pub fn pt_ask_alive(h: &mut Handle, p: Pid, target: Pid, out: &mut RawRef) -> u32;
+    pub fn pt_trap(h: &mut Handle, p: Pid, on: bool, was: &mut bool) -> u32;
+    pub fn pt_receive(h: &mut Handle, p: Pid, pick: RawPick, out: &mut RawItem) -> u32;
+    pub fn pt_exit(h: &mut Handle, p: Pid, reason: RawReason) -> u32;
+    pub fn pt_turn(h: &mut Handle, budget: u32, out: &mut RawTurned) -> u32;
+    pub fn pt_clock(h: &mut Handle, out: &mut u64) -> u32;
+    pub fn pt_number(h: &mut Handle, out: &mut u8) -> u32;
+    pub fn pt_alive(h: &mut Handle, p: Pid, out: &mut bool) -> u32;
+    pub fn pt_knows(h: &mut Handle, p: Pid, out: &mut bool) -> u32;
+    pub fn pt_pending(h: &mut Handle, out: &mut u64) -> u32;
+    pub fn pt_vacant(h: &mut Handle, out: &mut Pid) -> u32;
+    pub fn pt_waiting(h: &mut Handle, p: Pid, out: &mut usize) -> u32;
+    pub fn pt_peek(h: &mut Handle, p: Pid, place: usize, out: &mut RawItem) -> u32;
+    pub fn pt_linked(h: &mut Handle, p: Pid, peer: Pid, out: &mut RawIds) -> u32;
+    pub fn pt_event_count(h: &mut Handle, out: &mut usize) -> u32;
+    pub fn pt_event_at(h: &mut Handle, place: usize, out: &mut RawEvent) -> u32;
+    pub fn pt_next_woken(h: &mut Handle, at: &mut usize, out: &mut Pid) -> u32;
+    pub fn pt_gathered_desks(node: &mut Handle, out: &mut u8) -> u32;
+    pub fn pt_gathered_history(node: &mut Handle, out: &mut Handle) -> u32;
+    pub fn pt_quiet_history(node: &mut Handle, out: &mut Handle) -> u32;
+    pub fn pt_quiet_desks(node: &mut Handle, out: &mut u8) -> u32;
+    pub fn pt_quiet_handled(node: &mut Handle, out: &mut u64) -> u32;
+    pub fn pt_quiet_pid_count(node: &mut Handle, out: &mut usize) -> u32;
+    pub fn pt_quiet_pid_at(node: &mut Handle, place: usize, out: &mut Pid) -> u32;
+    pub fn pt_quiet_account(node: &mut Handle, p: Pid, out: &mut RawAccount) -> u32;
+    pub fn pt_quiet_linked(node: &mut Handle, p: Pid, peer: Pid, out: &mut RawIds) -> u32;
+    pub fn pt_quiet_kept(node: &mut Handle, target: Pid, monitor: RawRef, out: &mut bool) -> u32;
+    pub fn pt_quiet_watching(node: &mut Handle, watcher: Pid, monitor: RawRef, out: &mut bool) -> u32;
+    pub fn pt_history_count(history: &mut Handle, out: &mut usize) -> u32;
+    pub fn pt_history_at(history: &mut Handle, place: usize, out: &mut RawEvent) -> u32;
+    pub fn pt_history_left_count(history: &mut Handle, out: &mut usize) -> u32;
+    pub fn pt_history_left_at(history: &mut Handle, place: usize, out: &mut RawLeftOver) -> u32;
+    pub fn pt_about_codes(out: *mut u32);
+    pub fn pt_about_sizes(out: *mut usize);
+    pub fn pt_about_event(out: &mut RawEvent);
+    pub fn pt_about_left_over(out: &mut RawLeftOver);
+    pub fn pt_about_turned(out: &mut RawTurned);
+    pub fn pt_about_account(out: &mut RawAccount);
+    pub fn pt_about_config(out: &mut Config);
+}

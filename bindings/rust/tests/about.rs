@@ -1,0 +1,105 @@
+//! Compares what the library says of itself with this crate: sizes, where the fields stand, and codes.
+
+use pundewo::raw::*;
+use pundewo::{Config, Pid};
+use std::mem::size_of;
+
+/// The numbers of the fields of a sample, in order.
+trait Fields {
+    fn fields(&self, to: &mut Vec<u64>);
+}
+
+macro_rules! fields {
+    ($name:ty: $($field:ident)*) => {
+        impl Fields for $name {
+            fn fields(&self, to: &mut Vec<u64>) {
+                $(self.$field.fields(to);)*
+            }
+        }
+    };
+}
+
+macro_rules! number {
+    ($($name:ty)*) => {
+        $(impl Fields for $name {
+            fn fields(&self, to: &mut Vec<u64>) {
+                to.push(*self as u64);
+            }
+        })*
+    };
+}
+
+number!(u8 u32 u64 i64);
+
+impl Fields for bool {
+    fn fields(&self, to: &mut Vec<u64>) {
+        // a bool of a sample is true, and counts as the number that it stands at
+        assert!(*self);
+        to.push(to.len() as u64 + 1);
+    }
+}
+
+fields!(Pid: shard slot version);
+fields!(RawRef: desk number);
+fields!(RawIds: one has_two two);
+fields!(RawReason: code number);
+fields!(RawBody: kind num has_who who);
+fields!(RawItem: code alive pid reference reason body);
+fields!(RawPick: code kind pid reference);
+fields!(RawSignal: code alive reason reference ids body);
+fields!(RawEvent: stamp desk has_peer has_link on code pid peer link reason pick item signal);
+fields!(RawLeftOver: from_desk to_desk from to stamp signal);
+fields!(RawTurned: posted handled stopped);
+fields!(RawAccount: has_ended ended arrived taken waiting);
+fields!(Config: slots top_version lane start);
+
+fn in_order(sample: &impl Fields) {
+    let mut told = Vec::new();
+    sample.fields(&mut told);
+    assert_eq!(told, (1..=told.len() as u64).collect::<Vec<u64>>());
+}
+
+#[test]
+fn each_field_stands_where_the_library_has_it() {
+    let mut event = RawEvent::default();
+    let mut left_over = RawLeftOver::default();
+    let mut turned = RawTurned::default();
+    let mut account = RawAccount::default();
+    let mut config = Config::default();
+    unsafe {
+        pt_about_event(&mut event);
+        pt_about_left_over(&mut left_over);
+        pt_about_turned(&mut turned);
+        pt_about_account(&mut account);
+        pt_about_config(&mut config);
+    }
+    in_order(&event);
+    in_order(&left_over);
+    in_order(&turned);
+    in_order(&account);
+    in_order(&config);
+}
+
+#[test]
+fn each_size_is_the_librarys() {
+    let mut told = [0; 14];
+    unsafe { pt_about_sizes(told.as_mut_ptr()) };
+    let mine = [
+        size_of::<Pid>(), size_of::<RawRef>(), size_of::<RawIds>(), size_of::<RawReason>(), size_of::<RawBody>(),
+        size_of::<RawItem>(), size_of::<RawPick>(), size_of::<RawSignal>(), size_of::<RawEvent>(),
+        size_of::<RawLeftOver>(), size_of::<RawTurned>(), size_of::<RawAccount>(), size_of::<Config>(), told[13],
+    ];
+    assert_eq!(told, mine);
+}
+
+#[test]
+fn each_code_is_the_librarys() {
+    let mut sizes = [0; 14];
+    unsafe { pt_about_sizes(sizes.as_mut_ptr()) };
+    // the answers, and then the codes of reasons, items, picks, signals and events, as `values.rs` reads them
+    let wanted: Vec<u32> = (0..16).chain(0..6).chain(0..4).chain(0..6).chain(0..10).chain(0..7).collect();
+    assert_eq!(sizes[13], wanted.len() * size_of::<u32>());
+    let mut told = vec![0; wanted.len()];
+    unsafe { pt_about_codes(told.as_mut_ptr()) };
+    assert_eq!(told, wanted);
+}

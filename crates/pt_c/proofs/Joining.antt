@@ -1,0 +1,47 @@
+-- What gathering and settling come to, from what their parts tell.
+use Rattle.std.proofs.Common.{◌≡◌, ℕ, ◌+◌, ◌<◌, false, List, [], ◌∷◌, Option, Some, None, length, map, refl, sym, ap, ◌∙◌, subst, arith, inl, inr}
+use Rattle.std.specs.Prelude.{is_some}
+use Rattle.pt_desk.specs.DeskState.{DeskState}
+use Rattle.pt_gathered.specs.Gathered.{GatheredState}
+use Rattle.pt_gathered.specs.Quiet.{QuietState}
+use Rattle.pt_c.specs.Answers.{Place, value_in, values, had, full}
+use Rattle.pt_c.specs.Nodes.{IfEmpty, GathersAs, SettlesAs, IsSettledOf, NotSettled}
+use Rattle.pt_c.proofs.InRow.{first_value}
+
+module _ {S : Type 0} where
+  pub place_is : (p : Place S) (s : S) → value_in p ≡ Some s → p ≡ full s
+  place_is (Some (Some t)) s e = ap Some e
+  place_is (Some None) s e = absurd (cc e)
+  place_is None s e = absurd (cc e)
+
+  pub if_empty : (p : Place S) (P Q : Type 0) → is_some (value_in p) ≡ false → P → IfEmpty p P Q
+  if_empty (Some (Some s)) P Q e x = absurd (cc e)
+  if_empty (Some None) P Q e x = x
+  if_empty None P Q e x = x
+
+  -- where all places are full, they are those of their values
+  full_back : (places : List (Place S)) → length (values places) ≡ length places → map full (values places) ≡ places
+  full_back [] e = refl
+  full_back (p ∷ places) e =
+      let f = first_value p places e in
+      let are : values (p ∷ places) ≡ f.0 ∷ values places = ap (λ o. had o (values places)) f.1 in
+      let rest = full_back places (omega (arith, ap length are, e)) in
+      ap (map full) are ∙ ap (λ q. q ∷ map full (values places)) (sym (place_is p f.0 f.1)) ∙ ap (λ qs. p ∷ qs) rest
+
+-- there was no memory before a desk left its handle
+pub no_memory :
+    (old new : List (Place DeskState)) (before after : Place GatheredState)
+    → length (values old) ≡ length old → 0 < length old → new ≡ old → after ≡ before → is_some (value_in before) ≡ false
+    → GathersAs 2 old new before after
+no_memory old new before after all some same out none = record {
+  all_full = λ a. if_empty before _ _ none (inr (record { no_memory = refl; back = values old; kept = refl; are = same ∙ sym (full_back old all); out_same = out }));
+  not_all = λ n. absurd (n (some, all));
+}
+
+module _ (old : Place GatheredState) (g : GatheredState) (is : old ≡ full g) (new : Place GatheredState) (before after : Place QuietState) (none : is_some (value_in before) ≡ false) where
+  pub settled : (q : QuietState) → new ≡ None → IsSettledOf g q → after ≡ full q → SettlesAs 0 old new before after
+  settled q gone so out =
+      subst (λ o. SettlesAs 0 o new before after) (sym is) (if_empty before _ _ none (inl (record { done = refl; emptied = gone; node = q; is_of = so; out_is = out })))
+
+  pub not_settled : (code : ℕ) → NotSettled code g new before after → SettlesAs code old new before after
+  not_settled code so = subst (λ o. SettlesAs code o new before after) (sym is) (if_empty before _ _ none (inr (inl so)))

@@ -1,0 +1,5 @@
+pub mod Values
+pub mod Handles
+pub mod InRow
+pub mod Joining
+pub mod Waking

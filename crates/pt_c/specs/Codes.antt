@@ -1,0 +1,60 @@
+-- The codes that calls answer. 0 is done, and each of the others has one meaning in every call.
+use Rattle.std.specs.Prelude.{ℕ, Option, Some, None, Result, Ok, Err}
+use Rattle.pt_shard.specs.declared.config.OpenError.{OpenError}
+use Rattle.pt_shard.specs.declared.config.OpenError.TheVariants.{Bounds, Memory as NoMemory}
+use Rattle.pt_shard.specs.declared.config.Setting.TheVariants.{Desks, Slots, TopVersion, Lane, Start}
+use Rattle.pt_shard.specs.declared.fault.Fault.{Fault}
+use Rattle.pt_shard.specs.declared.fault.Fault.TheVariants.{Full, Memory, Worn, Gone, Myself, NoProc}
+use Rattle.pt_shard.specs.declared.stop.Stop.{Stop}
+use Rattle.pt_shard.specs.declared.stop.Stop.TheVariants.{Memory as StopMemory, Worn as StopWorn}
+
+abbrev pub code_of : Fault → ℕ
+code_of Full = 1
+code_of Memory = 2
+code_of Worn = 3
+code_of Gone = 4
+code_of Myself = 5
+code_of NoProc = 6
+
+-- the desk cannot have had the target
+abbrev pub unknown : ℕ
+unknown = 7
+
+-- there is nothing of what was asked for
+abbrev pub nothing_there : ℕ
+nothing_there = 8
+
+-- a handle has nothing
+abbrev pub empty : ℕ
+empty = 9
+
+-- a handle that is to be filled has something
+abbrev pub filled : ℕ
+filled = 10
+
+-- a setting is out of its range
+abbrev pub open_code : OpenError → ℕ
+open_code NoMemory = 2
+open_code (Bounds Desks) = 11
+open_code (Bounds Slots) = 12
+open_code (Bounds TopVersion) = 13
+open_code (Bounds Lane) = 14
+open_code (Bounds Start) = 15
+
+abbrev pub code_at : {A : Type 0} → Result A Fault → ℕ
+code_at (Ok a) = 0
+code_at (Err f) = code_of f
+
+abbrev pub found_code : {A : Type 0} → Result (Option A) Fault → ℕ
+found_code (Ok (Some a)) = 0
+found_code (Ok None) = nothing_there
+found_code (Err f) = code_of f
+
+abbrev pub some_code : {A : Type 0} → Option A → ℕ
+some_code (Some a) = 0
+some_code None = nothing_there
+
+abbrev pub stop_code : Option Stop → ℕ
+stop_code None = 0
+stop_code (Some StopMemory) = 2
+stop_code (Some StopWorn) = 3

@@ -1,0 +1,8 @@
+pub mod Held
+pub mod Crossing
+pub mod Codes
+pub mod Answers
+pub mod Nodes
+pub mod Reading
+pub mod Waking
+pub mod About

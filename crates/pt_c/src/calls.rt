@@ -1,0 +1,288 @@
+//! The calls of a desk.
+//!
+//! Each is the desk's call of that name, made on the desk that the handle has. 9 is answered where it has none.
+
+ghost use Rattle.std.specs.Prelude.{◌≡◌};
+ghost use Rattle.pt_c.specs.Answers.{Called, Spawns, SpawnsChild, Sends, SendsExit, Links, Unlinks, Watches, Unwatches};
+ghost use Rattle.pt_c.specs.Answers.{Asks, Traps, Takes, Exits, TurnsOnce};
+ghost use Rattle.pt_c.specs.Crossing.{pid_in, ref_in, reason_in, body_in, pick_in};
+
+use crate::codes::{DONE, EMPTY};
+use crate::crossing::{body_in, pick_in, pid_in, reason_in, ref_in};
+use crate::desk_handle::{DeskHandle, claim, hold};
+use crate::doing::{
+    ask_alive, demonitor, exit, exit_signal, link, monitor, receive, send, spawn, spawn_child,
+    trap, turn, unlink,
+};
+use crate::types::{PtBody, PtItem, PtPick, PtPid, PtReason, PtRef, PtTurned};
+use std::alloc::Global;
+
+/// Makes a process that no other one bears, as `Desk::spawn` does. Its pid goes to `out` where 0 is answered.
+#[unsafe(no_mangle)]
+pub extern "C" fn pt_spawn(alloc: Global, h: &mut DeskHandle, out: &mut PtPid) -> u32
+    ensures { Called h.old.state h.new.state result (out.new ≡ out.old) (Spawns result out.old out.new) }
+{
+    let Some(mut place) = claim(alloc, h) else {
+        return EMPTY;
+    };
+    let code = match &mut place.desk {
+        Some(desk) => spawn(desk, out),
+        None => EMPTY,
+    };
+    *h = hold(place);
+    code
+}
+
+/// Makes a process that its parent bears, linked with it where that is asked, as `Desk::spawn_child` does. Its pid
+/// goes to `out` where 0 is answered.
+#[unsafe(no_mangle)]
+pub extern "C" fn pt_spawn_child(
+    alloc: Global,
+    h: &mut DeskHandle,
+    parent: PtPid,
+    linked: bool,
+    out: &mut PtPid,
+) -> u32
+    ensures { Called h.old.state h.new.state result (out.new ≡ out.old)
+        (SpawnsChild (pid_in parent) linked result out.old out.new) }
+{
+    let Some(mut place) = claim(alloc, h) else {
+        return EMPTY;
+    };
+    let code = match &mut place.desk {
+        Some(desk) => spawn_child(desk, pid_in(parent), linked, out),
+        None => EMPTY,
+    };
+    *h = hold(place);
+    code
+}
+
+/// Sends a message, as `Desk::send` does.
+#[unsafe(no_mangle)]
+pub extern "C" fn pt_send(
+    alloc: Global,
+    h: &mut DeskHandle,
+    from: PtPid,
+    to: PtPid,
+    body: PtBody,
+) -> u32
+    ensures { Called h.old.state h.new.state result (Unit {0}) (Sends (pid_in from) (pid_in to) (body_in body) result) }
+{
+    let Some(mut place) = claim(alloc, h) else {
+        return EMPTY;
+    };
+    let code = match &mut place.desk {
+        Some(desk) => send(desk, pid_in(from), pid_in(to), body_in(body)),
+        None => EMPTY,
+    };
+    *h = hold(place);
+    code
+}
+
+/// Sends an exit signal that no link carries, as `Desk::exit_signal` does.
+#[unsafe(no_mangle)]
+pub extern "C" fn pt_exit_signal(
+    alloc: Global,
+    h: &mut DeskHandle,
+    from: PtPid,
+    to: PtPid,
+    reason: PtReason,
+) -> u32
+    ensures { Called h.old.state h.new.state result (Unit {0})
+        (SendsExit (pid_in from) (pid_in to) (reason_in reason) result) }
+{
+    let Some(mut place) = claim(alloc, h) else {
+        return EMPTY;
+    };
+    let code = match &mut place.desk {
+        Some(desk) => exit_signal(desk, pid_in(from), pid_in(to), reason_in(reason)),
+        None => EMPTY,
+    };
+    *h = hold(place);
+    code
+}
+
+/// Links p with another process, as `Desk::link` does.
+#[unsafe(no_mangle)]
+pub extern "C" fn pt_link(alloc: Global, h: &mut DeskHandle, p: PtPid, to: PtPid) -> u32
+    ensures { Called h.old.state h.new.state result (Unit {0}) (Links (pid_in p) (pid_in to) result) }
+{
+    let Some(mut place) = claim(alloc, h) else {
+        return EMPTY;
+    };
+    let code = match &mut place.desk {
+        Some(desk) => link(desk, pid_in(p), pid_in(to)),
+        None => EMPTY,
+    };
+    *h = hold(place);
+    code
+}
+
+/// Takes the link of p with another process back, as `Desk::unlink` does.
+#[unsafe(no_mangle)]
+pub extern "C" fn pt_unlink(alloc: Global, h: &mut DeskHandle, p: PtPid, to: PtPid) -> u32
+    ensures { Called h.old.state h.new.state result (Unit {0}) (Unlinks (pid_in p) (pid_in to) result) }
+{
+    let Some(mut place) = claim(alloc, h) else {
+        return EMPTY;
+    };
+    let code = match &mut place.desk {
+        Some(desk) => unlink(desk, pid_in(p), pid_in(to)),
+        None => EMPTY,
+    };
+    *h = hold(place);
+    code
+}
+
+/// Watches a process, as `Desk::monitor` does. The reference goes to `out` where 0 is answered.
+#[unsafe(no_mangle)]
+pub extern "C" fn pt_monitor(
+    alloc: Global,
+    h: &mut DeskHandle,
+    w: PtPid,
+    t: PtPid,
+    out: &mut PtRef,
+) -> u32
+    ensures { Called h.old.state h.new.state result (out.new ≡ out.old)
+        (Watches (pid_in w) (pid_in t) result out.old out.new) }
+{
+    let Some(mut place) = claim(alloc, h) else {
+        return EMPTY;
+    };
+    let code = match &mut place.desk {
+        Some(desk) => monitor(desk, pid_in(w), pid_in(t), out),
+        None => EMPTY,
+    };
+    *h = hold(place);
+    code
+}
+
+/// Gives a monitor up, as `Desk::demonitor` does. Whether it wrote an event goes to `wrote` where 0 is answered.
+#[unsafe(no_mangle)]
+pub extern "C" fn pt_demonitor(
+    alloc: Global,
+    h: &mut DeskHandle,
+    w: PtPid,
+    monitor: PtRef,
+    flush: bool,
+    wrote: &mut bool,
+) -> u32
+    ensures { Called h.old.state h.new.state result (wrote.new ≡ wrote.old)
+        (Unwatches (pid_in w) (ref_in monitor) flush result wrote.old wrote.new) }
+{
+    let Some(mut place) = claim(alloc, h) else {
+        return EMPTY;
+    };
+    let code = match &mut place.desk {
+        Some(desk) => demonitor(desk, pid_in(w), ref_in(monitor), flush, wrote),
+        None => EMPTY,
+    };
+    *h = hold(place);
+    code
+}
+
+/// Asks whether a process is alive, as `Desk::ask_alive` does. The reference goes to `out` where 0 is answered.
+#[unsafe(no_mangle)]
+pub extern "C" fn pt_ask_alive(
+    alloc: Global,
+    h: &mut DeskHandle,
+    p: PtPid,
+    t: PtPid,
+    out: &mut PtRef,
+) -> u32
+    ensures { Called h.old.state h.new.state result (out.new ≡ out.old)
+        (Asks (pid_in p) (pid_in t) result out.old out.new) }
+{
+    let Some(mut place) = claim(alloc, h) else {
+        return EMPTY;
+    };
+    let code = match &mut place.desk {
+        Some(desk) => ask_alive(desk, pid_in(p), pid_in(t), out),
+        None => EMPTY,
+    };
+    *h = hold(place);
+    code
+}
+
+/// Sets whether p traps exits, as `Desk::trap` does. Whether it did goes to `was` where 0 is answered.
+#[unsafe(no_mangle)]
+pub extern "C" fn pt_trap(
+    alloc: Global,
+    h: &mut DeskHandle,
+    p: PtPid,
+    on: bool,
+    was: &mut bool,
+) -> u32
+    ensures { Called h.old.state h.new.state result (was.new ≡ was.old) (Traps (pid_in p) on result was.old was.new) }
+{
+    let Some(mut place) = claim(alloc, h) else {
+        return EMPTY;
+    };
+    let code = match &mut place.desk {
+        Some(desk) => trap(desk, pid_in(p), on, was),
+        None => EMPTY,
+    };
+    *h = hold(place);
+    code
+}
+
+/// Takes the first item that fits, as `Desk::receive` does. It goes to `out` where 0 is answered; 8 says that nothing
+/// fits.
+#[unsafe(no_mangle)]
+pub extern "C" fn pt_receive(
+    alloc: Global,
+    h: &mut DeskHandle,
+    p: PtPid,
+    pick: PtPick,
+    out: &mut PtItem,
+) -> u32
+    ensures { Called h.old.state h.new.state result (out.new ≡ out.old)
+        (Takes (pid_in p) (pick_in pick) result out.old out.new) }
+{
+    let Some(mut place) = claim(alloc, h) else {
+        return EMPTY;
+    };
+    let code = match &mut place.desk {
+        Some(desk) => receive(desk, pid_in(p), pick_in(pick), out),
+        None => EMPTY,
+    };
+    *h = hold(place);
+    code
+}
+
+/// Ends p, as `Desk::exit` does.
+#[unsafe(no_mangle)]
+pub extern "C" fn pt_exit(alloc: Global, h: &mut DeskHandle, p: PtPid, reason: PtReason) -> u32
+    ensures { Called h.old.state h.new.state result (Unit {0}) (Exits (pid_in p) (reason_in reason) result) }
+{
+    let Some(mut place) = claim(alloc, h) else {
+        return EMPTY;
+    };
+    let code = match &mut place.desk {
+        Some(desk) => exit(desk, pid_in(p), reason_in(reason)),
+        None => EMPTY,
+    };
+    *h = hold(place);
+    code
+}
+
+/// Posts letters, and then handles at most `budget` of them, as `Desk::turn` does. What it did goes to `out` where 0 is
+/// answered, and then `stopped` says what stopped it.
+#[unsafe(no_mangle)]
+pub extern "C" fn pt_turn(alloc: Global, h: &mut DeskHandle, budget: u32, out: &mut PtTurned) -> u32
+    ensures { Called h.old.state h.new.state result (out.new ≡ out.old)
+        (λ old new. (result ≡ 0) × TurnsOnce budget out.new old new) }
+{
+    let Some(mut place) = claim(alloc, h) else {
+        return EMPTY;
+    };
+    let code = match &mut place.desk {
+        Some(desk) => {
+            *out = turn(desk, budget);
+            DONE
+        }
+        None => EMPTY,
+    };
+    *h = hold(place);
+    code
+}

@@ -1,0 +1,548 @@
+//! What a desk, a gathered node, a settled node and a history tell. Nothing changes.
+//!
+//! 9 is answered where the handle has nothing, and 8 where there is nothing of what was asked for.
+
+ghost use Rattle.std.specs.Prelude.{◌≡◌, length, reverse, slice_get};
+ghost use Rattle.pt_shard.specs.ShardState.{lives};
+ghost use Rattle.pt_shard.specs.Known.{knows};
+ghost use Rattle.pt_c.specs.Answers.{Read, Shows};
+ghost use Rattle.pt_c.specs.Reading.{event_of, item_of, linked_in, waits_in, pending_in, event_count_in};
+ghost use Rattle.pt_c.specs.Waking.{Woken, NobodyIsMissed};
+ghost use Rattle.pt_c.specs.Reading.{TellsCount, TellsPid, TellsAccount, TellsLinked, TellsKept, TellsWatching};
+ghost use Rattle.pt_c.specs.Crossing.{pid_in, pid_out, ref_in, ids_out, item_out, event_out, left_out};
+
+use crate::codes::{DONE, EMPTY};
+use crate::crossing::{pid_in, ref_in};
+use crate::desk_handle::{DeskHandle, claim as claim_desk, hold as hold_desk};
+use crate::gathered_handle::{GatheredHandle, claim as claim_gathered, hold as hold_gathered};
+use crate::history_handle::{HistoryHandle, claim as claim_history, hold as hold_history};
+use crate::looking::{
+    account, event_at, history_event, history_left, kept, linked, next_woken, peek, pid_at,
+    pid_count, quiet_linked, vacant, waiting, watching,
+};
+use crate::quiet_handle::{QuietHandle, claim as claim_quiet, hold as hold_quiet};
+use crate::types::{PtAccount, PtEvent, PtIds, PtItem, PtLeftOver, PtPid, PtRef};
+use std::alloc::Global;
+
+/// The stamp of the newest event, or the start of the clock.
+#[unsafe(no_mangle)]
+pub extern "C" fn pt_clock(alloc: Global, h: &mut DeskHandle, out: &mut u64) -> u32
+    ensures { Read h.old.state h.new.state result (out.new ≡ out.old) (λ d. (result ≡ 0) × (out.new ≡ d.shard.clock)) }
+{
+    let Some(held) = claim_desk(alloc, h) else {
+        return EMPTY;
+    };
+    let code = match &held.desk {
+        Some(desk) => {
+            *out = desk.clock();
+            DONE
+        }
+        None => EMPTY,
+    };
+    *h = hold_desk(held);
+    code
+}
+
+/// The number of the desk.
+#[unsafe(no_mangle)]
+pub extern "C" fn pt_number(alloc: Global, h: &mut DeskHandle, out: &mut u8) -> u32
+    ensures { Read h.old.state h.new.state result (out.new ≡ out.old) (λ d. (result ≡ 0) × (out.new ≡ d.shard.number)) }
+{
+    let Some(held) = claim_desk(alloc, h) else {
+        return EMPTY;
+    };
+    let code = match &held.desk {
+        Some(desk) => {
+            *out = desk.number();
+            DONE
+        }
+        None => EMPTY,
+    };
+    *h = hold_desk(held);
+    code
+}
+
+/// Whether p lives on the desk.
+#[unsafe(no_mangle)]
+pub extern "C" fn pt_alive(alloc: Global, h: &mut DeskHandle, p: PtPid, out: &mut bool) -> u32
+    ensures { Read h.old.state h.new.state result (out.new ≡ out.old)
+        (λ d. (result ≡ 0) × (out.new ≡ lives d.shard (pid_in p))) }
+{
+    let Some(held) = claim_desk(alloc, h) else {
+        return EMPTY;
+    };
+    let code = match &held.desk {
+        Some(desk) => {
+            *out = desk.alive_here(pid_in(p));
+            DONE
+        }
+        None => EMPTY,
+    };
+    *h = hold_desk(held);
+    code
+}
+
+/// Whether p may be the target of a call: calls whose target it is not answer 7.
+#[unsafe(no_mangle)]
+pub extern "C" fn pt_knows(alloc: Global, h: &mut DeskHandle, p: PtPid, out: &mut bool) -> u32
+    ensures { Read h.old.state h.new.state result (out.new ≡ out.old)
+        (λ d. (result ≡ 0) × (out.new ≡ knows d.shard (pid_in p))) }
+{
+    let Some(held) = claim_desk(alloc, h) else {
+        return EMPTY;
+    };
+    let code = match &held.desk {
+        Some(desk) => {
+            *out = desk.knows(pid_in(p));
+            DONE
+        }
+        None => EMPTY,
+    };
+    *h = hold_desk(held);
+    code
+}
+
+/// How many letters wait in the outbox and the hold.
+#[unsafe(no_mangle)]
+pub extern "C" fn pt_pending(alloc: Global, h: &mut DeskHandle, out: &mut u64) -> u32
+    ensures { Read h.old.state h.new.state result (out.new ≡ out.old) (λ d. (result ≡ 0) × (out.new ≡ pending_in d)) }
+{
+    let Some(held) = claim_desk(alloc, h) else {
+        return EMPTY;
+    };
+    let code = match &held.desk {
+        Some(desk) => {
+            *out = desk.pending();
+            DONE
+        }
+        None => EMPTY,
+    };
+    *h = hold_desk(held);
+    code
+}
+
+/// The pid that the next birth has; 8 where no slot is free.
+#[unsafe(no_mangle)]
+pub extern "C" fn pt_vacant(alloc: Global, h: &mut DeskHandle, out: &mut PtPid) -> u32
+    ensures { Read h.old.state h.new.state result (out.new ≡ out.old)
+        (λ d. Shows result out.old out.new pid_out d.shard.vacant) }
+{
+    let Some(held) = claim_desk(alloc, h) else {
+        return EMPTY;
+    };
+    let code = match &held.desk {
+        Some(desk) => vacant(desk, out),
+        None => EMPTY,
+    };
+    *h = hold_desk(held);
+    code
+}
+
+/// How many items wait in the mailbox of p; 8 where it does not live on the desk.
+#[unsafe(no_mangle)]
+pub extern "C" fn pt_waiting(alloc: Global, h: &mut DeskHandle, p: PtPid, out: &mut usize) -> u32
+    ensures { Read h.old.state h.new.state result (out.new ≡ out.old)
+        (λ d. Shows result out.old out.new length (waits_in d (pid_in p))) }
+{
+    let Some(held) = claim_desk(alloc, h) else {
+        return EMPTY;
+    };
+    let code = match &held.desk {
+        Some(desk) => waiting(desk, pid_in(p), out),
+        None => EMPTY,
+    };
+    *h = hold_desk(held);
+    code
+}
+
+/// The item at this place in the mailbox of p, 0 the oldest, which stays there; 8 where there is none.
+#[unsafe(no_mangle)]
+pub extern "C" fn pt_peek(
+    alloc: Global,
+    h: &mut DeskHandle,
+    p: PtPid,
+    place: usize,
+    out: &mut PtItem,
+) -> u32
+    ensures { Read h.old.state h.new.state result (out.new ≡ out.old)
+        (λ d. Shows result out.old out.new item_out (item_of (waits_in d (pid_in p)) place)) }
+{
+    let Some(held) = claim_desk(alloc, h) else {
+        return EMPTY;
+    };
+    let code = match &held.desk {
+        Some(desk) => peek(desk, pid_in(p), place, out),
+        None => EMPTY,
+    };
+    *h = hold_desk(held);
+    code
+}
+
+/// The ids under which p is linked with another process, by p's own half of the link; 8 where there are none.
+#[unsafe(no_mangle)]
+pub extern "C" fn pt_linked(
+    alloc: Global,
+    h: &mut DeskHandle,
+    p: PtPid,
+    peer: PtPid,
+    out: &mut PtIds,
+) -> u32
+    ensures { Read h.old.state h.new.state result (out.new ≡ out.old)
+        (λ d. Shows result out.old out.new ids_out (linked_in d (pid_in p) (pid_in peer))) }
+{
+    let Some(held) = claim_desk(alloc, h) else {
+        return EMPTY;
+    };
+    let code = match &held.desk {
+        Some(desk) => linked(desk, pid_in(p), pid_in(peer), out),
+        None => EMPTY,
+    };
+    *h = hold_desk(held);
+    code
+}
+
+/// How many events the desk's journal has.
+#[unsafe(no_mangle)]
+pub extern "C" fn pt_event_count(alloc: Global, h: &mut DeskHandle, out: &mut usize) -> u32
+    ensures { Read h.old.state h.new.state result (out.new ≡ out.old)
+        (λ d. (result ≡ 0) × (out.new ≡ event_count_in d)) }
+{
+    let Some(held) = claim_desk(alloc, h) else {
+        return EMPTY;
+    };
+    let code = match &held.desk {
+        Some(desk) => {
+            *out = desk.journal().events().len();
+            DONE
+        }
+        None => EMPTY,
+    };
+    *h = hold_desk(held);
+    code
+}
+
+/// The event at this place of the desk's journal, 0 the oldest; 8 where there is none.
+#[unsafe(no_mangle)]
+pub extern "C" fn pt_event_at(
+    alloc: Global,
+    h: &mut DeskHandle,
+    place: usize,
+    out: &mut PtEvent,
+) -> u32
+    ensures { Read h.old.state h.new.state result (out.new ≡ out.old)
+        (λ d. Shows result out.old out.new event_out (event_of d place)) }
+{
+    let Some(held) = claim_desk(alloc, h) else {
+        return EMPTY;
+    };
+    let code = match &held.desk {
+        Some(desk) => event_at(desk, place, out),
+        None => EMPTY,
+    };
+    *h = hold_desk(held);
+    code
+}
+
+/// How many desks the node has.
+#[unsafe(no_mangle)]
+pub extern "C" fn pt_gathered_desks(alloc: Global, g: &mut GatheredHandle, out: &mut u8) -> u32
+    ensures { Read g.old.state g.new.state result (out.new ≡ out.old)
+        (λ d. (result ≡ 0) × (out.new ≡ length d.shards)) }
+{
+    let Some(held) = claim_gathered(alloc, g) else {
+        return EMPTY;
+    };
+    let code = match &held.gathered {
+        Some(gathered) => {
+            *out = gathered.desks();
+            DONE
+        }
+        None => EMPTY,
+    };
+    *g = hold_gathered(held);
+    code
+}
+
+/// How many desks the settled node has.
+#[unsafe(no_mangle)]
+pub extern "C" fn pt_quiet_desks(alloc: Global, q: &mut QuietHandle, out: &mut u8) -> u32
+    ensures { Read q.old.state q.new.state result (out.new ≡ out.old)
+        (λ d. (result ≡ 0) × (out.new ≡ length d.gathered.shards)) }
+{
+    let Some(held) = claim_quiet(alloc, q) else {
+        return EMPTY;
+    };
+    let code = match &held.quiet {
+        Some(quiet) => {
+            *out = quiet.desks();
+            DONE
+        }
+        None => EMPTY,
+    };
+    *q = hold_quiet(held);
+    code
+}
+
+/// How many letters settling handled.
+#[unsafe(no_mangle)]
+pub extern "C" fn pt_quiet_handled(alloc: Global, q: &mut QuietHandle, out: &mut u64) -> u32
+    ensures { Read q.old.state q.new.state result (out.new ≡ out.old) (λ d. (result ≡ 0) × (out.new ≡ d.handled)) }
+{
+    let Some(held) = claim_quiet(alloc, q) else {
+        return EMPTY;
+    };
+    let code = match &held.quiet {
+        Some(quiet) => {
+            *out = quiet.handled();
+            DONE
+        }
+        None => EMPTY,
+    };
+    *q = hold_quiet(held);
+    code
+}
+
+/// How many processes were ever born.
+#[unsafe(no_mangle)]
+pub extern "C" fn pt_quiet_pid_count(alloc: Global, q: &mut QuietHandle, out: &mut usize) -> u32
+    ensures { Read q.old.state q.new.state result (out.new ≡ out.old) (λ d. TellsCount d result out.new) }
+{
+    let Some(held) = claim_quiet(alloc, q) else {
+        return EMPTY;
+    };
+    let code = match &held.quiet {
+        Some(quiet) => pid_count(quiet, out),
+        None => EMPTY,
+    };
+    *q = hold_quiet(held);
+    code
+}
+
+/// The pid at this place among all that were ever born, by shard, slot and version; 8 where there is none.
+#[unsafe(no_mangle)]
+pub extern "C" fn pt_quiet_pid_at(
+    alloc: Global,
+    q: &mut QuietHandle,
+    place: usize,
+    out: &mut PtPid,
+) -> u32
+    ensures { Read q.old.state q.new.state result (out.new ≡ out.old) (λ d. TellsPid d place result out.old out.new) }
+{
+    let Some(held) = claim_quiet(alloc, q) else {
+        return EMPTY;
+    };
+    let code = match &held.quiet {
+        Some(quiet) => pid_at(quiet, place, out),
+        None => EMPTY,
+    };
+    *q = hold_quiet(held);
+    code
+}
+
+/// What became of p, as `Quiet::account` tells it; 8 where it was never born.
+#[unsafe(no_mangle)]
+pub extern "C" fn pt_quiet_account(
+    alloc: Global,
+    q: &mut QuietHandle,
+    p: PtPid,
+    out: &mut PtAccount,
+) -> u32
+    ensures { Read q.old.state q.new.state result (out.new ≡ out.old)
+        (λ d. TellsAccount d (pid_in p) result out.old out.new) }
+{
+    let Some(held) = claim_quiet(alloc, q) else {
+        return EMPTY;
+    };
+    let code = match &held.quiet {
+        Some(quiet) => account(quiet, pid_in(p), out),
+        None => EMPTY,
+    };
+    *q = hold_quiet(held);
+    code
+}
+
+/// The ids under which p is linked with another process, or was just after its own end; 8 where there are none.
+#[unsafe(no_mangle)]
+pub extern "C" fn pt_quiet_linked(
+    alloc: Global,
+    q: &mut QuietHandle,
+    p: PtPid,
+    peer: PtPid,
+    out: &mut PtIds,
+) -> u32
+    ensures { Read q.old.state q.new.state result (out.new ≡ out.old)
+        (λ d. TellsLinked d (pid_in p) (pid_in peer) result out.old out.new) }
+{
+    let Some(held) = claim_quiet(alloc, q) else {
+        return EMPTY;
+    };
+    let code = match &held.quiet {
+        Some(quiet) => quiet_linked(quiet, pid_in(p), pid_in(peer), out),
+        None => EMPTY,
+    };
+    *q = hold_quiet(held);
+    code
+}
+
+/// Whether a process keeps a watch of this reference, or did just after its own end.
+#[unsafe(no_mangle)]
+pub extern "C" fn pt_quiet_kept(
+    alloc: Global,
+    q: &mut QuietHandle,
+    target: PtPid,
+    monitor: PtRef,
+    out: &mut bool,
+) -> u32
+    ensures { Read q.old.state q.new.state result (out.new ≡ out.old)
+        (λ d. TellsKept d (pid_in target) (ref_in monitor) result out.new) }
+{
+    let Some(held) = claim_quiet(alloc, q) else {
+        return EMPTY;
+    };
+    let code = match &held.quiet {
+        Some(quiet) => kept(quiet, pid_in(target), ref_in(monitor), out),
+        None => EMPTY,
+    };
+    *q = hold_quiet(held);
+    code
+}
+
+/// Whether a process's monitor of this reference is open.
+#[unsafe(no_mangle)]
+pub extern "C" fn pt_quiet_watching(
+    alloc: Global,
+    q: &mut QuietHandle,
+    watcher: PtPid,
+    monitor: PtRef,
+    out: &mut bool,
+) -> u32
+    ensures { Read q.old.state q.new.state result (out.new ≡ out.old)
+        (λ d. TellsWatching d (pid_in watcher) (ref_in monitor) result out.new) }
+{
+    let Some(held) = claim_quiet(alloc, q) else {
+        return EMPTY;
+    };
+    let code = match &held.quiet {
+        Some(quiet) => watching(quiet, pid_in(watcher), ref_in(monitor), out),
+        None => EMPTY,
+    };
+    *q = hold_quiet(held);
+    code
+}
+
+/// How many events the history has.
+#[unsafe(no_mangle)]
+pub extern "C" fn pt_history_count(alloc: Global, h: &mut HistoryHandle, out: &mut usize) -> u32
+    ensures { Read h.old.state h.new.state result (out.new ≡ out.old)
+        (λ d. (result ≡ 0) × (out.new ≡ length d.events)) }
+{
+    let Some(held) = claim_history(alloc, h) else {
+        return EMPTY;
+    };
+    let code = match &held.history {
+        Some(history) => {
+            *out = history.events.len();
+            DONE
+        }
+        None => EMPTY,
+    };
+    *h = hold_history(held);
+    code
+}
+
+/// The event at this place of the history, 0 the first; 8 where there is none.
+#[unsafe(no_mangle)]
+pub extern "C" fn pt_history_at(
+    alloc: Global,
+    h: &mut HistoryHandle,
+    place: usize,
+    out: &mut PtEvent,
+) -> u32
+    ensures { Read h.old.state h.new.state result (out.new ≡ out.old)
+        (λ d. Shows result out.old out.new event_out (slice_get d.events place)) }
+{
+    let Some(held) = claim_history(alloc, h) else {
+        return EMPTY;
+    };
+    let code = match &held.history {
+        Some(history) => history_event(history, place, out),
+        None => EMPTY,
+    };
+    *h = hold_history(held);
+    code
+}
+
+/// How many letters are left over at the end of the history.
+#[unsafe(no_mangle)]
+pub extern "C" fn pt_history_left_count(
+    alloc: Global,
+    h: &mut HistoryHandle,
+    out: &mut usize,
+) -> u32
+    ensures { Read h.old.state h.new.state result (out.new ≡ out.old) (λ d. (result ≡ 0) × (out.new ≡ length d.left)) }
+{
+    let Some(held) = claim_history(alloc, h) else {
+        return EMPTY;
+    };
+    let code = match &held.history {
+        Some(history) => {
+            *out = history.left.len();
+            DONE
+        }
+        None => EMPTY,
+    };
+    *h = hold_history(held);
+    code
+}
+
+/// The letter at this place among those left over; 8 where there is none.
+#[unsafe(no_mangle)]
+pub extern "C" fn pt_history_left_at(
+    alloc: Global,
+    h: &mut HistoryHandle,
+    place: usize,
+    out: &mut PtLeftOver,
+) -> u32
+    ensures { Read h.old.state h.new.state result (out.new ≡ out.old)
+        (λ d. Shows result out.old out.new left_out (slice_get d.left place)) }
+{
+    let Some(held) = claim_history(alloc, h) else {
+        return EMPTY;
+    };
+    let code = match &held.history {
+        Some(history) => history_left(history, place, out),
+        None => EMPTY,
+    };
+    *h = hold_history(held);
+    code
+}
+
+/// The next process to which a signal came, or that ended by its own exit, from the event at place `at` of the journal
+/// on. `at` is then one place behind that event; 8 is answered where there is no such event any more, and then `at` is
+/// behind the newest.
+///
+/// So a caller that keeps `at` is told of each such event once. Nobody who got an item or ended is missed: by every
+/// event only the process that is named for it may get an item or end. A named one need not have got any, since a
+/// signal may queue nothing.
+#[unsafe(no_mangle)]
+#[tactic(auto, using(crate::proofs::Waking::nobody_is_missed))]
+pub extern "C" fn pt_next_woken(
+    alloc: Global,
+    h: &mut DeskHandle,
+    at: &mut usize,
+    out: &mut PtPid,
+) -> u32
+    ensures all { NobodyIsMissed }
+    ensures next { Read h.old.state h.new.state result ((at.new ≡ at.old) × (out.new ≡ out.old))
+        (λ d. Woken result at.old at.new out.old out.new (reverse d.shard.journal)) }
+{
+    let Some(held) = claim_desk(alloc, h) else {
+        return EMPTY;
+    };
+    let code = match &held.desk {
+        Some(desk) => next_woken(desk, at, out),
+        None => EMPTY,
+    };
+    *h = hold_desk(held);
+    code
+}

@@ -1,0 +1,164 @@
+//! What crosses: plain structs, and codes in place of enums.
+//!
+//! In a struct that the library fills, each field that its code gives no meaning to is zero.
+
+/// The name of a process.
+#[repr(C)]
+#[derive(Clone, Copy)]
+pub struct PtPid {
+    /// The number of the desk on which the process lives and ends.
+    pub shard: u8,
+    /// The slot of that desk.
+    pub slot: u32,
+    /// How often the slot was given out, this time included.
+    pub version: u32,
+}
+
+/// The reference of a monitor or of a question, or the id of a link: the desk and the stamp of the event that made it.
+#[repr(C)]
+#[derive(Clone, Copy)]
+pub struct PtRef {
+    pub desk: u8,
+    pub number: u64,
+}
+
+/// The ids under which two processes are linked, in order of entry. There are two where both sides made the link at
+/// the same time.
+#[repr(C)]
+#[derive(Clone, Copy)]
+pub struct PtIds {
+    pub one: PtRef,
+    pub has_two: bool,
+    pub two: PtRef,
+}
+
+/// An exit reason. Code 0 is normal, 1 kill, 2 killed, 3 noproc, 4 shutdown, and any other is `number`.
+#[repr(C)]
+#[derive(Clone, Copy)]
+pub struct PtReason {
+    pub code: u32,
+    pub number: u32,
+}
+
+/// What a message holds.
+#[repr(C)]
+#[derive(Clone, Copy)]
+pub struct PtBody {
+    pub kind: u32,
+    pub num: i64,
+    /// Whether the message speaks of a process, which is `who`.
+    pub has_who: bool,
+    pub who: PtPid,
+}
+
+/// What stands in a mailbox. Code 0 is a message (`pid`, `body`), 1 a trapped exit (`pid`, `reason`), 2 a DOWN
+/// (`reference`, `pid`, `reason`), 3 the answer to the question whether a process is alive (`reference`, `pid`,
+/// `alive`).
+#[repr(C)]
+#[derive(Clone, Copy)]
+pub struct PtItem {
+    pub code: u32,
+    pub alive: bool,
+    pub pid: PtPid,
+    pub reference: PtRef,
+    pub reason: PtReason,
+    pub body: PtBody,
+}
+
+/// Which items a receive takes. Code 0 is a message of `kind`, 1 a message from `pid`, 2 a trapped exit of `pid`, 3 the
+/// DOWN of `reference`, 4 the answer to the question `reference`, and any other takes every item.
+#[repr(C)]
+#[derive(Clone, Copy)]
+pub struct PtPick {
+    pub code: u32,
+    pub kind: u32,
+    pub pid: PtPid,
+    pub reference: PtRef,
+}
+
+/// What one process sends another. Code 0 is a message (`body`), 1 a link (`ids.one`), 2 that ids of a link are taken
+/// away (`ids`), 3 an exit signal that no link carries (`reason`), 4 one that a link carries (`ids`, `reason`),
+/// 5 a monitor (`reference`), 6 its end (`reference`), 7 its DOWN (`reference`, `reason`), 8 the question whether the
+/// receiver is alive (`reference`), 9 the answer (`reference`, `alive`).
+#[repr(C)]
+#[derive(Clone, Copy)]
+pub struct PtSignal {
+    pub code: u32,
+    pub alive: bool,
+    pub reason: PtReason,
+    pub reference: PtRef,
+    pub ids: PtIds,
+    pub body: PtBody,
+}
+
+/// An event. Code 0 is a birth (`pid`; `peer`, the parent, where `has_peer`; `link`, made with it, where `has_link`),
+/// 1 that `pid` sent `peer` a signal (`signal`), 2 that a signal of `peer` came to `pid` (`signal`), 3 that `pid` took
+/// an item (`pick`, `item`), 4 that it set its flag (`on`), 5 that it ended by its own exit (`reason`), 6 that a call
+/// of it was refused, since `peer` had ended.
+#[repr(C)]
+#[derive(Clone, Copy)]
+pub struct PtEvent {
+    pub stamp: u64,
+    pub desk: u8,
+    pub has_peer: bool,
+    pub has_link: bool,
+    pub on: bool,
+    pub code: u32,
+    pub pid: PtPid,
+    pub peer: PtPid,
+    pub link: PtRef,
+    pub reason: PtReason,
+    pub pick: PtPick,
+    pub item: PtItem,
+    pub signal: PtSignal,
+}
+
+/// A letter that was sent and did not come to its receiver before the desks were gathered.
+#[repr(C)]
+#[derive(Clone, Copy)]
+pub struct PtLeftOver {
+    /// The desk of its sender.
+    pub from_desk: u8,
+    /// The desk of its receiver.
+    pub to_desk: u8,
+    pub from: PtPid,
+    pub to: PtPid,
+    /// The stamp of the event that sent it.
+    pub stamp: u64,
+    pub signal: PtSignal,
+}
+
+/// What a turn did. `stopped` is 0, or the code of the fault that stopped it.
+#[repr(C)]
+#[derive(Clone, Copy)]
+pub struct PtTurned {
+    pub posted: u64,
+    pub handled: u64,
+    pub stopped: u32,
+}
+
+/// What became of a process.
+#[repr(C)]
+#[derive(Clone, Copy)]
+pub struct PtAccount {
+    /// Whether it ended, with the reason `ended`.
+    pub has_ended: bool,
+    pub ended: PtReason,
+    pub arrived: u64,
+    pub taken: u64,
+    pub waiting: u64,
+}
+
+/// The settings of a node; it has as many desks as handles were handed in.
+#[repr(C)]
+#[derive(Clone, Copy)]
+pub struct PtConfig {
+    /// How many slots a desk has: 1 to 65,536.
+    pub slots: u32,
+    /// The greatest version of a slot: 1 to 4,294,967,295.
+    pub top_version: u32,
+    /// How many letters a lane holds: 1 to 65,536.
+    pub lane: u32,
+    /// Where the clocks start: 0 to 2^62.
+    pub start: u64,
+}
