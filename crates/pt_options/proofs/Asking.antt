@@ -1,28 +1,30 @@
 -- The command at words that are written out.
-use Rattle.std.proofs.Common.{◌≡◌, ◌∙◌, ℕ, List, [], ◌∷◌, ◌++◌, true, false, map, Option, Some, None, refl, ap, ap₂, sym, subst, ◌^◌, arith}
+use Rattle.std.proofs.Common.{◌≡◌, ◌∙◌, ℕ, List, [], ◌∷◌, ◌++◌, Bool, true, false, map, Option, Some, None, refl, ap, ap₂, sym, subst, ◌^◌, arith}
 use Rattle.std.proofs.lemmas.Slice.Eq.{bytes_eq-Decides}
 use Rattle.std.specs.Str.{bytes_eq}
 use Rattle.std.specs.Prelude.{codes, ◌≢◌}
 use Rattle.std.specs.Borrow.{Bor}
+use Rattle.std.specs.List.{list_any}
 use Rattle.std.specs.Str.Parse.{digits_value, without_leading_plus}
 use Rattle.clap.specs.Words.{App, Text, fault_of, is_simple, is_simple_and_free, matches_of}
 use Rattle.clap.specs.Lexer.{strip_byte}
-use Rattle.clap.specs.Faults.{defaults_fault, step_fault, walk_fault, word_fault}
+use Rattle.clap.specs.Faults.{defaults_fault, level_fault, step_fault, walk_fault, word_fault}
 use Rattle.clap.specs.Kinds.{Kinds, or_else}
 use Rattle.clap.specs.Simple.{Shape, built}
 use Rattle.clap.specs.Walk.{Held, Rule, Step, Walk, after_step, idle, nothing_held, value, walk_from, walked, word_met}
 use Rattle.clap.specs.ValueTests.{is_unsigned_in}
+use Rattle.clap.specs.Values.{same_text}
 use Rattle.clap.specs.declared.builder.value_parser.ValueParser.TheVariants.{Unsigned}
-use Rattle.clap.specs.declared.error.kind.ErrorKind.TheVariants.{DisplayHelp, InvalidValue, ValueValidation}
+use Rattle.clap.specs.declared.error.kind.ErrorKind.TheVariants.{DisplayHelp, DisplayVersion, InvalidValue, TooManyValues, ValueValidation}
 use Rattle.clap.proofs.OnLiterals.{clap_on_literals}
 use Rattle.clap.proofs.ValueTestLemmas.{accepts-Accepts, Accepts-accepts}
-use Rattle.pt_options.specs.Choosing.{Words, IsCommand, chosen_of, command_with, file_of, number_of, turns_of}
-use Rattle.pt_options.specs.Laws.{AskFor, DefaultsStand, FilesAreNamed, TurnsAreTold, WrongTurnsAreRefused, ModesAreTold, WrongModesAreRefused, PrintsAreTold, WrongPrintsAreRefused, HelpIsAsked, defaults}
+use Rattle.pt_options.specs.Choosing.{Words, IsCommand, chosen_of, command_with, epochs_of, file_of, number_of, turns_of}
+use Rattle.pt_options.specs.Laws.{AskFor, DefaultsStand, FilesAreNamed, TurnsAreTold, WrongTurnsAreRefused, EpochsAreTold, WrongEpochsAreRefused, ModesAreTold, WrongModesAreRefused, PrintsAreTold, WrongPrintsAreRefused, HelpIsAsked, VersionIsAsked, ExplainingIsTold, ExplainingTakesNoValue, defaults}
 use Rattle.pt_options.proofs.Reading.{false_unless}
 use Rattle.pt_choices.specs.declared.Mode.TheVariants.{Many}
-use Rattle.pt_choices.specs.declared.Show.TheVariants.{Summary, Chart}
+use Rattle.pt_choices.specs.declared.Show.TheVariants.{Summary, Chart, Mermaid, Json}
 use Rattle.pt_choices.specs.declared.Options.{Options}
-use Rattle.pt_choices.specs.declared.TheConstants.{MOST_TURNS}
+use Rattle.pt_choices.specs.declared.TheConstants.{MOST_EPOCHS, MOST_TURNS}
 
 -- a text at a place in memory
 abbrev at : ℕ × ℕ → Text → Bor Text
@@ -31,8 +33,8 @@ at place text = record { ref_ptr = place; now = text }
 abbrev modes_at : ℕ × ℕ → ℕ × ℕ → ℕ × ℕ → Words
 modes_at a b c = record { ref_ptr = a; now = at b (codes "single") ∷ at c (codes "many") ∷ [] }
 
-abbrev shows_at : ℕ × ℕ → ℕ × ℕ → ℕ × ℕ → ℕ × ℕ → Words
-shows_at a b c d = record { ref_ptr = a; now = at b (codes "summary") ∷ at c (codes "history") ∷ at d (codes "chart") ∷ [] }
+abbrev shows_at : ℕ × ℕ → ℕ × ℕ → ℕ × ℕ → ℕ × ℕ → ℕ × ℕ → ℕ × ℕ → Words
+shows_at a b c d e f = record { ref_ptr = a; now = at b (codes "summary") ∷ at c (codes "history") ∷ at d (codes "chart") ∷ at e (codes "mermaid") ∷ at f (codes "json") ∷ [] }
 
 abbrev head_of : Text → List Text → Text
 head_of none [] = none
@@ -57,12 +59,20 @@ three P (x ∷ xs) t u w e each =
     subst (λ (v : Text). P (at x.ref_ptr v ∷ xs)) (sym (ap (head_of []) e))
     (two (λ ys. P (at x.ref_ptr t ∷ ys)) xs u w (ap tail_of e) (each x.ref_ptr))
 
+five : (P : List (Bor Text) → Type 0) (xs : List (Bor Text)) (t u v w x : Text) → map (λ s. s.now) xs ≡ t ∷ u ∷ v ∷ w ∷ x ∷ [] → ((b c d e f : ℕ × ℕ) → P (at b t ∷ at c u ∷ at d v ∷ at e w ∷ at f x ∷ [])) → P xs
+five P [] t u v w x e each = cc
+five P (y ∷ []) t u v w x e each = cc
+five P (y ∷ z ∷ ys) t u v w x e each =
+    subst (λ (o : Text). P (at y.ref_ptr o ∷ z ∷ ys)) (sym (ap (head_of []) e))
+    (subst (λ (o : Text). P (at y.ref_ptr t ∷ at z.ref_ptr o ∷ ys)) (sym (ap (λ vs. head_of [] (tail_of vs)) e))
+    (three (λ rest. P (at y.ref_ptr t ∷ at z.ref_ptr u ∷ rest)) ys v w x (ap (λ vs. tail_of (tail_of vs)) e) (each y.ref_ptr z.ref_ptr)))
+
 -- what holds of the command wherever its words stand holds of it
-of_command : (P : App → Type 0) → ((a b c d e f g : ℕ × ℕ) → P (command_with (modes_at a b c) (shows_at d e f g))) → (a : App) → IsCommand a → P a
+of_command : (P : App → Type 0) → ((a b c d e f g i j : ℕ × ℕ) → P (command_with (modes_at a b c) (shows_at d e f g i j))) → (a : App) → IsCommand a → P a
 of_command P each a is =
     subst P (sym is.4)
     (two (λ xs. P (command_with (record { ref_ptr = is.0.ref_ptr; now = xs }) is.1)) is.0.now (codes "single") (codes "many") is.2 (λ b c.
-    three (λ xs. P (command_with (modes_at is.0.ref_ptr b c) (record { ref_ptr = is.1.ref_ptr; now = xs }))) is.1.now (codes "summary") (codes "history") (codes "chart") is.3 (λ e f g. each is.0.ref_ptr b c is.1.ref_ptr e f g)))
+    five (λ xs. P (command_with (modes_at is.0.ref_ptr b c) (record { ref_ptr = is.1.ref_ptr; now = xs }))) is.1.now (codes "summary") (codes "history") (codes "chart") (codes "mermaid") (codes "json") is.3 (λ e f g i j. each is.0.ref_ptr b c is.1.ref_ptr e f g i j)))
 
 -- the three facts of words that are no fault
 abbrev Asks : List Text → Option Text → Options → App → Type 0
@@ -70,11 +80,11 @@ Asks words file options a = (name : Text) → (fault_of a (name ∷ words) ≡ [
 
 pub no_words : DefaultsStand
 unfolding clap_on_literals
-no_words = of_command (Asks [] None defaults) (λ a b c d e f g name. (refl, refl, refl))
+no_words = of_command (Asks [] None defaults) (λ a b c d e f g i j name. (refl, refl, refl))
 
 hyphen_named : AskFor (codes "-" ∷ []) (Some (codes "-")) defaults
 unfolding clap_on_literals
-hyphen_named = of_command (Asks (codes "-" ∷ []) (Some (codes "-")) defaults) (λ a b c d e f g name. (refl, refl, refl))
+hyphen_named = of_command (Asks (codes "-" ∷ []) (Some (codes "-")) defaults) (λ a b c d e f g i j name. (refl, refl, refl))
 
 not_dashes : (file : Text) → strip_byte 45 file ≡ None → bytes_eq file (45 ∷ 45 ∷ []) ≡ false
 not_dashes file plain = false_unless _ (λ e. let is : file ≡ 45 ∷ 45 ∷ [] = (bytes_eq-Decides file (45 ∷ 45 ∷ [])).0 e in let bad : Some (45 ∷ []) ≡ None = sym (ap (strip_byte 45) is) ∙ plain in cc)
@@ -104,10 +114,10 @@ pub file_named : FilesAreNamed
 unfolding defaults_fault
 file_named = (
   hyphen_named,
-  λ file plain. of_command (Asks (file ∷ []) (Some file) defaults) (λ a b c d e f g name. (
-    rw (file_passes (modes_at a b c) (shows_at d e f g) file plain, file_walked (modes_at a b c) (shows_at d e f g) file plain) refl,
-    rw (file_walked (modes_at a b c) (shows_at d e f g) file plain) refl,
-    rw (file_walked (modes_at a b c) (shows_at d e f g) file plain) refl,
+  λ file plain. of_command (Asks (file ∷ []) (Some file) defaults) (λ a b c d e f g i j name. (
+    rw (file_passes (modes_at a b c) (shows_at d e f g i j) file plain, file_walked (modes_at a b c) (shows_at d e f g i j) file plain) refl,
+    rw (file_walked (modes_at a b c) (shows_at d e f g i j) file plain) refl,
+    rw (file_walked (modes_at a b c) (shows_at d e f g i j) file plain) refl,
   )),
 )
 
@@ -120,47 +130,103 @@ taken t ok =
 
 pub turns_told : TurnsAreTold
 unfolding clap_on_literals
-turns_told t ok = of_command (Asks ((codes "--turns=" ++ t) ∷ []) None (record defaults { turns = digits_value 10 (without_leading_plus t) })) (λ a b c d e f g name. (rw ok refl, refl, ap (λ (n : ℕ). record defaults { turns = n }) (taken t ok)))
+turns_told t ok = of_command (Asks ((codes "--turns=" ++ t) ∷ []) None (record defaults { turns = digits_value 10 (without_leading_plus t) })) (λ a b c d e f g i j name. (rw ok refl, refl, ap (λ (n : ℕ). record defaults { turns = n }) (taken t ok)))
 
 pub turns_refused : WrongTurnsAreRefused
 unfolding clap_on_literals
-turns_refused t bad = of_command (λ x. (name : Text) → fault_of x (name ∷ (codes "--turns=" ++ t) ∷ []) ≡ ValueValidation ∷ []) (λ a b c d e f g name. rw bad refl)
+turns_refused t bad = of_command (λ x. (name : Text) → fault_of x (name ∷ (codes "--turns=" ++ t) ∷ []) ≡ ValueValidation ∷ []) (λ a b c d e f g i j name. rw bad refl)
+
+-- and so is one of epochs
+taken_epochs : (t : Text) → is_unsigned_in 1 MOST_EPOCHS t ≡ true → epochs_of (number_of t) ≡ digits_value 10 (without_leading_plus t)
+taken_epochs t ok =
+    let h = accepts-Accepts false (Unsigned 1 MOST_EPOCHS) t ok in
+    let is : is_unsigned_in 0 (2 ^ 64) t ≡ true = Accepts-accepts false (Unsigned 0 (2 ^ 64)) t (h.0, h.1, omega arith, omega (arith, h.1)) in
+    rw is (omega (arith, h.2, h.3))
+
+pub epochs_told : EpochsAreTold
+unfolding clap_on_literals
+epochs_told t ok = of_command (Asks ((codes "--epochs=" ++ t) ∷ []) None (record defaults { epochs = digits_value 10 (without_leading_plus t) })) (λ a b c d e f g i j name. (rw ok refl, refl, ap (λ (n : ℕ). record defaults { epochs = n }) (taken_epochs t ok)))
+
+pub epochs_refused : WrongEpochsAreRefused
+unfolding clap_on_literals
+epochs_refused t bad = of_command (λ x. (name : Text) → fault_of x (name ∷ (codes "--epochs=" ++ t) ∷ []) ≡ ValueValidation ∷ []) (λ a b c d e f g i j name. rw bad refl)
 
 pub modes_told : ModesAreTold
 unfolding clap_on_literals
 modes_told = (
-  of_command (Asks (codes "--threads=single" ∷ []) None defaults) (λ a b c d e f g name. (refl, refl, refl)),
-  of_command (Asks (codes "--threads=many" ∷ []) None (record defaults { threads = Many })) (λ a b c d e f g name. (refl, refl, refl)),
+  of_command (Asks (codes "--threads=single" ∷ []) None defaults) (λ a b c d e f g i j name. (refl, refl, refl)),
+  of_command (Asks (codes "--threads=many" ∷ []) None (record defaults { threads = Many })) (λ a b c d e f g i j name. (refl, refl, refl)),
 )
 
 another : (w t : Text) → t ≢ w → bytes_eq w t ≡ false
 another w t other = false_unless _ (λ e. other (sym ((bytes_eq-Decides w t).0 e)))
 
-pub modes_refused : WrongModesAreRefused
+-- A fault of the words themselves is the first one, whatever comes of the defaults. Where a word is refused for not being
+-- among those of its argument, those are variables, so that little is computed where the test is put in.
+level_by_walk : (s : Shape) (names : List (Text × List Text)) (h : Held) (words : List Text) (entered : Bool) (below : Kinds) → walk_fault s names (walk_from h) words ≡ InvalidValue ∷ [] → level_fault s names h words entered below ≡ InvalidValue ∷ []
+level_by_walk s names h words entered below e = rw e refl
+
+refused_by_walk : (modes shows : Words) (word name : Text) → walk_fault (built (command_with modes shows)).top [] (walk_from nothing_held) (word ∷ []) ≡ InvalidValue ∷ [] → fault_of (command_with modes shows) (name ∷ word ∷ []) ≡ InvalidValue ∷ []
+refused_by_walk modes shows word name e = level_by_walk (built (command_with modes shows)).top [] nothing_held (word ∷ []) _ _ e
+
+-- whether a text is among the words of an argument, as the command tests it
+abbrev is_word : Words → Text → Bool
+is_word words t = list_any (λ (name : Bor Text). same_text false name.now t) words.now
+
+no_mode : (a b c : ℕ × ℕ) (t : Text) → t ≢ codes "single" → t ≢ codes "many" → is_word (modes_at a b c) t ≡ false
+no_mode a b c t single many = rw (another (codes "single") t single, another (codes "many") t many) refl
+
+mode_refused : (modes shows : Words) (t : Text) → is_word modes t ≡ false → walk_fault (built (command_with modes shows)).top [] (walk_from nothing_held) ((codes "--threads=" ++ t) ∷ []) ≡ InvalidValue ∷ []
 unfolding clap_on_literals
-modes_refused t single many = of_command (λ x. (name : Text) → fault_of x (name ∷ (codes "--threads=" ++ t) ∷ []) ≡ InvalidValue ∷ []) (λ a b c d e f g name. rw (another (codes "single") t single, another (codes "many") t many) refl)
+mode_refused modes shows t other = rw other refl
+
+pub modes_refused : WrongModesAreRefused
+modes_refused t single many = of_command (λ x. (name : Text) → fault_of x (name ∷ (codes "--threads=" ++ t) ∷ []) ≡ InvalidValue ∷ []) (λ a b c d e f g i j name. refused_by_walk (modes_at a b c) (shows_at d e f g i j) (codes "--threads=" ++ t) name (mode_refused (modes_at a b c) (shows_at d e f g i j) t (no_mode a b c t single many)))
 
 pub prints_told : PrintsAreTold
 unfolding clap_on_literals
 prints_told = (
-  of_command (Asks (codes "--print=summary" ∷ []) None (record defaults { print = Summary })) (λ a b c d e f g name. (refl, refl, refl)),
-  of_command (Asks (codes "--print=history" ∷ []) None defaults) (λ a b c d e f g name. (refl, refl, refl)),
-  of_command (Asks (codes "--print=chart" ∷ []) None (record defaults { print = Chart })) (λ a b c d e f g name. (refl, refl, refl)),
+  of_command (Asks (codes "--print=summary" ∷ []) None (record defaults { print = Summary })) (λ a b c d e f g i j name. (refl, refl, refl)),
+  of_command (Asks (codes "--print=history" ∷ []) None defaults) (λ a b c d e f g i j name. (refl, refl, refl)),
+  of_command (Asks (codes "--print=chart" ∷ []) None (record defaults { print = Chart })) (λ a b c d e f g i j name. (refl, refl, refl)),
+  of_command (Asks (codes "--print=mermaid" ∷ []) None (record defaults { print = Mermaid })) (λ a b c d e f g i j name. (refl, refl, refl)),
+  of_command (Asks (codes "--print=json" ∷ []) None (record defaults { print = Json })) (λ a b c d e f g i j name. (refl, refl, refl)),
 )
 
-pub prints_refused : WrongPrintsAreRefused
+no_show : (a b c d e f : ℕ × ℕ) (t : Text) → t ≢ codes "summary" → t ≢ codes "history" → t ≢ codes "chart" → t ≢ codes "mermaid" → t ≢ codes "json" → is_word (shows_at a b c d e f) t ≡ false
+no_show a b c d e f t summary history chart mermaid json = rw (another (codes "summary") t summary, another (codes "history") t history, another (codes "chart") t chart, another (codes "mermaid") t mermaid, another (codes "json") t json) refl
+
+show_refused : (modes shows : Words) (t : Text) → is_word shows t ≡ false → walk_fault (built (command_with modes shows)).top [] (walk_from nothing_held) ((codes "--print=" ++ t) ∷ []) ≡ InvalidValue ∷ []
 unfolding clap_on_literals
-prints_refused t summary history chart = of_command (λ x. (name : Text) → fault_of x (name ∷ (codes "--print=" ++ t) ∷ []) ≡ InvalidValue ∷ []) (λ a b c d e f g name. rw (another (codes "summary") t summary, another (codes "history") t history, another (codes "chart") t chart) refl)
+show_refused modes shows t other = rw other refl
+
+pub prints_refused : WrongPrintsAreRefused
+prints_refused t summary history chart mermaid json = of_command (λ x. (name : Text) → fault_of x (name ∷ (codes "--print=" ++ t) ∷ []) ≡ InvalidValue ∷ []) (λ a b c d e f g i j name. refused_by_walk (modes_at a b c) (shows_at d e f g i j) (codes "--print=" ++ t) name (show_refused (modes_at a b c) (shows_at d e f g i j) t (no_show d e f g i j t summary history chart mermaid json)))
+
+pub explaining_told : ExplainingIsTold
+unfolding clap_on_literals
+explaining_told = of_command (Asks (codes "--explain" ∷ []) None (record defaults { explain = true })) (λ a b c d e f g i j name. (refl, refl, refl))
+
+pub explaining_alone : ExplainingTakesNoValue
+unfolding clap_on_literals
+explaining_alone t = of_command (λ x. (name : Text) → fault_of x (name ∷ (codes "--explain=" ++ t) ∷ []) ≡ TooManyValues ∷ []) (λ a b c d e f g i j name. refl)
 
 pub help_asked : HelpIsAsked
 unfolding clap_on_literals
 help_asked = (
-  of_command (λ x. (name : Text) → fault_of x (name ∷ codes "--help" ∷ []) ≡ DisplayHelp ∷ []) (λ a b c d e f g name. refl),
-  of_command (λ x. (name : Text) → fault_of x (name ∷ codes "-h" ∷ []) ≡ DisplayHelp ∷ []) (λ a b c d e f g name. refl),
+  of_command (λ x. (name : Text) → fault_of x (name ∷ codes "--help" ∷ []) ≡ DisplayHelp ∷ []) (λ a b c d e f g i j name. refl),
+  of_command (λ x. (name : Text) → fault_of x (name ∷ codes "-h" ∷ []) ≡ DisplayHelp ∷ []) (λ a b c d e f g i j name. refl),
+)
+
+pub version_asked : VersionIsAsked
+unfolding clap_on_literals
+version_asked = (
+  of_command (λ x. (name : Text) → fault_of x (name ∷ codes "--version" ∷ []) ≡ DisplayVersion ∷ []) (λ a b c d e f g i j name. refl),
+  of_command (λ x. (name : Text) → fault_of x (name ∷ codes "-V" ∷ []) ≡ DisplayVersion ∷ []) (λ a b c d e f g i j name. refl),
 )
 
 pub simple_and_free : (a : App) → IsCommand a → is_simple_and_free a ≡ true
-simple_and_free = of_command (λ a. is_simple_and_free a ≡ true) (λ a b c d e f g. refl)
+simple_and_free = of_command (λ a. is_simple_and_free a ≡ true) (λ a b c d e f g i j. refl)
 
 pub simple : (a : App) → IsCommand a → is_simple a ≡ true
-simple = of_command (λ a. is_simple a ≡ true) (λ a b c d e f g. refl)
+simple = of_command (λ a. is_simple a ≡ true) (λ a b c d e f g i j. refl)

@@ -1,7 +1,7 @@
 -- What the words of the command line ask for: the command, as `clap` sees it, and what is read of its matches. How
 -- words give matches, and which kind of error a refusal has, are `clap`'s `matches_of` and `fault_of`.
-use Rattle.std.specs.Prelude.{◌≡◌, ◌⊎◌, ℕ, ◌^◌, List, [], ◌∷◌, codes, map, min, if◌then◌else◌, false, Option, Some}
-use Rattle.std.specs.Prelude.{None, option_map, option_and_then, Result, Ok, Err, String, string_bytes}
+use Rattle.std.specs.Prelude.{◌≡◌, ◌⊎◌, ℕ, ◌^◌, List, [], ◌∷◌, codes, map, max, min, if◌then◌else◌, Bool, true, false}
+use Rattle.std.specs.Prelude.{Option, Some, None, option_map, option_and_then, Result, Ok, Err, String, string_bytes}
 use Rattle.std.specs.Borrow.{Bor}
 use Rattle.std.specs.Option.{option_map_or}
 use Rattle.std.specs.Str.{bytes_eq}
@@ -9,6 +9,7 @@ use Rattle.std.specs.Str.Parse.{digits_value, without_leading_plus}
 use Rattle.std.specs.declared.alloc.Global.{Global}
 use Rattle.clap.specs.Words.{App, Row, Rule, Text, IsAmong, fault_of, first_of, kind_of, matches_of, new_app, new_rule}
 use Rattle.clap.specs.Words.{one_of, rule_of, with_rule}
+use Rattle.clap.specs.declared.builder.action.ArgAction.TheVariants.{SetTrue}
 use Rattle.clap.specs.declared.builder.arg.Arg.{Arg}
 use Rattle.clap.specs.ValueTests.{is_unsigned_in}
 use Rattle.clap.specs.declared.builder.value_parser.ValueParser.TheVariants.{Names, Unsigned}
@@ -18,8 +19,8 @@ use Rattle.pt_choices.specs.declared.Mode.{Mode}
 use Rattle.pt_choices.specs.declared.Mode.TheVariants.{Single, Many}
 use Rattle.pt_choices.specs.declared.Options.{Options}
 use Rattle.pt_choices.specs.declared.Show.{Show}
-use Rattle.pt_choices.specs.declared.Show.TheVariants.{Summary, History, Chart}
-use Rattle.pt_choices.specs.declared.TheConstants.{MOST_TURNS}
+use Rattle.pt_choices.specs.declared.Show.TheVariants.{Summary, History, Chart, Mermaid, Json}
+use Rattle.pt_choices.specs.declared.TheConstants.{MOST_EPOCHS, MOST_TURNS}
 
 -- the words that an argument takes, where they stand in memory
 abbrev pub Words : Type 0
@@ -44,25 +45,46 @@ turns_rule = record (new_rule (codes "turns")) {
   defaults = codes "100" ∷ [];
 }
 
+abbrev pub epochs_rule : Rule
+epochs_rule = record (new_rule (codes "epochs")) {
+  long = Some (codes "epochs");
+  value_names = 1;
+  parser = Some (Unsigned 1 MOST_EPOCHS);
+  defaults = codes "1" ∷ [];
+}
+
 abbrev pub print_rule : Words → Rule
 print_rule shows = choice_rule (codes "print") shows (codes "history")
+
+-- a flag: it takes no value
+abbrev pub explain_rule : Rule
+explain_rule = record (new_rule (codes "explain")) { long = Some (codes "explain"); action = Some SetTrue }
 
 -- an argument that is used as this rule says, in this command alone
 abbrev pub IsArgument : Rule → Arg → Type 0
 IsArgument rule arg = (rule_of arg ≡ rule) × (arg.global ≡ false)
 
+-- a command that has a version
+abbrev pub with_version : App → App
+with_version a = record a { top = record a.top { has_version = true } }
+
 abbrev pub command_with : Words → Words → App
 command_with modes shows =
     with_rule
     (with_rule
-    (with_rule (with_rule (new_app (codes "pt_run")) (new_rule (codes "FILE"))) (threads_rule modes)) turns_rule)
-    (print_rule shows)
+    (with_rule
+    (with_rule
+    (with_rule (with_rule (with_version (new_app (codes "pt_run"))) (new_rule (codes "FILE"))) (threads_rule modes)) turns_rule)
+    epochs_rule)
+    (print_rule shows))
+    explain_rule
 
 -- the command line of the program
 abbrev pub IsCommand : App → Type 0
 IsCommand a =
     (modes : Words) × (shows : Words) × (map (λ s. s.now) modes.now ≡ codes "single" ∷ codes "many" ∷ [])
-    × (map (λ s. s.now) shows.now ≡ codes "summary" ∷ codes "history" ∷ codes "chart" ∷ [])
+    × (map (λ s. s.now) shows.now
+    ≡ codes "summary" ∷ codes "history" ∷ codes "chart" ∷ codes "mermaid" ∷ codes "json" ∷ [])
     × (a ≡ command_with modes shows)
 
 abbrev pub mode_of : Option Text → Mode
@@ -72,7 +94,14 @@ mode_of (Some t) = if bytes_eq t (codes "many") then Many else Single
 abbrev pub show_of : Option Text → Show
 show_of None = History
 show_of (Some t) =
-    if bytes_eq t (codes "summary") then Summary else (if bytes_eq t (codes "chart") then Chart else History)
+    if bytes_eq t (codes "summary") then Summary
+    else (if bytes_eq t (codes "chart") then Chart
+    else (if bytes_eq t (codes "mermaid") then Mermaid else (if bytes_eq t (codes "json") then Json else History)))
+
+-- whether a flag was used: its text is then `true`
+abbrev pub is_told : Option Text → Bool
+is_told None = false
+is_told (Some t) = bytes_eq t (codes "true")
 
 -- the number that a text of decimal digits writes, where 64 bits have it
 abbrev pub number_of : Text → Option ℕ
@@ -81,12 +110,17 @@ number_of t = if is_unsigned_in 0 (2 ^ 64) t then Some (digits_value 10 (without
 abbrev pub turns_of : Option ℕ → ℕ
 turns_of number = option_map_or (λ n. min n MOST_TURNS) number 100
 
+abbrev pub epochs_of : Option ℕ → ℕ
+epochs_of number = option_map_or (λ n. max (min n MOST_EPOCHS) 1) number 1
+
 -- what the matches ask for
 abbrev pub chosen_of : List Row → Options
 chosen_of rows = record {
   threads = mode_of (first_of (codes "threads") rows);
   turns = turns_of (option_and_then number_of (one_of (codes "turns") rows));
+  epochs = epochs_of (option_and_then number_of (one_of (codes "epochs") rows));
   print = show_of (first_of (codes "print") rows);
+  explain = is_told (first_of (codes "explain") rows);
 }
 
 -- the file that the matches name, if they name one

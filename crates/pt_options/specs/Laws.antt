@@ -5,15 +5,16 @@ use Rattle.clap.specs.Words.{App, Text, fault_of, matches_of}
 use Rattle.clap.specs.Lexer.{strip_byte}
 use Rattle.clap.specs.ValueTests.{is_unsigned_in}
 use Rattle.clap.specs.declared.error.kind.ErrorKind.{ErrorKind}
-use Rattle.clap.specs.declared.error.kind.ErrorKind.TheVariants.{DisplayHelp, InvalidValue, ValueValidation}
+use Rattle.clap.specs.declared.error.kind.ErrorKind.TheVariants.{DisplayHelp, DisplayVersion, InvalidValue, TooManyValues}
+use Rattle.clap.specs.declared.error.kind.ErrorKind.TheVariants.{ValueValidation}
 use Rattle.pt_options.specs.Choosing.{IsCommand, chosen_of, file_of}
 use Rattle.pt_choices.specs.declared.Mode.TheVariants.{Single, Many}
 use Rattle.pt_choices.specs.declared.Options.{Options}
-use Rattle.pt_choices.specs.declared.Show.TheVariants.{Summary, History, Chart}
-use Rattle.pt_choices.specs.declared.TheConstants.{MOST_TURNS}
+use Rattle.pt_choices.specs.declared.Show.TheVariants.{Summary, History, Chart, Mermaid, Json}
+use Rattle.pt_choices.specs.declared.TheConstants.{MOST_EPOCHS, MOST_TURNS}
 
 abbrev pub defaults : Options
-defaults = record { threads = Single; turns = 100; print = History }
+defaults = record { threads = Single; turns = 100; epochs = 1; print = History; explain = false }
 
 -- the words, behind the program's name, are no fault, and ask for this
 abbrev pub AskFor : List Text → Option Text → Options → Type 0
@@ -43,6 +44,16 @@ abbrev pub WrongTurnsAreRefused : Type 0
 WrongTurnsAreRefused =
     (t : Text) → is_unsigned_in 0 MOST_TURNS t ≡ false → FailWith ((codes "--turns=" ++ t) ∷ []) ValueValidation
 
+abbrev pub EpochsAreTold : Type 0
+EpochsAreTold =
+    (t : Text) → is_unsigned_in 1 MOST_EPOCHS t ≡ true
+    → AskFor ((codes "--epochs=" ++ t) ∷ []) None
+    (record defaults { epochs = digits_value 10 (without_leading_plus t) })
+
+abbrev pub WrongEpochsAreRefused : Type 0
+WrongEpochsAreRefused =
+    (t : Text) → is_unsigned_in 1 MOST_EPOCHS t ≡ false → FailWith ((codes "--epochs=" ++ t) ∷ []) ValueValidation
+
 abbrev pub ModesAreTold : Type 0
 ModesAreTold =
     AskFor (codes "--threads=single" ∷ []) None defaults
@@ -57,11 +68,23 @@ PrintsAreTold =
     AskFor (codes "--print=summary" ∷ []) None (record defaults { print = Summary })
     × AskFor (codes "--print=history" ∷ []) None defaults
     × AskFor (codes "--print=chart" ∷ []) None (record defaults { print = Chart })
+    × AskFor (codes "--print=mermaid" ∷ []) None (record defaults { print = Mermaid })
+    × AskFor (codes "--print=json" ∷ []) None (record defaults { print = Json })
 
 abbrev pub WrongPrintsAreRefused : Type 0
 WrongPrintsAreRefused =
-    (t : Text) → t ≢ codes "summary" → t ≢ codes "history" → t ≢ codes "chart"
+    (t : Text) → t ≢ codes "summary" → t ≢ codes "history" → t ≢ codes "chart" → t ≢ codes "mermaid" → t ≢ codes "json"
     → FailWith ((codes "--print=" ++ t) ∷ []) InvalidValue
+
+abbrev pub ExplainingIsTold : Type 0
+ExplainingIsTold = AskFor (codes "--explain" ∷ []) None (record defaults { explain = true })
+
+-- it takes no value, not even an empty one
+abbrev pub ExplainingTakesNoValue : Type 0
+ExplainingTakesNoValue = (t : Text) → FailWith ((codes "--explain=" ++ t) ∷ []) TooManyValues
 
 abbrev pub HelpIsAsked : Type 0
 HelpIsAsked = FailWith (codes "--help" ∷ []) DisplayHelp × FailWith (codes "-h" ∷ []) DisplayHelp
+
+abbrev pub VersionIsAsked : Type 0
+VersionIsAsked = FailWith (codes "--version" ∷ []) DisplayVersion × FailWith (codes "-V" ∷ []) DisplayVersion

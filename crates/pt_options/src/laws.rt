@@ -1,9 +1,12 @@
 //! What the command line makes of words: each is the contract of a function that does nothing.
 
 ghost use Rattle.pt_options.specs.Laws.{DefaultsStand, FilesAreNamed, TurnsAreTold, WrongTurnsAreRefused, ModesAreTold};
+ghost use Rattle.pt_options.specs.Laws.{EpochsAreTold, WrongEpochsAreRefused};
 ghost use Rattle.pt_options.specs.Laws.{WrongModesAreRefused, PrintsAreTold, WrongPrintsAreRefused, HelpIsAsked};
+ghost use Rattle.pt_options.specs.Laws.{VersionIsAsked, ExplainingIsTold, ExplainingTakesNoValue};
 
-/// Without words the script comes from standard input, on one thread, for 100 turns, and the history is printed.
+/// Without words the script comes from standard input, on one thread, for 100 turns and one epoch, the history is
+/// printed, and no refusal is explained.
 pub fn defaults_stand()
     ensures { DefaultsStand }
 {}
@@ -23,6 +26,16 @@ pub fn wrong_turns_are_refused()
     ensures { WrongTurnsAreRefused }
 {}
 
+/// `--epochs=N` asks for that many epochs, where N is a number from 1 to 1,000,000.
+pub fn epochs_are_told()
+    ensures { EpochsAreTold }
+{}
+
+/// Any other text there is refused as a value that is not valid.
+pub fn wrong_epochs_are_refused()
+    ensures { WrongEpochsAreRefused }
+{}
+
 /// `--threads=single` and `--threads=many` ask for these.
 pub fn modes_are_told()
     ensures { ModesAreTold }
@@ -33,7 +46,7 @@ pub fn wrong_modes_are_refused()
     ensures { WrongModesAreRefused }
 {}
 
-/// `--print=summary`, `--print=history` and `--print=chart` ask for these.
+/// `--print=summary`, `--print=history`, `--print=chart`, `--print=mermaid` and `--print=json` ask for these.
 pub fn prints_are_told()
     ensures { PrintsAreTold }
 {}
@@ -43,7 +56,22 @@ pub fn wrong_prints_are_refused()
     ensures { WrongPrintsAreRefused }
 {}
 
+/// `--explain` asks that refusals be explained.
+pub fn explaining_is_told()
+    ensures { ExplainingIsTold }
+{}
+
+/// It takes no value: whatever text stands behind `--explain=` is one too many.
+pub fn explaining_takes_no_value()
+    ensures { ExplainingTakesNoValue }
+{}
+
 /// `--help` and `-h` ask for help, which is told as a refusal of its own kind.
 pub fn help_is_asked()
     ensures { HelpIsAsked }
+{}
+
+/// `--version` and `-V` ask for the version, which is told as a refusal of its own kind.
+pub fn version_is_asked()
+    ensures { VersionIsAsked }
 {}

@@ -1,7 +1,7 @@
 //! The command line of the program that runs a script.
 //!
 //! ```text
-//! pt_run [FILE] [--threads single|many] [--turns N] [--print summary|history|chart]
+//! pt_run [FILE] [--threads single|many] [--turns N] [--epochs N] [--print summary|history|chart|mermaid|json] [--explain]
 //! ```
 //!
 //! [`options`] reads the words, and [`laws`] says what it makes of some. `FILE` is the script; without it, and for `-`,
@@ -11,28 +11,29 @@
 ghost use Rattle.std.specs.Prelude.{◌≡◌, ◌≤◌, IfOk, codes, map, option_map, string_bytes};
 ghost use Rattle.clap.specs.Words.{app_of, found_of, new_rule, rows_of};
 ghost use Rattle.pt_options.specs.Choosing as spec;
-ghost use Rattle.pt_choices.specs.declared.TheConstants.{MOST_TURNS};
+ghost use Rattle.pt_choices.specs.declared.TheConstants.{MOST_EPOCHS, MOST_TURNS};
 
 pub mod laws;
 
 use clap::builder::ValueParser;
-use clap::{Arg, ArgMatches, Command};
-pub use pt_choices::{MOST_TURNS, Mode, Options, Show};
+use clap::{Arg, ArgAction, ArgMatches, Command};
+pub use pt_choices::{MOST_EPOCHS, MOST_TURNS, Mode, Options, Show, VERSION};
 use std::alloc::{AllocError, Global};
 
 static MODES: [&str; 2] = ["single", "many"];
 
-static SHOWS: [&str; 3] = ["summary", "history", "chart"];
+static SHOWS: [&str; 5] = ["summary", "history", "chart", "mermaid", "json"];
 
 /// Reads the words of the command line, the program's name first: the file, if one is named, and what is asked for.
 ///
 /// What the words are is `clap`'s to say, by its definitions of matches and faults, of the one command that this crate
 /// makes: on Ok they are no fault, and what they ask for is read of their matches; else the
 /// [kind](clap::Error::kind) of the error is that of their fault, or tells that there was no memory. What is not named
-/// has its default: one thread, 100 turns, the history.
+/// has its default: one thread, 100 turns, one epoch, the history, and refusals that are not explained.
 pub fn options(alloc: Global, words: Vec<String>) -> Result<(Option<String>, Options), clap::Error>
     ensures words { spec.Answers (map string_bytes words.items) result }
     ensures turns { IfOk result (λ r. r.1.turns ≤ MOST_TURNS) }
+    ensures epochs { IfOk result (λ r. (1 ≤ r.1.epochs) × (r.1.epochs ≤ MOST_EPOCHS)) }
 {
     options_of(alloc, words.as_slice())
 }
@@ -43,6 +44,7 @@ fn options_of<'a>(
 ) -> Result<(Option<String>, Options), clap::Error>
     ensures words { spec.Answers (map string_bytes words.now) result }
     ensures turns { IfOk result (λ r. r.1.turns ≤ MOST_TURNS) }
+    ensures epochs { IfOk result (λ r. (1 ≤ r.1.epochs) × (r.1.epochs ≤ MOST_EPOCHS)) }
 {
     let matches = command(alloc)?.try_get_matches_from(words)?;
     let file = file_of(alloc, &matches)?;
@@ -55,6 +57,7 @@ fn command<'a>(alloc: Global) -> Result<Command<'a>, AllocError>
 {
     Command::new(alloc, "pt_run")
         .about("Runs a script of processes and prints what happened")
+        .version(VERSION)
         .arg(file(alloc))?
         .arg(choice(
             alloc,
@@ -64,13 +67,15 @@ fn command<'a>(alloc: Global) -> Result<Command<'a>, AllocError>
             "Run all desks on one thread in rounds, or each on a thread of its own",
         ))?
         .arg(turns(alloc))?
+        .arg(epochs(alloc))?
         .arg(choice(
             alloc,
             "print",
             SHOWS.as_slice(),
             "history",
-            "Print what became of each process, every event, or the events as an SVG chart",
-        ))
+            "Print what became of each process, every event, or the events as an SVG chart, a Mermaid diagram or JSON",
+        ))?
+        .arg(explain(alloc))
 }
 
 /// The name of the script.
@@ -106,7 +111,31 @@ fn turns<'a>(alloc: Global) -> Arg<'a>
         .value_name("N")
         .value_parser(ValueParser::unsigned(0, MOST_TURNS))
         .default_value("100")
-        .help("How many turns each desk takes, from 0 to 1000000")
+        .help("How many turns each desk takes in each epoch, from 0 to 1000000")
+}
+
+/// How many epochs.
+fn epochs<'a>(alloc: Global) -> Arg<'a>
+    ensures { spec.IsArgument spec.epochs_rule result }
+{
+    Arg::new(alloc, "epochs")
+        .long("epochs")
+        .value_name("N")
+        .value_parser(ValueParser::unsigned(1, MOST_EPOCHS))
+        .default_value("1")
+        .help(
+            "How many epochs, from 1 to 1000000; between two the node is settled and its journals are emptied",
+        )
+}
+
+/// Whether refusals are explained.
+fn explain<'a>(alloc: Global) -> Arg<'a>
+    ensures { spec.IsArgument spec.explain_rule result }
+{
+    Arg::new(alloc, "explain")
+        .long("explain")
+        .action(ArgAction::SetTrue)
+        .help("Explain a refusal in a second line")
 }
 
 /// The file that was found in the words.
@@ -123,11 +152,14 @@ fn file_of(alloc: Global, matches: &ArgMatches<'_>) -> Result<Option<String>, Al
 fn chosen(matches: &ArgMatches<'_>) -> Options
     ensures chosen { result ≡ spec.chosen_of (rows_of (found_of matches.now)) }
     ensures turns { result.turns ≤ MOST_TURNS }
+    ensures epochs { (1 ≤ result.epochs) × (result.epochs ≤ MOST_EPOCHS) }
 {
     Options {
         threads: mode_of(matches.get_str("threads")),
         turns: turns_of(matches.get_one::<u64>("turns")),
+        epochs: epochs_of(matches.get_one::<u64>("epochs")),
         print: show_of(matches.get_str("print")),
+        explain: is_told(matches.get_str("explain")),
     }
 }
 
@@ -151,6 +183,16 @@ fn turns_of(number: Option<u64>) -> u64
     }
 }
 
+/// How many epochs, by their number; one without one.
+fn epochs_of(number: Option<u64>) -> u64
+    ensures { result ≡ spec.epochs_of number }
+{
+    match number {
+        Some(epochs) => epochs.min(MOST_EPOCHS).max(1),
+        None => 1,
+    }
+}
+
 /// What is printed, by its word; the history without one.
 fn show_of(word: Option<&str>) -> Show
     ensures { result ≡ spec.show_of (option_map (λ t. t.now) word.entry) }
@@ -158,6 +200,18 @@ fn show_of(word: Option<&str>) -> Show
     match word {
         Some("summary") => Show::Summary,
         Some("chart") => Show::Chart,
+        Some("mermaid") => Show::Mermaid,
+        Some("json") => Show::Json,
         _ => Show::History,
+    }
+}
+
+/// Whether a flag was among the words, by its text; not so without one.
+fn is_told(word: Option<&str>) -> bool
+    ensures { result ≡ spec.is_told (option_map (λ t. t.now) word.entry) }
+{
+    match word {
+        Some(word) => word == "true",
+        None => false,
     }
 }

@@ -1,6 +1,7 @@
 -- Which faults are told where.
-use Rattle.std.specs.Prelude.{◌≡◌, ℕ, List, length, Ok}
-use Rattle.std.proofs.Common.{inl, inr}
+use Rattle.std.specs.Prelude.{◌≡◌, ℕ, ◌-◌, List, length, Ok}
+use Rattle.std.proofs.Common.{inl, inr, refl}
+use Rattle.pt_events.specs.declared.event.Stamped.{Stamped}
 use Rattle.pt_script.specs.Plans.{Whole}
 use Rattle.pt_script.specs.Scripts.{reading}
 use Rattle.pt_shard.specs.declared.fault.Fault.{Fault}
@@ -14,7 +15,7 @@ use Rattle.pt_choices.specs.declared.Show.TheVariants.{Summary}
 use Rattle.pt_report.specs.declared.fault.ReportFault.{ReportFault}
 use Rattle.pt_report.specs.declared.fault.ReportFault.TheVariants.{Script, Memory, Desk, File}
 use Rattle.pt_report.specs.Status.{told, stopped, IsOfPrint}
-use Rattle.pt_report.specs.Reports.{BirthRefused, IsNodeOf, IsOfStart, IsOfSummary, IsRefusedAs}
+use Rattle.pt_report.specs.Reports.{BirthRefused, IsNodeOf, IsOfRun, IsOfStart, IsOfSummary, IsRefusedAs}
 
 pub told_of_start : (script : Whole) (fault : Fault) → BirthRefused script fault → IsOfStart script (told fault)
 told_of_start script DeskMemory b = tt
@@ -28,17 +29,12 @@ pub stopped_of_summary : (g last : GatheredState) (stop : Stop) → SettlingStop
 stopped_of_summary g last StopMemory s = tt
 stopped_of_summary g last StopWorn s = (last, s)
 
--- where the bytes are a script, a refusal of its node is told
-pub of_start : (bytes : List ℕ) (options : Options) (script : Whole) (fault : ReportFault) → reading bytes ≡ Ok script → IsOfStart script fault → IsRefusedAs bytes options fault
-of_start bytes options script Memory read n = (script, read)
-of_start bytes options script (Desk Full) read n = (script, read, n)
-of_start bytes options script (Desk Worn) read n = (script, read, inl n)
-of_start bytes options script (Desk DeskMemory) read n = absurd n
-of_start bytes options script (Desk Gone) read n = absurd n
-of_start bytes options script (Desk Myself) read n = absurd n
-of_start bytes options script (Desk NoProc) read n = absurd n
-of_start bytes options script (Script error) read n = absurd n
-of_start bytes options script File read n = absurd n
+-- where the bytes are a script, a refusal of its run is told
+pub of_run : (bytes : List ℕ) (options : Options) (script : Whole) (fault : ReportFault) → reading bytes ≡ Ok script → IsOfRun options script fault → IsRefusedAs bytes options fault
+of_run bytes options script Memory read n = (script, read)
+of_run bytes options script File read n = (script, read)
+of_run bytes options script (Desk fault) read n = (script, read, n)
+of_run bytes options script (Script error) read n = absurd n
 
 -- and so is one of printing
 pub of_print : (bytes : List ℕ) (options : Options) (script : Whole) (fault : ReportFault) → reading bytes ≡ Ok script → IsOfPrint fault → IsRefusedAs bytes options fault
@@ -47,13 +43,13 @@ of_print bytes options script Memory read n = (script, read)
 of_print bytes options script (Desk fault) read n = absurd n
 of_print bytes options script File read n = (script, read)
 
-pub of_summary : (bytes : List ℕ) (options : Options) (script : Whole) (g : GatheredState) (fault : ReportFault) → reading bytes ≡ Ok script → options.print ≡ Summary → IsNodeOf options script g → IsOfSummary g fault → IsRefusedAs bytes options fault
-of_summary bytes options script g Memory read asked node n = (script, read)
-of_summary bytes options script g File read asked node n = (script, read)
-of_summary bytes options script g (Desk Worn) read asked node n = (script, read, inr (record { asked = asked; node = g; is_node = node; last = n.0; stops = n.1 }))
-of_summary bytes options script g (Desk Full) read asked node n = absurd n
-of_summary bytes options script g (Desk DeskMemory) read asked node n = absurd n
-of_summary bytes options script g (Desk Gone) read asked node n = absurd n
-of_summary bytes options script g (Desk Myself) read asked node n = absurd n
-of_summary bytes options script g (Desk NoProc) read asked node n = absurd n
-of_summary bytes options script g (Script error) read asked node n = absurd n
+pub of_summary : (bytes : List ℕ) (options : Options) (script : Whole) (histories : List Stamped) (g : GatheredState) (fault : ReportFault) → reading bytes ≡ Ok script → options.print ≡ Summary → IsNodeOf (options.epochs - 1) options script histories g → IsOfSummary g fault → IsRefusedAs bytes options fault
+of_summary bytes options script histories g Memory read asked node n = (script, read)
+of_summary bytes options script histories g File read asked node n = (script, read)
+of_summary bytes options script histories g (Desk Worn) read asked node n = (script, read, inr (record { epochs = options.epochs - 1; asked = inr (refl, asked); histories = histories; node = g; is_node = node; last = n.0; stops = n.1 }))
+of_summary bytes options script histories g (Desk Full) read asked node n = absurd n
+of_summary bytes options script histories g (Desk DeskMemory) read asked node n = absurd n
+of_summary bytes options script histories g (Desk Gone) read asked node n = absurd n
+of_summary bytes options script histories g (Desk Myself) read asked node n = absurd n
+of_summary bytes options script histories g (Desk NoProc) read asked node n = absurd n
+of_summary bytes options script histories g (Script error) read asked node n = absurd n

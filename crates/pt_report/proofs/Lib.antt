@@ -1,4 +1,5 @@
 mod Accounts
 mod Faults
+mod Passing
 mod Settings
 mod Writing

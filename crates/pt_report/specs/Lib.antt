@@ -1,3 +1,5 @@
+pub mod Called
+pub mod Epochs
 pub mod Lines
 pub mod Reports
 pub mod Status

@@ -1,5 +1,5 @@
 -- The printed lines of a history and of a summary, as lists of characters.
-use Rattle.std.specs.Prelude.{ℕ, List, ◌++◌, codes, decimal, Option, Some, None}
+use Rattle.std.specs.Prelude.{ℕ, List, [], ◌++◌, codes, decimal, Option, Some, None}
 use Rattle.std.specs.List.{flat_map}
 use Rattle.pt_signal.specs.declared.pid.Pid.{Pid}
 use Rattle.pt_signal.specs.declared.reason.Reason.{Reason}
@@ -9,26 +9,40 @@ use Rattle.pt_events.specs.Text.{stamped_text}
 use Rattle.pt_accounts.specs.declared.account.Account.{Account}
 use Rattle.pt_gathered.specs.declared.left_over.LeftOver.{LeftOver}
 use Rattle.pt_gathered.specs.Text.{left_over_text}
+use Rattle.pt_render.specs.Json.{json_text, json_left_over_text}
+use Rattle.pt_render.specs.Mermaid.{mermaid_text, mermaid_left_over_text}
+use Rattle.pt_report.specs.declared.form.Form.{Form}
+use Rattle.pt_report.specs.declared.form.Form.TheVariants.{Lines, Diagram, Objects}
 use Rattle.pt_report.specs.declared.totals.Totals.{Totals}
 
+-- the first line of a diagram; the other forms have none
+abbrev pub head_text : Form → List ℕ
+head_text Lines = []
+head_text Diagram = codes "sequenceDiagram\n"
+head_text Objects = []
+
 -- one event, and a line feed
-abbrev pub line : Stamped → List ℕ
-line s = stamped_text s ++ codes "\n"
+abbrev pub line : Form → Stamped → List ℕ
+line Lines s = stamped_text s ++ codes "\n"
+line Diagram s = mermaid_text s ++ codes "\n"
+line Objects s = json_text s ++ codes "\n"
 
 -- one line an event, oldest first
-abbrev pub lines : List Stamped → List ℕ
-lines events = flat_map line events
+abbrev pub lines : Form → List Stamped → List ℕ
+lines form events = flat_map (line form) events
 
-abbrev pub left_line : LeftOver → List ℕ
-left_line l = left_over_text l ++ codes "\n"
+abbrev pub left_line : Form → LeftOver → List ℕ
+left_line Lines l = left_over_text l ++ codes "\n"
+left_line Diagram l = mermaid_left_over_text l.letter ++ codes "\n"
+left_line Objects l = json_left_over_text l.from_desk l.to_desk l.letter ++ codes "\n"
 
 -- one line a letter that was left over
-abbrev pub left_lines : List LeftOver → List ℕ
-left_lines letters = flat_map left_line letters
+abbrev pub left_lines : Form → List LeftOver → List ℕ
+left_lines form letters = flat_map (left_line form) letters
 
 -- a history: the events, then the letters left over
-abbrev pub history_text : List Stamped → List LeftOver → List ℕ
-history_text events letters = lines events ++ left_lines letters
+abbrev pub history_text : Form → List Stamped → List LeftOver → List ℕ
+history_text form events letters = head_text form ++ (lines form events ++ left_lines form letters)
 
 unfoldable pub fate_text : Option Reason → List ℕ
 fate_text None = codes "alive"

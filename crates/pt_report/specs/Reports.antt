@@ -1,5 +1,5 @@
 -- What a report prints, and when it is refused.
-use Rattle.std.specs.Prelude.{◌≡◌, ◌⊎◌, ℕ, List, length, map, Option, Ok, reverse, ⊤}
+use Rattle.std.specs.Prelude.{◌≡◌, ◌⊎◌, ℕ, ◌+◌, ◌-◌, ◌<◌, List, ◌++◌, length, Option, Ok, reverse, ⊤}
 use Rattle.std.specs.Io.KnownBytes.{Appends}
 use Rattle.pt_events.specs.declared.event.Stamped.{Stamped}
 use Rattle.pt_events.specs.Journal.{IsMerge}
@@ -13,67 +13,80 @@ use Rattle.pt_shard.specs.declared.stop.Stop.TheVariants.{Worn as StopWorn}
 use Rattle.pt_desk.specs.DeskState.{DeskState}
 use Rattle.pt_node.specs.Desks.{AreDesksOf}
 use Rattle.pt_node.specs.Gathering.{Gathers}
-use Rattle.pt_node.specs.Running.{AllGoOn, AllWork, InRounds, always}
+use Rattle.pt_script.specs.Called.{names_in}
 use Rattle.pt_script.specs.Plans.{Whole}
 use Rattle.pt_script.specs.Scripts.{reading}
 use Rattle.pt_script.specs.Lists.{Refuses}
-use Rattle.pt_choices.specs.declared.Mode.TheVariants.{Single}
 use Rattle.pt_choices.specs.declared.Options.{Options}
 use Rattle.pt_choices.specs.declared.Show.{Show}
-use Rattle.pt_choices.specs.declared.Show.TheVariants.{Summary, History, Chart}
-use Rattle.pt_runner.specs.declared.runner.Runner.{Runner}
-use Rattle.pt_runner.specs.Acting.{RunnerDoes}
+use Rattle.pt_choices.specs.declared.Show.TheVariants.{Summary, History, Chart, Mermaid, Json}
 use Rattle.pt_script.specs.Nodes.{config_of}
+use Rattle.pt_runner.specs.declared.runner.Runner.{Runner}
 use Rattle.pt_runner.specs.Starting.{Begins, AreRunners, BornUntil}
 use Rattle.pt_chart.specs.Drawing.{IsChart}
+use Rattle.pt_report.specs.Called.{called_by}
+use Rattle.pt_report.specs.Epochs.{Staffed, RunsOn, PassEpochs, HasWritten}
 use Rattle.pt_report.specs.Lines.{history_text}
+use Rattle.pt_report.specs.declared.form.Form.{Form}
+use Rattle.pt_report.specs.declared.form.Form.TheVariants.{Lines, Diagram, Objects}
 use Rattle.pt_report.specs.Summaries.{Summarizes}
 use Rattle.pt_report.specs.declared.fault.ReportFault.{ReportFault}
 use Rattle.pt_report.specs.declared.fault.ReportFault.TheVariants.{Script, Memory, Desk, File}
 
-abbrev pub desks_of : List (DeskState × Runner) → List DeskState
-desks_of pairs = map (λ (p : DeskState × Runner). p.0) pairs
-
-abbrev pub runners_of : List (DeskState × Runner) → List Runner
-runners_of pairs = map (λ (p : DeskState × Runner). p.1) pairs
-
--- Desks were run as the options say: each took all its turns, in each of which the processes of its runner did their
--- next operations, and then the desk its turn with this budget; on a single thread these came in rounds.
-pub record RunsAs (options : Options) (budget : ℕ) (old new : List (DeskState × Runner)) : Type 0 where
-  pub turns : AllWork (λ desk _. always desk) RunnerDoes options.turns budget old new
-  pub rounds : options.threads ≡ Single → InRounds (λ desk _. always desk) RunnerDoes options.turns budget old new
-
--- The node is one on which the script was run: desks with its settings, on which its processes were born in order, and
--- nothing else had happened, each with its runner; they were run, and gathered.
-pub record IsNodeOf (options : Options) (script : Whole) (g : GatheredState) : Type 0 where
-  pub config : g.config ≡ config_of script.settings
-  -- the desks with their runners when all were born, and the pids of these
-  pub begun : List (DeskState × Runner)
-  pub node : AreDesksOf (config_of script.settings) (desks_of begun)
+-- the node that a script is run on: desks with its settings, on which its processes were born in order, and nothing
+-- else had happened, each with its runner
+pub record IsBegun (script : Whole) (first : Staffed) : Type 0 where
+  pub node : AreDesksOf (config_of script.settings) first.0
   pub born : List Pid
-  pub begins : Begins script.tops (length script.tops) born (desks_of begun)
-  pub runners : AreRunners script born (length begun) (runners_of begun)
-  -- the desks with their runners when they had been run
-  pub ran : List (DeskState × Runner)
-  pub went_on : AllGoOn begun ran
-  pub runs : RunsAs options script.settings.budget begun ran
-  pub gathers : Gathers (desks_of ran) g
+  pub begins : Begins script.tops (length script.tops) born first.0
+  pub runners : AreRunners script born (length first.0) first.1
 
--- what stands in the writer now, beyond what stood there before, is what is asked for of the node
-abbrev pub Shows : Show → GatheredState → Option (List ℕ) → Option (List ℕ) → Type 0
-Shows Summary g old new = Summarizes g old new
-Shows History g old new =
-    (h : List Stamped) × IsMerge (journals g) (reverse h) × Appends old new (history_text h (all_left g))
-Shows Chart g old new =
-    (h : List Stamped) × IsMerge (journals g) (reverse h) × (text : List ℕ) × IsChart h text × Appends old new text
+-- The node is one that the script was run on: so many epochs had passed, with these histories; then its desks were run
+-- once more, and gathered.
+pub record IsNodeOf (epochs : ℕ) (options : Options) (script : Whole) (histories : List Stamped)
+    (g : GatheredState) : Type 0 where
+  -- it has the script's settings, and its clocks began where the epoch did
+  pub config : record g.config { start = 0 } ≡ config_of script.settings
+  pub first : Staffed
+  pub begun : IsBegun script first
+  pub last : Staffed
+  pub passed : PassEpochs options script.settings.budget epochs first histories last
+  pub ran : Staffed
+  pub runs : RunsOn options script.settings.budget last ran
+  pub gathers : Gathers ran.0 g
 
--- the bytes are a script, and what was printed is what is asked for of a node that it was run on
+-- so it was, and these are its runners behind that
+abbrev pub IsRun : ℕ → Options → Whole → List Stamped → GatheredState → List Runner → Type 0
+IsRun epochs options script histories g runners =
+    (node : IsNodeOf epochs options script histories g) × (node.ran.1 ≡ runners)
+
+-- the histories of epochs and that of the node were written in this form, and then the letters left over
+abbrev pub Tells : Form → List Stamped → GatheredState → Option (List ℕ) → Option (List ℕ) → Type 0
+Tells form histories g old new =
+    (h : List Stamped) × IsMerge (journals g) (reverse h)
+    × Appends old new (history_text form (histories ++ h) (all_left g))
+
+-- What stands in the writer now, beyond what stood there before, is what is asked for of the node, and of the histories
+-- of the epochs before its own; in a chart processes are called so.
+abbrev pub Shows : Show → List Stamped → List (Pid × List ℕ) → GatheredState → Option (List ℕ) → Option (List ℕ)
+    → Type 0
+Shows Summary histories called g old new = Summarizes g old new
+Shows History histories called g old new = Tells Lines histories g old new
+Shows Mermaid histories called g old new = Tells Diagram histories g old new
+Shows Json histories called g old new = Tells Objects histories g old new
+Shows Chart histories called g old new =
+    (h : List Stamped) × IsMerge (journals g) (reverse h) × (text : List ℕ) × IsChart (histories ++ h) called text
+    × Appends old new text
+
+-- the bytes are a script, and what was printed is what is asked for of a node that it was run on, for as many epochs as
+-- were asked for; its processes are called as in the bytes
 pub record Reports (bytes : List ℕ) (options : Options) (old new : Option (List ℕ)) : Type 0 where
   pub script : Whole
   pub read : reading bytes ≡ Ok script
+  pub histories : List Stamped
   pub node : GatheredState
-  pub is_node : IsNodeOf options script node
-  pub shows : Shows options.print node old new
+  pub is_node : IsNodeOf (options.epochs - 1) options script histories node
+  pub shows : Shows options.print histories (called_by (names_in bytes) is_node.ran.1) node old new
 
 -- refusals ------------------------------------------------------------------------------
 
@@ -82,11 +95,13 @@ abbrev pub BirthRefused : Whole → Fault → Type 0
 BirthRefused script fault =
     (desks : List DeskState) × AreDesksOf (config_of script.settings) desks × BornUntil script.tops desks fault
 
--- a node that the script was run on is settled for its summary, and that stops at a worn clock
+-- a node that the script was run on is settled, between two epochs or for its summary, and that stops at a worn clock
 pub record SettlesWorn (options : Options) (script : Whole) : Type 0 where
-  pub asked : options.print ≡ Summary
+  pub epochs : ℕ
+  pub asked : (epochs + 1 < options.epochs) ⊎ ((epochs ≡ options.epochs - 1) × (options.print ≡ Summary))
+  pub histories : List Stamped
   pub node : GatheredState
-  pub is_node : IsNodeOf options script node
+  pub is_node : IsNodeOf epochs options script histories node
   pub last : GatheredState
   pub stops : SettlingStops (length node.shards) StopWorn node last
 
@@ -102,6 +117,19 @@ IsRefusedAs bytes options (Script error) = Refuses error (reading bytes)
 IsRefusedAs bytes options (Desk fault) =
     (script : Whole) × (reading bytes ≡ Ok script) × IsRefusedBy options script fault
 IsRefusedAs bytes options _ = (script : Whole) × (reading bytes ≡ Ok script)
+
+-- the bytes are a script, and the histories of one epoch and more of a node that it was run on are written
+abbrev pub HasWrittenOf : List ℕ → Options → Option (List ℕ) → Option (List ℕ) → Type 0
+HasWrittenOf bytes options old new =
+    (script : Whole) × (reading bytes ≡ Ok script) × (first : Staffed) × IsBegun script first
+    × HasWritten options script.settings.budget first old new
+
+-- a fault of a script that is run: also of writing the histories of epochs
+abbrev pub IsOfRun : Options → Whole → ReportFault → Type 0
+IsOfRun options script Memory = ⊤
+IsOfRun options script File = ⊤
+IsOfRun options script (Desk fault) = IsRefusedBy options script fault
+IsOfRun options script _ = ⊥
 
 -- a fault before the node is run: memory, or a refused birth
 abbrev pub IsOfStart : Whole → ReportFault → Type 0

@@ -1,39 +1,65 @@
 //! The chart of a history.
 
-ghost use Rattle.std.specs.Prelude.{◌≡◌, ◌≢◌, ℕ, OnOk, IfErr, List, reverse};
+ghost use Rattle.std.specs.Prelude.{◌≡◌, ◌≢◌, ℕ, ◌++◌, IfOk, OnOk, IfErr, List, reverse, string_bytes};
 ghost use Rattle.std.specs.Io.KnownBytes.{Appends};
 ghost use Rattle.pt_events.specs.Journal.{IsMerge};
 ghost use Rattle.pt_events.specs.declared.event.Stamped.{Stamped};
 ghost use Rattle.pt_chart.specs.Drawing.{IsChart};
 ghost use Rattle.pt_gathered.specs.Gathered.{journals};
+ghost use Rattle.pt_script.specs.Called.{names_in};
+ghost use Rattle.pt_report.specs.Called.{called_by};
 ghost use Rattle.pt_report.specs.Status.{IsOfPrint};
 ghost use Rattle.pt_report.specs.declared.fault.ReportFault.TheVariants.{File};
 
+use crate::called::called_by;
 use crate::fault::ReportFault;
+use crate::history::all_events;
 use pt_chart::chart;
-use pt_node::Gathered;
-use std::alloc::Global;
+use pt_node::{Gathered, Stamped};
+use pt_runner::Runner;
+use pt_script::process_names;
+use std::alloc::{AllocError, Global};
 use std::io;
 use std::io::Write;
 
-/// Prints the chart of the history of a node.
-pub fn print_chart<W: Write>(
+/// Prints the chart of the histories of epochs and of that of the last one's node, which these runners ran; the
+/// processes are called as in the script's bytes.
+pub(crate) fn print_chart<W: Write>(
     alloc: Global,
+    script: &[u8],
+    runners: &[Runner<'_>],
+    kept: Vec<Stamped>,
     gathered: &Gathered,
     out: &mut W,
 ) -> Result<(), ReportFault>
     ensures text { OnOk result
-        ((h : List Stamped) × IsMerge (journals gathered.now) (reverse h) × (text : List ℕ) × IsChart h text
+        ((h : List Stamped) × IsMerge (journals gathered.now) (reverse h) × (text : List ℕ)
+        × IsChart (kept.items ++ h) (called_by (names_in script.now) runners.now) text
         × Appends (W.contents out.old) (W.contents out.new) text) }
     ensures fault { IfErr result IsOfPrint }
     ensures untouched { IfErr result (λ f. f ≢ File → out.new ≡ out.old) }
 {
-    let events = gathered.history()?;
-    let drawing = chart(alloc, events.as_slice())?;
+    let events = all_events(kept, gathered)?;
+    let drawing = drawing_of(alloc, script, runners, events.as_slice())?;
     match write_text(out, drawing.as_str()) {
         Ok(()) => Ok(()),
         Err(_) => Err(ReportFault::File),
     }
+}
+
+/// The chart of these events.
+fn drawing_of(
+    alloc: Global,
+    script: &[u8],
+    runners: &[Runner<'_>],
+    events: &[Stamped],
+) -> Result<String, AllocError>
+    ensures { IfOk result
+        (λ text. IsChart events.now (called_by (names_in script.now) runners.now) (string_bytes text)) }
+{
+    let names = process_names(alloc, script)?;
+    let called = called_by(alloc, names.as_slice(), runners)?;
+    chart(alloc, events, called.as_slice())
 }
 
 /// Writes a text, and passes on what the writer holds back.

@@ -3,7 +3,7 @@
 ghost use Rattle.std.specs.Prelude.{◌≡◌};
 ghost use Rattle.pt_report.specs.Status.{fault_number, status_of};
 
-use pt_node::{Fault, Stop};
+use pt_node::{Fault, RunFault, Stop};
 use pt_script::ScriptError;
 use std::alloc::AllocError;
 use thiserror::Error;
@@ -101,5 +101,17 @@ impl From<Stop> for ReportFault {
             Stop::Memory => ReportFault::Memory,
             Stop::Worn => ReportFault::Desk(Fault::Worn),
         }
+    }
+}
+
+impl From<RunFault> for ReportFault {
+    ghost use Rattle.std.specs.Prelude.{◌≡◌};
+    ghost use Rattle.pt_report.specs.declared.fault.ReportFault.TheVariants.{Memory};
+
+    ghost from_gives = { λ _ f. f ≡ Memory };
+
+    // a script has as many runners as desks, so memory is all that can be wanting
+    fn from(_fault: RunFault) -> ReportFault {
+        ReportFault::Memory
     }
 }

@@ -1,7 +1,7 @@
 //! Runs a script and prints what happened.
 //!
 //! ```
-//! let (file, options) = options(alloc, words)?;               // of pt_options: --threads, --turns, --print
+//! let (file, options) = options(alloc, words)?;               // of pt_options: --turns, --epochs, --print ..
 //! match report(&rt, alloc, &options, script.as_slice(), &mut out) {
 //!     Ok(()) => ..                                             // out has the whole text
 //!     Err(fault) => {
@@ -13,22 +13,31 @@
 //!
 //! # What is printed
 //!
-//! The history is a line an event, by stamp and then desk, and then a line a letter that was left over. For the summary
-//! the letters left over are brought to their receivers first; it is a line a process and a last line of totals. The
-//! chart is the history as a drawing, of [`pt_chart`].
+//! The history is a line an event, by stamp and then desk, and then a line a letter that was left over. For the
+//! summary the letters left over are brought to their receivers first; it is a line a process and a last line of
+//! totals. The chart is the history as a drawing, of [`pt_chart`], with the names of the script; as JSON and as a
+//! Mermaid diagram the lines are those of [`pt_render`].
+//!
+//! With more epochs than one the node is settled between two of them and goes on with empty journals, with the scripts
+//! where they were. The history is then that of all epochs, in order: each epoch's lines are written as it ends, and
+//! not kept, and so it is with JSON. For the chart and the diagram all events are kept. The summary is that of the last epoch.
 //!
 //! # Faults
 //!
-//! All that can be refused for memory or by a desk is done before the first byte is written. So after a
-//! [`ReportFault`] other than `File` the writer is as it was, and what a writer refuses is told as `File` alone.
+//! All that can be refused for memory or by a desk is done before the first byte is written, of the only epoch or of
+//! the last. So after a [`ReportFault`] other than `File` the writer is as it was, or has the lines of the epochs that
+//! had passed, and what a writer refuses is told as `File` alone.
 //!
 //! # Writers
 //!
 //! Each line is a few writes, so the writer should be a buffered one. It is flushed before [`report`] answers `Ok`.
 #![tactic(auto, unfolding(crate::specs::Lines::fate_text, crate::specs::Lines::account_text, crate::specs::Lines::totals_text))]
 
+mod called;
 mod chart;
+mod epochs;
 mod fault;
+mod form;
 mod history;
 mod reporting;
 mod running;

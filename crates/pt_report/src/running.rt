@@ -1,105 +1,112 @@
 //! A script is run.
 
-ghost use Rattle.std.specs.Prelude.{◌≡◌, ◌≤◌, List, length, map, vec_len, IfOk, IfErr};
-ghost use Rattle.pt_signal.specs.declared.pid.Pid.{Pid};
-ghost use Rattle.pt_node.specs.Desks.{AreDesks, AreDesksOf};
-ghost use Rattle.pt_node.specs.Running.{AllGoOn};
-ghost use Rattle.pt_carrier.specs.declared.ends.TheConstants.{MAX_DESKS};
-ghost use Rattle.pt_script.specs.Nodes.{config_of};
-ghost use Rattle.pt_runner.specs.Starting.{AreRunners, Begins};
-ghost use Rattle.pt_report.specs.Reports.{IsNodeOf, IsOfStart, RunsAs};
+ghost use Rattle.std.specs.Prelude.{◌≡◌, ◌≢◌, ◌⊎◌, ◌-◌, [], List, OnOk, IfOk, IfErr};
+ghost use Rattle.pt_events.specs.declared.event.Stamped.{Stamped};
+ghost use Rattle.pt_report.specs.Epochs as spec;
+ghost use Rattle.pt_report.specs.Epochs.{HasWritten, RunsOn, Staffed};
+ghost use Rattle.pt_report.specs.Reports.{IsBegun, IsOfRun, IsRun};
+ghost use Rattle.pt_report.specs.declared.fault.ReportFault.TheVariants.{File, Memory};
 
+use crate::epochs::pass_epochs;
 use crate::fault::ReportFault;
 use pt_choices::{Mode, Options};
-use pt_node::{Desk, FreeGate, Gathered, Ran, assign, gather, open, release, run, run_single};
+use pt_node::{FreeGate, Gathered, Node, Stamped, abandon, open};
 use pt_runner::Runner;
 use pt_script::Script;
 use std::alloc::Global;
+use std::io::Write;
 use std::thread::Threads;
 
-/// The node of a script, run as the options say and gathered.
+/// The node of a script, run as the options say and gathered in its last epoch, and the runners that ran it. The
+/// histories of the epochs before are in the writer or kept, as the options ask for.
 #[tactic(auto, using(crate::proofs::Faults::told_of_start))]
-pub fn run_script<R: Threads + Sync>(
+pub(crate) fn run_script<'a, R: Threads + Sync, W: Write>(
     rt: &R,
     alloc: Global,
     options: &Options,
-    script: &Script,
-) -> Result<Gathered, ReportFault>
-    ensures node { IfOk result (λ g. IsNodeOf options.now script.now g) }
-    ensures fault { IfErr result (IsOfStart script.now) }
+    script: &'a Script,
+    kept: &mut Vec<Stamped>,
+    out: &mut W,
+) -> Result<(Gathered, Vec<Runner<'a>>), ReportFault>
+    requires { kept.old.items ≡ [] }
+    ensures node { IfOk result (λ r. (histories : List Stamped)
+        × IsRun (options.now.epochs - 1) options.now script.now histories r.0 r.1.items
+        × spec.AreAt W.contents options.now.print histories out.old kept.new.items out.new) }
+    ensures fault { IfErr result (IsOfRun options.now script.now) }
+    ensures told { OnOk result ((out.new ≡ out.old) ⊎ ((first : Staffed) × IsBegun script.now first
+        × HasWritten options.now script.now.settings.budget first (W.contents out.old) (W.contents out.new))) }
+    ensures untouched { IfErr result (λ f. f ≢ File → (out.new ≡ out.old) ⊎ ((first : Staffed)
+        × IsBegun script.now first
+        × HasWritten options.now script.now.settings.budget first (W.contents out.old) (W.contents out.new))) }
 {
     // the settings of a script are in their ranges, so memory is all that can be wanting
     let Ok(mut desks) = open(alloc, script.config()) else {
         return Err(ReportFault::Memory);
     };
     match Runner::start(alloc, script, desks.as_mut_slice()) {
-        Ok(runners) => run_desks(rt, alloc, options, script, desks, runners),
+        Ok(runners) => {
+            let node = Node::of_desks(alloc, desks);
+            run_epochs(rt, alloc, options, script, node, runners, kept, out)
+        }
         Err(fault) => {
-            abandon(alloc, desks);
+            abandon(desks);
             Err(ReportFault::from(fault))
         }
     }
 }
 
-/// Runs the desks, each with its runner, and gathers them.
-fn run_desks<R: Threads + Sync>(
+/// Runs all epochs of a node, and gathers it in the last.
+fn run_epochs<'a, R: Threads + Sync, W: Write>(
     rt: &R,
     alloc: Global,
     options: &Options,
     script: &Script,
-    desks: Vec<Desk>,
-    runners: Vec<Runner<'_>>,
-) -> Result<Gathered, ReportFault>
-    requires node { AreDesksOf (config_of script.now.settings) desks.items }
-    requires begins { (born : List Pid) × Begins script.now.tops (length script.now.tops) born desks.items
-        × AreRunners script.now born (length desks.items) runners.items }
-    requires runners { vec_len runners ≡ vec_len desks }
-    ensures node { IfOk result (λ g. IsNodeOf options.now script.now g) }
-    ensures fault { IfErr result (IsOfStart script.now) }
+    node: Node,
+    runners: Vec<Runner<'a>>,
+    kept: &mut Vec<Stamped>,
+    out: &mut W,
+) -> Result<(Gathered, Vec<Runner<'a>>), ReportFault>
+    requires begun { IsBegun script.now (node, runners.items) }
+    requires empty { kept.old.items ≡ [] }
+    ensures node { IfOk result (λ r. (histories : List Stamped)
+        × IsRun (options.now.epochs - 1) options.now script.now histories r.0 r.1.items
+        × spec.AreAt W.contents options.now.print histories out.old kept.new.items out.new) }
+    ensures fault { IfErr result (IsOfRun options.now script.now) }
+    ensures told { OnOk result ((out.new ≡ out.old) ⊎ ((first : Staffed) × IsBegun script.now first
+        × HasWritten options.now script.now.settings.budget first (W.contents out.old) (W.contents out.new))) }
+    ensures untouched { IfErr result (λ f. f ≢ File → (out.new ≡ out.old) ⊎ ((first : Staffed)
+        × IsBegun script.now first
+        × HasWritten options.now script.now.settings.budget first (W.contents out.old) (W.contents out.new))) }
 {
-    let mut desks = desks;
     let mut runners = runners;
-    let Ok(mut pairs) = Vec::with_capacity(alloc, desks.len()) else {
-        abandon(alloc, desks);
-        return Err(ReportFault::Memory);
-    };
-    assign(&mut desks, &mut runners, &mut pairs);
-    let Ran { desks: mut pairs } = run_pairs(rt, options, script.budget(), pairs);
-    release(&mut pairs, &mut desks, &mut runners);
-    pairs.destroy_empty();
-    match gather(alloc, desks) {
-        Ok(gathered) => Ok(gathered),
-        Err(back) => {
-            back.abandon();
-            Err(ReportFault::Memory)
-        }
+    let budget = script.budget();
+    let mut node = pass_epochs(rt, alloc, options, budget, node, &mut runners, kept, out)?;
+    run_once(rt, options, budget, &mut node, &mut runners)?;
+    match node.gather() {
+        Ok(gathered) => Ok((gathered, runners)),
+        Err(_back) => Err(ReportFault::Memory),
     }
 }
 
-/// Runs the desks as the options say.
-fn run_pairs<'a, R: Threads + Sync>(
+/// Runs the desks for one epoch, as the options say.
+pub(crate) fn run_once<R: Threads + Sync>(
     rt: &R,
     options: &Options,
     budget: u32,
-    pairs: Vec<(Desk, Runner<'a>)>,
-) -> Ran<Runner<'a>>
-    ensures each { AllGoOn pairs.entry.items result.desks.items }
-    ensures runs { length pairs.entry.items ≤ MAX_DESKS
-        → RunsAs options.now budget pairs.entry.items result.desks.items }
-    ensures desks { AreDesks (map (λ p. p.0) pairs.entry.items) → AreDesks (map (λ p. p.0) result.desks.items) }
+    node: &mut Node,
+    runners: &mut Vec<Runner<'_>>,
+) -> Result<(), ReportFault>
+    ensures runs { OnOk result (RunsOn options.now budget (node.old, runners.old.items) (node.new, runners.new.items)) }
+    ensures fault { IfErr result (λ f. f ≡ Memory) }
 {
     match options.threads {
-        Mode::Single => run_single(pairs, options.turns, budget, &FreeGate),
-        Mode::Many => run(rt, pairs, options.turns, budget, &FreeGate),
-    }
-}
-
-/// Gives up the desks of a node.
-fn abandon(alloc: Global, desks: Vec<Desk>)
-    requires { AreDesks desks.items }
-{
-    match gather(alloc, desks) {
-        Ok(_gathered) => {}
-        Err(back) => back.abandon(),
+        Mode::Single => {
+            node.run_single(runners, options.turns, budget, &FreeGate)?;
+            Ok(())
+        }
+        Mode::Many => {
+            node.run(rt, runners, options.turns, budget, &FreeGate)?;
+            Ok(())
+        }
     }
 }

@@ -17,7 +17,7 @@ use std::io;
 use std::io::Write;
 
 /// Settles a node and prints what became of its processes.
-pub fn print_summary<W: Write>(gathered: Gathered, out: &mut W) -> Result<(), ReportFault>
+pub(crate) fn print_summary<W: Write>(gathered: Gathered, out: &mut W) -> Result<(), ReportFault>
     ensures text { OnOk result (Summarizes gathered (W.contents out.old) (W.contents out.new)) }
     ensures fault { IfErr result (IsOfSummary gathered) }
     ensures untouched { IfErr result (λ f. f ≢ File → out.new ≡ out.old) }

@@ -6,20 +6,20 @@ use std::fmt;
 
 /// What became of a process.
 #[derive(Clone, Copy)]
-pub struct ProcessLine {
-    pub pid: Pid,
-    pub account: Account,
+pub(crate) struct ProcessLine {
+    pub(crate) pid: Pid,
+    pub(crate) account: Account,
 }
 
 /// The last line of a summary.
 #[derive(Clone, Copy)]
-pub struct Totals {
+pub(crate) struct Totals {
     /// How many events the gathered journals have.
-    pub events: u64,
+    pub(crate) events: u64,
     /// How many letters were left over.
-    pub left_over: u64,
+    pub(crate) left_over: u64,
     /// How many letters settling brought to their receivers.
-    pub settled: u64,
+    pub(crate) settled: u64,
 }
 
 /// Whether a process is alive, or the reason it ended with.

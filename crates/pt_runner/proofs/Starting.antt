@@ -33,7 +33,7 @@ use Rattle.pt_runner.specs.Starting.{on, birth, Begins, IsRunnerOf, named, put_p
 
 -- desks of one node are that node's where one of them goes on
 pub node_set : (config : Config) (desks : List DeskState) (d : ℕ) (old y : DeskState) → AreDesksOf config desks → d < length desks → old ≡ get_or desks d old → GoesOn old y → AreDesksOf config (set desks d y)
-node_set config desks d old y node l r s = still_node config desks d old y node l r (s.place, s.shard.config, s.sight.directory)
+node_set config desks d old y node l r s = still_node config desks d old y node l r (s.place, s.shard.config, s.sight.directory, s.shard.start)
 
 -- those of one desk -----------------------------------------------------------------------
 

@@ -18,7 +18,7 @@ use pt_script::{Operation, Pattern};
 
 /// What came of an operation.
 #[derive(Clone, Copy, Debug, PartialEq, Eq)]
-pub enum Progress {
+pub(crate) enum Progress {
     /// It is done, or passed over.
     Done,
     /// It is to be tried again.
@@ -28,10 +28,10 @@ pub enum Progress {
 }
 
 /// The references that the monitors and asks of a process got, by tag.
-pub type References = Vec<Option<Ref>>;
+pub(crate) type References = Vec<Option<Ref>>;
 
 /// What came of an operation, by the answer to its call.
-pub fn progress_of<T: Drop>(answer: Result<T, Fault>) -> Progress
+pub(crate) fn progress_of<T: Drop>(answer: Result<T, Fault>) -> Progress
     ensures { result ≡ came_of answer }
 {
     match answer {
@@ -96,7 +96,7 @@ fn pick_of(pids: &[Option<Pid>], references: &References, pattern: Pattern) -> O
 }
 
 /// Does an operation of p that spawns nothing.
-pub fn call(
+pub(crate) fn call(
     desk: &mut Desk,
     pids: &[Option<Pid>],
     references: &mut References,

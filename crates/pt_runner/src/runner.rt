@@ -144,6 +144,14 @@ impl<'a> Runner<'a> {
         }
     }
 
+    /// The pids of the script's processes, by number: of those that the script begins with, and of those that were
+    /// spawned on this desk. Who has ended keeps its own.
+    pub fn pids(&self) -> &[Option<Pid>]
+        ensures { result.now ≡ (table self.now).pids }
+    {
+        self.pids.as_slice()
+    }
+
     /// Takes out the processes that have ended.
     fn bury(&mut self, desk: &Desk)
         ensures { table self.new ≡ living desk.now.shard (table self.old) }

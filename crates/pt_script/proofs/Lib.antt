@@ -19,3 +19,4 @@ pub mod ReadValues
 pub mod SeesSteps
 pub mod SeesLists
 pub mod SeesScripts
+pub mod CalledFacts

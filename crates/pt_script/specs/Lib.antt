@@ -9,6 +9,7 @@ pub mod Scripts
 pub mod Sound
 pub mod Nodes
 pub mod Standing
+pub mod Called
 pub mod Writing
 pub mod Sights
 pub mod WritingScripts

@@ -10,7 +10,7 @@ use std::marker::Model;
 
 /// The processes that a script begins with. How many a desk has is known without looking at them all.
 #[derive(Drop)]
-pub struct Crowd {
+pub(crate) struct Crowd {
     tops: Vec<Top>,
     counts: [u32; MAX_DESKS],
 }
@@ -24,12 +24,13 @@ impl Model for Crowd {
 
     ghost view = { λ c. c.tops.items };
 
-    ghost invariant = { λ c. (k : ℕ) → k < MAX_DESKS → slice_index c.counts k ≡ count_by (λ t. t.desk == k) c.tops.items };
+    ghost invariant = { λ c. (k : ℕ) → k < MAX_DESKS
+        → slice_index c.counts k ≡ count_by (λ t. t.desk == k) c.tops.items };
 }
 
 impl Crowd {
     /// No process.
-    pub fn new(alloc: Global) -> Crowd
+    pub(crate) fn new(alloc: Global) -> Crowd
         ensures { result ≡ [] }
     {
         Crowd {
@@ -39,7 +40,7 @@ impl Crowd {
     }
 
     /// How many processes the desk has.
-    pub fn count(&self, desk: u8) -> u32
+    pub(crate) fn count(&self, desk: u8) -> u32
         requires { desk < MAX_DESKS }
         ensures { result ≡ count_by (λ t. t.desk == desk) self.now }
     {
@@ -47,7 +48,7 @@ impl Crowd {
     }
 
     /// One process more.
-    pub fn push(&mut self, top: Top) -> Result<(), AllocError>
+    pub(crate) fn push(&mut self, top: Top) -> Result<(), AllocError>
         requires desk { top.desk < MAX_DESKS }
         requires room { count_by (λ t. t.desk == top.desk) self.old < MAX_SLOTS }
         ensures { OnOk result (self.new ≡ self.old ++ top ∷ []) }
@@ -58,7 +59,7 @@ impl Crowd {
     }
 
     /// The processes, in order.
-    pub fn into_tops(self) -> Vec<Top>
+    pub(crate) fn into_tops(self) -> Vec<Top>
         ensures { result.items ≡ self }
     {
         self.tops

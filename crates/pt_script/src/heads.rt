@@ -23,7 +23,7 @@ use serde_json::Value;
 use std::alloc::{AllocError, Global};
 
 /// A fault of the process with this number.
-pub fn of_process(fault: Fault, process: u32) -> ScriptError
+pub(crate) fn of_process(fault: Fault, process: u32) -> ScriptError
     ensures { result ≡ Refused fault (at_process process) }
 {
     let place = at_process(process);
@@ -74,19 +74,19 @@ struct Head<'a> {
 
 /// A process whose operations are to be read.
 #[derive(Clone, Copy)]
-pub struct Pending<'a> {
-    pub trap: bool,
-    pub value: &'a Value,
+pub(crate) struct Pending<'a> {
+    pub(crate) trap: bool,
+    pub(crate) value: &'a Value,
 }
 
 /// What the heads so far settle.
 #[derive(Drop)]
-pub struct Heads<'a> {
-    pub names: Names<'a>,
-    pub tops: Crowd,
-    pub unread: Vec<Pending<'a>>,
+pub(crate) struct Heads<'a> {
+    pub(crate) names: Names<'a>,
+    pub(crate) tops: Crowd,
+    pub(crate) unread: Vec<Pending<'a>>,
     /// The number of the next one.
-    pub next: u32,
+    pub(crate) next: u32,
 }
 
 impl<'a> Heads<'a> {
@@ -190,7 +190,7 @@ impl<'a> Heads<'a> {
     }
 
     /// The heads of all processes of the list.
-    pub fn of(
+    pub(crate) fn of(
         alloc: Global,
         settings: &Settings,
         values: &'a [Value],

@@ -2,10 +2,12 @@
 //!
 //! `Script::read` takes a text and gives the script that it describes, or the first fault in it with its place.
 //! A script is plain data without names: each process has a number, by the order in which the processes begin in
-//! the text, and operations speak of processes by these numbers. What holds of every script stands in [`laws`].
+//! the text, and operations speak of processes by these numbers. [`process_names`] gives the names, for those who show
+//! them. What holds of every script stands in [`laws`].
 //! The format is that of `docs/SCRIPTS.md`.
 #![tactic(auto)]
 
+mod called;
 mod crowd;
 mod draft;
 mod fault;
@@ -20,6 +22,7 @@ mod reading;
 mod script;
 mod values;
 
+pub use called::process_names;
 pub use fault::{Fault, Place, ScriptError};
 pub use script::{Process, Script};
 pub use values::{Operation, Pattern, Settings, Top};

@@ -17,7 +17,7 @@ use serde_json::Value;
 use std::alloc::Global;
 
 /// The place of a process.
-pub fn at_process(process: u32) -> Place
+pub(crate) fn at_process(process: u32) -> Place
     ensures { result ≡ spec.at_process process }
 {
     Place {
@@ -56,7 +56,7 @@ fn limits(spawns: bool, place: Place, levels: u32, next: u32, seen: u32) -> Resu
 
 /// Reads the operations of the next process, and the processes that begin in them.
 #[cycle(lists)]
-pub fn read_process<'a>(
+pub(crate) fn read_process<'a>(
     alloc: Global,
     draft: &mut Draft,
     tops: &Names<'a>,

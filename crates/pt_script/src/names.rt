@@ -12,13 +12,13 @@ use std::collections::HashMap;
 
 /// What each name in a scope stands for.
 #[derive(Drop)]
-pub struct Names<'a> {
+pub(crate) struct Names<'a> {
     numbers: HashMap<&'a str, u32>,
 }
 
 impl<'a> Names<'a> {
     /// No names.
-    pub fn new(alloc: Global) -> Names<'a>
+    pub(crate) fn new(alloc: Global) -> Names<'a>
         ensures { spec.naming result ≡ λ _. None }
     {
         Names {
@@ -27,14 +27,14 @@ impl<'a> Names<'a> {
     }
 
     /// What the name stands for.
-    pub fn find(&self, name: &str) -> Option<u32>
+    pub(crate) fn find(&self, name: &str) -> Option<u32>
         ensures { result ≡ spec.naming self.now name.now }
     {
         self.numbers.get(name).copied()
     }
 
     /// Lets the name stand for the number from now on.
-    pub fn add(&mut self, name: &'a str, number: u32) -> Result<(), AllocError>
+    pub(crate) fn add(&mut self, name: &'a str, number: u32) -> Result<(), AllocError>
         ensures { OnOk result
             (spec.naming self.new ≡ λ q. update bytes_eq (spec.naming self.old) name.now (Some number) q) }
     {
@@ -44,7 +44,7 @@ impl<'a> Names<'a> {
 }
 
 /// Whether the text has the form of a name: 1 to 32 ASCII letters, digits and `_`, beginning with a letter.
-pub fn is_name(text: &str) -> bool
+pub(crate) fn is_name(text: &str) -> bool
     ensures { result ≡ spec.is_name text.now }
 {
     let bytes = text.as_bytes();
@@ -78,7 +78,7 @@ fn is_letter(byte: u8) -> bool
 }
 
 #[tactic(auto, unfolding(crate::specs::Scopes::is_digit))]
-pub fn is_digit(byte: u8) -> bool
+pub(crate) fn is_digit(byte: u8) -> bool
     ensures { result ≡ spec.is_digit byte }
 {
     b'0' <= byte && byte <= b'9'
@@ -92,7 +92,7 @@ fn is_name_byte(byte: u8) -> bool
 }
 
 /// Whether a process may be given the text for its name.
-pub fn is_own_name(text: &str) -> bool
+pub(crate) fn is_own_name(text: &str) -> bool
     ensures { result ≡ spec.is_own_name text.now }
 {
     is_name(text) && text != "self" && text != "parent"

@@ -18,28 +18,28 @@ use serde_json::Value;
 
 /// What an operation can name.
 #[derive(Drop)]
-pub struct Scope<'a, 'b> {
+pub(crate) struct Scope<'a, 'b> {
     /// The script's format.
-    pub format: u8,
+    pub(crate) format: u8,
     /// The process that does the operation.
-    pub own: u32,
+    pub(crate) own: u32,
     /// The process that spawned it.
-    pub parent: Option<u32>,
+    pub(crate) parent: Option<u32>,
     /// The processes that the script begins with.
-    pub tops: &'b Names<'a>,
+    pub(crate) tops: &'b Names<'a>,
     /// The processes that earlier operations of the list spawned.
-    pub children: Names<'a>,
+    pub(crate) children: Names<'a>,
     /// The tags of the monitors that earlier operations of the list made.
-    pub monitors: Names<'a>,
+    pub(crate) monitors: Names<'a>,
     /// The tags of the asks that earlier operations of the list made.
-    pub asks: Names<'a>,
+    pub(crate) asks: Names<'a>,
     /// How many tags those are together.
-    pub made: u32,
+    pub(crate) made: u32,
 }
 
 impl Scope<'_, '_> {
     /// Whether a process can ask if another is alive.
-    pub fn can_ask(&self) -> bool
+    pub(crate) fn can_ask(&self) -> bool
         ensures { result ≡ can_ask (scope_view self.now) }
     {
         2 <= self.format
@@ -56,7 +56,7 @@ impl Scope<'_, '_> {
     }
 
     /// The number of the process that a name stands for.
-    pub fn process(&self, name: &str) -> Option<u32>
+    pub(crate) fn process(&self, name: &str) -> Option<u32>
         ensures { result ≡ process_in (scope_view self.now) name.now }
     {
         if name == "self" {
@@ -74,15 +74,15 @@ impl Scope<'_, '_> {
 
 /// What a spawn says of the process that it spawns, without its operations.
 #[derive(Clone, Copy)]
-pub struct Spawned<'a> {
-    pub name: &'a str,
-    pub linked: bool,
-    pub trap: bool,
-    pub list: &'a Vec<Value>,
+pub(crate) struct Spawned<'a> {
+    pub(crate) name: &'a str,
+    pub(crate) linked: bool,
+    pub(crate) trap: bool,
+    pub(crate) list: &'a Vec<Value>,
 }
 
 /// Whether it is an object whose `op` is `spawn`, whatever else it holds.
-pub fn is_spawn(value: &Value) -> bool
+pub(crate) fn is_spawn(value: &Value) -> bool
     ensures { result ≡ spec.is_spawn (view value.now) }
 {
     match value.get("op").and_then(Value::as_str) {
@@ -363,7 +363,7 @@ fn pass(value: &Value) -> Result<Operation, Fault>
 
 /// The process that a monitor or an ask is about, and its tag.
 #[tactic(auto, unfolding(crate::specs::Operations::tagged))]
-pub fn tagged<'a>(scope: &Scope<'_, '_>, value: &'a Value) -> Result<(u32, &'a str), Fault>
+pub(crate) fn tagged<'a>(scope: &Scope<'_, '_>, value: &'a Value) -> Result<(u32, &'a str), Fault>
     ensures { Gives (λ m. (m.0, m.1.now)) result (spec.tagged (scope_view scope.now) (view value.now)) }
 {
     known(value, &["op", "to", "tag"])?;
@@ -374,7 +374,7 @@ pub fn tagged<'a>(scope: &Scope<'_, '_>, value: &'a Value) -> Result<(u32, &'a s
 
 /// What a spawn says, its operations apart.
 #[tactic(auto, unfolding(crate::specs::Operations::spawn))]
-pub fn spawned_by<'a>(scope: &Scope<'_, '_>, value: &'a Value) -> Result<Spawned<'a>, Fault>
+pub(crate) fn spawned_by<'a>(scope: &Scope<'_, '_>, value: &'a Value) -> Result<Spawned<'a>, Fault>
     ensures { Gives (λ c. record {
       name = c.name.now;
       linked = c.linked;
@@ -396,7 +396,7 @@ pub fn spawned_by<'a>(scope: &Scope<'_, '_>, value: &'a Value) -> Result<Spawned
 }
 
 /// The `op` of an operation.
-pub fn op_of(value: &Value) -> Result<&str, Fault>
+pub(crate) fn op_of(value: &Value) -> Result<&str, Fault>
     ensures { Gives (λ t. t.now) result (members.required members.text (get (codes "op") (view value.now))) }
 {
     text(value.get("op"))
@@ -404,7 +404,7 @@ pub fn op_of(value: &Value) -> Result<&str, Fault>
 
 /// An operation that makes no name: no spawn, monitor or ask.
 #[tactic(auto, unfolding(crate::specs::Operations::plain))]
-pub fn plain(scope: &Scope<'_, '_>, op: &str, value: &Value) -> Result<Operation, Fault>
+pub(crate) fn plain(scope: &Scope<'_, '_>, op: &str, value: &Value) -> Result<Operation, Fault>
     ensures { result ≡ spec.plain (scope_view scope.now) op.now (view value.now) }
 {
     match op {

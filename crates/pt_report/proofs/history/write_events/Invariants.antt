@@ -4,4 +4,4 @@ use Rattle.pt_report.specs.Lines.{lines}
 use Rattle.pt_report.proofs.history.write_events.Given as goal
 
 abbrev pub invariant-loop-event : goal.invariant-loop-event
-invariant-loop-event g l = Appends (g.W.Write.contents l.initial.out) (g.W.Write.contents l.out) (lines (take l.event-index l.events))
+invariant-loop-event g l = Appends (g.W.Write.contents l.initial.out) (g.W.Write.contents l.out) (lines l.form (take l.event-index l.events))

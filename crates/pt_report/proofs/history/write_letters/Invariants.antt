@@ -4,4 +4,4 @@ use Rattle.pt_report.specs.Lines.{left_lines}
 use Rattle.pt_report.proofs.history.write_letters.Given as goal
 
 abbrev pub invariant-loop-letter : goal.invariant-loop-letter
-invariant-loop-letter g l = Appends (g.W.Write.contents l.initial.out) (g.W.Write.contents l.out) (left_lines (take l.letter-index l.letters))
+invariant-loop-letter g l = Appends (g.W.Write.contents l.initial.out) (g.W.Write.contents l.out) (left_lines l.form (take l.letter-index l.letters))

@@ -1,0 +1,60 @@
+-- What is said of a refused script, as lists of characters.
+use Rattle.std.specs.Prelude.{ℕ, List, ◌++◌, codes, decimal, Option, Some, None}
+use Rattle.std.specs.Borrow.{Bor}
+use Rattle.pt_explain.specs.declared.why.Label.{Label}
+use Rattle.pt_explain.specs.declared.why.Label.TheVariants.{Name, Index}
+use Rattle.pt_explain.specs.declared.why.Scene.{Scene}
+use Rattle.pt_explain.specs.declared.why.Scene.TheVariants as scene
+use Rattle.pt_explain.specs.declared.why.Why.{Why}
+use Rattle.pt_explain.specs.declared.why.Wrong.{Wrong}
+use Rattle.pt_explain.specs.declared.why.Wrong.TheVariants as wrong
+use Rattle.pt_script.specs.declared.limits.TheConstants.{MAX_BYTES, MAX_DEPTH, MAX_OPERATIONS, MAX_PROCESSES}
+
+-- a name, or an index where there is none
+abbrev pub label_text : Label → List ℕ
+label_text (Name name) = name.now
+label_text (Index index) = decimal index
+
+unfoldable pub scene_text : Scene → List ℕ
+scene_text scene.Script = codes "script"
+scene_text (scene.Text line column) = codes "script, line " ++ decimal line ++ codes ", column " ++ decimal column
+scene_text (scene.Process process) = codes "process " ++ label_text process
+scene_text (scene.Operation process operation) =
+    codes "process " ++ label_text process ++ codes ", operation " ++ label_text operation
+
+unfoldable pub wrong_text : Wrong → List ℕ
+wrong_text wrong.NoUtf8 = codes "is no UTF-8"
+wrong_text wrong.NoJson = codes "is no JSON"
+wrong_text wrong.EndsEarly = codes "ends too early"
+wrong_text wrong.TooLong = codes "has more than " ++ decimal MAX_BYTES ++ codes " bytes"
+wrong_text wrong.NoObject = codes "is no object"
+wrong_text wrong.Unknown = codes "is unknown"
+wrong_text wrong.HasUnknown = codes "has a member that is unknown"
+wrong_text wrong.Missing = codes "is missing"
+wrong_text wrong.NoWhole = codes "is no whole number of 64 bits"
+wrong_text wrong.NoFlag = codes "is neither true nor false"
+wrong_text wrong.NoText = codes "is no text"
+wrong_text wrong.NoList = codes "is no list"
+wrong_text wrong.NoName = codes "has not the form of a name"
+wrong_text wrong.NoReason = codes "is no reason"
+wrong_text wrong.NoPick = codes "is no object with one of the members of a pick"
+wrong_text wrong.NoOperation = codes "is no operation"
+wrong_text (wrong.OutOfRange least most) = codes "is not from " ++ decimal least ++ codes " to " ++ decimal most
+wrong_text wrong.OverSigned = codes "is above 9223372036854775807"
+wrong_text wrong.OverReasons = codes "has a number above 4294967295"
+wrong_text wrong.OutOfScope = codes "names nothing in scope"
+wrong_text wrong.Taken = codes "is taken already"
+wrong_text wrong.OverSlots = codes "is one process more than its desk has slots"
+wrong_text wrong.OverProcesses = codes "is one process more than " ++ decimal MAX_PROCESSES
+wrong_text wrong.OverOperations = codes "is one operation more than " ++ decimal MAX_OPERATIONS
+wrong_text wrong.TooDeep = codes "is inside " ++ decimal MAX_DEPTH ++ codes " other spawns"
+wrong_text wrong.Refused = codes "is not as scripts are"
+
+-- the member that is wrong, or all that is there
+abbrev pub subject_text : Option (Bor (List ℕ)) → List ℕ
+subject_text None = codes ": it "
+subject_text (Some member) = codes ": member " ++ member.now ++ codes " "
+
+-- one line, without its line feed
+unfoldable pub why_text : Why → List ℕ
+why_text w = scene_text w.scene ++ subject_text w.member ++ wrong_text w.wrong

@@ -1,0 +1,223 @@
+//! Why a script is refused, by the place of its fault.
+
+ghost use Rattle.std.specs.Prelude.{◌≡◌, IfOk, string_bytes};
+ghost use Rattle.pt_explain.specs.Texts.{why_text};
+ghost use Rattle.pt_explain.specs.declared.why.Why.{Why};
+
+use crate::finding::{Found, process_at};
+use crate::looking::{Flaw, flaw_in};
+use crate::scope::{Scope, is_own_name, is_spawn, list_at, text_at};
+use crate::tables::{PROCESS, SCRIPT, members_of};
+use crate::why::{Label, Scene, Why, Wrong};
+use pt_script::limits::{MAX_BYTES, MAX_DEPTH, MAX_PROCESSES};
+use pt_script::{Fault, Place};
+use serde_json::{Error, Value};
+use std::alloc::{AllocError, Global};
+use std::str::from_utf8;
+
+/// Says why a script is refused, in one line without the line feed, from its bytes and the fault that was told.
+///
+/// The fault is to be the one that `pt_script` tells of these bytes; of another one the line says what is found at its
+/// place, or that nothing is. The bytes are read again, which takes memory; `AllocError` tells that there was none.
+pub fn explain(
+    alloc: Global,
+    bytes: &[u8],
+    fault: Fault,
+    place: Place,
+) -> Result<String, AllocError>
+    ensures text { IfOk result (λ s. (w : Why) × (string_bytes s ≡ why_text w)) }
+{
+    if MAX_BYTES < bytes.len() {
+        return text_of(alloc, in_script((None, Wrong::TooLong)));
+    }
+    match Value::from_slice(alloc, bytes) {
+        Ok(value) => text_of(alloc, why_of(&value, fault, place)),
+        Err(error) => {
+            if error.is_memory() {
+                Err(AllocError)
+            } else {
+                text_of(alloc, no_value(bytes, &error))
+            }
+        }
+    }
+}
+
+fn text_of(alloc: Global, why: Why<'_>) -> Result<String, AllocError>
+    ensures { IfOk result (λ s. string_bytes s ≡ why_text why.entry) }
+{
+    format!(in alloc; "{why}")
+}
+
+/// Why bytes are no value, and where they cease to be one.
+fn no_value(bytes: &[u8], error: &Error) -> Why<'static> {
+    let wrong = if from_utf8(bytes).is_err() {
+        Wrong::NoUtf8
+    } else if error.is_eof() {
+        Wrong::EndsEarly
+    } else {
+        Wrong::NoJson
+    };
+    Why {
+        scene: Scene::Text {
+            line: error.line(),
+            column: error.column(),
+        },
+        member: None,
+        wrong,
+    }
+}
+
+/// Why a value is no script.
+fn why_of(value: &Value, fault: Fault, place: Place) -> Why<'_> {
+    let scope = Scope::of(value);
+    let Some(number) = place.process else {
+        return in_script(flaw_or(
+            flaw_in(fault, value, SCRIPT.as_slice(), &scope),
+            Wrong::Refused,
+        ));
+    };
+    match (process_at(scope.tops, number), place.op) {
+        (Some(found), None) => in_process(fault, found, number, &scope),
+        (Some(found), Some(index)) => in_operation(fault, found, number, index as usize, &scope),
+        (None, _) => Why {
+            scene: Scene::Process(Label::Index(number as usize)),
+            member: None,
+            wrong: Wrong::Refused,
+        },
+    }
+}
+
+/// The flaw that was found, or what is wrong with the whole.
+fn flaw_or(flaw: Option<Flaw<'_>>, wrong: Wrong) -> Flaw<'_> {
+    match flaw {
+        Some(flaw) => flaw,
+        None => (None, wrong),
+    }
+}
+
+fn in_script(flaw: Flaw<'_>) -> Why<'_> {
+    let (member, wrong) = flaw;
+    Why {
+        scene: Scene::Script,
+        member,
+        wrong,
+    }
+}
+
+/// What a process is called, or its number where it has no name.
+fn label_of(value: &Value, number: u32) -> Label<'_> {
+    match text_at(value, "name") {
+        Some(name) if is_own_name(name) => Label::Name(name),
+        _ => Label::Index(number as usize),
+    }
+}
+
+/// Why a process is refused, its operations apart.
+fn in_process<'a>(fault: Fault, found: Found<'a>, number: u32, scope: &Scope<'_>) -> Why<'a> {
+    let (member, wrong) = if is_bounds(fault) && MAX_PROCESSES <= number as usize {
+        (None, Wrong::OverProcesses)
+    } else {
+        flaw_or(
+            flaw_in(fault, found.value, PROCESS.as_slice(), scope),
+            over(fault, Wrong::OverSlots),
+        )
+    };
+    Why {
+        scene: Scene::Process(label_of(found.value, number)),
+        member,
+        wrong,
+    }
+}
+
+fn is_bounds(fault: Fault) -> bool {
+    match fault {
+        Fault::Bounds => true,
+        _ => false,
+    }
+}
+
+/// What is wrong where no member is: of a fault of bounds, that there is too much of something.
+fn over(fault: Fault, wrong: Wrong) -> Wrong {
+    if is_bounds(fault) {
+        wrong
+    } else {
+        Wrong::Refused
+    }
+}
+
+/// Why an operation of a process is refused.
+fn in_operation<'a>(
+    fault: Fault,
+    found: Found<'a>,
+    number: u32,
+    index: usize,
+    scope: &Scope<'_>,
+) -> Why<'a> {
+    let process = label_of(found.value, number);
+    let list = list_at(found.value, "ops");
+    let (operation, (member, wrong)) = match list.get(index) {
+        Some(value) => (
+            label_of_operation(value, index, scope.format),
+            flaw_of_operation(fault, value, &scope.behind(found.depth, &list[..index])),
+        ),
+        None => (Label::Index(index), (None, Wrong::Refused)),
+    };
+    Why {
+        scene: Scene::Operation { process, operation },
+        member,
+        wrong,
+    }
+}
+
+/// Which operation it is, or its index where it is none.
+fn label_of_operation(value: &Value, index: usize, format: u64) -> Label<'_> {
+    match text_at(value, "op") {
+        Some(name) if members_of(name, format).is_some() => Label::Name(name),
+        _ => Label::Index(index),
+    }
+}
+
+/// What is wrong with an operation.
+fn flaw_of_operation<'a>(fault: Fault, value: &'a Value, scope: &Scope<'_>) -> Flaw<'a> {
+    if is_bounds(fault) && is_spawn(value) {
+        return (None, of_spawn(scope.depth));
+    }
+    let flaw = match text_at(value, "op") {
+        Some(name) => flaw_of_named(fault, name, value, scope),
+        None => flaw_of_unnamed(fault, value),
+    };
+    flaw_or(flaw, over(fault, Wrong::OverOperations))
+}
+
+/// What there is too much of where a spawn is refused.
+fn of_spawn(depth: u32) -> Wrong {
+    if MAX_DEPTH <= depth {
+        Wrong::TooDeep
+    } else {
+        Wrong::OverOperations
+    }
+}
+
+/// What is wrong with what has the name of an operation.
+fn flaw_of_named<'a>(
+    fault: Fault,
+    name: &str,
+    value: &'a Value,
+    scope: &Scope<'_>,
+) -> Option<Flaw<'a>> {
+    match members_of(name, scope.format) {
+        Some(names) => flaw_in(fault, value, names, scope),
+        None if is_bounds(fault) => None,
+        None => Some((Some("op"), Wrong::NoOperation)),
+    }
+}
+
+/// What is wrong with what has no name of an operation, or a wrong one.
+fn flaw_of_unnamed(fault: Fault, value: &Value) -> Option<Flaw<'static>> {
+    match value.get("op") {
+        _ if is_bounds(fault) => None,
+        _ if !value.is_object() => Some((None, Wrong::NoObject)),
+        Some(_) => Some((Some("op"), Wrong::NoText)),
+        None => Some((Some("op"), Wrong::Missing)),
+    }
+}

@@ -1,0 +1,72 @@
+//! The process that has a number.
+//!
+//! Processes are numbered in the order in which they begin in the text, a spawned one where its spawn stands.
+
+use crate::scope::{is_spawn, list_at};
+use pt_script::limits::MAX_NESTING;
+use serde_json::Value;
+
+/// A process of the text.
+#[derive(Clone, Copy)]
+pub(crate) struct Found<'a> {
+    /// What stands there: the process itself, or its spawn.
+    pub(crate) value: &'a Value,
+    /// How many spawns stand around its operations.
+    pub(crate) depth: u32,
+}
+
+/// Where a search has come to.
+#[derive(Clone, Copy)]
+enum Reached<'a> {
+    /// The process was found.
+    At(Found<'a>),
+    /// So many processes more have to be passed before it.
+    Before(u32),
+}
+
+/// The process of this number, among those that the script begins with and those that they spawn.
+pub(crate) fn process_at<'a>(tops: &'a [Value], number: u32) -> Option<Found<'a>> {
+    let mut left = number;
+    for top in tops {
+        match search(top, 0, left) {
+            Reached::At(found) => return Some(found),
+            Reached::Before(more) => left = more,
+        }
+    }
+    None
+}
+
+/// Looks at a process, and then at those that it spawns.
+#[cycle(search)]
+fn search<'a>(value: &'a Value, depth: u32, left: u32) -> Reached<'a> {
+    if left == 0 {
+        return Reached::At(Found { value, depth });
+    }
+    if MAX_NESTING <= depth {
+        return Reached::Before(left - 1);
+    }
+    search_within(list_at(value, "ops"), depth + 1, left - 1)
+}
+
+/// Looks at the spawns of a list.
+#[cycle(search)]
+fn search_within<'a>(list: &'a [Value], depth: u32, left: u32) -> Reached<'a> {
+    let mut left = left;
+    for operation in list {
+        match search_by(operation, depth, left) {
+            Reached::At(found) => return Reached::At(found),
+            Reached::Before(more) => left = more,
+        }
+    }
+    Reached::Before(left)
+}
+
+/// Looks at an operation.
+#[cycle(search)]
+fn search_by<'a>(operation: &'a Value, depth: u32, left: u32) -> Reached<'a> {
+    if is_spawn(operation) {
+        search(operation, depth, left)
+    } else {
+        Reached::Before(left)
+    }
+}

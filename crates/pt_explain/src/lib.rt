@@ -1,0 +1,23 @@
+//! Why a script is refused, in words.
+//!
+//! `pt_script` tells the first fault of a script by its kind and its place, in numbers. [`explain`] reads the bytes again
+//! and says in one line, without the line feed, what stands at that place: the process and the operation by their names,
+//! the member that is wrong, and what is wrong with it.
+//!
+//! ```
+//! let Err(ScriptError::Refused { fault, place }) = Script::from_bytes(alloc, bytes) else { .. };
+//! let line = explain(alloc, bytes, fault, place)?;   // process b, operation send: member to names nothing in scope
+//! ```
+//!
+//! The texts are those of `docs/SCRIPTS.md`. Of what a script says no text is repeated but names of at most 32 letters,
+//! digits and `_`, so the line is one line whatever the script holds.
+#![tactic(auto, unfolding(crate::specs::Texts::scene_text, crate::specs::Texts::wrong_text, crate::specs::Texts::why_text))]
+
+mod explaining;
+mod finding;
+mod looking;
+mod scope;
+mod tables;
+mod why;
+
+pub use explaining::explain;

@@ -1,0 +1,158 @@
+//! What is wrong with a script, and its text.
+
+use pt_script::limits::{MAX_BYTES, MAX_DEPTH, MAX_OPERATIONS, MAX_PROCESSES};
+use std::fmt;
+
+/// What a script calls something, or its number where it has no name.
+#[derive(Clone, Copy)]
+pub(crate) enum Label<'a> {
+    Name(&'a str),
+    Index(usize),
+}
+
+impl fmt::Display for Label<'_> {
+    ghost use Rattle.std.specs.Prelude.{Some};
+    ghost use Rattle.pt_explain.specs.Texts.{label_text};
+
+    ghost output = { λ l. Some (label_text l) };
+
+    fn fmt<W: fmt::Write>(&self, f: &mut fmt::Formatter<W>) -> fmt::Result {
+        match self {
+            Label::Name(name) => write!(f, "{name}"),
+            Label::Index(index) => write!(f, "{index}"),
+        }
+    }
+}
+
+/// Where in a script something is wrong.
+#[derive(Clone, Copy)]
+pub(crate) enum Scene<'a> {
+    /// In the script as a whole.
+    Script,
+    /// At this place of its text; lines begin at 1, and columns are counted in bytes.
+    Text {
+        line: usize,
+        column: usize,
+    },
+    Process(Label<'a>),
+    Operation {
+        process: Label<'a>,
+        operation: Label<'a>,
+    },
+}
+
+impl fmt::Display for Scene<'_> {
+    ghost use Rattle.std.specs.Prelude.{Some};
+    ghost use Rattle.pt_explain.specs.Texts.{scene_text};
+
+    ghost output = { λ s. Some (scene_text s) };
+
+    fn fmt<W: fmt::Write>(&self, f: &mut fmt::Formatter<W>) -> fmt::Result {
+        match self {
+            Scene::Script => f.write_str("script"),
+            Scene::Text { line, column } => write!(f, "script, line {line}, column {column}"),
+            Scene::Process(process) => write!(f, "process {process}"),
+            Scene::Operation { process, operation } => {
+                write!(f, "process {process}, operation {operation}")
+            }
+        }
+    }
+}
+
+/// What is wrong with it.
+#[derive(Clone, Copy)]
+pub(crate) enum Wrong {
+    NoUtf8,
+    NoJson,
+    EndsEarly,
+    TooLong,
+    NoObject,
+    Unknown,
+    /// It has a member that is unknown, and whose name is not to be repeated.
+    HasUnknown,
+    Missing,
+    NoWhole,
+    NoFlag,
+    NoText,
+    NoList,
+    NoName,
+    NoReason,
+    NoPick,
+    NoOperation,
+    OutOfRange { least: u64, most: u64 },
+    OverSigned,
+    OverReasons,
+    OutOfScope,
+    Taken,
+    OverSlots,
+    OverProcesses,
+    OverOperations,
+    TooDeep,
+    /// It is refused, and nothing more can be said of it.
+    Refused,
+}
+
+impl fmt::Display for Wrong {
+    ghost use Rattle.std.specs.Prelude.{Some};
+    ghost use Rattle.pt_explain.specs.Texts.{wrong_text};
+
+    ghost output = { λ w. Some (wrong_text w) };
+
+    fn fmt<W: fmt::Write>(&self, f: &mut fmt::Formatter<W>) -> fmt::Result {
+        match self {
+            Wrong::NoUtf8 => f.write_str("is no UTF-8"),
+            Wrong::NoJson => f.write_str("is no JSON"),
+            Wrong::EndsEarly => f.write_str("ends too early"),
+            Wrong::TooLong => write!(f, "has more than {MAX_BYTES} bytes"),
+            Wrong::NoObject => f.write_str("is no object"),
+            Wrong::Unknown => f.write_str("is unknown"),
+            Wrong::HasUnknown => f.write_str("has a member that is unknown"),
+            Wrong::Missing => f.write_str("is missing"),
+            Wrong::NoWhole => f.write_str("is no whole number of 64 bits"),
+            Wrong::NoFlag => f.write_str("is neither true nor false"),
+            Wrong::NoText => f.write_str("is no text"),
+            Wrong::NoList => f.write_str("is no list"),
+            Wrong::NoName => f.write_str("has not the form of a name"),
+            Wrong::NoReason => f.write_str("is no reason"),
+            Wrong::NoPick => f.write_str("is no object with one of the members of a pick"),
+            Wrong::NoOperation => f.write_str("is no operation"),
+            Wrong::OutOfRange { least, most } => write!(f, "is not from {least} to {most}"),
+            Wrong::OverSigned => f.write_str("is above 9223372036854775807"),
+            Wrong::OverReasons => f.write_str("has a number above 4294967295"),
+            Wrong::OutOfScope => f.write_str("names nothing in scope"),
+            Wrong::Taken => f.write_str("is taken already"),
+            Wrong::OverSlots => f.write_str("is one process more than its desk has slots"),
+            Wrong::OverProcesses => write!(f, "is one process more than {MAX_PROCESSES}"),
+            Wrong::OverOperations => write!(f, "is one operation more than {MAX_OPERATIONS}"),
+            Wrong::TooDeep => write!(f, "is inside {MAX_DEPTH} other spawns"),
+            Wrong::Refused => f.write_str("is not as scripts are"),
+        }
+    }
+}
+
+/// Why a script is refused: where, which member, and what is wrong with it; without a member, with all that is there.
+#[derive(Clone, Copy)]
+pub(crate) struct Why<'a> {
+    pub(crate) scene: Scene<'a>,
+    pub(crate) member: Option<&'a str>,
+    pub(crate) wrong: Wrong,
+}
+
+impl fmt::Display for Why<'_> {
+    ghost use Rattle.std.specs.Prelude.{Some};
+    ghost use Rattle.pt_explain.specs.Texts.{why_text};
+
+    ghost output = { λ w. Some (why_text w) };
+
+    fn fmt<W: fmt::Write>(&self, f: &mut fmt::Formatter<W>) -> fmt::Result {
+        let Why {
+            scene,
+            member,
+            wrong,
+        } = self;
+        match member {
+            Some(member) => write!(f, "{scene}: member {member} {wrong}"),
+            None => write!(f, "{scene}: it {wrong}"),
+        }
+    }
+}

@@ -1,0 +1,272 @@
+-- Epochs, one after the other, and where their histories are.
+use Rattle.std.proofs.Common.{◌≡◌, ◌⊎◌, ℕ, zero, suc, ◌+◌, ◌-◌, ◌<◌, List, [], ◌++◌, length, map, reverse, Option, Some, None, Result, Ok, Err, refl, sym, ap, subst, ◌∙◌, inl, inr, arith, append_assoc}
+use Rattle.std.specs.Prelude.{◌≢◌, IfErr, OnOk}
+use Rattle.std.proofs.lemmas.Grind.{flat_map-append}
+use Rattle.std.specs.Io.KnownBytes.{Appends}
+use Rattle.pt_events.specs.declared.event.Stamped.{Stamped}
+use Rattle.pt_events.specs.Journal.{IsMerge}
+use Rattle.pt_chart.specs.Drawing.{IsChart}
+use Rattle.pt_gathered.specs.Gathered.{GatheredState, journals}
+use Rattle.pt_gathered.specs.LeftOvers.{all_left}
+use Rattle.pt_gathered.specs.Quiet.{latest_stamp}
+use Rattle.pt_gathered.specs.declared.left_over.LeftOver.{LeftOver}
+use Rattle.pt_shard.specs.declared.config.Config.{Config}
+use Rattle.pt_shard.specs.declared.fault.Fault.TheVariants.{Full, Memory as DeskMemory, Worn, Gone, Myself, NoProc}
+use Rattle.pt_shard.specs.declared.stop.Stop.{Stop}
+use Rattle.pt_shard.specs.declared.stop.Stop.TheVariants.{Memory as StopMemory, Worn as StopWorn}
+use Rattle.pt_gathered.specs.Order.{SettlingStops}
+use Rattle.pt_desk.specs.DeskState.{DeskState}
+use Rattle.pt_node.specs.Desks.{AreDesksOf}
+use Rattle.pt_node.specs.Gathering.{Gathers}
+use Rattle.pt_signal.specs.declared.pid.Pid.{Pid}
+use Rattle.pt_script.specs.Called.{names_in}
+use Rattle.pt_script.specs.Nodes.{config_of}
+use Rattle.pt_script.specs.Plans.{Whole}
+use Rattle.pt_script.specs.Scripts.{reading}
+use Rattle.pt_choices.specs.declared.Options.{Options}
+use Rattle.pt_choices.specs.declared.Show.{Show}
+use Rattle.pt_choices.specs.declared.Show.TheVariants.{Summary, History, Chart, Mermaid, Json}
+use Rattle.pt_report.specs.Lines.{line, lines, left_lines, head_text, history_text}
+use Rattle.pt_report.specs.declared.form.Form.{Form}
+use Rattle.pt_report.specs.declared.form.Form.TheVariants.{Lines, Diagram, Objects}
+use Rattle.pt_report.specs.Epochs.{Staffed, RunsOn, PassEpochs, AreAt, IsWrittenAs, HasWritten, IsOfEnd, IsOfEpoch, IsOfEpochs}
+use Rattle.pt_runner.specs.declared.runner.Runner.{Runner}
+use Rattle.pt_report.specs.Called.{called_by}
+use Rattle.pt_report.specs.Reports.{HasWrittenOf, IsBegun, IsNodeOf, IsOfRun, IsOfStart, IsRun, Reports, Shows, Tells}
+use Rattle.pt_report.specs.Status.{IsOfPrint, stopped}
+use Rattle.pt_report.specs.Summaries.{Summarizes}
+use Rattle.pt_report.specs.declared.fault.ReportFault.{ReportFault}
+use Rattle.pt_report.specs.declared.fault.ReportFault.TheVariants.{Script, Memory, Desk, File}
+use Rattle.pt_report.proofs.Settings.{same_settings}
+use Rattle.pt_report.proofs.Writing.{appends_nothing, appends_then}
+
+-- the settings of a node after an epoch are those before it, with other clocks
+gathered_settings : (options : Options) (budget : ℕ) (config : Config) (old ran : Staffed) (g : GatheredState) → AreDesksOf config old.0 → RunsOn options budget old ran → Gathers ran.0 g → g.config ≡ config
+gathered_settings options budget config old ran g node runs gathers =
+    same_settings config g.config runs.before runs.after
+    (subst (AreDesksOf config) (sym {A = List DeskState} runs.begun.firsts) node) (subst (AreDesksOf g.config) (sym {A = List DeskState} runs.ended.firsts) gathers.node) runs.each
+
+-- a node at an epoch's beginning, and its settings, the clocks apart
+abbrev HasSettings : Config → List DeskState → Type 0
+HasSettings config desks = (now : Config) × AreDesksOf now desks × (record now { start = 0 } ≡ config)
+
+settings_after : (options : Options) (budget : ℕ) (config : Config) (n : ℕ) (first : Staffed) (histories : List Stamped) (now : Staffed) → HasSettings config first.0 → PassEpochs options budget n first histories now → HasSettings config now.0
+settings_after options budget config zero first histories now node passed = subst (λ (s : Staffed). HasSettings config s.0) (sym {A = Staffed} passed.0) node
+settings_after options budget config (suc n) first histories now node (mid, before, last, passed, epoch, joined) =
+    let at = settings_after options budget config n first before mid node passed in
+    let same : epoch.ends.gathered.config ≡ at.0 = gathered_settings options budget at.0 mid (epoch.ran, now.1) epoch.ends.gathered at.1 epoch.runs epoch.ends.gathers in
+    let settled : epoch.ends.settled.config ≡ at.0 = epoch.ends.settles.config ∙ same in
+    (record epoch.ends.settled.config { start = latest_stamp epoch.ends.settled }, epoch.ends.goes_on.node, ap (λ (c : Config). record c { start = 0 }) settled ∙ at.2)
+
+-- the node that a script was run on
+pub node_of : (options : Options) (script : Whole) (n : ℕ) (first : Staffed) (histories : List Stamped) (last ran : Staffed) (g : GatheredState) → IsBegun script first → PassEpochs options script.settings.budget n first histories last → RunsOn options script.settings.budget last ran → Gathers ran.0 g → IsRun n options script histories g ran.1
+node_of options script n first histories last ran g begun passed runs gathers =
+    let budget = script.settings.budget in
+    let at = settings_after options budget (config_of script.settings) n first histories last (config_of script.settings, begun.node, refl) passed in (
+      record {
+        config = ap (λ (c : Config). record c { start = 0 }) (gathered_settings options budget at.0 last ran g at.1 runs gathers) ∙ at.2;
+        first = first;
+        begun = begun;
+        last = last;
+        passed = passed;
+        ran = ran;
+        runs = runs;
+        gathers = gathers;
+      },
+      refl,
+    )
+
+-- where histories are ---------------------------------------------------------------------
+
+lines_joined : (form : Form) (hs h : List Stamped) → lines form (hs ++ h) ≡ lines form hs ++ lines form h
+lines_joined form hs h = flat_map-append (line form) hs h
+
+module _ {W : Type 0} (contents : W → Option (List ℕ)) where
+  -- before the first epoch has ended
+  pub at_first : (print : Show) (first : W) (kept : List Stamped) → kept ≡ [] → AreAt contents print [] first kept first
+  at_first History first kept empty = (appends_nothing (contents first), empty)
+  at_first Json first kept empty = (appends_nothing (contents first), empty)
+  at_first Chart first kept empty = (refl, empty)
+  at_first Mermaid first kept empty = (refl, empty)
+  at_first Summary first kept empty = (refl, empty)
+
+  -- and with each that ends
+  next_lines : (form : Form) (hs h : List Stamped) (first mid new : W) → Appends (contents first) (contents mid) (lines form hs) → Appends (contents mid) (contents new) (lines form h) → Appends (contents first) (contents new) (lines form (hs ++ h))
+  next_lines form hs h first mid new before more =
+      subst (Appends (contents first) (contents new)) (sym (lines_joined form hs h)) (appends_then (contents first) (contents mid) (contents new) (lines form hs) (lines form h) before more)
+
+  pub put_lines : (print : Show) (form : Form) → IsWrittenAs print form → (hs h : List Stamped) (first mid new : W) (kept : List Stamped) → Appends (contents mid) (contents new) (lines form h) → AreAt contents print hs first kept mid → AreAt contents print (hs ++ h) first kept new
+  put_lines History Lines is hs h first mid new kept more at = (next_lines Lines hs h first mid new at.0 more, at.1)
+  put_lines Json Objects is hs h first mid new kept more at = (next_lines Objects hs h first mid new at.0 more, at.1)
+  put_lines History Diagram is hs h first mid new kept more at = absurd is
+  put_lines History Objects is hs h first mid new kept more at = absurd is
+  put_lines Json Lines is hs h first mid new kept more at = absurd is
+  put_lines Json Diagram is hs h first mid new kept more at = absurd is
+  put_lines Chart form is hs h first mid new kept more at = absurd is
+  put_lines Mermaid form is hs h first mid new kept more at = absurd is
+  put_lines Summary form is hs h first mid new kept more at = absurd is
+
+  -- what stands in the writer, by the epochs so far
+  behind : (options : Options) (budget n : ℕ) (first : Staffed) (hs : List Stamped) (now : Staffed) (old new : W) (kept : List Stamped) (print : Show) → options.print ≡ print → (n ≡ 0 → new ≡ old) → (0 < n → n < options.epochs)
+      → PassEpochs options budget n first hs now → AreAt contents print hs old kept new → (new ≡ old) ⊎ HasWritten options budget first (contents old) (contents new)
+  behind options budget zero first hs now old new kept print is same within passed at = inl (same refl)
+  behind options budget (suc n) first hs now old new kept History is same within passed at = inr (Lines, subst (λ p. IsWrittenAs p Lines) (sym is) tt, suc n, omega arith, within (omega arith), hs, now, passed, at.0)
+  behind options budget (suc n) first hs now old new kept Json is same within passed at = inr (Objects, subst (λ p. IsWrittenAs p Objects) (sym is) tt, suc n, omega arith, within (omega arith), hs, now, passed, at.0)
+  behind options budget (suc n) first hs now old new kept Chart is same within passed at = inl at.0
+  behind options budget (suc n) first hs now old new kept Mermaid is same within passed at = inl at.0
+  behind options budget (suc n) first hs now old new kept Summary is same within passed at = inl at.0
+
+  pub written : (options : Options) (budget n : ℕ) (first : Staffed) (hs : List Stamped) (now : Staffed) (old new : W) (kept : List Stamped) → (n ≡ 0 → new ≡ old) → (0 < n → n < options.epochs)
+      → PassEpochs options budget n first hs now → AreAt contents options.print hs old kept new → (new ≡ old) ⊎ HasWritten options budget first (contents old) (contents new)
+  written options budget n first hs now old new kept same within passed at = behind options budget n first hs now old new kept options.print refl same within passed at
+
+-- what is printed of the last epoch stands behind the histories
+history_joined : (form : Form) → head_text form ≡ [] → (old mid new : Option (List ℕ)) (hs h : List Stamped) (left : List LeftOver) → Appends old mid (lines form hs) → Appends mid new (history_text form h left) → Appends old new (history_text form (hs ++ h) left)
+history_joined form none old mid new hs h left before last =
+    let plain : (es : List Stamped) → history_text form es left ≡ lines form es ++ left_lines form left = λ es. ap (λ z. z ++ (lines form es ++ left_lines form left)) none in
+    let joined : lines form hs ++ (lines form h ++ left_lines form left) ≡ lines form (hs ++ h) ++ left_lines form left = sym (append_assoc (lines form hs) (lines form h) (left_lines form left)) ∙ ap (λ z. z ++ left_lines form left) (sym (lines_joined form hs h)) in
+    subst (Appends old new) (joined ∙ sym (plain (hs ++ h))) (appends_then old mid new (lines form hs) (lines form h ++ left_lines form left) before (subst (Appends mid new) (plain h) last))
+
+module _ {W : Type 0} (contents : W → Option (List ℕ)) where
+  -- the history that was printed behind those that were kept
+  abbrev Printed : Form → List Stamped → GatheredState → W → W → Type 0
+  Printed form kept g mid new = (h : List Stamped) × IsMerge (journals g) (reverse h) × Appends (contents mid) (contents new) (history_text form (kept ++ h) (all_left g))
+
+  -- the lines of this form stand behind those of the epochs before
+  tells_lines : (form : Form) → head_text form ≡ [] → (hs : List Stamped) (g : GatheredState) (first mid new : W) (kept : List Stamped) → Appends (contents first) (contents mid) (lines form hs) → kept ≡ [] → Printed form kept g mid new → Tells form hs g (contents first) (contents new)
+  tells_lines form none hs g first mid new kept before empty x =
+      (x.0, x.1, history_joined form none (contents first) (contents mid) (contents new) hs x.0 (all_left g) before (subst (λ k. Appends (contents mid) (contents new) (history_text form (k ++ x.0) (all_left g))) empty x.2))
+
+  pub shows_history : (print : Show) → print ≡ History → (hs : List Stamped) (called : List (Pid × List ℕ)) (g : GatheredState) (first mid new : W) (kept : List Stamped) → AreAt contents print hs first kept mid → Printed Lines kept g mid new → Shows print hs called g (contents first) (contents new)
+  shows_history print is hs called g first mid new kept at x =
+      let a = subst (λ p. AreAt contents p hs first kept mid) is at in
+      subst (λ p. Shows p hs called g (contents first) (contents new)) (sym is) (tells_lines Lines refl hs g first mid new kept a.0 a.1 x)
+
+  pub shows_json : (print : Show) → print ≡ Json → (hs : List Stamped) (called : List (Pid × List ℕ)) (g : GatheredState) (first mid new : W) (kept : List Stamped) → AreAt contents print hs first kept mid → Printed Objects kept g mid new → Shows print hs called g (contents first) (contents new)
+  shows_json print is hs called g first mid new kept at x =
+      let a = subst (λ p. AreAt contents p hs first kept mid) is at in
+      subst (λ p. Shows p hs called g (contents first) (contents new)) (sym is) (tells_lines Objects refl hs g first mid new kept a.0 a.1 x)
+
+  pub shows_mermaid : (print : Show) → print ≡ Mermaid → (hs : List Stamped) (called : List (Pid × List ℕ)) (g : GatheredState) (first mid new : W) (kept : List Stamped) → AreAt contents print hs first kept mid → Printed Diagram kept g mid new → Shows print hs called g (contents first) (contents new)
+  shows_mermaid print is hs called g first mid new kept at x =
+      let a = subst (λ p. AreAt contents p hs first kept mid) is at in
+      let text = history_text Diagram (hs ++ x.0) (all_left g) in
+      subst (λ p. Shows p hs called g (contents first) (contents new)) (sym is) (x.0, x.1, subst (λ m. Appends (contents m) (contents new) text) a.0 (subst (λ k. Appends (contents mid) (contents new) (history_text Diagram (k ++ x.0) (all_left g))) a.1 x.2))
+
+  pub shows_chart : (print : Show) → print ≡ Chart → (hs : List Stamped) (called : List (Pid × List ℕ)) (g : GatheredState) (first mid new : W) (kept : List Stamped) → AreAt contents print hs first kept mid
+      → ((h : List Stamped) × IsMerge (journals g) (reverse h) × (text : List ℕ) × IsChart (kept ++ h) called text × Appends (contents mid) (contents new) text) → Shows print hs called g (contents first) (contents new)
+  shows_chart print is hs called g first mid new kept at x =
+      let a = subst (λ p. AreAt contents p hs first kept mid) is at in
+      subst (λ p. Shows p hs called g (contents first) (contents new)) (sym is) (x.0, x.1, x.2, subst (λ z. IsChart (z ++ x.0) called x.2) a.1 x.3, subst (λ m. Appends (contents m) (contents new) x.2) a.0 x.4)
+
+  pub shows_summary : (print : Show) → print ≡ Summary → (hs : List Stamped) (called : List (Pid × List ℕ)) (g : GatheredState) (first mid new : W) (kept : List Stamped) → AreAt contents print hs first kept mid
+      → Summarizes g (contents mid) (contents new) → Shows print hs called g (contents first) (contents new)
+  shows_summary print is hs called g first mid new kept at x =
+      let a = subst (λ p. AreAt contents p hs first kept mid) is at in
+      subst (λ p. Shows p hs called g (contents first) (contents new)) (sym is) (subst (λ m. Summarizes g (contents m) (contents new)) a.0 x)
+
+  pub history_reported : (r : Result (Unit {0}) ReportFault) (bytes : List ℕ) (options : Options) (script : Whole) (hs : List Stamped) (g : GatheredState) (first mid new : W) (kept : List Stamped) → reading bytes ≡ Ok script → IsNodeOf (options.epochs - 1) options script hs g
+      → AreAt contents options.print hs first kept mid → options.print ≡ History → OnOk r (Printed Lines kept g mid new) → OnOk r (Reports bytes options (contents first) (contents new))
+  history_reported (Ok u) bytes options script hs g first mid new kept read node at is x =
+      record { script = script; read = read; histories = hs; node = g; is_node = node; shows = shows_history options.print is hs (called_by (names_in bytes) node.ran.1) g first mid new kept at x }
+  history_reported (Err e) bytes options script hs g first mid new kept read node at is x = tt
+
+  pub json_reported : (r : Result (Unit {0}) ReportFault) (bytes : List ℕ) (options : Options) (script : Whole) (hs : List Stamped) (g : GatheredState) (first mid new : W) (kept : List Stamped) → reading bytes ≡ Ok script → IsNodeOf (options.epochs - 1) options script hs g
+      → AreAt contents options.print hs first kept mid → options.print ≡ Json → OnOk r (Printed Objects kept g mid new) → OnOk r (Reports bytes options (contents first) (contents new))
+  json_reported (Ok u) bytes options script hs g first mid new kept read node at is x =
+      record { script = script; read = read; histories = hs; node = g; is_node = node; shows = shows_json options.print is hs (called_by (names_in bytes) node.ran.1) g first mid new kept at x }
+  json_reported (Err e) bytes options script hs g first mid new kept read node at is x = tt
+
+  pub mermaid_reported : (r : Result (Unit {0}) ReportFault) (bytes : List ℕ) (options : Options) (script : Whole) (hs : List Stamped) (g : GatheredState) (first mid new : W) (kept : List Stamped) → reading bytes ≡ Ok script → IsNodeOf (options.epochs - 1) options script hs g
+      → AreAt contents options.print hs first kept mid → options.print ≡ Mermaid → OnOk r (Printed Diagram kept g mid new) → OnOk r (Reports bytes options (contents first) (contents new))
+  mermaid_reported (Ok u) bytes options script hs g first mid new kept read node at is x =
+      record { script = script; read = read; histories = hs; node = g; is_node = node; shows = shows_mermaid options.print is hs (called_by (names_in bytes) node.ran.1) g first mid new kept at x }
+  mermaid_reported (Err e) bytes options script hs g first mid new kept read node at is x = tt
+
+  pub chart_reported : (r : Result (Unit {0}) ReportFault) (bytes : List ℕ) (options : Options) (script : Whole) (hs : List Stamped) (g : GatheredState) (runners : List Runner) (first mid new : W) (kept : List Stamped) → reading bytes ≡ Ok script
+      → IsRun (options.epochs - 1) options script hs g runners → AreAt contents options.print hs first kept mid → options.print ≡ Chart
+      → OnOk r ((h : List Stamped) × IsMerge (journals g) (reverse h) × (text : List ℕ) × IsChart (kept ++ h) (called_by (names_in bytes) runners) text × Appends (contents mid) (contents new) text) → OnOk r (Reports bytes options (contents first) (contents new))
+  chart_reported (Ok u) bytes options script hs g runners first mid new kept read (node, ran) at is x =
+      let called = called_by (names_in bytes) node.ran.1 in
+      let so : (h : List Stamped) × IsMerge (journals g) (reverse h) × (text : List ℕ) × IsChart (kept ++ h) called text × Appends (contents mid) (contents new) text =
+      (x.0, x.1, x.2, subst (λ rs. IsChart (kept ++ x.0) (called_by (names_in bytes) rs) x.2) (sym ran) x.3, x.4) in
+      record { script = script; read = read; histories = hs; node = g; is_node = node; shows = shows_chart options.print is hs called g first mid new kept at so }
+  chart_reported (Err e) bytes options script hs g runners first mid new kept read run at is x = tt
+
+  pub summary_reported : (r : Result (Unit {0}) ReportFault) (bytes : List ℕ) (options : Options) (script : Whole) (hs : List Stamped) (g : GatheredState) (first mid new : W) (kept : List Stamped) → reading bytes ≡ Ok script → IsNodeOf (options.epochs - 1) options script hs g
+      → AreAt contents options.print hs first kept mid → options.print ≡ Summary → OnOk r (Summarizes g (contents mid) (contents new)) → OnOk r (Reports bytes options (contents first) (contents new))
+  summary_reported (Ok u) bytes options script hs g first mid new kept read node at is x =
+      record { script = script; read = read; histories = hs; node = g; is_node = node; shows = shows_summary options.print is hs (called_by (names_in bytes) node.ran.1) g first mid new kept at x }
+  summary_reported (Err e) bytes options script hs g first mid new kept read node at is x = tt
+
+  -- what was written before stays, where a later fault leaves the writer as it was
+  pub untouched : (r : Result (Unit {0}) ReportFault) (bytes : List ℕ) (options : Options) (script : Whole) (first mid new : W) → reading bytes ≡ Ok script
+      → (mid ≡ first) ⊎ ((begun : Staffed) × IsBegun script begun × HasWritten options script.settings.budget begun (contents first) (contents mid)) → IfErr r (λ f. f ≢ File → new ≡ mid)
+      → IfErr r (λ f. f ≢ File → (new ≡ first) ⊎ HasWrittenOf bytes options (contents first) (contents new))
+  untouched (Ok u) bytes options script first mid new read told h = tt
+  untouched (Err e) bytes options script first mid new read (inl same) h = λ other. inl (h other ∙ same)
+  untouched (Err e) bytes options script first mid new read (inr has) h =
+      λ other. inr (script, read, has.0, has.1, subst (λ w. HasWritten options script.settings.budget has.0 (contents first) (contents w)) (sym {A = W} (h other)) has.2)
+
+-- faults ----------------------------------------------------------------------------------
+
+pub stopped_of_end : (ran : List DeskState) (g last : GatheredState) (stop : Stop) → Gathers ran g → SettlingStops (length g.shards) stop g last → IsOfEnd ran (stopped stop)
+stopped_of_end ran g last StopMemory gathers stops = tt
+stopped_of_end ran g last StopWorn gathers stops = (g, gathers, last, stops)
+
+pub of_end : (options : Options) (budget : ℕ) (old ran : Staffed) (f : ReportFault) → RunsOn options budget old ran → IsOfEnd ran.0 f → IsOfEpoch options budget old f
+of_end options budget old ran Memory runs is = tt
+of_end options budget old ran (Desk Worn) runs is = (ran, runs, is)
+of_end options budget old ran (Desk Full) runs is = absurd is
+of_end options budget old ran (Desk DeskMemory) runs is = absurd is
+of_end options budget old ran (Desk Gone) runs is = absurd is
+of_end options budget old ran (Desk Myself) runs is = absurd is
+of_end options budget old ran (Desk NoProc) runs is = absurd is
+of_end options budget old ran (Script e) runs is = absurd is
+of_end options budget old ran File runs is = absurd is
+
+pub of_memory : (options : Options) (budget : ℕ) (old : Staffed) (f : ReportFault) → f ≡ Memory → IsOfEpoch options budget old f
+of_memory options budget old f is = subst (IsOfEpoch options budget old) (sym is) tt
+
+pub of_epoch : (options : Options) (budget n : ℕ) (first : Staffed) (hs : List Stamped) (now : Staffed) (f : ReportFault) → n + 1 < options.epochs → PassEpochs options budget n first hs now → IsOfEpoch options budget now f → IsOfEpochs options budget first f
+of_epoch options budget n first hs now Memory within passed is = tt
+of_epoch options budget n first hs now (Desk Worn) within passed is = (n, within, hs, now, passed, is)
+of_epoch options budget n first hs now (Desk Full) within passed is = absurd is
+of_epoch options budget n first hs now (Desk DeskMemory) within passed is = absurd is
+of_epoch options budget n first hs now (Desk Gone) within passed is = absurd is
+of_epoch options budget n first hs now (Desk Myself) within passed is = absurd is
+of_epoch options budget n first hs now (Desk NoProc) within passed is = absurd is
+of_epoch options budget n first hs now (Script e) within passed is = absurd is
+of_epoch options budget n first hs now File within passed is = absurd is
+
+pub of_put : (options : Options) (budget : ℕ) (first : Staffed) (f : ReportFault) → IsOfPrint f → IsOfEpochs options budget first f
+of_put options budget first Memory is = tt
+of_put options budget first File is = tt
+of_put options budget first (Desk f) is = absurd is
+of_put options budget first (Script e) is = absurd is
+
+pub run_of_epochs : (options : Options) (script : Whole) (first : Staffed) (f : ReportFault) → IsBegun script first → IsOfEpochs options script.settings.budget first f → IsOfRun options script f
+run_of_epochs options script first Memory begun is = tt
+run_of_epochs options script first File begun is = tt
+run_of_epochs options script first (Desk Worn) begun (n, within, hs, now, passed, (ran, runs, (g, gathers, last, stops))) =
+    inr (record { epochs = n; asked = inl within; histories = hs; node = g; is_node = (node_of options script n first hs now ran g begun passed runs gathers).0; last = last; stops = stops })
+run_of_epochs options script first (Desk Full) begun is = absurd is
+run_of_epochs options script first (Desk DeskMemory) begun is = absurd is
+run_of_epochs options script first (Desk Gone) begun is = absurd is
+run_of_epochs options script first (Desk Myself) begun is = absurd is
+run_of_epochs options script first (Desk NoProc) begun is = absurd is
+run_of_epochs options script first (Script e) begun is = absurd is
+
+pub run_of_memory : (options : Options) (script : Whole) (f : ReportFault) → f ≡ Memory → IsOfRun options script f
+run_of_memory options script f is = subst (IsOfRun options script) (sym is) tt
+
+pub run_of_start : (options : Options) (script : Whole) (f : ReportFault) → IsOfStart script f → IsOfRun options script f
+run_of_start options script Memory is = tt
+run_of_start options script (Desk Full) is = is
+run_of_start options script (Desk Worn) is = inl is
+run_of_start options script (Desk DeskMemory) is = absurd is
+run_of_start options script (Desk Gone) is = absurd is
+run_of_start options script (Desk Myself) is = absurd is
+run_of_start options script (Desk NoProc) is = absurd is
+run_of_start options script (Script e) is = absurd is
+run_of_start options script File is = absurd is

@@ -1,0 +1,45 @@
+use Rattle.std.proofs.Common.{◌-◌, sym, ◌∙◌}
+use Rattle.std.proofs.lemmas.Result.{IfErr-weaker}
+use Rattle.pt_report.specs.Reports.{IsRun}
+use Rattle.pt_report.proofs.Faults.{of_summary}
+use Rattle.pt_report.proofs.Passing.{chart_reported, history_reported, json_reported, mermaid_reported, summary_reported, untouched}
+use Rattle.pt_report.proofs.reporting.report.Goals as goal
+
+pub returns-in-Summary-clause-text : goal.returns-in-Summary-clause-text
+returns-in-Summary-clause-text g c =
+    let node = c.in_ok-gathered.ensures.node in
+    summary_reported g.W.Write.contents c.print_summary.result c.args.script.now c.args.options.now c.in_ok-read.read node.0 c.in_ok-gathered.gathered c.args.out.now c.run_script.new.out c.print_summary.new.out c.run_script.new.kept.items c.in_ok-read.ensures node.1.0 node.2 c.in-Summary.is c.print_summary.ensures.text
+
+pub returns-in-Summary-clause-refused : goal.returns-in-Summary-clause-refused
+returns-in-Summary-clause-refused g c =
+    let node = c.in_ok-gathered.ensures.node in
+    IfErr-weaker c.print_summary.result _ _ (λ f h. of_summary c.args.script.now c.args.options.now c.in_ok-read.read node.0 c.in_ok-gathered.gathered f c.in_ok-read.ensures c.in-Summary.is node.1.0 h) c.print_summary.ensures.fault
+
+pub returns-in-History-clause-untouched : goal.returns-in-History-clause-untouched
+returns-in-History-clause-untouched g c =
+    untouched g.W.Write.contents c.print_history.result c.args.script.now c.args.options.now c.in_ok-read.read c.args.out.now c.run_script.new.out c.print_history.new.out c.in_ok-read.ensures c.in_ok-gathered.ensures.told c.print_history.ensures.untouched
+
+pub returns-in-History-clause-text : goal.returns-in-History-clause-text
+returns-in-History-clause-text g c =
+    let node = c.in_ok-gathered.ensures.node in
+    history_reported g.W.Write.contents c.print_history.result c.args.script.now c.args.options.now c.in_ok-read.read node.0 c.in_ok-gathered.gathered c.args.out.now c.run_script.new.out c.print_history.new.out c.run_script.new.kept.items c.in_ok-read.ensures node.1.0 node.2 c.in-History.is c.print_history.ensures.text
+
+pub returns-in-Mermaid-clause-text : goal.returns-in-Mermaid-clause-text
+returns-in-Mermaid-clause-text g c =
+    let node = c.in_ok-gathered.ensures.node in
+    mermaid_reported g.W.Write.contents c.print_history-in-Mermaid.result c.args.script.now c.args.options.now c.in_ok-read.read node.0 c.in_ok-gathered.gathered c.args.out.now c.run_script.new.out c.print_history-in-Mermaid.new.out c.run_script.new.kept.items c.in_ok-read.ensures node.1.0 node.2 c.in-Mermaid.is c.print_history-in-Mermaid.ensures.text
+
+pub returns-in-Json-clause-untouched : goal.returns-in-Json-clause-untouched
+returns-in-Json-clause-untouched g c =
+    untouched g.W.Write.contents c.print_history-in-Json.result c.args.script.now c.args.options.now c.in_ok-read.read c.args.out.now c.run_script.new.out c.print_history-in-Json.new.out c.in_ok-read.ensures c.in_ok-gathered.ensures.told c.print_history-in-Json.ensures.untouched
+
+pub returns-in-Json-clause-text : goal.returns-in-Json-clause-text
+returns-in-Json-clause-text g c =
+    let node = c.in_ok-gathered.ensures.node in
+    json_reported g.W.Write.contents c.print_history-in-Json.result c.args.script.now c.args.options.now c.in_ok-read.read node.0 c.in_ok-gathered.gathered c.args.out.now c.run_script.new.out c.print_history-in-Json.new.out c.run_script.new.kept.items c.in_ok-read.ensures node.1.0 node.2 c.in-Json.is c.print_history-in-Json.ensures.text
+
+pub returns-clause-text : goal.returns-clause-text
+returns-clause-text g c =
+    let node = c.in_ok-gathered.ensures.node in
+    let run : IsRun (c.args.options.now.epochs - 1) c.args.options.now c.in_ok-read.read node.0 c.in_ok-gathered.gathered c.as_slice.result.now = (node.1.0, node.1.1 ∙ sym c.as_slice.ensures.value) in
+    chart_reported g.W.Write.contents c.print_chart.result c.args.script.now c.args.options.now c.in_ok-read.read node.0 c.in_ok-gathered.gathered c.as_slice.result.now c.args.out.now c.run_script.new.out c.print_chart.new.out c.run_script.new.kept.items c.in_ok-read.ensures run node.2 c.in-Chart.is c.print_chart.ensures.text

@@ -1,0 +1,36 @@
+use Rattle.std.proofs.Common.{◌≡◌, ◌-◌, Err, subst, inl, inr, rules}
+use Rattle.pt_report.specs.Epochs.{HasWritten, IsOfEpochs, PassEpochs, RunsOn, Staffed}
+use Rattle.pt_report.specs.Reports.{IsOfRun}
+use Rattle.pt_report.proofs.Passing.{node_of, run_of_epochs}
+use Rattle.pt_report.proofs.running.run_epochs.Goals as goal
+
+pub returns-in_err-node-clause-fault : goal.returns-in_err-node-clause-fault
+returns-in_err-node-clause-fault g c =
+    let options = c.args.options.now in
+    let first : Staffed = (c.args.node, c.args.runners.items) in
+    let f = c.in_err-node.field-0.0 in
+    let is : IsOfRun options c.args.script.now f = run_of_epochs options c.args.script.now first f c.requires.begun (subst (λ b. IsOfEpochs options b first f) c.budget-budget.ensures.budget c.in_err-node.ensures.fault) in
+    let told : c.from_residual.result ≡ Err f = search rules in
+    rw told is
+
+pub returns-in-Ok-clause-node : goal.returns-in-Ok-clause-node
+returns-in-Ok-clause-node g c =
+    let options = c.args.options.now in
+    let first : Staffed = (c.args.node, c.args.runners.items) in
+    let last : Staffed = (c.in_ok-node.node, c.pass_epochs.new.runners.items) in
+    let ran : Staffed = (c.run_once.new.node, c.run_once.new.runners.items) in
+    let so = c.in_ok-node.ensures.passed in
+    let same = c.budget-budget.ensures.budget in (
+      so.0,
+      node_of options c.args.script.now (options.epochs - 1) first so.0 last ran c.in-Ok.gathered c.requires.begun (subst (λ b. PassEpochs options b (options.epochs - 1) first so.0 last) same so.1)
+          (subst (λ b. RunsOn options b last ran) same c.in_ok-run_once.ensures.runs) c.in-Ok.ensures.gathers,
+      so.2,
+    )
+
+pub returns-in-Ok-clause-told : goal.returns-in-Ok-clause-told
+returns-in-Ok-clause-told g c =
+    let first : Staffed = (c.args.node, c.args.runners.items) in
+    elim c.in_ok-node.ensures.told [
+      | inl same ↦ inl same
+      | inr has ↦ inr (first, c.requires.begun, subst (λ b. HasWritten c.args.options.now b first (g.W.Write.contents c.args.out.now) (g.W.Write.contents c.pass_epochs.new.out)) c.budget-budget.ensures.budget has)
+    ]

@@ -1,0 +1,160 @@
+//! The epochs of a run: between two of them the node is settled, and goes on with empty journals.
+
+ghost use Rattle.std.specs.Prelude.{◌≡◌, ◌≢◌, ◌⊎◌, ◌-◌, ◌++◌, [], List, OnOk, IfOk, IfErr};
+ghost use Rattle.std.specs.Io.KnownBytes.{Appends};
+ghost use Rattle.pt_events.specs.declared.event.Stamped.{Stamped};
+ghost use Rattle.pt_report.specs.Epochs as spec;
+ghost use Rattle.pt_report.specs.Epochs.{EndsEpoch, HasWritten, IsOfEnd, IsOfEpoch, IsOfEpochs, PassEpochs};
+ghost use Rattle.pt_report.specs.Epochs.{PassesEpoch};
+ghost use Rattle.pt_report.specs.Lines.{lines};
+ghost use Rattle.pt_report.specs.Status.{IsOfPrint};
+ghost use Rattle.pt_report.specs.declared.fault.ReportFault.TheVariants.{File};
+
+use crate::fault::ReportFault;
+use crate::form::Form;
+use crate::history::write_events;
+use crate::running::run_once;
+use pt_choices::{Options, Show};
+use pt_node::{Node, Stamped};
+use pt_runner::Runner;
+use std::alloc::Global;
+use std::io;
+use std::io::Write;
+use std::thread::Threads;
+
+/// Lets all epochs pass but the last, and does with the history of each as it ends what the options ask for: it is
+/// written, or kept behind those before it.
+pub(crate) fn pass_epochs<R: Threads + Sync, W: Write>(
+    rt: &R,
+    alloc: Global,
+    options: &Options,
+    budget: u32,
+    node: Node,
+    runners: &mut Vec<Runner<'_>>,
+    kept: &mut Vec<Stamped>,
+    out: &mut W,
+) -> Result<Node, ReportFault>
+    requires { kept.old.items ≡ [] }
+    ensures passed { IfOk result (λ next. (histories : List Stamped)
+        × PassEpochs options.now budget (options.now.epochs - 1) (node, runners.old.items) histories
+        (next, runners.new.items)
+        × spec.AreAt W.contents options.now.print histories out.old kept.new.items out.new) }
+    ensures fault { IfErr result (IsOfEpochs options.now budget (node, runners.old.items)) }
+    ensures told { OnOk result ((out.new ≡ out.old)
+        ⊎ HasWritten options.now budget (node, runners.old.items) (W.contents out.old) (W.contents out.new)) }
+    ensures untouched { IfErr result (λ f. f ≢ File → (out.new ≡ out.old)
+        ⊎ HasWritten options.now budget (node, runners.old.items) (W.contents out.old) (W.contents out.new)) }
+{
+    let mut node = node;
+    let before = options.epochs.saturating_sub(1);
+    for _epoch in 0..before {
+        node = next_epoch(rt, alloc, options, budget, node, runners, kept, out)?;
+    }
+    Ok(node)
+}
+
+/// Lets one epoch pass, and does with its history what the options ask for.
+fn next_epoch<R: Threads + Sync, W: Write>(
+    rt: &R,
+    alloc: Global,
+    options: &Options,
+    budget: u32,
+    node: Node,
+    runners: &mut Vec<Runner<'_>>,
+    kept: &mut Vec<Stamped>,
+    out: &mut W,
+) -> Result<Node, ReportFault>
+    ensures passed { IfOk result (λ next. (history : List Stamped)
+        × PassesEpoch options.now budget (node, runners.old.items) history (next, runners.new.items)
+        × ((histories : List Stamped) (first : W)
+        → spec.AreAt W.contents options.now.print histories first kept.old.items out.old
+        → spec.AreAt W.contents options.now.print (histories ++ history) first kept.new.items out.new)) }
+    ensures fault { IfErr result
+        (λ f. IsOfPrint f ⊎ IsOfEpoch options.now budget (node, runners.old.items) f) }
+    ensures untouched { IfErr result (λ f. f ≢ File → out.new ≡ out.old) }
+{
+    let (next, history) = pass_epoch(rt, alloc, options, budget, node, runners)?;
+    put(options.print, history.as_slice(), kept, out)?;
+    Ok(next)
+}
+
+/// Lets one epoch pass, and gives its history.
+fn pass_epoch<R: Threads + Sync>(
+    rt: &R,
+    alloc: Global,
+    options: &Options,
+    budget: u32,
+    node: Node,
+    runners: &mut Vec<Runner<'_>>,
+) -> Result<(Node, Vec<Stamped>), ReportFault>
+    ensures passes { IfOk result
+        (λ r. PassesEpoch options.now budget (node, runners.old.items) r.1.items (r.0, runners.new.items)) }
+    ensures fault { IfErr result (IsOfEpoch options.now budget (node, runners.old.items)) }
+{
+    let mut node = node;
+    run_once(rt, options, budget, &mut node, runners)?;
+    end_epoch(alloc, node)
+}
+
+/// Ends an epoch: the node is gathered and settled, and goes on with empty journals. What they had comes back.
+fn end_epoch(alloc: Global, node: Node) -> Result<(Node, Vec<Stamped>), ReportFault>
+    ensures ends { IfOk result (λ r. EndsEpoch node r.1.items r.0) }
+    ensures fault { IfErr result (IsOfEnd node) }
+{
+    let Ok(gathered) = node.gather() else {
+        return Err(ReportFault::Memory);
+    };
+    let quiet = match gathered.settle() {
+        Ok(quiet) => quiet,
+        Err(unsettled) => return Err(ReportFault::from(unsettled.fault)),
+    };
+    let history = quiet.history()?;
+    match Node::resume(alloc, quiet) {
+        Ok(next) => Ok((next, history)),
+        Err(_resting) => Err(ReportFault::Memory),
+    }
+}
+
+/// Does with the history of an epoch what is asked for: it is written, or kept behind those before it.
+fn put<W: Write>(
+    print: Show,
+    history: &[Stamped],
+    kept: &mut Vec<Stamped>,
+    out: &mut W,
+) -> Result<(), ReportFault>
+    ensures at { OnOk result
+        ((histories : List Stamped) (first : W)
+        → spec.AreAt W.contents print histories first kept.old.items out.old
+        → spec.AreAt W.contents print (histories ++ history.now) first kept.new.items out.new) }
+    ensures fault { IfErr result IsOfPrint }
+    ensures untouched { IfErr result (λ f. f ≢ File → out.new ≡ out.old) }
+{
+    match print {
+        Show::History => write_epoch(out, Form::Lines, history),
+        Show::Json => write_epoch(out, Form::Objects, history),
+        Show::Chart | Show::Mermaid => {
+            kept.extend_from_slice(history)?;
+            Ok(())
+        }
+        Show::Summary => Ok(()),
+    }
+}
+
+/// Writes the events of an epoch, and passes on what the writer holds back.
+fn write_epoch<W: Write>(out: &mut W, form: Form, events: &[Stamped]) -> Result<(), ReportFault>
+    ensures text { OnOk result (Appends (W.contents out.old) (W.contents out.new) (lines form events.now)) }
+    ensures fault { IfErr result (λ f. f ≡ File) }
+{
+    match write_all(out, form, events) {
+        Ok(()) => Ok(()),
+        Err(_) => Err(ReportFault::File),
+    }
+}
+
+#[tactic(auto, using(crate::proofs::Writing::appends_keeps))]
+fn write_all<W: Write>(out: &mut W, form: Form, events: &[Stamped]) -> io::Result<()>
+    ensures { OnOk result (Appends (W.contents out.old) (W.contents out.new) (lines form events.now)) }
+{
+    write_events(out, form, events)?;
+    out.flush()
+}
