@@ -4,4 +4,5 @@ pub mod Games
 pub mod Payloads
 pub mod Supervision
 pub mod Telling
+pub mod Epochs
 pub mod Rings

@@ -7,6 +7,7 @@
 //! | [`strategy`] | whom it starts again: one for one, or one for all |
 //! | [`game`] | a loop of ticks, with what belongs to each process in a map by its pid |
 //! | [`desks_on_threads`] | a desk a thread, and what is gathered of them |
+//! | [`epochs`] | a node that goes on for as long as is wanted, its history written out every so many turns |
 //! | [`chat`] | a room and its guests, each on a desk of a node that runs them: they join, talk and crash |
 //! | [`payloads`] | what does not fit into a message, kept beside the table and named by its number |
 //!
@@ -16,6 +17,7 @@
 
 pub mod chat;
 pub mod desks_on_threads;
+pub mod epochs;
 mod error;
 pub mod game;
 pub mod payloads;
