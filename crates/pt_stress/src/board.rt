@@ -5,19 +5,19 @@ use std::alloc::{AllocError, Global};
 use std::sync::atomic::{AtomicU32, Ordering};
 
 /// How many desks the node has.
-pub const DESKS: u8 = 8;
+pub(crate) const DESKS: u8 = 8;
 
 /// How many slots each desk has: eight processes are born at first, and four more can live beside them.
-pub const SLOTS: u32 = 12;
+pub(crate) const SLOTS: u32 = 12;
 
 /// The newest version of each slot, desk by desk; 0 where none was born.
 #[derive(Drop)]
-pub struct Board {
+pub(crate) struct Board {
     newest: Vec<AtomicU32>,
 }
 
 impl Board {
-    pub fn new(alloc: Global) -> Result<Board, AllocError> {
+    pub(crate) fn new(alloc: Global) -> Result<Board, AllocError> {
         let mut newest = Vec::new(alloc);
         for _ in 0..u32::from(DESKS) * SLOTS {
             newest.push(AtomicU32::new(0))?;
@@ -26,14 +26,14 @@ impl Board {
     }
 
     /// The process was born.
-    pub fn write(&self, p: Pid) {
+    pub(crate) fn write(&self, p: Pid) {
         if let Some(version) = self.newest.get(place(p.shard, p.slot)) {
             version.store(p.version, Ordering::SeqCst);
         }
     }
 
     /// The process that was born last in a slot, or the first that is to be born there.
-    pub fn read(&self, shard: u8, slot: u32) -> Pid {
+    pub(crate) fn read(&self, shard: u8, slot: u32) -> Pid {
         let version = match self.newest.get(place(shard, slot)) {
             Some(version) => version.load(Ordering::SeqCst),
             None => 0,

@@ -16,23 +16,23 @@ const LAST: u64 = 8;
 
 /// A worker: its desk's processes call each other and those of the other desks, one call a step.
 #[derive(Drop)]
-pub struct Crowd<'a> {
+pub(crate) struct Crowd<'a> {
     board: &'a Board,
     dice: Dice,
     /// How many calls it is to make.
     calls: u64,
     /// How many it has made.
-    pub made: u64,
+    pub(crate) made: u64,
     /// How many messages were sent.
-    pub sent: u64,
+    pub(crate) sent: u64,
     /// How many processes were born.
-    pub born: u64,
+    pub(crate) born: u64,
     /// A monitor that may be given up, with the process that made it.
     monitor: Option<(Pid, Ref)>,
 }
 
 impl<'a> Crowd<'a> {
-    pub fn new(board: &'a Board, seed: u64, calls: u64) -> Crowd<'a> {
+    pub(crate) fn new(board: &'a Board, seed: u64, calls: u64) -> Crowd<'a> {
         Crowd {
             board,
             dice: Dice::new(seed),

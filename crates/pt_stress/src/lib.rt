@@ -4,7 +4,7 @@
 //! 200,000 calls in all, gathered while letters are on their way. What every node keeps whatever the threads do,
 //! `gather` and `settle` promise. Here the judge of histories, which shares with a desk no more than the values of
 //! `pt_signal`, sees that the histories of such runs are lawful, and that what it finds on its way is what is left
-//! over.
+//! over. One more node goes on three times from what its crowd settled to: its rounds are one history.
 #![tactic(auto)]
 
 #[cfg(test)]
@@ -21,6 +21,8 @@ mod node;
 mod opening;
 #[cfg(test)]
 mod pace;
+#[cfg(test)]
+mod resumed;
 #[cfg(test)]
 mod stress;
 #[cfg(test)]

@@ -10,7 +10,7 @@ use std::alloc::Global;
 use std::process::Abort;
 
 /// The desks of a new node. The lanes are narrow, so that letters wait in the outboxes.
-pub fn opened(rt: &impl Abort, alloc: Global) -> Vec<Desk>
+pub(crate) fn opened(rt: &impl Abort, alloc: Global) -> Vec<Desk>
     ensures { AreDesks result.items }
 {
     let config = Config {
@@ -27,7 +27,7 @@ pub fn opened(rt: &impl Abort, alloc: Global) -> Vec<Desk>
 }
 
 /// The desks, each with its worker.
-pub fn staffed<'a>(
+pub(crate) fn staffed<'a>(
     rt: &impl Abort,
     alloc: Global,
     desks: Vec<Desk>,
@@ -48,7 +48,7 @@ pub fn staffed<'a>(
 }
 
 /// The desks brought together, and their workers.
-pub fn gathered<'a>(
+pub(crate) fn gathered<'a>(
     rt: &impl Abort,
     alloc: Global,
     ran: Ran<Crowd<'a>>,

@@ -13,12 +13,12 @@ const LOOKS: u32 = 10_000;
 
 /// How many turns each worker has begun.
 #[derive(Drop)]
-pub struct Pace {
+pub(crate) struct Pace {
     begun: Vec<AtomicU64>,
 }
 
 impl Pace {
-    pub fn new(alloc: Global) -> Result<Pace, AllocError> {
+    pub(crate) fn new(alloc: Global) -> Result<Pace, AllocError> {
         let mut begun = Vec::new(alloc);
         for _ in 0..DESKS {
             begun.push(AtomicU64::new(0))?;

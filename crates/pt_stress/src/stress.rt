@@ -12,21 +12,25 @@ use std::test::Fail;
 use std::thread::Threads;
 
 /// How many calls each worker makes.
-const CALLS: u64 = 625;
+pub(crate) const CALLS: u64 = 625;
 
 /// How many letters a turn handles.
-const BUDGET: u32 = 1;
+pub(crate) const BUDGET: u32 = 1;
 
 /// What the workers of a node did together.
 #[derive(Clone, Copy, Debug, PartialEq, Eq)]
-struct Done {
-    made: u64,
+pub(crate) struct Done {
+    pub(crate) made: u64,
     sent: u64,
     born: u64,
 }
 
 /// A worker for each desk.
-fn works<'a>(alloc: Global, board: &'a Board, seed: u64) -> Result<Vec<Crowd<'a>>, AllocError> {
+pub(crate) fn works<'a>(
+    alloc: Global,
+    board: &'a Board,
+    seed: u64,
+) -> Result<Vec<Crowd<'a>>, AllocError> {
     let mut works = Vec::new(alloc);
     for desk in 0..DESKS {
         let own = seed.wrapping_mul(64).wrapping_add(u64::from(desk));
@@ -36,7 +40,7 @@ fn works<'a>(alloc: Global, board: &'a Board, seed: u64) -> Result<Vec<Crowd<'a>
 }
 
 /// What the workers did.
-fn done_by(works: &[Crowd]) -> Done {
+pub(crate) fn done_by(works: &[Crowd]) -> Done {
     let mut done = Done {
         made: 0,
         sent: 0,
@@ -51,7 +55,7 @@ fn done_by(works: &[Crowd]) -> Done {
 }
 
 /// What a history tells of what the workers did; their calls are more than it tells.
-fn told(history: &[Stamped], made: u64) -> Done {
+pub(crate) fn told(history: &[Stamped], made: u64) -> Done {
     let mut told = Done {
         made,
         sent: 0,

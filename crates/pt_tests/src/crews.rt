@@ -3,9 +3,10 @@
 ghost use Rattle.std.specs.Prelude.{◌≡◌};
 ghost use Rattle.pt_desk.specs.DeskState.{GoesOn};
 ghost use Rattle.pt_node.specs.Desks.{AreDesks, IsStill};
+ghost use Rattle.pt_crew.specs.Births.{kept};
 ghost use Rattle.pt_crew.specs.Visiting.{takes};
 
-use pt_crew::{Behaviour, Crew, Next, bear, bid_exit, join, tell, watch};
+use pt_crew::{Behaviour, Births, Crew, Next, bear, bid_exit, join, tell, watch};
 use pt_node::{Body, Config, Desk, Fault, Item, Pick, Pid, Reason, Work, open};
 use pt_uses::steps::gathered;
 use std::alloc::Global;
@@ -29,6 +30,9 @@ const END: u32 = 3;
 
 const BEAR: u32 = 4;
 
+/// What a child tells at its birth.
+const CHILD: u32 = 5;
+
 /// The processes of these tests.
 #[derive(Clone, Copy, Debug, PartialEq, Eq)]
 enum Player {
@@ -38,6 +42,8 @@ enum Player {
     Listener { digits: i64 },
     /// Does what it is told; counts the ends that it hears of, and the calls that were refused.
     Guard { ends: u32, refused: u32 },
+    /// At its birth it tells its own pid to the process that it is of.
+    Child { of: Pid },
 }
 
 impl Behaviour for Player {
@@ -46,7 +52,13 @@ impl Behaviour for Player {
     ghost answers = { λ _ _ _ _ _. ⊤ };
 
     #[tactic(auto, using(pt_node::proofs::GoingOn::stays))]
-    fn handle(&mut self, desk: &mut Desk, me: Pid, item: Item) -> Next {
+    fn handle(
+        &mut self,
+        desk: &mut Desk,
+        births: &mut Births<Player>,
+        me: Pid,
+        item: Option<Item>,
+    ) -> Next {
         match self {
             Player::Echo { heard } => {
                 *heard = heard.saturating_add(1);
@@ -57,12 +69,16 @@ impl Behaviour for Player {
                 Next::Wait(Pick::Any)
             }
             Player::Guard { ends, refused } => {
-                if !guard(desk, me, item) {
+                if !guard(desk, births, me, item) {
                     *refused = refused.saturating_add(1);
                 }
-                if let Item::Down(_, _, _) = item {
+                if let Some(Item::Down(_, _, _)) = item {
                     *ends = ends.saturating_add(1);
                 }
+                Next::Wait(Pick::Any)
+            }
+            Player::Child { of } => {
+                let _ = tell(desk, me, *of, message(CHILD, 0));
                 Next::Wait(Pick::Any)
             }
         }
@@ -70,9 +86,9 @@ impl Behaviour for Player {
 }
 
 /// The number of a message, and 0 for another item.
-fn number_of(item: Item) -> i64 {
+fn number_of(item: Option<Item>) -> i64 {
     match item {
-        Item::User(_, body) => body.num,
+        Some(Item::User(_, body)) => body.num,
         _ => 0,
     }
 }
@@ -87,11 +103,11 @@ fn message(kind: u32, num: i64) -> Body {
 
 /// Sends the number back, one less; at none the process ends.
 #[tactic(auto, using(pt_node::proofs::GoingOn::stays))]
-fn echo(desk: &mut Desk, me: Pid, item: Item) -> Next
+fn echo(desk: &mut Desk, me: Pid, item: Option<Item>) -> Next
     ensures takes { takes desk.new.shard.journal ≡ takes desk.old.shard.journal }
     ensures goes_on { GoesOn desk.old desk.new }
 {
-    let Item::User(from, body) = item else {
+    let Some(Item::User(from, body)) = item else {
         return Next::Stop(Reason::Normal);
     };
     if body.num <= 0 {
@@ -108,18 +124,27 @@ fn echo(desk: &mut Desk, me: Pid, item: Item) -> Next
 
 /// Does what the message says with its sender, and whether the call was made.
 #[tactic(auto, using(pt_node::proofs::GoingOn::stays))]
-fn guard(desk: &mut Desk, me: Pid, item: Item) -> bool
+fn guard(desk: &mut Desk, births: &mut Births<Player>, me: Pid, item: Option<Item>) -> bool
     ensures takes { takes desk.new.shard.journal ≡ takes desk.old.shard.journal }
+    ensures kept { kept births.new ≡ kept births.old }
     ensures goes_on { GoesOn desk.old desk.new }
 {
-    let Item::User(from, body) = item else {
+    let Some(Item::User(from, body)) = item else {
         return true;
     };
     match body.kind {
         WATCH => watch(desk, me, from).is_ok(),
         JOIN => join(desk, me, from).is_ok(),
         END => bid_exit(desk, me, from, Reason::Other(7)).is_ok(),
-        BEAR => bear(desk, me, true).is_ok(),
+        BEAR => bear(
+            desk,
+            births,
+            me,
+            true,
+            Player::Child { of: from },
+            Next::Proceed,
+        )
+        .is_ok(),
         _ => true,
     }
 }
@@ -132,6 +157,8 @@ enum Play {
     Guards,
     Rounds,
     Ends,
+    Stops,
+    Children,
 }
 
 /// Plays on a new node, and gathers it.
@@ -161,6 +188,8 @@ fn on_desk<R: Abort>(rt: &R, alloc: Global, desk: &mut Desk, play: Play) -> Resu
         Play::Guards => guards(rt, alloc, desk),
         Play::Rounds => rounds(rt, alloc, desk),
         Play::Ends => ends(rt, alloc, desk),
+        Play::Stops => stops(rt, alloc, desk),
+        Play::Children => children(rt, alloc, desk),
     }
 }
 
@@ -186,11 +215,17 @@ fn echoes<R: Abort>(rt: &R, alloc: Global, desk: &mut Desk) -> Result<(), Fail>
     ensures { IsStill desk.old desk.new }
 {
     let mut crew = Crew::new(alloc, 1);
-    let a = crew.enter(desk, Player::Echo { heard: 0 }, Pick::Any)?;
-    let b = crew.enter(desk, Player::Echo { heard: 0 }, Pick::Any)?;
+    hand_to_and_fro(rt, &mut crew, desk)
+}
+
+fn hand_to_and_fro<R: Abort>(rt: &R, crew: &mut Crew<Player>, desk: &mut Desk) -> Result<(), Fail>
+    ensures { IsStill desk.old desk.new }
+{
+    let a = crew.enter(desk, Player::Echo { heard: 0 }, Next::Wait(Pick::Any))?;
+    let b = crew.enter(desk, Player::Echo { heard: 0 }, Next::Wait(Pick::Any))?;
     tell(desk, a, b, message(1, 5))?;
-    six_steps(&mut crew, desk);
-    six_steps(&mut crew, desk);
+    six_steps(crew, desk);
+    six_steps(crew, desk);
     assert!(rt; !desk.alive_here(a));
     assert_eq!(rt; crew.len(), 1);
     assert_eq!(rt; crew.queued(), 0);
@@ -204,7 +239,7 @@ fn echoes<R: Abort>(rt: &R, alloc: Global, desk: &mut Desk) -> Result<(), Fail>
 fn listener(crew: &mut Crew<Player>, desk: &mut Desk, pick: Pick) -> Result<Pid, Fault>
     ensures { IsStill desk.old desk.new }
 {
-    let listener = crew.enter(desk, Player::Listener { digits: 0 }, pick)?;
+    let listener = crew.enter(desk, Player::Listener { digits: 0 }, Next::Wait(pick))?;
     tell(desk, listener, listener, message(1, 10))?;
     tell(desk, listener, listener, message(1, 11))?;
     tell(desk, listener, listener, message(2, 12))?;
@@ -252,13 +287,19 @@ fn guards<R: Abort>(rt: &R, alloc: Global, desk: &mut Desk) -> Result<(), Fail>
     ensures { IsStill desk.old desk.new }
 {
     let mut crew = Crew::new(alloc, 4);
+    watch_and_end(rt, &mut crew, desk)
+}
+
+fn watch_and_end<R: Abort>(rt: &R, crew: &mut Crew<Player>, desk: &mut Desk) -> Result<(), Fail>
+    ensures { IsStill desk.old desk.new }
+{
     let g = crew.enter(
         desk,
         Player::Guard {
             ends: 0,
             refused: 0,
         },
-        Pick::Any,
+        Next::Wait(Pick::Any),
     )?;
     let first = desk.spawn()?;
     let second = desk.spawn()?;
@@ -266,7 +307,7 @@ fn guards<R: Abort>(rt: &R, alloc: Global, desk: &mut Desk) -> Result<(), Fail>
     tell(desk, first, g, message(END, 0))?;
     tell(desk, second, g, message(BEAR, 0))?;
     tell(desk, second, g, message(JOIN, 0))?;
-    six_steps(&mut crew, desk);
+    six_steps(crew, desk);
     assert!(rt; !desk.alive_here(first));
     assert_eq!(rt;
         crew.behaviour(g).copied(),
@@ -277,9 +318,56 @@ fn guards<R: Abort>(rt: &R, alloc: Global, desk: &mut Desk) -> Result<(), Fail>
     );
     assert!(rt; desk.linked(second, g).is_some());
     desk.exit(second, Reason::Other(8))?;
-    six_steps(&mut crew, desk);
+    six_steps(crew, desk);
     assert!(rt; !desk.alive_here(g));
     assert_eq!(rt; crew.len(), 0);
+    Ok(())
+}
+
+/// The first of those that left in the last step, and what it was to do.
+fn last_of(crew: &Crew<Player>) -> Option<(Pid, Next)> {
+    let left = crew.left();
+    if left.len() == 0 {
+        return None;
+    }
+    Some((left[0].pid, left[0].next))
+}
+
+/// One that is to stop leaves with its reason, and its behaviour is the program's to take.
+fn stops<R: Abort>(rt: &R, alloc: Global, desk: &mut Desk) -> Result<(), Fail>
+    ensures { IsStill desk.old desk.new }
+{
+    let mut crew = Crew::new(alloc, 1);
+    let stop = Next::Stop(Reason::Other(3));
+    let a = crew.enter(desk, Player::Echo { heard: 0 }, stop)?;
+    crew.step(desk);
+    assert!(rt; !desk.alive_here(a));
+    assert_eq!(rt; last_of(&crew), Some((a, stop)));
+    assert!(rt; !crew.refused());
+    let taken = crew.take_left().map(|role| role.behaviour);
+    assert_eq!(rt; taken, Some(Player::Echo { heard: 0 }));
+    crew.step(desk);
+    assert_eq!(rt; crew.left().len(), 0);
+    Ok(())
+}
+
+/// A child that a behaviour bears enters the crew, and does something at its birth.
+fn children<R: Abort>(rt: &R, alloc: Global, desk: &mut Desk) -> Result<(), Fail>
+    ensures { IsStill desk.old desk.new }
+{
+    let mut crew = Crew::new(alloc, 1);
+    let guard = Player::Guard {
+        ends: 0,
+        refused: 0,
+    };
+    let g = crew.enter(desk, guard, Next::Wait(Pick::Any))?;
+    let first = desk.spawn()?;
+    tell(desk, first, g, message(BEAR, 0))?;
+    six_steps(&mut crew, desk);
+    assert_eq!(rt; crew.len(), 2);
+    assert_eq!(rt; crew.waiting(), 0);
+    let heard = desk.receive(first, Pick::Kind(CHILD))?;
+    assert!(rt; heard.is_some());
     Ok(())
 }
 
@@ -288,12 +376,13 @@ fn ends<R: Abort>(rt: &R, alloc: Global, desk: &mut Desk) -> Result<(), Fail>
     ensures { IsStill desk.old desk.new }
 {
     let mut crew = Crew::new(alloc, 1);
-    let a = crew.enter(desk, Player::Echo { heard: 0 }, Pick::Any)?;
+    let a = crew.enter(desk, Player::Echo { heard: 0 }, Next::Wait(Pick::Any))?;
     crew.step(desk);
     assert_eq!(rt; crew.queued(), 0);
     desk.exit(a, Reason::Normal)?;
     crew.step(desk);
     assert_eq!(rt; crew.len(), 0);
+    assert_eq!(rt; last_of(&crew), Some((a, Next::Wait(Pick::Any))));
     let nobody = Pid {
         shard: 0,
         slot: 7,
@@ -322,6 +411,16 @@ fn a_guard_watches_links_ends_and_bears(rt: HostRuntime) -> Result<(), Fail> {
 #[test]
 fn a_step_hands_over_as_many_items_as_rounds(rt: HostRuntime) -> Result<(), Fail> {
     played(&rt, rt.alloc(), Play::Rounds)
+}
+
+#[test]
+fn who_stops_leaves_with_its_reason(rt: HostRuntime) -> Result<(), Fail> {
+    played(&rt, rt.alloc(), Play::Stops)
+}
+
+#[test]
+fn a_child_enters_its_crew(rt: HostRuntime) -> Result<(), Fail> {
+    played(&rt, rt.alloc(), Play::Children)
 }
 
 #[test]

@@ -2,12 +2,15 @@
 
 ghost use Rattle.pt_node.specs.Desks.{AreDesks, IsStill};
 
+use pt_auditor::{Audit, Verdict};
 use pt_node::{
-    Config, Desk, Event, OpenError, Pid, Reason, Setting, Signal, Stamped, Standing, abandon, open,
+    Config, Desk, Event, Node, OpenError, Pid, Reason, Setting, Signal, Stamped, Standing, abandon,
+    open,
 };
 use pt_uses::RecipeError;
 use pt_uses::chat::{Seat, Who, chat};
-use pt_uses::desks_on_threads::ring;
+use pt_uses::desks_on_threads::{Sender, ring};
+use pt_uses::epochs::{Lines, Plan, epochs};
 use pt_uses::game::{Game, HIT};
 use pt_uses::payloads::Texts;
 use pt_uses::steps::{gathered, tell};
@@ -35,18 +38,27 @@ fn at(slot: u32, version: u32) -> Pid {
     }
 }
 
+/// What happens where two processes exchange a message each.
+const EXCHANGE: &str = "\
+1@0 born <0.0.1>
+2@0 born <0.1.1>
+3@0 said <0.0.1> -> <0.1.1> message 1 7
+4@0 came <0.0.1> -> <0.1.1> message 1 7
+5@0 took <0.1.1> kind 1 = user <0.0.1> 1 7
+6@0 said <0.1.1> -> <0.0.1> message 2 8
+7@0 came <0.1.1> -> <0.0.1> message 2 8
+8@0 took <0.0.1> from <0.1.1> = user <0.1.1> 2 8
+";
+
 #[test]
 fn two_processes_exchange_a_message_each(rt: HostRuntime) -> Result<(), Fail> {
     let gathered = two_processes(rt.alloc())?;
     let mut text = String::new(rt.alloc());
     for event in gathered.history()? {
         text.push_str(&event.to_string(rt.alloc())?)?;
-        text.push_str(";")?;
+        text.push_str("\n")?;
     }
-    assert_eq!(rt;
-        text.as_str(),
-        "1@0 born <0.0.1>;2@0 born <0.1.1>;3@0 said <0.0.1> -> <0.1.1> message 1 7;4@0 came <0.0.1> -> <0.1.1> message 1 7;5@0 took <0.1.1> kind 1 = user <0.0.1> 1 7;6@0 said <0.1.1> -> <0.0.1> message 2 8;7@0 came <0.1.1> -> <0.0.1> message 2 8;8@0 took <0.0.1> from <0.1.1> = user <0.1.1> 2 8;"
-    );
+    assert_eq!(rt; text.as_str(), EXCHANGE);
     Ok(())
 }
 
@@ -319,5 +331,91 @@ fn guests_chat_and_crash(rt: HostRuntime) -> Result<(), Fail> {
         }
     }
     assert_eq!(rt; downs, 3);
+    Ok(())
+}
+
+/// What happens in two epochs of a turn each, in which a process sends itself a message each.
+const TWO_EPOCHS: &str = "\
+1@0 born <0.0.1>
+2@0 said <0.0.1> -> <0.0.1> message 1 0
+3@0 came <0.0.1> -> <0.0.1> message 1 0
+4@0 said <0.0.1> -> <0.0.1> message 1 1
+5@0 came <0.0.1> -> <0.0.1> message 1 1
+";
+
+#[test]
+fn a_node_goes_on_epoch_after_epoch(rt: HostRuntime) -> Result<(), Fail> {
+    let alloc = rt.alloc();
+    let mut node = Node::open(alloc, ONE_DESK)?;
+    let me = node.spawn(0)?;
+    let mut works = vec![in alloc;
+        Sender {
+            me,
+            to: me,
+            sent: 0
+        },
+    ]?;
+    let plan = Plan {
+        epochs: 2,
+        turns: 1,
+        budget: 16,
+    };
+    let mut archive = Lines {
+        out: Vec::new(alloc),
+    };
+    let Ok(node) = epochs(&rt, alloc, node, &mut works, plan, &mut archive) else {
+        return Err(Fail::from("the node halted"));
+    };
+    assert_eq!(rt; std::str::from_utf8(archive.out.as_slice())?, TWO_EPOCHS);
+    assert!(rt; node.alive(me));
+    Ok(())
+}
+
+/// Two processes send to each other, each on a desk and a thread of its own, and the node goes on three times: what the
+/// archive has is one legal history from the very beginning.
+#[test]
+fn the_archive_of_epochs_is_one_history(rt: HostRuntime) -> Result<(), Fail> {
+    let alloc = rt.alloc();
+    let mut node = Node::open(
+        alloc,
+        Config {
+            desks: 2,
+            ..ONE_DESK
+        },
+    )?;
+    let one = node.spawn(0)?;
+    let two = node.spawn(1)?;
+    let mut works = Vec::new(alloc);
+    works.push(Sender {
+        me: one,
+        to: two,
+        sent: 0,
+    })?;
+    works.push(Sender {
+        me: two,
+        to: one,
+        sent: 0,
+    })?;
+    let plan = Plan {
+        epochs: 4,
+        turns: 5,
+        budget: 16,
+    };
+    let mut archive = Lines {
+        out: Vec::new(alloc),
+    };
+    let Ok(_node) = epochs(&rt, alloc, node, &mut works, plan, &mut archive) else {
+        return Err(Fail::from("the node halted"));
+    };
+    let audit = Audit::new(alloc)
+        .read(alloc, archive.out.as_slice())
+        .ok()
+        .ok_or("no history")?;
+    let whole = Verdict {
+        events: 82,
+        desks: 2,
+        letters: 0,
+    };
+    assert_eq!(rt; audit.end(alloc).ok(), Some(whole));
     Ok(())
 }

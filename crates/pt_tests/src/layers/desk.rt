@@ -5,6 +5,7 @@ ghost use Rattle.pt_carrier.specs.Node.{IsNode};
 ghost use Rattle.pt_shard.specs.Opening.{IsInRange};
 ghost use Rattle.pt_desk.specs.DeskState.{place};
 
+use pt_accounts::DeskLives;
 use pt_carrier::{open, reunite};
 use pt_desk::Desk;
 use pt_directory::Directory;
@@ -41,9 +42,11 @@ fn two_desks(rt: &impl Abort, alloc: Global, lane: u32) -> (Desk, Desk)
     let other = directory.clone().expect(rt, "memory");
     let mut ends = open(alloc, 2, lane).expect(rt, "memory");
     let (outs, ins) = ends.remove(0);
-    let left = Desk::whole(left, outs, ins, directory, seats.remove(0));
+    let before = DeskLives::new(alloc, 0);
+    let left = Desk::whole(left, outs, ins, directory, seats.remove(0), before);
     let (outs, ins) = ends.remove(0);
-    let right = Desk::whole(right, outs, ins, other, seats.remove(0));
+    let before = DeskLives::new(alloc, 1);
+    let right = Desk::whole(right, outs, ins, other, seats.remove(0), before);
     ends.destroy_empty();
     (left, right)
 }
@@ -53,9 +56,9 @@ fn spend(rt: &impl Abort, alloc: Global, left: Desk, right: Desk)
     requires { IsNode (place left ∷ place right ∷ []) }
 {
     let mut ends = Vec::with_capacity(alloc, 2).expect(rt, "memory");
-    let (_, outs, ins, _, _) = left.apart();
+    let (_, outs, ins, _, _, _) = left.apart();
     ends.push_reserved((outs, ins));
-    let (_, outs, ins, _, _) = right.apart();
+    let (_, outs, ins, _, _, _) = right.apart();
     ends.push_reserved((outs, ins));
     match reunite(alloc, ends) {
         Ok(_left_over) => {}
