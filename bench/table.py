@@ -2,8 +2,10 @@
 """table.py RAW: the tables of bench/RESULTS.md from lines 'SETTING PROGRAM WORKLOAD PER_SECOND'.
 
 A figure is the best of all rounds, in millions a second. A ratio is that of the bests; behind it, in brackets, the least and
-the greatest ratio of one round, whose programs ran one after the other."""
+the greatest ratio of one round, whose programs ran one after the other. Of programs on threads a figure is the median of all
+rounds, with the best in brackets, and a ratio that of the medians."""
 import sys
+from statistics import median
 from collections import defaultdict
 
 rates, works = defaultdict(list), []
@@ -130,5 +132,184 @@ table(
         + [ratio((plain, "lanes", it), (plain, by, it)) for by in ("ring", "crossbeam", "std")]
         for it in LANES
         if (plain, "lanes", it) in rates
+    ],
+)
+table(
+    "The judge and the auditor: events",
+    ["Program", "Workload", "Events"],
+    [[by, it.replace("_", " "), figure((plain, by, it))] for by in ("judge", "audit") for it in works if (plain, by, it) in rates],
+)
+
+
+# milliseconds of one time, of the best round
+def milliseconds(work):
+    best = max(rates.get((plain, "epochs", work), [0]))
+    return f"{1e3 / best:.2f}" if best else ""
+
+
+LIVE = [("10", "10"), ("1,000", "1000"), ("65,000", "65000")]
+table(
+    "Epochs: milliseconds of gathering, settling and going on, on four desks",
+    ["Events of the epoch", "live on each desk", "gather", "settle", "resume"],
+    [
+        [events, live, *[milliseconds(f"{call}_{number}_of_{word}") for call in ("gather", "settle", "resume")]]
+        for events, word in (("1,200", "few"), ("100,800", "100000"))
+        for live, number in LIVE
+        if (plain, "epochs", f"gather_{number}_of_{word}") in rates
+    ],
+)
+table(
+    "Epochs: kilobytes of memory at the end and at most, and minor faults",
+    ["Run", "at the end", "at most", "faults"],
+    [[it[4:].replace("_", ", "), *[str(min(rates[(plain, "memory", f"{what}{it[3:]}")])) for what in ("now", "most", "faults")]]
+     for it in works if it.startswith("now_") and not it.startswith("now_processes")],
+)
+
+
+# the median of all rounds, and the best, in millions a second
+def middle(key):
+    each = rates.get(key)
+    return f"{median(each) / 1e6:.2f} ({max(each) / 1e6:.2f})" if each else ""
+
+
+# of the medians
+def middle_ratio(key, base):
+    ours, theirs = rates.get(key), rates.get(base)
+    if not ours or not theirs:
+        return ""
+    each = [a / b for a, b in zip(ours, theirs)]
+    return f"{median(ours) / median(theirs):.2f} ({min(each):.2f} to {max(each):.2f})"
+
+
+SHAPES = {"own": "each desk for itself", "all": "all to all", "ring": "ring of 1,000", "way": "one way"}
+ON_THREADS = [(shape, count) for shape in SHAPES for count in (1, 2, 4, 8)]
+table(
+    "On threads: messages of all desks together",
+    ["Shape", "Threads", "Pundewo", "Rust", "Rust, no journal", "Erlang", "to Rust", "to Erlang"],
+    [
+        [SHAPES[shape], str(count), *[middle((plain, by, f"{shape}_{count}")) for by in ("hand", "actors", "actors-bare", "erlang")]]
+        + [middle_ratio((plain, "hand", f"{shape}_{count}"), (plain, by, f"{shape}_{count}")) for by in ("actors", "erlang")]
+        for shape, count in ON_THREADS
+        if (plain, "hand", f"{shape}_{count}") in rates
+    ],
+)
+table(
+    "On threads: to one desk of the same program",
+    ["Shape", "Threads", "Pundewo", "by a crew", "Rust", "Rust, no journal", "Erlang"],
+    [
+        [SHAPES[shape], str(count)]
+        + [middle_ratio((plain, by, f"{shape}_{count}"), (plain, by, f"{shape}_1")) for by in ("hand", "crew", "actors", "actors-bare", "erlang")]
+        for shape, count in ON_THREADS
+        if count > 1 and (plain, "hand", f"{shape}_{count}") in rates
+    ],
+)
+table(
+    "On threads, on huge pages",
+    ["Shape", "Threads", "Pundewo", "Rust", "Rust, no journal", "to Rust", "to one desk"],
+    [
+        [SHAPES[shape], str(count), *[middle((huge, by, f"{shape}_{count}")) for by in ("hand", "actors", "actors-bare")]]
+        + [middle_ratio((huge, "hand", f"{shape}_{count}"), (huge, "actors", f"{shape}_{count}"))]
+        + [middle_ratio((huge, "hand", f"{shape}_{count}"), (huge, "hand", f"{shape}_1")) if count > 1 else ""]
+        for shape, count in ON_THREADS
+        if (huge, "hand", f"{shape}_{count}") in rates
+    ],
+)
+table(
+    "Crews: messages of all desks together",
+    ["Shape", "Threads", "by a crew", "by hand", "Erlang", "to hand", "to Erlang"],
+    [
+        [SHAPES[shape], str(count), *[middle((plain, by, f"{shape}_{count}")) for by in ("crew", "hand", "erlang")]]
+        + [middle_ratio((plain, "crew", f"{shape}_{count}"), (plain, by, f"{shape}_{count}")) for by in ("hand", "erlang")]
+        for shape, count in ON_THREADS
+        if (plain, "crew", f"{shape}_{count}") in rates
+    ],
+)
+
+
+# the least of all rounds
+def instructions(work):
+    each = rates.get((plain, "instructions", work))
+    return f"{min(each):,}" if each else ""
+
+
+table(
+    "Instructions a message, on one desk or thread",
+    ["Shape", "by hand", "by a crew", "Rust", "Rust, no journal"],
+    [[SHAPES[shape], *[instructions(f"{by}_{shape}") for by in ("hand", "crew", "actors", "actors-bare")]] for shape in SHAPES],
+)
+
+
+# bytes of one of 1,000,000 processes, and what their journals take of it
+def bytes_each(each):
+    now = [min(rates.get((plain, "memory", f"now_processes_{count}_{each}"), [0])) for count in (0, 1_000_000)]
+    return (now[1] - now[0]) * 1024 / 1_000_000
+
+
+HAVING = [("bare", "nothing", 1), ("item", "an item", 3), ("watch", "a link, a monitor and a watcher", 4)]
+table(
+    "A node of 1,000,000 processes: bytes for each",
+    ["Each has", "in all", "its events in the journal", "the rest"],
+    [
+        [name, f"{bytes_each(each):.0f}", str(104 * events), f"{bytes_each(each) - 104 * events:.0f}"]
+        for each, name, events in HAVING
+        if (plain, "memory", f"now_processes_1000000_{each}") in rates
+    ],
+)
+
+
+# milliseconds of one time, the median of all rounds and the best; a rate is for a thousand seconds
+def large(work):
+    each = rates.get((plain, "large", work))
+    return f"{1e6 / median(each):.3g} ({1e6 / max(each):.3g})" if each else ""
+
+
+table(
+    "Many events: milliseconds",
+    ["Events", "gather", "history", "settle", "judge"],
+    [
+        [f"{count:,}", *[large(f"{call}_{count}") for call in ("gather", "history", "settle", "replay")]]
+        for count in (10_000, 100_000, 1_000_000, 10_000_000)
+        if (plain, "large", f"history_{count}") in rates
+    ],
+)
+table(
+    "A resting node of eight desks: microseconds of a processor in a second",
+    ["No rest is longer than", "microseconds"],
+    [
+        [name, f"{median(rates[(plain, 'resting', f'idle_{longest}')]):.0f}"]
+        for longest, name in ((10, "10 milliseconds"), (1000, "a second"), (60000, "a minute"))
+        if (plain, "resting", f"idle_{longest}") in rates
+    ],
+)
+
+
+# microseconds of one time: the median of all rounds, and the best
+def microseconds(by, work):
+    medians, bests = rates.get((plain, by, f"median{work}")), rates.get((plain, by, f"best{work}"))
+    return [f"{1e6 / median(medians):.1f}", f"{1e6 / max(bests):.1f}"] if medians and bests else ["", ""]
+
+
+table(
+    "A resting node of eight desks: microseconds until a message has come and the one who handed it in is told",
+    ["Desks that it wakes", "median", "best"],
+    [[str(hops + 1), *microseconds("resting", f"_{hops}")] for hops in (0, 1, 3, 7)]
+    + [["two threads of Rust, by `park` and `unpark`", *microseconds("threads", "")]],
+)
+ON, GROWS = "300_of_3333", "1_of_999900"
+table(
+    "Epochs: messages of a ping-pong on a node that goes on every 9,999 events, and on one whose journal grows",
+    ["Node", "goes on", "grows", "to it", "grows, then resumes", "to it", "grows, to plain"],
+    [
+        [name, figure((setting, "epochs", f"ping_{ON}"))]
+        + [
+            it
+            for work in ("ping", "ping_resumed")
+            for it in (
+                figure((setting, "epochs", f"{work}_{GROWS}")),
+                ratio((setting, "epochs", f"{work}_{ON}"), (setting, "epochs", f"{work}_{GROWS}")),
+            )
+        ]
+        + [ratio((setting, "epochs", f"ping_{GROWS}"), (plain, "epochs", f"ping_{GROWS}")) if setting == huge else ""]
+        for name, setting in (("1,024 slots", plain), ("1,024 slots, huge pages", huge), ("65,536 slots", "slots"))
     ],
 )
