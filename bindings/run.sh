@@ -108,7 +108,8 @@ build no_memory
 "$work/ring" >"$work/printed"
 echo '#include "pundewo.h"' | cc -x c++ -I "$here/c" -Wall -Wextra -Werror -fsyntax-only -
 if command -v valgrind >/dev/null; then
-    memory="valgrind -q --error-exitcode=9 --leak-check=full --show-leak-kinds=all --errors-for-leak-kinds=all"
+    # (fair: four threads that spin would else wait for each other for minutes)
+    memory="valgrind -q --fair-sched=try --error-exitcode=9 --leak-check=full --show-leak-kinds=all --errors-for-leak-kinds=all"
     for program in about "rows $work/table" supervisor resumed "ring 20"; do
         $memory "$work/"$program >"$work/printed" 2>&1 \
             || { cat "$work/printed"; echo "valgrind: $program is not clean"; exit 1; }
