@@ -99,14 +99,18 @@ remember_epochs() {
     done
 }
 
-# Each shape on so many desks, threads or schedulers, one program after the other; and two of them by crews.
+# Each shape on so many desks, threads or schedulers, one program after the other; and two of them by crews, on desks
+# that turn without an end and on desks that rest.
 shapes_on_threads() {
     local program=$room/crates/pt_bench_threads/out/pt_bench_threads shape count
     for shape in own all ring way; do
         for count in 1 2 4 8; do
             [ "$shape" != way ] || [ "$count" -le 2 ] || continue
             run plain "$program" hand "$shape" "$count"
-            [ "$shape" != ring ] && [ "$shape" != all ] || run plain "$program" crew "$shape" "$count"
+            if [ "$shape" = ring ] || [ "$shape" = all ]; then
+                run plain "$program" crew "$shape" "$count"
+                run plain "$program" rest "$shape" "$count"
+            fi
             run plain "$room/rust/release/actors" "$shape" "$count"
             (cd "$room/erlang" && run plain erl +S "$count:$count" -noshell -run threads main "$shape" "$count")
             run huge env $huge "$program" hand "$shape" "$count"
@@ -115,9 +119,10 @@ shapes_on_threads() {
     done
 }
 
-# How many instructions a message takes on one desk or thread, by what 20,480 take more than 10,240.
+# How many instructions a message takes on one desk or thread, by what 20,480 take more than 10,240; and a step of a crew
+# beside idle processes.
 count_instructions() {
-    local program=$room/crates/pt_bench_threads/out/pt_bench_threads actors=$room/rust/release/actors shape
+    local program=$room/crates/pt_bench_threads/out/pt_bench_threads actors=$room/rust/release/actors shape count
     for shape in own all ring way; do
         note_instructions "hand_$shape" "$program" hand "$shape" 1 10240 -- "$program" hand "$shape" 1 20480
         for keeping in actors actors-bare; do
@@ -126,6 +131,10 @@ count_instructions() {
     done
     for shape in all ring; do
         note_instructions "crew_$shape" "$program" crew "$shape" 1 10240 -- "$program" crew "$shape" 1 20480
+    done
+    for count in 10 1000 65000; do
+        run plain "$program" idle "$count"
+        note_instructions "idle_$count" "$program" idle "$count" 10240 -- "$program" idle "$count" 20480
     done
 }
 note_instructions() { # NAME FEW.. -- MANY..

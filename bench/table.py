@@ -216,10 +216,11 @@ table(
 )
 table(
     "Crews: messages of all desks together",
-    ["Shape", "Threads", "by a crew", "by hand", "Erlang", "to hand", "to Erlang"],
+    ["Shape", "Threads", "by a crew", "on desks that rest", "by hand", "Erlang", "to hand", "to Erlang", "resting, to Erlang"],
     [
-        [SHAPES[shape], str(count), *[middle((plain, by, f"{shape}_{count}")) for by in ("crew", "hand", "erlang")]]
+        [SHAPES[shape], str(count), *[middle((plain, by, f"{shape}_{count}")) for by in ("crew", "rest", "hand", "erlang")]]
         + [middle_ratio((plain, "crew", f"{shape}_{count}"), (plain, by, f"{shape}_{count}")) for by in ("hand", "erlang")]
+        + [middle_ratio((plain, "rest", f"{shape}_{count}"), (plain, "erlang", f"{shape}_{count}"))]
         for shape, count in ON_THREADS
         if (plain, "crew", f"{shape}_{count}") in rates
     ],
@@ -236,6 +237,17 @@ table(
     "Instructions a message, on one desk or thread",
     ["Shape", "by hand", "by a crew", "Rust", "Rust, no journal"],
     [[SHAPES[shape], *[instructions(f"{by}_{shape}") for by in ("hand", "crew", "actors", "actors-bare")]] for shape in SHAPES],
+)
+
+
+table(
+    "A step of a crew that hands one message over, beside processes that wait",
+    ["Processes that wait", "millions a second", "instructions"],
+    [
+        [f"{count:,}", middle((plain, "idle", str(count))), instructions(f"idle_{count}")]
+        for count in (10, 1_000, 65_000)
+        if (plain, "idle", str(count)) in rates
+    ],
 )
 
 
