@@ -26,7 +26,7 @@ done
 cp "$here/reading.rt.txt" "$work/crates/pt_reading/src/main.rt"
 {
     echo pt_reading: pt_script
-    echo pt_refused: pt_{heap,signal,slots,process,carrier,history,shard,node,options,script,runner,report}
+    echo pt_refused: pt_{heap,signal,slots,process,carrier,history,shard,node,crew,supervisor,resting,options,script,runner,report}
 } >>"$work/crates.txt"
 
 # The piece with this number is refused. Case K takes and gives back so many pieces first that it is about the Kth of

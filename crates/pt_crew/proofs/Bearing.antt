@@ -1,9 +1,15 @@
 -- Those that waited before still do, in front.
-use Rattle.std.proofs.Common.{◌≡◌, ℕ, ◌+◌, ◌-◌, List, [], ◌∷◌, ◌++◌, length, take, drop, sym, ap, ◌∙◌, length-append, take-append-drop, arith}
+use Rattle.std.proofs.Common.{◌≡◌, ℕ, ◌+◌, ◌-◌, Bool, true, Some, Ok, List, [], ◌∷◌, ◌++◌, length, take, drop, sym, ap, ◌∙◌, length-append, take-append-drop, arith}
 use Rattle.std.proofs.lemmas.List.{take-append-le}
 use Rattle.pt_crew.specs.declared.births.Births.{Births}
 use Rattle.pt_crew.specs.declared.births.Role.{Role}
 use Rattle.pt_node.proofs.GoingOn.{stays}
+use Rattle.pt_signal.specs.declared.pid.Pid.{Pid}
+use Rattle.pt_events.specs.History.{is_unborn}
+use Rattle.pt_events.specs.Journal.{IsLocal}
+use Rattle.pt_shard.specs.ShardState.{ShardState, phase_of}
+use Rattle.pt_shard.specs.Calls.{BearsChild, birth_link}
+use Rattle.pt_crew.proofs.Newborn.{newborn_is}
 use Rattle.pt_crew.specs.Births.{born, kept}
 use Rattle.pt_crew.proofs.Takes.{bore_takes}
 
@@ -23,5 +29,10 @@ pub grown : {B : Type 0} (old mid new : Births B) → kept mid ≡ born old → 
 grown old mid new all same =
     (drop (length (born new) - new.fresh) (born new), sym (take-append-drop (length (born new) - new.fresh) (born new)) ∙ ap (λ xs. xs ++ drop (length (born new) - new.fresh) (born new)) (same ∙ all))
 
+-- the child was not born before
+pub child_unborn : (me : Pid) (linked : Bool) (p : Pid) (d e : ShardState) → BearsChild me linked d (Ok p) e → IsLocal e.start e.config.start e.config.top_version e.number e.journal
+    → is_unborn (phase_of d p) ≡ true
+child_unborn me linked p d e h local = (newborn_is (Some me) (birth_link linked d) p d e h.1 local).0
+
 -- for the call that bears a child
-pub ruleset bearing = (bore_takes, kept_more, stays)
+pub ruleset bearing = (bore_takes, kept_more, stays, child_unborn)

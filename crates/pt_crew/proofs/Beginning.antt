@@ -1,5 +1,5 @@
 -- A crew begins anew: each of its processes is marked, one after the other.
-use Rattle.std.proofs.Common.{◌≡◌, ℕ, zero, suc, ◌+◌, Bool, true, false, ◌||◌, List, [], ◌∷◌, length, drop, slice_get, ◌≤◌, Result, Ok, Err, OnOk, Option, Some, None, refl, sym, ap, subst, ◌∙◌, append-nil, arith}
+use Rattle.std.proofs.Common.{◌≡◌, ℕ, zero, suc, ◌+◌, true, false, ◌||◌, List, [], ◌∷◌, length, drop, slice_get, ◌≤◌, Result, Ok, Err, OnOk, Option, Some, None, refl, sym, ap, subst, ◌∙◌, append-nil, arith}
 use Rattle.std.specs.Prelude.{is_some}
 use Rattle.std.specs.List.{list_any}
 use Rattle.std.specs.Map.{lookup, keys_of}
@@ -9,11 +9,10 @@ use Rattle.indexmap.specs.Layout.{set_value_at}
 use Rattle.pt_signal.specs.declared.pid.Pid.{Pid}
 use Rattle.pt_signal.specs.Values.{same_pid}
 use Rattle.pt_shard.specs.ShardState.{ShardState}
-use Rattle.pt_crew.specs.declared.behaviour.Next.{Next}
 use Rattle.pt_crew.specs.declared.crew.Member.{Member}
 use Rattle.pt_crew.specs.declared.crew.Crew.{Crew}
 use Rattle.pt_crew.specs.Visiting.{AreSame}
-use Rattle.pt_crew.specs.Crews.{Attends, AreBorn, KnowsDesk, HasRoom, members, role, roles, queue}
+use Rattle.pt_crew.specs.Crews.{Attends, AreBorn, HasRoom, members, role, roles, queue}
 use Rattle.pt_crew.specs.Parts.{MarkedBut, Queued, Wakes, WakesAt}
 use Rattle.pt_signal.proofs.Same.{same_pid_is}
 use Rattle.pt_crew.proofs.Places.{same_pid_sym}

@@ -13,6 +13,8 @@ use Rattle.pt_shard.specs.ShardState.{ShardState, lives}
 use Rattle.pt_shard.specs.Calls.{Calls, take_event, first_match}
 use Rattle.pt_crew.specs.declared.behaviour.Next.{Next}
 use Rattle.pt_crew.specs.declared.behaviour.Next.TheVariants.{Wait, Proceed, Stop}
+use Rattle.pt_crew.specs.declared.births.Role.{Role}
+use Rattle.pt_crew.specs.Births.{bore}
 use Rattle.pt_crew.specs.declared.crew.Tended.{Tended}
 use Rattle.pt_crew.specs.declared.crew.Tended.TheVariants.{Idle, Refused as Denied}
 use Rattle.pt_crew.specs.Visiting.{Answers, Roles, AreSame, AreWith, Scene, HandsTo, LeavesAs, StaysAs, ComesTo, SeesTo, EndsAs, TakesAs, VisitsOne, Visits, takes}
@@ -65,7 +67,7 @@ module _ {B : Type 0} (answers : Answers B) where
         ∙ ap (λ (l : List (Pid × Item)). l ++ takes d.journal) (sym (items_then b.handed a.handed));
   }
 
-  module _ (p : Pid) (old new : Roles B) (d e : ShardState) (with_p : AreWith p (new p) old new) where
+  module _ (p : Pid) (old new : Roles B) (d e : ShardState) (births : List (Role B)) (with_p : AreWith p (new p) old new) where
     gone : new p ≡ None → takes e.journal ≡ takes d.journal → Handed answers old d new e
     gone none same = handed_none old new d e (gone_leaves p old new with_p none) same
 
@@ -79,7 +81,7 @@ module _ {B : Type 0} (answers : Answers B) where
     stood mid as_is t role was same h = stays role was h.1 (ap (λ (x : ShardState). takes x.journal) h.2 ∙ same)
 
     one : (b : B) (before : Next) (item : Option Item) (mid : ShardState) (t : Tended) → old p ≡ Some (b, before) → MayBeHanded before item → takes mid.journal ≡ items_of ((p, item) ∷ []) ++ takes d.journal
-        → HandsTo answers p b item mid t (new p) e → Handed answers old d new e
+        → HandsTo answers p b item mid t (new p) e births → Handed answers old d new e
     one b before item mid t was may same h = record {
       handed = (p, item) ∷ [];
       hands = (
@@ -93,6 +95,9 @@ module _ {B : Type 0} (answers : Answers B) where
           may = may;
           now = h.behaviour;
           next = h.next;
+          desk = mid;
+          later = e;
+          births = births;
           answer = h.answer;
           after = subst (λ (o : Option (B × Next)). AreWith p o old new) h.now_is with_p;
         },
@@ -111,7 +116,7 @@ module _ {B : Type 0} (answers : Answers B) where
     ended b r t (Err NoProc) was calls ends = absurd calls
 
     took : (b : B) (k : Pick) (t : Tended) (result : Result (Option Item) Fault) (mid : ShardState) → old p ≡ Some (b, Wait k) → Calls p (take_event d p k) (first_match d p k) d result mid
-        → TakesAs answers p (b, Wait k) mid result t (new p) e → Handed answers old d new e
+        → TakesAs answers p (b, Wait k) mid result t (new p) e births → Handed answers old d new e
     took b k t (Ok None) mid was calls h = stood mid Idle t (b, Wait k) was (none_taken p k d mid calls) h
     took b k t (Ok (Some i)) mid was calls h = one b (Wait k) (Some i) mid t was (k, refl) (one_taken p k i d mid calls) h
     took b k t (Err Gone) mid was calls h = left mid t (refused_taken p k Gone d mid calls) h
@@ -121,25 +126,25 @@ module _ {B : Type 0} (answers : Answers B) where
     took b k t (Err Myself) mid was calls h = absurd calls
     took b k t (Err NoProc) mid was calls h = absurd calls
 
-    proceeds : (b : B) (t : Tended) (living : Bool) → old p ≡ Some (b, Proceed) → MatchBool living (HandsTo answers p b None d t (new p) e) (LeavesAs d t (new p) e) → Handed answers old d new e
+    proceeds : (b : B) (t : Tended) (living : Bool) → old p ≡ Some (b, Proceed) → MatchBool living (HandsTo answers p b None d t (new p) e births) (LeavesAs d t (new p) e) → Handed answers old d new e
     proceeds b t true was h = one b Proceed None d t was refl refl h
     proceeds b t false was h = left d t refl h
 
-    seen : (b : B) (n : Next) (t : Tended) → old p ≡ Some (b, n) → SeesTo answers p b n d t (new p) e → Handed answers old d new e
+    seen : (b : B) (n : Next) (t : Tended) → old p ≡ Some (b, n) → SeesTo answers p b n d t (new p) e births → Handed answers old d new e
     seen b (Stop r) t was h = ended b r t h.0 was h.1 h.2
     seen b Proceed t was h = proceeds b t (lives d p) was h
     seen b (Wait k) t was h = took b k t h.0 h.1 was h.2 h.3
 
-    found : (role : B × Next) (t : Tended) → old p ≡ Some role → StaysAs Denied role d t (new p) e ⊎ SeesTo answers p role.0 role.1 d t (new p) e → Handed answers old d new e
+    found : (role : B × Next) (t : Tended) → old p ≡ Some role → StaysAs Denied role d t (new p) e ⊎ SeesTo answers p role.0 role.1 d t (new p) e births → Handed answers old d new e
     found role t was (inl h) = stood d Denied t role was refl h
     found role t was (inr h) = seen role.0 role.1 t was h
 
-    came : (o : Option (B × Next)) (t : Tended) → old p ≡ o → ComesTo answers p o d t (new p) e → Handed answers old d new e
+    came : (o : Option (B × Next)) (t : Tended) → old p ≡ o → ComesTo answers p o d t (new p) e births → Handed answers old d new e
     came None t was h = gone h.1 (ap (λ (x : ShardState). takes x.journal) h.2)
     came (Some role) t was h = found role t was h
 
   one_hands : (p : Pid) (old new : Scene B) → VisitsOne answers p old new → Handed answers old.roles old.desk new.roles new.desk
-  one_hands p old new h = came p old.roles new.roles old.desk new.desk h.others (old.roles p) h.tended refl h.comes
+  one_hands p old new h = came p old.roles new.roles old.desk new.desk (bore old.born new.born) h.others (old.roles p) h.tended refl h.comes
 
   same_hands : (old new : Scene B) → new ≡ old → Handed answers old.roles old.desk new.roles new.desk
   same_hands old new is = handed_none old.roles new.roles old.desk new.desk (same_leave old.roles new.roles (λ q. ap (λ (s : Scene B). s.roles q) is)) (ap (λ (s : Scene B). takes s.desk.journal) is)

@@ -10,3 +10,4 @@ pub mod Takes
 pub mod Visiting
 pub mod Handing
 pub mod Admitting
+pub mod Upholding

@@ -12,11 +12,12 @@ use Rattle.pt_shard.specs.ShardState.{ShardState, lives}
 use Rattle.pt_crew.specs.declared.crew.Member.{Member}
 use Rattle.pt_crew.specs.declared.crew.Crew.{Crew}
 use Rattle.pt_crew.specs.declared.crew.Tended.{Tended}
-use Rattle.pt_crew.specs.declared.crew.Tended.TheVariants.{Idle, Refused as Denied}
+use Rattle.pt_crew.specs.declared.crew.Tended.TheVariants.{Idle, Done, Refused as Denied}
 use Rattle.pt_crew.specs.Visiting.{Answers, Roles, AreSame, AreWith, Scene, StaysAs, Bears, ComesTo, SeesTo, VisitsOne, Visits, again_as, left_as, is_refused}
 use Rattle.pt_crew.specs.Crews.{members, role, roles, queue, waiting, left, scene, IsSame, KeepsRest, Attends, Rounds, AreOnce, Aboard, EntersAll, StepsOn}
 use Rattle.pt_crew.specs.declared.births.Role.{Role}
-use Rattle.pt_crew.specs.Parts.{IsLonger, WakesBy, Serves, Admits, AdmitsFirst, AdmitsOf, aboard}
+use Rattle.pt_crew.specs.Births.{bore}
+use Rattle.pt_crew.specs.Parts.{IsLonger, WakesBy, Serves, Admits, AdmitsFirst, AdmitsOf, aboard, kept_as}
 use Rattle.pt_crew.proofs.Waking.{by_cases, elsewhere, there, same_back}
 
 -- who reads what is new changes nobody ------------------------------------------------
@@ -101,16 +102,16 @@ module _ {B : Type 0} (answers : Answers B) where
 
   pub visited : (old new : Crew B) (p : Pid) (v : Member B) (w : Option (Member B)) (t : Tended) (d e : ShardState) → members old p ≡ Some v
       → ((q : Pid) → members new q ≡ cond (same_pid p q) w (members old q))
-      → StaysAs Denied (role v) d t (option_map role w) e ⊎ SeesTo answers p v.behaviour v.next d t (option_map role w) e
+      → StaysAs Denied (role v) d t (option_map role w) e ⊎ SeesTo answers p v.behaviour v.next d t (option_map role w) e (bore (waiting old) (waiting new))
       → Bears t (waiting old) (waiting new) → left new ≡ left old ++ left_as p (Some (role v)) t → new.refused ≡ (old.refused || is_refused t)
       → VisitsOne answers p (scene [] old d) (scene (again_as p t) new e)
-  visited old new p v w t d e held at sees bore gone says = record {
+  visited old new p v w t d e held at sees bears gone says = record {
     tended = t;
-    comes = subst (λ (o : Option _). ComesTo answers p o d t (roles new p) e) (sym (ap (option_map role) held))
-        (subst (λ (o : Option _). ComesTo answers p (Some (role v)) d t o e) (sym (ap (option_map role) (there (members old) (members new) p w at p (same_pid_refl p)))) sees);
+    comes = subst (λ (o : Option _). ComesTo answers p o d t (roles new p) e (bore (waiting old) (waiting new))) (sym (ap (option_map role) held))
+        (subst (λ (o : Option _). ComesTo answers p (Some (role v)) d t o e (bore (waiting old) (waiting new))) (sym (ap (option_map role) (there (members old) (members new) p w at p (same_pid_refl p)))) sees);
     others = with_p;
     again = refl;
-    born = bore;
+    born = bears;
     left = gone ∙ ap (λ (o : Option _). left old ++ left_as p o t) (sym (ap (option_map role) held));
     refused = says;
   }
@@ -124,7 +125,7 @@ module _ {B : Type 0} (answers : Answers B) where
   pub passed : (old new : Crew B) (p : Pid) (d : ShardState) → members old p ≡ None → IsOf old new → VisitsOne answers p (scene [] old d) (scene [] new d)
   passed old new p d none same = record {
     tended = Idle;
-    comes = subst (λ (o : Option _). ComesTo answers p o d Idle (roles new p) d) (sym (ap (option_map role) none)) (refl, ap (option_map role) (same.members p ∙ none), refl);
+    comes = subst (λ (o : Option _). ComesTo answers p o d Idle (roles new p) d (bore (waiting old) (waiting new))) (sym (ap (option_map role) none)) (refl, ap (option_map role) (same.members p ∙ none), refl);
     others = with_p;
     again = refl;
     born = same.waiting;
@@ -140,22 +141,40 @@ module _ {B : Type 0} (answers : Answers B) where
   -- the first of the queue
   pub serves_first : (start rest : List Pid) (old new : Crew B) (p : Pid) (v : Member B) (w : Option (Member B)) (t : Tended) (d e : ShardState) → start ≡ p ∷ rest → queue new ≡ rest ++ again_as p t → members old p ≡ Some v
       → ((q : Pid) → members new q ≡ cond (same_pid p q) w (members old q))
-      → StaysAs Denied (role v) d t (option_map role w) e ⊎ SeesTo answers p v.behaviour v.next d t (option_map role w) e
+      → StaysAs Denied (role v) d t (option_map role w) e ⊎ SeesTo answers p v.behaviour v.next d t (option_map role w) e (bore (waiting old) (waiting new))
       → Bears t (waiting old) (waiting new) → left new ≡ left old ++ left_as p (Some (role v)) t → new.refused ≡ (old.refused || is_refused t)
       → Serves answers start old d new e
-  serves_first start rest old new p v w t d e is later held at sees bore gone says =
-      subst (λ (ps : List Pid). Serves answers ps old d new e) (sym is) (again_as p t, visited old new p v w t d e held at sees bore gone says, later)
+  serves_first start rest old new p v w t d e is later held at sees bears gone says =
+      subst (λ (ps : List Pid). Serves answers ps old d new e) (sym is) (again_as p t, visited old new p v w t d e held at sees bears gone says, later)
 
   pub passes_first : (start rest : List Pid) (old new : Crew B) (p : Pid) (d : ShardState) → start ≡ p ∷ rest → queue new ≡ rest → members old p ≡ None → IsOf old new → Serves answers start old d new d
   passes_first start rest old new p d is later none same =
       subst (λ (ps : List Pid). Serves answers ps old d new d) (sym is) ([], passed old new p d none same, later ∙ sym (append-nil rest))
 
+  -- who has nothing to do for now leaves the queue
+  leaves_first : (start rest : List Pid) (old new : Crew B) (p : Pid) (v m : Member B) (t s : Tended) (d e : ShardState) → again_as p t ≡ [] → left_as p (Some (role v)) t ≡ [] → is_refused t ≡ false → kept_as t m ≡ Some (role m)
+      → s ≡ t → start ≡ p ∷ rest → queue new ≡ rest → members old p ≡ Some v → (w : Member B) → role m ≡ role w → ((q : Pid) → members new q ≡ cond (same_pid p q) (Some w) (members old q))
+      → SeesTo answers p v.behaviour v.next d s (kept_as s m) e (bore (waiting old) (waiting new)) → Bears s (waiting old) (waiting new) → left new ≡ left old → new.refused ≡ old.refused → Serves answers start old d new e
+  leaves_first start rest old new p v m t s d e none nobody quiet kept at_t is later held w same at sees bears gone says =
+      serves_first start rest old new p v (Some w) t d e is (later ∙ sym (append-nil rest) ∙ ap (λ (l : List Pid). rest ++ l) (sym none)) held at
+      (inr (subst (λ (o : Option _). SeesTo answers p v.behaviour v.next d t o e (bore (waiting old) (waiting new))) (kept ∙ ap (λ (r : _). Some r) same)
+      (subst (λ (x : Tended). SeesTo answers p v.behaviour v.next d x (kept_as x m) e (bore (waiting old) (waiting new))) at_t sees)))
+      (subst (λ (x : Tended). Bears x (waiting old) (waiting new)) at_t bears)
+      (gone ∙ sym (append-nil (left old)) ∙ ap (λ (l : List (Role B)). left old ++ l) (sym nobody))
+      (says ∙ or_none old.refused ∙ ap (λ (b : Bool). old.refused || b) (sym quiet))
+
+  pub idles_first : (start rest : List Pid) (old new : Crew B) (p : Pid) (v m : Member B) (t : Tended) (d e : ShardState) → (t ≡ Idle) ⊎ (t ≡ Done)
+      → start ≡ p ∷ rest → queue new ≡ rest → members old p ≡ Some v → (w : Member B) → role m ≡ role w → ((q : Pid) → members new q ≡ cond (same_pid p q) (Some w) (members old q))
+      → SeesTo answers p v.behaviour v.next d t (kept_as t m) e (bore (waiting old) (waiting new)) → Bears t (waiting old) (waiting new) → left new ≡ left old → new.refused ≡ old.refused → Serves answers start old d new e
+  idles_first start rest old new p v m t d e (inl idle) = leaves_first start rest old new p v m Idle t d e refl refl refl refl idle
+  idles_first start rest old new p v m t d e (inr done) = leaves_first start rest old new p v m Done t d e refl refl refl refl done
+
   -- there is no memory for whoever leaves
   pub refused_first : (start rest : List Pid) (old new : Crew B) (p : Pid) (d : ShardState) → start ≡ p ∷ rest → queue new ≡ rest ++ p ∷ [] → ((q : Pid) → members new q ≡ members old q)
       → waiting new ≡ waiting old → left new ≡ left old → new.refused ≡ true → (v : Member B) × (members old p ≡ Some v) → Serves answers start old d new d
-  refused_first start rest old new p d is later same bore gone on held =
+  refused_first start rest old new p d is later same bears gone on held =
       serves_first start rest old new p held.0 (Some held.0) Denied d d is later held.1 (λ q. same q ∙ sym (same_back (members old) p held.0 held.1 q))
-      (inl (refl, refl, refl)) bore (gone ∙ sym (append-nil (left old))) (on ∙ says old.refused)
+      (inl (refl, refl, refl)) bears (gone ∙ sym (append-nil (left old))) (on ∙ says old.refused)
 
   -- several are come to -------------------------------------------------------------------
 

@@ -1,9 +1,10 @@
 -- The children that a behaviour bears.
-use Rattle.std.specs.Prelude.{◌≡◌, ◌⊎◌, ◌-◌, Bool, List, [], ◌∷◌, ◌++◌, length, take, Result, Ok, Err}
+use Rattle.std.specs.Prelude.{◌≡◌, ◌⊎◌, ◌-◌, Bool, List, [], ◌∷◌, ◌++◌, length, take, drop, true, Result, Ok, Err}
 use Rattle.pt_signal.specs.declared.pid.Pid.{Pid}
 use Rattle.pt_shard.specs.declared.fault.Fault.{Fault}
 use Rattle.pt_shard.specs.declared.fault.Fault.TheVariants.{Memory}
-use Rattle.pt_shard.specs.ShardState.{ShardState}
+use Rattle.pt_events.specs.History.{is_unborn}
+use Rattle.pt_shard.specs.ShardState.{ShardState, phase_of}
 use Rattle.pt_shard.specs.Calls.{BearsChild}
 use Rattle.pt_crew.specs.declared.behaviour.Next.{Next}
 use Rattle.pt_crew.specs.declared.births.Role.{Role}
@@ -17,11 +18,16 @@ born b = b.list.items
 abbrev pub kept : {B : Type 0} → Births B → List (Role B)
 kept b = take (length b.list.items - b.fresh) b.list.items
 
--- a child is born, and waits behind those who wait; or nothing has changed, where the desk refused the birth or there
+-- who was born meanwhile: those that wait now behind those who waited before
+abbrev pub bore : {B : Type 0} → List (Role B) → List (Role B) → List (Role B)
+bore old new = drop (length old) new
+
+-- a child, which was not born before, is born, and waits behind those who wait; or nothing has changed, where the desk refused the birth or there
 -- was no memory
 abbrev pub Bore : {B : Type 0} → Pid → Bool → B → Next → ShardState → List (Role B) → Result Pid Fault → ShardState
     → List (Role B) → Type 0
 Bore me linked b first d wait (Ok p) e waiting =
     BearsChild me linked d (Ok p) e × (waiting ≡ wait ++ record { pid = p; behaviour = b; next = first } ∷ [])
+    × (is_unborn (phase_of d p) ≡ true)
 Bore me linked b first d wait (Err f) e waiting =
     (BearsChild me linked d (Err f) e ⊎ ((f ≡ Memory) × (e ≡ d))) × (waiting ≡ wait)

@@ -6,6 +6,7 @@ use Rattle.pt_signal.specs.declared.item.Pick.{Pick}
 use Rattle.pt_shard.specs.ShardState.{ShardState}
 use Rattle.pt_crew.specs.declared.behaviour.Next.{Next}
 use Rattle.pt_crew.specs.declared.behaviour.Next.TheVariants.{Wait, Proceed}
+use Rattle.pt_crew.specs.declared.births.Role.{Role}
 use Rattle.pt_crew.specs.Visiting.{Answers, Roles, AreWith, takes}
 
 -- whoever is of the crew was so before, and as it was
@@ -26,7 +27,11 @@ pub record HandsOne {B : Type 0} (answers : Answers B) (old : Roles B) (p : Pid)
   pub may : MayBeHanded before item
   pub now : B
   pub next : Next
-  pub answer : answers was p item next now
+  -- on its desk as it was then
+  pub desk : ShardState
+  pub later : ShardState
+  pub births : List (Role B)
+  pub answer : answers was desk p item next now later births
   pub after : AreWith p (Some (now, next)) old new
 
 -- so one after the other, the newest in front; in between some may leave

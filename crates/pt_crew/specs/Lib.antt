@@ -4,4 +4,5 @@ pub mod Visiting
 pub mod Handing
 pub mod Crews
 pub mod Telling
+pub mod Upholding
 pub mod Parts

@@ -13,7 +13,7 @@ use Rattle.pt_crew.specs.declared.behaviour.Next.{Next}
 use Rattle.pt_crew.specs.declared.crew.Member.{Member}
 use Rattle.pt_crew.specs.declared.crew.Crew.{Crew}
 use Rattle.pt_crew.specs.declared.crew.Tended.{Tended}
-use Rattle.pt_crew.specs.declared.crew.Tended.TheVariants.{Idle, Again, Refused, Gone}
+use Rattle.pt_crew.specs.declared.crew.Tended.TheVariants.{Idle, Again, Done, Refused, Gone}
 use Rattle.pt_crew.specs.Waking.{IsQueue, has_work}
 use Rattle.pt_crew.specs.Visiting.{Answers, AreSame, VisitsOne}
 use Rattle.pt_crew.specs.declared.births.Role.{Role}
@@ -63,6 +63,7 @@ WakesBy _ old new = IsSame old new
 abbrev pub Tends : {B : Type 0} → Pid → Tended → Member B → ShardState → Type 0
 Tends p Idle new d = has_work new.next (phase_of d p) ≡ false
 Tends p Again new d = Unit {0}
+Tends p Done new d = has_work new.next (phase_of d p) ≡ false
 Tends p Refused new d = Unit {0}
 Tends p Gone new d = Unit {0}
 
@@ -70,6 +71,7 @@ Tends p Gone new d = Unit {0}
 abbrev pub kept_as : {B : Type 0} → Tended → Member B → Option (B × Next)
 kept_as Idle m = Some (role m)
 kept_as Again m = Some (role m)
+kept_as Done m = Some (role m)
 kept_as Refused m = Some (role m)
 kept_as Gone m = None
 

@@ -10,18 +10,21 @@ use Rattle.pt_events.specs.declared.event.Event.TheVariants.{Took, Left}
 use Rattle.pt_events.specs.declared.event.Stamped.{Stamped}
 use Rattle.pt_shard.specs.declared.fault.Fault.{Fault}
 use Rattle.pt_shard.specs.declared.fault.Fault.TheVariants.{Gone}
-use Rattle.pt_shard.specs.ShardState.{ShardState, lives}
+use Rattle.pt_events.specs.History.{Phase, living}
+use Rattle.pt_shard.specs.ShardState.{ShardState, lives, phase_of}
 use Rattle.pt_shard.specs.Calls.{Calls, take_event, first_match}
 use Rattle.pt_shard.specs.Extends.{Extends}
 use Rattle.pt_crew.specs.declared.behaviour.Next.{Next}
 use Rattle.pt_crew.specs.declared.behaviour.Next.TheVariants.{Wait, Proceed, Stop}
 use Rattle.pt_crew.specs.declared.births.Role.{Role}
+use Rattle.pt_crew.specs.Births.{bore}
 use Rattle.pt_crew.specs.declared.crew.Tended.{Tended}
-use Rattle.pt_crew.specs.declared.crew.Tended.TheVariants.{Idle, Again, Refused, Gone as Ended}
+use Rattle.pt_crew.specs.declared.crew.Tended.TheVariants.{Idle, Again, Done, Refused, Gone as Ended}
 
--- what a behaviour may answer: it before, the process, the item or none, what the process does next, and it afterwards
+-- what a behaviour may answer: it and its desk before, the process, the item or none, what the process does next, it
+-- and its desk afterwards, and whom it bore
 abbrev pub Answers : Type 0 → Type 1
-Answers B = B → Pid → Option Item → Next → B → Type 0
+Answers B = B → ShardState → Pid → Option Item → Next → B → ShardState → List (Role B) → Type 0
 
 -- of each process of a crew its behaviour, and what it does next
 abbrev pub Roles : Type 0 → Type 0
@@ -63,13 +66,22 @@ EndsAs role (Ok done) t now = (t ≡ Ended) × (now ≡ None)
 EndsAs role (Err Gone) t now = (t ≡ Ended) × (now ≡ None)
 EndsAs role (Err f) t now = (t ≡ Refused) × (now ≡ Some role)
 
--- the item, or none, is handed to the behaviour, which takes none itself
+-- who was handed something and waits now with an empty mailbox leaves the queue; anyone else goes behind it
+abbrev pub handed_by : List Item → Tended
+handed_by [] = Done
+handed_by (i ∷ items) = Again
+
+abbrev pub handed_as : Next → Phase → Tended
+handed_as (Wait k) (living s) = handed_by s.waiting
+handed_as next phase = Again
+
+-- the item, or none, is handed to the behaviour, which takes none itself, and bears these
 pub record HandsTo {B : Type 0} (answers : Answers B) (p : Pid) (b : B) (item : Option Item) (d : ShardState)
-    (t : Tended) (now : Option (B × Next)) (e : ShardState) : Type 0 where
+    (t : Tended) (now : Option (B × Next)) (e : ShardState) (births : List (Role B)) : Type 0 where
   pub behaviour : B
   pub next : Next
-  pub answer : answers b p item next behaviour
-  pub tended : t ≡ Again
+  pub answer : answers b d p item next behaviour e births
+  pub tended : t ≡ handed_as next (phase_of e p)
   pub now_is : now ≡ Some (behaviour, next)
   pub takes : takes e.journal ≡ takes d.journal
   pub extends : Extends d e
@@ -84,35 +96,37 @@ StaysAs came role d t now e = (t ≡ came) × (now ≡ Some role) × (e ≡ d)
 
 -- An item was asked for. One that was taken is handed over; a refusal for want of memory or stamps leaves all as it is.
 abbrev pub TakesAs : {B : Type 0} → Answers B → Pid → B × Next → ShardState → Result (Option Item) Fault → Tended
-    → Option (B × Next) → ShardState → Type 0
-TakesAs answers p role d (Ok None) t now e = StaysAs Idle role d t now e
-TakesAs answers p role d (Ok (Some item)) t now e = HandsTo answers p role.0 (Some item) d t now e
-TakesAs answers p role d (Err Gone) t now e = LeavesAs d t now e
-TakesAs answers p role d (Err f) t now e = StaysAs Refused role d t now e
+    → Option (B × Next) → ShardState → List (Role B) → Type 0
+TakesAs answers p role d (Ok None) t now e births = StaysAs Idle role d t now e
+TakesAs answers p role d (Ok (Some item)) t now e births = HandsTo answers p role.0 (Some item) d t now e births
+TakesAs answers p role d (Err Gone) t now e births = LeavesAs d t now e
+TakesAs answers p role d (Err f) t now e births = StaysAs Refused role d t now e
 
 -- the process p, which does this next, is seen to, and that comes of it
 abbrev pub SeesTo : {B : Type 0} → Answers B → Pid → B → Next → ShardState → Tended → Option (B × Next) → ShardState
-    → Type 0
-SeesTo answers p b (Stop reason) d t now e =
+    → List (Role B) → Type 0
+SeesTo answers p b (Stop reason) d t now e births =
     (result : Result (Unit {0}) Fault) × Calls p (Some (Left p reason)) (tt {0}) d result e
     × EndsAs (b, Stop reason) result t now
-SeesTo answers p b Proceed d t now e =
-    MatchBool (lives d p) (HandsTo answers p b None d t now e) (LeavesAs d t now e)
-SeesTo answers p b (Wait pick) d t now e =
+SeesTo answers p b Proceed d t now e births =
+    MatchBool (lives d p) (HandsTo answers p b None d t now e births) (LeavesAs d t now e)
+SeesTo answers p b (Wait pick) d t now e births =
     (result : Result (Option Item) Fault) × (mid : ShardState)
     × Calls p (take_event d p pick) (first_match d p pick) d result mid
-    × TakesAs answers p (b, Wait pick) mid result t now e
+    × TakesAs answers p (b, Wait pick) mid result t now e births
 
 -- nothing is done for one that is not of the crew, nor where there is no memory to keep its behaviour if it leaves
 abbrev pub ComesTo : {B : Type 0} → Answers B → Pid → Option (B × Next) → ShardState → Tended → Option (B × Next)
-    → ShardState → Type 0
-ComesTo answers p None d t now e = (t ≡ Idle) × (now ≡ None) × (e ≡ d)
-ComesTo answers p (Some role) d t now e = StaysAs Refused role d t now e ⊎ SeesTo answers p role.0 role.1 d t now e
+    → ShardState → List (Role B) → Type 0
+ComesTo answers p None d t now e births = (t ≡ Idle) × (now ≡ None) × (e ≡ d)
+ComesTo answers p (Some role) d t now e births =
+    StaysAs Refused role d t now e ⊎ SeesTo answers p role.0 role.1 d t now e births
 
--- whoever was handed an item, or was refused, goes behind the queue
+-- whoever was handed something and may have more to do, or was refused, goes behind the queue
 abbrev pub again_as : Pid → Tended → List Pid
 again_as p Idle = []
 again_as p Again = p ∷ []
+again_as p Done = []
 again_as p Refused = p ∷ []
 again_as p Ended = []
 
@@ -121,18 +135,21 @@ abbrev pub left_as : {B : Type 0} → Pid → Option (B × Next) → Tended → 
 left_as p None t = []
 left_as p (Some role) Idle = []
 left_as p (Some role) Again = []
+left_as p (Some role) Done = []
 left_as p (Some role) Refused = []
 left_as p (Some role) Ended = record { pid = p; behaviour = role.0; next = role.1 } ∷ []
 
 abbrev pub is_refused : Tended → Bool
 is_refused Idle = false
 is_refused Again = false
+is_refused Done = false
 is_refused Refused = true
 is_refused Ended = false
 
 -- only who is handed an item, or proceeds, bears children, which wait behind those who wait
 abbrev pub Bears : {B : Type 0} → Tended → List (Role B) → List (Role B) → Type 0
 Bears {B} Again old new = (bore : List (Role B)) × (new ≡ old ++ bore)
+Bears {B} Done old new = (bore : List (Role B)) × (new ≡ old ++ bore)
 Bears Idle old new = new ≡ old
 Bears Refused old new = new ≡ old
 Bears Ended old new = new ≡ old
@@ -140,7 +157,7 @@ Bears Ended old new = new ≡ old
 -- p is come to, and all others stay
 pub record VisitsOne {B : Type 0} (answers : Answers B) (p : Pid) (old new : Scene B) : Type 0 where
   pub tended : Tended
-  pub comes : ComesTo answers p (old.roles p) old.desk tended (new.roles p) new.desk
+  pub comes : ComesTo answers p (old.roles p) old.desk tended (new.roles p) new.desk (bore old.born new.born)
   pub others : AreWith p (new.roles p) old.roles new.roles
   pub again : new.again ≡ old.again ++ again_as p tended
   pub born : Bears tended old.born new.born

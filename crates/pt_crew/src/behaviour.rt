@@ -1,11 +1,13 @@
 //! What a process does with the items of its mailbox.
 
-ghost use Rattle.std.specs.Prelude.{◌≡◌, Option, Some};
+ghost use Rattle.std.specs.Prelude.{◌≡◌, List, Option, Some};
 ghost use Rattle.pt_desk.specs.DeskState.{GoesOn};
 ghost use Rattle.pt_signal.specs.declared.pid.Pid.{Pid};
 ghost use Rattle.pt_signal.specs.declared.item.Item.{Item};
+ghost use Rattle.pt_shard.specs.ShardState.{ShardState};
 ghost use Rattle.pt_crew.specs.declared.behaviour.Next.{Next};
-ghost use Rattle.pt_crew.specs.Births.{kept};
+ghost use Rattle.pt_crew.specs.declared.births.Role.{Role};
+ghost use Rattle.pt_crew.specs.Births.{bore, born, kept};
 ghost use Rattle.pt_crew.specs.Visiting.{takes};
 
 use crate::births::Births;
@@ -26,9 +28,10 @@ pub enum Next {
 /// answer as `receive` has its patterns.
 ///
 /// Its state is a value of the program's own, one of each process. What it may answer is its ghost member `answers`, in
-/// whose terms a step of a crew says what it did.
+/// whose terms a step of a crew says what it did: it and its desk before, the process, the item, what it does next, it
+/// and its desk afterwards, and whom it bore.
 pub trait Behaviour {
-    ghost answers: { Self → Pid → Option Item → Next → Self → Type 0 };
+    ghost answers: { Self → ShardState → Pid → Option Item → Next → Self → ShardState → List (Role Self) → Type 0 };
 
     /// Sees to one item, which was taken out of the mailbox of `me`, or to none where `me` was to proceed. It takes no
     /// other item out of a mailbox.
@@ -42,7 +45,8 @@ pub trait Behaviour {
         me: Pid,
         item: Option<Item>,
     ) -> Next
-        ensures answers { answers self.old me item result self.new }
+        ensures answers { answers self.old desk.old.shard me item result self.new desk.new.shard
+            (bore (born births.old) (born births.new)) }
         ensures takes { takes desk.new.shard.journal ≡ takes desk.old.shard.journal }
         ensures kept { kept births.new ≡ kept births.old }
         ensures goes_on { GoesOn desk.old desk.new };

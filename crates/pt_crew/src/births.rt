@@ -86,6 +86,8 @@ pub fn bear<B: Drop>(
     };
     births.list.reserve(1)?;
     let pid = desk.spawn_child(me, linked)?;
+    // read for the proof alone: by a lawful journal whoever is born was not before
+    let _lawful = desk.journal();
     births.list.push_back_reserved(Role {
         pid,
         behaviour,

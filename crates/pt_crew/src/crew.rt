@@ -7,8 +7,8 @@ ghost use Rattle.std.specs.Map.{keys_of};
 ghost use Rattle.pt_events.specs.History.{is_unborn};
 ghost use Rattle.pt_shard.specs.ShardState.{ShardState, lives, phase_of};
 ghost use Rattle.pt_desk.specs.DeskState.{GoesOn};
-ghost use Rattle.pt_crew.specs.Births.{born};
-ghost use Rattle.pt_crew.specs.Visiting.{AreSame, AreWith, Bears, SeesTo, Visits, takes};
+ghost use Rattle.pt_crew.specs.Births.{bore, born};
+ghost use Rattle.pt_crew.specs.Visiting.{AreSame, AreWith, Bears, SeesTo, Visits, handed_as, takes};
 ghost use Rattle.pt_crew.specs.Crews.{AreBorn, Attends, Enters, HasRoom, IsSame, KeepsRest, KnowsDesk, Works, left};
 ghost use Rattle.pt_crew.specs.Crews.{members, queue, roles, scene, waiting};
 ghost use Rattle.pt_crew.specs.Parts.{Admits, AdmitsFirst, CanEnter, IsLonger, Serves, Tends, Wakes, WakesAt};
@@ -36,8 +36,10 @@ pub struct Member<B> {
 pub enum Tended {
     /// Nothing fits, or it is not of the crew: it leaves the queue.
     Idle,
-    /// It was handed an item, or went on without one, and goes behind the queue.
+    /// It was handed an item, or went on without one, and may have more to do: it goes behind the queue.
     Again,
+    /// It was handed an item, or went on without one, and waits now with an empty mailbox: it leaves the queue.
+    Done,
     /// A call was refused for want of memory or stamps, and nothing has changed: it goes behind the queue.
     Refused,
     /// It has ended, and leaves the crew.
@@ -396,7 +398,7 @@ impl<B: Behaviour + Drop> Crew<B> {
         }
         let (_, member) = self.members.pair_mut(place);
         match tend(member, &mut self.births, desk, p) {
-            Tended::Idle => member.queued = false,
+            Tended::Idle | Tended::Done => member.queued = false,
             Tended::Again => {
                 member.queued = true;
                 self.queue.push_back_reserved(p);
@@ -447,7 +449,7 @@ fn tend<B: Behaviour + Drop>(
     p: Pid,
 ) -> Tended
     ensures sees { SeesTo B.answers p member.old.behaviour member.old.next desk.old.shard result
-        (kept_as result member.new) desk.new.shard }
+        (kept_as result member.new) desk.new.shard (bore (born births.old) (born births.new)) }
     ensures role { result ≡ Tended.Gone → member.new ≡ member.old }
     ensures bears { Bears result (born births.old) (born births.new) }
     ensures tends { Tends p result member.new desk.new.shard }
@@ -464,17 +466,27 @@ fn tend<B: Behaviour + Drop>(
                 return Tended::Gone;
             }
             hand(member, births, desk, p, None);
-            Tended::Again
+            handed(member.next, desk, p)
         }
         Next::Wait(pick) => match desk.receive(p, pick) {
             Ok(None) => Tended::Idle,
             Ok(Some(item)) => {
                 hand(member, births, desk, p, Some(item));
-                Tended::Again
+                handed(member.next, desk, p)
             }
             Err(Fault::Gone) => Tended::Gone,
             Err(_) => Tended::Refused,
         },
+    }
+}
+
+/// What comes of it that a process was handed something: it goes behind the queue, unless it waits with an empty mailbox.
+fn handed(next: Next, desk: &Desk, p: Pid) -> Tended
+    ensures { result ≡ handed_as next (phase_of desk.now.shard p) }
+{
+    match (next, desk.waiting(p)) {
+        (Next::Wait(_), Some(items)) if items.is_empty() => Tended::Done,
+        _ => Tended::Again,
     }
 }
 
@@ -486,7 +498,8 @@ fn hand<B: Behaviour + Drop>(
     p: Pid,
     item: Option<Item>,
 )
-    ensures answers { B.answers member.old.behaviour p item member.new.next member.new.behaviour }
+    ensures answers { B.answers member.old.behaviour desk.old.shard p item member.new.next member.new.behaviour
+        desk.new.shard (bore (born births.old) (born births.new)) }
     ensures bears { Bears Tended.Again (born births.old) (born births.new) }
     ensures takes { takes desk.new.shard.journal ≡ takes desk.old.shard.journal }
     ensures goes_on { GoesOn desk.old desk.new }

@@ -8,8 +8,10 @@ mod behaviour;
 mod births;
 mod calls;
 mod crew;
+mod upholds;
 
 pub use behaviour::{Behaviour, Next};
 pub use births::{Births, Role, bear};
 pub use calls::{bid_exit, join, part, tell, trap, unwatch, watch};
 pub use crew::Crew;
+pub use upholds::{Upheld, crew_upholds};

@@ -132,7 +132,7 @@ impl Teller {
 impl Behaviour for Clerk {
     ghost use Rattle.std.specs.Prelude.{⊤};
 
-    ghost answers = { λ _ _ _ _ _. ⊤ };
+    ghost answers = { λ _ _ _ _ _ _ _ _. ⊤ };
 
     #[tactic(auto, using(pt_node::proofs::GoingOn::stays))]
     fn handle(

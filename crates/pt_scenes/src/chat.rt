@@ -140,7 +140,7 @@ fn join(desk: &mut Desk, me: Pid)
 impl Behaviour for Talker {
     ghost use Rattle.std.specs.Prelude.{⊤};
 
-    ghost answers = { λ _ _ _ _ _. ⊤ };
+    ghost answers = { λ _ _ _ _ _ _ _ _. ⊤ };
 
     #[tactic(auto, using(pt_node::proofs::GoingOn::stays))]
     fn handle(

@@ -1,11 +1,13 @@
-//! Three scenes of processes that run code, each on four desks: a ring of a thousand processes, a bank whose sum stays,
-//! and a chat whose guests crash.
+//! Five scenes of processes that run code, each on four desks: a ring of a thousand processes, a bank whose sum stays,
+//! a chat whose guests crash, a queue of jobs below a tree of supervisors, and teams whose workers crash as they begin.
 #![tactic(auto)]
 
 mod bank;
 mod chat;
+mod jobs;
 mod ring;
 mod stage;
+mod team;
 
 use anyhow::Result;
 
@@ -14,5 +16,7 @@ fn main(rt: HostRuntime) -> Result<()> {
     println!(rt; "{}", ring::play(alloc)?)?;
     println!(rt; "{}", bank::play(alloc)?)?;
     println!(rt; "{}", chat::play(alloc)?)?;
+    println!(rt; "{}", jobs::play(alloc)?)?;
+    println!(rt; "{}", team::play(alloc)?)?;
     Ok(())
 }

@@ -86,7 +86,7 @@ impl Runner {
 impl Behaviour for Runner {
     ghost use Rattle.std.specs.Prelude.{⊤};
 
-    ghost answers = { λ _ _ _ _ _. ⊤ };
+    ghost answers = { λ _ _ _ _ _ _ _ _. ⊤ };
 
     #[tactic(auto, using(pt_node::proofs::GoingOn::stays))]
     fn handle(

@@ -22,6 +22,8 @@ mod opening;
 #[cfg(test)]
 mod pace;
 #[cfg(test)]
+mod rests;
+#[cfg(test)]
 mod resumed;
 #[cfg(test)]
 mod stress;

@@ -12,15 +12,15 @@ use Rattle.pt_supervisor.specs.Children.{PermanentAreWanted, is_of, is_missing}
 use Rattle.pt_supervisor.specs.Limits.{allows}
 use Rattle.pt_supervisor.specs.Hearing.{Standing, gone, heard, heard_at, is_temporary, lives_again, lost, restarted, started_again, stopped}
 
-set_same : (xs : List Child) (i : ℕ) (v : Child) → i < length xs → slice_get (slice_set xs i v) i ≡ Some v
+pub set_same : (xs : List Child) (i : ℕ) (v : Child) → i < length xs → slice_get (slice_set xs i v) i ≡ Some v
 set_same xs i v l = slice_get-get_or (set xs i v) i v (omega (arith, length-set xs i v, l)) ∙ ap Some (get_or-set_same xs i v v l)
 
-set_other : (xs : List Child) (i j : ℕ) (v x : Child) → (j ≡ i → ⊥) → slice_get (slice_set xs i v) j ≡ Some x → slice_get xs j ≡ Some x
+pub set_other : (xs : List Child) (i j : ℕ) (v x : Child) → (j ≡ i → ⊥) → slice_get (slice_set xs i v) j ≡ Some x → slice_get xs j ≡ Some x
 set_other xs i j v x apart at =
     let within : j < length (set xs i v) = slice_get_within (set xs i v) j x at in
     slice_get-get_or xs j x (omega (arith, length-set xs i v, within)) ∙ ap Some (sym (get_or-set_other xs i j v x apart) ∙ get_or_from_slice_get (set xs i v) j x x at)
 
-same_child : (c d : Child) → Some c ≡ Some d → c ≡ d
+pub same_child : (c d : Child) → Some c ≡ Some d → c ≡ d
 same_child c d e = cc
 
 -- one child becomes another one, which is to live where the first one is
@@ -44,7 +44,7 @@ restarted_same : (allowed : Bool) (now place : ℕ) (s : Standing) → (restarte
 restarted_same true now place s = refl
 restarted_same false now place s = refl
 
-again_same : (again : Bool) (now place : ℕ) (s : Standing) → (started_again again now place s).children ≡ s.children
+pub again_same : (again : Bool) (now place : ℕ) (s : Standing) → (started_again again now place s).children ≡ s.children
 again_same true now place s = restarted_same (allows now s.span s.most s.times) now place s
 again_same false now place s = refl
 

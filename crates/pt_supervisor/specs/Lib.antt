@@ -3,3 +3,4 @@ pub mod Limits
 pub mod Children
 pub mod Hearing
 pub mod Supervising
+pub mod Keeping

@@ -9,10 +9,12 @@ mod children;
 mod laws;
 mod limit;
 mod restart;
+mod supervised;
 mod supervisor;
 
 pub use children::{Child, Shutdown};
 pub use laws::permanent_children_live;
 pub use limit::Limit;
 pub use restart::{Restart, Strategy};
+pub use supervised::{Supervised, quiet_children_live};
 pub use supervisor::{Start, Supervisor};

@@ -51,6 +51,7 @@ impl<S> Supervisor<S> {
     ghost use Rattle.pt_supervisor.specs.Hearing.{begun, heard, lost, standing, started_again, stopped};
     ghost use Rattle.pt_supervisor.specs.Supervising.{Advances, Attends, Handles, SetsAt, StartsAll};
     ghost use Rattle.pt_supervisor.specs.Supervising.{StartsOne, Supervises};
+    ghost use Rattle.pt_supervisor.specs.Keeping.{BearsFrom, Tends};
 
     /// A supervisor of these children, each with the rule by which it is started again. It has no parent: see
     /// [`Supervisor::under`].
@@ -134,6 +135,8 @@ impl<S> Supervisor<S> {
             result
             (record { start = self.new.start; standing = standing self.new; desk = desk.new; born = born births.new }) }
         ensures supervises { Supervises result (standing self.new) }
+        ensures tends { Tends me item (standing self.old) desk.old.shard result (standing self.new) desk.new.shard }
+        ensures bears { BearsFrom S.starts me (born births.old) (born births.new) }
         ensures permanent { PermanentAreWanted (standing self.old).children
             → PermanentAreWanted (standing self.new).children }
         ensures takes { takes desk.new.shard.journal ≡ takes desk.old.shard.journal }

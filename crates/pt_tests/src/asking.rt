@@ -59,7 +59,7 @@ enum Actor {
 impl Behaviour for Actor {
     ghost use Rattle.std.specs.Prelude.{⊤};
 
-    ghost answers = { λ _ _ _ _ _. ⊤ };
+    ghost answers = { λ _ _ _ _ _ _ _ _. ⊤ };
 
     #[tactic(auto, using(pt_node::proofs::GoingOn::stays))]
     fn handle(

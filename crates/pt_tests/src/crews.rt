@@ -49,7 +49,7 @@ enum Player {
 impl Behaviour for Player {
     ghost use Rattle.std.specs.Prelude.{⊤};
 
-    ghost answers = { λ _ _ _ _ _. ⊤ };
+    ghost answers = { λ _ _ _ _ _ _ _ _. ⊤ };
 
     #[tactic(auto, using(pt_node::proofs::GoingOn::stays))]
     fn handle(

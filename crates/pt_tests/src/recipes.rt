@@ -4,18 +4,14 @@ ghost use Rattle.pt_node.specs.Desks.{AreDesks, IsStill};
 
 use pt_auditor::{Audit, Verdict};
 use pt_node::{
-    Config, Desk, Event, Node, OpenError, Pid, Reason, Setting, Signal, Stamped, Standing, abandon,
-    open,
+    Config, Desk, Event, Node, OpenError, Pid, Reason, Setting, Signal, Stamped, abandon, open,
 };
 use pt_uses::RecipeError;
-use pt_uses::chat::{Seat, Who, chat};
 use pt_uses::desks_on_threads::{Sender, ring};
 use pt_uses::epochs::{Lines, Plan, epochs};
 use pt_uses::game::{Game, HIT};
 use pt_uses::payloads::Texts;
 use pt_uses::steps::{gathered, tell};
-use pt_uses::strategy::Strategy;
-use pt_uses::supervisor::{Supervisor, Tended};
 use pt_uses::two_processes::two_processes;
 use std::alloc::Global;
 use std::process::Abort;
@@ -65,8 +61,6 @@ fn two_processes_exchange_a_message_each(rt: HostRuntime) -> Result<(), Fail> {
 /// What is played on the desk of a node.
 #[derive(Clone, Copy)]
 enum Play {
-    OneForOne,
-    OneForAll,
     Game,
     Texts,
     LostTexts,
@@ -94,8 +88,6 @@ fn on_desk<R: Abort>(rt: &R, alloc: Global, desk: &mut Desk, play: Play) -> Resu
     ensures { IsStill desk.old desk.new }
 {
     match play {
-        Play::OneForOne => one_for_one(rt, alloc, desk),
-        Play::OneForAll => one_for_all(rt, alloc, desk),
         Play::Game => duel(rt, alloc, desk),
         Play::Texts => greet(rt, alloc, desk),
         Play::LostTexts => lose(rt, alloc, desk),
@@ -108,72 +100,6 @@ fn fails(desk: &mut Desk, p: Pid) -> Result<(), Fail>
 {
     desk.exit(p, Reason::Other(7))?;
     let _ = desk.turn(16);
-    Ok(())
-}
-
-fn two_children(alloc: Global, desk: &mut Desk) -> Result<Supervisor, Fail>
-    ensures { IsStill desk.old desk.new }
-{
-    let mut supervisor = Supervisor::new(alloc, desk, 1)?;
-    let _first = supervisor.start(desk)?;
-    let _second = supervisor.start(desk)?;
-    Ok(supervisor)
-}
-
-fn one_for_one<R: Abort>(rt: &R, alloc: Global, desk: &mut Desk) -> Result<(), Fail>
-    ensures { IsStill desk.old desk.new }
-{
-    let mut supervisor = two_children(alloc, desk)?;
-    assert_eq!(rt;
-        supervisor.tend(desk, Strategy::OneForOne)?,
-        Tended::Nothing
-    );
-    fails(desk, at(1, 1))?;
-    assert_eq!(rt;
-        supervisor.tend(desk, Strategy::OneForOne)?,
-        Tended::Restarted
-    );
-    assert_eq!(rt;
-        supervisor.children.as_slice(),
-        [at(1, 2), at(2, 1)].as_slice()
-    );
-    gives_up(rt, desk, supervisor)
-}
-
-/// The supervisor has restarted as often as it may, and a child fails.
-fn gives_up<R: Abort>(rt: &R, desk: &mut Desk, supervisor: Supervisor) -> Result<(), Fail>
-    ensures { IsStill desk.old desk.new }
-{
-    let mut supervisor = supervisor;
-    fails(desk, at(2, 1))?;
-    assert_eq!(rt; supervisor.tend(desk, Strategy::OneForOne)?, Tended::GaveUp);
-    assert!(rt; !desk.alive_here(supervisor.pid));
-    assert!(rt; desk.alive_here(at(1, 2)));
-    let _ = desk.turn(16);
-    assert!(rt; !desk.alive_here(at(1, 2)));
-    Ok(())
-}
-
-fn one_for_all<R: Abort>(rt: &R, alloc: Global, desk: &mut Desk) -> Result<(), Fail>
-    ensures { IsStill desk.old desk.new }
-{
-    let mut supervisor = two_children(alloc, desk)?;
-    fails(desk, at(1, 1))?;
-    assert_eq!(rt;
-        supervisor.tend(desk, Strategy::OneForAll)?,
-        Tended::Restarted
-    );
-    assert_eq!(rt;
-        supervisor.children.as_slice(),
-        [at(1, 2), at(3, 1)].as_slice()
-    );
-    let _ = desk.turn(16);
-    assert!(rt; !desk.alive_here(at(2, 1)));
-    assert_eq!(rt;
-        supervisor.tend(desk, Strategy::OneForAll)?,
-        Tended::Nothing
-    );
-    assert_eq!(rt; supervisor.left, 0);
     Ok(())
 }
 
@@ -238,18 +164,6 @@ fn lose<R: Abort>(rt: &R, alloc: Global, desk: &mut Desk) -> Result<(), Fail>
 }
 
 #[test]
-fn a_child_is_started_again_and_past_the_limit_the_supervisor_gives_up(
-    rt: HostRuntime,
-) -> Result<(), Fail> {
-    played(&rt, rt.alloc(), Play::OneForOne)
-}
-
-#[test]
-fn all_children_are_started_again(rt: HostRuntime) -> Result<(), Fail> {
-    played(&rt, rt.alloc(), Play::OneForAll)
-}
-
-#[test]
 fn a_monster_without_health_ends(rt: HostRuntime) -> Result<(), Fail> {
     played(&rt, rt.alloc(), Play::Game)
 }
@@ -303,34 +217,6 @@ fn a_node_without_desks_is_refused(rt: HostRuntime) -> Result<(), Fail> {
         text.as_str(),
         "the node does not open: a setting is out of its range: desks"
     );
-    Ok(())
-}
-
-/// Who is on a seat has done all that it had to do: the room when all guests have left, and each guest has heard no
-/// more words than were said, and has none left.
-fn is_done<R: Abort>(rt: &R, seat: &Seat) {
-    assert_eq!(rt; seat.standing, Standing::Done);
-    match &seat.who {
-        Who::Room(room) => assert!(rt; room.awaited == 0 && room.guests.is_empty()),
-        Who::Guest(guest) => assert!(rt; guest.joined && guest.words == 0 && guest.heard <= 6),
-    }
-}
-
-#[test]
-fn guests_chat_and_crash(rt: HostRuntime) -> Result<(), Fail> {
-    let (node, seats) = chat(rt.alloc(), 40)?;
-    assert_eq!(rt; seats.len(), 4);
-    for seat in &seats {
-        is_done(&rt, seat);
-    }
-    let mut downs: u64 = 0;
-    for stamped in node.history()? {
-        if let Event::Came(_, _, Signal::Down(_, reason)) = stamped.event {
-            assert_eq!(rt; reason, Reason::Other(7));
-            downs = downs.saturating_add(1);
-        }
-    }
-    assert_eq!(rt; downs, 3);
     Ok(())
 }
 

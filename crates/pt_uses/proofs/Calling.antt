@@ -3,9 +3,7 @@ use Rattle.std.proofs.Common.{◌≡◌, ℕ, ℤ, true, false, Option, Some, Re
 use Rattle.std.specs.Prelude.{slice_get}
 use Rattle.indexmap.specs.IndexMap.{set_value_at}
 use Rattle.pt_signal.specs.declared.pid.Pid.{Pid}
-use Rattle.pt_events.specs.declared.event.Event.{Event}
 use Rattle.pt_shard.specs.declared.fault.Fault.{Fault}
-use Rattle.pt_shard.specs.declared.fault.Fault.TheVariants.{Full, Memory, Worn, Gone, Myself, NoProc}
 use Rattle.pt_signal.specs.declared.signal.Signal.{Signal}
 use Rattle.pt_events.specs.declared.event.Event.TheVariants.{Said}
 use Rattle.pt_shard.specs.ShardState.{ShardState, lives}
@@ -16,15 +14,6 @@ use Rattle.pt_desk.proofs.Reached.{reached}
 use Rattle.pt_uses.specs.Telling.{SaysTo, unheard}
 use Rattle.pt_shard.specs.Calls.{Calls}
 use Rattle.pt_uses.specs.Games.{Monsters, SeesTo, SeesToAt}
-
--- what a call would have answered does not matter to its refusal
-pub refused_as : {A B : Type 0} (p : Pid) (event : Option Event) (a : A) (b : B) (old new : ShardState) (fault : Fault) → Calls p event a old (Err fault) new → Calls p event b old (Err fault) new
-refused_as p event a b old new Full c = c
-refused_as p event a b old new Memory c = c
-refused_as p event a b old new Worn c = c
-refused_as p event a b old new Gone c = c
-refused_as p event a b old new Myself c = c
-refused_as p event a b old new NoProc c = c
 
 -- a message to a pid that the desk knows
 pub says : (from to : Pid) (signal : Signal) (old new : DeskState) (answer r : Result (Unit {0}) Fault) → knows old.shard to ≡ true

@@ -2,7 +2,6 @@ pub mod Doing
 pub mod Exchanges
 pub mod Games
 pub mod Payloads
-pub mod Supervision
 pub mod Telling
 pub mod Epochs
 pub mod Rings

@@ -1,5 +1,5 @@
 -- What the steps do that the recipes share.
-use Rattle.std.specs.Prelude.{◌≡◌, ℕ, ℤ, List, slice_index_or, MatchBool, Some, None, Result, Ok, Err}
+use Rattle.std.specs.Prelude.{◌≡◌, ℕ, ℤ, MatchBool, Some, None, Result, Ok, Err}
 use Rattle.pt_signal.specs.declared.pid.Pid.{Pid}
 use Rattle.pt_signal.specs.declared.signal.Signal.{Signal}
 use Rattle.pt_events.specs.declared.event.Event.TheVariants.{Said}
@@ -29,11 +29,3 @@ SaysTo from to signal old r new =
     (Calls from (Some (Said from to signal)) (tt {0}) old answer new) old answer new
     × (r ≡ unheard answer))
     (Idles (tt {0}) old r new)
-
--- the same to the one at that place of a list
-abbrev pub SaysAt : Pid → List Pid → Signal → ℕ → Doing ShardState (Unit {0})
-SaysAt from to signal place old r new = SaysTo from (slice_index_or to place (record {
-  shard = 0;
-  slot = 0;
-  version = 0;
-})) signal old r new

@@ -1,16 +1,14 @@
-//! Steps that the recipes share: a message, the oldest end that a mailbox tells of, and the desks gathered.
+//! Steps that the recipes share: a message, and the desks gathered.
 
-ghost use Rattle.std.specs.Prelude.{◌≡◌, IfOk, length};
+ghost use Rattle.std.specs.Prelude.{◌≡◌, IfOk};
 ghost use Rattle.pt_desk.specs.DeskState.{GoesOn, HasSameEnds};
 ghost use Rattle.pt_gathered.specs.Lawful.{KeepsHeadline, IsLegalNode};
-ghost use Rattle.pt_node.specs.Desks.{AreDesks, IsStill};
+ghost use Rattle.pt_node.specs.Desks.{AreDesks};
 ghost use Rattle.pt_node.specs.Gathering.{HasJournalsOf};
-ghost use Rattle.pt_uses.specs.Supervision.{TakesEnd, whose_end};
-ghost use Rattle.pt_uses.specs.Doing.{AtEach};
-ghost use Rattle.pt_uses.specs.Telling.{SaysAt, SaysTo, message, unheard};
+ghost use Rattle.pt_uses.specs.Telling.{SaysTo, message, unheard};
 
 use crate::RecipeError;
-use pt_node::{Body, Desk, Fault, Gathered, Item, Pick, Pid, gather};
+use pt_node::{Body, Desk, Fault, Gathered, Pid, gather};
 use std::alloc::Global;
 
 /// Sends a message. One to a pid that the desk does not know is lost, as one to a process that has ended.
@@ -31,18 +29,6 @@ pub fn tell(desk: &mut Desk, from: Pid, to: Pid, kind: u32, num: i64) -> Result<
     unheard(desk.send(from, to, body))
 }
 
-/// Sends a message to each of these, in order, until a call is refused.
-#[tactic(auto, using(pt_node::proofs::GoingOn::goes_on))]
-pub fn tell_each(desk: &mut Desk, from: Pid, to: &[Pid], kind: u32, num: i64) -> Result<(), Fault>
-    ensures does { AtEach (SaysAt from to.now (message kind num)) (length to.now) desk.old.shard result desk.new.shard }
-    ensures goes_on { GoesOn desk.old desk.new }
-{
-    for place in 0..to.len() {
-        tell(desk, from, to[place], kind, num)?;
-    }
-    Ok(())
-}
-
 /// The answer to a message, where one to a process that is seen to have ended is lost without a word.
 fn unheard(answer: Result<(), Fault>) -> Result<(), Fault>
     ensures { result ≡ unheard answer }
@@ -50,25 +36,6 @@ fn unheard(answer: Result<(), Fault>) -> Result<(), Fault>
     match answer {
         Err(Fault::NoProc) => Ok(()),
         heard => heard,
-    }
-}
-
-/// Takes the oldest item out of the mailbox of p; whose end it tells of, if of one.
-pub fn next_exit(desk: &mut Desk, p: Pid) -> Result<Option<Pid>, Fault>
-    ensures does { TakesEnd p desk.old.shard result desk.new.shard }
-    ensures still { IsStill desk.old desk.new }
-{
-    let item = desk.receive(p, Pick::Any)?;
-    Ok(whose_end(item))
-}
-
-/// Whose end an item tells of: only an exit signal tells of one.
-fn whose_end(item: Option<Item>) -> Option<Pid>
-    ensures { result ≡ whose_end item }
-{
-    match item {
-        Some(Item::Exit(from, _reason)) => Some(from),
-        _ => None,
     }
 }
 

@@ -1,5 +1,14 @@
+use Rattle.std.proofs.Common.{List, subst}
+use Rattle.pt_crew.specs.declared.births.Role.{Role}
+use Rattle.pt_crew.specs.Births.{bore, born}
 use Rattle.pt_crew.proofs.Bearing.{grown}
 use Rattle.pt_crew.proofs.crew.hand.Goals as goal
 
 pub returns-clause-bears : goal.returns-clause-bears
 returns-clause-bears g c = grown c.args.births.now c.begin.new.self c.handle-member.new.births c.begin.ensures.all c.handle-member.ensures.kept
+
+pub returns-clause-answers : goal.returns-clause-answers
+returns-clause-answers g c =
+    let m = c.args.member.now in
+    subst (λ (waited : List (Role g.row.B.Denot)). g.B.Behaviour.answers m.behaviour c.args.desk.now.shard c.args.p c.args.item c.handle-member.result c.handle-member.new.self c.handle-member.new.desk.shard (bore waited (born c.handle-member.new.births)))
+    c.begin.ensures.same c.handle-member.ensures.answers

@@ -1,12 +1,9 @@
-use Rattle.std.proofs.Common.{◌≡◌, ℕ, ◌+◌, ◌≤◌, List, [], ◌∷◌, drop, length, map, refl, sym, ap, subst, ◌∙◌, append-nil, arith}
-use Rattle.std.specs.Map.{keys_of}
+use Rattle.std.proofs.Common.{◌+◌, List, [], drop, refl, sym, subst, ◌∙◌, append-nil, arith}
 use Rattle.pt_signal.specs.declared.pid.Pid.{Pid}
 use Rattle.pt_crew.specs.Crews.{queue, roles}
 use Rattle.pt_crew.specs.Parts.{MarkedBut}
 use Rattle.pt_crew.proofs.Beginning.{begun_again, all_marked, marked_first}
-use Rattle.pt_crew.proofs.Reading.{on_ok}
-use Rattle.pt_crew.proofs.Room.{on_err_of}
-use Rattle.pt_crew.proofs.Visiting.{same_then, same_roles, longer_then, same_longer, rest_then}
+use Rattle.pt_crew.proofs.Visiting.{same_then, longer_then, rest_then}
 use Rattle.pt_crew.proofs.crew.Crew.begin_again.Goals as goal
 
 pub loop-place-init : goal.loop-place-init

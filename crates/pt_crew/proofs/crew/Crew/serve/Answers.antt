@@ -1,4 +1,4 @@
-use Rattle.std.proofs.Common.{◌≡◌, List, ◌∷◌, true, false, Some, None, inr, ap, sym, subst, refl, ◌∙◌, append-nil, arith}
+use Rattle.std.proofs.Common.{◌≡◌, ◌⊎◌, inl, List, ◌∷◌, true, false, Some, None, inr, ap, sym, subst, refl, ◌∙◌, append-nil, arith}
 use Rattle.pt_signal.specs.declared.pid.Pid.{Pid}
 use Rattle.pt_desk.proofs.Turning.{extends}
 use Rattle.pt_crew.specs.declared.crew.Tended.TheVariants.{Idle, Again, Refused, Gone}
@@ -6,13 +6,24 @@ use Rattle.pt_crew.specs.Crews.{members}
 use Rattle.pt_crew.specs.Waking.{Knows}
 use Rattle.pt_crew.proofs.Waking.{changed, taken_out, put_back, born_later, turned, absent_at, no_place, there, out_at, some_none, same_some}
 use Rattle.pt_crew.proofs.Places.{written_at, held_at}
-use Rattle.pt_crew.proofs.Visiting.{serves_first, passes_first, refused_first, is_there, left_role, says, says_nothing}
+use Rattle.pt_crew.proofs.Visiting.{serves_first, idles_first, passes_first, refused_first, is_there, left_role, says, says_nothing}
 use Rattle.pt_signal.specs.Values.{same_pid}
 use Rattle.indexmap.specs.Layout.{set_value_at}
 use Rattle.pt_crew.specs.Crews.{unmarked, left}
 use Rattle.pt_signal.proofs.Same.{same_pid_refl}
 use Rattle.pt_crew.proofs.Room.{bare, unmarked_set, unmarked_remove}
+use Rattle.pt_shard.specs.ShardState.{ShardState, phase_of}
+use Rattle.pt_crew.specs.declared.crew.Member.{Member}
+use Rattle.pt_crew.specs.declared.crew.Tended.{Tended}
+use Rattle.pt_crew.specs.declared.crew.Tended.TheVariants.{Done}
+use Rattle.pt_crew.specs.Parts.{Tends}
+use Rattle.pt_crew.specs.Waking.{has_work}
 use Rattle.pt_crew.proofs.crew.Crew.serve.Goals as goal
+
+-- who leaves the queue has nothing to do
+idles : {B : Type 0} (p : Pid) (t : Tended) (m : Member B) (d : ShardState) → (t ≡ Idle) ⊎ (t ≡ Done) → Tends p t m d → has_work m.next (phase_of d p) ≡ false
+idles p t m d (inl idle) h = subst (λ (x : Tended). Tends p x m d) idle h
+idles p t m d (inr done) h = subst (λ (x : Tended). Tends p x m d) done h
 
 pub returns-in_default-get_index_of-clause-knows : goal.returns-in_default-get_index_of-clause-knows
 returns-in_default-get_index_of-clause-knows g c =
@@ -51,7 +62,7 @@ returns-in-Idle-clause-knows g c =
     changed mem _ p (Some w) (p ∷ rest) rest c.args.self.now.read d c.tend.new.desk.shard extended at.0
     (taken_out mem _ p (Some w) rest at.0 (λ m is. ap (λ (x : _). x.queued) (sym (same_some w m is))))
     (λ m is. born_later d c.tend.new.desk.shard extended p (k.born p v held))
-    (λ m is work. absurd (let e = same_some w m is in let f = ap (λ (x : _). x.next) e in let idle = c.in-Idle.ensures.tends in cc))
+    (λ m is work. absurd (let e = same_some w m is in let f = ap (λ (x : _). x.next) e in let idle = idles p c.tend.result c.tend.new.member c.tend.new.desk.shard c.in-Idle.is c.tend.ensures.tends in cc))
     k
 
 pub returns-in-Again-clause-knows : goal.returns-in-Again-clause-knows
@@ -137,8 +148,8 @@ returns-in-Idle-clause-serves g c =
     let w = record c.tend.new.member { queued = false } in
     let at = written_at old.members p c.in-Some-get_index_of.place c.pair_mut-member.result.0.now v c.in-Some-get_index_of.ensures.index c.pair_mut-member.ensures.value c.pair_mut-member.ensures.unique w in
     let rest = c.pop_front.new.self.items in
-    serves_first g.B.Behaviour.answers old.queue.items rest old _ p v (Some w) Idle c.args.desk.now.shard c.tend.new.desk.shard
-    c.in-Some.ensures.items (sym (append-nil rest)) held at.0 (inr c.in-Idle.ensures.sees) c.in-Idle.ensures.bears (c.reserve.ensures.items ∙ sym (append-nil (left old))) (says_nothing old.refused)
+    idles_first g.B.Behaviour.answers old.queue.items rest old _ p v c.tend.new.member c.tend.result c.args.desk.now.shard c.tend.new.desk.shard c.in-Idle.is
+    c.in-Some.ensures.items refl held w refl at.0 c.tend.ensures.sees c.tend.ensures.bears c.reserve.ensures.items refl
 
 pub returns-in-Again-clause-serves : goal.returns-in-Again-clause-serves
 returns-in-Again-clause-serves g c =

@@ -1,5 +1,4 @@
-use Rattle.std.proofs.Common.{◌≡◌, Result, Ok, Err, OnOk, slice_get, ap, sym, ◌∙◌}
-use Rattle.pt_crew.specs.Parts.{Wakes, WakesAt}
+use Rattle.std.proofs.Common.{slice_get, ap, sym, ◌∙◌}
 use Rattle.pt_crew.proofs.Beginning.{on_ok_then, woken_at}
 use Rattle.pt_crew.proofs.crew.Crew.wake_at.Goals as goal
 

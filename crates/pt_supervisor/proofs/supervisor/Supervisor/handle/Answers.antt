@@ -1,6 +1,8 @@
 use Rattle.std.proofs.Common.{true, false, refl}
 use Rattle.pt_crew.specs.Births.{born}
 use Rattle.pt_supervisor.specs.Hearing.{standing}
+use Rattle.pt_supervisor.proofs.Bearing.{handles_bear}
+use Rattle.pt_supervisor.proofs.Tending.{handles_tend}
 use Rattle.pt_supervisor.proofs.supervisor.Supervisor.handle.Goals as goal
 
 pub returns-then-not-attend-clause-does : goal.returns-then-not-attend-clause-does
@@ -30,3 +32,18 @@ returns-clause-does g c = record {
   same = (c.attend.ensures.start, refl);
   goes = c.advance.ensures.does;
 }
+
+pub returns-then-not-attend-clause-tends : goal.returns-then-not-attend-clause-tends
+returns-then-not-attend-clause-tends g c =
+    handles_tend g.S.Start.starts c.args.me c.args.item _ _ _ (returns-then-not-attend-clause-does g c) tt
+
+pub returns-clause-tends : goal.returns-clause-tends
+returns-clause-tends g c =
+    handles_tend g.S.Start.starts c.args.me c.args.item _ _ _ (returns-clause-does g c) c.advance.ensures.supervises
+
+pub returns-then-not-attend-clause-bears : goal.returns-then-not-attend-clause-bears
+returns-then-not-attend-clause-bears g c =
+    handles_bear g.S.Start.starts c.args.me c.args.item _ _ _ (returns-then-not-attend-clause-does g c)
+
+pub returns-clause-bears : goal.returns-clause-bears
+returns-clause-bears g c = handles_bear g.S.Start.starts c.args.me c.args.item _ _ _ (returns-clause-does g c)

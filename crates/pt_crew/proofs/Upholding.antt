@@ -1,0 +1,410 @@
+-- What a behaviour upholds stays so through a step of a crew, a turn of its desk, and a birth.
+use Rattle.std.proofs.Common.{◌≡◌, ◌⊎◌, inl, inr, ℕ, Bool, true, false, cond, ◌||◌, List, [], ◌∷◌, ◌++◌, Option, Some, None, Result, Ok, Err, refl, sym, ap, subst, ◌∙◌, append_assoc}
+use Rattle.std.specs.Prelude.{MatchBool}
+use Rattle.std.proofs.Math.Seq.{drop-append_seam}
+use Rattle.std.specs.Option.{option_map}
+use Rattle.pt_signal.specs.declared.pid.Pid.{Pid}
+use Rattle.pt_signal.specs.declared.item.Item.{Item}
+use Rattle.pt_signal.specs.declared.item.Pick.{Pick}
+use Rattle.pt_signal.specs.declared.reason.Reason.{Reason}
+use Rattle.pt_signal.specs.declared.letter.Letter.{Letter}
+use Rattle.pt_signal.specs.Values.{same_pid}
+use Rattle.pt_signal.proofs.Same.{same_pid_refl, same_pid_is}
+use Rattle.pt_events.specs.declared.event.Event.{Event}
+use Rattle.pt_events.specs.declared.event.Event.TheVariants.{Born, Took, Left}
+use Rattle.pt_events.specs.declared.event.Stamped.{Stamped}
+use Rattle.pt_events.specs.History.{Phase, unborn, living, ended, is_unborn, is_living, change, newborn, linked, while_living, life, touches}
+use Rattle.pt_events.specs.Journal.{events}
+use Rattle.pt_events.proofs.Phases.{after_born}
+use Rattle.pt_shard.specs.declared.fault.Fault.{Fault}
+use Rattle.pt_shard.specs.declared.fault.Fault.TheVariants.{Full, Memory, Worn, Gone, Myself, NoProc}
+use Rattle.pt_shard.specs.ShardState.{ShardState, phase_of, lives, after, handled}
+use Rattle.pt_shard.specs.Calls.{Calls, Bears, after_if, take_event, first_match}
+use Rattle.pt_shard.specs.Extends.{Extends}
+use Rattle.pt_shard.specs.Outbox.{holding}
+use Rattle.pt_desk.specs.DeskState.{DeskState}
+use Rattle.pt_desk.specs.declared.turned.Turned.{Turned}
+use Rattle.pt_shard.specs.declared.stop.Stop.{Stop}
+use Rattle.pt_shard.specs.declared.stop.Stop.TheVariants.{Memory as NoRoom, Worn as Spent}
+use Rattle.pt_desk.specs.Turns.{Fetches, HandlesNext, HandlesAll, Stays, EndsWith, Turns}
+use Rattle.pt_crew.specs.declared.behaviour.Next.{Next}
+use Rattle.pt_crew.specs.declared.behaviour.Next.TheVariants.{Wait, Proceed, Stop as Stopping}
+use Rattle.pt_crew.specs.declared.births.Role.{Role}
+use Rattle.pt_crew.specs.declared.crew.Crew.{Crew}
+use Rattle.pt_crew.specs.declared.crew.Tended.{Tended}
+use Rattle.pt_crew.specs.declared.crew.Tended.TheVariants.{Again, Refused as Denied}
+use Rattle.pt_crew.specs.Births.{bore}
+use Rattle.pt_crew.specs.Visiting.{Answers, Roles, AreSame, AreWith, Scene, HandsTo, LeavesAs, StaysAs, ComesTo, SeesTo, EndsAs, TakesAs, VisitsOne, Visits}
+use Rattle.pt_crew.specs.Visiting.{Bears as BearsAs, handed_by, handed_as}
+use Rattle.pt_crew.specs.Crews.{Rounds, Aboard, EntersAll, StepsOn, CrewDoes, Enters, Works, roles, waiting}
+use Rattle.pt_crew.specs.Upholding.{Relation, IsLater, ActsFor, IsTaken, StandsFirst, AllFirst, IsUpheld, AllStand, Upholds}
+use Rattle.pt_crew.proofs.Waking.{by_cases, elsewhere, there, same_some}
+
+-- desks that go on --------------------------------------------------------------------------
+
+pub later_same : (d e : ShardState) → e.start ≡ d.start → e.journal ≡ d.journal → IsLater d e
+later_same d e start journal = record { start = start; more = []; journal = journal }
+
+pub later_is : (d e : ShardState) → e ≡ d → IsLater d e
+later_is d e is = later_same d e (ap (λ (x : ShardState). x.start) is) (ap (λ (x : ShardState). x.journal) is)
+
+pub later_then : (d f e : ShardState) → IsLater d f → IsLater f e → IsLater d e
+later_then d f e a b = record {
+  start = b.start ∙ a.start;
+  more = b.more ++ a.more;
+  journal = b.journal ∙ ap (λ j. b.more ++ j) a.journal ∙ sym (append_assoc b.more a.more d.journal);
+}
+
+pub extends_later : (d e : ShardState) → Extends d e → IsLater d e
+extends_later d e x = record { start = x.start; more = x.more; journal = x.journal }
+
+born_on : (start : _) (p : Pid) (more seen : List Stamped) → is_unborn (life start (events seen) p) ≡ false → is_unborn (life start (events (more ++ seen)) p) ≡ false
+born_on start p [] seen h = h
+born_on start p (s ∷ more) seen h = after_born p s.event (life start (events (more ++ seen)) p) (born_on start p more seen h)
+
+-- who was born stays so
+pub born_then : (d e : ShardState) → IsLater d e → (p : Pid) → is_unborn (phase_of d p) ≡ false → is_unborn (phase_of e p) ≡ false
+born_then d e x p h =
+    subst (λ (t : _). is_unborn (life t (events e.journal) p) ≡ false) (sym x.start)
+    (subst (λ (j : List Stamped). is_unborn (life d.start (events j) p) ≡ false) (sym x.journal) (born_on d.start p x.more d.journal h))
+
+pub phase_same : (d e : ShardState) → e.start ≡ d.start → e.journal ≡ d.journal → (p : Pid) → phase_of e p ≡ phase_of d p
+phase_same d e start journal p i = life (start i) (events (journal i)) p
+
+pub phase_is : (d e : ShardState) → e ≡ d → (p : Pid) → phase_of e p ≡ phase_of d p
+phase_is d e is p i = phase_of (is i) p
+
+pub acts_is : (p : Pid) (d e : ShardState) → e ≡ d → ActsFor p d e
+acts_is p d e is q other born = phase_is d e is q
+
+pub acts_then : (p : Pid) (d f e : ShardState) → IsLater d f → ActsFor p d f → ActsFor p f e → ActsFor p d e
+acts_then p d f e x a b q other born = b q other (born_then d f x q born) ∙ a q other born
+
+-- an event that does not touch a process leaves it as it is
+pub untouched : (e : Event) (d : ShardState) (q : Pid) → touches q e ≡ false → phase_of (after e d) q ≡ phase_of d q
+untouched e d q none i = cond (none i) (change q e (phase_of d q)) (phase_of d q)
+
+pub same_pid_sym : (p q : Pid) → same_pid p q ≡ false → same_pid q p ≡ false
+same_pid_sym p q other = by_cases (same_pid q p) (λ same. let is = same_pid_is q p same in let back : same_pid p q ≡ true = ap (λ (x : Pid). same_pid x q) (sym is) ∙ same_pid_refl q in absurd (cc)) (λ no. no)
+
+later_event : (e : Event) (n : ℕ) (d f : ShardState) → f.start ≡ d.start → (s : Stamped) → f.journal ≡ s ∷ d.journal → IsLater d f
+later_event e n d f start s journal = record { start = start; more = s ∷ []; journal = journal }
+
+pub later_after : (e : Event) (d : ShardState) → IsLater d (after e d)
+later_after e d = record { start = refl; more = _ ∷ []; journal = refl }
+
+pub later_handled : (l : Letter) (d : ShardState) → IsLater d (handled l d)
+later_handled l d = record { start = refl; more = _ ∷ []; journal = refl }
+
+pub living_born : (f : Phase) → is_living f ≡ true → is_unborn f ≡ false
+living_born unborn h = absurd (cc)
+living_born (living s) h = refl
+living_born (ended r s) h = refl
+
+-- lists of those who are born -----------------------------------------------------------------
+
+module _ {B : Type 0} (stands : Relation B) where
+  pub first_both : (xs ys : List (Role B)) → AllFirst stands xs → AllFirst stands ys → AllFirst stands (xs ++ ys)
+  first_both [] ys a b = b
+  first_both (r ∷ xs) ys a b = (a.0, first_both xs ys a.1 b)
+
+  pub first_front : (xs ys : List (Role B)) → AllFirst stands (xs ++ ys) → AllFirst stands xs
+  first_front [] ys a = tt
+  first_front (r ∷ xs) ys a = (a.0, first_front xs ys a.1)
+
+  pub first_back : (xs ys : List (Role B)) → AllFirst stands (xs ++ ys) → AllFirst stands ys
+  first_back [] ys a = a
+  first_back (r ∷ xs) ys a = first_back xs ys a.1
+
+no_role : {X Y : Type 0} (o : Option X) (x : X) → o ≡ None → o ≡ Some x → Y
+no_role o x a b = absurd (let c : None ≡ Some x = sym a ∙ b in cc)
+
+module _ {B : Type 0} (answers : Answers B) (stands : Relation B) (k : IsUpheld answers stands) where
+  -- p was come to
+  record Comes (p : Pid) (d e : ShardState) (now : Option (B × Next)) (waited waits : List (Role B)) : Type 0 where
+    pub later : IsLater d e
+    pub acts : ActsFor p d e
+    pub own : (role : B × Next) → now ≡ Some role → (is_unborn (phase_of e p) ≡ false) × stands role.0 role.1 p e
+    pub bears : AllFirst stands waited → AllFirst stands waits
+
+  module _ (p : Pid) (role : B × Next) (waited waits : List (Role B)) where
+    -- the desk is as it was, and p too
+    stayed : (d e : ShardState) (now : Option (B × Next)) → is_unborn (phase_of d p) ≡ false → stands role.0 role.1 p d
+        → waits ≡ waited → now ≡ Some role → e ≡ d → Comes p d e now waited waits
+    stayed d e now born here same now_is is = record {
+      later = later_is d e is;
+      acts = acts_is p d e is;
+      own = λ r r_is. subst (λ (x : B × Next). (is_unborn (phase_of e p) ≡ false) × stands x.0 x.1 p e) (same_some role r (sym now_is ∙ r_is))
+          (ap is_unborn (phase_is d e is p) ∙ born, subst (λ (x : ShardState). stands role.0 role.1 p x) (sym is) here);
+      bears = λ a. subst (AllFirst stands) (sym same) a;
+    }
+
+    -- it is gone
+    gone : (d e : ShardState) (now : Option (B × Next)) → IsLater d e → ActsFor p d e → waits ≡ waited → now ≡ None → Comes p d e now waited waits
+    gone d e now later acts same none = record {
+      later = later;
+      acts = acts;
+      own = λ r is. no_role now r none is;
+      bears = λ a. subst (AllFirst stands) (sym same) a;
+    }
+
+    -- whether it goes behind the queue then or leaves it
+    bears_by : (items : List Item) → BearsAs (handed_by items) waited waits → BearsAs Again waited waits
+    bears_by [] b = b
+    bears_by (i ∷ items) b = b
+
+    bears_handed : (next : Next) (f : Phase) → BearsAs (handed_as next f) waited waits → BearsAs Again waited waits
+    bears_handed (Wait k) unborn b = b
+    bears_handed (Wait k) (living s) b = bears_by s.waiting b
+    bears_handed (Wait k) (ended r s) b = b
+    bears_handed Proceed f b = b
+    bears_handed (Stopping r) f b = b
+
+    -- it was handed an item, or none
+    handed : (item : Option Item) (was d e : ShardState) (t : Tended) (now : Option (B × Next)) → is_unborn (phase_of was p) ≡ false → stands role.0 role.1 p was
+        → IsLater was d → ActsFor p was d → IsTaken p role.1 item was d → BearsAs t waited waits → HandsTo answers p role.0 item d t now e (bore waited waits) → Comes p was e now waited waits
+    handed item was d e t now born here later acts taken bears h = record {
+      later = later_then was d e later onward;
+      acts = acts_then p was d e later acts (k.acts role.0 d p item h.next h.behaviour e (bore waited waits) h.answer);
+      own = λ r is. subst (λ (x : B × Next). (is_unborn (phase_of e p) ≡ false) × stands x.0 x.1 p e) (same_some (h.behaviour, h.next) r (sym h.now_is ∙ is)) (
+        born_then was e (later_then was d e later onward) p born,
+        k.hands role.0 role.1 p item was d h.next h.behaviour e (bore waited waits) here born taken h.answer onward,
+      );
+      bears = λ a.
+          let grew : BearsAs Again waited waits = bears_handed h.next (phase_of e p) (subst (λ (x : Tended). BearsAs x waited waits) h.tended bears) in
+          let are : bore waited waits ≡ grew.0 = ap (λ (ws : List (Role B)). bore waited ws) grew.1 ∙ drop-append_seam waited grew.0 in
+          subst (AllFirst stands) (sym grew.1) (first_both stands waited grew.0 a
+          (subst (AllFirst stands) are (k.bears role.0 d p item h.next h.behaviour e (bore waited waits) h.answer)));
+    }
+      where
+        onward : IsLater d e
+        onward = extends_later d e h.extends
+
+    asked : (d e : ShardState) (r : Reason) (t : Tended) (now : Option (B × Next)) (result : Result (Unit {0}) Fault) → is_unborn (phase_of d p) ≡ false → stands role.0 role.1 p d
+        → BearsAs t waited waits → Calls p (Some (Left p r)) (tt {0}) d result e → EndsAs role result t now → Comes p d e now waited waits
+    asked d e r t now (Ok x) born here bears calls ends = gone d e now
+        (subst (λ (f : ShardState). IsLater d f) (sym calls.3) (later_after (Left p r) d))
+        (λ q other b. phase_is (after (Left p r) d) e calls.3 q ∙ untouched (Left p r) d q (same_pid_sym p q other))
+        (subst (λ (x : Tended). BearsAs x waited waits) ends.0 bears) ends.1
+    asked d e r t now (Err Gone) born here bears calls ends = gone d e now (later_is d e calls.1) (acts_is p d e calls.1)
+        (subst (λ (x : Tended). BearsAs x waited waits) ends.0 bears) ends.1
+    asked d e r t now (Err Memory) born here bears calls ends = stayed d e now born here (subst (λ (x : Tended). BearsAs x waited waits) ends.0 bears) ends.1 calls.3
+    asked d e r t now (Err Worn) born here bears calls ends = stayed d e now born here (subst (λ (x : Tended). BearsAs x waited waits) ends.0 bears) ends.1 calls.3
+    asked d e r t now (Err Full) born here bears calls ends = absurd calls
+    asked d e r t now (Err Myself) born here bears calls ends = absurd calls
+    asked d e r t now (Err NoProc) born here bears calls ends = absurd calls
+
+    -- an item was asked for
+    took : (pick : Pick) (d mid e : ShardState) (t : Tended) (now : Option (B × Next)) (result : Result (Option Item) Fault) → role.1 ≡ Wait pick → is_unborn (phase_of d p) ≡ false → stands role.0 role.1 p d
+        → BearsAs t waited waits → Calls p (take_event d p pick) (first_match d p pick) d result mid → TakesAs answers p role mid result t now e (bore waited waits) → Comes p d e now waited waits
+    took pick d mid e t now (Ok None) waits_for born here bears calls h = stayed d e now born here (subst (λ (x : Tended). BearsAs x waited waits) h.0 bears) h.1 (h.2 ∙ calls.3 ∙ ap (λ (o : Option Item). after_if (option_map (Took p pick) o) d) (sym calls.2))
+    took pick d mid e t now (Ok (Some i)) waits_for born here bears calls h =
+        let fits_it : first_match d p pick ≡ Some i = sym calls.2 in
+        let mid_is : mid ≡ after (Took p pick i) d = calls.3 ∙ ap (λ (o : Option Item). after_if (option_map (Took p pick) o) d) fits_it in
+        handed (Some i) d mid e t now born here
+        (subst (λ (f : ShardState). IsLater d f) (sym mid_is) (later_after (Took p pick i) d))
+        (λ q other b. phase_is (after (Took p pick i) d) mid mid_is q ∙ untouched (Took p pick i) d q (same_pid_sym p q other))
+        (pick, waits_for, calls.0, fits_it, mid_is) bears h
+    took pick d mid e t now (Err Gone) waits_for born here bears calls h = gone d e now (later_is d e (h.2 ∙ calls.1)) (acts_is p d e (h.2 ∙ calls.1))
+        (subst (λ (x : Tended). BearsAs x waited waits) h.0 bears) h.1
+    took pick d mid e t now (Err Memory) waits_for born here bears calls h = stayed d e now born here (subst (λ (x : Tended). BearsAs x waited waits) h.0 bears) h.1 (h.2 ∙ calls.3)
+    took pick d mid e t now (Err Worn) waits_for born here bears calls h = stayed d e now born here (subst (λ (x : Tended). BearsAs x waited waits) h.0 bears) h.1 (h.2 ∙ calls.3)
+    took pick d mid e t now (Err Full) waits_for born here bears calls h = absurd calls
+    took pick d mid e t now (Err Myself) waits_for born here bears calls h = absurd calls
+    took pick d mid e t now (Err NoProc) waits_for born here bears calls h = absurd calls
+
+    proceeds : (d e : ShardState) (t : Tended) (now : Option (B × Next)) (alive : Bool) → lives d p ≡ alive → role.1 ≡ Proceed → is_unborn (phase_of d p) ≡ false → stands role.0 role.1 p d
+        → BearsAs t waited waits → MatchBool alive (HandsTo answers p role.0 None d t now e (bore waited waits)) (LeavesAs d t now e) → Comes p d e now waited waits
+    proceeds d e t now true alive goes_on born here bears h =
+        handed None d d e t now born here (later_is d d refl) (acts_is p d d refl) (goes_on, alive, refl) bears h
+    proceeds d e t now false alive goes_on born here bears h = gone d e now (later_is d e h.2) (acts_is p d e h.2) (subst (λ (x : Tended). BearsAs x waited waits) h.0 bears) h.1
+
+  seen : (p : Pid) (b : B) (n : Next) (waited waits : List (Role B)) (d e : ShardState) (t : Tended) (now : Option (B × Next)) → is_unborn (phase_of d p) ≡ false → stands b n p d
+      → BearsAs t waited waits → SeesTo answers p b n d t now e (bore waited waits) → Comes p d e now waited waits
+  seen p b (Stopping r) waited waits d e t now born here bears h = asked p (b, Stopping r) waited waits d e r t now h.0 born here bears h.1 h.2
+  seen p b Proceed waited waits d e t now born here bears h = proceeds p (b, Proceed) waited waits d e t now (lives d p) refl refl born here bears h
+  seen p b (Wait pick) waited waits d e t now born here bears h = took p (b, Wait pick) waited waits pick d h.1 e t now h.0 refl born here bears h.2 h.3
+
+  found : (p : Pid) (role : B × Next) (waited waits : List (Role B)) (d e : ShardState) (t : Tended) (now : Option (B × Next)) → is_unborn (phase_of d p) ≡ false → stands role.0 role.1 p d
+      → BearsAs t waited waits → StaysAs Denied role d t now e ⊎ SeesTo answers p role.0 role.1 d t now e (bore waited waits) → Comes p d e now waited waits
+  found p role waited waits d e t now born here bears (inl h) =
+      stayed p role waited waits d e now born here (subst (λ (x : Tended). BearsAs x waited waits) h.0 bears) h.1 h.2
+  found p role waited waits d e t now born here bears (inr h) = seen p role.0 role.1 waited waits d e t now born here bears h
+
+  came_to : (p : Pid) (o : Option (B × Next)) (waited waits : List (Role B)) (d e : ShardState) (t : Tended) (now : Option (B × Next))
+      → ((role : B × Next) → o ≡ Some role → (is_unborn (phase_of d p) ≡ false) × stands role.0 role.1 p d)
+      → BearsAs t waited waits → ComesTo answers p o d t now e (bore waited waits) → Comes p d e now waited waits
+  came_to p None waited waits d e t now here bears h = record {
+    later = later_is d e h.2;
+    acts = acts_is p d e h.2;
+    own = λ r is. no_role now r h.1 is;
+    bears = λ a. subst (AllFirst stands) (sym (subst (λ (x : Tended). BearsAs x waited waits) h.0 bears)) a;
+  }
+  came_to p (Some role) waited waits d e t now here bears h = let at = here role refl in found p role waited waits d e t now at.0 at.1 bears h
+
+  -- all that stands in a step
+  record Fine (s : Scene B) : Type 0 where
+    pub members : AllStand stands s.roles s.desk
+    pub waiting : AllFirst stands s.born
+
+  one_upholds : (p : Pid) (old new : Scene B) → VisitsOne answers p old new → Fine old → Fine new
+  one_upholds p old new h a = record {
+    members = λ q role is. by_cases (same_pid p q)
+        (λ same. subst (λ (x : Pid). (is_unborn (phase_of new.desk x) ≡ false) × stands role.0 role.1 x new.desk) (same_pid_is p q same)
+        (c.own role (ap new.roles (same_pid_is p q same) ∙ is)))
+        (λ other.
+        let was = a.members q role (sym (elsewhere old.roles new.roles p (new.roles p) h.others q other) ∙ is) in
+        (born_then old.desk new.desk c.later q was.0, k.others role.0 role.1 q old.desk new.desk was.1 was.0 c.later (c.acts q other was.0)));
+    waiting = c.bears a.waiting;
+  }
+    where
+      c : Comes p old.desk new.desk (new.roles p) old.born new.born
+      c = came_to p (old.roles p) old.born new.born old.desk new.desk h.tended (new.roles p) (λ role is. a.members p role is) h.born h.comes
+
+  visits_uphold : (ps : List Pid) (old new : Scene B) → Visits answers ps old new → Fine old → Fine new
+  visits_uphold [] old new h a = subst Fine (sym h) a
+  visits_uphold (p ∷ ps) old new h a = visits_uphold ps h.0 new h.2 (one_upholds p old h.0 h.1 a)
+
+  rounds_uphold : (queues : List (List Pid)) (old new : Scene B) → Rounds answers queues old new → Fine old → Fine new
+  rounds_uphold [] old new h a = subst Fine (sym h) a
+  rounds_uphold (queue ∷ queues) old new h a =
+      let b = rounds_uphold queues old h.0 h.1 a in
+      visits_uphold queue (record h.0 { again = [] }) new h.3 (record { members = b.members; waiting = b.waiting })
+
+  -- whoever enters was born, and stands so from the beginning
+  enters_with : (p : Pid) (b : B) (first : Next) (old new : Roles B) (d e : ShardState) → IsLater d e → ActsFor p d e → is_unborn (phase_of e p) ≡ false → AreWith p (Some (b, first)) old new
+      → StandsFirst stands b first p → AllStand stands old d → AllStand stands new e
+  enters_with p b first old new d e later acts born with_p begins a q role is = by_cases (same_pid p q)
+      (λ same.
+      let here : (b, first) ≡ role = same_some (b, first) role (sym (there old new p (Some (b, first)) with_p q same) ∙ is) in
+      subst (λ (x : Pid). (is_unborn (phase_of e x) ≡ false) × stands role.0 role.1 x e) (same_pid_is p q same)
+      (born, subst (λ (r : B × Next). stands r.0 r.1 p e) here (begins e)))
+      (λ other.
+      let was = a q role (sym (elsewhere old new p (Some (b, first)) with_p q other) ∙ is) in
+      (born_then d e later q was.0, k.others role.0 role.1 q d e was.1 was.0 later (acts q other was.0)))
+
+  one_enters : (r : Role B) (d : ShardState) (alive : Bool) (old new : Aboard B) → lives d r.pid ≡ alive
+      → MatchBool alive (AreWith r.pid (Some (r.behaviour, r.next)) old.0 new.0 × (new.1 ≡ old.1)) (AreSame old.0 new.0 × (new.1 ≡ old.1 ++ r ∷ []))
+      → StandsFirst stands r.behaviour r.next r.pid → AllStand stands old.0 d → AllStand stands new.0 d
+  one_enters r d true old new alive h begins a =
+      enters_with r.pid r.behaviour r.next old.0 new.0 d d (later_is d d refl) (acts_is r.pid d d refl) (living_born (phase_of d r.pid) alive) h.0 begins a
+  one_enters r d false old new alive h begins a = λ q role is. a q role (sym (h.0 q) ∙ is)
+
+  all_enter : (d : ShardState) (entered : List (Role B)) (old new : Aboard B) → EntersAll (lives d) entered old new → AllFirst stands entered → AllStand stands old.0 d → AllStand stands new.0 d
+  all_enter d [] old new h begins a = subst (λ (x : Aboard B). AllStand stands x.0 d) (sym h) a
+  all_enter d (r ∷ rs) old new h begins a = all_enter d rs h.0 new h.2 begins.1 (one_enters r d (lives d r.pid) old h.0 refl h.1 begins.0 a)
+
+  -- a step of a crew
+  pub step_upholds : (old new : Crew B) (d e : ShardState) → CrewDoes answers old d new e → Upholds stands old d → Upholds stands new e
+  step_upholds old new d e h a = record {
+    members = all_enter e s.entered (s.last.roles, s.last.left) (roles new, _) s.enters (first_front stands s.entered (waiting new) born)
+        (subst (AllStand stands s.last.roles) (sym s.desk) fine.members);
+    waiting = first_back stands s.entered (waiting new) born;
+  }
+    where
+      s : StepsOn answers old d new e
+      s = h.steps
+
+      fine : Fine s.last
+      fine = rounds_uphold s.queues _ s.last s.rounds (record { members = a.members; waiting = a.waiting })
+
+      born : AllFirst stands (s.entered ++ waiting new)
+      born = subst (AllFirst stands) s.born fine.waiting
+
+  -- a turn of its desk ------------------------------------------------------------------------
+
+  pub stand_same : (r : Roles B) (d e : ShardState) → e.start ≡ d.start → e.journal ≡ d.journal → AllStand stands r d → AllStand stands r e
+  stand_same r d e start journal a q role is =
+      let was = a q role is in
+      (ap is_unborn (phase_same d e start journal q) ∙ was.0, k.others role.0 role.1 q d e was.1 was.0 (later_same d e start journal) (phase_same d e start journal q))
+
+  pub receipt_upholds : (r : Roles B) (d : ShardState) (l : Letter) → AllStand stands r d → AllStand stands r (handled l d)
+  receipt_upholds r d l a q role is =
+      let was = a q role is in
+      (born_then d (handled l d) (later_handled l d) q was.0, k.receives role.0 role.1 q d l was.1 was.0)
+
+  shard_is : (r : Roles B) (d e : ShardState) → e ≡ d → AllStand stands r d → AllStand stands r e
+  shard_is r d e is a = subst (AllStand stands r) (sym is) a
+
+  fetched : (r : Roles B) (l : Letter) (old new : DeskState) → Fetches l old new → AllStand stands r old.shard → AllStand stands r new.shard
+  fetched r l old new (inl h) a = shard_is r old.shard new.shard (ap (λ (x : DeskState). x.shard) h.1) a
+  fetched r l old new (inr h) a = shard_is r (holding (Some l) old.shard) new.shard h.shard (stand_same r old.shard (holding (Some l) old.shard) refl refl a)
+
+  next_upholds : (r : Roles B) (l : Letter) (old new : DeskState) → HandlesNext l old new → AllStand stands r old.shard → AllStand stands r new.shard
+  next_upholds r l old new h a =
+      let f = h.fetched.shard in
+      shard_is r (handled l (holding None f)) new.shard (ap (λ (x : DeskState). x.shard) h.after)
+      (receipt_upholds r (holding None f) l (stand_same r f (holding None f) refl refl (fetched r l old h.fetched h.fetches a)))
+
+  all_handled : (r : Roles B) (letters : List Letter) (old new : DeskState) → HandlesAll letters old new → AllStand stands r old.shard → AllStand stands r new.shard
+  all_handled r [] old new h a = shard_is r old.shard new.shard (ap (λ (x : DeskState). x.shard) h) a
+  all_handled r (l ∷ letters) old new h a = next_upholds r l h.0 new h.2 (all_handled r letters old h.0 h.1 a)
+
+  stopped : (r : Roles B) (stop : Stop) (old new : DeskState) → Stays stop old new → AllStand stands r old.shard → AllStand stands r new.shard
+  stopped r Spent old new h a = fetched r h.0 old new h.1 a
+  stopped r NoRoom old new h a = fetched r h.0 old new h.1 a
+
+  ends_with : (r : Roles B) (stop : Option Stop) (count budget : ℕ) (last new : DeskState) → EndsWith stop count budget last new → AllStand stands r last.shard → AllStand stands r new.shard
+  ends_with r None count budget last new (inl h) a = shard_is r last.shard new.shard (ap (λ (x : DeskState). x.shard) h.1) a
+  ends_with r None count budget last new (inr h) a = shard_is r last.shard new.shard h.1.shard a
+  ends_with r (Some stop) count budget last new h a = stopped r stop last new h.1 a
+
+  pub turn_upholds : (r : Roles B) (budget : ℕ) (old : DeskState) (turned : Turned) (new : DeskState) → Turns budget old turned new → AllStand stands r old.shard → AllStand stands r new.shard
+  turn_upholds r budget old turned new h a =
+      let posted = h.posted_desk.shard in
+      let same = h.posts.only.shard in
+      ends_with r turned.stopped turned.handled budget h.last new h.ends
+      (all_handled r h.letters h.posted_desk h.last h.handles
+      (stand_same r old.shard posted (ap (λ (x : ShardState). x.start) same) (ap (λ (x : ShardState). x.journal) same) a))
+
+  pub work_upholds : (old new : Crew B) (budget : ℕ) (d e : DeskState) (turned : Turned) → Works answers budget old d turned new e → Upholds stands old d.shard → Upholds stands new e.shard
+  work_upholds old new budget d e turned h a =
+      let b = step_upholds old new d.shard h.0.shard h.1 a in
+      record { members = turn_upholds (roles new) budget h.0 turned e h.2 b.members; waiting = b.waiting }
+
+  -- a birth --------------------------------------------------------------------------------------
+
+  newborn_born : (f : Phase) → is_unborn (newborn None None f) ≡ false
+  newborn_born unborn = refl
+  newborn_born (living s) = refl
+  newborn_born (ended r s) = refl
+
+  pub enter_upholds : (b : B) (first : Next) (old new : Crew B) (d e : ShardState) (result : Result Pid Fault) → Enters b first old d result new e → ((p : Pid) → StandsFirst stands b first p)
+      → Upholds stands old d → Upholds stands new e
+  enter_upholds b first old new d e (Ok p) h begins a = record {
+    members = enters_with p b first (roles old) (roles new) d e
+        (later_then d g e (later_after (Born p None None) d) (later_same g e (ap (λ (x : ShardState). x.start) h.0.2) (ap (λ (x : ShardState). x.journal) h.0.2)))
+        (λ q other was. phase_same g e (ap (λ (x : ShardState). x.start) h.0.2) (ap (λ (x : ShardState). x.journal) h.0.2) q ∙ away q other)
+        (ap is_unborn (phase_same g e (ap (λ (x : ShardState). x.start) h.0.2) (ap (λ (x : ShardState). x.journal) h.0.2) p) ∙ here) h.1 (begins p) a.members;
+    waiting = subst (AllFirst stands) (sym h.3.waiting) a.waiting;
+  }
+    where
+      g : ShardState
+      g = after (Born p None None) d
+
+      away : (q : Pid) → same_pid p q ≡ false → phase_of g q ≡ phase_of d q
+      away q other i = cond ((same_pid_sym p q other i) || false) (cond (same_pid_sym p q other i) (newborn None None (phase_of d q)) (while_living (linked (Some p) None) (phase_of d q))) (phase_of d q)
+
+      here : is_unborn (phase_of g p) ≡ false
+      here = ap (λ (same : Bool). is_unborn (cond (same || false) (cond same (newborn None None (phase_of d p)) (while_living (linked (Some p) None) (phase_of d p))) (phase_of d p))) (same_pid_refl p) ∙ newborn_born (phase_of d p)
+  enter_upholds b first old new d e (Err f) h begins a = record {
+    members = λ q role is.
+        let was = a.members q role (sym (same_role q) ∙ is) in
+        (born_then d e onward q was.0, k.others role.0 role.1 q d e was.1 was.0 onward (phase_is d e (unchanged f h.0) q));
+    waiting = subst (AllFirst stands) (sym h.1.rest.waiting) a.waiting;
+  }
+    where
+      unchanged : (x : Fault) → Bears None None d (Err x) e ⊎ ((x ≡ Memory) × (e ≡ d)) → e ≡ d
+      unchanged x (inr y) = y.1
+      unchanged Worn (inl y) = y.1
+      unchanged Full (inl y) = y.2
+      unchanged Memory (inl y) = y.2
+      unchanged Gone (inl y) = absurd y
+      unchanged Myself (inl y) = absurd y
+      unchanged NoProc (inl y) = absurd y
+
+      onward : IsLater d e
+      onward = later_is d e (unchanged f h.0)
+
+      same_role : (q : Pid) → roles new q ≡ roles old q
+      same_role q = ap (option_map _) (h.1.members q)

@@ -1,0 +1,78 @@
+-- What a behaviour upholds on its desk, whatever its crew does.
+use Rattle.std.specs.Prelude.{◌≡◌, ⊤, true, false, List, [], ◌∷◌, ◌++◌, Option, Some, None}
+use Rattle.pt_signal.specs.declared.pid.Pid.{Pid}
+use Rattle.pt_signal.specs.declared.item.Item.{Item}
+use Rattle.pt_signal.specs.declared.item.Pick.{Pick}
+use Rattle.pt_signal.specs.declared.letter.Letter.{Letter}
+use Rattle.pt_signal.specs.Values.{same_pid}
+use Rattle.pt_events.specs.declared.event.Event.TheVariants.{Took}
+use Rattle.pt_events.specs.declared.event.Stamped.{Stamped}
+use Rattle.pt_events.specs.History.{is_unborn}
+use Rattle.pt_shard.specs.ShardState.{ShardState, phase_of, lives, after, handled}
+use Rattle.pt_shard.specs.Calls.{first_match}
+use Rattle.pt_crew.specs.declared.behaviour.Next.{Next}
+use Rattle.pt_crew.specs.declared.behaviour.Next.TheVariants.{Wait, Proceed}
+use Rattle.pt_crew.specs.declared.births.Role.{Role}
+use Rattle.pt_crew.specs.declared.crew.Crew.{Crew}
+use Rattle.pt_crew.specs.Visiting.{Answers, Roles}
+use Rattle.pt_crew.specs.Crews.{roles, waiting}
+
+-- how a behaviour, what it does next and its desk stand to each other
+abbrev pub Relation : Type 0 → Type 1
+Relation B = B → Next → Pid → ShardState → Type 0
+
+-- the journal begins with the one before
+pub record IsLater (old new : ShardState) : Type 0 where
+  pub start : new.start ≡ old.start
+  pub more : List Stamped
+  pub journal : new.journal ≡ more ++ old.journal
+
+-- p acts for itself alone: whoever else was born is as it was
+abbrev pub ActsFor : Pid → ShardState → ShardState → Type 0
+ActsFor p d e =
+    (q : Pid) → same_pid p q ≡ false → is_unborn (phase_of d q) ≡ false → phase_of e q ≡ phase_of d q
+
+-- p, which lives, was to proceed, or waited and the first item that its pick fits was taken
+abbrev pub IsTaken : Pid → Next → Option Item → ShardState → ShardState → Type 0
+IsTaken p before None d mid = (before ≡ Proceed) × (lives d p ≡ true) × (mid ≡ d)
+IsTaken p before (Some item) d mid =
+    (pick : Pick) × (before ≡ Wait pick) × (lives d p ≡ true) × (first_match d p pick ≡ Some item)
+    × (mid ≡ after (Took p pick item) d)
+
+-- one that is born, or enters, stands so on every desk
+abbrev pub StandsFirst : {B : Type 0} → Relation B → B → Next → Pid → Type 0
+StandsFirst stands b first p = (d : ShardState) → stands b first p d
+
+abbrev pub AllFirst : {B : Type 0} → Relation B → List (Role B) → Type 0
+AllFirst stands [] = ⊤
+AllFirst stands (r ∷ rs) = StandsFirst stands r.behaviour r.next r.pid × AllFirst stands rs
+
+-- The relation is one that behaviours which answer so uphold.
+pub record IsUpheld {B : Type 0} (answers : Answers B) (stands : Relation B) : Type 0 where
+  -- whoever is handed an item, or none, acts for itself alone
+  pub acts : (b : B) (d : ShardState) (p : Pid) (item : Option Item) (next : Next) (now : B) (e : ShardState)
+      (births : List (Role B)) → answers b d p item next now e births → ActsFor p d e
+  -- it stands so then, if it did before the item was taken
+  pub hands : (b : B) (before : Next) (p : Pid) (item : Option Item) (was d : ShardState) (next : Next) (now : B)
+      (e : ShardState) (births : List (Role B)) → stands b before p was → is_unborn (phase_of was p) ≡ false
+      → IsTaken p before item was d → answers b d p item next now e births → IsLater d e → stands now next p e
+  -- so do those whom it bears
+  pub bears : (b : B) (d : ShardState) (p : Pid) (item : Option Item) (next : Next) (now : B) (e : ShardState)
+      (births : List (Role B)) → answers b d p item next now e births → AllFirst stands births
+  -- what others do keeps it
+  pub others : (b : B) (next : Next) (p : Pid) (d e : ShardState) → stands b next p d
+      → is_unborn (phase_of d p) ≡ false → IsLater d e → phase_of e p ≡ phase_of d p → stands b next p e
+  -- and so does what comes to it
+  pub receives : (b : B) (next : Next) (p : Pid) (d : ShardState) (l : Letter) → stands b next p d
+      → is_unborn (phase_of d p) ≡ false → stands b next p (handled l d)
+
+-- each of them was born, and stands so
+abbrev pub AllStand : {B : Type 0} → Relation B → Roles B → ShardState → Type 0
+AllStand {B} stands roles d =
+    (p : Pid) (role : B × Next) → roles p ≡ Some role
+    → (is_unborn (phase_of d p) ≡ false) × stands role.0 role.1 p d
+
+-- so all of a crew, and those that were born and wait to enter
+pub record Upholds {B : Type 0} (stands : Relation B) (c : Crew B) (d : ShardState) : Type 0 where
+  pub members : AllStand stands (roles c) d
+  pub waiting : AllFirst stands (waiting c)

@@ -1,0 +1,323 @@
+-- What a supervisor does keeps its children held.
+use Rattle.std.proofs.Common.{◌≡◌, inl, inr, ℕ, ◌<◌, ◌≤◌, Bool, true, false, cond, ◌||◌, ◌&&◌, not, List, length, slice_get, slice_set, get_or, Option, Some, None, Result, Ok, Err, is_some, refl, sym, ap, subst, ◌∙◌, arith}
+use Rattle.std.specs.Prelude.{nat_lt, nat_le, position}
+use Rattle.std.proofs.lemmas.Bool.{cases_eq}
+use Rattle.std.proofs.lemmas.Option.{slice_get_within, slice_get-get_or, get_or_from_slice_get}
+use Rattle.std.proofs.lemmas.List.Folds.{list_any-append}
+use Rattle.std.proofs.lemmas.List.Quantifiers.{position-Some}
+use Rattle.std.proofs.lemmas.List.Sums.{fails_before_first}
+use Rattle.std.specs.List.{position_or_len}
+use Rattle.pt_signal.specs.declared.pid.Pid.{Pid}
+use Rattle.pt_signal.specs.declared.ids.LinkId.{LinkId}
+use Rattle.pt_signal.specs.declared.item.Item.{Item}
+use Rattle.pt_signal.specs.declared.reason.Reason.{Reason}
+use Rattle.pt_signal.specs.declared.signal.Signal.{Signal}
+use Rattle.pt_signal.specs.Values.{same_pid}
+use Rattle.pt_signal.specs.Process.{ProcessState, enter}
+use Rattle.pt_signal.proofs.Same.{same_pid_refl, same_pid_is}
+use Rattle.pt_events.specs.declared.event.Event.{Event}
+use Rattle.pt_events.specs.declared.event.Event.TheVariants.{Born, Said}
+use Rattle.pt_events.specs.declared.event.Stamped.{Stamped}
+use Rattle.pt_events.specs.History.{Phase, unborn, living, ended, is_unborn, is_living, state_of, change, newborn, linked, while_living, touches}
+use Rattle.pt_laws.proofs.linking.Entries.{held-enter}
+use Rattle.pt_shard.specs.declared.fault.Fault.{Fault}
+use Rattle.pt_shard.specs.declared.fault.Fault.TheVariants.{Full, Memory, Worn, Gone, Myself, NoProc}
+use Rattle.pt_shard.specs.ShardState.{ShardState, phase_of, state_in, after}
+use Rattle.pt_shard.specs.Calls.{Calls}
+use Rattle.pt_crew.specs.Upholding.{IsLater, ActsFor}
+use Rattle.pt_crew.proofs.Waking.{by_cases}
+use Rattle.pt_crew.proofs.Upholding.{later_is, later_same, later_then, later_after, born_then, phase_same, phase_is, acts_is, acts_then, untouched, same_pid_sym, living_born}
+use Rattle.pt_supervisor.specs.declared.children.Child.{Child}
+use Rattle.pt_supervisor.specs.Children.{NoneLives, is_of}
+use Rattle.pt_supervisor.specs.Hearing.{Standing, gone, heard, heard_at, lives_again, lost, restarted, started_again, stopped}
+use Rattle.pt_supervisor.specs.Limits.{allows}
+use Rattle.pt_supervisor.specs.Keeping.{pid_in, child_at, is_exit_of, is_cut, has_cut, IsTied, IsHeld, Family}
+use Rattle.pt_supervisor.proofs.Wanting.{set_same, set_other, again_same}
+use Rattle.pt_supervisor.proofs.Tying.{or_right, entered_tied}
+
+-- children in their places ---------------------------------------------------------------------
+
+child_in : (o : Option Child) (q : Pid) → pid_in o ≡ Some q → (c : Child) × (o ≡ Some c) × (c.pid ≡ Some q)
+child_in None q is = absurd (cc)
+child_in (Some c) q is = (c, refl, is)
+
+pub child_is : (children : List Child) (place : ℕ) (q : Pid) → child_at children place ≡ Some q → (c : Child) × (slice_get children place ≡ Some c) × (c.pid ≡ Some q)
+child_is children place q is = child_in (slice_get children place) q is
+
+pub none_at : (children : List Child) (place : ℕ) (q : Pid) → NoneLives children → child_at children place ≡ Some q → ⊥
+none_at children place q none is =
+    let c = child_is children place q is in
+    let bad : None ≡ Some q = sym (none place c.0 c.1) ∙ c.2 in absurd (cc)
+
+set_at : (children : List Child) (place : ℕ) (c v : Child) → slice_get children place ≡ Some c → child_at (slice_set children place v) place ≡ v.pid
+set_at children place c v at = ap pid_in (set_same children place v (slice_get_within children place c at))
+
+set_beside : (children : List Child) (place j : ℕ) (v : Child) (q : Pid) → (j ≡ place → ⊥) → child_at (slice_set children place v) j ≡ Some q → child_at children j ≡ Some q
+set_beside children place j v q apart is =
+    let x = child_is (slice_set children place v) j q is in
+    ap pid_in (set_other children place j v x.0 apart x.1) ∙ x.2
+
+-- what is left of the children after an item -----------------------------------------------------
+
+pub record Less (item : Item) (old new : Standing) : Type 0 where
+  pub sub : (j : ℕ) (q : Pid) → child_at new.children j ≡ Some q → child_at old.children j ≡ Some q
+  pub stop : new.stopping ≡ None → old.stopping ≡ None
+  pub out : new.stopping ≡ None → (j : ℕ) (q : Pid) → child_at new.children j ≡ Some q → is_exit_of q item ≡ false
+
+some_reason : {X : Type 0} (o : Option Reason) (r : Reason) → o ≡ Some r → o ≡ None → X
+some_reason o r is none = absurd (let bad : Some r ≡ None = sym is ∙ none in cc)
+
+restarted_stop : (allowed : Bool) (now place : ℕ) (s : Standing) → (restarted allowed now place s).stopping ≡ None → s.stopping ≡ None
+restarted_stop true now place s h = h
+restarted_stop false now place s h = absurd (cc)
+
+again_stop : (again : Bool) (now place : ℕ) (s : Standing) → (started_again again now place s).stopping ≡ None → s.stopping ≡ None
+again_stop true now place s h = restarted_stop (allows now s.span s.most s.times) now place s h
+again_stop false now place s h = h
+
+-- who stands in a place, by the test of its pid
+of_is : (pid : Option Pid) (p : Pid) → is_of pid p ≡ true → pid ≡ Some p
+of_is None p h = absurd (cc)
+of_is (Some q) p h = ap Some (same_pid_is q p h)
+
+of_not : (c : Child) (q from : Pid) → c.pid ≡ Some q → is_of c.pid from ≡ false → same_pid q from ≡ false
+of_not c q from is no_of = sym (ap (λ (o : Option Pid). is_of o from) is) ∙ no_of
+
+module _ (now : ℕ) (from : Pid) (reason : Reason) (s : Standing) (apart : (i j : ℕ) (q : Pid) → child_at s.children i ≡ Some q → child_at s.children j ≡ Some q → i ≡ j) where
+  test : Child → Bool
+  test c = is_of c.pid from
+
+  none_of : position (λ (c : Child). is_of c.pid from) s.children ≡ None → (j : ℕ) (q : Pid) → child_at s.children j ≡ Some q → same_pid q from ≡ false
+  none_of nowhere j q is =
+      let x = child_is s.children j q is in
+      let within : j < length s.children = slice_get_within s.children j x.0 x.1 in
+      let at : get_or s.children j x.0 ≡ x.0 = get_or_from_slice_get s.children j x.0 x.0 x.1 in
+      let past : length s.children ≤ position_or_len (λ (c : Child). is_of c.pid from) s.children = past_end nowhere in
+      of_not x.0 q from x.2 (ap (λ (c : Child). is_of c.pid from) (sym at) ∙ fails_before_first (λ (c : Child). is_of c.pid from) s.children j x.0 (omega (arith, within, past)))
+    where
+      past_end : cond (nat_lt (position_or_len (λ (c : Child). is_of c.pid from) s.children) (length s.children)) (Some (position_or_len (λ (c : Child). is_of c.pid from) s.children)) None ≡ None
+          → length s.children ≤ position_or_len (λ (c : Child). is_of c.pid from) s.children
+      past_end h = grind (arith, h)
+
+  one_of : (place : ℕ) → position (λ (c : Child). is_of c.pid from) s.children ≡ Some place → (d : Child) → (slice_get s.children place ≡ Some (get_or s.children place d)) × (child_at s.children place ≡ Some from)
+  one_of place found d =
+      let p = position-Some (λ (c : Child). is_of c.pid from) s.children place d found in
+      let at : slice_get s.children place ≡ Some (get_or s.children place d) = slice_get-get_or s.children place d p.0 in
+      (at, ap pid_in at ∙ of_is (get_or s.children place d).pid from p.1)
+
+  less_lost : (place : ℕ) (c : Option Child) → position (λ (x : Child). is_of x.pid from) s.children ≡ Some place → slice_get s.children place ≡ c → (r : Reason) → Less (Item.Exit from r) s (lost now reason place c s)
+  less_lost place None found at r = record {
+    sub = λ j q is. is;
+    stop = λ h. h;
+    out = λ h j q is.
+        let x = child_is s.children j q is in
+        let one = one_of place found x.0 in
+        let bad : None ≡ Some (get_or s.children place x.0) = sym at ∙ one.0 in absurd (cc);
+  }
+  less_lost place (Some c) found at r = record {
+    sub = λ j q is. elim (cases_eq j place) [
+      | inl same ↦ absurd (here j q is same)
+      | inr other ↦ set_beside s.children place j v q other (before j q is)
+    ];
+    stop = λ h. again_stop again now place t h;
+    out = λ h j q is. elim (cases_eq j place) [
+      | inl same ↦ absurd (here j q is same)
+      | inr other ↦ by_cases (same_pid q from)
+          (λ e. let one = one_of place found c in absurd (other (apart j place from (set_beside s.children place j v q other (before j q is) ∙ ap Some (same_pid_is q from e)) one.1)))
+          (λ e. e)
+    ];
+  }
+    where
+      bidden : Bool
+      bidden = nat_le s.ending place
+
+      again : Bool
+      again = not bidden && lives_again bidden c.restart reason
+
+      v : Child
+      v = gone bidden reason c
+
+      t : Standing
+      t = record s { children = slice_set s.children place v }
+
+      before : (j : ℕ) (q : Pid) → child_at (started_again again now place t).children j ≡ Some q → child_at (slice_set s.children place v) j ≡ Some q
+      before j q is = ap (λ (xs : List Child). child_at xs j) (sym (again_same again now place t)) ∙ is
+
+      here : (j : ℕ) (q : Pid) → child_at (started_again again now place t).children j ≡ Some q → j ≡ place → ⊥
+      here j q is same =
+          let bad : None ≡ Some q = sym (set_at s.children place c v at) ∙ ap (child_at (slice_set s.children place v)) (sym same) ∙ before j q is in absurd (cc)
+
+  less_at : (at : Option ℕ) → position (λ (x : Child). is_of x.pid from) s.children ≡ at → (r : Reason) → Less (Item.Exit from r) s (heard_at at now reason s)
+  less_at None nowhere r = record { sub = λ j q is. is; stop = λ h. h; out = λ h j q is. none_of nowhere j q is }
+  less_at (Some place) found r = less_lost place (slice_get s.children place) found refl r
+
+  less_parent : (is : Bool) (other : Standing) (r : Reason) → Less (Item.Exit from r) s other → Less (Item.Exit from r) s (cond is (stopped reason s) other)
+  less_parent true other r h = record { sub = λ j q is. is; stop = λ h. absurd (cc); out = λ h. absurd (cc) }
+  less_parent false other r h = h
+
+  pub less_heard : Less (Item.Exit from reason) s (heard now from reason s)
+  less_heard =
+      less_parent (is_of s.parent from) (heard_at (position (λ (c : Child). is_of c.pid from) s.children) now reason s) reason
+      (less_at (position (λ (c : Child). is_of c.pid from) s.children) refl reason)
+
+-- desks that go on -----------------------------------------------------------------------------------
+
+pub record Goes (me : Pid) (d e : ShardState) : Type 0 where
+  pub later : IsLater d e
+  pub acts : ActsFor me d e
+
+pub goes_is : (me : Pid) (d e : ShardState) → e ≡ d → Goes me d e
+goes_is me d e is = record { later = later_is d e is; acts = acts_is me d e is }
+
+pub goes_then : (me : Pid) (d f e : ShardState) → Goes me d f → Goes me f e → Goes me d e
+goes_then me d f e a b = record { later = later_then d f e a.later b.later; acts = acts_then me d f e a.later a.acts b.acts }
+
+pub goes_event : (me : Pid) (d e : ShardState) (ev : Event) → ((q : Pid) → same_pid me q ≡ false → touches q ev ≡ false) → e ≡ after ev d → Goes me d e
+goes_event me d e ev own is = record {
+  later = subst (λ (f : ShardState). IsLater d f) (sym is) (later_after ev d);
+  acts = λ q other born. phase_is (after ev d) e is q ∙ untouched ev d q (own q other);
+}
+
+pub cut_later : (me q : Pid) (d e : ShardState) → IsLater d e → has_cut me q d.journal ≡ true → has_cut me q e.journal ≡ true
+cut_later me q d e x h =
+    ap (has_cut me q) x.journal ∙ list_any-append (λ (s : Stamped). is_cut me q s.event) x.more d.journal
+    ∙ or_right (has_cut me q x.more) (has_cut me q d.journal) h
+
+-- a supervisor that has begun ---------------------------------------------------------------------------
+
+pub record Kept (children : List Child) (stopping : Option Reason) (me : Pid) (e : ShardState) : Type 0 where
+  pub state : ProcessState
+  pub living_is : phase_of e me ≡ living state
+  pub traps : state.traps ≡ true
+  pub family : Family children stopping me e
+
+pub family_step : (children : List Child) (stopping : Option Reason) (me : Pid) (d e : ShardState) → IsLater d e → ((q : Pid) → IsTied (state_in d me) q → IsHeld me q e) → Family children stopping me d → Family children stopping me e
+family_step children stopping me d e later ties f = record {
+  born = λ place q is. born_then d e later q (f.born place q is);
+  apart = f.apart;
+  held = λ none place q is. go q (f.held none place q is);
+}
+  where
+    go : (q : Pid) → IsHeld me q d → IsHeld me q e
+    go q (inl h) = ties q h
+    go q (inr h) = inr (cut_later me q d e later h)
+
+pub kept_step : (children : List Child) (stopping : Option Reason) (me : Pid) (d e : ShardState) → IsLater d e → (k : Kept children stopping me d) → (t : ProcessState) → phase_of e me ≡ living t
+    → t.traps ≡ true → ((q : Pid) → IsTied k.state q → IsTied t q) → Kept children stopping me e
+kept_step children stopping me d e later k t now traps ties = record {
+  state = t;
+  living_is = now;
+  traps = traps;
+  family = family_step children stopping me d e later (λ q h.
+      inl (subst (λ (f : Phase). IsTied (state_of f) q) (sym now) (ties q (subst (λ (f : Phase). IsTied (state_of f) q) k.living_is h)))) k.family;
+}
+
+pub kept_is : (children : List Child) (stopping : Option Reason) (me : Pid) (d e : ShardState) → e ≡ d → Kept children stopping me d → Kept children stopping me e
+kept_is children stopping me d e is k = subst (Kept children stopping me) (sym is) k
+
+-- an event of its own
+pub own_phase : (me : Pid) (ev : Event) (d : ShardState) (s : ProcessState) (own : touches me ev ≡ true) → phase_of d me ≡ living s → phase_of (after ev d) me ≡ change me ev (living s)
+own_phase me ev d s own is i = cond (own i) (change me ev (is i)) (is i)
+
+said_own : (me p : Pid) (x : Signal) (q : Pid) → same_pid me q ≡ false → touches q (Said me p x) ≡ false
+said_own me p x q other = same_pid_sym me q other
+
+module _ (me p : Pid) (reason : Reason) where
+  pub told_goes : (d e : ShardState) (result : Result (Unit {0}) Fault) → Calls me (Some (Said me p (Signal.Exit reason))) (tt {0}) d result e → Goes me d e
+  told_goes d e (Ok x) c = goes_event me d e (Said me p (Signal.Exit reason)) (said_own me p (Signal.Exit reason)) c.3
+  told_goes d e (Err Gone) c = goes_is me d e c.1
+  told_goes d e (Err Worn) c = goes_is me d e c.3
+  told_goes d e (Err Memory) c = goes_is me d e c.3
+  told_goes d e (Err Full) c = absurd c
+  told_goes d e (Err Myself) c = absurd c
+  told_goes d e (Err NoProc) c = absurd c
+
+  pub told_kept : (children : List Child) (stopping : Option Reason) (d e : ShardState) (result : Result (Unit {0}) Fault) → Calls me (Some (Said me p (Signal.Exit reason))) (tt {0}) d result e → Kept children stopping me d → Kept children stopping me e
+  told_kept children stopping d e (Ok x) c k =
+      kept_step children stopping me d e (told_goes d e (Ok x) c).later k k.state
+      (phase_is (after (Said me p (Signal.Exit reason)) d) e c.3 me ∙ own_phase me (Said me p (Signal.Exit reason)) d k.state (same_pid_refl me) k.living_is) k.traps (λ q h. h)
+  told_kept children stopping d e (Err Gone) c k = kept_is children stopping me d e c.1 k
+  told_kept children stopping d e (Err Worn) c k = kept_is children stopping me d e c.3 k
+  told_kept children stopping d e (Err Memory) c k = kept_is children stopping me d e c.3 k
+  told_kept children stopping d e (Err Full) c k = absurd c
+  told_kept children stopping d e (Err Myself) c k = absurd c
+  told_kept children stopping d e (Err NoProc) c k = absurd c
+
+-- a birth --------------------------------------------------------------------------------------------------
+
+pub newborn_born : (parent : Option Pid) (link : Option LinkId) (f : Phase) → is_unborn (newborn parent link f) ≡ false
+newborn_born parent link unborn = refl
+newborn_born parent link (living s) = refl
+newborn_born parent link (ended r s) = refl
+
+module _ (me p : Pid) (d e : ShardState) (i : LinkId) (unborn_is : is_unborn (phase_of d p) ≡ true) (start : e.start ≡ d.start) (journal : e.journal ≡ (after (Born p (Some me) (Some i)) d).journal) where
+  ev : Event
+  ev = Born p (Some me) (Some i)
+
+  apart_from : (q : Pid) → is_unborn (phase_of d q) ≡ false → same_pid q p ≡ false
+  apart_from q born = by_cases (same_pid q p)
+      (λ same. let bad : false ≡ true = sym born ∙ ap (λ (x : Pid). is_unborn (phase_of d x)) (same_pid_is q p same) ∙ unborn_is in absurd (cc))
+      (λ other. other)
+
+  same_phase : (q : Pid) → phase_of e q ≡ phase_of (after (Born p (Some me) (Some i)) d) q
+  same_phase q = phase_same (after (Born p (Some me) (Some i)) d) e start journal q
+
+  pub born_goes : Goes me d e
+  born_goes = record {
+    later = later_then d (after (Born p (Some me) (Some i)) d) e (later_after (Born p (Some me) (Some i)) d) (later_same (after (Born p (Some me) (Some i)) d) e start journal);
+    acts = λ q other born. same_phase q ∙ (λ n. cond (apart_from q born n || same_pid_sym me q other n) (cond (same_pid q p) (newborn (Some me) (Some i) (phase_of d q)) (while_living (linked (Some p) (Some i)) (phase_of d q))) (phase_of d q));
+  }
+
+  born_here : is_unborn (phase_of e p) ≡ false
+  born_here = ap is_unborn (same_phase p) ∙ (λ n. is_unborn (cond (same_pid_refl p n || same_pid p me) (cond (same_pid_refl p n) (newborn (Some me) (Some i) (phase_of d p)) (while_living (linked (Some p) (Some i)) (phase_of d p))) (phase_of d p)))
+      ∙ newborn_born (Some me) (Some i) (phase_of d p)
+
+  linked_now : (s : ProcessState) → phase_of d me ≡ living s → phase_of e me ≡ living (record s { links = enter p i s.links })
+  linked_now s is =
+      let other : same_pid me p ≡ false = apart_from me (living_born (phase_of d me) (ap is_living is)) in
+      same_phase me ∙ (λ n. cond (other n || same_pid_refl me n) (cond (other n) (newborn (Some me) (Some i) (is n)) (while_living (linked (Some p) (Some i)) (is n))) (is n))
+
+  pub born_kept : (children : List Child) (place : ℕ) (c : Child) → slice_get children place ≡ Some c → Kept children None me d → Kept (slice_set children place (record c { pid = Some p })) None me e
+  born_kept children place c at k = record {
+    state = t;
+    living_is = linked_now k.state k.living_is;
+    traps = k.traps;
+    family = record {
+      born = λ j q is. elim (cases_eq j place) [
+        | inl same ↦ subst (λ (x : Pid). is_unborn (phase_of e x) ≡ false) (is_new j q is same) born_here
+        | inr other ↦ old.family.born j q (set_beside children place j v q other is)
+      ];
+      apart = λ a b q is_a is_b. elim (cases_eq a place) [
+        | inl same ↦ elim (cases_eq b place) [
+          | inl also ↦ same ∙ sym also
+          | inr other ↦ absurd (not_both b q (set_beside children place b v q other is_b) (is_new a q is_a same))
+        ]
+        | inr apart ↦ elim (cases_eq b place) [
+          | inl also ↦ absurd (not_both a q (set_beside children place a v q apart is_a) (is_new b q is_b also))
+          | inr other ↦ k.family.apart a b q (set_beside children place a v q apart is_a) (set_beside children place b v q other is_b)
+        ]
+      ];
+      held = λ none j q is. elim (cases_eq j place) [
+        | inl same ↦ inl (subst (λ (f : Phase). IsTied (state_of f) q) (sym (linked_now k.state k.living_is))
+            (subst (λ (x : Pid). IsTied t x) (is_new j q is same) (inl (ap is_some (held-enter p i k.state.links)))))
+        | inr other ↦ old.family.held none j q (set_beside children place j v q other is)
+      ];
+    };
+  }
+    where
+      v : Child
+      v = record c { pid = Some p }
+
+      t : ProcessState
+      t = record (k.state) { links = enter p i k.state.links }
+
+      old : Kept children None me e
+      old = kept_step children None me d e born_goes.later k t (linked_now k.state k.living_is) k.traps (λ q h. entered_tied k.state p q i h)
+
+      is_new : (j : ℕ) (q : Pid) → child_at (slice_set children place v) j ≡ Some q → j ≡ place → p ≡ q
+      is_new j q is same =
+          let both : Some p ≡ Some q = sym (set_at children place c v at) ∙ ap (child_at (slice_set children place v)) (sym same) ∙ is in cc
+
+      not_both : (j : ℕ) (q : Pid) → child_at children j ≡ Some q → p ≡ q → ⊥
+      not_both j q is same =
+          let bad : false ≡ true = sym (k.family.born j q is) ∙ ap (λ (x : Pid). is_unborn (phase_of d x)) (sym same) ∙ unborn_is in absurd (cc)

@@ -1,0 +1,150 @@
+-- How a supervisor's children are on its desk, and in a node that is still.
+use Rattle.std.specs.Prelude.{◌≡◌, ⊤, ℕ, ◌&&◌, Bool, true, false, is_some, List, [], ◌∷◌, ◌++◌, Option, Some, None, Ok}
+use Rattle.std.specs.List.{list_any}
+use Rattle.std.specs.Prelude.{◌⊎◌, ◌<◌, length, slice_get, slice_index_or}
+use Rattle.pt_signal.specs.declared.pid.Pid.{Pid}
+use Rattle.pt_signal.specs.declared.item.Item.{Item}
+use Rattle.pt_signal.specs.declared.item.Pick.{Pick}
+use Rattle.pt_signal.specs.declared.reason.Reason.{Reason}
+use Rattle.pt_signal.specs.declared.signal.Signal.TheVariants.{Unlink}
+use Rattle.pt_signal.specs.Values.{same_pid}
+use Rattle.pt_signal.specs.Process.{ProcessState, held}
+use Rattle.pt_events.specs.declared.event.Event.{Event}
+use Rattle.pt_events.specs.declared.event.Event.TheVariants.{Came}
+use Rattle.pt_events.specs.declared.event.Stamped.{Stamped}
+use Rattle.pt_events.specs.History.{is_unborn, alive}
+use Rattle.pt_events.specs.Journal.{IsMerge, events}
+use Rattle.pt_shard.specs.ShardState.{ShardState, phase_of, state_in, lives}
+use Rattle.pt_gathered.specs.Gathered.{GatheredState, IsGathered, begins, journals}
+use Rattle.pt_gathered.specs.Lawful.{LinksStand}
+use Rattle.pt_crew.specs.declared.behaviour.Next.{Next}
+use Rattle.pt_crew.specs.declared.behaviour.Next.TheVariants.{Wait, Proceed}
+use Rattle.pt_crew.specs.declared.births.Role.{Role}
+use Rattle.pt_crew.specs.declared.crew.Crew.{Crew}
+use Rattle.pt_crew.specs.Visiting.{Answers}
+use Rattle.pt_crew.specs.Upholding.{Relation, ActsFor, IsTaken, Upholds}
+use Rattle.pt_crew.specs.Waking.{has_work}
+use Rattle.pt_crew.specs.Crews.{roles}
+use Rattle.pt_supervisor.specs.declared.children.Child.{Child}
+use Rattle.pt_supervisor.specs.Children.{NoneLives}
+use Rattle.pt_supervisor.specs.Hearing.{Standing}
+use Rattle.pt_supervisor.specs.Supervising.{StartsOf, Supervises}
+
+-- the pid of the child at a place, if one lives there by all that its supervisor has heard
+abbrev pub pid_in : Option Child → Option Pid
+pid_in None = None
+pid_in (Some c) = c.pid
+
+abbrev pub child_at : List Child → ℕ → Option Pid
+child_at children place = pid_in (slice_get children place)
+
+-- the item tells of the end of q
+abbrev pub is_exit_of : Pid → Item → Bool
+is_exit_of q (Item.Exit from r) = same_pid q from
+is_exit_of q _ = false
+
+-- q takes its link with me away
+abbrev pub is_cut : Pid → Pid → Event → Bool
+is_cut me q (Came a b (Unlink ids)) = same_pid q a && same_pid me b
+is_cut me q _ = false
+
+-- an unlink of q came to me
+abbrev pub has_cut : Pid → Pid → List Stamped → Bool
+has_cut me q journal = list_any (λ (s : Stamped). is_cut me q s.event) journal
+
+-- a link with q is held, or the end of q waits to be heard
+abbrev pub IsTied : ProcessState → Pid → Type 0
+IsTied s q = (is_some (held s.links q) ≡ true) ⊎ (list_any (is_exit_of q) s.waiting ≡ true)
+
+-- so it is with a child of me, unless the child took the link away itself
+abbrev pub IsHeld : Pid → Pid → ShardState → Type 0
+IsHeld me q d = IsTied (state_in d me) q ⊎ (has_cut me q d.journal ≡ true)
+
+-- Children that live, by all that their supervisor me has heard: each was born, stands in one place alone, and is held
+-- unless me is to stop.
+pub record Family (children : List Child) (stopping : Option Reason) (me : Pid) (d : ShardState) : Type 0 where
+  pub born : (place : ℕ) (q : Pid) → child_at children place ≡ Some q → is_unborn (phase_of d q) ≡ false
+  pub apart : (i j : ℕ) (q : Pid) → child_at children i ≡ Some q → child_at children j ≡ Some q → i ≡ j
+  pub held : stopping ≡ None → (place : ℕ) (q : Pid) → child_at children place ≡ Some q → IsHeld me q d
+
+-- what a supervisor upholds while it lives: it traps exits, unless it has not begun
+pub record Holds (s : Standing) (next : Next) (me : Pid) (d : ShardState) : Type 0 where
+  pub waits : Supervises next s
+  pub traps : ((state_in d me).traps ≡ true) ⊎ ((next ≡ Proceed) × NoneLives s.children)
+  pub family : Family s.children s.stopping me d
+
+-- a supervisor sees to an item, or to none: it acts for itself alone, and upholds that
+pub record Tends (me : Pid) (item : Option Item) (s : Standing) (d : ShardState) (next : Next) (new : Standing)
+    (e : ShardState) : Type 0 where
+  pub acts : ActsFor me d e
+  pub keeps : (before : Next) (was : ShardState) → IsTaken me before item was d → is_unborn (phase_of was me) ≡ false
+      → Holds s before me was → Holds new next me e
+
+-- the behaviours of those who are born are what the program's `Start` gave
+abbrev pub AllStarted : {S B : Type 0} → StartsOf S B → Pid → List (Role B) → Type 0
+AllStarted starts me [] = ⊤
+AllStarted {S} starts me (r ∷ rs) =
+    ((was : S) × (place : ℕ) × (later : S) × starts was me place (Ok (r.behaviour, r.next)) later)
+    × AllStarted starts me rs
+
+-- so it is of whoever a supervisor bears, and they wait behind those who waited
+abbrev pub BearsFrom : {S B : Type 0} → StartsOf S B → Pid → List (Role B) → List (Role B) → Type 0
+BearsFrom {S} {B} starts me old new =
+    (more : List (Role B)) × (new ≡ old ++ more) × AllStarted starts me more
+
+-- of a behaviour what it is as a supervisor, if it is one
+abbrev pub PartOf : Type 0 → Type 0
+PartOf B = B → Option Standing
+
+-- one that is no supervisor, or a supervisor that lives, stands so
+abbrev pub HoldsAs : Option Standing → Next → Pid → ShardState → Type 0
+HoldsAs None next me d = ⊤
+HoldsAs (Some s) next me d = lives d me ≡ true → Holds s next me d
+
+abbrev pub Keeps : {B : Type 0} → PartOf B → Relation B
+Keeps part b next me d = HoldsAs (part b) next me d
+
+-- a supervisor begins by proceeding, with no child
+abbrev pub BeginsAs : Option Standing → Next → Type 0
+BeginsAs None next = ⊤
+BeginsAs (Some s) next = (next ≡ Proceed) × NoneLives s.children
+
+abbrev pub AllBegin : {B : Type 0} → PartOf B → List (Role B) → Type 0
+AllBegin part [] = ⊤
+AllBegin part (r ∷ rs) = BeginsAs (part r.behaviour) r.next × AllBegin part rs
+
+-- who is no supervisor does not become one, and acts for itself alone; a supervisor stays one, and sees to the item
+abbrev pub ActsAs : Option Standing → Pid → Option Item → ShardState → Next → Option Standing → ShardState → Type 0
+ActsAs None me item d next now e = (now ≡ None) × ActsFor me d e
+ActsAs (Some s) me item d next now e = (new : Standing) × (now ≡ Some new) × Tends me item s d next new e
+
+-- so the behaviours of a program answer, and whoever of those that they bear is a supervisor begins as one
+abbrev pub AnswerAs : {B : Type 0} → PartOf B → Answers B
+AnswerAs part b d me item next now e births =
+    ActsAs (part b) me item d next (part now) e × AllBegin part births
+
+abbrev pub SuperviseAs : {B : Type 0} → Answers B → PartOf B → Type 0
+SuperviseAs {B} answers part =
+    (b : B) (d : ShardState) (me : Pid) (item : Option Item) (next : Next) (now : B) (e : ShardState)
+    (births : List (Role B)) → answers b d me item next now e births → AnswerAs part b d me item next now e births
+
+-- nobody of the crew has anything to do
+abbrev pub IsIdle : {B : Type 0} → Crew B → ShardState → Type 0
+IsIdle {B} c d = (p : Pid) (role : B × Next) → roles c p ≡ Some role → has_work role.1 (phase_of d p) ≡ false
+
+-- The desk of the crew is one of the node. In each merge of the node's journals a supervisor of the crew that lives and
+-- waits for any item has, for each child that is to live, a process that lives, or took its link with it away itself.
+abbrev pub ChildrenLive : {B : Type 0} → PartOf B → Crew B → ShardState → GatheredState → Type 0
+ChildrenLive {B} part c d g =
+    (merged : List Stamped) → IsMerge (journals g) merged → (p : Pid) (b : B) (s : Standing)
+    → roles c p ≡ Some (b, Wait Pick.Any) → part b ≡ Some s → lives d p ≡ true → p.shard ≡ d.number
+    → (place : ℕ) (child : Child) → slice_get s.children place ≡ Some child → child.wanted ≡ true
+    → (q : Pid) × (child.pid ≡ Some q)
+    × ((alive (begins g) (events merged) q ≡ true) ⊎ (has_cut p q d.journal ≡ true))
+
+-- So it is in a node that is still: where the desk of a crew, whose supervisors uphold that their children are held, is
+-- one of a gathered node in which links stand at both ends or at neither, and nobody of the crew has anything to do.
+abbrev pub QuietChildrenLive : {B : Type 0} → PartOf B → Type 0
+QuietChildrenLive {B} part =
+    (c : Crew B) (d : ShardState) (g : GatheredState) → IsGathered g → LinksStand g → d.number < length g.shards
+    → d ≡ slice_index_or g.shards d.number d → Upholds (Keeps part) c d → IsIdle c d → ChildrenLive part c d g
