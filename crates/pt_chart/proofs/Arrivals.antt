@@ -1,4 +1,4 @@
--- The receipts between two processes, from a row on.
+-- The receipts between two processes, from an event on.
 use Rattle.std.proofs.Common.{◌≡◌, ℕ, zero, suc, ◌+◌, ◌<◌, ◌≤◌, Bool, true, false, cond, List, [], ◌∷◌, ◌++◌, length, take, drop, get_or, refl, ap, sym, subst, ◌∙◌, add-one, append_assoc, append-nil}
 use Rattle.std.specs.Prelude.{slice_get}
 use Rattle.std.proofs.Math.Seq.{drop-cons}
@@ -13,31 +13,31 @@ use Rattle.pt_chart.specs.declared.layout.Sending.{Sending}
 use Rattle.pt_chart.specs.Chart.{is_receipt, receipts, receipts_from, sent_to}
 use Rattle.pt_chart.specs.Receiving.{Queued, queue_of, IsQueued, IsQueuedBy, Awaits}
 
-at_row : (a b : Pid) (events : List Stamped) (row : ℕ) (d : Stamped) → row < length events
-    → receipts_from row a b (drop row events)
-    ≡ cond (is_receipt a b (get_or events row d).event) (row ∷ receipts_from (row + 1) a b (drop (row + 1) events)) (receipts_from (row + 1) a b (drop (row + 1) events))
-at_row a b events row d h =
-    ap (receipts_from row a b) (drop-cons events row d h)
-    ∙ ap (λ k. cond (is_receipt a b (get_or events row d).event) (row ∷ receipts_from (row + 1) a b (drop k events)) (receipts_from (row + 1) a b (drop k events))) (sym (add-one row))
+at_event : (a b : Pid) (events : List Stamped) (at : ℕ) (d : Stamped) → at < length events
+    → receipts_from at a b (drop at events)
+    ≡ cond (is_receipt a b (get_or events at d).event) (at ∷ receipts_from (at + 1) a b (drop (at + 1) events)) (receipts_from (at + 1) a b (drop (at + 1) events))
+at_event a b events at d h =
+    ap (receipts_from at a b) (drop-cons events at d h)
+    ∙ ap (λ k. cond (is_receipt a b (get_or events at d).event) (at ∷ receipts_from (at + 1) a b (drop k events)) (receipts_from (at + 1) a b (drop k events))) (sym (add-one at))
 
--- what is queued, and the receipts from a row on, are all receipts
+-- what is queued, and the receipts from an event on, are all receipts
 abbrev pub Queues : Pid → List Stamped → ℕ → Queued → Type 0
-Queues a events row queued = (q : Pid) → queue_of queued q ++ receipts_from row a q (drop row events) ≡ receipts a q events
+Queues a events at queued = (q : Pid) → queue_of queued q ++ receipts_from at a q (drop at events) ≡ receipts a q events
 
-pub queues_next : (a : Pid) (events : List Stamped) (row : ℕ) (d : Stamped) (old new : Queued) → row < length events → Queues a events row old
-    → IsQueuedBy (λ q. cond (is_receipt a q (get_or events row d).event) (row ∷ []) []) old new → Queues a events (row + 1) new
-queues_next a events row d old new h before more q =
-    ap (λ z. z ++ receipts_from (row + 1) a q (drop (row + 1) events)) (more q)
-    ∙ by (is_receipt a q (get_or events row d).event) (receipts_from (row + 1) a q (drop (row + 1) events))
-    ∙ ap (λ z. queue_of old q ++ z) (sym (at_row a q events row d h)) ∙ before q
+pub queues_next : (a : Pid) (events : List Stamped) (at : ℕ) (d : Stamped) (old new : Queued) → at < length events → Queues a events at old
+    → IsQueuedBy (λ q. cond (is_receipt a q (get_or events at d).event) (at ∷ []) []) old new → Queues a events (at + 1) new
+queues_next a events at d old new h before more q =
+    ap (λ z. z ++ receipts_from (at + 1) a q (drop (at + 1) events)) (more q)
+    ∙ by (is_receipt a q (get_or events at d).event) (receipts_from (at + 1) a q (drop (at + 1) events))
+    ∙ ap (λ z. queue_of old q ++ z) (sym (at_event a q events at d h)) ∙ before q
   where
-    by : (t : Bool) (rest : List ℕ) → (queue_of old q ++ cond t (row ∷ []) []) ++ rest ≡ queue_of old q ++ cond t (row ∷ rest) rest
-    by true rest = append_assoc (queue_of old q) (row ∷ []) rest
+    by : (t : Bool) (rest : List ℕ) → (queue_of old q ++ cond t (at ∷ []) []) ++ rest ≡ queue_of old q ++ cond t (at ∷ rest) rest
+    by true rest = append_assoc (queue_of old q) (at ∷ []) rest
     by false rest = ap (λ z. z ++ rest) (append-nil (queue_of old q))
 
-pub queues_all : (a : Pid) (events : List Stamped) (row : ℕ) (queued : Queued) → length events ≤ row → Queues a events row queued → Awaits events a [] queued
-queues_all a events row queued h are q =
-    sym (append-nil (queue_of queued q)) ∙ ap (λ es. queue_of queued q ++ receipts_from row a q es) (sym (drop_all row events h)) ∙ are q
+pub queues_all : (a : Pid) (events : List Stamped) (at : ℕ) (queued : Queued) → length events ≤ at → Queues a events at queued → Awaits events a [] queued
+queues_all a events at queued h are q =
+    sym (append-nil (queue_of queued q)) ∙ ap (λ es. queue_of queued q ++ receipts_from at a q es) (sym (drop_all at events h)) ∙ are q
 
 same_pid_turned : (p q : Pid) → same_pid p q ≡ same_pid q p
 same_pid_turned p q = go (same_pid p q) refl (same_pid q p) refl
@@ -55,7 +55,7 @@ first_left [] (suc n) = refl
 first_left (x ∷ xs) zero = refl
 first_left (x ∷ xs) (suc n) = first_left xs n
 
--- a letter more has its row
+-- a letter more has its event
 pub awaits_next : (events : List Stamped) (a : Pid) (sent : List Sending) (k : ℕ) (d : Sending) (old new : Queued) → k < length sent → Awaits events a (take k sent) old
     → IsQueued (get_or sent k d).to (drop 1 (queue_of old (get_or sent k d).to)) old new → Awaits events a (take (k + 1) sent) new
 awaits_next events a sent k d old new h before popped q = popped q ∙ by (same_pid q (get_or sent k d).to) refl

@@ -1,6 +1,7 @@
 pub mod Tracing
 pub mod Arrows
 pub mod Rows
+pub mod Rowing
 pub mod Arrivals
 pub mod Answering
 pub mod Legal

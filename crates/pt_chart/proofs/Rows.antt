@@ -8,10 +8,12 @@ use Rattle.pt_signal.specs.declared.pid.Pid.{Pid}
 use Rattle.pt_signal.specs.Process.{Sent}
 use Rattle.pt_events.specs.declared.event.Stamped.{Stamped}
 use Rattle.pt_events.specs.History.{Past}
+use Rattle.pt_chart.specs.Page.{capped}
+use Rattle.pt_chart.specs.Rows.{count_of}
 use Rattle.pt_chart.specs.Drawing.{label_beside, longest_beside}
 use Rattle.pt_chart.specs.declared.layout.Column.{Column}
 use Rattle.pt_chart.specs.declared.layout.Sending.{Sending}
-use Rattle.pt_chart.specs.Chart.{everyone, joined, named, past_of, in_row}
+use Rattle.pt_chart.specs.Chart.{everyone, joined, named, past_of, sent_at}
 
 -- what one more gives stands behind
 pub one_more_given : {X Y : Type 0} (f : X → Y) (start before after : List Y) (xs : List X) (i : ℕ) (d : X) → i < length xs → before ≡ start ++ map f (take i xs) → after ≡ before ++ f (get_or xs i d) ∷ []
@@ -21,10 +23,10 @@ one_more_given f start before after xs i d h b a =
     ∙ ap (λ z. start ++ z) (sym (ap (map f) (take_more xs i d h) ∙ map-append f (take i xs) (get_or xs i d ∷ [])))
 
 -- one more is paid
-pub paid : (row : ℕ) (start before after : List Sending) (owed : List Sent) (i : ℕ) (l : Sent) → before ≡ start ++ map (in_row row) (take i owed) → slice_get owed i ≡ Some l
-    → after ≡ before ++ in_row row l ∷ [] → after ≡ start ++ map (in_row row) (take (i + 1) owed)
+pub paid : (row : ℕ) (start before after : List Sending) (owed : List Sent) (i : ℕ) (l : Sent) → before ≡ start ++ map (sent_at row) (take i owed) → slice_get owed i ≡ Some l
+    → after ≡ before ++ sent_at row l ∷ [] → after ≡ start ++ map (sent_at row) (take (i + 1) owed)
 paid row start before after owed i l b g a =
-    let f : Sent → Sending = in_row row in
+    let f : Sent → Sending = sent_at row in
     a ∙ ap (λ z. z ++ f l ∷ []) b ∙ append_assoc start (map f (take i owed)) (f l ∷ [])
     ∙ ap (λ z. start ++ z) (sym (ap (map f) (take_more owed i l (slice_get_within owed i l g))
     ∙ map-append f (take i owed) (get_or owed i l ∷ [])
@@ -39,6 +41,10 @@ pub longest_beside_more : (events : List Stamped) (i n : ℕ) (d : Stamped) → 
 longest_beside_more events i n d h is =
     ap (max (length (label_beside (get_or events i d).event))) is
     ∙ sym (fold_more (λ (n : ℕ) (s : Stamped). max (length (label_beside s.event)) n) (length (codes "other:4294967295")) events i d h)
+
+-- one more event, and how many rows there are then
+pub count_of_more : (rows : List ℕ) (i n : ℕ) → i < length rows → n ≡ count_of (take i rows) → max (capped (get_or rows i 0 + 1)) n ≡ count_of (take (i + 1) rows)
+count_of_more rows i n h is = ap (max (capped (get_or rows i 0 + 1))) is ∙ sym (fold_more (λ (n row : ℕ). max (capped (row + 1)) n) 0 rows i 0 h)
 
 pub past_more : (events : List Stamped) (i : ℕ) (d : Stamped) → i < length events → past_of (take (i + 1) events) ≡ (get_or events i d).event ∷ past_of (take i events)
 past_more events i d h = fold_more (λ (past : Past) s. s.event ∷ past) [] events i d h

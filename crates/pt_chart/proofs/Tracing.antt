@@ -15,7 +15,7 @@ use Rattle.pt_events.specs.History.{Past, Phase, unborn, living, ended, life, af
 use Rattle.pt_events.specs.declared.event.Stamped.{Stamped}
 use Rattle.pt_chart.specs.declared.layout.Sending.{Sending}
 use Rattle.pt_chart.specs.Following.{Followed, followed, live_state, lives_on, gets, begins, changes, seen, sends, ends, got_sent, left_sent, OpensAnew, noted}
-use Rattle.pt_chart.specs.Chart.{sent_of, end_of, end_between, in_row, past_of, MonitorsAnew}
+use Rattle.pt_chart.specs.Chart.{sent_of, end_of, end_between, sent_at, past_of, MonitorsAnew}
 use Rattle.pt_chart.proofs.Rows.{past_more}
 
 -- the state ------------------------------------------------------------------------------------------
@@ -146,15 +146,15 @@ pub record Traces (past : Past) (p : Pid) (w : Followed) (start letters : List S
   pub end : over ≡ end_of past p
 
 pub trace_next : (past : Past) (p : Pid) (e : Event) (w w' : Followed) (start sent sent' : List Sending) (end end' : Option (ℕ × Reason)) (row : ℕ)
-    → length past ≡ row → Traces past p w start sent end → OpensAnew e (followed p (life [] past p)) → (OpensAnew e w → w' ≡ seen e w) → sent' ≡ sent ++ map (in_row row) (sends e w) → end' ≡ noted row (ends e w) end
+    → length past ≡ row → Traces past p w start sent end → OpensAnew e (followed p (life [] past p)) → (OpensAnew e w → w' ≡ seen e w) → sent' ≡ sent ++ map (sent_at row) (sends e w) → end' ≡ noted row (ends e w) end
     → Traces (e ∷ past) p w' start sent' end'
 trace_next past p e w w' start sent sent' end end' row n t anew saw said finished = record {
   state = saw (subst (OpensAnew e) (sym t.state) anew) ∙ ap (seen e) t.state ∙ sym (seen_after p e (life [] past p));
   sent =
-      said ∙ ap (λ z. z ++ map (in_row row) (sends e w)) t.sent
-      ∙ append_assoc start (sent_of past p) (map (in_row row) (sends e w))
-      ∙ ap (λ z. start ++ (sent_of past p ++ map (in_row row) z)) (ap (sends e) t.state ∙ sym (sends_own past p e))
-      ∙ ap (λ k. start ++ (sent_of past p ++ map (in_row k) (cond (touches p e) (sent_by [] past e) []))) (sym n);
+      said ∙ ap (λ z. z ++ map (sent_at row) (sends e w)) t.sent
+      ∙ append_assoc start (sent_of past p) (map (sent_at row) (sends e w))
+      ∙ ap (λ z. start ++ (sent_of past p ++ map (sent_at row) z)) (ap (sends e) t.state ∙ sym (sends_own past p e))
+      ∙ ap (λ k. start ++ (sent_of past p ++ map (sent_at k) (cond (touches p e) (sent_by [] past e) []))) (sym n);
   end =
       finished ∙ ap (λ z. noted row (ends e z) end) t.state ∙ ap (noted row (ends e (followed p (life [] past p)))) t.end
       ∙ sym (ends_after p e (life [] past p) row (end_of past p))
@@ -164,7 +164,7 @@ trace_next past p e w w' start sent sent' end end' row n t anew saw said finishe
 -- the same from the events before a row to those before the next one
 pub trace_row : (events : List Stamped) (i : ℕ) (d : Stamped) (p : Pid) (w w' : Followed) (start letters letters' : List Sending) (over over' : Option (ℕ × Reason)) (reason : Option Reason)
     → i < length events → length (past_of (take i events)) ≡ i → (MonitorsAnew (past_of (take i events)) p → Traces (past_of (take i events)) p w start letters over)
-    → (OpensAnew (get_or events i d).event w → w' ≡ seen (get_or events i d).event w) → letters' ≡ letters ++ map (in_row i) (sends (get_or events i d).event w)
+    → (OpensAnew (get_or events i d).event w → w' ≡ seen (get_or events i d).event w) → letters' ≡ letters ++ map (sent_at i) (sends (get_or events i d).event w)
     → over' ≡ noted i reason over → reason ≡ ends (get_or events i d).event w
     → MonitorsAnew (past_of (take (i + 1) events)) p → Traces (past_of (take (i + 1) events)) p w' start letters' over'
 trace_row events i d p w w' start letters letters' over over' reason h rows before saw said finished why anew =

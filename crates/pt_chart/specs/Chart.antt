@@ -1,4 +1,5 @@
--- What a chart of a history shows. A history stands here oldest first; rows and columns are numbered from 0.
+-- What a chart of a history shows. A history stands here oldest first; its events, by their places in it, and columns
+-- are numbered from 0. In which rows the events stand, Rows says.
 use Rattle.std.specs.Prelude.{◌≡◌, ℕ, ◌+◌, Bool, false, cond, ◌&&◌, List, [], ◌∷◌, ◌++◌, length, map, fold}
 use Rattle.std.specs.Prelude.{position, nat_lt, unwrap_or, count_by, slice_get, reverse, Option, Some, None, All, ⊤}
 use Rattle.std.specs.List.{list_any, insert}
@@ -16,6 +17,7 @@ use Rattle.pt_chart.specs.declared.layout.Arrow.{Arrow}
 use Rattle.pt_chart.specs.declared.layout.Column.{Column}
 use Rattle.pt_chart.specs.declared.layout.Layout.{Layout}
 use Rattle.pt_chart.specs.Following.{followed, OpensAnew}
+use Rattle.pt_chart.specs.Rows.{AreRows, follows_sending, comes_next}
 
 -- columns -------------------------------------------------------------------------------------------
 
@@ -55,19 +57,19 @@ place ps p = unwrap_or (position (same_pid p) ps) (length ps)
 abbrev pub past_of : List Stamped → Past
 past_of events = fold (λ past s. s.event ∷ past) [] events
 
-abbrev pub in_row : ℕ → Sent → Sending
-in_row row l = record { row = row; to = l.to; signal = l.signal }
+abbrev pub sent_at : ℕ → Sent → Sending
+sent_at event l = record { event = event; to = l.to; signal = l.signal }
 
--- what p sends, in order, and in which rows
+-- what p sends, in order, and by which events
 abbrev pub sent_of : Past → Pid → List Sending
 sent_of [] p = []
-sent_of (e ∷ past) p = sent_of past p ++ map (in_row (length past)) (cond (touches p e) (sent_by [] past e) [])
+sent_of (e ∷ past) p = sent_of past p ++ map (sent_at (length past)) (cond (touches p e) (sent_by [] past e) [])
 
 abbrev pub end_between : Phase → Phase → ℕ → Option (ℕ × Reason) → Option (ℕ × Reason)
-end_between (living s) (ended r t) row before = Some (row, r)
-end_between f g row before = before
+end_between (living s) (ended r t) event before = Some (event, r)
+end_between f g event before = before
 
--- the row in which p ends, and the reason
+-- the event by which p ends, and the reason
 abbrev pub end_of : Past → Pid → Option (ℕ × Reason)
 end_of [] p = None
 end_of (e ∷ past) p = end_between (life [] past p) (life [] (e ∷ past) p) (length past) (end_of past p)
@@ -87,11 +89,11 @@ abbrev pub is_receipt : Pid → Pid → Event → Bool
 is_receipt a b (Came c d x) = same_pid a c && same_pid b d
 is_receipt a b _ = false
 
--- the rows in which a letter came to b from a, in order, where the first event is in this row
+-- the events by which a letter came to b from a, in order, where this is the first event's place
 abbrev pub receipts_from : ℕ → Pid → Pid → List Stamped → List ℕ
-receipts_from row a b [] = []
-receipts_from row a b (s ∷ events) =
-    cond (is_receipt a b s.event) (row ∷ receipts_from (row + 1) a b events) (receipts_from (row + 1) a b events)
+receipts_from event a b [] = []
+receipts_from event a b (s ∷ events) =
+    cond (is_receipt a b s.event) (event ∷ receipts_from (event + 1) a b events) (receipts_from (event + 1) a b events)
 
 abbrev pub receipts : Pid → Pid → List Stamped → List ℕ
 receipts a b events = receipts_from 0 a b events
@@ -105,7 +107,7 @@ abbrev pub arrow : List Stamped → List Pid → Pid → List Sending → Sendin
 arrow events ps a earlier l = record {
   to = place ps l.to;
   signal = l.signal;
-  sent = l.row;
+  sent = l.event;
   came = slice_get (receipts a l.to events) (sent_to l.to earlier);
 }
 
@@ -114,6 +116,12 @@ arrows events ps a earlier [] = []
 arrows events ps a earlier (l ∷ later) = arrow events ps a earlier l ∷ arrows events ps a (earlier ++ l ∷ []) later
 
 -- the whole -------------------------------------------------------------------------------------------
+
+-- the event is the receipt of a letter that, as the history has it, the very one before it sent
+abbrev pub follows_in : List Stamped → ℕ → Bool
+follows_in events event =
+    list_any (λ p. list_any (comes_next event) (arrows events (everyone events) p [] (sent_of (past_of events) p)))
+    (everyone events)
 
 -- its end and its arrows are those of the history
 pub record ShowsLife (events : List Stamped) (c : Column) : Type 0 where
@@ -127,4 +135,9 @@ pub record IsColumn (events : List Stamped) (c : Column) : Type 0 where
 pub record IsLayout (events : List Stamped) (l : Layout) : Type 0 where
   pub pids : map (λ c. c.pid) l.columns.items ≡ everyone events
   pub columns : All (λ c. IsColumn events c) l.columns.items
-  pub rows : l.rows ≡ length events
+  pub rows : AreRows events (follows_sending l.columns.items) l.rows.items
+
+-- ends, arrows and rows are those of the history alone
+pub record ShowsHistory (events : List Stamped) (l : Layout) : Type 0 where
+  pub lives : All (λ c. ShowsLife events c) l.columns.items
+  pub rows : AreRows events (follows_in events) l.rows.items

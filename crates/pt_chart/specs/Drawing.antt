@@ -1,6 +1,6 @@
 -- Of what a chart is drawn, in order: the parts that stand behind come first.
-use Rattle.std.specs.Prelude.{◌≡◌, ◌==◌, ◌%◌, ℕ, max, fold, cond, Bool, List, [], ◌∷◌, ◌++◌, length, map}
-use Rattle.std.specs.Prelude.{position, unwrap_or, is_some, codes, Option, Some, None, All}
+use Rattle.std.specs.Prelude.{◌≡◌, ◌==◌, ◌%◌, ◌+◌, ◌-◌, ◌||◌, ℕ, max, fold, cond, not, Bool, List, [], ◌∷◌, ◌++◌}
+use Rattle.std.specs.Prelude.{length, map, slice_index, position, unwrap_or, is_some, codes, Option, Some, None}
 use Rattle.std.specs.List.{flat_map, enumerate_from}
 use Rattle.std.specs.Map.{lookup}
 use Rattle.std.specs.Option.{option_map}
@@ -18,7 +18,8 @@ use Rattle.pt_chart.specs.declared.page.Page.{Page}
 use Rattle.pt_chart.specs.declared.part.Part.{Part}
 use Rattle.pt_chart.specs.declared.part.Part.TheVariants as part
 use Rattle.pt_chart.specs.declared.part.Mark.TheVariants.{Bearing, Birth, Taking, Trapping, Refusal}
-use Rattle.pt_chart.specs.Chart.{IsLayout, IsLegalHistory, ShowsLife}
+use Rattle.pt_chart.specs.Chart.{IsLayout, IsLegalHistory, ShowsHistory}
+use Rattle.pt_chart.specs.Rows.{count_of, in_rows}
 use Rattle.pt_chart.specs.Text.{head_text, part_text}
 
 -- what f gives for each of a list and its number, from 0, one after the other
@@ -34,38 +35,43 @@ abbrev pub ground : List Column → ℕ → Column → List Part
 ground cs k c =
     part.Ground k c.pid.shard ∷ cond (starts_desk cs k c.pid.shard) (part.Desk k c.pid.shard ∷ []) []
 
-abbrev pub life : ℕ → Option ℕ → Option (ℕ × Reason) → List Part
-life k None ended = []
-life k (Some row) ended = part.Life k row (option_map (λ e. e.0) ended) ∷ []
+abbrev pub life : List ℕ → ℕ → Option ℕ → Option (ℕ × Reason) → List Part
+life rows k None ended = []
+life rows k (Some born) ended =
+    part.Life k (slice_index rows born) (option_map (λ e. slice_index rows e.0) ended) ∷ []
 
 -- the line of a process, and its life if it is born
-abbrev pub column : ℕ → Column → List Part
-column k c = part.Column k ∷ life k c.born c.ended
+abbrev pub column : List ℕ → ℕ → Column → List Part
+column rows k c = part.Column k ∷ life rows k c.born c.ended
 
--- an arrow for each letter that goes out from a column
-abbrev pub letters : ℕ → Column → List Part
-letters k c = map (part.Letter k) c.arrows.items
+-- an arrow for each letter that goes out from a column, where the events stand in these rows
+abbrev pub letters : List ℕ → ℕ → Column → List Part
+letters rows k c = map (λ a. part.Letter k (in_rows rows a)) c.arrows.items
 
 -- what each of them says
-abbrev pub sayings : ℕ → Column → List Part
-sayings k c = map (part.Saying k) c.arrows.items
-
-abbrev pub bearing : ℕ → Option ℕ → ℕ → Bool → List Part
-bearing row None child linked = []
-bearing row (Some parent) child linked = part.Mark row (Bearing parent child linked) ∷ []
+abbrev pub sayings : List ℕ → ℕ → Column → List Part
+sayings rows k c = map (λ a. part.Saying k (in_rows rows a)) c.arrows.items
 
 -- the column of a process; behind all if it has none
 abbrev pub place_in : List Column → Pid → ℕ
 place_in cs p = unwrap_or (position (λ c. same_pid p c.pid) cs) (length cs)
 
--- the box of a birth, and the stroke from the parent
-abbrev pub birth_mark : List Column → ℕ → Pid → Option Pid → Bool → List Part
-birth_mark cs row p parent linked =
-    bearing row (option_map (place_in cs) parent) (place_in cs p) linked ++ part.Mark row (Birth (place_in cs p) p) ∷ []
+abbrev pub bearing : List Column → ℕ → Pid → Option Pid → Bool → List Part
+bearing cs row p None linked = []
+bearing cs row p (Some parent) linked =
+    part.Mark row (Bearing (place_in cs parent) (place_in cs p) parent linked) ∷ []
+
+-- the stroke of a birth from the parent, where there is one
+abbrev pub event_bearing : List Column → ℕ → Event → List Part
+event_bearing cs row (Born p parent link) = bearing cs row p parent (is_some link)
+event_bearing cs row _ = []
+
+abbrev pub bears : List ℕ → List Column → ℕ → Stamped → List Part
+bears rows cs i s = event_bearing cs (slice_index rows i) s.event
 
 -- the mark of an event in its row, where these are the columns
 abbrev pub event_mark : List Column → ℕ → Event → List Part
-event_mark cs row (Born p parent link) = birth_mark cs row p parent (is_some link)
+event_mark cs row (Born p parent link) = part.Mark row (Birth (place_in cs p) p) ∷ []
 event_mark cs row (Said a b x) = []
 event_mark cs row (Came a b x) = []
 event_mark cs row (Took p k i) = part.Mark row (Taking (place_in cs p)) ∷ []
@@ -73,16 +79,16 @@ event_mark cs row (Flag p on) = part.Mark row (Trapping (place_in cs p) on) ∷ 
 event_mark cs row (Left p r) = []
 event_mark cs row (Refused a b) = part.Mark row (Refusal (place_in cs a) b) ∷ []
 
-abbrev pub mark : List Column → ℕ → Stamped → List Part
-mark cs row s = event_mark cs row s.event
+abbrev pub mark : List ℕ → List Column → ℕ → Stamped → List Part
+mark rows cs i s = event_mark cs (slice_index rows i) s.event
 
-abbrev pub end_mark : ℕ → Option (ℕ × Reason) → List Part
-end_mark k None = []
-end_mark k (Some e) = part.End e.0 k e.1 ∷ []
+abbrev pub end_mark : List ℕ → ℕ → Option (ℕ × Reason) → List Part
+end_mark rows k None = []
+end_mark rows k (Some e) = part.End (slice_index rows e.0) k e.1 ∷ []
 
 -- a cross where a process ends
-abbrev pub end : ℕ → Column → List Part
-end k c = end_mark k c.ended
+abbrev pub end : List ℕ → ℕ → Column → List Part
+end rows k c = end_mark rows k c.ended
 
 abbrev pub name : ℕ → ℕ → Column → List Part
 name row k c = part.Name row k c.pid ∷ []
@@ -91,17 +97,33 @@ name row k c = part.Name row k c.pid ∷ []
 abbrev pub names : List Column → ℕ → List Part
 names cs row = cond (row % 40 == 0) (numbered (name row) cs) []
 
-abbrev pub row_parts : List Column → ℕ → Stamped → List Part
-row_parts cs row s = names cs row ++ part.Row row s ∷ []
+-- the event stands in another row than the one before it, or is the first
+abbrev pub begins_row : List ℕ → ℕ → Bool
+begins_row rows i = (i == 0) || not (slice_index rows i == slice_index rows (i - 1))
 
--- each ground, each process, each letter, what it says, each event's mark, each end and each event's row: each once,
--- and nothing else but names
+-- the event stands in another row than the next one, or is the last
+abbrev pub ends_row : List ℕ → ℕ → Bool
+ends_row rows i = (length rows == i + 1) || not (slice_index rows i == slice_index rows (i + 1))
+
+-- the line of an event, in its row
+abbrev pub line : List ℕ → ℕ → Stamped → Part
+line rows i s = part.Line (slice_index rows i) i s (begins_row rows i) (ends_row rows i)
+
+-- the line of an event; before the first one of a row the names, where they are due
+abbrev pub lines : List ℕ → List Column → ℕ → Stamped → List Part
+lines rows cs i s = cond (begins_row rows i) (names cs (slice_index rows i)) [] ++ line rows i s ∷ []
+
+-- what is drawn where the events stand in these rows
+abbrev pub drawn_in : List ℕ → List Stamped → List Column → List Part
+drawn_in rows events cs =
+    numbered (ground cs) cs ++ numbered (column rows) cs ++ numbered (letters rows) cs ++ numbered (sayings rows) cs
+    ++ numbered (bears rows cs) events ++ numbered (mark rows cs) events ++ numbered (end rows) cs
+    ++ numbered (lines rows cs) events
+
+-- each ground, each process, each letter, what it says, the stroke of each birth, each event's mark, each end and each
+-- event's line: each once, and nothing else but names
 abbrev pub drawn : List Stamped → Layout → List Part
-drawn events l =
-    numbered (ground l.columns.items) l.columns.items ++ numbered column l.columns.items
-    ++ numbered letters l.columns.items ++ numbered sayings l.columns.items
-    ++ numbered (mark l.columns.items) events ++ numbered end l.columns.items
-    ++ numbered (row_parts l.columns.items) events
+drawn events l = drawn_in l.rows.items events l.columns.items
 
 -- what a process says, and a refused call
 abbrev pub label_beside : Event → List ℕ
@@ -113,12 +135,13 @@ label_beside _ = []
 abbrev pub longest_beside : List Stamped → ℕ
 longest_beside events = fold (λ n s. max (length (label_beside s.event)) n) (length (codes "other:4294967295")) events
 
--- as many columns and rows as the layout has, and room for the longest label
+-- as many columns, events and rows as there are, and room for the longest label
 abbrev pub page_of : List Stamped → Layout → Page
 page_of events l = record {
   beside = longest_beside events;
   columns = length l.columns.items;
-  rows = length events;
+  events = length events;
+  rows = count_of l.rows.items;
 }
 
 -- what a process is called: the first name that is given to its pid, or an empty one
@@ -140,6 +163,6 @@ drawing_text page names parts = head_text page ++ flat_map (part_text page names
 pub record IsChart (events : List Stamped) (names : List (Pid × List ℕ)) (text : List ℕ) : Type 0 where
   pub layout : Layout
   pub laid_out : IsLayout events layout
-  pub legal : IsLegalHistory events → All (λ c. ShowsLife events c) layout.columns.items
+  pub legal : IsLegalHistory events → ShowsHistory events layout
   pub is : text
       ≡ drawing_text (page_of events layout) (names_of names layout.columns.items) (drawn events layout)

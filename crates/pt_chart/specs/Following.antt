@@ -83,10 +83,10 @@ ends (Came a b x) w = cond (same_pid w.me b) (got_end w.me a x w.state) None
 ends (Left q r) w = cond (same_pid w.me q) (left_end r w.state) None
 ends _ w = None
 
--- its end, where this is the reason with which it ends in a row, if it does
+-- its end, where this is the reason with which it ends by an event, if it does
 abbrev pub noted : ℕ → Option Reason → Option (ℕ × Reason) → Option (ℕ × Reason)
-noted row None before = before
-noted row (Some r) before = Some (row, r)
+noted event None before = before
+noted event (Some r) before = Some (event, r)
 
 -- it opens no monitor under a reference that it has open
 abbrev pub OpensAnew : Event → Followed → Type 0

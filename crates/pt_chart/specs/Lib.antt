@@ -1,6 +1,8 @@
 pub mod Chart
 pub mod Following
 pub mod Page
+pub mod Rows
+pub mod Standing
 pub mod Receiving
 pub mod Replying
 pub mod Points

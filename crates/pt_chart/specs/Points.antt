@@ -1,7 +1,7 @@
 -- Points of the page, and their texts.
 use Rattle.std.specs.Prelude.{ℕ, ◌+◌, ◌==◌, if◌then◌else◌, List, ◌++◌, codes, decimal}
 use Rattle.pt_chart.specs.declared.point.Point.{Point}
-use Rattle.pt_chart.specs.Page.{capped, x_of, y_of}
+use Rattle.pt_chart.specs.Page.{capped, above, x_of, y_of}
 
 unfoldable pub point_text : Point → List ℕ
 point_text p = decimal p.x ++ codes " " ++ decimal p.y
@@ -16,7 +16,13 @@ point x y = record { x = x; y = y }
 abbrev pub spot : ℕ → ℕ → Point
 spot k row = point (x_of k) (y_of row)
 
+-- how far an arrow to its own row goes up and down on its way around
+abbrev pub sag : Point → Point → ℕ
+sag from to = if from.y == to.y then 16 else 0
+
 -- the points between which an arrow is bent: straight to another column, and by the right back to its own
 abbrev pub bend : Point → Point → Point × Point
 bend from to =
-    if from.x == to.x then (point (capped (from.x + 44)) from.y, point (capped (from.x + 44)) to.y) else (from, to)
+    if from.x == to.x
+    then (point (capped (from.x + 44)) (above from.y (sag from to)), point (capped (from.x + 44)) (capped (to.y + sag from to)))
+    else (from, to)

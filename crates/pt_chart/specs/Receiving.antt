@@ -1,4 +1,4 @@
--- The rows in which the letters of one process came, by receiver. No public clause cites this module.
+-- The events by which the letters of one process came, by receiver. No public clause cites this module.
 use Rattle.std.specs.Prelude.{◌≡◌, ℕ, ◌++◌, cond, List, [], unwrap_or, drop}
 use Rattle.std.specs.Map.{lookup}
 use Rattle.pt_signal.specs.declared.pid.Pid.{Pid}
@@ -7,7 +7,7 @@ use Rattle.pt_events.specs.declared.event.Stamped.{Stamped}
 use Rattle.pt_chart.specs.declared.layout.Sending.{Sending}
 use Rattle.pt_chart.specs.Chart.{receipts, sent_to}
 
--- rows by receiver
+-- events by receiver
 abbrev pub Queued : Type 0
 Queued = List (Pid × List ℕ)
 
@@ -18,10 +18,10 @@ queue_of queued q = unwrap_or (lookup (same_pid q) queued) []
 abbrev pub IsQueued : Pid → List ℕ → Queued → Queued → Type 0
 IsQueued p queue old new = (q : Pid) → queue_of new q ≡ cond (same_pid p q) queue (queue_of old q)
 
--- these rows are behind those of each receiver
+-- these events are behind those of each receiver
 abbrev pub IsQueuedBy : (Pid → List ℕ) → Queued → Queued → Type 0
 IsQueuedBy more old new = (q : Pid) → queue_of new q ≡ queue_of old q ++ more q
 
--- each receiver has the rows in which the letters from a came that it was sent after these
+-- each receiver has the events by which the letters from a came that it was sent after these
 abbrev pub Awaits : List Stamped → Pid → List Sending → Queued → Type 0
 Awaits events a sent queued = (q : Pid) → queue_of queued q ≡ drop (sent_to q sent) (receipts a q events)

@@ -1,5 +1,5 @@
 -- The text of each part of a drawing, as SVG. Numbers are pixels.
-use Rattle.std.specs.Prelude.{ℕ, ◌+◌, ◌%◌, ◌==◌, nat_lt, if◌then◌else◌, Bool, true, false, List, [], ◌∷◌, ◌++◌, codes}
+use Rattle.std.specs.Prelude.{ℕ, ◌+◌, ◌%◌, ◌==◌, nat_lt, if◌then◌else◌, ◌&&◌, Bool, true, false, List, [], ◌∷◌, ◌++◌, codes}
 use Rattle.std.specs.Prelude.{decimal, length, slice_index_or, Option, Some, None}
 use Rattle.std.specs.List.{flat_map}
 use Rattle.pt_signal.specs.declared.pid.Pid.{Pid}
@@ -15,12 +15,13 @@ use Rattle.pt_chart.specs.declared.part.Part.{Part}
 use Rattle.pt_chart.specs.declared.point.Point.{Point}
 use Rattle.pt_chart.specs.Points.{point_text, at_text, point, spot, bend}
 use Rattle.pt_chart.specs.declared.part.Part.TheVariants.{Ground, Desk, Column, Life, Letter, Saying, Mark, End}
-use Rattle.pt_chart.specs.declared.part.Part.TheVariants.{Name, Row}
+use Rattle.pt_chart.specs.declared.part.Part.TheVariants.{Name, Line}
 use Rattle.pt_chart.specs.declared.part.Mark as mark
 use Rattle.pt_chart.specs.declared.part.Mark.TheVariants.{Bearing, Birth, Taking, Trapping, Refusal}
 use Rattle.pt_chart.specs.declared.strokes.Stroke.{Stroke}
 use Rattle.pt_chart.specs.declared.strokes.Stroke.TheVariants as stroke
 use Rattle.pt_chart.specs.declared.style.TheConstants.{STYLE}
+use Rattle.pt_chart.specs.Rows.{is_at}
 use Rattle.pt_chart.specs.Page.{capped, above, x_of, y_of, row_or_end, width_of, height_of}
 
 -- by which stroke the letter of a signal is drawn
@@ -55,19 +56,28 @@ escape text = flat_map escape_one text
 -- one element each -------------------------------------------------------------------------------------
 
 unfoldable pub size_text : ℕ → ℕ → ℕ → ℕ → List ℕ
-size_text width height rows columns =
+size_text width height events columns =
     codes "<svg xmlns=\"http://www.w3.org/2000/svg\" width=\"" ++ decimal width ++ codes "\" height=\""
     ++ decimal height ++ codes "\" viewBox=\"0 0 " ++ decimal width ++ codes " " ++ decimal height
     ++ codes "\" role=\"img\" aria-labelledby=\"title desc\">\n<title id=\"title\">A history: events "
-    ++ decimal rows ++ codes ", processes " ++ decimal columns ++ codes "</title>\n"
+    ++ decimal events ++ codes ", processes " ++ decimal columns ++ codes "</title>\n"
 
-unfoldable pub strip_text : ℕ → ℕ → List ℕ → List ℕ
-strip_text y width said =
-    codes "<g class=\"row\"><title>" ++ said ++ codes "</title><rect y=\"" ++ decimal y ++ codes "\" width=\""
-    ++ decimal width ++ codes "\" height=\"24\"/></g>\n"
+-- the end of a title, and the strip that it is of
+unfoldable pub strip_text : ℕ → ℕ → List ℕ
+strip_text y width =
+    codes "</title><rect y=\"" ++ decimal y ++ codes "\" width=\"" ++ decimal width
+    ++ codes "\" height=\"24\"/></g>\n"
 
+-- the number of the first event of a row, to the left of a point
 unfoldable pub number_text : Point → ℕ → List ℕ
-number_text at n = codes "<text class=\"number\" " ++ at_text at ++ codes " dy=\"4\">" ++ decimal n ++ codes "</text>\n"
+number_text at n =
+    codes "<text class=\"number\" " ++ at_text at ++ codes " dy=\"4\" text-anchor=\"end\">" ++ decimal n
+    ++ codes "</text>\n"
+
+-- the number of the last one, to the right of it
+unfoldable pub last_number_text : Point → ℕ → List ℕ
+last_number_text at n =
+    codes "<text class=\"number\" " ++ at_text at ++ codes " dy=\"4\">-" ++ decimal n ++ codes "</text>\n"
 
 unfoldable pub stripe_text : ℕ → ℕ → ℕ → List ℕ
 stripe_text parity x height =
@@ -113,15 +123,31 @@ label_text stroke at side said =
 -- the parts --------------------------------------------------------------------------------------------
 
 abbrev pub head_text : Page → List ℕ
-head_text p = size_text (width_of p) (height_of p) p.rows p.columns ++ STYLE.now
+head_text p = size_text (width_of p) (height_of p) p.events p.columns ++ STYLE.now
 
--- the row of an event, whose title is its line, and its number
-abbrev pub said_row_text : Page → ℕ → List ℕ → List ℕ
-said_row_text p row said =
-    strip_text (above (y_of row) 12) (width_of p) said ++ number_text (point 8 (y_of row)) (capped (row + 1))
+-- where the numbers of a row meet
+abbrev pub number_spot : ℕ → Point
+number_spot row = point 36 (y_of row)
 
-abbrev pub row_text : Page → ℕ → Stamped → List ℕ
-row_text p row s = said_row_text p row (escape (stamped_text s))
+-- the begin of a row, whose title has the lines of its events; before a further one of these a line feed
+abbrev pub opening_text : ℕ → ℕ → Bool → List ℕ
+opening_text row i true = number_text (number_spot row) (capped (i + 1)) ++ codes "<g class=\"row\"><title>"
+opening_text row i false = codes "\n"
+
+-- the number of the last event of a row, which its first one has already
+abbrev pub last_text : ℕ → ℕ → Bool → List ℕ
+last_text row i true = []
+last_text row i false = last_number_text (number_spot row) (capped (i + 1))
+
+-- the end of a row, behind the last line
+abbrev pub closing_text : Page → ℕ → ℕ → Bool → Bool → List ℕ
+closing_text p row i first true = strip_text (above (y_of row) 12) (width_of p) ++ last_text row i first
+closing_text p row i first false = []
+
+-- the line of an event in the title of its row, of which it may be the first and the last
+abbrev pub line_text : Page → ℕ → ℕ → Stamped → Bool → Bool → List ℕ
+line_text p row i s first last =
+    opening_text row i first ++ escape (stamped_text s) ++ closing_text p row i first last
 
 -- a name of more characters than a column is wide is pressed into it
 abbrev pub fit_text : ℕ → List ℕ
@@ -175,15 +201,33 @@ is_owed (signal.Down m r) = true
 is_owed (signal.AliveAsk m) = false
 is_owed (signal.AliveSay m x) = true
 
--- towards the other end of an arrow: left of a point, or right of it
-abbrev pub side_text : Bool → List ℕ
-side_text true = codes " dx=\"-8\" dy=\"-4\" text-anchor=\"end\""
-side_text false = codes " dx=\"8\" dy=\"-4\""
+-- towards the other end of an arrow: left of a point, or right of it; below it, or above it
+abbrev pub side_text : Bool → Bool → List ℕ
+side_text true true = codes " dx=\"-8\" dy=\"13\" text-anchor=\"end\""
+side_text true false = codes " dx=\"-12\" dy=\"-4\" text-anchor=\"end\""
+side_text false true = codes " dx=\"6\" dy=\"13\""
+side_text false false = codes " dx=\"8\" dy=\"-4\""
+
+-- the letter comes in the row in which it was sent
+abbrev pub is_level : Arrow → Bool
+is_level a = is_at a.sent a.came
+
+-- The label of a letter from this column stands off the arrow: below one that comes from above, and above one that goes
+-- down. Within a row it stands above an arrow to the right and below one to the left, as another one may come back.
+abbrev pub is_below : ℕ → Arrow → Bool → Bool
+is_below k a owed = if is_level a then nat_lt a.to k else owed
+
+-- where the label stands, at the receiver or at the sender; an arrow from a process to itself within a row goes around
+-- to the right, and its label stands behind it
+abbrev pub letter_side_text : ℕ → Arrow → Bool → List ℕ
+letter_side_text k a owed =
+    if is_level a && (k == a.to) then codes " dx=\"38\" dy=\"4\""
+    else side_text (if owed then nat_lt k a.to else nat_lt a.to k) (is_below k a owed)
 
 -- beside the receiver, or beside the sender
 abbrev pub letter_label_text : Page → ℕ → Arrow → Bool → List ℕ → List ℕ
-letter_label_text p k a true said = label_text (stroke_of a.signal) (tip p a) (side_text (nat_lt k a.to)) said
-letter_label_text p k a false said = label_text (stroke_of a.signal) (spot k a.sent) (side_text (nat_lt a.to k)) said
+letter_label_text p k a owed said =
+    label_text (stroke_of a.signal) (if owed then tip p a else spot k a.sent) (letter_side_text k a owed) said
 
 -- what a letter says, where it comes if it is owed, else where it is sent
 abbrev pub saying_text : Page → ℕ → Arrow → List ℕ
@@ -193,14 +237,19 @@ abbrev pub bearing_class : Bool → List ℕ
 bearing_class true = codes "link"
 bearing_class false = codes "before"
 
-abbrev pub bearing_label : Bool → List ℕ
-bearing_label true = codes "spawn, linked"
-bearing_label false = codes "spawn"
+abbrev pub bearing_label : Pid → Bool → List ℕ
+bearing_label by true = codes "by " ++ pid_text by ++ codes ", linked"
+bearing_label by false = codes "by " ++ pid_text by
 
-abbrev pub bearing_text : ℕ → ℕ → ℕ → Bool → List ℕ
-bearing_text row parent child linked =
+-- the stroke from parent to child, and above the child the parent: several may be born in one row
+abbrev pub said_bearing_text : ℕ → ℕ → ℕ → Bool → List ℕ → List ℕ
+said_bearing_text row parent child linked said =
     level_text (bearing_class linked) (spot parent row) (x_of child)
-    ++ label_text stroke.Link (spot parent row) (side_text (nat_lt child parent)) (bearing_label linked)
+    ++ label_text stroke.Link (spot child row) (codes " dy=\"-12\" text-anchor=\"middle\"") said
+
+abbrev pub bearing_text : ℕ → ℕ → ℕ → Pid → Bool → List ℕ
+bearing_text row parent child by linked =
+    said_bearing_text row parent child linked (escape (bearing_label by linked))
 
 abbrev pub named_birth_text : Point → List ℕ → List ℕ
 named_birth_text at name = shape_text (codes "birth") at ++ name_text (point at.x (capped (at.y + 4))) [] name
@@ -218,11 +267,11 @@ trap_text false = codes "traps exits no more"
 abbrev pub trapping_text : ℕ → ℕ → Bool → List ℕ
 trapping_text row k on =
     shape_text (codes "trapping") (spot k row)
-    ++ label_text stroke.Message (spot k row) (side_text false) (trap_text on)
+    ++ label_text stroke.Message (spot k row) (side_text false false) (trap_text on)
 
 abbrev pub refusal_text : ℕ → ℕ → Pid → List ℕ
 refusal_text row k to =
-    label_text stroke.Exit (spot k row) (side_text false) (escape (codes "refused " ++ pid_text to))
+    label_text stroke.Exit (spot k row) (side_text false false) (escape (codes "refused " ++ pid_text to))
 
 abbrev pub said_end_text : Point → List ℕ → List ℕ
 said_end_text at said = shape_text (codes "end") at ++ label_text stroke.Exit at (codes " dx=\"10\" dy=\"12\"") said
@@ -231,7 +280,7 @@ abbrev pub end_text : ℕ → ℕ → Reason → List ℕ
 end_text row k r = said_end_text (spot k row) (escape (reason_text r))
 
 abbrev pub mark_text : ℕ → mark.Mark → List ℕ
-mark_text row (Bearing parent child linked) = bearing_text row parent child linked
+mark_text row (Bearing parent child by linked) = bearing_text row parent child by linked
 mark_text row (Birth k pid) = birth_text row k pid
 mark_text row (Taking k) = taking_text row k
 mark_text row (Trapping k on) = trapping_text row k on
@@ -248,4 +297,4 @@ part_text p names (Saying k a) = saying_text p k a
 part_text p names (Mark row m) = mark_text row m
 part_text p names (End row k r) = end_text row k r
 part_text p names (Name row k pid) = head_above_text row k (slice_index_or names k []) pid
-part_text p names (Row row s) = row_text p row s
+part_text p names (Line row i s first last) = line_text p row i s first last

@@ -1,27 +1,31 @@
 //! The chart, from its background to its foreground.
 
-ghost use Rattle.std.specs.Prelude.{◌≡◌, ◌==◌, [], ◌∷◌, ◌++◌, IfOk, OnOk, length, map, position, string_bytes};
+ghost use Rattle.std.specs.Prelude.{◌≡◌, ◌==◌, ◌<◌, [], ◌∷◌, ◌++◌, IfOk, OnOk, length, map, position, slice_index};
+ghost use Rattle.std.specs.Prelude.{string_bytes};
+ghost use Rattle.std.specs.Option.{option_map};
 ghost use Rattle.pt_signal.specs.Values.{same_pid};
 ghost use Rattle.pt_chart.specs.declared.part.Part.TheVariants.{Mark as MarkPart};
-ghost use Rattle.pt_chart.specs.Drawing.{IsChart, birth_mark, column, drawing_text, drawn, end, event_mark, given};
-ghost use Rattle.pt_chart.specs.Drawing.{ground, label_beside, letters, longest_beside, mark, name, names, names_of};
-ghost use Rattle.pt_chart.specs.Drawing.{numbered, page_of, place_in, row_parts, sayings, starts_desk};
+ghost use Rattle.pt_chart.specs.Drawing.{IsChart, bears, begins_row, column, drawing_text, drawn, end, ends_row};
+ghost use Rattle.pt_chart.specs.Drawing.{event_bearing, event_mark, given, ground, label_beside, letters, lines};
+ghost use Rattle.pt_chart.specs.Drawing.{longest_beside, mark, name, names, names_of, numbered, page_of, place_in};
+ghost use Rattle.pt_chart.specs.Drawing.{sayings, starts_desk};
+ghost use Rattle.pt_chart.specs.Rows.{count_of, in_rows};
 
 use crate::called::{Called, names_of};
-use crate::layout::{Column, Layout, lay_out};
+use crate::layout::{Arrow, Column, Layout, lay_out};
 use crate::page::{BLOCK, Page};
 use crate::part::{Mark, Part};
 use crate::text::{write_head, write_parts};
 use pt_events::{Event, Stamped};
-use pt_signal::Pid;
+use pt_signal::{Pid, Reason};
 use std::alloc::{AllocError, Global};
 
 /// The history as a message sequence chart: what its [`lay_out`] says, drawn.
 ///
-/// The text has the ground and the life of each process, each letter's arrow and what it says, each event's mark, each
-/// end, and the row of each event with its line as the title, each once and in this order; the pids of the processes
-/// stand above the first row and again after each 40, and above the pid of a process the first name that is given to it,
-/// with XML's own characters escaped.
+/// The text has the ground and the life of each process, each letter's arrow and what it says, the stroke of each birth
+/// from the parent, each event's mark, each end, and each event's line in the title of its row, each once and in this
+/// order; the pids of the processes stand above the first row and again after each 40, and above the pid of a process
+/// the first name that is given to it, with XML's own characters escaped.
 pub fn chart(alloc: Global, events: &[Stamped], called: &[Called<'_>]) -> Result<String, AllocError>
     ensures { IfOk result (λ text. IsChart events.now (map given called.now) (string_bytes text)) }
 {
@@ -36,6 +40,7 @@ fn drawing_of(
     called: &[Called<'_>],
     layout: &Layout,
 ) -> Result<String, AllocError>
+    requires { length layout.now.rows.items ≡ length events.now }
     ensures { IfOk result (λ text. string_bytes text ≡ drawing_text (page_of events.now layout.now)
         (names_of (map given called.now) layout.now.columns.items) (drawn events.now layout.now)) }
 {
@@ -70,8 +75,20 @@ fn page_of(alloc: Global, events: &[Stamped], layout: &Layout) -> Result<Page, A
     Ok(Page {
         beside: beside(alloc, events)?,
         columns: layout.columns.len(),
-        rows: events.len(),
+        events: events.len(),
+        rows: count_of(layout.rows.as_slice()),
     })
+}
+
+/// How many rows there are.
+fn count_of(rows: &[usize]) -> usize
+    ensures { result ≡ count_of rows.now }
+{
+    let mut count = 0;
+    for row in rows {
+        count = row.saturating_add(1).max(count);
+    }
+    count
 }
 
 /// How many characters the longest label has of what a process says, of a call that was refused, or of a reason.
@@ -98,18 +115,52 @@ fn label_length(alloc: Global, event: Event) -> Result<usize, AllocError>
 
 /// What the chart is drawn of.
 fn parts_of(alloc: Global, events: &[Stamped], layout: &Layout) -> Result<Vec<Part>, AllocError>
+    requires { length layout.now.rows.items ≡ length events.now }
     ensures { IfOk result (λ parts. parts.items ≡ drawn events.now layout.now) }
 {
     let columns = layout.columns.as_slice();
+    let rows = layout.rows.as_slice();
     let mut parts = Vec::new(alloc);
     list_grounds(columns, &mut parts)?;
-    list_columns(columns, &mut parts)?;
-    list_letters(columns, &mut parts)?;
-    list_sayings(columns, &mut parts)?;
-    list_marks(events, columns, &mut parts)?;
-    list_ends(columns, &mut parts)?;
-    list_rows(events, columns, &mut parts)?;
+    list_columns(rows, columns, &mut parts)?;
+    list_letters(rows, columns, &mut parts)?;
+    list_sayings(rows, columns, &mut parts)?;
+    list_bearings(rows, events, columns, &mut parts)?;
+    list_marks(rows, events, columns, &mut parts)?;
+    list_ends(rows, columns, &mut parts)?;
+    list_lines(rows, events, columns, &mut parts)?;
     Ok(parts)
+}
+
+/// The row of an event.
+fn row_of(rows: &[usize], event: usize) -> usize
+    ensures { result ≡ slice_index rows.now event }
+{
+    match rows.get(event) {
+        Some(row) => *row,
+        None => 0,
+    }
+}
+
+/// The arrow from row to row, where it goes from event to event.
+fn in_rows(rows: &[usize], arrow: Arrow) -> Arrow
+    ensures { result ≡ in_rows rows.now arrow }
+{
+    Arrow {
+        to: arrow.to,
+        signal: arrow.signal,
+        sent: row_of(rows, arrow.sent),
+        came: row_if(rows, arrow.came),
+    }
+}
+
+fn row_if(rows: &[usize], event: Option<usize>) -> Option<usize>
+    ensures { result ≡ option_map (slice_index rows.now) event }
+{
+    match event {
+        Some(event) => Some(row_of(rows, event)),
+        None => None,
+    }
 }
 
 /// The ground of each process.
@@ -159,83 +210,143 @@ fn first_of_desk(columns: &[Column], desk: u8) -> Option<usize>
 }
 
 /// The line and the life of each process.
-fn list_columns(columns: &[Column], parts: &mut Vec<Part>) -> Result<(), AllocError>
-    ensures { OnOk result (parts.new.items ≡ parts.old.items ++ numbered column columns.now) }
+fn list_columns(rows: &[usize], columns: &[Column], parts: &mut Vec<Part>) -> Result<(), AllocError>
+    ensures { OnOk result (parts.new.items ≡ parts.old.items ++ numbered (column rows.now) columns.now) }
 {
     for place in 0..columns.len() {
-        list_column(place, &columns[place], parts)?;
+        list_column(rows, place, &columns[place], parts)?;
     }
     Ok(())
 }
 
-fn list_column(place: usize, shown: &Column, parts: &mut Vec<Part>) -> Result<(), AllocError>
-    ensures { OnOk result (parts.new.items ≡ parts.old.items ++ column place shown.now) }
+fn list_column(
+    rows: &[usize],
+    place: usize,
+    shown: &Column,
+    parts: &mut Vec<Part>,
+) -> Result<(), AllocError>
+    ensures { OnOk result (parts.new.items ≡ parts.old.items ++ column rows.now place shown.now) }
 {
     parts.push(Part::Column { column: place })?;
     if let Some(born) = shown.born {
         parts.push(Part::Life {
             column: place,
-            born,
-            ended: shown.ended.map(|(row, _)| row),
+            born: row_of(rows, born),
+            ended: row_of_end(rows, shown.ended),
         })?;
     }
     Ok(())
 }
 
+fn row_of_end(rows: &[usize], ended: Option<(usize, Reason)>) -> Option<usize>
+    ensures { result ≡ option_map (λ e. slice_index rows.now e.0) ended }
+{
+    match ended {
+        Some((event, _)) => Some(row_of(rows, event)),
+        None => None,
+    }
+}
+
 /// An arrow a letter.
-fn list_letters(columns: &[Column], parts: &mut Vec<Part>) -> Result<(), AllocError>
-    ensures { OnOk result (parts.new.items ≡ parts.old.items ++ numbered letters columns.now) }
+fn list_letters(rows: &[usize], columns: &[Column], parts: &mut Vec<Part>) -> Result<(), AllocError>
+    ensures { OnOk result (parts.new.items ≡ parts.old.items ++ numbered (letters rows.now) columns.now) }
 {
     for place in 0..columns.len() {
-        list_letters_from(place, &columns[place], parts)?;
+        list_letters_from(rows, place, &columns[place], parts)?;
     }
     Ok(())
 }
 
-fn list_letters_from(place: usize, shown: &Column, parts: &mut Vec<Part>) -> Result<(), AllocError>
-    ensures { OnOk result (parts.new.items ≡ parts.old.items ++ letters place shown.now) }
+fn list_letters_from(
+    rows: &[usize],
+    place: usize,
+    shown: &Column,
+    parts: &mut Vec<Part>,
+) -> Result<(), AllocError>
+    ensures { OnOk result (parts.new.items ≡ parts.old.items ++ letters rows.now place shown.now) }
 {
     for arrow in &shown.arrows {
         parts.push(Part::Letter {
             column: place,
-            arrow: *arrow,
+            arrow: in_rows(rows, *arrow),
         })?;
     }
     Ok(())
 }
 
 /// What each letter says.
-fn list_sayings(columns: &[Column], parts: &mut Vec<Part>) -> Result<(), AllocError>
-    ensures { OnOk result (parts.new.items ≡ parts.old.items ++ numbered sayings columns.now) }
+fn list_sayings(rows: &[usize], columns: &[Column], parts: &mut Vec<Part>) -> Result<(), AllocError>
+    ensures { OnOk result (parts.new.items ≡ parts.old.items ++ numbered (sayings rows.now) columns.now) }
 {
     for place in 0..columns.len() {
-        list_sayings_of(place, &columns[place], parts)?;
+        list_sayings_of(rows, place, &columns[place], parts)?;
     }
     Ok(())
 }
 
-fn list_sayings_of(place: usize, shown: &Column, parts: &mut Vec<Part>) -> Result<(), AllocError>
-    ensures { OnOk result (parts.new.items ≡ parts.old.items ++ sayings place shown.now) }
+fn list_sayings_of(
+    rows: &[usize],
+    place: usize,
+    shown: &Column,
+    parts: &mut Vec<Part>,
+) -> Result<(), AllocError>
+    ensures { OnOk result (parts.new.items ≡ parts.old.items ++ sayings rows.now place shown.now) }
 {
     for arrow in &shown.arrows {
         parts.push(Part::Saying {
             column: place,
-            arrow: *arrow,
+            arrow: in_rows(rows, *arrow),
         })?;
     }
     Ok(())
 }
 
-/// The mark of each event.
-fn list_marks(
+/// The stroke to each process from its parent.
+fn list_bearings(
+    rows: &[usize],
     events: &[Stamped],
     columns: &[Column],
     parts: &mut Vec<Part>,
 ) -> Result<(), AllocError>
-    ensures { OnOk result (parts.new.items ≡ parts.old.items ++ numbered (mark columns.now) events.now) }
+    ensures { OnOk result (parts.new.items ≡ parts.old.items ++ numbered (bears rows.now columns.now) events.now) }
 {
-    for row in 0..events.len() {
-        list_mark(row, events[row].event, columns, parts)?;
+    for at in 0..events.len() {
+        list_bearing(row_of(rows, at), events[at].event, columns, parts)?;
+    }
+    Ok(())
+}
+
+fn list_bearing(
+    row: usize,
+    event: Event,
+    columns: &[Column],
+    parts: &mut Vec<Part>,
+) -> Result<(), AllocError>
+    ensures { OnOk result (parts.new.items ≡ parts.old.items ++ event_bearing columns.now row event) }
+{
+    let Event::Born(pid, Some(by), link) = event else {
+        return Ok(());
+    };
+    let mark = Mark::Bearing {
+        parent: column_of(columns, by),
+        child: column_of(columns, pid),
+        by,
+        linked: link.is_some(),
+    };
+    put(row, mark, parts)
+}
+
+/// The mark of each event.
+fn list_marks(
+    rows: &[usize],
+    events: &[Stamped],
+    columns: &[Column],
+    parts: &mut Vec<Part>,
+) -> Result<(), AllocError>
+    ensures { OnOk result (parts.new.items ≡ parts.old.items ++ numbered (mark rows.now columns.now) events.now) }
+{
+    for at in 0..events.len() {
+        list_mark(row_of(rows, at), events[at].event, columns, parts)?;
     }
     Ok(())
 }
@@ -249,8 +360,9 @@ fn list_mark(
     ensures { OnOk result (parts.new.items ≡ parts.old.items ++ event_mark columns.now row event) }
 {
     match event {
-        Event::Born(pid, parent, link) => {
-            list_birth(row, pid, parent, link.is_some(), columns, parts)
+        Event::Born(pid, _, _) => {
+            let column = column_of(columns, pid);
+            put(row, Mark::Birth { column, pid }, parts)
         }
         Event::Took(pid, _, _) => {
             let column = column_of(columns, pid);
@@ -266,32 +378,6 @@ fn list_mark(
         }
         Event::Said(_, _, _) | Event::Came(_, _, _) | Event::Left(_, _) => Ok(()),
     }
-}
-
-fn list_birth(
-    row: usize,
-    pid: Pid,
-    parent: Option<Pid>,
-    linked: bool,
-    columns: &[Column],
-    parts: &mut Vec<Part>,
-) -> Result<(), AllocError>
-    ensures { OnOk result (parts.new.items ≡ parts.old.items ++ birth_mark columns.now row pid parent linked) }
-{
-    let child = column_of(columns, pid);
-    if let Some(parent) = parent {
-        let parent = column_of(columns, parent);
-        put(
-            row,
-            Mark::Bearing {
-                parent,
-                child,
-                linked,
-            },
-            parts,
-        )?;
-    }
-    put(row, Mark::Birth { column: child, pid }, parts)
 }
 
 fn put(row: usize, mark: Mark, parts: &mut Vec<Part>) -> Result<(), AllocError>
@@ -315,21 +401,26 @@ fn position_of(columns: &[Column], pid: Pid) -> Option<usize>
 }
 
 /// A cross where a process ends.
-fn list_ends(columns: &[Column], parts: &mut Vec<Part>) -> Result<(), AllocError>
-    ensures { OnOk result (parts.new.items ≡ parts.old.items ++ numbered end columns.now) }
+fn list_ends(rows: &[usize], columns: &[Column], parts: &mut Vec<Part>) -> Result<(), AllocError>
+    ensures { OnOk result (parts.new.items ≡ parts.old.items ++ numbered (end rows.now) columns.now) }
 {
     for place in 0..columns.len() {
-        list_end(place, &columns[place], parts)?;
+        list_end(rows, place, &columns[place], parts)?;
     }
     Ok(())
 }
 
-fn list_end(place: usize, shown: &Column, parts: &mut Vec<Part>) -> Result<(), AllocError>
-    ensures { OnOk result (parts.new.items ≡ parts.old.items ++ end place shown.now) }
+fn list_end(
+    rows: &[usize],
+    place: usize,
+    shown: &Column,
+    parts: &mut Vec<Part>,
+) -> Result<(), AllocError>
+    ensures { OnOk result (parts.new.items ≡ parts.old.items ++ end rows.now place shown.now) }
 {
-    if let Some((row, reason)) = shown.ended {
+    if let Some((event, reason)) = shown.ended {
         parts.push(Part::End {
-            row,
+            row: row_of(rows, event),
             column: place,
             reason,
         })?;
@@ -337,32 +428,60 @@ fn list_end(place: usize, shown: &Column, parts: &mut Vec<Part>) -> Result<(), A
     Ok(())
 }
 
-/// The row of each event.
-fn list_rows(
+/// The line of each event.
+fn list_lines(
+    rows: &[usize],
     events: &[Stamped],
     columns: &[Column],
     parts: &mut Vec<Part>,
 ) -> Result<(), AllocError>
-    ensures { OnOk result (parts.new.items ≡ parts.old.items ++ numbered (row_parts columns.now) events.now) }
+    requires { length rows.now ≡ length events.now }
+    ensures { OnOk result (parts.new.items ≡ parts.old.items ++ numbered (lines rows.now columns.now) events.now) }
 {
-    for row in 0..events.len() {
-        list_row(row, events[row], columns, parts)?;
+    for at in 0..events.len() {
+        list_line(rows, at, events[at], columns, parts)?;
     }
     Ok(())
 }
 
-/// The row of an event; above it the names of the processes, where they have not stood for some rows.
-fn list_row(
-    row: usize,
+/// The line of an event; before the first one of a row the names of the processes, where they are due.
+fn list_line(
+    rows: &[usize],
+    at: usize,
     event: Stamped,
     columns: &[Column],
     parts: &mut Vec<Part>,
 ) -> Result<(), AllocError>
-    ensures { OnOk result (parts.new.items ≡ parts.old.items ++ row_parts columns.now row event) }
+    requires { at < length rows.now }
+    ensures { OnOk result (parts.new.items ≡ parts.old.items ++ lines rows.now columns.now at event) }
 {
-    list_names(row, columns, parts)?;
-    parts.push(Part::Row { row, event })?;
+    let first = begins_row(rows, at);
+    if first {
+        list_names(rows[at], columns, parts)?;
+    }
+    parts.push(Part::Line {
+        row: rows[at],
+        at,
+        event,
+        first,
+        last: ends_row(rows, at),
+    })?;
     Ok(())
+}
+
+/// Whether the event stands in another row than the one before it, or is the first.
+fn begins_row(rows: &[usize], at: usize) -> bool
+    ensures { result ≡ begins_row rows.now at }
+{
+    at == 0 || row_of(rows, at) != row_of(rows, at - 1)
+}
+
+/// Whether the event stands in another row than the next one, or is the last.
+fn ends_row(rows: &[usize], at: usize) -> bool
+    requires { at < length rows.now }
+    ensures { result ≡ ends_row rows.now at }
+{
+    rows.len() == at + 1 || rows[at] != rows[at + 1]
 }
 
 fn list_names(row: usize, columns: &[Column], parts: &mut Vec<Part>) -> Result<(), AllocError>

@@ -1,8 +1,8 @@
 //! The elements of SVG that a chart is made of.
 
 ghost use Rattle.std.specs.Prelude.{◌≡◌, ◌++◌, OnOk, string_bytes};
-ghost use Rattle.pt_chart.specs.Text.{alive_text, before_text, curve_text, desk_text, label_text, level_text};
-ghost use Rattle.pt_chart.specs.Text.{marker_text, name_text, number_text, shape_text, size_text, strip_text};
+ghost use Rattle.pt_chart.specs.Text.{alive_text, before_text, curve_text, desk_text, label_text, last_number_text};
+ghost use Rattle.pt_chart.specs.Text.{level_text, marker_text, name_text, number_text, shape_text, size_text, strip_text};
 ghost use Rattle.pt_chart.specs.Text.{stripe_text};
 
 use crate::point::{At, Point};
@@ -13,43 +13,50 @@ use std::alloc::AllocError;
 pub(crate) fn write_size(
     width: u64,
     height: u64,
-    rows: usize,
+    events: usize,
     columns: usize,
     text: &mut String,
 ) -> Result<(), AllocError>
-    ensures { OnOk result (string_bytes text.new ≡ string_bytes text.old ++ size_text width height rows columns) }
+    ensures { OnOk result (string_bytes text.new ≡ string_bytes text.old ++ size_text width height events columns) }
 {
     write!(
         text,
         "<svg xmlns=\"http://www.w3.org/2000/svg\" width=\"{width}\" height=\"{height}\" \
          viewBox=\"0 0 {width} {height}\" role=\"img\" aria-labelledby=\"title desc\">\n\
-         <title id=\"title\">A history: events {rows}, processes {columns}</title>\n"
+         <title id=\"title\">A history: events {events}, processes {columns}</title>\n"
     )
 }
 
-/// The row of an event, across the page: it shows no more than what it is while a pointer is over it.
-pub(crate) fn write_strip(
-    y: u64,
-    width: u64,
-    said: &str,
-    text: &mut String,
-) -> Result<(), AllocError>
-    ensures { OnOk result (string_bytes text.new ≡ string_bytes text.old ++ strip_text y width said.now) }
+/// The end of a row's title, and the strip across the page that it is of: it shows no more than what it is while a
+/// pointer is over it.
+pub(crate) fn write_strip(y: u64, width: u64, text: &mut String) -> Result<(), AllocError>
+    ensures { OnOk result (string_bytes text.new ≡ string_bytes text.old ++ strip_text y width) }
 {
     write!(
         text,
-        "<g class=\"row\"><title>{said}</title><rect y=\"{y}\" width=\"{width}\" height=\"24\"/></g>\n"
+        "</title><rect y=\"{y}\" width=\"{width}\" height=\"24\"/></g>\n"
     )
 }
 
-/// The number of a row.
+/// The number of the first event of a row.
 pub(crate) fn write_number(at: Point, number: u64, text: &mut String) -> Result<(), AllocError>
     ensures { OnOk result (string_bytes text.new ≡ string_bytes text.old ++ number_text at number) }
 {
     let at = At(at);
     write!(
         text,
-        "<text class=\"number\" {at} dy=\"4\">{number}</text>\n"
+        "<text class=\"number\" {at} dy=\"4\" text-anchor=\"end\">{number}</text>\n"
+    )
+}
+
+/// The number of the last event of a row that has several.
+pub(crate) fn write_last_number(at: Point, number: u64, text: &mut String) -> Result<(), AllocError>
+    ensures { OnOk result (string_bytes text.new ≡ string_bytes text.old ++ last_number_text at number) }
+{
+    let at = At(at);
+    write!(
+        text,
+        "<text class=\"number\" {at} dy=\"4\">-{number}</text>\n"
     )
 }
 

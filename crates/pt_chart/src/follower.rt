@@ -6,7 +6,7 @@ ghost use Rattle.pt_signal.specs.Process.{fresh, handle, say};
 ghost use Rattle.pt_events.specs.declared.event.Event.TheVariants.{Born, Said, Came, Flag, Left};
 ghost use Rattle.pt_events.specs.History.{unborn, linked};
 ghost use Rattle.pt_process.specs.Outcome.{IsAnew};
-ghost use Rattle.pt_chart.specs.Chart.{in_row};
+ghost use Rattle.pt_chart.specs.Chart.{sent_at};
 ghost use Rattle.pt_chart.specs.Following.{followed, seen, sends, ends, OpensAnew, gets, got_sent, got_end, left_sent};
 ghost use Rattle.pt_chart.specs.Following.{left_end, begins, changes};
 ghost use Rattle.pt_chart.specs.Replying.{Replies};
@@ -51,17 +51,17 @@ impl Follower {
         }
     }
 
-    /// The event of a row happens. What it sends by that joins what it has sent; the answer is the reason with which
-    /// it ends, if it does.
+    /// The event at a place of the history happens. What it sends by that joins what it has sent; the answer is the
+    /// reason with which it ends, if it does.
     pub(crate) fn see(
         &mut self,
         alloc: Global,
-        row: usize,
+        at: usize,
         event: Event,
         sent: &mut Vec<Sending>,
     ) -> Result<Option<Reason>, AllocError>
         ensures state { OpensAnew event self.old → OnOk result (self.new ≡ seen event self.old) }
-        ensures sent { OnOk result (sent.new.items ≡ sent.old.items ++ map (in_row row) (sends event self.old)) }
+        ensures sent { OnOk result (sent.new.items ≡ sent.old.items ++ map (sent_at at) (sends event self.old)) }
         ensures ending { IfOk result (λ reason. reason ≡ ends event self.old) }
     {
         match event {
@@ -70,10 +70,10 @@ impl Follower {
                 Ok(None)
             }
             Event::Said(from, to, signal) => {
-                self.see_sending(row, from, to, signal, sent)?;
+                self.see_sending(at, from, to, signal, sent)?;
                 Ok(None)
             }
-            Event::Came(from, to, signal) => self.see_receipt(row, from, to, signal, sent),
+            Event::Came(from, to, signal) => self.see_receipt(at, from, to, signal, sent),
             Event::Took(pid, pick, _) => {
                 self.see_taking(pid, pick);
                 Ok(None)
@@ -82,7 +82,7 @@ impl Follower {
                 self.see_flag(pid, on);
                 Ok(None)
             }
-            Event::Left(pid, reason) => self.see_end(row, pid, reason, sent),
+            Event::Left(pid, reason) => self.see_end(at, pid, reason, sent),
             Event::Refused(_, _) => Ok(None),
         }
     }
@@ -107,7 +107,7 @@ impl Follower {
 
     fn see_sending(
         &mut self,
-        row: usize,
+        at: usize,
         from: Pid,
         to: Pid,
         signal: Signal,
@@ -116,19 +116,23 @@ impl Follower {
         ensures state { OpensAnew (Said from to signal) self.old
             → OnOk result (self.new ≡ seen (Said from to signal) self.old) }
         ensures sent { OnOk result
-            (sent.new.items ≡ sent.old.items ++ map (in_row row) (sends (Said from to signal) self.old)) }
+            (sent.new.items ≡ sent.old.items ++ map (sent_at at) (sends (Said from to signal) self.old)) }
     {
         if from != self.me {
             return Ok(());
         }
         self.say(to, signal)?;
-        sent.push(Sending { row, to, signal })?;
+        sent.push(Sending {
+            event: at,
+            to,
+            signal,
+        })?;
         Ok(())
     }
 
     fn see_receipt(
         &mut self,
-        row: usize,
+        at: usize,
         from: Pid,
         to: Pid,
         signal: Signal,
@@ -136,13 +140,13 @@ impl Follower {
     ) -> Result<Option<Reason>, AllocError>
         ensures state { OnOk result (self.new ≡ seen (Came from to signal) self.old) }
         ensures sent { OnOk result
-            (sent.new.items ≡ sent.old.items ++ map (in_row row) (sends (Came from to signal) self.old)) }
+            (sent.new.items ≡ sent.old.items ++ map (sent_at at) (sends (Came from to signal) self.old)) }
         ensures ending { IfOk result (λ reason. reason ≡ ends (Came from to signal) self.old) }
     {
         if to != self.me {
             return Ok(None);
         }
-        self.hear(row, from, signal, sent)
+        self.hear(at, from, signal, sent)
     }
 
     fn see_taking(&mut self, pid: Pid, pick: Pick)
@@ -165,20 +169,20 @@ impl Follower {
 
     fn see_end(
         &mut self,
-        row: usize,
+        at: usize,
         pid: Pid,
         reason: Reason,
         sent: &mut Vec<Sending>,
     ) -> Result<Option<Reason>, AllocError>
         ensures state { OnOk result (self.new ≡ seen (Left pid reason) self.old) }
         ensures sent { OnOk result
-            (sent.new.items ≡ sent.old.items ++ map (in_row row) (sends (Left pid reason) self.old)) }
+            (sent.new.items ≡ sent.old.items ++ map (sent_at at) (sends (Left pid reason) self.old)) }
         ensures ending { IfOk result (λ ending. ending ≡ ends (Left pid reason) self.old) }
     {
         if pid != self.me {
             return Ok(None);
         }
-        self.leave(row, reason, sent)
+        self.leave(at, reason, sent)
     }
 
     fn begin(
@@ -240,7 +244,7 @@ impl Follower {
     /// A signal comes to it.
     fn hear(
         &mut self,
-        row: usize,
+        at: usize,
         from: Pid,
         signal: Signal,
         sent: &mut Vec<Sending>,
@@ -248,13 +252,13 @@ impl Follower {
         ensures state { OnOk result
             (self.new ≡ record self.old { state = gets self.old.me from signal self.old.state }) }
         ensures sent { OnOk result
-            (sent.new.items ≡ sent.old.items ++ map (in_row row) (got_sent self.old.me from signal self.old.state)) }
+            (sent.new.items ≡ sent.old.items ++ map (sent_at at) (got_sent self.old.me from signal self.old.state)) }
         ensures ending { IfOk result (λ reason. reason ≡ got_end self.old.me from signal self.old.state) }
     {
         let Some(process) = &mut self.process else {
             if let Some(answer) = signal.answer_of_dead() {
                 sent.push(Sending {
-                    row,
+                    event: at,
                     to: from,
                     signal: answer,
                 })?;
@@ -262,10 +266,10 @@ impl Follower {
             return Ok(None);
         };
         match take_in(process, from, signal)? {
-            Reply::End(reason) => self.leave(row, reason, sent),
+            Reply::End(reason) => self.leave(at, reason, sent),
             Reply::Answer(signal) => {
                 sent.push(Sending {
-                    row,
+                    event: at,
                     to: from,
                     signal,
                 })?;
@@ -278,19 +282,19 @@ impl Follower {
     /// It ends, if it is alive, and sends what it owes.
     fn leave(
         &mut self,
-        row: usize,
+        at: usize,
         reason: Reason,
         sent: &mut Vec<Sending>,
     ) -> Result<Option<Reason>, AllocError>
         ensures state { OnOk result (self.new ≡ record self.old { state = None }) }
         ensures sent { OnOk result
-            (sent.new.items ≡ sent.old.items ++ map (in_row row) (left_sent self.old.me reason self.old.state)) }
+            (sent.new.items ≡ sent.old.items ++ map (sent_at at) (left_sent self.old.me reason self.old.state)) }
         ensures ending { IfOk result (λ ending. ending ≡ left_end reason self.old.state) }
     {
         let Some(process) = self.process.take() else {
             return Ok(None);
         };
-        pay(row, &process.estate(reason), sent)?;
+        pay(at, &process.estate(reason), sent)?;
         Ok(Some(reason))
     }
 }
@@ -338,12 +342,16 @@ fn take_in(process: &mut Process, from: Pid, signal: Signal) -> Result<Reply, Al
 }
 
 /// What is owed is sent.
-fn pay(row: usize, estate: &Estate, sent: &mut Vec<Sending>) -> Result<(), AllocError>
-    ensures { OnOk result (sent.new.items ≡ sent.old.items ++ map (in_row row) estate.now.owed) }
+fn pay(at: usize, estate: &Estate, sent: &mut Vec<Sending>) -> Result<(), AllocError>
+    ensures { OnOk result (sent.new.items ≡ sent.old.items ++ map (sent_at at) estate.now.owed) }
 {
     for i in 0..estate.len() {
         let (to, signal) = estate.owed(i);
-        sent.push(Sending { row, to, signal })?;
+        sent.push(Sending {
+            event: at,
+            to,
+            signal,
+        })?;
     }
     Ok(())
 }

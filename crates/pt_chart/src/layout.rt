@@ -1,16 +1,18 @@
-//! Where the parts of a chart stand: its columns, its rows and the arrows between them, as numbers.
+//! Where the parts of a chart stand: its columns, its rows and the arrows between them, as numbers. Events are named by
+//! their places in the history, from 0.
 
-ghost use Rattle.std.specs.Prelude.{◌≡◌, ◌<◌, ◌≤◌, ◌++◌, [], All, IfOk, IfSome, OnOk, length, nat_lt, position};
+ghost use Rattle.std.specs.Prelude.{◌≡◌, ◌<◌, ◌≤◌, ◌++◌, [], IfOk, IfSome, OnOk, length, nat_lt, position};
 ghost use Rattle.std.specs.List.{list_any};
 ghost use Rattle.pt_signal.specs.Values.{same_pid};
 ghost use Rattle.pt_events.specs.History.{is_birth};
-ghost use Rattle.pt_chart.specs.Chart.{IsLayout, IsColumn, IsLegalHistory, ShowsLife, MonitorsAnew, arrows};
+ghost use Rattle.pt_chart.specs.Chart.{IsLayout, IsColumn, IsLegalHistory, ShowsHistory, MonitorsAnew, arrows};
 ghost use Rattle.pt_chart.specs.Chart.{end_of, everyone, join, joined, named, past_of, place, place_behind};
 ghost use Rattle.pt_chart.specs.Chart.{sent_of};
 ghost use Rattle.pt_chart.specs.Following.{noted};
 
 use crate::follower::Follower;
 use crate::receipts::receipts_of;
+use crate::standing::rows_of;
 use pt_events::{Event, Stamped};
 use pt_signal::{Pid, Reason, Signal};
 use std::alloc::{AllocError, Global};
@@ -18,8 +20,8 @@ use std::alloc::{AllocError, Global};
 /// A letter that a process sends.
 #[derive(Clone, Copy, Debug, PartialEq, Eq)]
 pub struct Sending {
-    /// The row in which it is sent.
-    pub row: usize,
+    /// The event by which it is sent.
+    pub event: usize,
     pub to: Pid,
     pub signal: Signal,
 }
@@ -30,9 +32,9 @@ pub struct Arrow {
     /// The column of the receiver.
     pub to: usize,
     pub signal: Signal,
-    /// The row in which the letter is sent.
+    /// The event by which the letter is sent.
     pub sent: usize,
-    /// The row in which it came, if it did.
+    /// The event by which it came, if it did.
     pub came: Option<usize>,
 }
 
@@ -40,9 +42,9 @@ pub struct Arrow {
 #[derive(Drop)]
 pub struct Column {
     pub pid: Pid,
-    /// The row of its birth, if it is born.
+    /// The event of its birth, if it is born.
     pub born: Option<usize>,
-    /// The row of its end, if it ends, and the reason.
+    /// The event by which it ends, if it does, and the reason.
     pub ended: Option<(usize, Reason)>,
     /// The arrows that go out from it, in order of sending.
     pub arrows: Vec<Arrow>,
@@ -52,20 +54,23 @@ pub struct Column {
 #[derive(Drop)]
 pub struct Layout {
     pub columns: Vec<Column>,
-    pub rows: usize,
+    /// The row of each event.
+    pub rows: Vec<usize>,
 }
 
 /// Lays a history out.
 ///
-/// Each process that is named is a column, by desk and then in order of first appearance, and each event a row, in the
-/// order of the history. An arrow goes from the row in which a letter is sent to the row in which it came: of two
-/// processes, the nth letter from the one to the other is the nth that comes.
+/// Each process that is named is a column, by desk and then in order of first appearance. An arrow goes from the event
+/// by which a letter is sent to the one by which it came: of two processes, the nth letter from the one to the other is
+/// the nth that comes. The rows follow the order of the history: the births in front of every other event share the
+/// first one, a receipt that is the very next event after its sending shares the row of that, and each other event has a
+/// row of its own.
 ///
-/// In a legal history, as the one of a gathered node is, every end and every arrow stands so. In any other one those of
-/// a process do that opens no monitor under a reference that it has open.
+/// In a legal history, as the one of a gathered node is, every end, every arrow and every row stands so. In any other
+/// one the ends and arrows of a process do that opens no monitor under a reference that it has open.
 pub fn lay_out(alloc: Global, events: &[Stamped]) -> Result<Layout, AllocError>
     ensures layout { IfOk result (λ l. IsLayout events.now l) }
-    ensures legal { IsLegalHistory events.now → IfOk result (λ l. All (λ c. ShowsLife events.now c) l.columns.items) }
+    ensures legal { IsLegalHistory events.now → IfOk result (λ l. ShowsHistory events.now l) }
 {
     let named = pids_of(alloc, events)?;
     let pids = named.as_slice();
@@ -74,10 +79,8 @@ pub fn lay_out(alloc: Global, events: &[Stamped]) -> Result<Layout, AllocError>
         let column = column_of(alloc, events, pids, pids[place])?;
         columns.push_reserved(column);
     }
-    Ok(Layout {
-        columns,
-        rows: events.len(),
-    })
+    let rows = rows_of(alloc, events, columns.as_slice())?;
+    Ok(Layout { columns, rows })
 }
 
 /// Whom the history names, by desk and then in order of first appearance.
@@ -160,7 +163,7 @@ fn column_of(
     let mut sent = Vec::new(alloc);
     let ended = follow(alloc, events, pid, &mut sent)?;
     let arrows = arrows_of(alloc, events, pids, pid, sent.as_slice())?;
-    let born = birth_row(events, pid);
+    let born = birth_of(events, pid);
     Ok(Column {
         pid,
         born,
@@ -183,14 +186,14 @@ fn follow(
 {
     let mut follower = Follower::new(pid);
     let mut ended = None;
-    for row in 0..events.len() {
-        let reason = follower.see(alloc, row, events[row].event, sent)?;
-        ended = noted(row, reason, ended);
+    for at in 0..events.len() {
+        let reason = follower.see(alloc, at, events[at].event, sent)?;
+        ended = noted(at, reason, ended);
     }
     Ok(ended)
 }
 
-fn birth_row(events: &[Stamped], pid: Pid) -> Option<usize>
+fn birth_of(events: &[Stamped], pid: Pid) -> Option<usize>
     ensures { result ≡ position (λ s. is_birth pid s.event) events.now }
 {
     events
@@ -198,16 +201,16 @@ fn birth_row(events: &[Stamped], pid: Pid) -> Option<usize>
         .position(|stamped| is_birth(pid, stamped.event))
 }
 
-/// The end so far, if this row has none.
+/// The end so far, if it does not end by this event.
 fn noted(
-    row: usize,
+    event: usize,
     reason: Option<Reason>,
     before: Option<(usize, Reason)>,
 ) -> Option<(usize, Reason)>
-    ensures { result ≡ noted row reason before }
+    ensures { result ≡ noted event reason before }
 {
     match reason {
-        Some(reason) => Some((row, reason)),
+        Some(reason) => Some((event, reason)),
         None => before,
     }
 }
@@ -240,15 +243,15 @@ fn arrows_of(
     Ok(arrows)
 }
 
-/// The arrow of a letter that came in this row, if it did.
+/// The arrow of a letter that came by this event, if it did.
 fn arrow_of(pids: &[Pid], sending: Sending, came: Option<usize>) -> Arrow
     ensures { result
-        ≡ record { to = place pids.now sending.to; signal = sending.signal; sent = sending.row; came = came } }
+        ≡ record { to = place pids.now sending.to; signal = sending.signal; sent = sending.event; came = came } }
 {
     Arrow {
         to: place(pids, sending.to),
         signal: sending.signal,
-        sent: sending.row,
+        sent: sending.event,
         came,
     }
 }

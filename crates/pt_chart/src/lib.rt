@@ -8,14 +8,15 @@
 //!
 //! # What is drawn
 //!
-//! Each process that is named is a column, by desk and then in order of first appearance, and each event a row, in the
-//! order of the history; the event's line is the title of its row, which a browser shows under the pointer. The pids
-//! of the processes stand above the first row and again after each 40, each below the name of its process, if one is
-//! given. An arrow goes from the row in which a letter was sent to the row in which it came, and has a label with what
-//! the letter says: beside its sender, or beside its receiver where it is owed at an end or an answer, as several of
-//! these go out in one row. A letter that did not come has an open arrow. Messages, exits, links, monitors and
-//! questions each have a stroke of their own. A box is a birth, a dot is an item taken, a square a change of
-//! `trap_exit`, and a cross an end with its reason. The colours are those that the reader prefers, light or dark; a
+//! Each process that is named is a column, by desk and then in order of first appearance, and the events stand in rows,
+//! in the order of the history: the births in front of every other event in one, a receipt beside its sending where it
+//! is the very next event, and each other event in a row of its own. The lines of its events are the title of a row,
+//! which a browser shows under the pointer. The pids of the processes stand above the first row and again after each
+//! 40, each below the name of its process, if one is given. An arrow goes from the row in which a letter was sent to
+//! the row in which it came, and has a label with what the letter says: beside its sender, or beside its receiver where
+//! it is owed at an end or an answer, as several of these go out in one row. A letter that did not come has an open
+//! arrow. Messages, exits, links, monitors and questions each have a stroke of their own. A box is a birth, above it by
+//! whom, a dot is an item taken, a square a change of `trap_exit`, and a cross an end with its reason. The colours are those that the reader prefers, light or dark; a
 //! title and a description are there for those who listen. [`lay_out`] says where each of these stands, and its
 //! contract that it stands there rightly; that of [`chart`] that the text has each of them, once, and nothing else.
 //!
@@ -37,6 +38,7 @@ mod page;
 mod part;
 mod point;
 mod receipts;
+mod standing;
 mod strokes;
 mod style;
 mod text;

@@ -30,6 +30,8 @@ pub(crate) struct Page {
     /// How many processes there are.
     pub columns: usize,
     /// How many events there are.
+    pub events: usize,
+    /// In how many rows they stand.
     pub rows: usize,
 }
 

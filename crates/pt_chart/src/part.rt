@@ -54,10 +54,13 @@ pub(crate) enum Part {
         column: usize,
         pid: Pid,
     },
-    /// The row of an event, which tells its line and its number.
-    Row {
+    /// The line of an event, which its row tells, and its number; it may be the first and the last one of its row.
+    Line {
         row: usize,
+        at: usize,
         event: Stamped,
+        first: bool,
+        last: bool,
     },
 }
 
@@ -68,6 +71,7 @@ pub(crate) enum Mark {
     Bearing {
         parent: usize,
         child: usize,
+        by: Pid,
         linked: bool,
     },
     /// The box of a birth.

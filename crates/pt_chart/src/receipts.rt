@@ -1,4 +1,4 @@
-//! In which rows the letters of a process came.
+//! By which events the letters of a process came.
 
 ghost use Rattle.std.specs.Prelude.{◌≡◌, ◌++◌, ◌∷◌, [], cond, drop, slice_get, IfOk, OnOk};
 ghost use Rattle.pt_chart.specs.Chart.{is_receipt};
@@ -11,10 +11,10 @@ use std::alloc::{AllocError, Global};
 use std::collections::VecDeque;
 use std::marker::Model;
 
-/// Rows in which letters came, the next one first.
+/// Events by which letters came, by their places in the history, the next one first.
 #[derive(Drop)]
 struct Queue {
-    rows: VecDeque<usize>,
+    places: VecDeque<usize>,
 }
 
 impl Model for Queue {
@@ -22,22 +22,22 @@ impl Model for Queue {
 
     ghost Value = { List ℕ };
 
-    ghost view = { λ q. q.rows.items };
+    ghost view = { λ q. q.places.items };
 }
 
 impl Queue {
-    fn of(alloc: Global, row: usize) -> Result<Queue, AllocError>
-        ensures { IfOk result (λ queue. queue ≡ row ∷ []) }
+    fn of(alloc: Global, at: usize) -> Result<Queue, AllocError>
+        ensures { IfOk result (λ queue. queue ≡ at ∷ []) }
     {
-        let mut rows = VecDeque::new(alloc);
-        rows.push_back(row)?;
-        Ok(Queue { rows })
+        let mut places = VecDeque::new(alloc);
+        places.push_back(at)?;
+        Ok(Queue { places })
     }
 
-    fn push(&mut self, row: usize) -> Result<(), AllocError>
-        ensures { OnOk result (self.new ≡ self.old ++ row ∷ []) }
+    fn push(&mut self, at: usize) -> Result<(), AllocError>
+        ensures { OnOk result (self.new ≡ self.old ++ at ∷ []) }
     {
-        self.rows.push_back(row)?;
+        self.places.push_back(at)?;
         Ok(())
     }
 
@@ -45,13 +45,13 @@ impl Queue {
         ensures first { result ≡ slice_get self.old 0 }
         ensures rest { self.new ≡ drop 1 self.old }
     {
-        let first = self.rows.get(0).copied();
-        let _ = self.rows.pop_front();
+        let first = self.places.get(0).copied();
+        let _ = self.places.pop_front();
         first
     }
 }
 
-/// The rows in which the letters of one process came, by receiver: a letter costs the same, however many there are.
+/// The events by which the letters of one process came, by receiver: a letter costs the same, however many there are.
 #[derive(Drop)]
 pub(crate) struct Receipts {
     alloc: Global,
@@ -76,7 +76,7 @@ impl Receipts {
         }
     }
 
-    /// The row of the next letter to come to a receiver, which is taken out.
+    /// The event by which the next letter came to a receiver, which is taken out.
     pub(crate) fn pop(&mut self, to: Pid) -> Option<usize>
         ensures first { result ≡ slice_get (queue_of self.old to) 0 }
         ensures rest { IsQueued to (drop 1 (queue_of self.old to)) self.old self.new }
@@ -87,37 +87,37 @@ impl Receipts {
         }
     }
 
-    /// The row is behind those of the receiver.
-    fn push(&mut self, to: Pid, row: usize) -> Result<(), AllocError>
-        ensures { OnOk result (IsQueued to (queue_of self.old to ++ row ∷ []) self.old self.new) }
+    /// The event is behind those of the receiver.
+    fn push(&mut self, to: Pid, at: usize) -> Result<(), AllocError>
+        ensures { OnOk result (IsQueued to (queue_of self.old to ++ at ∷ []) self.old self.new) }
     {
         match self.queues.get_mut(&to) {
-            Some(queue) => queue.push(row),
-            None => self.open(to, row),
+            Some(queue) => queue.push(at),
+            None => self.open(to, at),
         }
     }
 
-    /// A queue more, of one row.
-    fn open(&mut self, to: Pid, row: usize) -> Result<(), AllocError>
-        ensures { OnOk result (IsQueued to (row ∷ []) self.old self.new) }
+    /// A queue more, of one event.
+    fn open(&mut self, to: Pid, at: usize) -> Result<(), AllocError>
+        ensures { OnOk result (IsQueued to (at ∷ []) self.old self.new) }
     {
-        let queue = Queue::of(self.alloc, row)?;
+        let queue = Queue::of(self.alloc, at)?;
         self.queues.insert(to, queue)?;
         Ok(())
     }
 
-    /// The row is behind those of the receiver, where a letter of this sender comes in it.
-    fn note(&mut self, from: Pid, row: usize, event: Event) -> Result<(), AllocError>
-        ensures { OnOk result (IsQueuedBy (λ q. cond (is_receipt from q event) (row ∷ []) []) self.old self.new) }
+    /// The event is behind those of the receiver, where it is the receipt of a letter of this sender.
+    fn note(&mut self, from: Pid, at: usize, event: Event) -> Result<(), AllocError>
+        ensures { OnOk result (IsQueuedBy (λ q. cond (is_receipt from q event) (at ∷ []) []) self.old self.new) }
     {
         match event {
-            Event::Came(sender, receiver, _) if from == sender => self.push(receiver, row),
+            Event::Came(sender, receiver, _) if from == sender => self.push(receiver, at),
             _ => Ok(()),
         }
     }
 }
 
-/// The rows in which the letters of a process came, by receiver.
+/// The events by which the letters of a process came, by receiver.
 pub(crate) fn receipts_of(
     alloc: Global,
     events: &[Stamped],
@@ -126,8 +126,8 @@ pub(crate) fn receipts_of(
     ensures { IfOk result (λ r. Awaits events.now from [] r) }
 {
     let mut receipts = Receipts::new(alloc);
-    for row in 0..events.len() {
-        receipts.note(from, row, events[row].event)?;
+    for at in 0..events.len() {
+        receipts.note(from, at, events[at].event)?;
     }
     Ok(receipts)
 }

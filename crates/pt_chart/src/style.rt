@@ -2,9 +2,9 @@
 
 /// What a chart is, for those who listen; the shapes that several parts have; the colours, light and dark; the legend.
 pub(crate) const STYLE: &str = "\
-<desc id=\"desc\">Each process is a column, by desk, and each event a row, oldest first. An arrow is a letter, \
-from its sending to its receipt, with what it says; where its head is open, it did not come. A box is a birth, \
-a dot an item taken, a square a change of trap_exit, a cross an end with its reason.</desc>\n\
+<desc id=\"desc\">Each process is a column, by desk. Events stand in rows, oldest first: the births in front in \
+one, and a receipt beside its sending where nothing stands between. An arrow is a letter, from its sending to its \
+receipt, with what it says; where its head is open, it did not come. A box is a birth, above it by whom, a dot an item taken, a square a change of trap_exit, a cross an end with its reason.</desc>\n\
 <defs>\n\
 <rect id=\"birth\" x=\"-42\" y=\"-9\" width=\"84\" height=\"18\" rx=\"4\"/>\n\
 <circle id=\"taking\" r=\"4\"/>\n\

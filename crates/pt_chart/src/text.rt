@@ -2,16 +2,21 @@
 
 ghost use Rattle.std.specs.Prelude.{◌≡◌, [], ◌++◌, IfOk, OnOk, map, slice_index_or, string_bytes};
 ghost use Rattle.std.specs.List.{flat_map};
-ghost use Rattle.pt_chart.specs.Points.{bend, spot};
-ghost use Rattle.pt_chart.specs.Text.{arrow_text, bearing_text, birth_text, end_text, escape, escape_one, fit_text};
-ghost use Rattle.pt_chart.specs.Text.{ground_text, head_above_text, head_text, is_owed, letter_label_text};
-ghost use Rattle.pt_chart.specs.Text.{letter_text, life_text, mark_text, name_above_text, named_birth_text};
-ghost use Rattle.pt_chart.specs.Text.{part_text, pid_above_text, refusal_text, row_text, said_end_text};
-ghost use Rattle.pt_chart.specs.Text.{said_row_text, saying_text, side_text, tip, trapping_text};
+ghost use Rattle.pt_events.specs.Text.{stamped_text};
+ghost use Rattle.pt_chart.specs.Points.{bend, sag, spot};
+ghost use Rattle.pt_chart.specs.Text.{arrow_text, bearing_class, bearing_label, bearing_text, birth_text};
+ghost use Rattle.pt_chart.specs.Text.{closing_text, end_text, escape, escape_one, fit_text, ground_text};
+ghost use Rattle.pt_chart.specs.Text.{head_above_text, head_text, is_below, is_level, is_owed, last_text};
+ghost use Rattle.pt_chart.specs.Text.{letter_label_text};
+ghost use Rattle.pt_chart.specs.Text.{letter_side_text, letter_text, life_text, mark_text};
+ghost use Rattle.pt_chart.specs.Text.{name_above_text, named_birth_text};
+ghost use Rattle.pt_chart.specs.Text.{number_spot, opening_text, part_text, pid_above_text, refusal_text};
+ghost use Rattle.pt_chart.specs.Text.{said_bearing_text, said_end_text, saying_text, side_text, tip, trapping_text};
 
 use crate::elements::{
-    write_alive, write_before, write_curve, write_desk, write_label, write_level, write_marker,
-    write_name, write_number, write_shape, write_size, write_strip, write_stripe,
+    write_alive, write_before, write_curve, write_desk, write_label, write_last_number,
+    write_level, write_marker, write_name, write_number, write_shape, write_size, write_strip,
+    write_stripe,
 };
 use crate::layout::Arrow;
 use crate::page::{Page, above, x, y};
@@ -27,7 +32,7 @@ use std::alloc::{AllocError, Global};
 pub(crate) fn write_head(page: &Page, text: &mut String) -> Result<(), AllocError>
     ensures { OnOk result (string_bytes text.new ≡ string_bytes text.old ++ head_text page.now) }
 {
-    write_size(page.width(), page.height(), page.rows, page.columns, text)?;
+    write_size(page.width(), page.height(), page.events, page.columns, text)?;
     text.push_str(STYLE)
 }
 
@@ -79,7 +84,17 @@ fn write_part(
             let name = name_at(names, column);
             write_head_above(alloc, row, column, name, pid, text)
         }
-        Part::Row { row, event } => write_row(alloc, page, row, event, text),
+        Part::Line {
+            row,
+            at,
+            event,
+            first,
+            last,
+        } => {
+            write_opening(row, at, first, text)?;
+            write_said(alloc, event, text)?;
+            write_closing(page, row, at, first, last, text)
+        }
     }
 }
 
@@ -91,8 +106,9 @@ fn write_mark(alloc: Global, row: usize, mark: Mark, text: &mut String) -> Resul
         Mark::Bearing {
             parent,
             child,
+            by,
             linked,
-        } => write_bearing(row, parent, child, linked, text),
+        } => write_bearing(alloc, row, parent, child, by, linked, text),
         Mark::Birth { column, pid } => write_birth(alloc, row, column, pid, text),
         Mark::Taking { column } => write_shape("taking", spot(column, row), text),
         Mark::Trapping { column, on } => write_trapping(row, column, on, text),
@@ -100,27 +116,59 @@ fn write_mark(alloc: Global, row: usize, mark: Mark, text: &mut String) -> Resul
     }
 }
 
-/// The row of an event, whose title is its line, and its number.
-fn write_row(
-    alloc: Global,
-    page: &Page,
-    row: usize,
-    event: Stamped,
-    text: &mut String,
-) -> Result<(), AllocError>
-    ensures { OnOk result (string_bytes text.new ≡ string_bytes text.old ++ row_text page.now row event) }
+/// The begin of a row, whose title has the lines of its events; before a further one of these a line feed.
+fn write_opening(row: usize, at: usize, first: bool, text: &mut String) -> Result<(), AllocError>
+    ensures { OnOk result (string_bytes text.new ≡ string_bytes text.old ++ opening_text row at first) }
 {
-    let said = escaped(alloc, format!(in alloc; "{event}")?.as_str())?;
-    write_said_row(page, row, said.as_str(), text)
+    if !first {
+        return text.push_str("\n");
+    }
+    write_number(number_spot(row), (at as u64).saturating_add(1), text)?;
+    text.push_str("<g class=\"row\"><title>")
 }
 
-fn write_said_row(page: &Page, row: usize, said: &str, text: &mut String) -> Result<(), AllocError>
-    ensures { OnOk result (string_bytes text.new ≡ string_bytes text.old ++ said_row_text page.now row said.now) }
+/// The line of an event.
+fn write_said(alloc: Global, event: Stamped, text: &mut String) -> Result<(), AllocError>
+    ensures { OnOk result (string_bytes text.new ≡ string_bytes text.old ++ escape (stamped_text event)) }
 {
-    let middle = y(row);
-    write_strip(above(middle, 12), page.width(), said, text)?;
-    let number = (row as u64).saturating_add(1);
-    write_number(Point { x: 8, y: middle }, number, text)
+    let said = escaped(alloc, format!(in alloc; "{event}")?.as_str())?;
+    text.push_str(said.as_str())
+}
+
+/// The end of a row, behind its last line.
+fn write_closing(
+    page: &Page,
+    row: usize,
+    at: usize,
+    first: bool,
+    last: bool,
+    text: &mut String,
+) -> Result<(), AllocError>
+    ensures { OnOk result
+        (string_bytes text.new ≡ string_bytes text.old ++ closing_text page.now row at first last) }
+{
+    if !last {
+        return Ok(());
+    }
+    write_strip(above(y(row), 12), page.width(), text)?;
+    write_last(row, at, first, text)
+}
+
+/// The number of the last event of a row, where this is not its first one too.
+fn write_last(row: usize, at: usize, first: bool, text: &mut String) -> Result<(), AllocError>
+    ensures { OnOk result (string_bytes text.new ≡ string_bytes text.old ++ last_text row at first) }
+{
+    if first {
+        return Ok(());
+    }
+    write_last_number(number_spot(row), (at as u64).saturating_add(1), text)
+}
+
+/// Where the numbers of a row meet.
+fn number_spot(row: usize) -> Point
+    ensures { result ≡ number_spot row }
+{
+    Point { x: 36, y: y(row) }
 }
 
 /// The name of the process of a column; empty where it has none.
@@ -274,12 +322,48 @@ fn write_letter_label(
         (string_bytes text.new ≡ string_bytes text.old ++ letter_label_text page.now column arrow owed said.now) }
 {
     let stroke = Stroke::of(&arrow.signal);
+    let side = letter_side_of(column, arrow, owed);
     if owed {
-        let side = side_of(column < arrow.to);
         write_label(stroke, tip(page, arrow), side, said, text)
     } else {
-        let side = side_of(arrow.to < column);
         write_label(stroke, spot(column, arrow.sent), side, said, text)
+    }
+}
+
+/// Where the label of a letter from this column stands, at its receiver or at its sender.
+fn letter_side_of(column: usize, arrow: Arrow, owed: bool) -> &'static str
+    ensures { result.now ≡ letter_side_text column arrow owed }
+{
+    let left = if owed {
+        column < arrow.to
+    } else {
+        arrow.to < column
+    };
+    if is_level(arrow) && column == arrow.to {
+        " dx=\"38\" dy=\"4\""
+    } else {
+        side_of(left, is_below(column, arrow, owed))
+    }
+}
+
+/// Whether the label of a letter stands below its arrow, or above it.
+fn is_below(column: usize, arrow: Arrow, owed: bool) -> bool
+    ensures { result ≡ is_below column arrow owed }
+{
+    if is_level(arrow) {
+        arrow.to < column
+    } else {
+        owed
+    }
+}
+
+/// Whether a letter comes in the row in which it was sent.
+fn is_level(arrow: Arrow) -> bool
+    ensures { result ≡ is_level arrow }
+{
+    match arrow.came {
+        Some(came) => came == arrow.sent,
+        None => false,
     }
 }
 
@@ -302,10 +386,26 @@ fn bend(from: Point, to: Point) -> (Point, Point)
 {
     if from.x == to.x {
         let x = from.x.saturating_add(44);
-        (Point { x, y: from.y }, Point { x, y: to.y })
+        let sag = sag(from, to);
+        let leaving = Point {
+            x,
+            y: above(from.y, sag),
+        };
+        let coming = Point {
+            x,
+            y: to.y.saturating_add(sag),
+        };
+        (leaving, coming)
     } else {
         (from, to)
     }
+}
+
+/// How far an arrow to its own row goes up and down on its way around.
+fn sag(from: Point, to: Point) -> u64
+    ensures { result ≡ sag from to }
+{
+    if from.y == to.y { 16 } else { 0 }
 }
 
 /// Where a column and a row meet.
@@ -319,22 +419,53 @@ fn spot(column: usize, row: usize) -> Point
 }
 
 fn write_bearing(
+    alloc: Global,
+    row: usize,
+    parent: usize,
+    child: usize,
+    by: Pid,
+    linked: bool,
+    text: &mut String,
+) -> Result<(), AllocError>
+    ensures { OnOk result
+        (string_bytes text.new ≡ string_bytes text.old ++ bearing_text row parent child by linked) }
+{
+    let plain = bearing_label(alloc, by, linked)?;
+    let said = escaped(alloc, plain.as_str())?;
+    write_said_bearing(row, parent, child, linked, said.as_str(), text)
+}
+
+/// By whom a process is born, and whether they are linked.
+fn bearing_label(alloc: Global, by: Pid, linked: bool) -> Result<String, AllocError>
+    ensures { IfOk result (λ t. string_bytes t ≡ bearing_label by linked) }
+{
+    if linked {
+        format!(in alloc; "by {by}, linked")
+    } else {
+        format!(in alloc; "by {by}")
+    }
+}
+
+fn bearing_class(linked: bool) -> &'static str
+    ensures { result.now ≡ bearing_class linked }
+{
+    if linked { "link" } else { "before" }
+}
+
+fn write_said_bearing(
     row: usize,
     parent: usize,
     child: usize,
     linked: bool,
+    said: &str,
     text: &mut String,
 ) -> Result<(), AllocError>
-    ensures { OnOk result (string_bytes text.new ≡ string_bytes text.old ++ bearing_text row parent child linked) }
+    ensures { OnOk result
+        (string_bytes text.new ≡ string_bytes text.old ++ said_bearing_text row parent child linked said.now) }
 {
-    let (class, said) = if linked {
-        ("link", "spawn, linked")
-    } else {
-        ("before", "spawn")
-    };
-    let at = spot(parent, row);
-    write_level(class, at, x(child), text)?;
-    write_label(Stroke::Link, at, side_of(child < parent), said, text)
+    let side = " dy=\"-12\" text-anchor=\"middle\"";
+    write_level(bearing_class(linked), spot(parent, row), x(child), text)?;
+    write_label(Stroke::Link, spot(child, row), side, said, text)
 }
 
 fn write_birth(
@@ -358,14 +489,15 @@ fn write_named_birth(at: Point, name: &str, text: &mut String) -> Result<(), All
     write_name(Point { x: at.x, y }, "", name, text)
 }
 
-/// Where a label stands: left of a point, or right of it.
-fn side_of(left: bool) -> &'static str
-    ensures { result.now ≡ side_text left }
+/// Where a label stands: left of a point, or right of it; below it, or above it.
+fn side_of(left: bool, below: bool) -> &'static str
+    ensures { result.now ≡ side_text left below }
 {
-    if left {
-        " dx=\"-8\" dy=\"-4\" text-anchor=\"end\""
-    } else {
-        " dx=\"8\" dy=\"-4\""
+    match (left, below) {
+        (true, true) => " dx=\"-8\" dy=\"13\" text-anchor=\"end\"",
+        (true, false) => " dx=\"-12\" dy=\"-4\" text-anchor=\"end\"",
+        (false, true) => " dx=\"6\" dy=\"13\"",
+        (false, false) => " dx=\"8\" dy=\"-4\"",
     }
 }
 
@@ -375,12 +507,18 @@ fn write_trapping(row: usize, column: usize, on: bool, text: &mut String) -> Res
     let at = spot(column, row);
     write_shape("trapping", at, text)?;
     if on {
-        write_label(Stroke::Message, at, side_of(false), "traps exits", text)
+        write_label(
+            Stroke::Message,
+            at,
+            side_of(false, false),
+            "traps exits",
+            text,
+        )
     } else {
         write_label(
             Stroke::Message,
             at,
-            side_of(false),
+            side_of(false, false),
             "traps exits no more",
             text,
         )
@@ -400,7 +538,7 @@ fn write_refusal(
     write_label(
         Stroke::Exit,
         spot(column, row),
-        side_of(false),
+        side_of(false, false),
         said.as_str(),
         text,
     )

@@ -135,7 +135,7 @@ fn explain<'a>(alloc: Global) -> Arg<'a>
     Arg::new(alloc, "explain")
         .long("explain")
         .action(ArgAction::SetTrue)
-        .help("Explain a refusal in a second line")
+        .help("Explain a refusal, and each line of a summary")
 }
 
 /// The file that was found in the words.

@@ -247,7 +247,9 @@ fn threads_give_the_ping_too(rt: HostRuntime) -> Result<(), Fail> {
 }
 
 #[test]
-fn a_chart_has_a_row_an_event(rt: HostRuntime) -> Result<(), Fail> {
+fn a_chart_has_births_and_a_letter_that_comes_next_in_one_row_each(
+    rt: HostRuntime,
+) -> Result<(), Fail> {
     let alloc = rt.alloc();
     let mut out = Vec::new(alloc);
     report(
@@ -258,7 +260,8 @@ fn a_chart_has_a_row_an_event(rt: HostRuntime) -> Result<(), Fail> {
         &mut out,
     )?;
     let text = String::from_utf8(out)?;
-    assert!(rt; text.as_str().matches("class=\"row\"").count() == 10);
+    assert!(rt; text.as_str().matches("class=\"row\"").count() == 7);
+    assert!(rt; text.as_str().matches("message 1 7\n4@0 came").count() == 1);
     assert!(rt; text.as_str().ends_with("</svg>\n"));
     Ok(())
 }

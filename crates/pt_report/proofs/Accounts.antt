@@ -9,7 +9,8 @@ use Rattle.pt_events.specs.History.{Past, Start}
 use Rattle.pt_events.specs.Journal.{Journals, events}
 use Rattle.pt_accounts.specs.declared.account.Account.{Account}
 use Rattle.pt_accounts.specs.LivesState.{InEveryMerge, account_in}
-use Rattle.pt_report.specs.Summaries.{account_line, account_lines}
+use Rattle.pt_report.specs.Summaries.{account_line, account_lines, noted_line, noted_lines}
+use Rattle.pt_report.specs.declared.notes.Note.{Note}
 use Rattle.pt_report.proofs.Writing.{appends_then, appends_keeps}
 
 -- an account that is the one of the history
@@ -42,3 +43,24 @@ pub then_totals : (start : Start) (past : Past) (pids : List Pid) (totals : List
     → Appends old mid (account_lines start past pids ++ []) → Appends mid new totals → Keeps new last → Appends old last (account_lines start past pids ++ totals)
 then_totals start past pids totals old mid new last lines more kept =
     appends_keeps old new last _ (appends_then old mid new (account_lines start past pids) totals (subst (λ bs. Appends old mid bs) (append-nil (account_lines start past pids)) lines) more) kept
+
+-- with notes behind them
+
+one_more_note : (start : Start) (past : Past) (notes : List Note) (i : ℕ) (d : Note) → i < length notes → noted_lines start past (take i notes) ++ noted_line start past (get_or notes i d) ≡ noted_lines start past (take (i + 1) notes)
+one_more_note start past notes i d within =
+    let f : Note → List ℕ = noted_line start past in
+    ap (λ z. noted_lines start past (take i notes) ++ z) (sym (append-nil (f (get_or notes i d))))
+    ∙ sym (flat_map-append f (take i notes) (get_or notes i d ∷ []))
+    ∙ ap (noted_lines start past) (sym (take-suc notes i d within) ∙ ap (λ n. take n notes) (sym (add-one i)))
+
+pub next_notes : (start : Start) (journals : Journals) (notes : List Note) (i : ℕ) (d : Note) (old mid new : Option (List ℕ)) → i < length notes
+    → InEveryMerge journals (λ past. Appends old mid (noted_lines start past (take i notes)))
+    → InEveryMerge journals (λ past. Appends mid new (noted_line start past (get_or notes i d)))
+    → InEveryMerge journals (λ past. Appends old new (noted_lines start past (take (i + 1) notes)))
+next_notes start journals notes i d old mid new within before line merged is =
+    subst (λ bs. Appends old new bs) (one_more_note start (events merged) notes i d within) (appends_then old mid new _ _ (before merged is) (line merged is))
+
+pub all_notes : (start : Start) (journals : Journals) (notes : List Note) (n : ℕ) (old new : Option (List ℕ)) → length notes ≤ n
+    → InEveryMerge journals (λ past. Appends old new (noted_lines start past (take n notes))) → InEveryMerge journals (λ past. Appends old new (noted_lines start past notes))
+all_notes start journals notes n old new all h merged is =
+    subst (λ bs. Appends old new bs) (ap (noted_lines start (events merged)) (take_all n notes all)) (h merged is)

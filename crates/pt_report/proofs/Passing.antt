@@ -1,5 +1,5 @@
 -- Epochs, one after the other, and where their histories are.
-use Rattle.std.proofs.Common.{◌≡◌, ◌⊎◌, ℕ, zero, suc, ◌+◌, ◌-◌, ◌<◌, List, [], ◌++◌, length, map, reverse, Option, Some, None, Result, Ok, Err, refl, sym, ap, subst, ◌∙◌, inl, inr, arith, append_assoc}
+use Rattle.std.proofs.Common.{Bool, ◌≡◌, ◌⊎◌, ℕ, zero, suc, ◌+◌, ◌-◌, ◌<◌, List, [], ◌++◌, length, map, reverse, Option, Some, None, Result, Ok, Err, refl, sym, ap, subst, ◌∙◌, inl, inr, arith, append_assoc}
 use Rattle.std.specs.Prelude.{◌≢◌, IfErr, OnOk}
 use Rattle.std.proofs.lemmas.Grind.{flat_map-append}
 use Rattle.std.specs.Io.KnownBytes.{Appends}
@@ -34,7 +34,7 @@ use Rattle.pt_runner.specs.declared.runner.Runner.{Runner}
 use Rattle.pt_report.specs.Called.{called_by}
 use Rattle.pt_report.specs.Reports.{HasWrittenOf, IsBegun, IsNodeOf, IsOfRun, IsOfStart, IsRun, Reports, Shows, Tells}
 use Rattle.pt_report.specs.Status.{IsOfPrint, stopped}
-use Rattle.pt_report.specs.Summaries.{Summarizes}
+use Rattle.pt_report.specs.Summaries.{SummarizesAs}
 use Rattle.pt_report.specs.declared.fault.ReportFault.{ReportFault}
 use Rattle.pt_report.specs.declared.fault.ReportFault.TheVariants.{Script, Memory, Desk, File}
 use Rattle.pt_report.proofs.Settings.{same_settings}
@@ -137,50 +137,50 @@ module _ {W : Type 0} (contents : W → Option (List ℕ)) where
   tells_lines form none hs g first mid new kept before empty x =
       (x.0, x.1, history_joined form none (contents first) (contents mid) (contents new) hs x.0 (all_left g) before (subst (λ k. Appends (contents mid) (contents new) (history_text form (k ++ x.0) (all_left g))) empty x.2))
 
-  pub shows_history : (print : Show) → print ≡ History → (hs : List Stamped) (called : List (Pid × List ℕ)) (g : GatheredState) (first mid new : W) (kept : List Stamped) → AreAt contents print hs first kept mid → Printed Lines kept g mid new → Shows print hs called g (contents first) (contents new)
-  shows_history print is hs called g first mid new kept at x =
+  pub shows_history : (explain : Bool) (print : Show) → print ≡ History → (hs : List Stamped) (called : List (Pid × List ℕ)) (g : GatheredState) (first mid new : W) (kept : List Stamped) → AreAt contents print hs first kept mid → Printed Lines kept g mid new → Shows explain print hs called g (contents first) (contents new)
+  shows_history explain print is hs called g first mid new kept at x =
       let a = subst (λ p. AreAt contents p hs first kept mid) is at in
-      subst (λ p. Shows p hs called g (contents first) (contents new)) (sym is) (tells_lines Lines refl hs g first mid new kept a.0 a.1 x)
+      subst (λ p. Shows explain p hs called g (contents first) (contents new)) (sym is) (tells_lines Lines refl hs g first mid new kept a.0 a.1 x)
 
-  pub shows_json : (print : Show) → print ≡ Json → (hs : List Stamped) (called : List (Pid × List ℕ)) (g : GatheredState) (first mid new : W) (kept : List Stamped) → AreAt contents print hs first kept mid → Printed Objects kept g mid new → Shows print hs called g (contents first) (contents new)
-  shows_json print is hs called g first mid new kept at x =
+  pub shows_json : (explain : Bool) (print : Show) → print ≡ Json → (hs : List Stamped) (called : List (Pid × List ℕ)) (g : GatheredState) (first mid new : W) (kept : List Stamped) → AreAt contents print hs first kept mid → Printed Objects kept g mid new → Shows explain print hs called g (contents first) (contents new)
+  shows_json explain print is hs called g first mid new kept at x =
       let a = subst (λ p. AreAt contents p hs first kept mid) is at in
-      subst (λ p. Shows p hs called g (contents first) (contents new)) (sym is) (tells_lines Objects refl hs g first mid new kept a.0 a.1 x)
+      subst (λ p. Shows explain p hs called g (contents first) (contents new)) (sym is) (tells_lines Objects refl hs g first mid new kept a.0 a.1 x)
 
-  pub shows_mermaid : (print : Show) → print ≡ Mermaid → (hs : List Stamped) (called : List (Pid × List ℕ)) (g : GatheredState) (first mid new : W) (kept : List Stamped) → AreAt contents print hs first kept mid → Printed Diagram kept g mid new → Shows print hs called g (contents first) (contents new)
-  shows_mermaid print is hs called g first mid new kept at x =
+  pub shows_mermaid : (explain : Bool) (print : Show) → print ≡ Mermaid → (hs : List Stamped) (called : List (Pid × List ℕ)) (g : GatheredState) (first mid new : W) (kept : List Stamped) → AreAt contents print hs first kept mid → Printed Diagram kept g mid new → Shows explain print hs called g (contents first) (contents new)
+  shows_mermaid explain print is hs called g first mid new kept at x =
       let a = subst (λ p. AreAt contents p hs first kept mid) is at in
       let text = history_text Diagram (hs ++ x.0) (all_left g) in
-      subst (λ p. Shows p hs called g (contents first) (contents new)) (sym is) (x.0, x.1, subst (λ m. Appends (contents m) (contents new) text) a.0 (subst (λ k. Appends (contents mid) (contents new) (history_text Diagram (k ++ x.0) (all_left g))) a.1 x.2))
+      subst (λ p. Shows explain p hs called g (contents first) (contents new)) (sym is) (x.0, x.1, subst (λ m. Appends (contents m) (contents new) text) a.0 (subst (λ k. Appends (contents mid) (contents new) (history_text Diagram (k ++ x.0) (all_left g))) a.1 x.2))
 
-  pub shows_chart : (print : Show) → print ≡ Chart → (hs : List Stamped) (called : List (Pid × List ℕ)) (g : GatheredState) (first mid new : W) (kept : List Stamped) → AreAt contents print hs first kept mid
-      → ((h : List Stamped) × IsMerge (journals g) (reverse h) × (text : List ℕ) × IsChart (kept ++ h) called text × Appends (contents mid) (contents new) text) → Shows print hs called g (contents first) (contents new)
-  shows_chart print is hs called g first mid new kept at x =
+  pub shows_chart : (explain : Bool) (print : Show) → print ≡ Chart → (hs : List Stamped) (called : List (Pid × List ℕ)) (g : GatheredState) (first mid new : W) (kept : List Stamped) → AreAt contents print hs first kept mid
+      → ((h : List Stamped) × IsMerge (journals g) (reverse h) × (text : List ℕ) × IsChart (kept ++ h) called text × Appends (contents mid) (contents new) text) → Shows explain print hs called g (contents first) (contents new)
+  shows_chart explain print is hs called g first mid new kept at x =
       let a = subst (λ p. AreAt contents p hs first kept mid) is at in
-      subst (λ p. Shows p hs called g (contents first) (contents new)) (sym is) (x.0, x.1, x.2, subst (λ z. IsChart (z ++ x.0) called x.2) a.1 x.3, subst (λ m. Appends (contents m) (contents new) x.2) a.0 x.4)
+      subst (λ p. Shows explain p hs called g (contents first) (contents new)) (sym is) (x.0, x.1, x.2, subst (λ z. IsChart (z ++ x.0) called x.2) a.1 x.3, subst (λ m. Appends (contents m) (contents new) x.2) a.0 x.4)
 
-  pub shows_summary : (print : Show) → print ≡ Summary → (hs : List Stamped) (called : List (Pid × List ℕ)) (g : GatheredState) (first mid new : W) (kept : List Stamped) → AreAt contents print hs first kept mid
-      → Summarizes g (contents mid) (contents new) → Shows print hs called g (contents first) (contents new)
-  shows_summary print is hs called g first mid new kept at x =
+  pub shows_summary : (explain : Bool) (print : Show) → print ≡ Summary → (hs : List Stamped) (called : List (Pid × List ℕ)) (g : GatheredState) (first mid new : W) (kept : List Stamped) → AreAt contents print hs first kept mid
+      → SummarizesAs explain g (contents mid) (contents new) → Shows explain print hs called g (contents first) (contents new)
+  shows_summary explain print is hs called g first mid new kept at x =
       let a = subst (λ p. AreAt contents p hs first kept mid) is at in
-      subst (λ p. Shows p hs called g (contents first) (contents new)) (sym is) (subst (λ m. Summarizes g (contents m) (contents new)) a.0 x)
+      subst (λ p. Shows explain p hs called g (contents first) (contents new)) (sym is) (subst (λ m. SummarizesAs explain g (contents m) (contents new)) a.0 x)
 
   pub history_reported : (r : Result (Unit {0}) ReportFault) (bytes : List ℕ) (options : Options) (script : Whole) (hs : List Stamped) (g : GatheredState) (first mid new : W) (kept : List Stamped) → reading bytes ≡ Ok script → IsNodeOf (options.epochs - 1) options script hs g
       → AreAt contents options.print hs first kept mid → options.print ≡ History → OnOk r (Printed Lines kept g mid new) → OnOk r (Reports bytes options (contents first) (contents new))
   history_reported (Ok u) bytes options script hs g first mid new kept read node at is x =
-      record { script = script; read = read; histories = hs; node = g; is_node = node; shows = shows_history options.print is hs (called_by (names_in bytes) node.ran.1) g first mid new kept at x }
+      record { script = script; read = read; histories = hs; node = g; is_node = node; shows = shows_history options.explain options.print is hs (called_by (names_in bytes) node.ran.1) g first mid new kept at x }
   history_reported (Err e) bytes options script hs g first mid new kept read node at is x = tt
 
   pub json_reported : (r : Result (Unit {0}) ReportFault) (bytes : List ℕ) (options : Options) (script : Whole) (hs : List Stamped) (g : GatheredState) (first mid new : W) (kept : List Stamped) → reading bytes ≡ Ok script → IsNodeOf (options.epochs - 1) options script hs g
       → AreAt contents options.print hs first kept mid → options.print ≡ Json → OnOk r (Printed Objects kept g mid new) → OnOk r (Reports bytes options (contents first) (contents new))
   json_reported (Ok u) bytes options script hs g first mid new kept read node at is x =
-      record { script = script; read = read; histories = hs; node = g; is_node = node; shows = shows_json options.print is hs (called_by (names_in bytes) node.ran.1) g first mid new kept at x }
+      record { script = script; read = read; histories = hs; node = g; is_node = node; shows = shows_json options.explain options.print is hs (called_by (names_in bytes) node.ran.1) g first mid new kept at x }
   json_reported (Err e) bytes options script hs g first mid new kept read node at is x = tt
 
   pub mermaid_reported : (r : Result (Unit {0}) ReportFault) (bytes : List ℕ) (options : Options) (script : Whole) (hs : List Stamped) (g : GatheredState) (first mid new : W) (kept : List Stamped) → reading bytes ≡ Ok script → IsNodeOf (options.epochs - 1) options script hs g
       → AreAt contents options.print hs first kept mid → options.print ≡ Mermaid → OnOk r (Printed Diagram kept g mid new) → OnOk r (Reports bytes options (contents first) (contents new))
   mermaid_reported (Ok u) bytes options script hs g first mid new kept read node at is x =
-      record { script = script; read = read; histories = hs; node = g; is_node = node; shows = shows_mermaid options.print is hs (called_by (names_in bytes) node.ran.1) g first mid new kept at x }
+      record { script = script; read = read; histories = hs; node = g; is_node = node; shows = shows_mermaid options.explain options.print is hs (called_by (names_in bytes) node.ran.1) g first mid new kept at x }
   mermaid_reported (Err e) bytes options script hs g first mid new kept read node at is x = tt
 
   pub chart_reported : (r : Result (Unit {0}) ReportFault) (bytes : List ℕ) (options : Options) (script : Whole) (hs : List Stamped) (g : GatheredState) (runners : List Runner) (first mid new : W) (kept : List Stamped) → reading bytes ≡ Ok script
@@ -190,13 +190,13 @@ module _ {W : Type 0} (contents : W → Option (List ℕ)) where
       let called = called_by (names_in bytes) node.ran.1 in
       let so : (h : List Stamped) × IsMerge (journals g) (reverse h) × (text : List ℕ) × IsChart (kept ++ h) called text × Appends (contents mid) (contents new) text =
       (x.0, x.1, x.2, subst (λ rs. IsChart (kept ++ x.0) (called_by (names_in bytes) rs) x.2) (sym ran) x.3, x.4) in
-      record { script = script; read = read; histories = hs; node = g; is_node = node; shows = shows_chart options.print is hs called g first mid new kept at so }
+      record { script = script; read = read; histories = hs; node = g; is_node = node; shows = shows_chart options.explain options.print is hs called g first mid new kept at so }
   chart_reported (Err e) bytes options script hs g runners first mid new kept read run at is x = tt
 
   pub summary_reported : (r : Result (Unit {0}) ReportFault) (bytes : List ℕ) (options : Options) (script : Whole) (hs : List Stamped) (g : GatheredState) (first mid new : W) (kept : List Stamped) → reading bytes ≡ Ok script → IsNodeOf (options.epochs - 1) options script hs g
-      → AreAt contents options.print hs first kept mid → options.print ≡ Summary → OnOk r (Summarizes g (contents mid) (contents new)) → OnOk r (Reports bytes options (contents first) (contents new))
+      → AreAt contents options.print hs first kept mid → options.print ≡ Summary → OnOk r (SummarizesAs options.explain g (contents mid) (contents new)) → OnOk r (Reports bytes options (contents first) (contents new))
   summary_reported (Ok u) bytes options script hs g first mid new kept read node at is x =
-      record { script = script; read = read; histories = hs; node = g; is_node = node; shows = shows_summary options.print is hs (called_by (names_in bytes) node.ran.1) g first mid new kept at x }
+      record { script = script; read = read; histories = hs; node = g; is_node = node; shows = shows_summary options.explain options.print is hs (called_by (names_in bytes) node.ran.1) g first mid new kept at x }
   summary_reported (Err e) bytes options script hs g first mid new kept read node at is x = tt
 
   -- what was written before stays, where a later fault leaves the writer as it was

@@ -1,5 +1,6 @@
 -- What a report prints, and when it is refused.
-use Rattle.std.specs.Prelude.{◌≡◌, ◌⊎◌, ℕ, ◌+◌, ◌-◌, ◌<◌, List, ◌++◌, length, Option, Ok, reverse, ⊤}
+use Rattle.std.specs.Prelude.{◌≡◌, ◌⊎◌, ℕ, ◌+◌, ◌-◌, ◌<◌, Bool, List, ◌++◌, length, Option, Ok, reverse}
+use Rattle.std.specs.Prelude.{⊤}
 use Rattle.std.specs.Io.KnownBytes.{Appends}
 use Rattle.pt_events.specs.declared.event.Stamped.{Stamped}
 use Rattle.pt_events.specs.Journal.{IsMerge}
@@ -29,7 +30,7 @@ use Rattle.pt_report.specs.Epochs.{Staffed, RunsOn, PassEpochs, HasWritten}
 use Rattle.pt_report.specs.Lines.{history_text}
 use Rattle.pt_report.specs.declared.form.Form.{Form}
 use Rattle.pt_report.specs.declared.form.Form.TheVariants.{Lines, Diagram, Objects}
-use Rattle.pt_report.specs.Summaries.{Summarizes}
+use Rattle.pt_report.specs.Summaries.{SummarizesAs}
 use Rattle.pt_report.specs.declared.fault.ReportFault.{ReportFault}
 use Rattle.pt_report.specs.declared.fault.ReportFault.TheVariants.{Script, Memory, Desk, File}
 
@@ -67,14 +68,14 @@ Tells form histories g old new =
     × Appends old new (history_text form (histories ++ h) (all_left g))
 
 -- What stands in the writer now, beyond what stood there before, is what is asked for of the node, and of the histories
--- of the epochs before its own; in a chart processes are called so.
-abbrev pub Shows : Show → List Stamped → List (Pid × List ℕ) → GatheredState → Option (List ℕ) → Option (List ℕ)
-    → Type 0
-Shows Summary histories called g old new = Summarizes g old new
-Shows History histories called g old new = Tells Lines histories g old new
-Shows Mermaid histories called g old new = Tells Diagram histories g old new
-Shows Json histories called g old new = Tells Objects histories g old new
-Shows Chart histories called g old new =
+-- of the epochs before its own; in a chart processes are called so, and a summary is explained where that is asked for.
+abbrev pub Shows : Bool → Show → List Stamped → List (Pid × List ℕ) → GatheredState → Option (List ℕ)
+    → Option (List ℕ) → Type 0
+Shows explain Summary histories called g old new = SummarizesAs explain g old new
+Shows explain History histories called g old new = Tells Lines histories g old new
+Shows explain Mermaid histories called g old new = Tells Diagram histories g old new
+Shows explain Json histories called g old new = Tells Objects histories g old new
+Shows explain Chart histories called g old new =
     (h : List Stamped) × IsMerge (journals g) (reverse h) × (text : List ℕ) × IsChart (histories ++ h) called text
     × Appends old new text
 
@@ -86,7 +87,7 @@ pub record Reports (bytes : List ℕ) (options : Options) (old new : Option (Lis
   pub histories : List Stamped
   pub node : GatheredState
   pub is_node : IsNodeOf (options.epochs - 1) options script histories node
-  pub shows : Shows options.print histories (called_by (names_in bytes) is_node.ran.1) node old new
+  pub shows : Shows options.explain options.print histories (called_by (names_in bytes) is_node.ran.1) node old new
 
 -- refusals ------------------------------------------------------------------------------
 

@@ -1,5 +1,6 @@
 -- What a summary prints.
-use Rattle.std.specs.Prelude.{◌≡◌, ℕ, ◌-◌, ◌^◌, ◌++◌, min, List, [], length, Option, Some, None, codes}
+use Rattle.std.specs.Prelude.{◌≡◌, ℕ, ◌-◌, ◌^◌, ◌++◌, min, Bool, true, false, List, [], length, map, Option, Some}
+use Rattle.std.specs.Prelude.{None, codes, string_bytes}
 use Rattle.std.specs.List.{flat_map}
 use Rattle.std.specs.Io.KnownBytes.{Appends}
 use Rattle.pt_signal.specs.declared.pid.Pid.{Pid}
@@ -10,6 +11,7 @@ use Rattle.pt_gathered.specs.Gathered.{GatheredState, begins, journals}
 use Rattle.pt_gathered.specs.LeftOvers.{all_left}
 use Rattle.pt_gathered.specs.Quiet.{QuietState}
 use Rattle.pt_gathered.specs.Settling.{event_count, Settles, NothingLeft}
+use Rattle.pt_report.specs.declared.notes.Note.{Note}
 use Rattle.pt_report.specs.declared.totals.Totals.{Totals}
 use Rattle.pt_report.specs.Lines.{account_text, totals_text}
 
@@ -47,3 +49,33 @@ pub record Totalled (g : GatheredState) (q : QuietState) (t : Totals) : Type 0 w
 abbrev pub Summarizes : GatheredState → Option (List ℕ) → Option (List ℕ) → Type 0
 Summarizes g old new =
     (q : QuietState) × (t : Totals) × Totalled g q t × AppendsAccounts (totals_text t ++ codes "\n") q old new
+
+-- explained: what a process is at, or why it ended, stands on a line behind its own; which text that is, is left open
+abbrev pub noted_line : Start → Past → Note → List ℕ
+noted_line start past n =
+    account_line n.pid (account_in start past n.pid) ++ (codes "  " ++ string_bytes n.text ++ codes "\n")
+
+abbrev pub noted_lines : Start → Past → List Note → List ℕ
+noted_lines start past notes = flat_map (noted_line start past) notes
+
+-- the pids that the notes are of are all that were ever born
+abbrev pub AreNotesOf : QuietState → List Note → Type 0
+AreNotesOf q notes =
+    InEveryMerge (journals q.gathered)
+    (λ past. AreAllPids (begins q.gathered) past (map (λ (n : Note). n.pid) notes))
+
+-- so many lines, and no more
+abbrev pub AppendsNotes : QuietState → List Note → Option (List ℕ) → Option (List ℕ) → Type 0
+AppendsNotes q notes old new =
+    InEveryMerge (journals q.gathered) (λ past. Appends old new (noted_lines (begins q.gathered) past notes))
+
+-- the node is settled; a line a process is written, with its note behind it, and then the totals
+abbrev pub Explains : GatheredState → Option (List ℕ) → Option (List ℕ) → Type 0
+Explains g old new =
+    (q : QuietState) × (t : Totals) × Totalled g q t × (notes : List Note) × AreNotesOf q notes
+    × (mid : Option (List ℕ)) × AppendsNotes q notes old mid × Appends mid new (totals_text t ++ codes "\n")
+
+-- with notes where they are asked for
+abbrev pub SummarizesAs : Bool → GatheredState → Option (List ℕ) → Option (List ℕ) → Type 0
+SummarizesAs true g old new = Explains g old new
+SummarizesAs false g old new = Summarizes g old new

@@ -15,8 +15,9 @@
 //!
 //! The history is a line an event, by stamp and then desk, and then a line a letter that was left over. For the
 //! summary the letters left over are brought to their receivers first; it is a line a process and a last line of
-//! totals. The chart is the history as a drawing, of [`pt_chart`], with the names of the script; as JSON and as a
-//! Mermaid diagram the lines are those of [`pt_render`].
+//! totals. Where it is to be explained, a second line of each process says what it is at, or why it ended. The chart
+//! is the history as a drawing, of [`pt_chart`], with the names of the script; as JSON and as a Mermaid diagram the
+//! lines are those of [`pt_render`].
 //!
 //! With more epochs than one the node is settled between two of them and goes on with empty journals, with the scripts
 //! where they were. The history is then that of all epochs, in order: each epoch's lines are written as it ends, and
@@ -35,14 +36,18 @@
 
 mod called;
 mod chart;
+mod ending;
 mod epochs;
+mod explained;
 mod fault;
 mod form;
 mod history;
+mod notes;
 mod reporting;
 mod running;
 mod summary;
 mod totals;
+mod words;
 
 pub use fault::ReportFault;
 pub use reporting::report;

@@ -5,11 +5,11 @@ ghost use Rattle.pt_report.specs.Reports.{Reports, HasWrittenOf, IsRefusedAs};
 ghost use Rattle.pt_report.specs.declared.fault.ReportFault.TheVariants.{File};
 
 use crate::chart::print_chart;
+use crate::explained::summarize;
 use crate::fault::ReportFault;
 use crate::form::Form;
 use crate::history::print_history;
 use crate::running::run_script;
-use crate::summary::print_summary;
 use pt_choices::{Options, Show};
 use pt_script::Script;
 use std::alloc::Global;
@@ -21,7 +21,8 @@ use std::thread::Threads;
 /// On `Ok` the whole text was written and the writer flushed: the history in the form that is asked for, the summary or
 /// the chart of a node that has the script's settings, was run and then gathered. Each of its desks took all the turns
 /// that the options ask for, with the script's budget, and before each of them a step of the script's operations. In a
-/// chart each process of the script has its name there. What `Mode::Single` prints is the same each time.
+/// chart each process of the script has its name there, and in a summary that is to be explained a line behind each
+/// process says what it is at, or why it ended. What `Mode::Single` prints is the same each time.
 ///
 /// So it did in each epoch that the options ask for. Between two the node is gathered and settled, and goes on with
 /// empty journals; the processes of the script go on where they were. The history and the chart have the events of all
@@ -49,7 +50,15 @@ pub fn report<R: Threads + Sync, W: Write>(
     let mut kept = Vec::new(alloc);
     let (gathered, runners) = run_script(rt, alloc, options, &read, &mut kept, out)?;
     match options.print {
-        Show::Summary => print_summary(gathered, out),
+        Show::Summary => summarize(
+            alloc,
+            options.explain,
+            script,
+            &read,
+            runners.as_slice(),
+            gathered,
+            out,
+        ),
         Show::History => print_history(Form::Lines, kept, &gathered, out),
         Show::Mermaid => print_history(Form::Diagram, kept, &gathered, out),
         Show::Json => print_history(Form::Objects, kept, &gathered, out),

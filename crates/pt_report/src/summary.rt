@@ -1,12 +1,12 @@
 //! The lines of a summary.
 
-ghost use Rattle.std.specs.Prelude.{◌≡◌, ◌≢◌, ◌-◌, ◌^◌, ◌++◌, [], codes, min, OnOk, IfErr};
+ghost use Rattle.std.specs.Prelude.{◌≡◌, ◌≢◌, ◌-◌, ◌^◌, ◌++◌, [], codes, min, OnOk, IfOk, IfErr};
 ghost use Rattle.pt_gathered.specs.Settling.{event_count};
 ghost use Rattle.pt_report.specs.Lines.{totals_text};
 ghost use Rattle.std.specs.Io.KnownBytes.{Appends};
 ghost use Rattle.pt_accounts.specs.LivesState.{InEveryMerge, account_in};
 ghost use Rattle.pt_gathered.specs.Gathered.{begins, journals};
-ghost use Rattle.pt_report.specs.Summaries.{Summarizes, AppendsAccounts, account_line};
+ghost use Rattle.pt_report.specs.Summaries.{Summarizes, Totalled, AppendsAccounts, account_line};
 ghost use Rattle.pt_report.specs.Reports.{IsOfSummary};
 ghost use Rattle.pt_report.specs.declared.fault.ReportFault.TheVariants.{File};
 
@@ -22,6 +22,18 @@ pub(crate) fn print_summary<W: Write>(gathered: Gathered, out: &mut W) -> Result
     ensures fault { IfErr result (IsOfSummary gathered) }
     ensures untouched { IfErr result (λ f. f ≢ File → out.new ≡ out.old) }
 {
+    let (quiet, totals) = settled_of(gathered)?;
+    match write_summary(out, &quiet, totals) {
+        Ok(()) => Ok(()),
+        Err(_) => Err(ReportFault::File),
+    }
+}
+
+/// A node settled, and the totals of it.
+pub(crate) fn settled_of(gathered: Gathered) -> Result<(Quiet, Totals), ReportFault>
+    ensures totalled { IfOk result (λ r. Totalled gathered r.0 r.1) }
+    ensures fault { IfErr result (IsOfSummary gathered) }
+{
     let events = count_events(&gathered);
     let left_over = gathered.left_over()?.len() as u64;
     let quiet = match gathered.settle() {
@@ -34,10 +46,7 @@ pub(crate) fn print_summary<W: Write>(gathered: Gathered, out: &mut W) -> Result
         left_over,
         settled,
     };
-    match write_summary(out, &quiet, totals) {
-        Ok(()) => Ok(()),
-        Err(_) => Err(ReportFault::File),
-    }
+    Ok((quiet, totals))
 }
 
 /// How many events the journals have, staying at the greatest number.
@@ -76,7 +85,7 @@ fn write_accounts<W: Write>(out: &mut W, quiet: &Quiet) -> io::Result<()>
 
 /// Writes the line of a process, if it was born.
 #[tactic(auto, using(crate::proofs::Accounts::told_line))]
-fn write_account<W: Write>(out: &mut W, quiet: &Quiet, pid: Pid) -> io::Result<()>
+pub(crate) fn write_account<W: Write>(out: &mut W, quiet: &Quiet, pid: Pid) -> io::Result<()>
     ensures { OnOk result
         (InEveryMerge (journals quiet.now.gathered)
         (λ past.

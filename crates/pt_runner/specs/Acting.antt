@@ -31,6 +31,7 @@ use Rattle.pt_script.specs.declared.values.Pattern.TheVariants.{Any, Kind, From,
 use Rattle.pt_runner.specs.declared.calls.Progress.{Progress}
 use Rattle.pt_runner.specs.declared.calls.Progress.TheVariants.{Done, Stays, Ends}
 use Rattle.pt_runner.specs.declared.runner.Actor.{Actor}
+use Rattle.pt_runner.specs.declared.runner.Place.{Place}
 use Rattle.pt_runner.specs.declared.runner.Runner.{Runner}
 
 -- a runner's table ----------------------------------------------------------------------
@@ -66,6 +67,10 @@ acting a = record {
 
 abbrev pub table : Runner → Table
 table r = record { plans = r.script.now.processes; pids = r.pids.items; actors = map acting r.actors.items }
+
+-- where it is in its list
+abbrev pub place_of : Actor → Place
+place_of a = record { begins = a.begins; done = a.done }
 
 abbrev pub plan_at : List Plan → ℕ → Plan
 plan_at plans process = slice_index_or plans process (record { trap = false; operations = [] })

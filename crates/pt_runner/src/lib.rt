@@ -21,7 +21,7 @@
 //! An operation speaks of processes by their numbers in the script, and of monitors by their tags. The runner keeps the
 //! pid of each process that the operations of its desk may name, and the reference of each tag of a process. A number
 //! without a pid, a pid that the desk does not know, or a tag without a reference comes on the desks of another node
-//! alone: such an operation is passed over.
+//! alone: such an operation is passed over. [`Runner::place`] tells where a process is in its list.
 //!
 //! # Cost
 //!
@@ -33,4 +33,4 @@ mod calls;
 mod runner;
 mod start;
 
-pub use runner::Runner;
+pub use runner::{Place, Runner};

@@ -2,12 +2,14 @@
 
 ghost use Rattle.std.specs.Prelude.{◌≡◌, ◌≢◌, ℕ, Bool, false, ◌<◌, ◌≤◌, ◌+◌, Some, Ok, slice_set, map, vec_len};
 ghost use Rattle.std.specs.Prelude.{vec_capacity};
-ghost use Rattle.std.specs.List.{All};
+ghost use Rattle.std.specs.List.{All, find};
+ghost use Rattle.std.specs.Option.{option_map};
+ghost use Rattle.pt_signal.specs.Values.{same_pid};
 ghost use Rattle.pt_shard.specs.ShardState.{lives};
 ghost use Rattle.pt_desk.specs.DeskState.{GoesOn, HasSameEnds};
 ghost use Rattle.pt_script.specs.declared.values.Operation.{Operation};
 ghost use Rattle.pt_runner.specs.Acting.{Plays, GoesBehind, ActsAt, RunnerDoes, acting, table, newborn, next_of};
-ghost use Rattle.pt_runner.specs.Acting.{advanced, living, with_child, SpawnsAt};
+ghost use Rattle.pt_runner.specs.Acting.{advanced, living, place_of, with_child, SpawnsAt};
 ghost use Rattle.pt_runner.specs.Stepping.{Steps, processes_of};
 
 use crate::calls::{Progress, References, call, progress_of};
@@ -100,6 +102,15 @@ impl Actor {
     }
 }
 
+/// Where a process of the script is in its list of operations.
+#[derive(Clone, Copy, Debug, PartialEq, Eq)]
+pub struct Place {
+    /// Whether trapping exits is its next operation, before those of its list.
+    pub begins: bool,
+    /// How many operations of its list are behind it.
+    pub done: usize,
+}
+
 /// The process of this number has this pid.
 pub(crate) fn put_pid(pids: &mut Vec<Option<Pid>>, process: u32, pid: Pid)
     ensures { pids.new.items ≡ slice_set pids.old.items process (Some pid) }
@@ -150,6 +161,22 @@ impl<'a> Runner<'a> {
         ensures { result.now ≡ (table self.now).pids }
     {
         self.pids.as_slice()
+    }
+
+    /// Where the process is in its list, or `None` where it was not born on this desk, or had ended as the last step
+    /// began.
+    pub fn place(&self, p: Pid) -> Option<Place>
+        ensures { result ≡ option_map place_of (find (λ a. same_pid a.pid p) self.now.actors.items) }
+    {
+        for actor in &self.actors {
+            if actor.pid == p {
+                return Some(Place {
+                    begins: actor.begins,
+                    done: actor.done,
+                });
+            }
+        }
+        None
     }
 
     /// Takes out the processes that have ended.

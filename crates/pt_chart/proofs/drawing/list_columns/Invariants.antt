@@ -3,4 +3,4 @@ use Rattle.pt_chart.specs.Drawing.{numbered, column}
 use Rattle.pt_chart.proofs.drawing.list_columns.Given as goal
 
 abbrev pub invariant-loop-place : goal.invariant-loop-place
-invariant-loop-place l = l.parts.items ≡ l.fn.parts.items ++ numbered column (take l.place l.columns)
+invariant-loop-place l = l.parts.items ≡ l.fn.parts.items ++ numbered (column l.rows) (take l.place l.columns)

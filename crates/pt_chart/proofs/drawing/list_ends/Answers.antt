@@ -5,4 +5,4 @@ use Rattle.pt_chart.proofs.drawing.list_ends.Goals as goal
 
 pub loop-place-preserved : goal.loop-place-preserved
 loop-place-preserved c =
-    one_more end c.args.parts.now.items c.loop-place.parts.items c.list_end.new.parts.items c.args.columns.now c.loop-place.place c.index-columns-place.result (omega arith) (search rules) c.loop-place.invariant c.in_ok-list_end.ensures
+    one_more (end c.args.rows.now) c.args.parts.now.items c.loop-place.parts.items c.list_end.new.parts.items c.args.columns.now c.loop-place.place c.index-columns-place.result (omega arith) (search rules) c.loop-place.invariant c.in_ok-list_end.ensures

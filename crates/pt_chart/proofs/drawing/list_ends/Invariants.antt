@@ -3,4 +3,4 @@ use Rattle.pt_chart.specs.Drawing.{numbered, end}
 use Rattle.pt_chart.proofs.drawing.list_ends.Given as goal
 
 abbrev pub invariant-loop-place : goal.invariant-loop-place
-invariant-loop-place l = l.parts.items ≡ l.fn.parts.items ++ numbered end (take l.place l.columns)
+invariant-loop-place l = l.parts.items ≡ l.fn.parts.items ++ numbered (end l.rows) (take l.place l.columns)

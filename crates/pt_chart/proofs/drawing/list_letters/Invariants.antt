@@ -3,4 +3,4 @@ use Rattle.pt_chart.specs.Drawing.{numbered, letters}
 use Rattle.pt_chart.proofs.drawing.list_letters.Given as goal
 
 abbrev pub invariant-loop-place : goal.invariant-loop-place
-invariant-loop-place l = l.parts.items ≡ l.fn.parts.items ++ numbered letters (take l.place l.columns)
+invariant-loop-place l = l.parts.items ≡ l.fn.parts.items ++ numbered (letters l.rows) (take l.place l.columns)

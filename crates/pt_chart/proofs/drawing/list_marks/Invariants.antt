@@ -2,5 +2,5 @@ use Rattle.std.proofs.Common.{◌≡◌, ◌++◌, take}
 use Rattle.pt_chart.specs.Drawing.{numbered, mark}
 use Rattle.pt_chart.proofs.drawing.list_marks.Given as goal
 
-abbrev pub invariant-loop-row : goal.invariant-loop-row
-invariant-loop-row l = l.parts.items ≡ l.fn.parts.items ++ numbered (mark l.columns) (take l.row l.events)
+abbrev pub invariant-loop-at : goal.invariant-loop-at
+invariant-loop-at l = l.parts.items ≡ l.fn.parts.items ++ numbered (mark l.rows l.columns) (take l.at l.events)

@@ -5,4 +5,4 @@ use Rattle.pt_chart.proofs.drawing.list_sayings.Goals as goal
 
 pub loop-place-preserved : goal.loop-place-preserved
 loop-place-preserved c =
-    one_more sayings c.args.parts.now.items c.loop-place.parts.items c.list_sayings_of.new.parts.items c.args.columns.now c.loop-place.place c.index-columns-place.result (omega arith) (search rules) c.loop-place.invariant c.in_ok-list_sayings_of.ensures
+    one_more (sayings c.args.rows.now) c.args.parts.now.items c.loop-place.parts.items c.list_sayings_of.new.parts.items c.args.columns.now c.loop-place.place c.index-columns-place.result (omega arith) (search rules) c.loop-place.invariant c.in_ok-list_sayings_of.ensures

@@ -3,6 +3,7 @@ use Rattle.std.specs.Prelude.{pos}
 use Rattle.pt_signal.specs.declared.signal.Signal.TheVariants.{Message}
 use Rattle.pt_chart.specs.declared.layout.Arrow.{Arrow}
 use Rattle.pt_chart.specs.declared.part.Part.TheVariants.{Saying}
+use Rattle.pt_chart.specs.Rows.{in_rows}
 use Rattle.pt_chart.proofs.Rows.{one_more_given}
 use Rattle.pt_chart.proofs.drawing.list_sayings_of.Goals as goal
 
@@ -11,5 +12,5 @@ nothing = record { to = 0; signal = Message (record { kind = 0; num = pos 0; who
 
 pub loop-arrow-preserved : goal.loop-arrow-preserved
 loop-arrow-preserved c =
-    one_more_given (Saying c.args.place) c.args.parts.now.items c.loop-arrow.parts.items c.push.new.self.items c.args.shown.now.arrows.items c.loop-arrow.arrow-index nothing
+    one_more_given (λ (a : Arrow). Saying c.args.place (in_rows c.args.rows.now a)) c.args.parts.now.items c.loop-arrow.parts.items c.push.new.self.items c.args.shown.now.arrows.items c.loop-arrow.arrow-index nothing
     (omega arith) c.loop-arrow.invariant (search rules)

@@ -5,4 +5,4 @@ use Rattle.pt_chart.proofs.elements.write_size.Goals as goal
 
 pub returns : goal.returns
 unfolding size_text
-returns c = reads_as _ _ _ _ (size_text c.args.width c.args.height c.args.rows c.args.columns) c.write.ensures.bytes (simp append_assoc)
+returns c = reads_as _ _ _ _ (size_text c.args.width c.args.height c.args.events c.args.columns) c.write.ensures.bytes (simp append_assoc)

@@ -5,4 +5,4 @@ use Rattle.pt_chart.proofs.elements.write_strip.Goals as goal
 
 pub returns : goal.returns
 unfolding strip_text
-returns c = reads_as _ _ _ _ (strip_text c.args.y c.args.width c.args.said.now) c.write.ensures.bytes (simp append_assoc)
+returns c = reads_as _ _ _ _ (strip_text c.args.y c.args.width) c.write.ensures.bytes (simp append_assoc)

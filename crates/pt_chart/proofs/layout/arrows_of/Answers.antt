@@ -8,7 +8,7 @@ use Rattle.pt_chart.proofs.Arrivals.{awaits_next, first_left}
 use Rattle.pt_chart.proofs.layout.arrows_of.Goals as goal
 
 abbrev nothing : Sending
-nothing = record { row = 0; to = record { shard = 0; slot = 0; version = 0 }; signal = Message (record { kind = 0; num = pos 0; who = None }) }
+nothing = record { event = 0; to = record { shard = 0; slot = 0; version = 0 }; signal = Message (record { kind = 0; num = pos 0; who = None }) }
 
 pub loop-k-preserved : goal.loop-k-preserved
 loop-k-preserved c =
@@ -24,7 +24,7 @@ loop-k-preserved c =
     record {
       made =
           arrows_next events c.args.pids.now from sent k nothing c.loop-k.arrows.items c.push_reserved.new.self.items c.arrow_of.result
-          (omega arith) (c.arrow_of.ensures ∙ ap (λ row. record { to = place c.args.pids.now l.to; signal = l.signal; sent = l.row; came = row }) came)
+          (omega arith) (c.arrow_of.ensures ∙ ap (λ row. record { to = place c.args.pids.now l.to; signal = l.signal; sent = l.event; came = row }) came)
           c.loop-k.invariant.made c.push_reserved.ensures.items;
       count = search rules;
       room = search rules;

@@ -5,7 +5,7 @@ use Rattle.pt_chart.proofs.layout.column_of.Goals as goal
 
 pub returns-clause-column : goal.returns-clause-column
 returns-clause-column c = λ same. record {
-  born = c.birth_row-born.ensures;
+  born = c.birth_of-born.ensures;
   shows = λ anew. record {
     ended = c.in_ok-ended.ensures.ending anew;
     arrows =

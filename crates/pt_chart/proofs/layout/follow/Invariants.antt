@@ -3,8 +3,8 @@ use Rattle.pt_chart.specs.Chart.{past_of, MonitorsAnew}
 use Rattle.pt_chart.proofs.Tracing.{Traces}
 use Rattle.pt_chart.proofs.layout.follow.Given as goal
 
-abbrev pub invariant-loop-row : goal.invariant-loop-row
-invariant-loop-row l = record {
-  rows : length (past_of (take l.row l.events)) ≡ l.row;
-  traces : MonitorsAnew (past_of (take l.row l.events)) l.fn.pid → Traces (past_of (take l.row l.events)) l.fn.pid l.follower l.fn.sent.items l.sent.items l.ended;
+abbrev pub invariant-loop-at : goal.invariant-loop-at
+invariant-loop-at l = record {
+  rows : length (past_of (take l.at l.events)) ≡ l.at;
+  traces : MonitorsAnew (past_of (take l.at l.events)) l.fn.pid → Traces (past_of (take l.at l.events)) l.fn.pid l.follower l.fn.sent.items l.sent.items l.ended;
 }

@@ -7,6 +7,8 @@ use Rattle.pt_chart.specs.declared.layout.Column.{Column}
 use Rattle.pt_chart.specs.Chart.{IsColumn}
 use Rattle.pt_chart.proofs.Rows.{stands_next}
 use Rattle.pt_chart.proofs.Legal.{lives_shown}
+use Rattle.pt_chart.proofs.Rowing.{history_shown}
+use Rattle.pt_chart.specs.Rows.{AreRows, follows_sending}
 use Rattle.pt_chart.proofs.layout.lay_out.Goals as goal
 
 abbrev nobody : Pid
@@ -29,8 +31,13 @@ pub returns-clause-layout : goal.returns-clause-layout
 returns-clause-layout c = record {
   pids = c.loop-place.invariant.pids ∙ take_all c.loop-place.place c.as_slice-pids.result.now (omega arith) ∙ c.as_slice-pids.ensures.value ∙ c.in_ok-named.ensures;
   columns = c.loop-place.invariant.columns;
-  rows = search rules;
+  rows = subst (λ cs. AreRows c.args.events.now (follows_sending cs) c.in_ok-rows.rows.items) c.as_slice.ensures.value c.in_ok-rows.ensures;
 }
 
 pub returns-clause-legal : goal.returns-clause-legal
-returns-clause-legal c = λ legal. lives_shown c.args.events.now c.loop-place.columns.items legal c.loop-place.invariant.columns
+returns-clause-legal c = λ legal.
+    let all = take_all c.loop-place.place c.as_slice-pids.result.now (omega arith) in
+    history_shown c.args.events.now (record { columns = c.loop-place.columns; rows = c.in_ok-rows.rows })
+    (c.loop-place.invariant.pids ∙ all ∙ c.as_slice-pids.ensures.value ∙ c.in_ok-named.ensures)
+    (subst (λ cs. AreRows c.args.events.now (follows_sending cs) c.in_ok-rows.rows.items) c.as_slice.ensures.value c.in_ok-rows.ensures)
+    (lives_shown c.args.events.now c.loop-place.columns.items legal c.loop-place.invariant.columns)

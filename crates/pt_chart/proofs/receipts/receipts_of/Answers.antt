@@ -7,8 +7,8 @@ use Rattle.pt_chart.proofs.receipts.receipts_of.Goals as goal
 abbrev nothing : Stamped
 nothing = record { stamp = 0; desk = 0; event = Born (record { shard = 0; slot = 0; version = 0 }) None None }
 
-pub loop-row-preserved : goal.loop-row-preserved
-loop-row-preserved c = queues_next c.args.from c.args.events.now c.loop-row.row nothing c.loop-row.receipts c.note.new.self (omega arith) c.loop-row.invariant c.in_ok-note.ensures
+pub loop-at-preserved : goal.loop-at-preserved
+loop-at-preserved c = queues_next c.args.from c.args.events.now c.loop-at.at nothing c.loop-at.receipts c.note.new.self (omega arith) c.loop-at.invariant c.in_ok-note.ensures
 
 pub returns : goal.returns
-returns c = queues_all c.args.from c.args.events.now c.loop-row.row c.loop-row.receipts (omega arith) c.loop-row.invariant
+returns c = queues_all c.args.from c.args.events.now c.loop-at.at c.loop-at.receipts (omega arith) c.loop-at.invariant

@@ -8,12 +8,12 @@ use Rattle.pt_report.proofs.reporting.report.Goals as goal
 pub returns-in-Summary-clause-text : goal.returns-in-Summary-clause-text
 returns-in-Summary-clause-text g c =
     let node = c.in_ok-gathered.ensures.node in
-    summary_reported g.W.Write.contents c.print_summary.result c.args.script.now c.args.options.now c.in_ok-read.read node.0 c.in_ok-gathered.gathered c.args.out.now c.run_script.new.out c.print_summary.new.out c.run_script.new.kept.items c.in_ok-read.ensures node.1.0 node.2 c.in-Summary.is c.print_summary.ensures.text
+    summary_reported g.W.Write.contents c.summarize.result c.args.script.now c.args.options.now c.in_ok-read.read node.0 c.in_ok-gathered.gathered c.args.out.now c.run_script.new.out c.summarize.new.out c.run_script.new.kept.items c.in_ok-read.ensures node.1.0 node.2 c.in-Summary.is c.summarize.ensures.text
 
 pub returns-in-Summary-clause-refused : goal.returns-in-Summary-clause-refused
 returns-in-Summary-clause-refused g c =
     let node = c.in_ok-gathered.ensures.node in
-    IfErr-weaker c.print_summary.result _ _ (λ f h. of_summary c.args.script.now c.args.options.now c.in_ok-read.read node.0 c.in_ok-gathered.gathered f c.in_ok-read.ensures c.in-Summary.is node.1.0 h) c.print_summary.ensures.fault
+    IfErr-weaker c.summarize.result _ _ (λ f h. of_summary c.args.script.now c.args.options.now c.in_ok-read.read node.0 c.in_ok-gathered.gathered f c.in_ok-read.ensures c.in-Summary.is node.1.0 h) c.summarize.ensures.fault
 
 pub returns-in-History-clause-untouched : goal.returns-in-History-clause-untouched
 returns-in-History-clause-untouched g c =
@@ -41,5 +41,5 @@ returns-in-Json-clause-text g c =
 pub returns-clause-text : goal.returns-clause-text
 returns-clause-text g c =
     let node = c.in_ok-gathered.ensures.node in
-    let run : IsRun (c.args.options.now.epochs - 1) c.args.options.now c.in_ok-read.read node.0 c.in_ok-gathered.gathered c.as_slice.result.now = (node.1.0, node.1.1 ∙ sym c.as_slice.ensures.value) in
-    chart_reported g.W.Write.contents c.print_chart.result c.args.script.now c.args.options.now c.in_ok-read.read node.0 c.in_ok-gathered.gathered c.as_slice.result.now c.args.out.now c.run_script.new.out c.print_chart.new.out c.run_script.new.kept.items c.in_ok-read.ensures run node.2 c.in-Chart.is c.print_chart.ensures.text
+    let run : IsRun (c.args.options.now.epochs - 1) c.args.options.now c.in_ok-read.read node.0 c.in_ok-gathered.gathered c.as_slice-in-Chart.result.now = (node.1.0, node.1.1 ∙ sym c.as_slice-in-Chart.ensures.value) in
+    chart_reported g.W.Write.contents c.print_chart.result c.args.script.now c.args.options.now c.in_ok-read.read node.0 c.in_ok-gathered.gathered c.as_slice-in-Chart.result.now c.args.out.now c.run_script.new.out c.print_chart.new.out c.run_script.new.kept.items c.in_ok-read.ensures run node.2 c.in-Chart.is c.print_chart.ensures.text

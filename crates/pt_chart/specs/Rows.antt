@@ -1,0 +1,56 @@
+-- In which rows of a chart the events of a history stand. Events, by their places in the history, and rows are numbered
+-- from 0.
+use Rattle.std.specs.Prelude.{◌≡◌, ℕ, ◌+◌, ◌<◌, ◌≤◌, ◌==◌, Bool, true, false, not, ◌&&◌, List, length, fold, max}
+use Rattle.std.specs.Prelude.{position, unwrap_or, slice_index, Option, Some, None}
+use Rattle.std.specs.List.{list_any}
+use Rattle.std.specs.Option.{option_map}
+use Rattle.pt_events.specs.declared.event.Event.{Event}
+use Rattle.pt_events.specs.declared.event.Event.TheVariants.{Born}
+use Rattle.pt_events.specs.declared.event.Stamped.{Stamped}
+use Rattle.pt_chart.specs.declared.layout.Arrow.{Arrow}
+use Rattle.pt_chart.specs.declared.layout.Column.{Column}
+use Rattle.pt_chart.specs.Page.{capped}
+
+abbrev pub is_born : Event → Bool
+is_born (Born p parent link) = true
+is_born _ = false
+
+-- how many births stand in front of every other event
+abbrev pub births_in_front : List Stamped → ℕ
+births_in_front events = unwrap_or (position (λ s. not (is_born s.event)) events) (length events)
+
+abbrev pub is_at : ℕ → Option ℕ → Bool
+is_at event None = false
+is_at event (Some place) = place == event
+
+-- by this event the letter came, and by the very one before it it was sent
+abbrev pub comes_next : ℕ → Arrow → Bool
+comes_next event a = is_at event a.came && (a.sent + 1 == event)
+
+-- the event is the receipt of a letter that the very one before it sent
+abbrev pub follows_sending : List Column → ℕ → Bool
+follows_sending columns event = list_any (λ c. list_any (comes_next event) c.arrows.items) columns
+
+-- The rows of the events: the births in front share the first one, a receipt that follows its sending shares the row of
+-- that, and every other event has a row of its own, below those of the events before it.
+pub record AreRows (events : List Stamped) (follows : ℕ → Bool) (rows : List ℕ) : Type 0 where
+  pub each : length rows ≡ length events
+  pub first : slice_index rows 0 ≡ 0
+  pub births : (i : ℕ) → i < length events → i < births_in_front events → slice_index rows i ≡ 0
+  pub receipts : (i : ℕ) → i + 1 < length events → follows (i + 1) ≡ true
+      → slice_index rows (i + 1) ≡ slice_index rows i
+  pub others : (i : ℕ) → i + 1 < length events → births_in_front events ≤ i + 1 → follows (i + 1) ≡ false
+      → slice_index rows (i + 1) ≡ slice_index rows i + 1
+
+-- how many rows there are: every event's row is below this
+abbrev pub count_of : List ℕ → ℕ
+count_of rows = fold (λ n row. max (capped (row + 1)) n) 0 rows
+
+-- the arrow from row to row, where it goes from event to event
+abbrev pub in_rows : List ℕ → Arrow → Arrow
+in_rows rows a = record {
+  to = a.to;
+  signal = a.signal;
+  sent = slice_index rows a.sent;
+  came = option_map (slice_index rows) a.came;
+}

@@ -1,0 +1,123 @@
+//! The lines of an explained summary.
+
+ghost use Rattle.std.specs.Prelude.{◌≡◌, ◌≢◌, ℕ, ◌++◌, codes, List, Option, OnOk, IfOk, IfErr};
+ghost use Rattle.std.specs.Io.KnownBytes.{Appends};
+ghost use Rattle.pt_accounts.specs.LivesState.{InEveryMerge};
+ghost use Rattle.pt_gathered.specs.Gathered.{begins, journals};
+ghost use Rattle.pt_report.specs.Lines.{totals_text};
+ghost use Rattle.pt_report.specs.Summaries.{AppendsNotes, AreNotesOf, Explains, SummarizesAs, noted_line};
+ghost use Rattle.pt_report.specs.Reports.{IsOfSummary};
+ghost use Rattle.pt_report.specs.declared.fault.ReportFault.TheVariants.{File};
+
+use crate::fault::ReportFault;
+use crate::notes::{Note, Sources, notes_of};
+use crate::summary::{print_summary, settled_of, write_account};
+use crate::totals::Totals;
+use pt_node::{Gathered, Quiet};
+use pt_runner::Runner;
+use pt_script::{Script, process_names};
+use std::alloc::{AllocError, Global};
+use std::io;
+use std::io::Write;
+
+/// Settles a node and prints what became of its processes; with `explain`, behind the line of each, what it is at or
+/// why it ended.
+pub(crate) fn summarize<W: Write>(
+    alloc: Global,
+    explain: bool,
+    bytes: &[u8],
+    script: &Script,
+    runners: &[Runner<'_>],
+    gathered: Gathered,
+    out: &mut W,
+) -> Result<(), ReportFault>
+    ensures text { OnOk result (SummarizesAs explain gathered (W.contents out.old) (W.contents out.new)) }
+    ensures fault { IfErr result (IsOfSummary gathered) }
+    ensures untouched { IfErr result (λ f. f ≢ File → out.new ≡ out.old) }
+{
+    if explain {
+        print_explained(alloc, bytes, script, runners, gathered, out)
+    } else {
+        print_summary(gathered, out)
+    }
+}
+
+/// Settles a node and prints what became of its processes, with a note behind each.
+fn print_explained<W: Write>(
+    alloc: Global,
+    bytes: &[u8],
+    script: &Script,
+    runners: &[Runner<'_>],
+    gathered: Gathered,
+    out: &mut W,
+) -> Result<(), ReportFault>
+    ensures text { OnOk result (Explains gathered (W.contents out.old) (W.contents out.new)) }
+    ensures fault { IfErr result (IsOfSummary gathered) }
+    ensures untouched { IfErr result (λ f. f ≢ File → out.new ≡ out.old) }
+{
+    let (quiet, totals) = settled_of(gathered)?;
+    let notes = notes_on(alloc, bytes, script, runners, &quiet)?;
+    match write_explained(out, &quiet, notes.as_slice(), totals) {
+        Ok(()) => Ok(()),
+        Err(_) => Err(ReportFault::File),
+    }
+}
+
+/// A note for each process that was ever born.
+fn notes_on(
+    alloc: Global,
+    bytes: &[u8],
+    script: &Script,
+    runners: &[Runner<'_>],
+    quiet: &Quiet,
+) -> Result<Vec<Note>, AllocError>
+    ensures { IfOk result (λ notes. AreNotesOf quiet.now notes.items) }
+{
+    let names = process_names(alloc, bytes)?;
+    let history = quiet.history()?;
+    let sources = Sources {
+        script,
+        names: names.as_slice(),
+        runners,
+        history: history.as_slice(),
+    };
+    notes_of(alloc, sources, quiet, quiet.pids())
+}
+
+/// Writes two lines a process, then the totals, and passes on what the writer holds back.
+fn write_explained<W: Write>(
+    out: &mut W,
+    quiet: &Quiet,
+    notes: &[Note],
+    totals: Totals,
+) -> io::Result<()>
+    ensures { OnOk result ((mid : Option (List ℕ)) × AppendsNotes quiet.now notes.now (W.contents out.old) mid
+        × Appends mid (W.contents out.new) (totals_text totals ++ codes "\n")) }
+{
+    write_notes(out, quiet, notes)?;
+    writeln!(out, "{totals}")?;
+    out.flush()
+}
+
+/// Writes two lines a process.
+#[tactic(auto, using(crate::proofs::Accounts::next_notes))]
+fn write_notes<W: Write>(out: &mut W, quiet: &Quiet, notes: &[Note]) -> io::Result<()>
+    ensures { OnOk result (AppendsNotes quiet.now notes.now (W.contents out.old) (W.contents out.new)) }
+{
+    for note in notes {
+        write_note(out, quiet, note)?;
+    }
+    Ok(())
+}
+
+/// Writes the line of a process, and the note behind it.
+fn write_note<W: Write>(out: &mut W, quiet: &Quiet, note: &Note) -> io::Result<()>
+    ensures { OnOk result
+        (InEveryMerge (journals quiet.now.gathered)
+        (λ past.
+        Appends (W.contents out.old) (W.contents out.new) (noted_line (begins quiet.now.gathered) past note.now))) }
+{
+    write_account(out, quiet, note.pid)?;
+    let text = note.text.as_str();
+    writeln!(out, "  {text}")
+}
