@@ -10,7 +10,8 @@ use Rattle.pt_events.specs.declared.event.Event.TheVariants.{Born, Said, Came, T
 use Rattle.pt_events.specs.History.{Past, Start, Phase, unborn, living, ended, life, after, touches, change, is_the}
 use Rattle.pt_events.specs.History.{newborn, linked, while_living, gets, leaves, arrives, items_of, reason_of}
 use Rattle.pt_events.proofs.Phases.{each_branch}
-use Rattle.pt_c.specs.Waking.{woken_by, OnlyWakes, NobodyIsMissed}
+use Rattle.pt_node.specs.Waking.{woken_by}
+use Rattle.pt_c.specs.Waking.{OnlyWakes, NobodyIsMissed}
 
 -- whether or not the event is p's
 same_reason : (t : Bool) (f g : Phase) → reason_of g ≡ reason_of f → reason_of (cond t g f) ≡ reason_of f

@@ -3,7 +3,7 @@
 ghost use Rattle.std.specs.Prelude.{◌≡◌, length, reverse, slice_get};
 ghost use Rattle.pt_c.specs.Answers.{Shows};
 ghost use Rattle.pt_c.specs.Reading.{event_of, item_of, linked_in, waits_in};
-ghost use Rattle.pt_c.specs.Waking.{woken_by, Woken};
+ghost use Rattle.pt_c.specs.Waking.{Woken};
 ghost use Rattle.pt_c.specs.Reading.{TellsCount, TellsPid, TellsAccount, TellsLinked, TellsKept, TellsWatching};
 ghost use Rattle.pt_c.specs.Crossing.{pid_out, ids_out, item_out, event_out, left_out};
 
@@ -11,7 +11,7 @@ use crate::codes::{DONE, NOTHING};
 use crate::crossing::{account_out, event_out, ids_out, item_out, left_out, pid_out};
 use crate::held::History;
 use crate::types::{PtAccount, PtEvent, PtIds, PtItem, PtLeftOver, PtPid};
-use pt_node::{Desk, Event, Ids, Item, Pid, Quiet, Ref, Stamped};
+use pt_node::{Desk, Ids, Item, Pid, Quiet, Ref, Stamped};
 
 fn show_pid(pid: Option<Pid>, out: &mut PtPid) -> u32
     ensures { Shows result out.old out.new pid_out pid }
@@ -109,26 +109,12 @@ pub(crate) fn next_woken(desk: &Desk, at: &mut usize, out: &mut PtPid) -> u32
 fn wake_from(events: &[Stamped], at: &mut usize, out: &mut PtPid) -> u32
     ensures { Woken result at.old at.new out.old out.new events.now }
 {
-    let mut k = *at;
-    while k < events.len() {
-        if let Some(pid) = woken_by(events[k].event) {
-            *at = k + 1;
+    match pt_node::next_woken(events, at) {
+        Some(pid) => {
             *out = pid_out(pid);
-            return DONE;
+            DONE
         }
-        k += 1;
-    }
-    *at = k;
-    NOTHING
-}
-
-fn woken_by(event: Event) -> Option<Pid>
-    ensures { result ≡ woken_by event }
-{
-    match event {
-        Event::Came(_, to, _) => Some(to),
-        Event::Left(pid, _) => Some(pid),
-        _ => None,
+        None => NOTHING,
     }
 }
 

@@ -50,7 +50,7 @@ pub struct Options {
     pub epochs: u64,
     /// What is printed.
     pub print: Show,
-    /// Whether a refusal is explained, in a second line.
+    /// Whether a refusal, and each process of a summary, is explained in a second line.
     pub explain: bool,
 }
 

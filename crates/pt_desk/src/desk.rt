@@ -332,6 +332,7 @@ impl Desk {
     /// It comes to the receiver after all that the sender sent it before. A receiver that is not alive then loses
     /// it, and nobody is told. Refused as `Gone`, as `NoProc` where the desk sees that the receiver has ended, as
     /// `Worn` or `Memory`.
+    #[inline(always)]
     pub fn send(&mut self, from: Pid, to: Pid, body: Body) -> Result<(), Fault>
         requires { knows self.old.shard to ≡ true }
         ensures does { Reaches (lives self.old.shard from) from to
@@ -458,6 +459,7 @@ impl Desk {
     ///
     /// `Ok(None)` says that nothing fits; it has no event. Refused as `Gone`, or where an item fits, as `Worn` or
     /// `Memory`.
+    #[inline(always)]
     pub fn receive(&mut self, p: Pid, pick: Pick) -> Result<Option<Item>, Fault>
         ensures does { Calls p (take_event self.old.shard p pick)
             (first_match self.old.shard p pick) self.old.shard result self.new.shard }
@@ -661,8 +663,22 @@ fn handle_front(shard: &mut Shard, ins: &Ins, from: u8) -> Result<Option<Pid>, S
 {
     match ins.front(from) {
         Some(letter) => shard.handle_in_place(letter),
-        None => shard.handle(ins.front_addressed(from)),
+        None => handle_addressed(shard, ins, from),
     }
+}
+
+/// Handles the same letter as a copy, into which the two desks of its lane are written. It is not inlined, since a turn
+/// would then clear the place of the copy for each letter.
+#[cold]
+#[inline(never)]
+fn handle_addressed(shard: &mut Shard, ins: &Ins, from: u8) -> Result<Option<Pid>, Stop>
+    requires shows { (from < length ins.now.place.rings) × (0 < length (slice_index_or ins.now.known from [])) }
+    requires here { ins.now.place.number ≡ shard.old.number }
+    requires near { from < shard.old.config.desks }
+    ensures does { HandlesFront from ins.now shard.old result shard.new }
+    ensures fit { IsFit shard.new }
+{
+    shard.handle(ins.front_addressed(from))
 }
 
 /// Takes the oldest letter that is known to wait in the lane from desk `from` into the hold. It is not inlined, since

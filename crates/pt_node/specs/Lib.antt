@@ -11,3 +11,4 @@ pub mod Load
 pub mod Looking
 pub mod NodeRunning
 pub mod Taking
+pub mod Waking

@@ -60,6 +60,7 @@ mod running;
 mod seating;
 mod stillness;
 mod taking;
+mod waking;
 mod work;
 
 pub use gathering::{DesksBack, abandon, gather};
@@ -81,4 +82,5 @@ pub use run_fault::RunFault;
 pub use running::{FreeGate, Gate, Ran, run, run_single};
 pub use stillness::{Rested, Stopped};
 pub use taking::{Takes, take_each};
+pub use waking::next_woken;
 pub use work::{Standing, Task, Work};

@@ -68,6 +68,7 @@ impl<K: Eq + Hash + Copy, V: Copy> Entries<K, V> {
     }
 
     /// The value at a key.
+    #[inline(always)]
     pub fn get(&self, key: &K) -> Option<V>
         ensures { result ≡ lookup (K.eq key.now) self.now.entries }
     {
@@ -78,6 +79,7 @@ impl<K: Eq + Hash + Copy, V: Copy> Entries<K, V> {
     }
 
     /// Makes room for one more entry.
+    #[inline(always)]
     pub fn reserve(&mut self) -> Result<(), AllocError>
         ensures same { self.new.entries ≡ self.old.entries }
         ensures ok { OnOk result (0 < self.new.room) }
@@ -110,6 +112,7 @@ impl<K: Eq + Hash + Copy, V: Copy> Entries<K, V> {
     }
 
     /// Gives a key that is there this value, in its place.
+    #[inline(always)]
     pub fn set(&mut self, key: K, value: V)
         requires { IsSome (lookup (K.eq key) self.old.entries) }
         ensures { self.new.entries ≡ set_value (K.eq key) self.old.entries value }
@@ -121,6 +124,7 @@ impl<K: Eq + Hash + Copy, V: Copy> Entries<K, V> {
     }
 
     /// Adds an entry at the end.
+    #[inline(always)]
     pub fn push(&mut self, key: K, value: V) -> Result<(), AllocError>
         requires { lookup (K.eq key) self.old.entries ≡ None }
         ensures ok { OnOk result (self.new.entries ≡ self.old.entries ++ (key, value) ∷ []) }
@@ -133,6 +137,7 @@ impl<K: Eq + Hash + Copy, V: Copy> Entries<K, V> {
     }
 
     /// Takes the key's entry out; the others keep their order.
+    #[inline(always)]
     pub fn remove(&mut self, key: &K) -> Option<V>
         ensures value { result ≡ lookup (K.eq key.now) self.old.entries }
         ensures rest { self.new.entries ≡ remove_entry (K.eq key.now) self.old.entries }
@@ -178,6 +183,7 @@ impl<K: Eq + Hash + Copy, V: Copy> Entries<K, V> {
         Rows { places }
     }
 
+    #[inline(always)]
     fn add(&mut self, key: K, value: V)
         requires absent { lookup (K.eq key) self.old.entries ≡ None }
         requires room { 0 < self.old.room }

@@ -81,6 +81,7 @@ impl Process {
     }
 
     /// The ids under which it is linked with this process.
+    #[inline(always)]
     pub fn linked(&self, peer: Pid) -> Option<Ids>
         ensures { result ≡ held self.now.state.links peer }
     {
@@ -287,6 +288,7 @@ impl Process {
     /// Its own half of a link: the id joins the entry of the peer, which has two at most, or makes one.
     ///
     /// Memory is refused only where it holds no link with the peer and there is no room.
+    #[inline(always)]
     pub fn add_link(&mut self, peer: Pid, id: LinkId) -> Result<(), AllocError>
         ensures me { self.new.me ≡ self.old.me }
         ensures state { OnOk result (self.new.state ≡ say self.old.state peer (Signal.Link id)) }
@@ -416,6 +418,7 @@ impl Process {
         Ok(Outcome::Changed)
     }
 
+    #[inline(always)]
     fn has_two(&self, peer: Pid) -> bool
         ensures { result ≡ has_two (held self.now.state.links peer) }
     {
@@ -438,6 +441,7 @@ impl Process {
         }
     }
 
+    #[inline(always)]
     fn cut_ids(&mut self, from: Pid, named: Ids)
         ensures me { self.new.me ≡ self.old.me }
         ensures state { self.new.state ≡ record self.old.state { links = cut from named self.old.state.links } }
@@ -453,6 +457,7 @@ impl Process {
         }
     }
 
+    #[inline(always)]
     fn holds_any(&self, peer: Pid, named: Ids) -> bool
         ensures { result ≡ holds_any (held self.now.state.links peer) named }
     {

@@ -210,6 +210,7 @@ impl Ledger {
     }
 
     /// Makes room for an event that is stamped above `floor`, and for what a process would owe at its end.
+    #[inline(always)]
     pub(crate) fn prepare_end(&mut self, floor: u64, process: &mut Process) -> Result<(), Stop>
         requires few { length self.old.book.outbox ≤ MAX_DESKS }
         requires near { Every (λ q. q.shard < length self.old.book.outbox) (peers process.old.state) }
@@ -301,6 +302,7 @@ impl Ledger {
 
     /// Writes the event that ends a process, stamped above `floor` too, and sends what the process owes, for all of
     /// which there is room.
+    #[inline(always)]
     pub(crate) fn write_end(&mut self, floor: u64, event: Event, from: Pid, estate: &Estate)
         requires can { max self.old.book.clock floor < MAX_STAMP }
         requires room { 0 < self.old.room }

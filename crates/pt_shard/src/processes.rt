@@ -130,6 +130,7 @@ impl Processes {
     }
 
     /// Takes a new process in, under the pid that is vacant.
+    #[inline(always)]
     pub(crate) fn admit(&mut self, process: Process) -> Result<(), AllocError>
         requires { IsSome (next_key self.old.table) }
         ensures desk { self.new.desk ≡ self.old.desk }
@@ -163,6 +164,7 @@ impl Processes {
     }
 
     /// Takes a process out that lives here and ends with this reason, and gives what it owes.
+    #[inline(always)]
     pub(crate) fn end(&mut self, p: Pid, reason: Reason) -> Estate
         requires { IsSome (in_place self.old.table p) }
         ensures desk { self.new.desk ≡ self.old.desk }

@@ -22,7 +22,8 @@ ghost use Rattle.pt_shard.specs.Outbox.{sent_on, holding, count_pending};
 ghost use Rattle.pt_shard.specs.Calls.{Calls, Monitors, Bears, BearsChild, link_event, unlink_event, first_match};
 ghost use Rattle.pt_shard.specs.Calls.{take_event, demonitor_event, held_by, new_ref, Refuses};
 ghost use Rattle.pt_shard.specs.Plain.{IsPlain};
-ghost use Rattle.pt_signal.specs.Process.{answer_of_dead};
+ghost use Rattle.pt_signal.specs.Process.{answer_of_dead, handle};
+ghost use Rattle.pt_process.specs.Outcome.{Accepts};
 ghost use Rattle.std.specs.List.{find};
 ghost use Rattle.std.specs.Map.{lookup};
 ghost use Rattle.pt_signal.specs.Values.{fits, same_ref};
@@ -39,7 +40,7 @@ use crate::ledger::Ledger;
 use crate::processes::{Processes, new_process};
 use crate::stop::Stop;
 use pt_events::{Event, Journal};
-use pt_process::Process;
+use pt_process::{Outcome, Process};
 use pt_signal::{Body, Ids, Item, Letter, LinkId, Pick, Pid, Reason, Ref, Signal};
 use std::alloc::{AllocError, Global};
 use std::marker::Model;
@@ -285,6 +286,7 @@ impl Shard {
     /// Writes that a process sends a message, and puts its letter out.
     ///
     /// Refused as `Gone`, `Worn` or `Memory`.
+    #[inline(always)]
     pub fn send(&mut self, from: Pid, to: Pid, body: Body) -> Result<(), Fault>
         requires { knows self.old to ≡ true }
         ensures does { Calls from (Some (Event.Said from to (Signal.Message body))) tt self.old result self.new }
@@ -360,6 +362,7 @@ impl Shard {
     /// and has no event.
     ///
     /// Refused as `Gone`, or where an item fits, as `Worn` or `Memory`.
+    #[inline(always)]
     pub fn receive(&mut self, p: Pid, pick: Pick) -> Result<Option<Item>, Fault>
         ensures does { Calls p (take_event self.old p pick) (first_match self.old p pick) self.old result self.new }
         ensures extends { Extends self.old self.new }
@@ -741,7 +744,7 @@ fn close_monitor(
 }
 
 /// Takes the first item that fits out of the mailbox of a process, and writes it down.
-#[inline(never)]
+#[inline(always)]
 fn take(
     process: &mut Process,
     ledger: &mut Ledger,
@@ -787,10 +790,23 @@ fn take_in(process: &mut Process, ledger: &mut Ledger, letter: &Letter) -> Resul
         return answer(ledger, letter, question);
     }
     ledger.prepare(letter.stamp)?;
-    process.accept(letter.from, letter.signal)?;
+    accept(process, letter)?;
     let event = Event::Came(letter.from, letter.to, letter.signal);
     ledger.write(letter.stamp, event);
     Ok(())
+}
+
+/// Takes the signal of a letter into a process. A message has a way of its own: where it goes with all others, the signal
+/// is first copied in pieces, for each letter.
+#[inline(always)]
+fn accept(process: &mut Process, letter: &Letter) -> Result<Outcome, AllocError>
+    ensures { Accepts process.old
+        (handle process.old.me process.old.state letter.now.from letter.now.signal) result process.new }
+{
+    match letter.signal {
+        Signal::Message(body) => process.accept(letter.from, Signal::Message(body)),
+        signal => process.accept(letter.from, signal),
+    }
 }
 
 /// Answers for a live process that it is. The question changes nothing of the process.
