@@ -1,9 +1,13 @@
 -- The queue has room for all members that do not stand in it.
-use Rattle.std.proofs.Common.{◌≡◌, ℕ, zero, suc, ◌+◌, ◌≤◌, Bool, true, false, cond, List, [], ◌∷◌, length, slice_get, Some, Result, Ok, Err, OnErr, refl, ap, arith}
+use Rattle.std.proofs.Common.{◌≡◌, ℕ, zero, suc, ◌+◌, ◌<◌, ◌≤◌, Bool, true, false, cond, List, [], ◌∷◌, length, slice_get, Option, Some, None, Result, Ok, Err, OnErr, refl, sym, ap, ◌∙◌, arith}
 use Rattle.std.specs.Prelude.{IsOk, is_err}
-use Rattle.std.specs.Map.{remove_entry}
-use Rattle.indexmap.specs.IndexMap.{insert_entry}
+use Rattle.std.specs.List.{position, sum_by, swap_remove}
+use Rattle.std.specs.Map.{keys_of}
+use Rattle.std.specs.Option.{option_map_or}
+use Rattle.std.proofs.lemmas.List.Sums.{sum_by-cons, sum_by-swap_remove}
+use Rattle.indexmap.specs.IndexMap.{insert_entry, swap_remove_entry}
 use Rattle.indexmap.specs.Layout.{set_value_at}
+use Rattle.indexmap.proofs.MapLemmas.{Found-position}
 use Rattle.pt_signal.specs.declared.pid.Pid.{Pid}
 use Rattle.pt_crew.specs.declared.crew.Member.{Member}
 use Rattle.pt_crew.specs.Crews.{unmarked}
@@ -29,13 +33,22 @@ module _ {B : Type 0} where
   unmarked_all [] = omega arith
   unmarked_all (e ∷ es) = let ih = unmarked_all es in let b = at_most_one e.1.queued in omega (arith, ih, b)
 
-  pub unmarked_remove : (t : Pid → Bool) (es : List (Pid × Member B)) → unmarked (remove_entry t es) ≤ unmarked es
-  unmarked_remove t [] = omega arith
-  unmarked_remove t (e ∷ es) = go (t e.0) (unmarked_remove t es)
+  unmarked_sum : (es : List (Pid × Member B)) → unmarked es ≡ sum_by (λ e. bare e.1) es
+  unmarked_sum [] = refl
+  unmarked_sum (e ∷ es) = ap (λ n. bare e.1 + n) (unmarked_sum es) ∙ sym (sum_by-cons (λ (x : Pid × Member B). bare x.1) e es)
+
+  pub unmarked_swap : (t : Pid → Bool) (es : List (Pid × Member B)) → unmarked (swap_remove_entry t es) ≤ unmarked es
+  unmarked_swap t [] = omega arith
+  unmarked_swap t (e ∷ es) = go (position t (keys_of (e ∷ es))) refl
     where
-      go : (b : Bool) → unmarked (remove_entry t es) ≤ unmarked es → unmarked (cond b es (e ∷ remove_entry t es)) ≤ unmarked (e ∷ es)
-      go true ih = omega arith
-      go false ih = omega (arith, ih)
+      go : (o : Option ℕ) → position t (keys_of (e ∷ es)) ≡ o → unmarked (option_map_or (λ i. swap_remove (e ∷ es) i e) o (e ∷ es)) ≤ unmarked (e ∷ es)
+      go None at = omega arith
+      go (Some i) at =
+          let within : i < length (e ∷ es) = (Found-position t (e ∷ es) i at).within in
+          let sum = sum_by-swap_remove (λ (x : Pid × Member B). bare x.1) (e ∷ es) i e within in
+          let before = unmarked_sum (e ∷ es) in
+          let after = unmarked_sum (swap_remove (e ∷ es) i e) in
+          omega (arith, sum, before, after)
 
   pub unmarked_insert : (eq : Pid → Pid → Bool) (es : List (Pid × Member B)) (k : Pid) (v : Member B) → v.queued ≡ true → unmarked (insert_entry eq es k v) ≤ unmarked es
   unmarked_insert eq [] k v on = let b : bare v ≡ 0 = ap (λ (x : Bool). cond x 0 1) on in omega (arith, b)

@@ -20,6 +20,7 @@ use pt_node::{Body, Desk, Fault, Pid, Reason, Ref};
 ///
 /// `NoProc` where the desk does not know the target, and nothing has changed then; else it is refused as
 /// [`Desk::send`] is.
+#[inline(always)]
 #[tactic(auto, using(pt_node::proofs::GoingOn::stays, crate::proofs::Takes::sent_takes))]
 pub fn tell(desk: &mut Desk, me: Pid, to: Pid, body: Body) -> Result<(), Fault>
     ensures does { IfKnown (knows desk.old.shard to)

@@ -17,6 +17,7 @@ ghost use Rattle.pt_crew.specs.Parts.{is_marked, kept_as};
 
 use crate::behaviour::{Behaviour, Next};
 use crate::births::{Births, Role};
+use crate::hints::Hints;
 use indexmap::IndexMap;
 use pt_node::{Desk, Event, Fault, Item, Pid, Turned, Work};
 use std::alloc::{AllocError, Global};
@@ -55,6 +56,7 @@ pub enum Tended {
 #[derive(Drop)]
 pub struct Crew<B> {
     members: IndexMap<Pid, Member<B>>,
+    hints: Hints,
     queue: VecDeque<Pid>,
     /// Who was born and has not entered yet.
     births: Births<B>,
@@ -83,6 +85,7 @@ impl<B: Behaviour + Drop> Crew<B> {
     {
         Crew {
             members: IndexMap::new(alloc),
+            hints: Hints::new(alloc),
             queue: VecDeque::new(alloc),
             births: Births::new(alloc),
             left: Vec::new(alloc),
@@ -190,6 +193,7 @@ impl<B: Behaviour + Drop> Crew<B> {
         let Some(room) = self.members.len().checked_add(1) else {
             return Err(Fault::Memory);
         };
+        self.hints.grow(room)?;
         self.queue.reserve(room)?;
         let pid = desk.spawn()?;
         let _lawful = desk.journal();
@@ -243,13 +247,14 @@ impl<B: Behaviour + Drop> Crew<B> {
     }
 
     /// Puts p into the queue, if it is of the crew and not there.
+    #[inline(always)]
     fn wake(&mut self, p: Pid) -> Result<(), AllocError>
         ensures wakes { OnOk result (Wakes p self.old self.new) }
         ensures keys { keys_of self.new.members.entries ≡ keys_of self.old.members.entries }
         ensures refused { OnErr result (IsSame self.old self.new) }
         ensures room { HasRoom self.old → IsOk result × HasRoom self.new }
     {
-        let Some(place) = self.members.get_index_of(&p) else {
+        let Some(place) = self.hints.place_of(&self.members, p) else {
             return Ok(());
         };
         let (_, member) = self.members.pair_mut(place);
@@ -263,6 +268,7 @@ impl<B: Behaviour + Drop> Crew<B> {
     }
 
     /// Wakes whoever the event brings something, or who ended by it: it leaves the crew when it is come to.
+    #[inline(always)]
     fn note(&mut self, event: &Event) -> Result<(), AllocError>
         ensures wakes { OnOk result (WakesBy event.now self.old self.new) }
         ensures refused { OnErr result (IsSame self.old self.new) }
@@ -302,6 +308,7 @@ impl<B: Behaviour + Drop> Crew<B> {
         let Some(room) = self.members.len().checked_add(1) else {
             return Err(AllocError);
         };
+        self.hints.grow(room)?;
         self.queue.reserve(room)?;
         self.left.reserve(1)
     }
@@ -388,7 +395,7 @@ impl<B: Behaviour + Drop> Crew<B> {
         let Some(p) = self.queue.pop_front() else {
             return;
         };
-        let Some(place) = self.members.get_index_of(&p) else {
+        let Some(place) = self.hints.place_of(&self.members, p) else {
             return;
         };
         if self.left.reserve(1).is_err() {
@@ -409,7 +416,7 @@ impl<B: Behaviour + Drop> Crew<B> {
                 self.queue.push_back_reserved(p);
             }
             Tended::Gone => {
-                if let Some(member) = self.members.shift_remove(&p) {
+                if let Some(member) = self.members.swap_remove(&p) {
                     let Member {
                         behaviour,
                         next,

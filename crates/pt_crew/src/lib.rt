@@ -8,6 +8,7 @@ mod behaviour;
 mod births;
 mod calls;
 mod crew;
+mod hints;
 mod upholds;
 
 pub use behaviour::{Behaviour, Next};

@@ -54,3 +54,7 @@ returns-in_err-reserve-clause-knows g c =
 pub returns-in_err-reserve-2-clause-knows : goal.returns-in_err-reserve-2-clause-knows
 returns-in_err-reserve-2-clause-knows g c =
     λ k. knows_same (members c.args.self.now) _ c.args.self.now.queue.items _ c.args.self.now.read c.args.desk.now.shard (λ q. ap (lookup (same_pid q)) c.reserve.ensures.entries) c.reserve-2.ensures.items k
+
+pub returns-in_err-grow-clause-knows : goal.returns-in_err-grow-clause-knows
+returns-in_err-grow-clause-knows g c =
+    λ k. knows_same (members c.args.self.now) _ c.args.self.now.queue.items _ c.args.self.now.read c.args.desk.now.shard (λ q. ap (lookup (same_pid q)) c.reserve.ensures.entries) refl k

@@ -3,4 +3,4 @@ use Rattle.pt_crew.proofs.Waking.{nobody}
 use Rattle.pt_crew.proofs.crew.Crew.new.Goals as goal
 
 pub returns-clause-attends : goal.returns-clause-attends
-returns-clause-attends g c = λ d. record { knows = nobody _ _ d c.new-2.ensures.items (λ p. search rules); room = search rules }
+returns-clause-attends g c = λ d. record { knows = nobody _ _ d c.new-3.ensures.items (λ p. search rules); room = search rules }

@@ -1,0 +1,102 @@
+//! Where the members of a crew stood last.
+
+ghost use Rattle.std.specs.Prelude.{◌≡◌, ◌<◌, ◌≤◌, ◌↔◌, IfSome, IsTrue, OnOk, Some, is_some, vec_len};
+ghost use Rattle.indexmap.specs.IndexMap.{IndexMap, get, index_map_len, index_of_by};
+ghost use Rattle.pt_signal.specs.Values.{same_pid};
+
+use indexmap::IndexMap;
+use pt_node::Pid;
+use std::alloc::{AllocError, Global};
+
+/// For each member of a crew a guess of its place in the map of the members, which saves the hash of its pid.
+///
+/// A guess stands at the last bits of the member's slot. It may be wrong, since members move and two slots may end
+/// alike: so whoever reads one looks who stands there, and no contract speaks of what is guessed. It is public since a
+/// crew has one; no call hands one out.
+#[derive(Drop)]
+pub struct Hints {
+    places: Vec<u32>,
+}
+
+impl Hints {
+    /// None yet.
+    pub fn new(alloc: Global) -> Hints {
+        Hints {
+            places: Vec::new(alloc),
+        }
+    }
+
+    /// Makes room for the guesses of so many members: a power of two of them, as many as the last bits of a slot tell
+    /// apart.
+    pub fn grow(&mut self, members: usize) -> Result<(), AllocError>
+        ensures { OnOk result (members ≤ vec_len self.new.places) }
+    {
+        if members <= self.places.len() {
+            return Ok(());
+        }
+        match members.checked_next_power_of_two() {
+            Some(count) => self.places.resize(count, 0),
+            None => Err(AllocError),
+        }
+    }
+
+    /// The place of p among the members: where the member of its slot stood last, or else where its hash leads.
+    #[inline(always)]
+    pub fn place_of<V>(&mut self, members: &IndexMap<Pid, V>, p: Pid) -> Option<usize>
+        ensures index { result ≡ index_of_by (same_pid p) members.now }
+        ensures found { is_some result ≡ is_some (get same_pid members.now p) }
+        ensures within { IfSome result (λ place. place < index_map_len members.now) }
+    {
+        let place = self.guess(p.slot);
+        if stands_at(members, place, p) {
+            return Some(place);
+        }
+        self.look_up(members, p)
+    }
+
+    /// The place of p among the members, which is noted.
+    #[inline(never)]
+    fn look_up<V>(&mut self, members: &IndexMap<Pid, V>, p: Pid) -> Option<usize>
+        ensures index { result ≡ index_of_by (same_pid p) members.now }
+        ensures found { is_some result ≡ is_some (get same_pid members.now p) }
+        ensures within { IfSome result (λ place. place < index_map_len members.now) }
+    {
+        let place = members.get_index_of(&p)?;
+        self.note(p.slot, place);
+        Some(place)
+    }
+
+    /// The guess of that slot: the first place where there is none.
+    #[inline(always)]
+    fn guess(&self, slot: u32) -> usize {
+        match self.places.get(self.index(slot)) {
+            Some(place) => *place as usize,
+            None => 0,
+        }
+    }
+
+    /// Notes where the member of that slot stands.
+    fn note(&mut self, slot: u32, place: usize) {
+        let index = self.index(slot);
+        if let (Some(guess), Ok(place)) = (self.places.get_mut(index), u32::try_from(place)) {
+            *guess = place;
+        }
+    }
+
+    /// Where the guess of that slot stands, where there is room for one.
+    #[inline(always)]
+    fn index(&self, slot: u32) -> usize {
+        slot as usize & self.places.len().wrapping_sub(1)
+    }
+}
+
+/// Whether p is the member at that place.
+#[inline(always)]
+fn stands_at<V>(members: &IndexMap<Pid, V>, place: usize, p: Pid) -> bool
+    ensures { IsTrue result ↔ (index_of_by (same_pid p) members.now ≡ Some place) }
+{
+    match members.as_slice().get_index(place) {
+        Some((key, _member)) => *key == p,
+        None => false,
+    }
+}
