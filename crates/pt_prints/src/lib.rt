@@ -13,6 +13,8 @@ mod faults;
 #[cfg(test)]
 mod lines;
 #[cfg(test)]
+mod notes;
+#[cfg(test)]
 mod reports;
 #[cfg(test)]
 mod runs;

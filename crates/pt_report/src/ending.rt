@@ -1,6 +1,7 @@
-//! By what a process ended, read from the history.
+//! By what processes ended, read from a history.
 
-use pt_node::{Event, Pid, Process, Reason, Signal, Stamped};
+use indexmap::IndexMap;
+use pt_node::{Event, LinkId, Pid, Process, Reason, Signal, Stamped};
 use pt_process::Outcome;
 use std::alloc::{AllocError, Global};
 
@@ -19,67 +20,101 @@ pub(crate) enum Ending {
     Unseen,
 }
 
-/// By what p ended, of the history in which it did. The history is read until then: a process that is born in it is
-/// played from its birth on.
-pub(crate) fn ending_of(alloc: Global, p: Pid, history: &[Stamped]) -> Result<Ending, AllocError> {
-    let mut process = None;
-    for stamped in history {
-        if let Some(ending) = after(alloc, p, stamped.event, &mut process)? {
-            return Ok(ending);
-        }
-    }
-    Ok(Ending::Unseen)
-}
-
-/// What the event does to p; by what it ended, if it does by that.
-fn after(
+/// A history as far as it was played: those who were born in it and live, and by what others ended in it.
+///
+/// It is played once for all of its processes, so that it costs its events.
+#[derive(Drop)]
+pub(crate) struct Endings {
     alloc: Global,
-    p: Pid,
-    event: Event,
-    process: &mut Option<Process>,
-) -> Result<Option<Ending>, AllocError> {
-    match event {
-        Event::Born(child, parent, link) if child == p => {
-            let mut newborn = Process::new(alloc, p);
-            if let (Some(parent), Some(link)) = (parent, link) {
-                newborn.add_link(parent, link)?;
-            }
-            *process = Some(newborn);
-            Ok(None)
+    living: IndexMap<Pid, Process>,
+    ended: IndexMap<Pid, Ending>,
+}
+
+impl Endings {
+    /// Plays a history to its end.
+    pub(crate) fn of(alloc: Global, history: &[Stamped]) -> Result<Endings, AllocError> {
+        let mut endings = Endings {
+            alloc,
+            living: IndexMap::new(alloc),
+            ended: IndexMap::new(alloc),
+        };
+        for stamped in history {
+            endings.play(stamped.event)?;
         }
-        Event::Left(author, _) if author == p => Ok(Some(Ending::Own)),
-        _ => match process {
-            Some(process) => meet(process, p, event),
-            None => Ok(None),
-        },
+        Ok(endings)
+    }
+
+    /// By what p ended, which it did.
+    pub(crate) fn of_process(&self, p: Pid) -> Ending {
+        match self.ended.get(&p) {
+            Some(ending) => *ending,
+            None => Ending::Unseen,
+        }
+    }
+
+    fn play(&mut self, event: Event) -> Result<(), AllocError> {
+        match event {
+            Event::Born(child, parent, link) => self.bear(child, parent, link),
+            Event::Left(p, _) => self.end(p, Ending::Own),
+            Event::Came(from, to, signal) => self.accept(to, from, signal),
+            Event::Said(p, _, _) | Event::Flag(p, _) | Event::Took(p, _, _) => {
+                match self.living.get_mut(&p) {
+                    Some(process) => act(process, event),
+                    None => Ok(()),
+                }
+            }
+            _ => Ok(()),
+        }
+    }
+
+    fn bear(
+        &mut self,
+        child: Pid,
+        parent: Option<Pid>,
+        link: Option<LinkId>,
+    ) -> Result<(), AllocError> {
+        let mut newborn = Process::new(self.alloc, child);
+        if let (Some(parent), Some(link)) = (parent, link) {
+            newborn.add_link(parent, link)?;
+            if let Some(mother) = self.living.get_mut(&parent) {
+                mother.add_link(child, link)?;
+            }
+        }
+        self.living.insert(child, newborn)?;
+        Ok(())
+    }
+
+    /// Takes a signal in, by which its receiver may end.
+    fn accept(&mut self, to: Pid, from: Pid, signal: Signal) -> Result<(), AllocError> {
+        let Some(process) = self.living.get_mut(&to) else {
+            return Ok(());
+        };
+        match process.accept(from, signal)? {
+            Outcome::Ends(_) => self.end(to, ending_by(from, signal)),
+            _ => Ok(()),
+        }
+    }
+
+    fn end(&mut self, p: Pid, ending: Ending) -> Result<(), AllocError> {
+        self.ended.insert(p, ending)?;
+        self.living.swap_remove(&p);
+        Ok(())
     }
 }
 
-/// What the event does to the live process p; by what it ended, if it does by that.
-fn meet(process: &mut Process, p: Pid, event: Event) -> Result<Option<Ending>, AllocError> {
+/// What a process does by an event of its own, other than a birth and its end.
+fn act(process: &mut Process, event: Event) -> Result<(), AllocError> {
     match event {
-        Event::Born(child, Some(parent), Some(link)) if parent == p => {
-            process.add_link(child, link)?
-        }
-        Event::Said(from, to, signal) if from == p => process.say(to, signal)?,
-        Event::Flag(author, on) if author == p => {
+        Event::Said(_, to, signal) => process.say(to, signal)?,
+        Event::Flag(_, on) => {
             let _ = process.set_trap(on);
         }
-        Event::Took(author, pick, _) if author == p => {
+        Event::Took(_, pick, _) => {
             let _ = process.take(pick);
         }
-        Event::Came(from, to, signal) if to == p => return accept(process, from, signal),
         _ => {}
     }
-    Ok(None)
-}
-
-/// Takes a signal in; by what the process ends, if it does by that.
-fn accept(process: &mut Process, from: Pid, signal: Signal) -> Result<Option<Ending>, AllocError> {
-    match process.accept(from, signal)? {
-        Outcome::Ends(_) => Ok(Some(ending_by(from, signal))),
-        _ => Ok(None),
-    }
+    Ok(())
 }
 
 /// What it is to be ended by this signal.

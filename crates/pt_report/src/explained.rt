@@ -9,8 +9,9 @@ ghost use Rattle.pt_report.specs.Summaries.{AppendsNotes, AreNotesOf, Explains, 
 ghost use Rattle.pt_report.specs.Reports.{IsOfSummary};
 ghost use Rattle.pt_report.specs.declared.fault.ReportFault.TheVariants.{File};
 
+use crate::ending::Endings;
 use crate::fault::ReportFault;
-use crate::notes::{Note, Sources, notes_of};
+use crate::notes::{Note, Sources, notes_of, numbers_of};
 use crate::summary::{print_summary, settled_of, write_account};
 use crate::totals::Totals;
 use pt_node::{Gathered, Quiet};
@@ -74,12 +75,15 @@ fn notes_on(
     ensures { IfOk result (λ notes. AreNotesOf quiet.now notes.items) }
 {
     let names = process_names(alloc, bytes)?;
+    let numbers = numbers_of(alloc, runners)?;
     let history = quiet.history()?;
+    let endings = Endings::of(alloc, history.as_slice())?;
     let sources = Sources {
         script,
         names: names.as_slice(),
         runners,
-        history: history.as_slice(),
+        numbers: &numbers,
+        endings: &endings,
     };
     notes_of(alloc, sources, quiet, quiet.pids())
 }
