@@ -1,6 +1,6 @@
 -- What a behaviour upholds stays so through a step of a crew, a turn of its desk, and a birth.
 use Rattle.std.proofs.Common.{◌≡◌, ◌⊎◌, inl, inr, ℕ, Bool, true, false, cond, ◌||◌, List, [], ◌∷◌, ◌++◌, Option, Some, None, Result, Ok, Err, refl, sym, ap, subst, ◌∙◌, append_assoc}
-use Rattle.std.specs.Prelude.{MatchBool}
+use Rattle.std.specs.Prelude.{MatchBool, ⊤}
 use Rattle.std.proofs.Math.Seq.{drop-append_seam}
 use Rattle.std.specs.Option.{option_map}
 use Rattle.pt_signal.specs.declared.pid.Pid.{Pid}
@@ -32,12 +32,12 @@ use Rattle.pt_crew.specs.declared.behaviour.Next.TheVariants.{Wait, Proceed, Sto
 use Rattle.pt_crew.specs.declared.births.Role.{Role}
 use Rattle.pt_crew.specs.declared.crew.Crew.{Crew}
 use Rattle.pt_crew.specs.declared.crew.Tended.{Tended}
-use Rattle.pt_crew.specs.declared.crew.Tended.TheVariants.{Again, Refused as Denied}
+use Rattle.pt_crew.specs.declared.crew.Tended.TheVariants.{Idle, Again, Done, Refused as Denied, Gone as Ended}
 use Rattle.pt_crew.specs.Births.{bore}
 use Rattle.pt_crew.specs.Visiting.{Answers, Roles, AreSame, AreWith, Scene, HandsTo, LeavesAs, StaysAs, ComesTo, SeesTo, EndsAs, TakesAs, VisitsOne, Visits}
-use Rattle.pt_crew.specs.Visiting.{Bears as BearsAs, handed_by, handed_as}
-use Rattle.pt_crew.specs.Crews.{Rounds, Aboard, EntersAll, StepsOn, CrewDoes, Enters, Works, roles, waiting}
-use Rattle.pt_crew.specs.Upholding.{Relation, IsLater, ActsFor, IsTaken, StandsFirst, AllFirst, IsUpheld, AllStand, Upholds}
+use Rattle.pt_crew.specs.Visiting.{Bears as BearsAs, handed_by, handed_as, left_as}
+use Rattle.pt_crew.specs.Crews.{Rounds, Aboard, EntersAll, StepsOn, CrewDoes, Enters, Works, roles, left, waiting}
+use Rattle.pt_crew.specs.Upholding.{Relation, IsLater, IsLeftAlone, ActsFor, IsTaken, StandsFirst, AllFirst, IsUpheld, AllStand, StandsStill, AllStill, Upholds, child_by, children_by}
 use Rattle.pt_crew.proofs.Waking.{by_cases, elsewhere, there, same_some}
 
 -- desks that go on --------------------------------------------------------------------------
@@ -74,15 +74,27 @@ phase_same d e start journal p i = life (start i) (events (journal i)) p
 pub phase_is : (d e : ShardState) → e ≡ d → (p : Pid) → phase_of e p ≡ phase_of d p
 phase_is d e is p i = phase_of (is i) p
 
+pub alone_same : (d e : ShardState) → e.start ≡ d.start → e.journal ≡ d.journal → (p : Pid) → IsLeftAlone p d e
+alone_same d e start journal p = (phase_same d e start journal p, ap (children_by p) journal)
+
+pub alone_is : (d e : ShardState) → e ≡ d → (p : Pid) → IsLeftAlone p d e
+alone_is d e is p = (phase_is d e is p, ap (λ (x : ShardState). children_by p x.journal) is)
+
+pub alone_then : (p : Pid) (d f e : ShardState) → IsLeftAlone p d f → IsLeftAlone p f e → IsLeftAlone p d e
+alone_then p d f e a b = (b.0 ∙ a.0, b.1 ∙ a.1)
+
 pub acts_is : (p : Pid) (d e : ShardState) → e ≡ d → ActsFor p d e
-acts_is p d e is q other born = phase_is d e is q
+acts_is p d e is q other born = alone_is d e is q
 
 pub acts_then : (p : Pid) (d f e : ShardState) → IsLater d f → ActsFor p d f → ActsFor p f e → ActsFor p d e
-acts_then p d f e x a b q other born = b q other (born_then d f x q born) ∙ a q other born
+acts_then p d f e x a b q other born = alone_then q d f e (a q other born) (b q other (born_then d f x q born))
 
 -- an event that does not touch a process leaves it as it is
 pub untouched : (e : Event) (d : ShardState) (q : Pid) → touches q e ≡ false → phase_of (after e d) q ≡ phase_of d q
 untouched e d q none i = cond (none i) (change q e (phase_of d q)) (phase_of d q)
+
+pub alone_event : (e : Event) (d : ShardState) (q : Pid) → touches q e ≡ false → child_by q e ≡ [] → IsLeftAlone q d (after e d)
+alone_event e d q none bare = (untouched e d q none, ap (λ (qs : List Pid). qs ++ children_by q d.journal) bare)
 
 pub same_pid_sym : (p q : Pid) → same_pid p q ≡ false → same_pid q p ≡ false
 same_pid_sym p q other = by_cases (same_pid q p) (λ same. let is = same_pid_is q p same in let back : same_pid p q ≡ true = ap (λ (x : Pid). same_pid x q) (sym is) ∙ same_pid_refl q in absurd (cc)) (λ no. no)
@@ -112,6 +124,10 @@ module _ {B : Type 0} (stands : Relation B) where
   first_front [] ys a = tt
   first_front (r ∷ xs) ys a = (a.0, first_front xs ys a.1)
 
+  still_both : (xs ys : List (Role B)) (d : ShardState) → AllStill stands xs d → AllStill stands ys d → AllStill stands (xs ++ ys) d
+  still_both [] ys d a b = b
+  still_both (r ∷ xs) ys d a b = (a.0, still_both xs ys d a.1 b)
+
   pub first_back : (xs ys : List (Role B)) → AllFirst stands (xs ++ ys) → AllFirst stands ys
   first_back [] ys a = a
   first_back (r ∷ xs) ys a = first_back xs ys a.1
@@ -121,17 +137,22 @@ no_role o x a b = absurd (let c : None ≡ Some x = sym a ∙ b in cc)
 
 module _ {B : Type 0} (answers : Answers B) (stands : Relation B) (k : IsUpheld answers stands) where
   -- p was come to
-  record Comes (p : Pid) (d e : ShardState) (now : Option (B × Next)) (waited waits : List (Role B)) : Type 0 where
+  record Comes (p : Pid) (o : Option (B × Next)) (t : Tended) (d e : ShardState) (now : Option (B × Next)) (waited waits : List (Role B)) : Type 0 where
     pub later : IsLater d e
     pub acts : ActsFor p d e
     pub own : (role : B × Next) → now ≡ Some role → (is_unborn (phase_of e p) ≡ false) × stands role.0 role.1 p e
     pub bears : AllFirst stands waited → AllFirst stands waits
+    -- where it left, it is gone, and stands so as it was
+    pub out : (role : B × Next) → o ≡ Some role → t ≡ Ended → (now ≡ None) × (is_unborn (phase_of e p) ≡ false) × stands role.0 role.1 p e
+    pub none : o ≡ None → (now ≡ None) × (e ≡ d)
 
   module _ (p : Pid) (role : B × Next) (waited waits : List (Role B)) where
     -- the desk is as it was, and p too
-    stayed : (d e : ShardState) (now : Option (B × Next)) → is_unborn (phase_of d p) ≡ false → stands role.0 role.1 p d
-        → waits ≡ waited → now ≡ Some role → e ≡ d → Comes p d e now waited waits
-    stayed d e now born here same now_is is = record {
+    stayed : (came : Tended) (t : Tended) (d e : ShardState) (now : Option (B × Next)) → (came ≡ Ended → ⊥) → t ≡ came → is_unborn (phase_of d p) ≡ false → stands role.0 role.1 p d
+        → waits ≡ waited → now ≡ Some role → e ≡ d → Comes p (Some role) t d e now waited waits
+    stayed came t d e now not_out t_is born here same now_is is = record {
+      out = λ r r_is ended. absurd (not_out (sym t_is ∙ ended));
+      none = λ bad. absurd (cc);
       later = later_is d e is;
       acts = acts_is p d e is;
       own = λ r r_is. subst (λ (x : B × Next). (is_unborn (phase_of e p) ≡ false) × stands x.0 x.1 p e) (same_some role r (sym now_is ∙ r_is))
@@ -140,13 +161,23 @@ module _ {B : Type 0} (answers : Answers B) (stands : Relation B) (k : IsUpheld 
     }
 
     -- it is gone
-    gone : (d e : ShardState) (now : Option (B × Next)) → IsLater d e → ActsFor p d e → waits ≡ waited → now ≡ None → Comes p d e now waited waits
-    gone d e now later acts same none = record {
+    gone : (t : Tended) (d e : ShardState) (now : Option (B × Next)) → IsLater d e → ActsFor p d e → is_unborn (phase_of e p) ≡ false → stands role.0 role.1 p e → waits ≡ waited → now ≡ None
+        → Comes p (Some role) t d e now waited waits
+    gone t d e now later acts born here same none = record {
+      out = λ r r_is ended. (none, born, subst (λ (x : B × Next). stands x.0 x.1 p e) (same_some role r r_is) here);
+      none = λ bad. absurd (cc);
       later = later;
       acts = acts;
       own = λ r is. no_role now r none is;
       bears = λ a. subst (AllFirst stands) (sym same) a;
     }
+
+    -- and nothing has changed
+    gone_as : (d e : ShardState) (t : Tended) (now : Option (B × Next)) → is_unborn (phase_of d p) ≡ false → stands role.0 role.1 p d → e ≡ d → waits ≡ waited → now ≡ None
+        → Comes p (Some role) t d e now waited waits
+    gone_as d e t now born here is same none =
+        gone t d e now (later_is d e is) (acts_is p d e is) (ap is_unborn (phase_is d e is p) ∙ born)
+        (subst (λ (x : ShardState). stands role.0 role.1 p x) (sym is) here) same none
 
     -- whether it goes behind the queue then or leaves it
     bears_by : (items : List Item) → BearsAs (handed_by items) waited waits → BearsAs Again waited waits
@@ -160,10 +191,24 @@ module _ {B : Type 0} (answers : Answers B) (stands : Relation B) (k : IsUpheld 
     bears_handed Proceed f b = b
     bears_handed (Stopping r) f b = b
 
+    -- it does not leave then
+    not_by : (items : List Item) → handed_by items ≡ Ended → ⊥
+    not_by [] is = absurd (cc)
+    not_by (i ∷ items) is = absurd (cc)
+
+    not_handed : (next : Next) (f : Phase) → handed_as next f ≡ Ended → ⊥
+    not_handed (Wait k) unborn is = absurd (cc)
+    not_handed (Wait k) (living s) is = not_by s.waiting is
+    not_handed (Wait k) (ended r s) is = absurd (cc)
+    not_handed Proceed f is = absurd (cc)
+    not_handed (Stopping r) f is = absurd (cc)
+
     -- it was handed an item, or none
     handed : (item : Option Item) (was d e : ShardState) (t : Tended) (now : Option (B × Next)) → is_unborn (phase_of was p) ≡ false → stands role.0 role.1 p was
-        → IsLater was d → ActsFor p was d → IsTaken p role.1 item was d → BearsAs t waited waits → HandsTo answers p role.0 item d t now e (bore waited waits) → Comes p was e now waited waits
+        → IsLater was d → ActsFor p was d → IsTaken p role.1 item was d → BearsAs t waited waits → HandsTo answers p role.0 item d t now e (bore waited waits) → Comes p (Some role) t was e now waited waits
     handed item was d e t now born here later acts taken bears h = record {
+      out = λ r r_is ended. absurd (not_handed h.next (phase_of e p) (sym h.tended ∙ ended));
+      none = λ bad. absurd (cc);
       later = later_then was d e later onward;
       acts = acts_then p was d e later acts (k.acts role.0 d p item h.next h.behaviour e (bore waited waits) h.answer);
       own = λ r is. subst (λ (x : B × Next). (is_unborn (phase_of e p) ≡ false) × stands x.0 x.1 p e) (same_some (h.behaviour, h.next) r (sym h.now_is ∙ is)) (
@@ -180,61 +225,66 @@ module _ {B : Type 0} (answers : Answers B) (stands : Relation B) (k : IsUpheld 
         onward : IsLater d e
         onward = extends_later d e h.extends
 
-    asked : (d e : ShardState) (r : Reason) (t : Tended) (now : Option (B × Next)) (result : Result (Unit {0}) Fault) → is_unborn (phase_of d p) ≡ false → stands role.0 role.1 p d
-        → BearsAs t waited waits → Calls p (Some (Left p r)) (tt {0}) d result e → EndsAs role result t now → Comes p d e now waited waits
-    asked d e r t now (Ok x) born here bears calls ends = gone d e now
-        (subst (λ (f : ShardState). IsLater d f) (sym calls.3) (later_after (Left p r) d))
-        (λ q other b. phase_is (after (Left p r) d) e calls.3 q ∙ untouched (Left p r) d q (same_pid_sym p q other))
+    asked : (d e : ShardState) (r : Reason) (t : Tended) (now : Option (B × Next)) (result : Result (Unit {0}) Fault) → role.1 ≡ Stopping r → is_unborn (phase_of d p) ≡ false → stands role.0 role.1 p d
+        → BearsAs t waited waits → Calls p (Some (Left p r)) (tt {0}) d result e → EndsAs role result t now → Comes p (Some role) t d e now waited waits
+    asked d e r t now (Ok x) stops born here bears calls ends = gone t d e now onward
+        (λ q other b. alone_then q d (after (Left p r) d) e (alone_event (Left p r) d q (same_pid_sym p q other) refl) (alone_is (after (Left p r) d) e calls.3 q))
+        (born_then d e onward p born)
+        (subst (λ (n : Next). stands role.0 n p e) (sym stops) (subst (λ (f : ShardState). stands role.0 (Stopping r) p f) (sym calls.3)
+        (k.ends role.0 r p d (subst (λ (n : Next). stands role.0 n p d) stops here) born)))
         (subst (λ (x : Tended). BearsAs x waited waits) ends.0 bears) ends.1
-    asked d e r t now (Err Gone) born here bears calls ends = gone d e now (later_is d e calls.1) (acts_is p d e calls.1)
-        (subst (λ (x : Tended). BearsAs x waited waits) ends.0 bears) ends.1
-    asked d e r t now (Err Memory) born here bears calls ends = stayed d e now born here (subst (λ (x : Tended). BearsAs x waited waits) ends.0 bears) ends.1 calls.3
-    asked d e r t now (Err Worn) born here bears calls ends = stayed d e now born here (subst (λ (x : Tended). BearsAs x waited waits) ends.0 bears) ends.1 calls.3
-    asked d e r t now (Err Full) born here bears calls ends = absurd calls
-    asked d e r t now (Err Myself) born here bears calls ends = absurd calls
-    asked d e r t now (Err NoProc) born here bears calls ends = absurd calls
+      where
+        onward : IsLater d e
+        onward = subst (λ (f : ShardState). IsLater d f) (sym calls.3) (later_after (Left p r) d)
+    asked d e r t now (Err Gone) stops born here bears calls ends = gone_as d e t now born here calls.1 (subst (λ (x : Tended). BearsAs x waited waits) ends.0 bears) ends.1
+    asked d e r t now (Err Memory) stops born here bears calls ends = stayed Denied t d e now (λ is. absurd (cc)) ends.0 born here (subst (λ (x : Tended). BearsAs x waited waits) ends.0 bears) ends.1 calls.3
+    asked d e r t now (Err Worn) stops born here bears calls ends = stayed Denied t d e now (λ is. absurd (cc)) ends.0 born here (subst (λ (x : Tended). BearsAs x waited waits) ends.0 bears) ends.1 calls.3
+    asked d e r t now (Err Full) stops born here bears calls ends = absurd calls
+    asked d e r t now (Err Myself) stops born here bears calls ends = absurd calls
+    asked d e r t now (Err NoProc) stops born here bears calls ends = absurd calls
 
     -- an item was asked for
     took : (pick : Pick) (d mid e : ShardState) (t : Tended) (now : Option (B × Next)) (result : Result (Option Item) Fault) → role.1 ≡ Wait pick → is_unborn (phase_of d p) ≡ false → stands role.0 role.1 p d
-        → BearsAs t waited waits → Calls p (take_event d p pick) (first_match d p pick) d result mid → TakesAs answers p role mid result t now e (bore waited waits) → Comes p d e now waited waits
-    took pick d mid e t now (Ok None) waits_for born here bears calls h = stayed d e now born here (subst (λ (x : Tended). BearsAs x waited waits) h.0 bears) h.1 (h.2 ∙ calls.3 ∙ ap (λ (o : Option Item). after_if (option_map (Took p pick) o) d) (sym calls.2))
+        → BearsAs t waited waits → Calls p (take_event d p pick) (first_match d p pick) d result mid → TakesAs answers p role mid result t now e (bore waited waits) → Comes p (Some role) t d e now waited waits
+    took pick d mid e t now (Ok None) waits_for born here bears calls h = stayed Idle t d e now (λ is. absurd (cc)) h.0 born here (subst (λ (x : Tended). BearsAs x waited waits) h.0 bears) h.1 (h.2 ∙ calls.3 ∙ ap (λ (o : Option Item). after_if (option_map (Took p pick) o) d) (sym calls.2))
     took pick d mid e t now (Ok (Some i)) waits_for born here bears calls h =
         let fits_it : first_match d p pick ≡ Some i = sym calls.2 in
         let mid_is : mid ≡ after (Took p pick i) d = calls.3 ∙ ap (λ (o : Option Item). after_if (option_map (Took p pick) o) d) fits_it in
         handed (Some i) d mid e t now born here
         (subst (λ (f : ShardState). IsLater d f) (sym mid_is) (later_after (Took p pick i) d))
-        (λ q other b. phase_is (after (Took p pick i) d) mid mid_is q ∙ untouched (Took p pick i) d q (same_pid_sym p q other))
+        (λ q other b. alone_then q d (after (Took p pick i) d) mid (alone_event (Took p pick i) d q (same_pid_sym p q other) refl) (alone_is (after (Took p pick i) d) mid mid_is q))
         (pick, waits_for, calls.0, fits_it, mid_is) bears h
-    took pick d mid e t now (Err Gone) waits_for born here bears calls h = gone d e now (later_is d e (h.2 ∙ calls.1)) (acts_is p d e (h.2 ∙ calls.1))
-        (subst (λ (x : Tended). BearsAs x waited waits) h.0 bears) h.1
-    took pick d mid e t now (Err Memory) waits_for born here bears calls h = stayed d e now born here (subst (λ (x : Tended). BearsAs x waited waits) h.0 bears) h.1 (h.2 ∙ calls.3)
-    took pick d mid e t now (Err Worn) waits_for born here bears calls h = stayed d e now born here (subst (λ (x : Tended). BearsAs x waited waits) h.0 bears) h.1 (h.2 ∙ calls.3)
+    took pick d mid e t now (Err Gone) waits_for born here bears calls h = gone_as d e t now born here (h.2 ∙ calls.1) (subst (λ (x : Tended). BearsAs x waited waits) h.0 bears) h.1
+    took pick d mid e t now (Err Memory) waits_for born here bears calls h = stayed Denied t d e now (λ is. absurd (cc)) h.0 born here (subst (λ (x : Tended). BearsAs x waited waits) h.0 bears) h.1 (h.2 ∙ calls.3)
+    took pick d mid e t now (Err Worn) waits_for born here bears calls h = stayed Denied t d e now (λ is. absurd (cc)) h.0 born here (subst (λ (x : Tended). BearsAs x waited waits) h.0 bears) h.1 (h.2 ∙ calls.3)
     took pick d mid e t now (Err Full) waits_for born here bears calls h = absurd calls
     took pick d mid e t now (Err Myself) waits_for born here bears calls h = absurd calls
     took pick d mid e t now (Err NoProc) waits_for born here bears calls h = absurd calls
 
     proceeds : (d e : ShardState) (t : Tended) (now : Option (B × Next)) (alive : Bool) → lives d p ≡ alive → role.1 ≡ Proceed → is_unborn (phase_of d p) ≡ false → stands role.0 role.1 p d
-        → BearsAs t waited waits → MatchBool alive (HandsTo answers p role.0 None d t now e (bore waited waits)) (LeavesAs d t now e) → Comes p d e now waited waits
+        → BearsAs t waited waits → MatchBool alive (HandsTo answers p role.0 None d t now e (bore waited waits)) (LeavesAs d t now e) → Comes p (Some role) t d e now waited waits
     proceeds d e t now true alive goes_on born here bears h =
         handed None d d e t now born here (later_is d d refl) (acts_is p d d refl) (goes_on, alive, refl) bears h
-    proceeds d e t now false alive goes_on born here bears h = gone d e now (later_is d e h.2) (acts_is p d e h.2) (subst (λ (x : Tended). BearsAs x waited waits) h.0 bears) h.1
+    proceeds d e t now false alive goes_on born here bears h = gone_as d e t now born here h.2 (subst (λ (x : Tended). BearsAs x waited waits) h.0 bears) h.1
 
   seen : (p : Pid) (b : B) (n : Next) (waited waits : List (Role B)) (d e : ShardState) (t : Tended) (now : Option (B × Next)) → is_unborn (phase_of d p) ≡ false → stands b n p d
-      → BearsAs t waited waits → SeesTo answers p b n d t now e (bore waited waits) → Comes p d e now waited waits
-  seen p b (Stopping r) waited waits d e t now born here bears h = asked p (b, Stopping r) waited waits d e r t now h.0 born here bears h.1 h.2
+      → BearsAs t waited waits → SeesTo answers p b n d t now e (bore waited waits) → Comes p (Some (b, n)) t d e now waited waits
+  seen p b (Stopping r) waited waits d e t now born here bears h = asked p (b, Stopping r) waited waits d e r t now h.0 refl born here bears h.1 h.2
   seen p b Proceed waited waits d e t now born here bears h = proceeds p (b, Proceed) waited waits d e t now (lives d p) refl refl born here bears h
   seen p b (Wait pick) waited waits d e t now born here bears h = took p (b, Wait pick) waited waits pick d h.1 e t now h.0 refl born here bears h.2 h.3
 
   found : (p : Pid) (role : B × Next) (waited waits : List (Role B)) (d e : ShardState) (t : Tended) (now : Option (B × Next)) → is_unborn (phase_of d p) ≡ false → stands role.0 role.1 p d
-      → BearsAs t waited waits → StaysAs Denied role d t now e ⊎ SeesTo answers p role.0 role.1 d t now e (bore waited waits) → Comes p d e now waited waits
+      → BearsAs t waited waits → StaysAs Denied role d t now e ⊎ SeesTo answers p role.0 role.1 d t now e (bore waited waits) → Comes p (Some role) t d e now waited waits
   found p role waited waits d e t now born here bears (inl h) =
-      stayed p role waited waits d e now born here (subst (λ (x : Tended). BearsAs x waited waits) h.0 bears) h.1 h.2
+      stayed p role waited waits Denied t d e now (λ is. absurd (cc)) h.0 born here (subst (λ (x : Tended). BearsAs x waited waits) h.0 bears) h.1 h.2
   found p role waited waits d e t now born here bears (inr h) = seen p role.0 role.1 waited waits d e t now born here bears h
 
   came_to : (p : Pid) (o : Option (B × Next)) (waited waits : List (Role B)) (d e : ShardState) (t : Tended) (now : Option (B × Next))
       → ((role : B × Next) → o ≡ Some role → (is_unborn (phase_of d p) ≡ false) × stands role.0 role.1 p d)
-      → BearsAs t waited waits → ComesTo answers p o d t now e (bore waited waits) → Comes p d e now waited waits
+      → BearsAs t waited waits → ComesTo answers p o d t now e (bore waited waits) → Comes p o t d e now waited waits
   came_to p None waited waits d e t now here bears h = record {
+    out = λ r is ended. absurd (cc);
+    none = λ is. (h.1, h.2);
     later = later_is d e h.2;
     acts = acts_is p d e h.2;
     own = λ r is. no_role now r h.1 is;
@@ -242,10 +292,21 @@ module _ {B : Type 0} (answers : Answers B) (stands : Relation B) (k : IsUpheld 
   }
   came_to p (Some role) waited waits d e t now here bears h = let at = here role refl in found p role waited waits d e t now at.0 at.1 bears h
 
+  -- those who left are gone, and stand so still
+  abbrev AreGone : Roles B → List (Role B) → ShardState → Type 0
+  AreGone roles [] d = ⊤
+  AreGone roles (r ∷ rs) d =
+      ((roles r.pid ≡ None) × (is_unborn (phase_of d r.pid) ≡ false) × stands r.behaviour r.next r.pid d) × AreGone roles rs d
+
+  gone_both : (roles : Roles B) (xs ys : List (Role B)) (d : ShardState) → AreGone roles xs d → AreGone roles ys d → AreGone roles (xs ++ ys) d
+  gone_both roles [] ys d a b = b
+  gone_both roles (r ∷ xs) ys d a b = (a.0, gone_both roles xs ys d a.1 b)
+
   -- all that stands in a step
   record Fine (s : Scene B) : Type 0 where
     pub members : AllStand stands s.roles s.desk
     pub waiting : AllFirst stands s.born
+    pub left : AreGone s.roles s.left s.desk
 
   one_upholds : (p : Pid) (old new : Scene B) → VisitsOne answers p old new → Fine old → Fine new
   one_upholds p old new h a = record {
@@ -256,10 +317,43 @@ module _ {B : Type 0} (answers : Answers B) (stands : Relation B) (k : IsUpheld 
         let was = a.members q role (sym (elsewhere old.roles new.roles p (new.roles p) h.others q other) ∙ is) in
         (born_then old.desk new.desk c.later q was.0, k.others role.0 role.1 q old.desk new.desk was.1 was.0 c.later (c.acts q other was.0)));
     waiting = c.bears a.waiting;
+    left = subst (λ (rs : List (Role B)). AreGone new.roles rs new.desk) (sym h.left)
+        (gone_both new.roles old.left (left_as p (old.roles p) h.tended) new.desk (all_gone old.left a.left) (out_now (old.roles p) h.tended c.out));
   }
     where
-      c : Comes p old.desk new.desk (new.roles p) old.born new.born
+      c : Comes p (old.roles p) h.tended old.desk new.desk (new.roles p) old.born new.born
       c = came_to p (old.roles p) old.born new.born old.desk new.desk h.tended (new.roles p) (λ role is. a.members p role is) h.born h.comes
+
+      -- nothing is done for one that is gone
+      still_gone : (q : Pid) (b : B) (n : Next) → old.roles q ≡ None → is_unborn (phase_of old.desk q) ≡ false → stands b n q old.desk
+          → (new.roles q ≡ None) × (is_unborn (phase_of new.desk q) ≡ false) × stands b n q new.desk
+      still_gone q b n none born here = by_cases (same_pid p q)
+          (λ same.
+          let nothing = c.none (ap old.roles (same_pid_is p q same) ∙ none) in (
+            ap new.roles (sym (same_pid_is p q same)) ∙ nothing.0,
+            ap is_unborn (phase_is old.desk new.desk nothing.1 q) ∙ born,
+            subst (λ (f : ShardState). stands b n q f) (sym nothing.1) here,
+          ))
+          (λ other. (
+            elsewhere old.roles new.roles p (new.roles p) h.others q other ∙ none,
+            born_then old.desk new.desk c.later q born,
+            k.others b n q old.desk new.desk here born c.later (c.acts q other born),
+          ))
+
+      all_gone : (rs : List (Role B)) → AreGone old.roles rs old.desk → AreGone new.roles rs new.desk
+      all_gone [] g = tt
+      all_gone (r ∷ rs) g = (still_gone r.pid r.behaviour r.next g.0.0 g.0.1 g.0.2, all_gone rs g.1)
+
+      -- one that leaves now
+      out_now : (o : Option (B × Next)) (t : Tended)
+          → ((role : B × Next) → o ≡ Some role → t ≡ Ended → (new.roles p ≡ None) × (is_unborn (phase_of new.desk p) ≡ false) × stands role.0 role.1 p new.desk)
+          → AreGone new.roles (left_as p o t) new.desk
+      out_now None t out = tt
+      out_now (Some role) Idle out = tt
+      out_now (Some role) Again out = tt
+      out_now (Some role) Done out = tt
+      out_now (Some role) Denied out = tt
+      out_now (Some role) Ended out = (out role refl refl, tt)
 
   visits_uphold : (ps : List Pid) (old new : Scene B) → Visits answers ps old new → Fine old → Fine new
   visits_uphold [] old new h a = subst Fine (sym h) a
@@ -269,7 +363,7 @@ module _ {B : Type 0} (answers : Answers B) (stands : Relation B) (k : IsUpheld 
   rounds_uphold [] old new h a = subst Fine (sym h) a
   rounds_uphold (queue ∷ queues) old new h a =
       let b = rounds_uphold queues old h.0 h.1 a in
-      visits_uphold queue (record h.0 { again = [] }) new h.3 (record { members = b.members; waiting = b.waiting })
+      visits_uphold queue (record h.0 { again = [] }) new h.3 (record { members = b.members; waiting = b.waiting; left = b.left })
 
   -- whoever enters was born, and stands so from the beginning
   enters_with : (p : Pid) (b : B) (first : Next) (old new : Roles B) (d e : ShardState) → IsLater d e → ActsFor p d e → is_unborn (phase_of e p) ≡ false → AreWith p (Some (b, first)) old new
@@ -294,29 +388,61 @@ module _ {B : Type 0} (answers : Answers B) (stands : Relation B) (k : IsUpheld 
   all_enter d [] old new h begins a = subst (λ (x : Aboard B). AllStand stands x.0 d) (sym h) a
   all_enter d (r ∷ rs) old new h begins a = all_enter d rs h.0 new h.2 begins.1 (one_enters r d (lives d r.pid) old h.0 refl h.1 begins.0 a)
 
+  -- and whoever leaves as it would enter is one that begins
+  one_left : (r : Role B) (d : ShardState) (alive : Bool) (old new : Aboard B)
+      → MatchBool alive (AreWith r.pid (Some (r.behaviour, r.next)) old.0 new.0 × (new.1 ≡ old.1)) (AreSame old.0 new.0 × (new.1 ≡ old.1 ++ r ∷ []))
+      → StandsFirst stands r.behaviour r.next r.pid → AllStill stands old.1 d → AllStill stands new.1 d
+  one_left r d true old new h begins a = subst (λ (rs : List (Role B)). AllStill stands rs d) (sym h.1) a
+  one_left r d false old new h begins a = subst (λ (rs : List (Role B)). AllStill stands rs d) (sym h.1) (still_both stands old.1 (r ∷ []) d a (inr begins, tt))
+
+  all_left : (d : ShardState) (entered : List (Role B)) (old new : Aboard B) → EntersAll (lives d) entered old new → AllFirst stands entered → AllStill stands old.1 d → AllStill stands new.1 d
+  all_left d [] old new h begins a = subst (λ (x : Aboard B). AllStill stands x.1 d) (sym h) a
+  all_left d (r ∷ rs) old new h begins a = all_left d rs h.0 new h.2 begins.1 (one_left r d (lives d r.pid) old h.0 h.1 begins.0 a)
+
+  gone_still : (roles : Roles B) (rs : List (Role B)) (d : ShardState) → AreGone roles rs d → AllStill stands rs d
+  gone_still roles [] d a = tt
+  gone_still roles (r ∷ rs) d a = (inl (a.0.1, a.0.2), gone_still roles rs d a.1)
+
   -- a step of a crew
-  pub step_upholds : (old new : Crew B) (d e : ShardState) → CrewDoes answers old d new e → Upholds stands old d → Upholds stands new e
-  step_upholds old new d e h a = record {
-    members = all_enter e s.entered (s.last.roles, s.last.left) (roles new, _) s.enters (first_front stands s.entered (waiting new) born)
-        (subst (AllStand stands s.last.roles) (sym s.desk) fine.members);
-    waiting = first_back stands s.entered (waiting new) born;
+  record Stepped (new : Crew B) (e : ShardState) : Type 0 where
+    pub upholds : Upholds stands new e
+    pub left : AllStill stands (left new) e
+
+  stepped : (old new : Crew B) (d e : ShardState) → CrewDoes answers old d new e → Upholds stands old d → Stepped new e
+  stepped old new d e h a = record {
+    upholds = record {
+      members = all_enter e s.entered (s.last.roles, s.last.left) (roles new, left new) s.enters entered
+          (subst (AllStand stands s.last.roles) (sym s.desk) fine.members);
+      waiting = first_back stands s.entered (waiting new) born;
+    };
+    left = all_left e s.entered (s.last.roles, s.last.left) (roles new, left new) s.enters entered
+        (subst (AllStill stands s.last.left) (sym s.desk) (gone_still s.last.roles s.last.left s.last.desk fine.left));
   }
     where
       s : StepsOn answers old d new e
       s = h.steps
 
       fine : Fine s.last
-      fine = rounds_uphold s.queues _ s.last s.rounds (record { members = a.members; waiting = a.waiting })
+      fine = rounds_uphold s.queues _ s.last s.rounds (record { members = a.members; waiting = a.waiting; left = tt })
 
       born : AllFirst stands (s.entered ++ waiting new)
       born = subst (AllFirst stands) s.born fine.waiting
+
+      entered : AllFirst stands s.entered
+      entered = first_front stands s.entered (waiting new) born
+
+  pub step_upholds : (old new : Crew B) (d e : ShardState) → CrewDoes answers old d new e → Upholds stands old d → Upholds stands new e
+  step_upholds old new d e h a = (stepped old new d e h a).upholds
+
+  pub step_left : (old new : Crew B) (d e : ShardState) → CrewDoes answers old d new e → Upholds stands old d → AllStill stands (left new) e
+  step_left old new d e h a = (stepped old new d e h a).left
 
   -- a turn of its desk ------------------------------------------------------------------------
 
   pub stand_same : (r : Roles B) (d e : ShardState) → e.start ≡ d.start → e.journal ≡ d.journal → AllStand stands r d → AllStand stands r e
   stand_same r d e start journal a q role is =
       let was = a q role is in
-      (ap is_unborn (phase_same d e start journal q) ∙ was.0, k.others role.0 role.1 q d e was.1 was.0 (later_same d e start journal) (phase_same d e start journal q))
+      (ap is_unborn (phase_same d e start journal q) ∙ was.0, k.others role.0 role.1 q d e was.1 was.0 (later_same d e start journal) (alone_same d e start journal q))
 
   pub receipt_upholds : (r : Roles B) (d : ShardState) (l : Letter) → AllStand stands r d → AllStand stands r (handled l d)
   receipt_upholds r d l a q role is =
@@ -362,6 +488,37 @@ module _ {B : Type 0} (answers : Answers B) (stands : Relation B) (k : IsUpheld 
       let b = step_upholds old new d.shard h.0.shard h.1 a in
       record { members = turn_upholds (roles new) budget h.0 turned e h.2 b.members; waiting = b.waiting }
 
+  -- of those who left: each by itself is as the only one of a crew
+  abbrev only : Role B → Roles B
+  only r q = cond (same_pid r.pid q) (Some (r.behaviour, r.next)) None
+
+  only_stands : (r : Role B) (d : ShardState) → is_unborn (phase_of d r.pid) ≡ false → stands r.behaviour r.next r.pid d → AllStand stands (only r) d
+  only_stands r d born here q role is = by_cases (same_pid r.pid q)
+      (λ same. subst (λ (x : Pid). (is_unborn (phase_of d x) ≡ false) × stands role.0 role.1 x d) (same_pid_is r.pid q same) (
+        born,
+        subst (λ (x : B × Next). stands x.0 x.1 r.pid d)
+            (same_some (r.behaviour, r.next) role (sym (ap (λ (b : Bool). cond b (Some (r.behaviour, r.next)) None) same) ∙ is)) here,
+      ))
+      (λ other. absurd (let bad : None ≡ Some role = sym (ap (λ (b : Bool). cond b (Some (r.behaviour, r.next)) None) other) ∙ is in cc))
+
+  only_is : (r : Role B) → only r r.pid ≡ Some (r.behaviour, r.next)
+  only_is r = ap (λ (b : Bool). cond b (Some (r.behaviour, r.next)) None) (same_pid_refl r.pid)
+
+  still_then : (d e : ShardState) → ((r : Roles B) → AllStand stands r d → AllStand stands r e) → (rs : List (Role B)) → AllStill stands rs d → AllStill stands rs e
+  still_then d e onward [] a = tt
+  still_then d e onward (r ∷ rs) a = (one a.0, still_then d e onward rs a.1)
+    where
+      one : StandsStill stands r d → StandsStill stands r e
+      one (inl h) = inl (onward (only r) (only_stands r d h.0 h.1) r.pid (r.behaviour, r.next) (only_is r))
+      one (inr h) = inr h
+
+  pub receipt_left : (rs : List (Role B)) (d : ShardState) (l : Letter) → AllStill stands rs d → AllStill stands rs (handled l d)
+  receipt_left rs d l a = still_then d (handled l d) (λ r. receipt_upholds r d l) rs a
+
+  pub work_left : (old new : Crew B) (budget : ℕ) (d e : DeskState) (turned : Turned) → Works answers budget old d turned new e → Upholds stands old d.shard → AllStill stands (left new) e.shard
+  work_left old new budget d e turned h a =
+      still_then h.0.shard e.shard (λ r. turn_upholds r budget h.0 turned e h.2) (left new) (step_left old new d.shard h.0.shard h.1 a)
+
   -- a birth --------------------------------------------------------------------------------------
 
   newborn_born : (f : Phase) → is_unborn (newborn None None f) ≡ false
@@ -374,7 +531,7 @@ module _ {B : Type 0} (answers : Answers B) (stands : Relation B) (k : IsUpheld 
   enter_upholds b first old new d e (Ok p) h begins a = record {
     members = enters_with p b first (roles old) (roles new) d e
         (later_then d g e (later_after (Born p None None) d) (later_same g e (ap (λ (x : ShardState). x.start) h.0.2) (ap (λ (x : ShardState). x.journal) h.0.2)))
-        (λ q other was. phase_same g e (ap (λ (x : ShardState). x.start) h.0.2) (ap (λ (x : ShardState). x.journal) h.0.2) q ∙ away q other)
+        (λ q other was. alone_then q d g e (away q other, refl) (alone_same g e (ap (λ (x : ShardState). x.start) h.0.2) (ap (λ (x : ShardState). x.journal) h.0.2) q))
         (ap is_unborn (phase_same g e (ap (λ (x : ShardState). x.start) h.0.2) (ap (λ (x : ShardState). x.journal) h.0.2) p) ∙ here) h.1 (begins p) a.members;
     waiting = subst (AllFirst stands) (sym h.3.waiting) a.waiting;
   }
@@ -390,7 +547,7 @@ module _ {B : Type 0} (answers : Answers B) (stands : Relation B) (k : IsUpheld 
   enter_upholds b first old new d e (Err f) h begins a = record {
     members = λ q role is.
         let was = a.members q role (sym (same_role q) ∙ is) in
-        (born_then d e onward q was.0, k.others role.0 role.1 q d e was.1 was.0 onward (phase_is d e (unchanged f h.0) q));
+        (born_then d e onward q was.0, k.others role.0 role.1 q d e was.1 was.0 onward (alone_is d e (unchanged f h.0) q));
     waiting = subst (AllFirst stands) (sym h.1.rest.waiting) a.waiting;
   }
     where

@@ -1,17 +1,19 @@
 -- What a behaviour upholds on its desk, whatever its crew does.
-use Rattle.std.specs.Prelude.{◌≡◌, ⊤, true, false, List, [], ◌∷◌, ◌++◌, Option, Some, None}
+use Rattle.std.specs.Prelude.{◌≡◌, ◌⊎◌, ⊤, cond, true, false, List, [], ◌∷◌, ◌++◌, Option, Some, None}
 use Rattle.pt_signal.specs.declared.pid.Pid.{Pid}
 use Rattle.pt_signal.specs.declared.item.Item.{Item}
 use Rattle.pt_signal.specs.declared.item.Pick.{Pick}
 use Rattle.pt_signal.specs.declared.letter.Letter.{Letter}
+use Rattle.pt_signal.specs.declared.reason.Reason.{Reason}
 use Rattle.pt_signal.specs.Values.{same_pid}
-use Rattle.pt_events.specs.declared.event.Event.TheVariants.{Took}
+use Rattle.pt_events.specs.declared.event.Event.{Event}
+use Rattle.pt_events.specs.declared.event.Event.TheVariants.{Born, Took, Left}
 use Rattle.pt_events.specs.declared.event.Stamped.{Stamped}
 use Rattle.pt_events.specs.History.{is_unborn}
 use Rattle.pt_shard.specs.ShardState.{ShardState, phase_of, lives, after, handled}
 use Rattle.pt_shard.specs.Calls.{first_match}
 use Rattle.pt_crew.specs.declared.behaviour.Next.{Next}
-use Rattle.pt_crew.specs.declared.behaviour.Next.TheVariants.{Wait, Proceed}
+use Rattle.pt_crew.specs.declared.behaviour.Next.TheVariants.{Wait, Proceed, Stop}
 use Rattle.pt_crew.specs.declared.births.Role.{Role}
 use Rattle.pt_crew.specs.declared.crew.Crew.{Crew}
 use Rattle.pt_crew.specs.Visiting.{Answers, Roles}
@@ -27,10 +29,23 @@ pub record IsLater (old new : ShardState) : Type 0 where
   pub more : List Stamped
   pub journal : new.journal ≡ more ++ old.journal
 
--- p acts for itself alone: whoever else was born is as it was
+-- the child that p bears by the event
+abbrev pub child_by : Pid → Event → List Pid
+child_by p (Born q (Some a) link) = cond (same_pid p a) (q ∷ []) []
+child_by p _ = []
+
+-- the children that p bore, the last one first
+abbrev pub children_by : Pid → List Stamped → List Pid
+children_by p [] = []
+children_by p (s ∷ journal) = child_by p s.event ++ children_by p journal
+
+-- q is as it was, and bore nobody
+abbrev pub IsLeftAlone : Pid → ShardState → ShardState → Type 0
+IsLeftAlone q d e = (phase_of e q ≡ phase_of d q) × (children_by q e.journal ≡ children_by q d.journal)
+
+-- p acts for itself alone: whoever else was born is as it was, and bore nobody
 abbrev pub ActsFor : Pid → ShardState → ShardState → Type 0
-ActsFor p d e =
-    (q : Pid) → same_pid p q ≡ false → is_unborn (phase_of d q) ≡ false → phase_of e q ≡ phase_of d q
+ActsFor p d e = (q : Pid) → same_pid p q ≡ false → is_unborn (phase_of d q) ≡ false → IsLeftAlone q d e
 
 -- p, which lives, was to proceed, or waited and the first item that its pick fits was taken
 abbrev pub IsTaken : Pid → Next → Option Item → ShardState → ShardState → Type 0
@@ -61,7 +76,10 @@ pub record IsUpheld {B : Type 0} (answers : Answers B) (stands : Relation B) : T
       (births : List (Role B)) → answers b d p item next now e births → AllFirst stands births
   -- what others do keeps it
   pub others : (b : B) (next : Next) (p : Pid) (d e : ShardState) → stands b next p d
-      → is_unborn (phase_of d p) ≡ false → IsLater d e → phase_of e p ≡ phase_of d p → stands b next p e
+      → is_unborn (phase_of d p) ≡ false → IsLater d e → IsLeftAlone p d e → stands b next p e
+  -- so does its own end
+  pub ends : (b : B) (r : Reason) (p : Pid) (d : ShardState) → stands b (Stop r) p d
+      → is_unborn (phase_of d p) ≡ false → stands b (Stop r) p (after (Left p r) d)
   -- and so does what comes to it
   pub receives : (b : B) (next : Next) (p : Pid) (d : ShardState) (l : Letter) → stands b next p d
       → is_unborn (phase_of d p) ≡ false → stands b next p (handled l d)
@@ -71,6 +89,16 @@ abbrev pub AllStand : {B : Type 0} → Relation B → Roles B → ShardState →
 AllStand {B} stands roles d =
     (p : Pid) (role : B × Next) → roles p ≡ Some role
     → (is_unborn (phase_of d p) ≡ false) × stands role.0 role.1 p d
+
+-- one that left was born and stands so still; or it is one that begins, and ended before it could enter
+abbrev pub StandsStill : {B : Type 0} → Relation B → Role B → ShardState → Type 0
+StandsStill stands r d =
+    ((is_unborn (phase_of d r.pid) ≡ false) × stands r.behaviour r.next r.pid d)
+    ⊎ StandsFirst stands r.behaviour r.next r.pid
+
+abbrev pub AllStill : {B : Type 0} → Relation B → List (Role B) → ShardState → Type 0
+AllStill stands [] d = ⊤
+AllStill stands (r ∷ rs) d = StandsStill stands r d × AllStill stands rs d
 
 -- so all of a crew, and those that were born and wait to enter
 pub record Upholds {B : Type 0} (stands : Relation B) (c : Crew B) (d : ShardState) : Type 0 where

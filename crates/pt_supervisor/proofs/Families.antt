@@ -1,12 +1,12 @@
 -- What a supervisor does keeps its children held.
-use Rattle.std.proofs.Common.{◌≡◌, inl, inr, ℕ, ◌<◌, ◌≤◌, Bool, true, false, cond, ◌||◌, ◌&&◌, not, List, length, slice_get, slice_set, get_or, Option, Some, None, Result, Ok, Err, is_some, refl, sym, ap, subst, ◌∙◌, arith}
+use Rattle.std.proofs.Common.{◌≡◌, ◌⊎◌, inl, inr, ℕ, ◌<◌, ◌≤◌, ◌+◌, min, Bool, true, false, cond, ◌||◌, ◌&&◌, not, List, [], ◌∷◌, ◌++◌, take, length, slice_get, slice_set, get_or, Option, Some, None, Result, Ok, Err, is_some, refl, sym, ap, subst, ◌∙◌, arith}
 use Rattle.std.specs.Prelude.{nat_lt, nat_le, position}
 use Rattle.std.proofs.lemmas.Bool.{cases_eq}
 use Rattle.std.proofs.lemmas.Option.{slice_get_within, slice_get-get_or, get_or_from_slice_get}
 use Rattle.std.proofs.lemmas.List.Folds.{list_any-append}
 use Rattle.std.proofs.lemmas.List.Quantifiers.{position-Some}
 use Rattle.std.proofs.lemmas.List.Sums.{fails_before_first}
-use Rattle.std.specs.List.{position_or_len}
+use Rattle.std.specs.List.{list_any, position_or_len}
 use Rattle.pt_signal.specs.declared.pid.Pid.{Pid}
 use Rattle.pt_signal.specs.declared.ids.LinkId.{LinkId}
 use Rattle.pt_signal.specs.declared.item.Item.{Item}
@@ -18,21 +18,22 @@ use Rattle.pt_signal.proofs.Same.{same_pid_refl, same_pid_is}
 use Rattle.pt_events.specs.declared.event.Event.{Event}
 use Rattle.pt_events.specs.declared.event.Event.TheVariants.{Born, Said}
 use Rattle.pt_events.specs.declared.event.Stamped.{Stamped}
-use Rattle.pt_events.specs.History.{Phase, unborn, living, ended, is_unborn, is_living, state_of, change, newborn, linked, while_living, touches}
+use Rattle.pt_events.specs.History.{Start, at_start, Phase, unborn, living, ended, is_unborn, is_living, state_of, change, newborn, linked, while_living, touches}
 use Rattle.pt_laws.proofs.linking.Entries.{held-enter}
 use Rattle.pt_shard.specs.declared.fault.Fault.{Fault}
 use Rattle.pt_shard.specs.declared.fault.Fault.TheVariants.{Full, Memory, Worn, Gone, Myself, NoProc}
 use Rattle.pt_shard.specs.ShardState.{ShardState, phase_of, state_in, after}
 use Rattle.pt_shard.specs.Calls.{Calls}
-use Rattle.pt_crew.specs.Upholding.{IsLater, ActsFor}
+use Rattle.pt_crew.specs.Upholding.{IsLater, ActsFor, child_by, children_by}
 use Rattle.pt_crew.proofs.Waking.{by_cases}
-use Rattle.pt_crew.proofs.Upholding.{later_is, later_same, later_then, later_after, born_then, phase_same, phase_is, acts_is, acts_then, untouched, same_pid_sym, living_born}
+use Rattle.pt_crew.proofs.Upholding.{later_is, later_same, later_then, later_after, born_then, phase_same, phase_is, alone_is, alone_then, alone_event, acts_is, acts_then, same_pid_sym, living_born}
 use Rattle.pt_supervisor.specs.declared.children.Child.{Child}
 use Rattle.pt_supervisor.specs.Children.{NoneLives, is_of}
 use Rattle.pt_supervisor.specs.Hearing.{Standing, gone, heard, heard_at, lives_again, lost, restarted, started_again, stopped}
 use Rattle.pt_supervisor.specs.Limits.{allows}
-use Rattle.pt_supervisor.specs.Keeping.{pid_in, child_at, is_exit_of, is_cut, has_cut, IsTied, IsHeld, Family}
-use Rattle.pt_supervisor.proofs.Wanting.{set_same, set_other, again_same}
+use Rattle.pt_supervisor.specs.Keeping.{pid_in, child_at, is_exit_of, is_cut, has_cut, IsTied, IsHeld, Family, tells_end, has_told, was_started, IsPlaced, Remembers}
+use Rattle.pt_supervisor.proofs.Wanting.{set_same, set_other, set_keeps, again_same, again_count}
+use Rattle.pt_supervisor.proofs.Telling.{one_taken}
 use Rattle.pt_supervisor.proofs.Tying.{or_right, entered_tied}
 
 -- children in their places ---------------------------------------------------------------------
@@ -57,12 +58,20 @@ set_beside children place j v q apart is =
     let x = child_is (slice_set children place v) j q is in
     ap pid_in (set_other children place j v x.0 apart x.1) ∙ x.2
 
+set_same_at : (children : List Child) (place j : ℕ) (v : Child) (q : Pid) → (j ≡ place → ⊥) → child_at children j ≡ Some q → child_at (slice_set children place v) j ≡ Some q
+set_same_at children place j v q apart is =
+    let x = child_is children j q is in
+    ap pid_in (set_keeps children place j v x.0 apart x.1) ∙ x.2
+
 -- what is left of the children after an item -----------------------------------------------------
 
 pub record Less (item : Item) (old new : Standing) : Type 0 where
   pub sub : (j : ℕ) (q : Pid) → child_at new.children j ≡ Some q → child_at old.children j ≡ Some q
   pub stop : new.stopping ≡ None → old.stopping ≡ None
   pub out : new.stopping ≡ None → (j : ℕ) (q : Pid) → child_at new.children j ≡ Some q → is_exit_of q item ≡ false
+  -- whoever loses its place is the one of whose end the item tells
+  pub kept : (j : ℕ) (q : Pid) → child_at old.children j ≡ Some q → (child_at new.children j ≡ Some q) ⊎ (is_exit_of q item ≡ true)
+  pub count : new.started ≡ old.started
 
 some_reason : {X : Type 0} (o : Option Reason) (r : Reason) → o ≡ Some r → o ≡ None → X
 some_reason o r is none = absurd (let bad : Some r ≡ None = sym is ∙ none in cc)
@@ -113,8 +122,15 @@ module _ (now : ℕ) (from : Pid) (reason : Reason) (s : Standing) (apart : (i j
         let x = child_is s.children j q is in
         let one = one_of place found x.0 in
         let bad : None ≡ Some (get_or s.children place x.0) = sym at ∙ one.0 in absurd (cc);
+    kept = λ j q is. inl is;
+    count = refl;
   }
   less_lost place (Some c) found at r = record {
+    kept = λ j q is. elim (cases_eq j place) [
+      | inl same ↦ inr (from_is q (sym is ∙ ap (child_at s.children) same ∙ (one_of place found c).1))
+      | inr other ↦ inl (ap (λ (xs : List Child). child_at xs j) (again_same again now place t) ∙ set_same_at s.children place j v q other is)
+    ];
+    count = again_count again now place t;
     sub = λ j q is. elim (cases_eq j place) [
       | inl same ↦ absurd (here j q is same)
       | inr other ↦ set_beside s.children place j v q other (before j q is)
@@ -140,6 +156,9 @@ module _ (now : ℕ) (from : Pid) (reason : Reason) (s : Standing) (apart : (i j
       t : Standing
       t = record s { children = slice_set s.children place v }
 
+      from_is : (q : Pid) → Some q ≡ Some from → same_pid q from ≡ true
+      from_is q is = let same : q ≡ from = cc in subst (λ (x : Pid). same_pid q x ≡ true) same (same_pid_refl q)
+
       before : (j : ℕ) (q : Pid) → child_at (started_again again now place t).children j ≡ Some q → child_at (slice_set s.children place v) j ≡ Some q
       before j q is = ap (λ (xs : List Child). child_at xs j) (sym (again_same again now place t)) ∙ is
 
@@ -148,11 +167,11 @@ module _ (now : ℕ) (from : Pid) (reason : Reason) (s : Standing) (apart : (i j
           let bad : None ≡ Some q = sym (set_at s.children place c v at) ∙ ap (child_at (slice_set s.children place v)) (sym same) ∙ before j q is in absurd (cc)
 
   less_at : (at : Option ℕ) → position (λ (x : Child). is_of x.pid from) s.children ≡ at → (r : Reason) → Less (Item.Exit from r) s (heard_at at now reason s)
-  less_at None nowhere r = record { sub = λ j q is. is; stop = λ h. h; out = λ h j q is. none_of nowhere j q is }
+  less_at None nowhere r = record { sub = λ j q is. is; stop = λ h. h; out = λ h j q is. none_of nowhere j q is; kept = λ j q is. inl is; count = refl }
   less_at (Some place) found r = less_lost place (slice_get s.children place) found refl r
 
   less_parent : (is : Bool) (other : Standing) (r : Reason) → Less (Item.Exit from r) s other → Less (Item.Exit from r) s (cond is (stopped reason s) other)
-  less_parent true other r h = record { sub = λ j q is. is; stop = λ h. absurd (cc); out = λ h. absurd (cc) }
+  less_parent true other r h = record { sub = λ j q is. is; stop = λ h. absurd (cc); out = λ h. absurd (cc); kept = λ j q is. inl is; count = refl }
   less_parent false other r h = h
 
   pub less_heard : Less (Item.Exit from reason) s (heard now from reason s)
@@ -172,10 +191,10 @@ goes_is me d e is = record { later = later_is d e is; acts = acts_is me d e is }
 pub goes_then : (me : Pid) (d f e : ShardState) → Goes me d f → Goes me f e → Goes me d e
 goes_then me d f e a b = record { later = later_then d f e a.later b.later; acts = acts_then me d f e a.later a.acts b.acts }
 
-pub goes_event : (me : Pid) (d e : ShardState) (ev : Event) → ((q : Pid) → same_pid me q ≡ false → touches q ev ≡ false) → e ≡ after ev d → Goes me d e
-goes_event me d e ev own is = record {
+pub goes_event : (me : Pid) (d e : ShardState) (ev : Event) → ((q : Pid) → same_pid me q ≡ false → touches q ev ≡ false) → ((q : Pid) → child_by q ev ≡ []) → e ≡ after ev d → Goes me d e
+goes_event me d e ev own bare is = record {
   later = subst (λ (f : ShardState). IsLater d f) (sym is) (later_after ev d);
-  acts = λ q other born. phase_is (after ev d) e is q ∙ untouched ev d q (own q other);
+  acts = λ q other born. alone_then q d (after ev d) e (alone_event ev d q (own q other) (bare q)) (alone_is (after ev d) e is q);
 }
 
 pub cut_later : (me q : Pid) (d e : ShardState) → IsLater d e → has_cut me q d.journal ≡ true → has_cut me q e.journal ≡ true
@@ -183,13 +202,46 @@ cut_later me q d e x h =
     ap (has_cut me q) x.journal ∙ list_any-append (λ (s : Stamped). is_cut me q s.event) x.more d.journal
     ∙ or_right (has_cut me q x.more) (has_cut me q d.journal) h
 
+told_later : (me q : Pid) (d e : ShardState) → IsLater d e → has_told me q d.journal ≡ true → has_told me q e.journal ≡ true
+told_later me q d e x h =
+    ap (has_told me q) x.journal ∙ list_any-append (λ (s : Stamped). tells_end me q s.event) x.more d.journal
+    ∙ or_right (has_told me q x.more) (has_told me q d.journal) h
+
+-- where it bears nobody, nobody is forgotten
+pub remembers_step : (children : List Child) (started : ℕ) (me : Pid) (d e : ShardState) → IsLater d e → children_by me e.journal ≡ children_by me d.journal
+    → Remembers children started me d → Remembers children started me e
+remembers_step children started me d e later bare r new q was =
+    go (r (ap (λ (t : Start). is_unborn (at_start t me)) (sym later.start) ∙ new) q (ap (λ (qs : List Pid). list_any (same_pid q) (take started qs)) (sym bare) ∙ was))
+  where
+    go : IsPlaced children q ⊎ (has_told me q d.journal ≡ true) → IsPlaced children q ⊎ (has_told me q e.journal ≡ true)
+    go (inl placed) = inl placed
+    go (inr told) = inr (told_later me q d e later told)
+
+-- an item is heard
+pub remembers_less : (item : Item) (s m : Standing) (me : Pid) (d e : ShardState) → IsLater d e → children_by me e.journal ≡ children_by me d.journal
+    → ((q : Pid) → is_exit_of q item ≡ true → is_unborn (at_start d.start me) ≡ true → has_told me q d.journal ≡ true)
+    → Less item s m → Remembers s.children s.started me d → Remembers m.children m.started me e
+remembers_less item s m me d e later bare tells less r new q was =
+    go (remembers_step s.children s.started me d e later bare r new q (ap (λ (n : ℕ). was_started n me q e.journal) (sym less.count) ∙ was))
+  where
+    there : is_unborn (at_start d.start me) ≡ true
+    there = ap (λ (t : Start). is_unborn (at_start t me)) (sym later.start) ∙ new
+
+    go : IsPlaced s.children q ⊎ (has_told me q e.journal ≡ true) → IsPlaced m.children q ⊎ (has_told me q e.journal ≡ true)
+    go (inl placed) = elim (less.kept placed.0 q placed.1) [
+      | inl still ↦ inl (placed.0, still)
+      | inr out ↦ inr (told_later me q d e later (tells q out there))
+    ]
+    go (inr told) = inr told
+
 -- a supervisor that has begun ---------------------------------------------------------------------------
 
-pub record Kept (children : List Child) (stopping : Option Reason) (me : Pid) (e : ShardState) : Type 0 where
+pub record Kept (children : List Child) (started : ℕ) (stopping : Option Reason) (me : Pid) (e : ShardState) : Type 0 where
   pub state : ProcessState
   pub living_is : phase_of e me ≡ living state
   pub traps : state.traps ≡ true
   pub family : Family children stopping me e
+  pub remembers : Remembers children started me e
 
 pub family_step : (children : List Child) (stopping : Option Reason) (me : Pid) (d e : ShardState) → IsLater d e → ((q : Pid) → IsTied (state_in d me) q → IsHeld me q e) → Family children stopping me d → Family children stopping me e
 family_step children stopping me d e later ties f = record {
@@ -202,18 +254,25 @@ family_step children stopping me d e later ties f = record {
     go q (inl h) = ties q h
     go q (inr h) = inr (cut_later me q d e later h)
 
-pub kept_step : (children : List Child) (stopping : Option Reason) (me : Pid) (d e : ShardState) → IsLater d e → (k : Kept children stopping me d) → (t : ProcessState) → phase_of e me ≡ living t
-    → t.traps ≡ true → ((q : Pid) → IsTied k.state q → IsTied t q) → Kept children stopping me e
-kept_step children stopping me d e later k t now traps ties = record {
+family_kept : (children : List Child) (started : ℕ) (stopping : Option Reason) (me : Pid) (d e : ShardState) → IsLater d e → (k : Kept children started stopping me d) → (t : ProcessState) → phase_of e me ≡ living t
+    → ((q : Pid) → IsTied k.state q → IsTied t q) → Family children stopping me e
+family_kept children started stopping me d e later k t now ties =
+    family_step children stopping me d e later (λ q h.
+    inl (subst (λ (f : Phase). IsTied (state_of f) q) (sym now) (ties q (subst (λ (f : Phase). IsTied (state_of f) q) k.living_is h)))) k.family
+
+pub kept_step : (children : List Child) (started : ℕ) (stopping : Option Reason) (me : Pid) (d e : ShardState) → IsLater d e → children_by me e.journal ≡ children_by me d.journal
+    → (k : Kept children started stopping me d) → (t : ProcessState) → phase_of e me ≡ living t
+    → t.traps ≡ true → ((q : Pid) → IsTied k.state q → IsTied t q) → Kept children started stopping me e
+kept_step children started stopping me d e later bare k t now traps ties = record {
   state = t;
   living_is = now;
   traps = traps;
-  family = family_step children stopping me d e later (λ q h.
-      inl (subst (λ (f : Phase). IsTied (state_of f) q) (sym now) (ties q (subst (λ (f : Phase). IsTied (state_of f) q) k.living_is h)))) k.family;
+  family = family_kept children started stopping me d e later k t now ties;
+  remembers = remembers_step children started me d e later bare k.remembers;
 }
 
-pub kept_is : (children : List Child) (stopping : Option Reason) (me : Pid) (d e : ShardState) → e ≡ d → Kept children stopping me d → Kept children stopping me e
-kept_is children stopping me d e is k = subst (Kept children stopping me) (sym is) k
+pub kept_is : (children : List Child) (started : ℕ) (stopping : Option Reason) (me : Pid) (d e : ShardState) → e ≡ d → Kept children started stopping me d → Kept children started stopping me e
+kept_is children started stopping me d e is k = subst (Kept children started stopping me) (sym is) k
 
 -- an event of its own
 pub own_phase : (me : Pid) (ev : Event) (d : ShardState) (s : ProcessState) (own : touches me ev ≡ true) → phase_of d me ≡ living s → phase_of (after ev d) me ≡ change me ev (living s)
@@ -224,7 +283,7 @@ said_own me p x q other = same_pid_sym me q other
 
 module _ (me p : Pid) (reason : Reason) where
   pub told_goes : (d e : ShardState) (result : Result (Unit {0}) Fault) → Calls me (Some (Said me p (Signal.Exit reason))) (tt {0}) d result e → Goes me d e
-  told_goes d e (Ok x) c = goes_event me d e (Said me p (Signal.Exit reason)) (said_own me p (Signal.Exit reason)) c.3
+  told_goes d e (Ok x) c = goes_event me d e (Said me p (Signal.Exit reason)) (said_own me p (Signal.Exit reason)) (λ q. refl) c.3
   told_goes d e (Err Gone) c = goes_is me d e c.1
   told_goes d e (Err Worn) c = goes_is me d e c.3
   told_goes d e (Err Memory) c = goes_is me d e c.3
@@ -232,16 +291,16 @@ module _ (me p : Pid) (reason : Reason) where
   told_goes d e (Err Myself) c = absurd c
   told_goes d e (Err NoProc) c = absurd c
 
-  pub told_kept : (children : List Child) (stopping : Option Reason) (d e : ShardState) (result : Result (Unit {0}) Fault) → Calls me (Some (Said me p (Signal.Exit reason))) (tt {0}) d result e → Kept children stopping me d → Kept children stopping me e
-  told_kept children stopping d e (Ok x) c k =
-      kept_step children stopping me d e (told_goes d e (Ok x) c).later k k.state
+  pub told_kept : (children : List Child) (started : ℕ) (stopping : Option Reason) (d e : ShardState) (result : Result (Unit {0}) Fault) → Calls me (Some (Said me p (Signal.Exit reason))) (tt {0}) d result e → Kept children started stopping me d → Kept children started stopping me e
+  told_kept children started stopping d e (Ok x) c k =
+      kept_step children started stopping me d e (told_goes d e (Ok x) c).later (ap (λ (f : ShardState). children_by me f.journal) c.3) k k.state
       (phase_is (after (Said me p (Signal.Exit reason)) d) e c.3 me ∙ own_phase me (Said me p (Signal.Exit reason)) d k.state (same_pid_refl me) k.living_is) k.traps (λ q h. h)
-  told_kept children stopping d e (Err Gone) c k = kept_is children stopping me d e c.1 k
-  told_kept children stopping d e (Err Worn) c k = kept_is children stopping me d e c.3 k
-  told_kept children stopping d e (Err Memory) c k = kept_is children stopping me d e c.3 k
-  told_kept children stopping d e (Err Full) c k = absurd c
-  told_kept children stopping d e (Err Myself) c k = absurd c
-  told_kept children stopping d e (Err NoProc) c k = absurd c
+  told_kept children started stopping d e (Err Gone) c k = kept_is children started stopping me d e c.1 k
+  told_kept children started stopping d e (Err Worn) c k = kept_is children started stopping me d e c.3 k
+  told_kept children started stopping d e (Err Memory) c k = kept_is children started stopping me d e c.3 k
+  told_kept children started stopping d e (Err Full) c k = absurd c
+  told_kept children started stopping d e (Err Myself) c k = absurd c
+  told_kept children started stopping d e (Err NoProc) c k = absurd c
 
 -- a birth --------------------------------------------------------------------------------------------------
 
@@ -265,7 +324,10 @@ module _ (me p : Pid) (d e : ShardState) (i : LinkId) (unborn_is : is_unborn (ph
   pub born_goes : Goes me d e
   born_goes = record {
     later = later_then d (after (Born p (Some me) (Some i)) d) e (later_after (Born p (Some me) (Some i)) d) (later_same (after (Born p (Some me) (Some i)) d) e start journal);
-    acts = λ q other born. same_phase q ∙ (λ n. cond (apart_from q born n || same_pid_sym me q other n) (cond (same_pid q p) (newborn (Some me) (Some i) (phase_of d q)) (while_living (linked (Some p) (Some i)) (phase_of d q))) (phase_of d q));
+    acts = λ q other born. (
+      same_phase q ∙ (λ n. cond (apart_from q born n || same_pid_sym me q other n) (cond (same_pid q p) (newborn (Some me) (Some i) (phase_of d q)) (while_living (linked (Some p) (Some i)) (phase_of d q))) (phase_of d q)),
+      ap (children_by q) journal ∙ ap (λ (b : Bool). cond b (p ∷ []) [] ++ children_by q d.journal) (same_pid_sym me q other),
+    );
   }
 
   born_here : is_unborn (phase_of e p) ≡ false
@@ -277,15 +339,21 @@ module _ (me p : Pid) (d e : ShardState) (i : LinkId) (unborn_is : is_unborn (ph
       let other : same_pid me p ≡ false = apart_from me (living_born (phase_of d me) (ap is_living is)) in
       same_phase me ∙ (λ n. cond (other n || same_pid_refl me n) (cond (other n) (newborn (Some me) (Some i) (is n)) (while_living (linked (Some p) (Some i)) (is n))) (is n))
 
-  pub born_kept : (children : List Child) (place : ℕ) (c : Child) → slice_get children place ≡ Some c → Kept children None me d → Kept (slice_set children place (record c { pid = Some p })) None me e
-  born_kept children place c at k = record {
+  one_more : children_by me e.journal ≡ p ∷ children_by me d.journal
+  one_more = ap (children_by me) journal ∙ ap (λ (b : Bool). cond b (p ∷ []) [] ++ children_by me d.journal) (same_pid_refl me)
+
+  pub born_kept : (children : List Child) (started top place : ℕ) (c : Child) → slice_get children place ≡ Some c → c.pid ≡ None → Kept children started None me d
+      → Kept (slice_set children place (record c { pid = Some p })) (min (started + 1) top) None me e
+  born_kept children started top place c at missing k = record {
+    remembers = λ new q was. remembered new q (one_taken started top q p (children_by me d.journal)
+        (ap (λ (qs : List Pid). list_any (same_pid q) (take (min (started + 1) top) qs)) (sym one_more) ∙ was));
     state = t;
     living_is = linked_now k.state k.living_is;
     traps = k.traps;
     family = record {
       born = λ j q is. elim (cases_eq j place) [
         | inl same ↦ subst (λ (x : Pid). is_unborn (phase_of e x) ≡ false) (is_new j q is same) born_here
-        | inr other ↦ old.family.born j q (set_beside children place j v q other is)
+        | inr other ↦ old.born j q (set_beside children place j v q other is)
       ];
       apart = λ a b q is_a is_b. elim (cases_eq a place) [
         | inl same ↦ elim (cases_eq b place) [
@@ -300,7 +368,7 @@ module _ (me p : Pid) (d e : ShardState) (i : LinkId) (unborn_is : is_unborn (ph
       held = λ none j q is. elim (cases_eq j place) [
         | inl same ↦ inl (subst (λ (f : Phase). IsTied (state_of f) q) (sym (linked_now k.state k.living_is))
             (subst (λ (x : Pid). IsTied t x) (is_new j q is same) (inl (ap is_some (held-enter p i k.state.links)))))
-        | inr other ↦ old.family.held none j q (set_beside children place j v q other is)
+        | inr other ↦ old.held none j q (set_beside children place j v q other is)
       ];
     };
   }
@@ -311,8 +379,23 @@ module _ (me p : Pid) (d e : ShardState) (i : LinkId) (unborn_is : is_unborn (ph
       t : ProcessState
       t = record (k.state) { links = enter p i k.state.links }
 
-      old : Kept children None me e
-      old = kept_step children None me d e born_goes.later k t (linked_now k.state k.living_is) k.traps (λ q h. entered_tied k.state p q i h)
+      old : Family children None me e
+      old = family_kept children started None me d e born_goes.later k t (linked_now k.state k.living_is) (λ q h. entered_tied k.state p q i h)
+
+      still_placed : (q : Pid) → IsPlaced children q → IsPlaced (slice_set children place v) q
+      still_placed q placed = elim (cases_eq placed.0 place) [
+        | inl same ↦ absurd (let bad : None ≡ Some q = sym missing ∙ sym (ap pid_in at) ∙ sym (ap (child_at children) same) ∙ placed.1 in cc)
+        | inr other ↦ (placed.0, set_same_at children place placed.0 v q other placed.1)
+      ]
+
+      onward : (q : Pid) → IsPlaced children q ⊎ (has_told me q d.journal ≡ true) → IsPlaced (slice_set children place v) q ⊎ (has_told me q e.journal ≡ true)
+      onward q (inl placed) = inl (still_placed q placed)
+      onward q (inr told) = inr (told_later me q d e born_goes.later told)
+
+      remembered : is_unborn (at_start e.start me) ≡ true → (q : Pid) → (same_pid q p ≡ true) ⊎ (list_any (same_pid q) (take started (children_by me d.journal)) ≡ true)
+          → IsPlaced (slice_set children place v) q ⊎ (has_told me q e.journal ≡ true)
+      remembered new q (inl same) = inl (place, set_at children place c v at ∙ ap Some (sym (same_pid_is q p same)))
+      remembered new q (inr was) = onward q (k.remembers (ap (λ (s : Start). is_unborn (at_start s me)) (sym start) ∙ new) q was)
 
       is_new : (j : ℕ) (q : Pid) → child_at (slice_set children place v) j ≡ Some q → j ≡ place → p ≡ q
       is_new j q is same =

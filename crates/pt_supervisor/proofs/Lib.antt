@@ -2,7 +2,10 @@ pub mod Limiting
 pub mod Wanting
 pub mod Starting
 pub mod Tying
+pub mod Telling
 pub mod Families
 pub mod Tending
 pub mod Still
 pub mod Bearing
+pub mod Ended
+pub mod Stopping

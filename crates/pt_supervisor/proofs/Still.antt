@@ -63,7 +63,7 @@ pid_of None h = absurd (cc)
 pid_of (Some q) h = (q, refl)
 
 holds_of : (o : Option Standing) (s : Standing) (next : Next) (p : Pid) (d : ShardState) → o ≡ Some s → lives d p ≡ true → HoldsAs o next p d → Holds s next p d
-holds_of o s next p d is alive h = subst (λ (x : Option Standing). HoldsAs x next p d) is h alive
+holds_of o s next p d is alive h = (subst (λ (x : Option Standing). HoldsAs x next p d) is h).0 alive
 
 module _ {B : Type 0} (part : PartOf B) (say : JournalsSay) (there : MergeIsThere) where
   pub children_live : QuietChildrenLive part

@@ -1,7 +1,7 @@
 -- A supervisor upholds that its children are held.
-use Rattle.std.proofs.Common.{◌≡◌, ◌⊎◌, inl, inr, ℕ, zero, suc, Bool, true, false, cond, ◌&&◌, List, [], ◌∷◌, length, slice_get, Option, Some, None, Result, Ok, Err, refl, sym, ap, subst, ◌∙◌}
+use Rattle.std.proofs.Common.{◌≡◌, ◌⊎◌, inl, inr, ℕ, zero, suc, ◌-◌, ◌^◌, Bool, true, false, cond, not, ◌&&◌, List, [], ◌∷◌, length, take, slice_get, Option, Some, None, is_some, Result, Ok, Err, refl, sym, ap, subst, ◌∙◌}
 use Rattle.std.specs.Prelude.{MatchBool, is_ok}
-use Rattle.std.specs.List.{find}
+use Rattle.std.specs.List.{find, list_any}
 use Rattle.pt_signal.specs.declared.pid.Pid.{Pid}
 use Rattle.pt_signal.specs.declared.item.Item.{Item}
 use Rattle.pt_signal.specs.declared.item.Item.TheVariants.{User, Exit, Down, Alive}
@@ -13,8 +13,8 @@ use Rattle.pt_signal.specs.declared.signal.Signal.TheVariants.{Unlink}
 use Rattle.pt_signal.specs.Values.{same_pid, fits, without_first}
 use Rattle.pt_signal.specs.Process.{ProcessState, handle}
 use Rattle.pt_signal.proofs.Same.{same_pid_refl}
-use Rattle.pt_events.specs.declared.event.Event.TheVariants.{Came, Said, Took, Flag}
-use Rattle.pt_events.specs.History.{Phase, unborn, living, ended, is_unborn, is_living, state_of, gets, live_or_end}
+use Rattle.pt_events.specs.declared.event.Event.TheVariants.{Came, Said, Took, Flag, Left}
+use Rattle.pt_events.specs.History.{Phase, unborn, living, ended, is_unborn, is_living, state_of, gets, leaves, live_or_end}
 use Rattle.pt_shard.specs.declared.fault.Fault.{Fault}
 use Rattle.pt_shard.specs.declared.fault.Fault.TheVariants.{Full, Memory, Worn, Gone, Myself, NoProc}
 use Rattle.pt_shard.specs.ShardState.{ShardState, phase_of, state_in, lives, after, handled}
@@ -22,21 +22,22 @@ use Rattle.pt_shard.specs.Known.{knows}
 use Rattle.pt_shard.specs.Calls.{Calls, BearsChild, new_link}
 use Rattle.pt_desk.specs.DeskState.{DeskState}
 use Rattle.pt_crew.specs.declared.behaviour.Next.{Next}
-use Rattle.pt_crew.specs.declared.behaviour.Next.TheVariants.{Wait, Proceed}
+use Rattle.pt_crew.specs.declared.behaviour.Next.TheVariants.{Wait, Proceed, Stop}
 use Rattle.pt_crew.specs.declared.births.Role.{Role}
 use Rattle.pt_crew.specs.Births.{Bore}
 use Rattle.pt_crew.specs.Telling.{IfKnown}
 use Rattle.pt_crew.specs.Visiting.{Answers}
-use Rattle.pt_crew.specs.Upholding.{IsLater, ActsFor, IsTaken, AllFirst, IsUpheld}
+use Rattle.pt_crew.specs.Upholding.{IsLater, IsLeftAlone, ActsFor, IsTaken, AllFirst, IsUpheld, children_by}
 use Rattle.pt_crew.proofs.Waking.{by_cases}
 use Rattle.pt_crew.proofs.Upholding.{later_after, later_handled, born_then, phase_is, same_pid_sym}
 use Rattle.pt_supervisor.specs.declared.children.Child.{Child}
 use Rattle.pt_supervisor.specs.Children.{NoneLives, is_missing, last_alive}
 use Rattle.pt_supervisor.specs.Hearing.{Standing, heard}
-use Rattle.pt_supervisor.specs.Supervising.{StartsOf, Nursery, BearsAs, StartsAt, StartsOne, StartsFirst, StartsAll, Scene, nursery, Settles, AdvancesAs, Attends, Handles, Supervises, with_pid, after_attending}
-use Rattle.pt_supervisor.specs.Keeping.{is_exit_of, is_cut, has_cut, IsTied, IsHeld, Family, Holds, Tends, PartOf, HoldsAs, Keeps, BeginsAs, AllBegin, ActsAs, SuperviseAs}
+use Rattle.pt_supervisor.specs.Supervising.{StartsOf, Nursery, BearsAs, StartsAt, StartsOne, StartsFirst, StartsAll, Scene, nursery, Settles, AdvancesAs, Attends, Handles, Supervises, with_pid, with_one, after_attending}
+use Rattle.pt_supervisor.specs.Keeping.{is_exit_of, is_cut, has_cut, IsTied, IsHeld, Family, was_started, Remembers, Holds, Tends, PartOf, HoldsAs, Keeps, BeginsAs, AllBegin, ActsAs, SuperviseAs}
 use Rattle.pt_supervisor.proofs.Tying.{or_left, stays_in, tied_by, is_unlink, handled_tied, handled_traps}
-use Rattle.pt_supervisor.proofs.Families.{none_at, Less, less_heard, Goes, goes_is, goes_then, goes_event, cut_later, Kept, family_step, kept_is, own_phase, told_goes, told_kept, born_goes, born_kept}
+use Rattle.pt_supervisor.proofs.Telling.{found_any, waits_told}
+use Rattle.pt_supervisor.proofs.Families.{none_at, Less, less_heard, Goes, goes_is, goes_then, goes_event, cut_later, remembers_step, remembers_less, Kept, family_step, kept_is, own_phase, told_goes, told_kept, born_goes, born_kept}
 
 -- births ---------------------------------------------------------------------------------------
 
@@ -54,36 +55,49 @@ module _ {B : Type 0} (me : Pid) (b : B) (first : Next) where
   bore_goes d e wait waiting (Ok p) h = born_goes me p d e (new_link d) h.2 (ap (λ (x : ShardState). x.start) h.0.1.2) (ap (λ (x : ShardState). x.journal) h.0.1.2)
   bore_goes d e wait waiting (Err f) h = goes_is me d e (not_born f d e h.0)
 
-  bore_kept : (d e : ShardState) (wait waiting : List (Role B)) (result : Result Pid Fault) (children : List Child) (place : ℕ) (c : Child) → slice_get children place ≡ Some c
-      → Bore me true b first d wait result e waiting → Kept children None me d → Kept (with_pid place c result children) None me e
-  bore_kept d e wait waiting (Ok p) children place c at h k = born_kept me p d e (new_link d) h.2 (ap (λ (x : ShardState). x.start) h.0.1.2) (ap (λ (x : ShardState). x.journal) h.0.1.2) children place c at k
-  bore_kept d e wait waiting (Err f) children place c at h k = kept_is children None me d e (not_born f d e h.0) k
+  bore_kept : (d e : ShardState) (wait waiting : List (Role B)) (result : Result Pid Fault) (children : List Child) (started place : ℕ) (c : Child) → slice_get children place ≡ Some c → c.pid ≡ None
+      → Bore me true b first d wait result e waiting → Kept children started None me d → Kept (with_pid place c result children) (with_one result started) None me e
+  bore_kept d e wait waiting (Ok p) children started place c at missing h k =
+      born_kept me p d e (new_link d) h.2 (ap (λ (x : ShardState). x.start) h.0.1.2) (ap (λ (x : ShardState). x.journal) h.0.1.2) children started (2 ^ 64 - 1) place c at missing k
+  bore_kept d e wait waiting (Err f) children started place c at missing h k = kept_is children started None me d e (not_born f d e h.0) k
 
 abbrev KeptIn : {S B : Type 0} → Pid → Nursery S B → Type 0
-KeptIn me n = Kept n.children None me n.desk
+KeptIn me n = Kept n.children n.started None me n.desk
+
+-- one that is missing has no pid
+no_pid : (c : Child) → is_missing c ≡ true → c.pid ≡ None
+no_pid c missing = go c.wanted c.pid missing
+  where
+    go : (wanted : Bool) (pid : Option Pid) → (wanted && not (is_some pid)) ≡ true → pid ≡ None
+    go true None h = refl
+    go true (Some p) h = absurd (cc)
+    go false pid h = absurd (cc)
 
 module _ {S B : Type 0} (starts : StartsOf S B) (me : Pid) where
   bears_goes : (place : ℕ) (c : Child) (begins : Result (B × Next) Fault) (old new : Nursery S B) (answer : Bool) → BearsAs me place c begins old answer new → Goes me old.desk new.desk
   bears_goes place c (Err f) old new answer h = goes_is me old.desk new.desk h.2
   bears_goes place c (Ok (b, first)) old new answer h = bore_goes me b first old.desk new.desk old.born new.born h.0 h.1
 
-  bears_kept : (place : ℕ) (c : Child) (begins : Result (B × Next) Fault) (old new : Nursery S B) (answer : Bool) → slice_get old.children place ≡ Some c → BearsAs me place c begins old answer new
+  bears_kept : (place : ℕ) (c : Child) (begins : Result (B × Next) Fault) (old new : Nursery S B) (answer : Bool) → slice_get old.children place ≡ Some c → c.pid ≡ None → BearsAs me place c begins old answer new
       → KeptIn me old → KeptIn me new
-  bears_kept place c (Err f) old new answer at h k =
-      subst (λ (xs : List Child). Kept xs None me new.desk) (sym h.1) (kept_is old.children None me old.desk new.desk h.2 k)
-  bears_kept place c (Ok (b, first)) old new answer at h k =
-      subst (λ (xs : List Child). Kept xs None me new.desk) (sym h.3) (bore_kept me b first old.desk new.desk old.born new.born h.0 old.children place c at h.1 k)
+  bears_kept place c (Err f) old new answer at missing h k =
+      subst (λ (n : ℕ). Kept new.children n None me new.desk) (sym h.4)
+      (subst (λ (xs : List Child). Kept xs old.started None me new.desk) (sym h.1) (kept_is old.children old.started None me old.desk new.desk h.2 k))
+  bears_kept place c (Ok (b, first)) old new answer at missing h k =
+      subst (λ (n : ℕ). Kept new.children n None me new.desk) (sym h.4)
+      (subst (λ (xs : List Child). Kept xs (with_one h.0 old.started) None me new.desk) (sym h.3)
+      (bore_kept me b first old.desk new.desk old.born new.born h.0 old.children old.started place c at missing h.1 k))
 
   missing_goes : (missing : Bool) (place : ℕ) (c : Child) (old new : Nursery S B) (answer : Bool)
       → MatchBool missing ((begins : Result (B × Next) Fault) × starts old.start me place begins new.start × BearsAs me place c begins old answer new) ((answer ≡ true) × (new ≡ old)) → Goes me old.desk new.desk
   missing_goes true place c old new answer h = bears_goes place c h.0 old new answer h.2
   missing_goes false place c old new answer h = goes_is me old.desk new.desk (ap (λ (n : Nursery S B). n.desk) h.1)
 
-  missing_kept : (missing : Bool) (place : ℕ) (c : Child) (old new : Nursery S B) (answer : Bool) → slice_get old.children place ≡ Some c
+  missing_kept : (missing : Bool) (place : ℕ) (c : Child) (old new : Nursery S B) (answer : Bool) → slice_get old.children place ≡ Some c → is_missing c ≡ missing
       → MatchBool missing ((begins : Result (B × Next) Fault) × starts old.start me place begins new.start × BearsAs me place c begins old answer new) ((answer ≡ true) × (new ≡ old))
       → KeptIn me old → KeptIn me new
-  missing_kept true place c old new answer at h k = bears_kept place c h.0 old new answer at h.2 k
-  missing_kept false place c old new answer at h k = subst (KeptIn me) (sym h.1) k
+  missing_kept true place c old new answer at missing h k = bears_kept place c h.0 old new answer at (no_pid c missing) h.2 k
+  missing_kept false place c old new answer at missing h k = subst (KeptIn me) (sym h.1) k
 
   at_goes : (place : ℕ) (o : Option Child) (old new : Nursery S B) (answer : Bool) → StartsAt starts me place o old answer new → Goes me old.desk new.desk
   at_goes place None old new answer h = absurd h
@@ -91,7 +105,7 @@ module _ {S B : Type 0} (starts : StartsOf S B) (me : Pid) where
 
   at_kept : (place : ℕ) (o : Option Child) (old new : Nursery S B) (answer : Bool) → slice_get old.children place ≡ o → StartsAt starts me place o old answer new → KeptIn me old → KeptIn me new
   at_kept place None old new answer at h k = absurd h
-  at_kept place (Some c) old new answer at h k = missing_kept (is_missing c) place c old new answer at h k
+  at_kept place (Some c) old new answer at h k = missing_kept (is_missing c) place c old new answer at refl h k
 
   one_goes : (place : ℕ) (old new : Nursery S B) (answer : Bool) → StartsOne starts me place old answer new → Goes me old.desk new.desk
   one_goes place old new answer h = at_goes place (slice_get old.children place) old new answer h
@@ -118,7 +132,7 @@ module _ {S B : Type 0} (starts : StartsOf S B) (me : Pid) where
 -- what it does once it has heard --------------------------------------------------------------------
 
 abbrev KeptAt : {S B : Type 0} → Pid → Scene S B → Type 0
-KeptAt me s = Kept s.standing.children s.standing.stopping me s.desk.shard
+KeptAt me s = Kept s.standing.children s.standing.started s.standing.stopping me s.desk.shard
 
 module _ {S B : Type 0} (starts : StartsOf S B) (me : Pid) where
   known_goes : (p : Pid) (reason : Reason) (known : Bool) (d e : DeskState) (result : Result (Unit {0}) Fault)
@@ -126,10 +140,10 @@ module _ {S B : Type 0} (starts : StartsOf S B) (me : Pid) where
   known_goes p reason true d e result h = told_goes me p reason d.shard e.shard result h
   known_goes p reason false d e result h = goes_is me d.shard e.shard (ap (λ (x : DeskState). x.shard) h.1)
 
-  known_kept : (p : Pid) (reason : Reason) (known : Bool) (d e : DeskState) (result : Result (Unit {0}) Fault) (children : List Child) (stopping : Option Reason)
-      → IfKnown known (Calls me (Some (Said me p (Signal.Exit reason))) (tt {0}) d.shard result e.shard) d result e → Kept children stopping me d.shard → Kept children stopping me e.shard
-  known_kept p reason true d e result children stopping h k = told_kept me p reason children stopping d.shard e.shard result h k
-  known_kept p reason false d e result children stopping h k = kept_is children stopping me d.shard e.shard (ap (λ (x : DeskState). x.shard) h.1) k
+  known_kept : (p : Pid) (reason : Reason) (known : Bool) (d e : DeskState) (result : Result (Unit {0}) Fault) (children : List Child) (started : ℕ) (stopping : Option Reason)
+      → IfKnown known (Calls me (Some (Said me p (Signal.Exit reason))) (tt {0}) d.shard result e.shard) d result e → Kept children started stopping me d.shard → Kept children started stopping me e.shard
+  known_kept p reason true d e result children started stopping h k = told_kept me p reason children started stopping d.shard e.shard result h k
+  known_kept p reason false d e result children started stopping h k = kept_is children started stopping me d.shard e.shard (ap (λ (x : DeskState). x.shard) h.1) k
 
   settles_goes : (stopping : Option Reason) (old : Scene S B) (next : Next) (new : Scene S B) → Settles starts me stopping old next new → Goes me old.desk.shard new.desk.shard
   settles_goes (Some r) old next new h = goes_is me old.desk.shard new.desk.shard (ap (λ (x : Scene S B). x.desk.shard) h.1)
@@ -138,9 +152,9 @@ module _ {S B : Type 0} (starts : StartsOf S B) (me : Pid) where
   settles_kept : (stopping : Option Reason) (old : Scene S B) (next : Next) (new : Scene S B) → old.standing.stopping ≡ stopping → Settles starts me stopping old next new → KeptAt me old → KeptAt me new
   settles_kept (Some r) old next new is h k = subst (KeptAt me) (sym h.1) k
   settles_kept None old next new is h k =
-      subst (λ (o : Option Reason). Kept new.standing.children o me new.desk.shard) (sym (ap (λ (s : Standing). s.stopping) h.3 ∙ is))
+      subst (λ (o : Option Reason). Kept new.standing.children new.standing.started o me new.desk.shard) (sym (ap (λ (s : Standing). s.stopping) h.3 ∙ is))
       (all_kept starts me (length old.standing.children) (nursery old) (nursery new) h.0 h.1
-      (subst (λ (o : Option Reason). Kept old.standing.children o me old.desk.shard) is k))
+      (subst (λ (o : Option Reason). Kept old.standing.children old.standing.started o me old.desk.shard) is k))
 
   advances_goes : (last : Option (Pid × Reason)) (old : Scene S B) (next : Next) (new : Scene S B) → AdvancesAs starts me last old next new → Goes me old.desk.shard new.desk.shard
   advances_goes (Some (p, reason)) old next new h = known_goes p reason (knows old.desk.shard p) old.desk new.desk h.result h.signal
@@ -148,8 +162,8 @@ module _ {S B : Type 0} (starts : StartsOf S B) (me : Pid) where
 
   advances_kept : (last : Option (Pid × Reason)) (old : Scene S B) (next : Next) (new : Scene S B) → AdvancesAs starts me last old next new → KeptAt me old → KeptAt me new
   advances_kept (Some (p, reason)) old next new h k =
-      subst (λ (s : Standing). Kept s.children s.stopping me new.desk.shard) (sym h.same.1)
-      (known_kept p reason (knows old.desk.shard p) old.desk new.desk h.result old.standing.children old.standing.stopping h.signal k)
+      subst (λ (s : Standing). Kept s.children s.started s.stopping me new.desk.shard) (sym h.same.1)
+      (known_kept p reason (knows old.desk.shard p) old.desk new.desk h.result old.standing.children old.standing.started old.standing.stopping h.signal k)
   advances_kept None old next new h k = settles_kept old.standing.stopping old next new refl h k
 
 -- what it makes of an item -----------------------------------------------------------------------------
@@ -163,8 +177,10 @@ waits_traps : (traps : Bool) (before : Next) (pick : Pick) (children : List Chil
 waits_traps traps before pick children (inl h) waits = h
 waits_traps traps before pick children (inr h) waits = absurd (let bad : Proceed ≡ Wait pick = sym h.0 ∙ waits in cc)
 
-taken_kept : (me : Pid) (item : Item) (s m : Standing) (before : Next) (was d : ShardState) → Less item s m → IsTaken me before (Some item) was d → Holds s before me was → Kept m.children m.stopping me d
+taken_kept : (me : Pid) (item : Item) (s m : Standing) (before : Next) (was d : ShardState) → Less item s m → IsTaken me before (Some item) was d → Holds s before me was → Kept m.children m.started m.stopping me d
 taken_kept me item s m before was d less taken h = record {
+  remembers = remembers_less item s m me was d later (ap (λ (f : ShardState). children_by me f.journal) taken.4)
+      (λ q is new. waits_told me q was.start was.journal new (found_any (is_exit_of q) (fits taken.0) (state_in was me).waiting item taken.3 is)) less h.remembers;
   state = t;
   living_is = now;
   traps = subst (λ (f : Phase). (state_of f).traps ≡ true) st.1 (waits_traps (state_in was me).traps before taken.0 s.children h.traps taken.1);
@@ -196,7 +212,7 @@ taken_kept me item s m before was d less taken h = record {
     go q out (inr cut) = inr (cut_later me q was d later cut)
 
 flag_goes : (me : Pid) (on : Bool) (d e : ShardState) (result : Result Bool Fault) → Calls me (Some (Flag me true)) on d result e → Goes me d e
-flag_goes me on d e (Ok x) c = goes_event me d e (Flag me true) (λ q other. same_pid_sym me q other) c.3
+flag_goes me on d e (Ok x) c = goes_event me d e (Flag me true) (λ q other. same_pid_sym me q other) (λ q. refl) c.3
 flag_goes me on d e (Err Gone) c = goes_is me d e c.1
 flag_goes me on d e (Err Worn) c = goes_is me d e c.3
 flag_goes me on d e (Err Memory) c = goes_is me d e c.3
@@ -206,7 +222,7 @@ flag_goes me on d e (Err NoProc) c = absurd c
 
 -- what is so once it has heard: its children are held; or, where its trap was refused, all is as it was
 abbrev Attended : Bool → Standing → Pid → ShardState → Type 0
-Attended answer m me e = MatchBool answer (Kept m.children m.stopping me e) (Holds m Proceed me e)
+Attended answer m me e = MatchBool answer (Kept m.children m.started m.stopping me e) (Holds m Proceed me e)
 
 refused_holds : (s m : Standing) (me : Pid) (before : Next) (was d e : ShardState) → m ≡ s → before ≡ Proceed → d ≡ was → e ≡ d → Holds s before me was → Holds m Proceed me e
 refused_holds s m me before was d e same proceeds is as_is h =
@@ -223,6 +239,8 @@ flag_attends me s m before was d e on answer (Ok x) c ok same taken h =
           inl (subst (λ (f : Phase). IsTied (state_of f) q) (sym (phase_is (after (Flag me true) d) e c.3 me ∙ own_phase me (Flag me true) d st.0 (same_pid_refl me) st.1))
           (tied_by st.0 (record (st.0) { traps = true }) q (λ k. k) (λ k. k) (subst (λ (f : Phase). IsTied (state_of f) q) st.1 tied))))
           (subst (λ (x : Standing). Family x.children x.stopping me d) (sym same) (subst (Family s.children s.stopping me) (sym taken.2) h.family));
+      remembers = remembers_step m.children m.started me d e (flag_goes me on d e (Ok x) c).later (ap (λ (f : ShardState). children_by me f.journal) c.3)
+          (subst (λ (x : Standing). Remembers x.children x.started me d) (sym same) (subst (Remembers s.children s.started me) (sym taken.2) h.remembers));
     })
   where
     st : (s : ProcessState) × (phase_of d me ≡ living s)
@@ -235,14 +253,14 @@ flag_attends me s m before was d e on answer (Err Myself) c ok same taken h = ab
 flag_attends me s m before was d e on answer (Err NoProc) c ok same taken h = absurd c
 
 less_same : (item : Item) (s : Standing) → ((q : Pid) → is_exit_of q item ≡ false) → Less item s s
-less_same item s none = record { sub = λ j q is. is; stop = λ h. h; out = λ h j q is. none q }
+less_same item s none = record { sub = λ j q is. is; stop = λ h. h; out = λ h j q is. none q; kept = λ j q is. inl is; count = refl }
 
 heard_attends : (me : Pid) (item : Item) (s m n : Standing) (before : Next) (was : ShardState) (d e : DeskState) (answer : Bool) → answer ≡ true → m ≡ n → e ≡ d → Less item s n
     → IsTaken me before (Some item) was d.shard → Holds s before me was → Attended answer m me e.shard
 heard_attends me item s m n before was d e answer on is same less taken h =
     subst (λ (a : Bool). Attended a m me e.shard) (sym on)
-    (subst (λ (x : Standing). Kept x.children x.stopping me e.shard) (sym is)
-    (kept_is n.children n.stopping me d.shard e.shard (ap (λ (x : DeskState). x.shard) same) (taken_kept me item s n before was d.shard less taken h)))
+    (subst (λ (x : Standing). Kept x.children x.started x.stopping me e.shard) (sym is)
+    (kept_is n.children n.started n.stopping me d.shard e.shard (ap (λ (x : DeskState). x.shard) same) (taken_kept me item s n before was d.shard less taken h)))
 
 attends_to : (me : Pid) (item : Option Item) (s m : Standing) (before : Next) (was : ShardState) (d e : DeskState) (answer : Bool) → Attends me item s d answer m e
     → IsTaken me before item was d.shard → Holds s before me was → Attended answer m me e.shard
@@ -267,8 +285,8 @@ module _ {S B : Type 0} (starts : StartsOf S B) (me : Pid) where
   then_goes true mid next new h = advances_goes starts me (last_alive mid.standing.children mid.standing.ending (length mid.standing.children)) mid next new h
   then_goes false mid next new h = goes_is me mid.desk.shard new.desk.shard (ap (λ (x : Scene S B). x.desk.shard) h.1)
 
-  kept_holds : (s : Standing) (next : Next) (e : ShardState) → Supervises next s → Kept s.children s.stopping me e → Holds s next me e
-  kept_holds s next e waits k = record { waits = waits; traps = inl (subst (λ (f : Phase). (state_of f).traps ≡ true) (sym k.living_is) k.traps); family = k.family }
+  kept_holds : (s : Standing) (next : Next) (e : ShardState) → Supervises next s → Kept s.children s.started s.stopping me e → Holds s next me e
+  kept_holds s next e waits k = record { waits = waits; remembers = k.remembers; traps = inl (subst (λ (f : Phase). (state_of f).traps ≡ true) (sym k.living_is) k.traps); family = k.family }
 
   then_holds : (answer : Bool) (mid : Scene S B) (next : Next) (new : Scene S B) → after_attending starts me answer mid next new → Supervises next new.standing → Attended answer mid.standing me mid.desk.shard
       → Holds new.standing next me new.desk.shard
@@ -299,6 +317,9 @@ lived me from x (ended r s) h = absurd (cc)
 still : (ending : Option Reason) (s : ProcessState) → is_living (live_or_end ending s) ≡ true → live_or_end ending s ≡ living s
 still None s h = refl
 still (Some r) s h = absurd (cc)
+
+came_remembers : (s : Standing) (me : Pid) (d : ShardState) (l : Letter) → Remembers s.children s.started me d → Remembers s.children s.started me (handled l d)
+came_remembers s me d l r = remembers_step s.children s.started me d (handled l d) (later_handled l d) refl r
 
 module _ (s : Standing) (next : Next) (me : Pid) (d : ShardState) (l : Letter) (here : same_pid me l.to ≡ true) (holds : Holds s next me d) (alive : lives (handled l d) me ≡ true) where
   got : phase_of (handled l d) me ≡ gets me l.from l.signal (phase_of d me)
@@ -336,37 +357,71 @@ module _ (s : Standing) (next : Next) (me : Pid) (d : ShardState) (l : Letter) (
   traps_still (inr h) = inr h
 
   came_holds : Holds s next me (handled l d)
-  came_holds = record { waits = holds.waits; traps = traps_still holds.traps; family = came_family holds.traps }
+  came_holds = record { waits = holds.waits; remembers = came_remembers s me d l holds.remembers; traps = traps_still holds.traps; family = came_family holds.traps }
 
 -- the relation is upheld ------------------------------------------------------------------------------------------
 
-same_holds : (o : Option Standing) (next : Next) (me : Pid) (d e : ShardState) → HoldsAs o next me d → IsLater d e → phase_of e me ≡ phase_of d me → HoldsAs o next me e
+same_holds : (o : Option Standing) (next : Next) (me : Pid) (d e : ShardState) → HoldsAs o next me d → IsLater d e → IsLeftAlone me d e → HoldsAs o next me e
 same_holds None next me d e h later same = tt
-same_holds (Some s) next me d e h later same = λ alive.
-    let k = h (sym (ap is_living same) ∙ alive) in
-    record {
+same_holds (Some s) next me d e h later same = (λ alive. holds (h.0 (sym (ap is_living same.0) ∙ alive)), h.1, remembers)
+  where
+    remembers : Remembers s.children s.started me e
+    remembers = remembers_step s.children s.started me d e later same.1 h.2
+
+    holds : Holds s next me d → Holds s next me e
+    holds k = record {
       waits = k.waits;
-      traps = subst (λ (f : Phase). ((state_of f).traps ≡ true) ⊎ ((next ≡ Proceed) × NoneLives s.children)) (sym same) k.traps;
-      family = family_step s.children s.stopping me d e later (λ q tied. inl (subst (λ (f : Phase). IsTied (state_of f) q) (sym same) tied)) k.family;
+      remembers = remembers;
+      traps = subst (λ (f : Phase). ((state_of f).traps ≡ true) ⊎ ((next ≡ Proceed) × NoneLives s.children)) (sym same.0) k.traps;
+      family = family_step s.children s.stopping me d e later (λ q tied. inl (subst (λ (f : Phase). IsTied (state_of f) q) (sym same.0) tied)) k.family;
     }
 
 received : (o : Option Standing) (next : Next) (me : Pid) (d : ShardState) (l : Letter) → HoldsAs o next me d → HoldsAs o next me (handled l d)
 received None next me d l h = tt
 received (Some s) next me d l h = by_cases (same_pid me l.to)
-    (λ here alive. came_holds s next me d l here (h (lived me l.from l.signal (phase_of d me) (sym (λ i. is_living (cond (here i) (gets me l.from l.signal (phase_of d me)) (phase_of d me))) ∙ alive))) alive)
-    (λ other. same_holds (Some s) next me d (handled l d) h (later_handled l d) (λ i. cond (other i) (gets me l.from l.signal (phase_of d me)) (phase_of d me)))
+    (λ here. (λ alive. came_holds s next me d l here (h.0 (lived me l.from l.signal (phase_of d me) (sym (λ i. is_living (cond (here i) (gets me l.from l.signal (phase_of d me)) (phase_of d me))) ∙ alive))) alive, h.1, came_remembers s me d l h.2))
+    (λ other. same_holds (Some s) next me d (handled l d) h (later_handled l d) (λ i. cond (other i) (gets me l.from l.signal (phase_of d me)) (phase_of d me), refl))
+
+-- what has ended does not live
+not_left : {X : Type 0} (r : Reason) (f : Phase) → is_living (leaves r f) ≡ true → X
+not_left r unborn h = absurd (cc)
+not_left r (living s) h = absurd (cc)
+not_left r (ended w s) h = absurd (cc)
+
+ended_holds : (o : Option Standing) (r : Reason) (me : Pid) (d : ShardState) → HoldsAs o (Stop r) me d → HoldsAs o (Stop r) me (after (Left me r) d)
+ended_holds None r me d h = tt
+ended_holds (Some s) r me d h = (
+  λ alive. not_left r (phase_of d me) (sym (λ i. is_living (cond (same_pid_refl me i) (leaves r (phase_of d me)) (phase_of d me))) ∙ alive),
+  h.1,
+  remembers_step s.children s.started me d (after (Left me r) d) (later_after (Left me r) d) refl h.2,
+)
 
 pub begins : (o : Option Standing) (next : Next) (me : Pid) (d : ShardState) → BeginsAs o next → HoldsAs o next me d
 begins None next me d h = tt
-begins (Some s) next me d h = λ alive. record {
-  waits = subst (λ (n : Next). Supervises n s) (sym h.0) tt;
-  traps = inr h;
-  family = record {
-    born = λ place q is. absurd (none_at s.children place q h.1 is);
-    apart = λ i j q a b. absurd (none_at s.children i q h.1 a);
-    held = λ z place q is. absurd (none_at s.children place q h.1 is);
-  };
-}
+begins (Some s) next me d h = (
+  λ alive. record {
+    waits = waits;
+    remembers = remembers;
+    traps = inr (h.0, h.1);
+    family = record {
+      born = λ place q is. absurd (none_at s.children place q h.1 is);
+      apart = λ i j q a b. absurd (none_at s.children i q h.1 a);
+      held = λ z place q is. absurd (none_at s.children place q h.1 is);
+    };
+  },
+  waits,
+  remembers,
+)
+  where
+    waits : Supervises next s
+    waits = subst (λ (n : Next). Supervises n s) (sym h.0) tt
+
+    remembers : Remembers s.children s.started me d
+    remembers new q was = nobody (children_by me d.journal) (ap (λ (n : ℕ). was_started n me q d.journal) (sym h.2) ∙ was)
+      where
+        nobody : {X : Type 0} (qs : List Pid) → list_any (same_pid q) (take 0 qs) ≡ true → X
+        nobody [] any = absurd (cc)
+        nobody (x ∷ qs) any = absurd (cc)
 
 taken_lives : (me : Pid) (before : Next) (item : Option Item) (was d : ShardState) → IsTaken me before item was d → lives was me ≡ true
 taken_lives me before None was d h = h.1
@@ -385,7 +440,8 @@ module _ {B : Type 0} (part : PartOf B) where
       → is_unborn (phase_of was me) ≡ false → IsTaken me before item was d → ActsAs o me item d next later e → HoldsAs later next me e
   hands_as None before me item was d next later e h born taken acts = subst (λ (x : Option Standing). HoldsAs x next me e) (sym acts.0) tt
   hands_as (Some s) before me item was d next later e h born taken acts =
-      subst (λ (x : Option Standing). HoldsAs x next me e) (sym acts.1) (λ alive. acts.2.keeps before was taken born (h (taken_lives me before item was d taken)))
+      subst (λ (x : Option Standing). HoldsAs x next me e) (sym acts.1)
+      (let k = acts.2.keeps before was taken born (h.0 (taken_lives me before item was d taken)) in (λ alive. k, k.waits, k.remembers))
 
   pub upheld : (answers : Answers B) → SuperviseAs answers part → IsUpheld answers (Keeps part)
   upheld answers law = record {
@@ -393,5 +449,6 @@ module _ {B : Type 0} (part : PartOf B) where
     hands = λ b before p item was d next now e births h born taken a later. hands_as (part b) before p item was d next (part now) e h born taken (law b d p item next now e births a).0;
     bears = λ b d p item next now e births a. all_begin births (law b d p item next now e births a).1;
     others = λ b next p d e h born later same. same_holds (part b) next p d e h later same;
+    ends = λ b r p d h born. ended_holds (part b) r p d h;
     receives = λ b next p d l h born. received (part b) next p d l h;
   }

@@ -20,6 +20,11 @@ set_other xs i j v x apart at =
     let within : j < length (set xs i v) = slice_get_within (set xs i v) j x at in
     slice_get-get_or xs j x (omega (arith, length-set xs i v, within)) ∙ ap Some (sym (get_or-set_other xs i j v x apart) ∙ get_or_from_slice_get (set xs i v) j x x at)
 
+pub set_keeps : (xs : List Child) (i j : ℕ) (v x : Child) → (j ≡ i → ⊥) → slice_get xs j ≡ Some x → slice_get (slice_set xs i v) j ≡ Some x
+set_keeps xs i j v x apart at =
+    let within : j < length xs = slice_get_within xs j x at in
+    slice_get-get_or (set xs i v) j x (omega (arith, length-set xs i v, within)) ∙ ap Some (get_or-set_other xs i j v x apart ∙ get_or_from_slice_get xs j x x at)
+
 pub same_child : (c d : Child) → Some c ≡ Some d → c ≡ d
 same_child c d e = cc
 
@@ -47,6 +52,14 @@ restarted_same false now place s = refl
 pub again_same : (again : Bool) (now place : ℕ) (s : Standing) → (started_again again now place s).children ≡ s.children
 again_same true now place s = restarted_same (allows now s.span s.most s.times) now place s
 again_same false now place s = refl
+
+restarted_count : (allowed : Bool) (now place : ℕ) (s : Standing) → (restarted allowed now place s).started ≡ s.started
+restarted_count true now place s = refl
+restarted_count false now place s = refl
+
+pub again_count : (again : Bool) (now place : ℕ) (s : Standing) → (started_again again now place s).started ≡ s.started
+again_count true now place s = restarted_count (allows now s.span s.most s.times) now place s
+again_count false now place s = refl
 
 lost_keeps : (now : ℕ) (reason : Reason) (place : ℕ) (c : Option Child) (s : Standing) → slice_get s.children place ≡ c → PermanentAreWanted s.children
     → PermanentAreWanted (lost now reason place c s).children

@@ -26,6 +26,8 @@ pub record Standing : Type 0 where
   pub ending : ℕ
   -- with what it is to end, once all its children have
   pub stopping : Option Reason
+  -- how many children it has started
+  pub started : ℕ
 
 abbrev pub standing : {S : Type 0} → Supervisor S → Standing
 standing s = record {
@@ -37,9 +39,10 @@ standing s = record {
   span = s.limit.span;
   ending = s.ending;
   stopping = s.stopping;
+  started = s.started;
 }
 
--- a new supervisor: nobody is to end
+-- a new supervisor: nobody is to end, and nobody was started
 abbrev pub begun : Strategy → List Child → Limit → Standing
 begun strategy children limit = record {
   children = children;
@@ -50,6 +53,7 @@ begun strategy children limit = record {
   span = limit.span;
   ending = length children;
   stopping = None;
+  started = 0;
 }
 
 -- all its children are to end, and then it with this reason

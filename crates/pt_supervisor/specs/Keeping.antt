@@ -1,18 +1,19 @@
 -- How a supervisor's children are on its desk, and in a node that is still.
 use Rattle.std.specs.Prelude.{◌≡◌, ⊤, ℕ, ◌&&◌, Bool, true, false, is_some, List, [], ◌∷◌, ◌++◌, Option, Some, None, Ok}
 use Rattle.std.specs.List.{list_any}
-use Rattle.std.specs.Prelude.{◌⊎◌, ◌<◌, length, slice_get, slice_index_or}
+use Rattle.std.specs.Prelude.{◌⊎◌, ◌<◌, length, take, slice_get, slice_index_or}
 use Rattle.pt_signal.specs.declared.pid.Pid.{Pid}
 use Rattle.pt_signal.specs.declared.item.Item.{Item}
 use Rattle.pt_signal.specs.declared.item.Pick.{Pick}
 use Rattle.pt_signal.specs.declared.reason.Reason.{Reason}
-use Rattle.pt_signal.specs.declared.signal.Signal.TheVariants.{Unlink}
+use Rattle.pt_signal.specs.declared.signal.Signal.{Signal}
+use Rattle.pt_signal.specs.declared.signal.Signal.TheVariants.{Unlink, LinkExit}
 use Rattle.pt_signal.specs.Values.{same_pid}
 use Rattle.pt_signal.specs.Process.{ProcessState, held}
 use Rattle.pt_events.specs.declared.event.Event.{Event}
 use Rattle.pt_events.specs.declared.event.Event.TheVariants.{Came}
 use Rattle.pt_events.specs.declared.event.Stamped.{Stamped}
-use Rattle.pt_events.specs.History.{is_unborn, alive}
+use Rattle.pt_events.specs.History.{at_start, is_unborn, alive}
 use Rattle.pt_events.specs.Journal.{IsMerge, events}
 use Rattle.pt_shard.specs.ShardState.{ShardState, phase_of, state_in, lives}
 use Rattle.pt_gathered.specs.Gathered.{GatheredState, IsGathered, begins, journals}
@@ -22,7 +23,7 @@ use Rattle.pt_crew.specs.declared.behaviour.Next.TheVariants.{Wait, Proceed}
 use Rattle.pt_crew.specs.declared.births.Role.{Role}
 use Rattle.pt_crew.specs.declared.crew.Crew.{Crew}
 use Rattle.pt_crew.specs.Visiting.{Answers}
-use Rattle.pt_crew.specs.Upholding.{Relation, ActsFor, IsTaken, Upholds}
+use Rattle.pt_crew.specs.Upholding.{Relation, ActsFor, IsTaken, Upholds, children_by}
 use Rattle.pt_crew.specs.Waking.{has_work}
 use Rattle.pt_crew.specs.Crews.{roles}
 use Rattle.pt_supervisor.specs.declared.children.Child.{Child}
@@ -67,9 +68,33 @@ pub record Family (children : List Child) (stopping : Option Reason) (me : Pid) 
   pub apart : (i j : ℕ) (q : Pid) → child_at children i ≡ Some q → child_at children j ≡ Some q → i ≡ j
   pub held : stopping ≡ None → (place : ℕ) (q : Pid) → child_at children place ≡ Some q → IsHeld me q d
 
+-- news of the end of q came to me: by a link that the two had, or by an exit signal that q sent itself
+abbrev pub tells_end : Pid → Pid → Event → Bool
+tells_end me q (Came a b (LinkExit ids r)) = same_pid q a && same_pid me b
+tells_end me q (Came a b (Signal.Exit r)) = same_pid q a && same_pid me b
+tells_end me q _ = false
+
+abbrev pub has_told : Pid → Pid → List Stamped → Bool
+has_told me q journal = list_any (λ (s : Stamped). tells_end me q s.event) journal
+
+-- q is one of those whom me started: of the children that it bore one of the last so many
+abbrev pub was_started : ℕ → Pid → Pid → List Stamped → Bool
+was_started count me q journal = list_any (same_pid q) (take count (children_by me journal))
+
+abbrev pub IsPlaced : List Child → Pid → Type 0
+IsPlaced children q = (place : ℕ) × (child_at children place ≡ Some q)
+
+-- Nobody is forgotten: each one that a supervisor started, which was not there as the journal began, stands in a place,
+-- or news of its end came.
+abbrev pub Remembers : List Child → ℕ → Pid → ShardState → Type 0
+Remembers children started me d =
+    is_unborn (at_start d.start me) ≡ true → (q : Pid) → was_started started me q d.journal ≡ true
+    → IsPlaced children q ⊎ (has_told me q d.journal ≡ true)
+
 -- what a supervisor upholds while it lives: it traps exits, unless it has not begun
 pub record Holds (s : Standing) (next : Next) (me : Pid) (d : ShardState) : Type 0 where
   pub waits : Supervises next s
+  pub remembers : Remembers s.children s.started me d
   pub traps : ((state_in d me).traps ≡ true) ⊎ ((next ≡ Proceed) × NoneLives s.children)
   pub family : Family s.children s.stopping me d
 
@@ -96,18 +121,19 @@ BearsFrom {S} {B} starts me old new =
 abbrev pub PartOf : Type 0 → Type 0
 PartOf B = B → Option Standing
 
--- one that is no supervisor, or a supervisor that lives, stands so
+-- One that is no supervisor stands anyhow; a supervisor that lives so; and also one that has ended, it forgets nobody.
 abbrev pub HoldsAs : Option Standing → Next → Pid → ShardState → Type 0
 HoldsAs None next me d = ⊤
-HoldsAs (Some s) next me d = lives d me ≡ true → Holds s next me d
+HoldsAs (Some s) next me d =
+    (lives d me ≡ true → Holds s next me d) × Supervises next s × Remembers s.children s.started me d
 
 abbrev pub Keeps : {B : Type 0} → PartOf B → Relation B
 Keeps part b next me d = HoldsAs (part b) next me d
 
--- a supervisor begins by proceeding, with no child
+-- a supervisor begins by proceeding, with no child, and has started none
 abbrev pub BeginsAs : Option Standing → Next → Type 0
 BeginsAs None next = ⊤
-BeginsAs (Some s) next = (next ≡ Proceed) × NoneLives s.children
+BeginsAs (Some s) next = (next ≡ Proceed) × NoneLives s.children × (s.started ≡ 0)
 
 abbrev pub AllBegin : {B : Type 0} → PartOf B → List (Role B) → Type 0
 AllBegin part [] = ⊤

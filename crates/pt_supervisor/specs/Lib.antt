@@ -4,3 +4,4 @@ pub mod Children
 pub mod Hearing
 pub mod Supervising
 pub mod Keeping
+pub mod Stopping

@@ -1,5 +1,5 @@
 -- What a supervisor does with an item, and what it does next.
-use Rattle.std.specs.Prelude.{◌≡◌, ℕ, zero, suc, ◌<◌, cond, Bool, true, false, List, length, Option, Some, None}
+use Rattle.std.specs.Prelude.{◌≡◌, ℕ, zero, suc, ◌+◌, ◌-◌, ◌^◌, min, ◌<◌, cond, Bool, true, false, List, length, Option, Some, None}
 use Rattle.std.specs.Prelude.{MatchBool, Result, Ok, Err, is_ok, is_some, slice_get, slice_set}
 use Rattle.pt_signal.specs.declared.pid.Pid.{Pid}
 use Rattle.pt_signal.specs.declared.item.Item.{Item}
@@ -32,6 +32,8 @@ StartsOf S B = S → Pid → ℕ → Result (B × Next) Fault → S → Type 0
 pub record Nursery (S B : Type 0) : Type 0 where
   pub start : S
   pub children : List Child
+  -- how many it has started
+  pub started : ℕ
   pub desk : ShardState
   -- who was born and waits to enter the crew
   pub born : List (Role B)
@@ -41,15 +43,21 @@ abbrev pub with_pid : ℕ → Child → Result Pid Fault → List Child → List
 with_pid place c (Ok p) children = slice_set children place (record c { pid = Some p })
 with_pid place c (Err f) children = children
 
+-- and one more was started
+abbrev pub with_one : Result Pid Fault → ℕ → ℕ
+with_one (Ok p) n = min (n + 1) (2 ^ 64 - 1)
+with_one (Err f) n = n
+
 -- What the program answers as the child c is to be started: its behaviour, with which it is born, linked with its
 -- supervisor, if the desk does not refuse that; or a refusal of its own.
 abbrev pub BearsAs : {S B : Type 0} → Pid → ℕ → Child → Result (B × Next) Fault → Nursery S B → Bool → Nursery S B
     → Type 0
 BearsAs me place c (Err f) old answer new =
     (answer ≡ false) × (new.children ≡ old.children) × (new.desk ≡ old.desk) × (new.born ≡ old.born)
+    × (new.started ≡ old.started)
 BearsAs me place c (Ok (b, first)) old answer new =
     (born : Result Pid Fault) × Bore me true b first old.desk old.born born new.desk new.born × (answer ≡ is_ok born)
-    × (new.children ≡ with_pid place c born old.children)
+    × (new.children ≡ with_pid place c born old.children) × (new.started ≡ with_one born old.started)
 
 -- the child at a place is started, if it is missing; whether nothing was refused
 abbrev pub StartsAt : {S B : Type 0} → StartsOf S B → Pid → ℕ → Option Child → Nursery S B → Bool → Nursery S B
@@ -91,7 +99,13 @@ pub record Scene (S B : Type 0) : Type 0 where
   pub born : List (Role B)
 
 abbrev pub nursery : {S B : Type 0} → Scene S B → Nursery S B
-nursery s = record { start = s.start; children = s.standing.children; desk = s.desk.shard; born = s.born }
+nursery s = record {
+  start = s.start;
+  children = s.standing.children;
+  started = s.standing.started;
+  desk = s.desk.shard;
+  born = s.born;
+}
 
 -- it waits for the end of one whom it has told to end, and tries again where that was refused
 abbrev pub after_bid : Pid → Result (Unit {0}) Fault → Next
@@ -116,6 +130,7 @@ Settles starts me None old next new =
     × (next ≡ cond answer (Wait Pick.Any) Proceed)
     × (new.standing ≡ record (old.standing) {
       children = new.standing.children;
+      started = new.standing.started;
       ending = length old.standing.children;
     })
 

@@ -16,5 +16,5 @@ pub use children::{Child, Shutdown};
 pub use laws::permanent_children_live;
 pub use limit::Limit;
 pub use restart::{Restart, Strategy};
-pub use supervised::{Supervised, quiet_children_live};
+pub use supervised::{Supervised, quiet_children_live, stopped_children_ended};
 pub use supervisor::{Start, Supervisor};

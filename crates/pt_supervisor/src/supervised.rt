@@ -1,6 +1,6 @@
-//! Supervisors in a node that is still, as the contract of a function that does nothing.
+//! Supervisors in a node that is still, and those that stopped, as the contracts of functions that do nothing.
 
-ghost use Rattle.std.specs.Prelude.{◌≡◌, ℕ, [], Option, Result};
+ghost use Rattle.std.specs.Prelude.{◌≡◌, ℕ, List, [], Option, Result};
 ghost use Rattle.pt_signal.specs.declared.pid.Pid.{Pid};
 ghost use Rattle.pt_signal.specs.declared.letter.Letter.{Letter};
 ghost use Rattle.pt_shard.specs.declared.fault.Fault.{Fault};
@@ -11,20 +11,22 @@ ghost use Rattle.pt_crew.specs.declared.behaviour.Next.{Next};
 ghost use Rattle.pt_crew.specs.declared.crew.Crew.{Crew};
 ghost use Rattle.pt_crew.specs.Visiting.{Roles};
 ghost use Rattle.pt_crew.specs.Waking.{IsAwake};
-ghost use Rattle.pt_crew.specs.Crews.{CrewDoes, Enters, Works, members, queue, roles, waiting};
-ghost use Rattle.pt_crew.specs.Upholding.{AllStand, Upholds};
+ghost use Rattle.pt_crew.specs.Crews.{CrewDoes, Enters, Works, left, members, queue, roles, waiting};
+ghost use Rattle.pt_crew.specs.declared.births.Role.{Role};
+ghost use Rattle.pt_crew.specs.Upholding.{AllStand, AllStill, Upholds};
 ghost use Rattle.pt_supervisor.specs.Hearing.{Standing};
 ghost use Rattle.pt_supervisor.specs.Keeping.{BeginsAs, IsIdle, Keeps, QuietChildrenLive, SuperviseAs};
+ghost use Rattle.pt_supervisor.specs.Stopping.{StoppedChildrenEnded};
 
 use pt_crew::Behaviour;
-use pt_laws::laws;
+use pt_laws::{laws, links};
 
 /// A behaviour some of whose values are supervisors, as a program's enum is that has a variant with a
 /// [`Supervisor`](crate::Supervisor) in it.
 ///
 /// `supervisor` says which are, and as what. `supervises` proves of what the behaviour may answer that such a one sees
 /// to each item as [`Supervisor::handle`](crate::Supervisor::handle) does, that everyone else acts for itself alone,
-/// and that a supervisor which is born proceeds first, with no child.
+/// and that a supervisor which is born proceeds first, with no child, and has started none.
 pub trait Supervised: Behaviour {
     ghost supervisor: { Self → Option Standing };
 
@@ -55,4 +57,23 @@ pub fn quiet_children_live<B: Supervised + Drop>()
 {
     laws::journals_tell_their_pids();
     laws::journals_have_one_merge();
+}
+
+/// Of a supervisor that stopped by itself none of those lives whom it ever started, unless it sent the supervisor an
+/// exit signal itself. It does nothing.
+///
+/// Whoever left in a step (`left`, and after a turn `left_work`) stands so still, and receipts keep it (`receipt`); then
+/// it is so of them in each node that is gathered (`ended`).
+pub fn stopped_children_ended<B: Supervised + Drop>()
+    ensures left { (old new : Crew B) (d e : ShardState) → CrewDoes B.answers old d new e
+        → Upholds (Keeps B.supervisor) old d → AllStill (Keeps B.supervisor) (left new) e }
+    ensures left_work { (old new : Crew B) (budget : ℕ) (d e : DeskState) (turned : Turned)
+        → Works B.answers budget old d turned new e → Upholds (Keeps B.supervisor) old d.shard
+        → AllStill (Keeps B.supervisor) (left new) e.shard }
+    ensures receipt { (roles : List (Role B)) (d : ShardState) (l : Letter) → AllStill (Keeps B.supervisor) roles d
+        → AllStill (Keeps B.supervisor) roles (handled l d) }
+    ensures ended { StoppedChildrenEnded B.supervisor }
+{
+    laws::merge_is_legal();
+    links::merge_known();
 }

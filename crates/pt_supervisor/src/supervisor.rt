@@ -39,6 +39,8 @@ pub struct Supervisor<S> {
     ending: usize,
     /// With what it is to end, once all its children have.
     stopping: Option<Reason>,
+    /// How many children it has started.
+    started: u64,
     ghost all: { ForSome stopping (λ r. ending ≡ 0) },
 }
 
@@ -68,6 +70,7 @@ impl<S> Supervisor<S> {
             parent: None,
             ending,
             stopping: None,
+            started: 0,
         }
     }
 
@@ -87,6 +90,7 @@ impl<S> Supervisor<S> {
             parent: _,
             ending,
             stopping,
+            started,
         } = self;
         Supervisor {
             start,
@@ -96,6 +100,7 @@ impl<S> Supervisor<S> {
             parent: Some(parent),
             ending,
             stopping,
+            started,
         }
     }
 
@@ -104,6 +109,13 @@ impl<S> Supervisor<S> {
         ensures { result.now ≡ (standing self.now).children }
     {
         self.children.as_slice()
+    }
+
+    /// How many children it has started, those that it started again counted each time; at most `u64::MAX`.
+    pub fn started(&self) -> u64
+        ensures { result ≡ (standing self.now).started }
+    {
+        self.started
     }
 
     /// All children are to end, from the last to the first, and then the supervisor with this reason. It sees to that
@@ -262,6 +274,7 @@ impl<S> Supervisor<S> {
             (record {
               start = self.old.start;
               children = (standing self.old).children;
+              started = (standing self.old).started;
               desk = desk.old.shard;
               born = born births.old;
             })
@@ -269,11 +282,14 @@ impl<S> Supervisor<S> {
             (record {
               start = self.new.start;
               children = (standing self.new).children;
+              started = (standing self.new).started;
               desk = desk.new.shard;
               born = born births.new;
             }) }
-        ensures rest { standing self.new
-            ≡ record (standing self.old) { children = (standing self.new).children } }
+        ensures rest { standing self.new ≡ record (standing self.old) {
+          children = (standing self.new).children;
+          started = (standing self.new).started;
+        } }
         ensures count { length (standing self.new).children ≡ length (standing self.old).children }
         ensures permanent { PermanentAreWanted (standing self.old).children
             → PermanentAreWanted (standing self.new).children }
@@ -306,6 +322,7 @@ impl<S> Supervisor<S> {
             (record {
               start = self.old.start;
               children = (standing self.old).children;
+              started = (standing self.old).started;
               desk = desk.old.shard;
               born = born births.old;
             })
@@ -313,11 +330,14 @@ impl<S> Supervisor<S> {
             (record {
               start = self.new.start;
               children = (standing self.new).children;
+              started = (standing self.new).started;
               desk = desk.new.shard;
               born = born births.new;
             }) }
-        ensures rest { standing self.new
-            ≡ record (standing self.old) { children = (standing self.new).children } }
+        ensures rest { standing self.new ≡ record (standing self.old) {
+          children = (standing self.new).children;
+          started = (standing self.new).started;
+        } }
         ensures at { SetsAt place result (standing self.old).children (standing self.new).children }
         ensures takes { takes desk.new.shard.journal ≡ takes desk.old.shard.journal }
         ensures kept { kept births.new ≡ kept births.old }
@@ -337,6 +357,7 @@ impl<S> Supervisor<S> {
             pid: Some(pid),
             ..child
         };
+        self.started = self.started.saturating_add(1);
         true
     }
 }

@@ -10,7 +10,7 @@ loop-place-preserved g c =
     let inv = c.loop-place.invariant in
     record {
       does = first_more g.S.Start.starts c.args.me c.loop-place.place _ _ _ inv.does c.if-not-start_at.ensures.does;
-      rest = c.start_at.ensures.rest ∙ ap (λ (s : Standing). record s { children = (standing c.start_at.new.self).children }) inv.rest;
+      rest = c.start_at.ensures.rest ∙ ap (λ (s : Standing). record s { children = (standing c.start_at.new.self).children; started = (standing c.start_at.new.self).started }) inv.rest;
       started = one_started c.loop-place.place true (standing c.loop-place.self).children (standing c.start_at.new.self).children refl c.if-not-start_at.ensures.at inv.started;
       permanent = λ k. c.start_at.ensures.at.permanent (inv.permanent k);
       count = c.start_at.ensures.at.count ∙ inv.count;
@@ -30,6 +30,7 @@ returns-then-not-start_at-clause-does g c = (
   record {
     start = c.loop-place.self.start;
     children = (standing c.loop-place.self).children;
+    started = (standing c.loop-place.self).started;
     desk = c.loop-place.desk.shard;
     born = born c.loop-place.births;
   },

@@ -12,15 +12,20 @@ invariant-loop-place g l = record {
   does : StartsFirst g.S.Start.starts l.me l.place (record {
     start = l.fn.self.start;
     children = (standing l.fn.self).children;
+    started = (standing l.fn.self).started;
     desk = l.fn.desk.shard;
     born = born l.fn.births;
   }) (record {
     start = l.self.start;
     children = (standing l.self).children;
+    started = (standing l.self).started;
     desk = l.desk.shard;
     born = born l.births;
   });
-  rest : standing l.self ≡ record (standing l.fn.self) { children = (standing l.self).children };
+  rest : standing l.self ≡ record (standing l.fn.self) {
+    children = (standing l.self).children;
+    started = (standing l.self).started;
+  };
   started : AreStarted (standing l.self).children l.place;
   permanent : PermanentAreWanted (standing l.fn.self).children → PermanentAreWanted (standing l.self).children;
   count : length (standing l.self).children ≡ length (standing l.fn.self).children;
