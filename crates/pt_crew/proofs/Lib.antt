@@ -11,3 +11,4 @@ pub mod Visiting
 pub mod Handing
 pub mod Admitting
 pub mod Upholding
+pub mod Runs

@@ -6,3 +6,4 @@ pub mod Crews
 pub mod Telling
 pub mod Upholding
 pub mod Parts
+pub mod Running

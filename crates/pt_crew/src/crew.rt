@@ -14,6 +14,8 @@ ghost use Rattle.pt_crew.specs.Crews.{members, queue, roles, scene, waiting};
 ghost use Rattle.pt_crew.specs.Parts.{Admits, AdmitsFirst, CanEnter, IsLonger, Serves, Tends, Wakes, WakesAt};
 ghost use Rattle.pt_crew.specs.Parts.{WakesBy};
 ghost use Rattle.pt_crew.specs.Parts.{is_marked, kept_as};
+ghost use Rattle.pt_crew.specs.Waking.{IsAwake};
+ghost use Rattle.pt_crew.specs.Running.{is_idle};
 
 use crate::behaviour::{Behaviour, Next};
 use crate::births::{Births, Role};
@@ -127,6 +129,16 @@ impl<B: Behaviour + Drop> Crew<B> {
             Some(member) => Some(member.next),
             None => None,
         }
+    }
+
+    /// Whether nobody stands in the queue, and all that happened on its desk was read. Then nobody of a crew that
+    /// attends the desk has anything to do.
+    pub fn is_idle(&self, desk: &Desk) -> bool
+        ensures idle { result ≡ is_idle self.now desk.now.shard }
+        ensures awake { result ≡ true → Attends self.now desk.now.shard
+            → (queue self.now ≡ []) × IsAwake (members self.now) (queue self.now) desk.now.shard }
+    {
+        self.queue.is_empty() && self.read == desk.journal().events().len()
     }
 
     /// How many were born and have not entered yet: none, unless the last step was refused memory.

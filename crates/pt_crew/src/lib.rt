@@ -9,10 +9,12 @@ mod births;
 mod calls;
 mod crew;
 mod hints;
+mod running;
 mod upholds;
 
 pub use behaviour::{Behaviour, Next};
 pub use births::{Births, Role, bear};
 pub use calls::{bid_exit, join, part, tell, trap, unwatch, watch};
 pub use crew::Crew;
+pub use running::{are_idle, runs_uphold};
 pub use upholds::{Upheld, crew_upholds};

@@ -9,3 +9,4 @@ pub mod Still
 pub mod Bearing
 pub mod Ended
 pub mod Stopping
+pub mod AllLive

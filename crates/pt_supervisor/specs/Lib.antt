@@ -5,3 +5,4 @@ pub mod Hearing
 pub mod Supervising
 pub mod Keeping
 pub mod Stopping
+pub mod Gathering

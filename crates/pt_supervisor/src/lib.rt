@@ -6,6 +6,7 @@
 #![tactic(auto)]
 
 mod children;
+mod gathering;
 mod laws;
 mod limit;
 mod restart;
@@ -13,6 +14,7 @@ mod supervised;
 mod supervisor;
 
 pub use children::{Child, Shutdown};
+pub use gathering::gathered_children_live;
 pub use laws::permanent_children_live;
 pub use limit::Limit;
 pub use restart::{Restart, Strategy};
