@@ -1,6 +1,6 @@
 -- What a supervisor does with an item, and what it does next.
-use Rattle.std.specs.Prelude.{◌≡◌, ℕ, zero, suc, ◌+◌, ◌-◌, ◌^◌, min, ◌<◌, cond, Bool, true, false, List, length, Option, Some, None}
-use Rattle.std.specs.Prelude.{MatchBool, Result, Ok, Err, is_ok, is_some, slice_get, slice_set}
+use Rattle.std.specs.Prelude.{◌≡◌, ℕ, zero, suc, ◌+◌, ◌-◌, ◌^◌, min, ◌<◌, cond, Bool, true, false, List, length}
+use Rattle.std.specs.Prelude.{Option, Some, None, MatchBool, Result, Ok, Err, is_ok, is_some, slice_get, slice_set}
 use Rattle.pt_signal.specs.declared.pid.Pid.{Pid}
 use Rattle.pt_signal.specs.declared.item.Item.{Item}
 use Rattle.pt_signal.specs.declared.item.Item.TheVariants.{Exit}

@@ -62,8 +62,8 @@ pub fn quiet_children_live<B: Supervised + Drop>()
 /// Of a supervisor that stopped by itself none of those lives whom it ever started, unless it sent the supervisor an
 /// exit signal itself. It does nothing.
 ///
-/// Whoever left in a step (`left`, and after a turn `left_work`) stands so still, and receipts keep it (`receipt`); then
-/// it is so of them in each node that is gathered (`ended`).
+/// Whoever left in a step (`left`, and after a turn `left_work`) stands so still, and receipts keep that (`receipt`);
+/// then it is so of them in each node that is gathered (`ended`).
 pub fn stopped_children_ended<B: Supervised + Drop>()
     ensures left { (old new : Crew B) (d e : ShardState) → CrewDoes B.answers old d new e
         → Upholds (Keeps B.supervisor) old d → AllStill (Keeps B.supervisor) (left new) e }
