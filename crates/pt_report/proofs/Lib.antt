@@ -1,4 +1,5 @@
 mod Accounts
+mod Attending
 mod Faults
 mod Passing
 mod Settings

@@ -1,5 +1,5 @@
 -- The epochs of a run: what each is, what goes on from it, and where its history goes.
-use Rattle.std.specs.Prelude.{◌≡◌, ℕ, zero, suc, ◌+◌, ◌<◌, List, [], ◌++◌, length, Option, reverse, ⊤}
+use Rattle.std.specs.Prelude.{◌≡◌, ◌⊎◌, ℕ, zero, suc, ◌+◌, ◌<◌, List, [], ◌++◌, length, Option, reverse, slice_index_or, ⊤}
 use Rattle.std.specs.Io.KnownBytes.{Appends}
 use Rattle.pt_events.specs.declared.event.Stamped.{Stamped}
 use Rattle.pt_events.specs.History.{IsLegal}
@@ -39,6 +39,13 @@ pub record RunsAs (options : Options) (budget : ℕ) (old new : List (DeskState 
 -- so were these, each with the runner at its place
 abbrev pub RunsOn : Options → ℕ → Staffed → Staffed → Type 0
 RunsOn options budget old new = RunsPaired (RunsAs options budget) old.0 old.1 new.0 new.1
+
+-- What an epoch begins with, so that no runner knows of its desk what is not so: none has read a journal yet, or all
+-- journals are empty.
+abbrev pub CanBegin : List DeskState → List Runner → Type 0
+CanBegin desks runners =
+    ((d : ℕ) (r : Runner) → d < length runners → (slice_index_or runners d r).read ≡ 0)
+    ⊎ ((d : ℕ) (x : DeskState) → d < length desks → (slice_index_or desks d x).shard.journal ≡ [])
 
 -- desks were gathered and settled, this is the history of all that, which is legal over what was before it, and the
 -- desks go on over what it leaves behind

@@ -4,7 +4,7 @@ ghost use Rattle.std.specs.Prelude.{◌≡◌, ◌≢◌, ◌⊎◌, ◌-◌, �
 ghost use Rattle.std.specs.Io.KnownBytes.{Appends};
 ghost use Rattle.pt_events.specs.declared.event.Stamped.{Stamped};
 ghost use Rattle.pt_report.specs.Epochs as spec;
-ghost use Rattle.pt_report.specs.Epochs.{EndsEpoch, HasWritten, IsOfEnd, IsOfEpoch, IsOfEpochs, PassEpochs};
+ghost use Rattle.pt_report.specs.Epochs.{CanBegin, EndsEpoch, HasWritten, IsOfEnd, IsOfEpoch, IsOfEpochs, PassEpochs};
 ghost use Rattle.pt_report.specs.Epochs.{PassesEpoch};
 ghost use Rattle.pt_report.specs.Lines.{lines};
 ghost use Rattle.pt_report.specs.Status.{IsOfPrint};
@@ -34,7 +34,8 @@ pub(crate) fn pass_epochs<R: Threads + Sync, W: Write>(
     kept: &mut Vec<Stamped>,
     out: &mut W,
 ) -> Result<Node, ReportFault>
-    requires { kept.old.items ≡ [] }
+    requires begins { CanBegin node runners.old.items }
+    requires empty { kept.old.items ≡ [] }
     ensures passed { IfOk result (λ next. (histories : List Stamped)
         × PassEpochs options.now budget (options.now.epochs - 1) (node, runners.old.items) histories
         (next, runners.new.items)
@@ -64,6 +65,7 @@ fn next_epoch<R: Threads + Sync, W: Write>(
     kept: &mut Vec<Stamped>,
     out: &mut W,
 ) -> Result<Node, ReportFault>
+    requires { CanBegin node runners.old.items }
     ensures passed { IfOk result (λ next. (history : List Stamped)
         × PassesEpoch options.now budget (node, runners.old.items) history (next, runners.new.items)
         × ((histories : List Stamped) (first : W)
@@ -87,6 +89,7 @@ fn pass_epoch<R: Threads + Sync>(
     node: Node,
     runners: &mut Vec<Runner<'_>>,
 ) -> Result<(Node, Vec<Stamped>), ReportFault>
+    requires { CanBegin node runners.old.items }
     ensures passes { IfOk result
         (λ r. PassesEpoch options.now budget (node, runners.old.items) r.1.items (r.0, runners.new.items)) }
     ensures fault { IfErr result (IsOfEpoch options.now budget (node, runners.old.items)) }

@@ -3,7 +3,7 @@
 ghost use Rattle.std.specs.Prelude.{◌≡◌, ◌≢◌, ◌⊎◌, ◌-◌, [], List, OnOk, IfOk, IfErr};
 ghost use Rattle.pt_events.specs.declared.event.Stamped.{Stamped};
 ghost use Rattle.pt_report.specs.Epochs as spec;
-ghost use Rattle.pt_report.specs.Epochs.{HasWritten, RunsOn, Staffed};
+ghost use Rattle.pt_report.specs.Epochs.{CanBegin, HasWritten, RunsOn, Staffed};
 ghost use Rattle.pt_report.specs.Reports.{IsBegun, IsOfRun, IsRun};
 ghost use Rattle.pt_report.specs.declared.fault.ReportFault.TheVariants.{File, Memory};
 
@@ -96,6 +96,7 @@ pub(crate) fn run_once<R: Threads + Sync>(
     node: &mut Node,
     runners: &mut Vec<Runner<'_>>,
 ) -> Result<(), ReportFault>
+    requires { CanBegin node.old runners.old.items }
     ensures runs { OnOk result (RunsOn options.now budget (node.old, runners.old.items) (node.new, runners.new.items)) }
     ensures fault { IfErr result (λ f. f ≡ Memory) }
 {

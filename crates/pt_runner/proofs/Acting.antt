@@ -54,6 +54,12 @@ pub take_at : (at : Option Pick) (k : Pick) (p : Pid) (without : Progress) (old 
 take_at at k p without old new answer progress is calls came =
     subst (λ (o : Option Pick). Takes o p without old progress new) (sym is) (answer, calls, came)
 
+-- a receive that may find nothing is done whatever it finds
+pub checked_came : (answer : Result (Option Item) Fault) → came_of answer ≡ taken_of Done answer
+checked_came (Ok None) = refl
+checked_came (Ok (Some item)) = refl
+checked_came (Err fault) = refl
+
 pub demonitor_passed : (at : Option Ref) (p : Pid) (flush : Bool) (old : ShardState) → at ≡ None → Demonitors at p flush old Done old
 demonitor_passed at p flush old is = subst (λ (o : Option Ref). Demonitors o p flush old Done old) (sym is) (refl, refl)
 

@@ -218,9 +218,10 @@ module _ (w : Whole) (born : List Pid) (d i : ℕ) (t : Top) (p : Pid) (actors :
 
 -- the runner that has all that were listed
 pub runner_made : (w : Whole) (born : List Pid) (d i : ℕ) (actors : List Actor) (pids : List (Option Pid)) (r : Runner) → length born ≤ i → Listed w born d i actors → pids ≡ numbered w born
-    → r.script.now ≡ w → table r ≡ record { plans = w.processes; pids = pids; actors = map acting actors } → IsRunnerOf w born d r
-runner_made w born d i actors pids r all listed numbers script made = record {
+    → r.script.now ≡ w → r.read ≡ 0 → table r ≡ record { plans = w.processes; pids = pids; actors = map acting actors } → IsRunnerOf w born d r
+runner_made w born d i actors pids r all listed numbers script unread made = record {
   script = script;
+  unread = unread;
   table =
       made ∙ ap (λ (ps : List (Option Pid)). record { plans = w.processes; pids = ps; actors = map acting actors }) numbers
       ∙ ap (λ (xs : List Acting). record { plans = w.processes; pids = numbered w born; actors = xs }) (listed ∙ ap (starters w.processes d) (named_all w born i all));

@@ -1,3 +1,4 @@
 pub mod Acting
 pub mod Starting
 pub mod Stepping
+pub mod Waiting

@@ -60,6 +60,8 @@ pub record IsRunnerOf (w : Whole) (born : List Pid) (d : ℕ) (r : Runner) : Typ
     pids = numbered w born;
     actors = starters w.processes d (named w born);
   }
+  -- it has read nothing of its desk's journal
+  pub unread : r.read ≡ 0
 
 -- one runner a desk, in their order
 pub record AreRunners (w : Whole) (born : List Pid) (desks : ℕ) (runners : List Runner) : Type 0 where

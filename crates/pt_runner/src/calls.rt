@@ -10,10 +10,12 @@ ghost use Rattle.pt_desk.specs.Reaching.{has_link_to_make};
 ghost use Rattle.pt_shard.specs.Calls.{link_event, unlink_event};
 ghost use Rattle.pt_shard.specs.Known.{knows};
 ghost use Rattle.pt_script.specs.declared.values.Operation.{Operation};
+ghost use Rattle.pt_script.specs.declared.values.Pattern.{Pattern};
+ghost use Rattle.pt_runner.specs.declared.calls.Progress.{Progress};
 ghost use Rattle.pt_runner.specs.Acting as spec;
 ghost use Rattle.pt_runner.specs.Acting.{Performs, came_of};
 
-use pt_node::{Body, Desk, Fault, Item, Pick, Pid, Reason, Ref};
+use pt_node::{Body, Desk, Fault, Pick, Pid, Reason, Ref};
 use pt_script::{Operation, Pattern};
 
 /// What came of an operation.
@@ -82,7 +84,11 @@ fn reference_of(references: &References, tag: u32) -> Option<Ref>
 }
 
 /// What a receive takes.
-fn pick_of(pids: &[Option<Pid>], references: &References, pattern: Pattern) -> Option<Pick>
+pub(crate) fn pick_of(
+    pids: &[Option<Pid>],
+    references: &References,
+    pattern: Pattern,
+) -> Option<Pick>
     ensures { result ≡ spec.pick_of pids.now references.now.items pattern }
 {
     match pattern {
@@ -95,7 +101,7 @@ fn pick_of(pids: &[Option<Pid>], references: &References, pattern: Pattern) -> O
     }
 }
 
-/// Does an operation of p that spawns nothing.
+/// Does an operation of p that spawns nothing and is no receive.
 pub(crate) fn call(
     desk: &mut Desk,
     pids: &[Option<Pid>],
@@ -103,7 +109,8 @@ pub(crate) fn call(
     p: Pid,
     operation: Operation,
 ) -> Progress
-    requires plain { (process : ℕ) (linked : Bool) → operation ≢ Operation.Spawn process linked }
+    requires spawns { (process : ℕ) (linked : Bool) → operation ≢ Operation.Spawn process linked }
+    requires takes { (pattern : Pattern) → operation ≢ Operation.Receive pattern }
     ensures performs { Performs pids.now p operation desk.old.shard references.old.items result desk.new.shard
         references.new.items }
     ensures ends { HasSameEnds desk.old desk.new }
@@ -111,8 +118,7 @@ pub(crate) fn call(
 {
     match operation {
         Operation::Send { to, kind, num, who } => send(desk, pids, p, to, kind, num, who),
-        Operation::Receive(pattern) => receive(desk, pids, references, p, pattern, Progress::Stays),
-        Operation::Check(pattern) => receive(desk, pids, references, p, pattern, Progress::Done),
+        Operation::Check(pattern) => check(desk, pids, references, p, pattern),
         Operation::Link(to) => link(desk, pids, p, to),
         Operation::Unlink(to) => unlink(desk, pids, p, to),
         Operation::Monitor { to, tag: _ } => monitor(desk, pids, references, p, to),
@@ -122,6 +128,7 @@ pub(crate) fn call(
         Operation::Exit(reason) => progress_of(desk.exit(p, reason)),
         Operation::Signal { to, reason } => exit_signal(desk, pids, p, to, reason),
         Operation::Pass => Progress::Done,
+        Operation::Receive(_) => unreachable!(),
         Operation::Spawn {
             process: _,
             linked: _,
@@ -149,35 +156,23 @@ fn send(
     progress_of(desk.send(p, to, Body { kind, num, who }))
 }
 
-/// What comes of a receive; where no item fits that is `without`.
-fn taken_of(answer: Result<Option<Item>, Fault>, without: Progress) -> Progress
-    ensures { result ≡ spec.taken_of without answer }
-{
-    match answer {
-        Ok(None) => without,
-        Ok(Some(_)) => Progress::Done,
-        Err(_) => progress_of(answer),
-    }
-}
-
-/// Takes an item that fits; with none, what comes of it is `without`.
-fn receive(
+/// Takes an item that fits, if there is one.
+fn check(
     desk: &mut Desk,
     pids: &[Option<Pid>],
     references: &References,
     p: Pid,
     pattern: Pattern,
-    without: Progress,
 ) -> Progress
-    ensures does { spec.Takes
-        (spec.pick_of pids.now references.now.items pattern) p without desk.old.shard result desk.new.shard }
+    ensures does { spec.Takes (spec.pick_of pids.now references.now.items pattern) p Progress.Done desk.old.shard result
+        desk.new.shard }
     ensures ends { HasSameEnds desk.old desk.new }
     ensures goes_on { GoesOn desk.old desk.new }
 {
     let Some(pick) = pick_of(pids, references, pattern) else {
         return Progress::Done;
     };
-    taken_of(desk.receive(p, pick), without)
+    progress_of(desk.receive(p, pick))
 }
 
 fn link(desk: &mut Desk, pids: &[Option<Pid>], p: Pid, to: u32) -> Progress

@@ -11,8 +11,9 @@
 //!
 //! A [`Runner`] is the [`Work`](pt_node::Work) of one desk. In a step each process of the script that lives there does
 //! at most one operation, in order of birth; one that is born in a step starts in the next. A `receive` without an item
-//! that fits is tried again in the next step, and so is an operation that is refused for memory or at the clock's
-//! limit. An operation that is refused as `Full` or as `Myself` ends its process in the same step, with the reason
+//! that fits is its operation in the next step too, and so is an operation that is refused for memory or at the clock's
+//! limit. Such a `receive` is passed over until a signal has come to its process, which makes no difference but in
+//! time: the runner reads in the desk's journal to whom one came. An operation that is refused as `Full` or as `Myself` ends its process in the same step, with the reason
 //! `other:` and the refusal's number. `"trap":true` is an operation of its own before the others, and a process whose
 //! operations are used up exits with `normal` as its last one.
 //!
@@ -23,10 +24,15 @@
 //! without a pid, a pid that the desk does not know, or a tag without a reference comes on the desks of another node
 //! alone: such an operation is passed over. [`Runner::place`] tells where a process is in its list.
 //!
+//! A runner works with the desk that it was made for, and with the one of that number in a node that was resumed,
+//! where its next step comes before anything else happens there: then the journal is empty, or shorter than what it
+//! read, and it forgets what it knew.
+//!
 //! # Cost
 //!
-//! A step costs the operations that it does, a look at each process of the script that lives on the desk, and one at
-//! each that ended since the step before.
+//! A step costs the operations that it does, the events that are new in the journal, and a look at a flag for each
+//! process of the script that waits. A birth under a number that has a pid already, and the first step over a resumed
+//! node, have each that waits try its receive again. A runner has eight bytes for each slot of its desk.
 #![tactic(auto)]
 
 mod calls;

@@ -1,20 +1,25 @@
 //! The work of a script on one desk.
 
-ghost use Rattle.std.specs.Prelude.{◌≡◌, ◌≢◌, ℕ, Bool, false, ◌<◌, ◌≤◌, ◌+◌, Some, Ok, slice_set, map, vec_len};
-ghost use Rattle.std.specs.Prelude.{vec_capacity};
+ghost use Rattle.std.specs.Prelude.{◌≡◌, ◌≢◌, ◌⊎◌, ℕ, Bool, false, ◌<◌, ◌≤◌, ◌+◌, ◌++◌, ◌∷◌, ◌||◌, [], List, None, Some, Ok};
+ghost use Rattle.std.specs.Prelude.{map, slice_index_or, slice_set, vec_capacity, vec_len};
 ghost use Rattle.std.specs.List.{All, find};
 ghost use Rattle.std.specs.Option.{option_map};
 ghost use Rattle.pt_signal.specs.Values.{same_pid};
-ghost use Rattle.pt_shard.specs.ShardState.{lives};
+ghost use Rattle.pt_shard.specs.ShardState.{ShardState, lives};
 ghost use Rattle.pt_desk.specs.DeskState.{GoesOn, HasSameEnds};
+ghost use Rattle.pt_script.specs.Plans.{Plan};
 ghost use Rattle.pt_script.specs.declared.values.Operation.{Operation};
+ghost use Rattle.pt_script.specs.declared.values.Pattern.{Pattern};
+ghost use Rattle.pt_runner.specs.declared.runner.Actor.{Actor};
 ghost use Rattle.pt_runner.specs.Acting.{Plays, GoesBehind, ActsAt, RunnerDoes, acting, table, newborn, next_of};
 ghost use Rattle.pt_runner.specs.Acting.{advanced, living, place_of, with_child, SpawnsAt};
 ghost use Rattle.pt_runner.specs.Stepping.{Steps, processes_of};
+ghost use Rattle.pt_runner.specs.Waiting.{Attends, HasSameRest, IsAbreast, IsTrueOf, IsUnmarked, Knows, RunnerSteps};
+ghost use Rattle.pt_runner.specs.Waiting.{marked, sleeps};
 
-use crate::calls::{Progress, References, call, progress_of};
-use pt_node::{Desk, Fault, Pid, Reason, Work};
-use pt_script::{Operation, Script};
+use crate::calls::{Progress, References, call, pick_of, progress_of};
+use pt_node::{Desk, Event, Fault, Pid, Reason, Work};
+use pt_script::{Operation, Pattern, Script};
 use std::alloc::Global;
 
 /// A process of the script that was born on the desk.
@@ -28,12 +33,15 @@ pub(crate) struct Actor {
     /// How many operations of its list are behind it.
     done: usize,
     references: References,
+    /// Where its last operation was a receive that found nothing, how many events the journal had then.
+    waits: Option<usize>,
 }
 
 impl Actor {
     /// A process that was born just now.
     pub(crate) fn new(alloc: Global, script: &Script, pid: Pid, process: u32) -> Actor
-        ensures { acting result ≡ newborn script.now.processes process pid }
+        ensures acting { acting result ≡ newborn script.now.processes process pid }
+        ensures waits { result.waits ≡ None }
     {
         let begins = match script.processes().get(process as usize) {
             Some(plan) => plan.traps(),
@@ -45,7 +53,28 @@ impl Actor {
             begins,
             done: 0,
             references: Vec::new(alloc),
+            waits: None,
         }
+    }
+
+    /// Whether it waits, and nothing has come to it since.
+    fn sleeps(&self, came: &[usize]) -> bool
+        ensures { result ≡ sleeps came.now self.now }
+    {
+        let Some(since) = self.waits else {
+            return false;
+        };
+        match came.get(self.pid.slot as usize) {
+            Some(last) => *last <= since,
+            None => false,
+        }
+    }
+
+    /// Whether it has not ended: one that sleeps has not, so the desk is not asked.
+    fn remains(&self, came: &[usize], desk: &Desk) -> bool
+        ensures { result ≡ (sleeps came.now self.now || lives desk.now.shard self.now.pid) }
+    {
+        self.sleeps(came) || desk.alive_here(self.pid)
     }
 
     /// Its next operation; behind the last one that is its exit.
@@ -66,7 +95,8 @@ impl Actor {
 
     /// Its next operation is behind it.
     fn advance(&mut self)
-        ensures { acting self.new ≡ advanced (acting self.old) }
+        ensures acting { acting self.new ≡ advanced (acting self.old) }
+        ensures waits { self.new.waits ≡ self.old.waits }
     {
         if self.begins {
             self.begins = false;
@@ -75,10 +105,32 @@ impl Actor {
         }
     }
 
-    /// Does an operation that spawns nothing.
+    /// Does a receive: with no item that fits it waits.
+    fn receive(&mut self, pids: &[Option<Pid>], pattern: Pattern, desk: &mut Desk)
+        ensures plays { Plays pids.now (Operation.Receive pattern) (acting self.old) desk.old.shard (acting self.new)
+            desk.new.shard }
+        ensures waits { (plans : List Plan) → next_of plans (acting self.old) ≡ Operation.Receive pattern
+            → IsTrueOf plans pids.now desk.new.shard self.new }
+        ensures ends { HasSameEnds desk.old desk.new }
+        ensures goes_on { GoesOn desk.old desk.new }
+    {
+        let Some(pick) = pick_of(pids, &self.references, pattern) else {
+            self.conclude(Progress::Done, desk);
+            return;
+        };
+        match desk.receive(self.pid, pick) {
+            Ok(None) => self.waits = Some(desk.journal().events().len()),
+            Ok(Some(_)) => self.conclude(Progress::Done, desk),
+            Err(fault) => self.conclude(progress_of::<()>(Err(fault)), desk),
+        }
+    }
+
+    /// Does an operation that spawns nothing and is no receive.
     fn perform(&mut self, pids: &[Option<Pid>], operation: Operation, desk: &mut Desk)
-        requires plain { (process : ℕ) (linked : Bool) → operation ≢ Operation.Spawn process linked }
+        requires spawns { (process : ℕ) (linked : Bool) → operation ≢ Operation.Spawn process linked }
+        requires takes { (pattern : Pattern) → operation ≢ Operation.Receive pattern }
         ensures plays { Plays pids.now operation (acting self.old) desk.old.shard (acting self.new) desk.new.shard }
+        ensures waits { self.new.waits ≡ None }
         ensures ends { HasSameEnds desk.old desk.new }
         ensures goes_on { GoesOn desk.old desk.new }
     {
@@ -89,9 +141,11 @@ impl Actor {
     /// Goes on behind an operation, or ends by its refusal.
     fn conclude(&mut self, progress: Progress, desk: &mut Desk)
         ensures behind { GoesBehind progress (acting self.old) desk.old.shard (acting self.new) desk.new.shard }
+        ensures waits { self.new.waits ≡ None }
         ensures ends { HasSameEnds desk.old desk.new }
         ensures goes_on { GoesOn desk.old desk.new }
     {
+        self.waits = None;
         match progress {
             Progress::Done => self.advance(),
             Progress::Stays => {}
@@ -131,6 +185,11 @@ pub struct Runner<'a> {
     /// The processes of the script that were born on the desk, in order of birth. One that has ended is taken out when
     /// the next step begins.
     actors: Vec<Actor>,
+    /// How many events of the desk's journal were read.
+    read: usize,
+    /// For each slot of the desk the place behind the last event that was read by which a signal came to a process of
+    /// that slot, or such a process left.
+    came: Vec<usize>,
 }
 
 impl<'a> Runner<'a> {
@@ -139,8 +198,10 @@ impl<'a> Runner<'a> {
         script: &'a Script,
         pids: Vec<Option<Pid>>,
         actors: Vec<Actor>,
+        came: Vec<usize>,
     ) -> Runner<'a>
         ensures script { result.script.now ≡ script.now }
+        ensures unread { result.read ≡ 0 }
         ensures table { table result ≡ record {
           plans = script.now.processes;
           pids = pids.items;
@@ -152,6 +213,8 @@ impl<'a> Runner<'a> {
             script,
             pids,
             actors,
+            read: 0,
+            came,
         }
     }
 
@@ -179,26 +242,89 @@ impl<'a> Runner<'a> {
         None
     }
 
+    /// Lets every process that waits try its receive again.
+    fn wake_all(&mut self)
+        ensures table { table self.new ≡ table self.old }
+        ensures unmarked { All IsUnmarked self.new.actors.items }
+        ensures len { vec_len self.new.actors ≡ vec_len self.old.actors }
+        ensures room { vec_capacity self.new.actors ≡ vec_capacity self.old.actors }
+        ensures rest { HasSameRest self.old self.new }
+    {
+        for index in 0..self.actors.len() {
+            self.actors[index].waits = None;
+        }
+    }
+
+    /// Forgets what it read where the desk has a new journal, as over a node that was resumed, or none was read.
+    fn begin(&mut self, desk: &Desk)
+        ensures table { table self.new ≡ table self.old }
+        ensures knows { Attends self.old desk.now.shard → Knows self.new desk.now.shard }
+    {
+        let events = desk.journal().events().len();
+        if 0 < self.read && self.read <= events {
+            return;
+        }
+        self.wake_all();
+        self.came.as_mut_slice().fill(0);
+        self.read = 0;
+    }
+
+    /// Reads what is new in the desk's journal.
+    fn look(&mut self, desk: &Desk)
+        ensures knows { Knows self.old desk.now.shard → IsAbreast self.new desk.now.shard }
+        ensures table { table self.new ≡ table self.old }
+        ensures len { vec_len self.new.actors ≡ vec_len self.old.actors }
+    {
+        let events = desk.journal().events();
+        while self.read < events.len() {
+            let place = self.read + 1;
+            note(&mut self.came, events[self.read].event, place);
+            self.read = place;
+        }
+    }
+
     /// Takes out the processes that have ended.
     fn bury(&mut self, desk: &Desk)
-        ensures { table self.new ≡ living desk.now.shard (table self.old) }
+        ensures table { IsAbreast self.old desk.now.shard → table self.new ≡ living desk.now.shard (table self.old) }
+        ensures abreast { IsAbreast self.old desk.now.shard → IsAbreast self.new desk.now.shard }
     {
-        self.actors.retain(|actor| desk.alive_here(actor.pid));
+        let came = self.came.as_slice();
+        self.actors.retain(|actor| actor.remains(came, desk));
+    }
+
+    /// Does the next operation of the process at this index, unless it is a receive that nothing came to.
+    fn act(&mut self, index: usize, desk: &mut Desk)
+        requires { index < vec_len self.old.actors }
+        ensures acts { IsAbreast self.old desk.old.shard
+            → ActsAt index (table self.old) desk.old.shard (table self.new) desk.new.shard }
+        ensures abreast { IsAbreast self.old desk.old.shard → IsAbreast self.new desk.new.shard }
+        ensures len { vec_len self.old.actors ≤ vec_len self.new.actors }
+        ensures ends { HasSameEnds desk.old desk.new }
+        ensures goes_on { GoesOn desk.old desk.new }
+    {
+        if self.actors[index].sleeps(self.came.as_slice()) {
+            return;
+        }
+        self.do_next(index, desk);
+        self.look(desk);
     }
 
     /// Does the next operation of the process at this index.
-    fn act(&mut self, index: usize, desk: &mut Desk)
+    fn do_next(&mut self, index: usize, desk: &mut Desk)
         requires { index < vec_len self.old.actors }
         ensures acts { ActsAt index (table self.old) desk.old.shard (table self.new) desk.new.shard }
+        ensures knows { Knows self.old desk.old.shard → Knows self.new desk.new.shard }
         ensures len { vec_len self.old.actors ≤ vec_len self.new.actors }
         ensures ends { HasSameEnds desk.old desk.new }
         ensures goes_on { GoesOn desk.old desk.new }
     {
         let operation = self.actors[index].next(self.script);
-        if let Operation::Spawn { process, linked } = operation {
-            self.spawn(index, process, linked, desk);
-        } else {
-            self.actors[index].perform(self.pids.as_slice(), operation, desk);
+        match operation {
+            Operation::Spawn { process, linked } => self.spawn(index, process, linked, desk),
+            Operation::Receive(pattern) => {
+                self.actors[index].receive(self.pids.as_slice(), pattern, desk);
+            }
+            _ => self.actors[index].perform(self.pids.as_slice(), operation, desk),
         }
     }
 
@@ -206,6 +332,7 @@ impl<'a> Runner<'a> {
     fn spawn(&mut self, index: usize, process: u32, linked: bool, desk: &mut Desk)
         requires { index < vec_len self.old.actors }
         ensures spawns { SpawnsAt process linked index (table self.old) desk.old.shard (table self.new) desk.new.shard }
+        ensures knows { Knows self.old desk.old.shard → Knows self.new desk.new.shard }
         ensures len { vec_len self.old.actors ≤ vec_len self.new.actors }
         ensures ends { HasSameEnds desk.old desk.new }
         ensures goes_on { GoesOn desk.old desk.new }
@@ -223,11 +350,29 @@ impl<'a> Runner<'a> {
     fn enter(&mut self, process: u32, answer: Result<Pid, Fault>)
         requires { vec_len self.old.actors < vec_capacity self.old.actors }
         ensures table { table self.new ≡ with_child process answer (table self.old) }
+        ensures knows { (d : ShardState) → Knows self.old d → Knows self.new d }
         ensures len { vec_len self.old.actors ≤ vec_len self.new.actors }
     {
         match answer {
-            Ok(child) => self.list(process, child),
+            Ok(child) => {
+                self.free(process);
+                self.list(process, child);
+            }
             Err(_refused) => {}
+        }
+    }
+
+    /// Lets every process that waits try its receive again, where this number has a pid already: a receive may name it.
+    fn free(&mut self, process: u32)
+        ensures table { table self.new ≡ table self.old }
+        ensures free { (slice_index_or self.old.pids.items process None ≡ None) × (self.new ≡ self.old)
+            ⊎ All IsUnmarked self.new.actors.items }
+        ensures len { vec_len self.new.actors ≡ vec_len self.old.actors }
+        ensures room { vec_capacity self.new.actors ≡ vec_capacity self.old.actors }
+        ensures rest { HasSameRest self.old self.new }
+    {
+        if let Some(Some(_)) = self.pids.get(process as usize) {
+            self.wake_all();
         }
     }
 
@@ -236,6 +381,9 @@ impl<'a> Runner<'a> {
         requires { vec_len self.old.actors < vec_capacity self.old.actors }
         ensures table { table self.new ≡ with_child process (Ok child) (table self.old) }
         ensures len { vec_len self.new.actors ≡ vec_len self.old.actors + 1 }
+        ensures actors { (a : Actor) × (a.waits ≡ None)
+            × (self.new.actors.items ≡ self.old.actors.items ++ a ∷ []) }
+        ensures rest { HasSameRest self.old self.new }
     {
         let actor = Actor::new(self.alloc, self.script, child, process);
         self.actors.push_reserved(actor);
@@ -243,18 +391,43 @@ impl<'a> Runner<'a> {
     }
 }
 
-impl Work for Runner<'_> {
-    ghost use Rattle.pt_runner.specs.Acting.{RunnerDoes};
+/// Notes the place behind an event at the slot of the process to which a signal came by it, or which left.
+fn note(came: &mut Vec<usize>, event: Event, place: usize)
+    ensures { came.new.items ≡ marked event place came.old.items }
+{
+    match event {
+        Event::Came(_, to, _) => mark(came, to, place),
+        Event::Left(pid, _) => mark(came, pid, place),
+        _ => {}
+    }
+}
 
-    ghost does = { λ r old s new. RunnerDoes r old s new };
+fn mark(came: &mut Vec<usize>, pid: Pid, place: usize)
+    ensures { came.new.items ≡ slice_set came.old.items pid.slot place }
+{
+    let slot = pid.slot as usize;
+    if slot < came.len() {
+        came[slot] = place;
+    }
+}
+
+impl Work for Runner<'_> {
+    ghost use Rattle.pt_runner.specs.Waiting.{RunnerSteps};
+
+    ghost does = { λ r old s new. RunnerSteps r old s new };
 
     fn step(&mut self, desk: &mut Desk)
-        ensures does { RunnerDoes self.old desk.old self.new desk.new }
-        ensures steps { Steps (processes_of self.old) desk.old.shard (processes_of self.new) desk.new.shard }
-        ensures idle { All (λ p. lives desk.old.shard p ≡ false) (processes_of self.old)
+        ensures does { RunnerSteps self.old desk.old self.new desk.new }
+        ensures steps { Attends self.old desk.old.shard
+            → Steps (processes_of self.old) desk.old.shard (processes_of self.new) desk.new.shard }
+        ensures idle { Attends self.old desk.old.shard
+            → All (λ p. lives desk.old.shard p ≡ false) (processes_of self.old)
             → desk.new.shard ≡ desk.old.shard }
+        ensures ends { HasSameEnds desk.old desk.new }
         ensures goes_on { GoesOn desk.old desk.new }
     {
+        self.begin(desk);
+        self.look(desk);
         self.bury(desk);
         for index in 0..self.actors.len() {
             self.act(index, desk);

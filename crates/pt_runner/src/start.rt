@@ -119,5 +119,6 @@ fn runner_of<'a>(
             actors.push(Actor::new(alloc, script, *pid, tops[index].process))?;
         }
     }
-    Ok(Runner::new(alloc, script, Vec::from_slice(alloc, pids)?, actors))
+    let came = vec![in alloc; 0; script.config().slots as usize]?;
+    Ok(Runner::new(alloc, script, Vec::from_slice(alloc, pids)?, actors, came))
 }

@@ -2,10 +2,16 @@ use Rattle.std.proofs.Common.{◌≡◌, ◌≢◌, ◌⊎◌, ℕ, suc, ◌+◌
 use Rattle.pt_report.specs.Epochs.{HasWritten, PassEpochs, IsOfEpochs, Staffed}
 use Rattle.pt_report.specs.declared.fault.ReportFault.TheVariants.{File}
 use Rattle.pt_report.proofs.Passing.{at_first, of_epoch, of_put, written}
+use Rattle.pt_report.proofs.Attending.{epoch_begins}
 use Rattle.pt_report.proofs.epochs.pass_epochs.Goals as goal
 
+pub next_epoch-requires-after_bounds : goal.next_epoch-requires-after_bounds
+next_epoch-requires-after_bounds g c κs within =
+    let so = c.loop-epoch.invariant.0 in
+    epoch_begins c.args.options.now c.args.budget c.loop-epoch._epoch (c.args.node, c.args.runners.now.items) so.0 (c.loop-epoch.node, c.loop-epoch.runners.items) c.requires.begins so.1
+
 pub loop-epoch-init : goal.loop-epoch-init
-loop-epoch-init g c = (([], (refl, refl), at_first g.W.Write.contents c.args.options.now.print c.args.out.now c.args.kept.now.items c.requires), λ e. refl)
+loop-epoch-init g c = (([], (refl, refl), at_first g.W.Write.contents c.args.options.now.print c.args.out.now c.args.kept.now.items c.requires.empty), λ e. refl)
 
 pub loop-epoch-preserved : goal.loop-epoch-preserved
 loop-epoch-preserved g c =

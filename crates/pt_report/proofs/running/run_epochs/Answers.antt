@@ -2,7 +2,16 @@ use Rattle.std.proofs.Common.{◌≡◌, ◌-◌, Err, subst, inl, inr, rules}
 use Rattle.pt_report.specs.Epochs.{HasWritten, IsOfEpochs, PassEpochs, RunsOn, Staffed}
 use Rattle.pt_report.specs.Reports.{IsOfRun}
 use Rattle.pt_report.proofs.Passing.{node_of, run_of_epochs}
+use Rattle.pt_report.proofs.Attending.{begun_begins, epoch_begins}
 use Rattle.pt_report.proofs.running.run_epochs.Goals as goal
+
+pub run_once-requires-after_bounds : goal.run_once-requires-after_bounds
+run_once-requires-after_bounds g c κs within =
+    let options = c.args.options.now in
+    let first : Staffed = (c.args.node, c.args.runners.items) in
+    let last : Staffed = (c.in_ok-node.node, c.pass_epochs.new.runners.items) in
+    let so = c.in_ok-node.ensures.passed in
+    epoch_begins options _ (options.epochs - 1) first so.0 last (begun_begins c.args.script.now first c.requires.begun) so.1
 
 pub returns-in_err-node-clause-fault : goal.returns-in_err-node-clause-fault
 returns-in_err-node-clause-fault g c =

@@ -1,13 +1,38 @@
 use Rattle.std.proofs.Common.{◌≡◌, sym, ◌∙◌}
 use Rattle.pt_choices.specs.declared.Mode.TheVariants.{Single, Many}
+use Rattle.pt_node.specs.Running.{always}
+use Rattle.pt_report.proofs.Attending.{all_do, attended, in_rounds}
 use Rattle.pt_report.proofs.running.run_once.Goals as goal
 
 pub returns-in_ok-run_single-in-Single-clause-runs : goal.returns-in_ok-run_single-in-Single-clause-runs
 returns-in_ok-run_single-in-Single-clause-runs g c =
     let p = c.in_ok-run_single-in-Single.ensures in
-    record { before = p.before; after = p.after; begun = p.begun; ended = p.ended; each = p.each; runs = record { turns = p.runs.0; rounds = λ single. p.runs.1 } }
+    let at = attended c.args.node.now c.args.runners.now.items p.before c.requires p.begun in
+    let turns = c.args.options.now.turns in
+    record {
+      before = p.before;
+      after = p.after;
+      begun = p.begun;
+      ended = p.ended;
+      each = p.each;
+      runs = record {
+        turns = all_do (λ desk _. always desk) turns c.args.budget p.before p.after at p.runs.0;
+        rounds = λ single. in_rounds (λ desk _. always desk) turns c.args.budget p.before p.after at p.runs.1;
+      };
+    }
 
 pub returns-in_ok-run-in-Many-clause-runs : goal.returns-in_ok-run-in-Many-clause-runs
 returns-in_ok-run-in-Many-clause-runs g c =
     let p = c.in_ok-run-in-Many.ensures in
-    record { before = p.before; after = p.after; begun = p.begun; ended = p.ended; each = p.each; runs = record { turns = p.runs; rounds = λ single. absurd (let e : Many ≡ Single = sym c.in-Many.is ∙ single in cc) } }
+    let at = attended c.args.node.now c.args.runners.now.items p.before c.requires p.begun in
+    record {
+      before = p.before;
+      after = p.after;
+      begun = p.begun;
+      ended = p.ended;
+      each = p.each;
+      runs = record {
+        turns = all_do (λ desk _. always desk) c.args.options.now.turns c.args.budget p.before p.after at p.runs;
+        rounds = λ single. absurd (let e : Many ≡ Single = sym c.in-Many.is ∙ single in cc);
+      };
+    }

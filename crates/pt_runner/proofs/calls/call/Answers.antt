@@ -9,11 +9,8 @@ use Rattle.pt_runner.specs.Acting.{Sends}
 use Rattle.pt_runner.proofs.Acting.{performs_as}
 use Rattle.pt_runner.proofs.calls.call.Goals as goal
 
-pub returns-in-Receive-clause-performs : goal.returns-in-Receive-clause-performs
-returns-in-Receive-clause-performs c = performs_as c.args.pids.now c.args.p c.args.operation (operation.Receive c.in-Receive.pattern) c.args.desk.now.shard c.args.references.now.items c.receive.result c.receive.new.desk.shard c.args.references.now.items c.in-Receive.is (c.receive.ensures.does, refl)
-
 pub returns-in-Check-clause-performs : goal.returns-in-Check-clause-performs
-returns-in-Check-clause-performs c = performs_as c.args.pids.now c.args.p c.args.operation (operation.Check c.in-Check.pattern) c.args.desk.now.shard c.args.references.now.items c.receive-in-Check.result c.receive-in-Check.new.desk.shard c.args.references.now.items c.in-Check.is (c.receive-in-Check.ensures.does, refl)
+returns-in-Check-clause-performs c = performs_as c.args.pids.now c.args.p c.args.operation (operation.Check c.in-Check.pattern) c.args.desk.now.shard c.args.references.now.items c.check.result c.check.new.desk.shard c.args.references.now.items c.in-Check.is (c.check.ensures.does, refl)
 
 pub returns-in-Link-clause-performs : goal.returns-in-Link-clause-performs
 returns-in-Link-clause-performs c = performs_as c.args.pids.now c.args.p c.args.operation (operation.Link c.in-Link.to) c.args.desk.now.shard c.args.references.now.items c.link.result c.link.new.desk.shard c.args.references.now.items c.in-Link.is (c.link.ensures.does, refl)

@@ -25,7 +25,7 @@ loop-index-preserved c =
     elim c.if-pid-desk.branch [
       | then-pid-desk+in_ok-push w ↦
           subst (Listed s born d (i + 1)) (sym (ap items w.actors-is ∙ w.in_ok-push.ensures.items))
-          (listed_here s born d i t p actors here c.loop-index.invariant w.new.result w.if-pid-desk.true w.new.ensures)
+          (listed_here s born d i t p actors here c.loop-index.invariant w.new.result w.if-pid-desk.true w.new.ensures.acting)
       | else-pid-desk w ↦
           subst (Listed s born d (i + 1)) (sym (ap items w.actors-is)) (listed_beside s born d i t p actors here c.loop-index.invariant w.if-pid-desk.false)
     ]
@@ -35,5 +35,5 @@ returns c =
     let s = c.args.script.now in
     let actors = c.loop-index.actors.items in
     runner_made s c.args.born.now c.args.desk c.loop-index.index actors c.args.pids.now c.new-2.result
-    (omega (arith, c.loop-index-test.false)) c.loop-index.invariant c.requires.pids c.new-2.ensures.script
+    (omega (arith, c.loop-index-test.false)) c.loop-index.invariant c.requires.pids c.new-2.ensures.script c.new-2.ensures.unread
     (c.new-2.ensures.table ∙ ap (λ (ps : List (Option Pid)). record { plans = s.processes; pids = ps; actors = map acting actors }) c.in_ok-from_slice.ensures.items)

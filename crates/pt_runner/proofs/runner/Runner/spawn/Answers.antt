@@ -5,6 +5,8 @@ use Rattle.pt_runner.specs.declared.calls.Progress.{Progress}
 use Rattle.pt_runner.specs.declared.runner.Actor.{Actor}
 use Rattle.pt_runner.specs.Acting.{Acting, Table, GoesBehind, acting, table, with_child, set_acting}
 use Rattle.pt_runner.proofs.Acting.{acting_within, acting_at, same_at, some_at, table_of, set_actor, child_behind, with_child_same}
+use Rattle.pt_runner.specs.Waiting.{KnowsOf}
+use Rattle.pt_runner.proofs.Waiting.{knows_later, knows_set, unmarked_true}
 use Rattle.pt_runner.proofs.runner.Runner.spawn.Goals as goal
 
 pub returns-clause-spawns : goal.returns-clause-spawns
@@ -48,3 +50,19 @@ returns-then-is_err-clause-spawns c =
     let within : c.args.index < length first = omega (arith, c.requires, old.actors.ok.0) in
     let there = some_at (map acting first) c.args.index (acting_within first c.args.index within) in
     (there.0, there.1, inl (ap (λ (xs : List Actor). table_of old.script.now.processes old.pids.items xs) c.reserve.ensures.items, refl))
+
+pub returns-clause-knows : goal.returns-clause-knows
+returns-clause-knows c = λ k.
+    let r = c.args.self.now in
+    let e = c.enter.new.self in
+    let first = c.args.desk.now.shard in
+    let mid = c.spawn_child-answer.new.self.shard in
+    let last = c.conclude.new.desk.shard in
+    let plans = e.script.now.processes in
+    let reserved : KnowsOf r.script.now.processes r.pids.items c.reserve.new.self.items r.came.items r.read first =
+    subst (λ (xs : List Actor). KnowsOf r.script.now.processes r.pids.items xs r.came.items r.read first) (sym c.reserve.ensures.items) k in
+    let born = knows_later r.script.now.processes r.pids.items c.reserve.new.self.items r.came.items r.read first mid c.spawn_child-answer.ensures.goes_on.shard reserved in
+    let entered : KnowsOf plans e.pids.items e.actors.items e.came.items e.read mid = c.enter.ensures.knows mid born in
+    knows_set plans e.pids.items e.actors.items e.came.items e.read last c.args.index c.conclude.new.self
+    (knows_later plans e.pids.items e.actors.items e.came.items e.read mid last c.conclude.ensures.goes_on.shard entered)
+    (unmarked_true plans e.pids.items last c.conclude.new.self c.conclude.ensures.waits)

@@ -1,47 +1,39 @@
-use Rattle.std.proofs.Common.{◌≡◌, length, ap, subst, refl, ◌∙◌, arith}
-use Rattle.std.proofs.lemmas.List.{length-map}
+use Rattle.std.proofs.Common.{◌≡◌, length, subst, ◌∙◌, arith}
 use Rattle.pt_desk.proofs.Turning.{goes_on_then}
-use Rattle.pt_node.proofs.GoingOn.{stays}
-use Rattle.pt_runner.specs.Acting.{EachActs, EachDoesNext, Table, acting, table, living}
+use Rattle.pt_runner.specs.Acting.{EachActs, EachDoesNext, table, living}
 use Rattle.pt_runner.specs.Stepping.{Steps, processes_of}
 use Rattle.pt_runner.proofs.Acting.{each_acts_then}
 use Rattle.pt_runner.proofs.Stepping.{steps, idle}
 use Rattle.pt_runner.proofs.runner.RunnerWork.step.Goals as goal
-
-pub loop-index-init : goal.loop-index-init
-loop-index-init c =
-    let actors = c.bury.new.self.actors.items in
-    record {
-      does = (c.bury.ensures, refl);
-      count = omega (arith, c.len-index-end.ensures, c.bury.new.self.actors.ok.0, length-map actors acting, ap (λ (t : Table). length t.actors) c.bury.ensures);
-      len = omega (arith, c.len-index-end.ensures);
-      ends = (refl, refl);
-      goes_on = stays c.args.desk.now;
-    }
 
 pub loop-index-preserved : goal.loop-index-preserved
 loop-index-preserved c =
     let inv = c.loop-index.invariant in
     let old = c.args.desk.now in
     record {
-      does = each_acts_then c.loop-index.index (living old.shard (table c.args.self.now)) (table c.loop-index.self) (table c.act.new.self) old.shard c.loop-index.desk.shard c.act.new.desk.shard inv.does c.act.ensures.acts;
+      does = λ attends. each_acts_then c.loop-index.index (living old.shard (table c.args.self.now)) (table c.loop-index.self) (table c.act.new.self) old.shard c.loop-index.desk.shard c.act.new.desk.shard (inv.does attends) (c.act.ensures.acts (inv.abreast attends));
+      abreast = λ attends. c.act.ensures.abreast (inv.abreast attends);
       count = inv.count;
       len = omega (arith, inv.len, c.act.ensures.len);
       ends = (c.act.ensures.ends.0 ∙ inv.ends.0, c.act.ensures.ends.1 ∙ inv.ends.1);
       goes_on = goes_on_then old c.loop-index.desk c.act.new.desk inv.goes_on c.act.ensures.goes_on;
     }
 
-pub returns : goal.returns
-returns c =
+pub returns-clause-steps : goal.returns-clause-steps
+returns-clause-steps c = λ attends.
     let old = c.args.desk.now.shard in
     let inv = c.loop-index.invariant in
     let new = c.loop-index.desk.shard in
-    let last : c.loop-index.index ≡ length (living old (table c.args.self.now)).actors = omega (arith, c.loop-index-test.false, inv.count) in
-    let does : EachDoesNext (table c.args.self.now) old (table c.loop-index.self) new = subst (λ n. EachActs n (living old (table c.args.self.now)) old (table c.loop-index.self) new) last inv.does in
+    let last : c.loop-index.index ≡ length (living old (table c.args.self.now)).actors = omega (arith, c.loop-index-test.false, inv.count attends, c.loop-index.auto.index-end) in
+    let does : EachDoesNext (table c.args.self.now) old (table c.loop-index.self) new = subst (λ n. EachActs n (living old (table c.args.self.now)) old (table c.loop-index.self) new) last (inv.does attends) in
+    steps c.args.self.now c.loop-index.self old new does
+
+pub returns-clause-idle : goal.returns-clause-idle
+returns-clause-idle c = λ attends none.
+    let old = c.args.desk.now.shard in
+    let inv = c.loop-index.invariant in
+    let new = c.loop-index.desk.shard in
+    let last : c.loop-index.index ≡ length (living old (table c.args.self.now)).actors = omega (arith, c.loop-index-test.false, inv.count attends, c.loop-index.auto.index-end) in
+    let does : EachDoesNext (table c.args.self.now) old (table c.loop-index.self) new = subst (λ n. EachActs n (living old (table c.args.self.now)) old (table c.loop-index.self) new) last (inv.does attends) in
     let one : Steps (processes_of c.args.self.now) old (processes_of c.loop-index.self) new = steps c.args.self.now c.loop-index.self old new does in
-    record {
-      does = (does, inv.ends);
-      steps = one;
-      idle = idle (processes_of c.args.self.now) (processes_of c.loop-index.self) old new one;
-      goes_on = inv.goes_on;
-    }
+    idle (processes_of c.args.self.now) (processes_of c.loop-index.self) old new one none

@@ -1,0 +1,106 @@
+-- What a runner knows of the processes that wait, by the events of the desk's journal that it read.
+use Rattle.std.specs.Prelude.{◌≡◌, ◌⊎◌, ℕ, ◌-◌, ◌<◌, ◌≤◌, Bool, false, true, List, ◌++◌, length, slice_get}
+use Rattle.std.specs.Prelude.{slice_set, take, leb, Option, Some, None}
+use Rattle.std.specs.List.{All, list_any}
+use Rattle.pt_signal.specs.Values.{same_pid}
+use Rattle.pt_signal.specs.declared.pid.Pid.{Pid}
+use Rattle.pt_signal.specs.declared.item.Pick.{Pick}
+use Rattle.pt_events.specs.declared.event.Event.{Event}
+use Rattle.pt_events.specs.declared.event.Event.TheVariants.{Came, Left}
+use Rattle.pt_events.specs.declared.event.Stamped.{Stamped}
+use Rattle.pt_shard.specs.Calls.{first_match}
+use Rattle.pt_shard.specs.ShardState.{ShardState, lives}
+use Rattle.pt_desk.specs.DeskState.{DeskState}
+use Rattle.pt_node.specs.Waking.{woken_by}
+use Rattle.pt_script.specs.Plans.{Plan}
+use Rattle.pt_script.specs.declared.values.Operation.TheVariants.{Receive}
+use Rattle.pt_script.specs.declared.values.Pattern.{Pattern}
+use Rattle.pt_runner.specs.Acting.{Acting, RunnerDoes, acting, next_of, pick_of}
+use Rattle.pt_runner.specs.declared.runner.Actor.{Actor}
+use Rattle.pt_runner.specs.declared.runner.Runner.{Runner}
+
+abbrev pub is_of : Pid → Option Pid → Bool
+is_of p (Some q) = same_pid p q
+is_of p None = false
+
+-- a signal came to p by these events, or it left
+abbrev pub came_in : Pid → List Stamped → Bool
+came_in p events = list_any (λ (s : Stamped). is_of p (woken_by s.event)) events
+
+-- the events of a journal from a place on, the newest first as in the journal
+abbrev pub since : ℕ → List Stamped → List Stamped
+since n journal = take (length journal - n) journal
+
+-- its next operation is a receive, and no item in its mailbox fits
+pub record FindsNothing (plans : List Plan) (pids : List (Option Pid)) (a : Acting) (d : ShardState) : Type 0 where
+  pub pattern : Pattern
+  pub pick : Pick
+  pub next : next_of plans a ≡ Receive pattern
+  pub picks : pick_of pids a.references pattern ≡ Some pick
+  pub alive : lives d a.pid ≡ true
+  pub nothing : first_match d a.pid pick ≡ None
+
+-- it finds nothing, unless something came to it from that place of the journal on
+pub record WaitsSince (plans : List Plan) (pids : List (Option Pid)) (a : Acting) (w : ℕ) (d : ShardState)
+    : Type 0 where
+  pub within : w ≤ length d.journal
+  pub finds : came_in a.pid (since w d.journal) ≡ false → FindsNothing plans pids a d
+
+-- so does a process, where it is marked as waiting from a place on
+abbrev pub IsTrueOf : List Plan → List (Option Pid) → ShardState → Actor → Type 0
+IsTrueOf plans pids d a = (w : ℕ) → a.waits ≡ Some w → WaitsSince plans pids (acting a) w d
+
+abbrev pub IsUnmarked : Actor → Type 0
+IsUnmarked a = a.waits ≡ None
+
+-- whoever is not marked at its slot from a place on had nothing come to it there
+abbrev pub IsNoted : List ℕ → List Stamped → Type 0
+IsNoted came seen =
+    (p : Pid) (n w : ℕ) → slice_get came p.slot ≡ Some n → n ≤ w → came_in p (since w seen) ≡ false
+
+-- what was read of a journal, what was noted of that, and that each process waits as it is marked
+pub record KnowsOf (plans : List Plan) (pids : List (Option Pid)) (actors : List Actor) (came : List ℕ) (read : ℕ)
+    (d : ShardState) : Type 0 where
+  pub more : List Stamped
+  pub seen : List Stamped
+  pub journal : d.journal ≡ more ++ seen
+  pub counted : length seen ≡ read
+  pub noted : IsNoted came seen
+  pub waits : All (IsTrueOf plans pids d) actors
+
+-- what a runner has in its notes is true of the desk
+abbrev pub Knows : Runner → ShardState → Type 0
+Knows r d = KnowsOf r.script.now.processes r.pids.items r.actors.items r.came.items r.read d
+
+-- and it has read the whole journal
+abbrev pub IsAbreast : Runner → ShardState → Type 0
+IsAbreast r d = Knows r d × (r.read ≡ length d.journal)
+
+-- What a step begins with: what the runner knows is true, or it has read nothing, or more than the journal has, as that
+-- of a desk which goes on with an empty one. Then it forgets what it knows.
+abbrev pub Attends : Runner → ShardState → Type 0
+Attends r d = (r.read ≡ 0) ⊎ (length d.journal < r.read) ⊎ Knows r d
+
+-- A step of a runner that attends its desk: each of its processes does its next operation, and what the runner then
+-- knows is true, and stays so however the desk goes on.
+abbrev pub RunnerSteps : Runner → DeskState → Runner → DeskState → Type 0
+RunnerSteps r old s new = Attends r old.shard → RunnerDoes r old s new × Knows s new.shard
+
+-- the steps of the code ----------------------------------------------------------------------
+
+abbrev pub is_before : Option ℕ → Option ℕ → Bool
+is_before (Some last) (Some w) = leb last w
+is_before _ _ = false
+
+-- it waits, and nothing came to its slot since
+abbrev pub sleeps : List ℕ → Actor → Bool
+sleeps came a = is_before (slice_get came a.pid.slot) a.waits
+
+-- the place behind an event is noted at the slot of the process to which a signal came, or which left
+abbrev pub marked : Event → ℕ → List ℕ → List ℕ
+marked (Came a b x) n came = slice_set came b.slot n
+marked (Left p r) n came = slice_set came p.slot n
+marked _ n came = came
+
+abbrev pub HasSameRest : Runner → Runner → Type 0
+HasSameRest old new = (new.script ≡ old.script) × (new.read ≡ old.read) × (new.came ≡ old.came)
