@@ -1,18 +1,26 @@
-//! A supervisor on each desk, whose workers crash as they begin: those of whom the theorem on still nodes speaks.
+//! A supervisor on each desk, whose workers crash as they begin. The node comes to rest and is settled, and then each
+//! child that its supervisor wants alive lives, by the theorem on nodes that are still.
 
-ghost use Rattle.std.specs.Prelude.{◌≡◌, Ok};
-ghost use Rattle.std.specs.Option.{option_map};
+ghost use Rattle.std.specs.Prelude.{◌≡◌, IfOk, Ok};
 ghost use Rattle.pt_crew.specs.declared.behaviour.Next.{Next};
-ghost use Rattle.pt_supervisor.specs.Hearing.{standing};
-ghost use Rattle.pt_supervisor.specs.Keeping.{AnswerAs, BeginsAs};
+ghost use Rattle.pt_desk.specs.DeskState.{GoesOn};
+ghost use Rattle.pt_gathered.specs.Gathered.{IsGathered};
+ghost use Rattle.pt_gathered.specs.Lawful.{LinksStand};
+ghost use Rattle.pt_node.specs.Desks.{AreDesks, all_shards};
+ghost use Rattle.pt_node.specs.Stillness.{AreStill};
+ghost use Rattle.pt_crew.specs.Running.{AreIdle, UpholdsOn};
+ghost use Rattle.pt_supervisor.specs.Keeping.{AnswerAs, BeginsAs, Keeps};
+ghost use Rattle.pt_supervisor.specs.Gathering.{AllChildrenLive};
 ghost use Rattle.pt_scenes.specs.declared.team.Member.{Member};
+ghost use Rattle.pt_scenes.specs.Team.{AreTeams, boss_of};
 
-use crate::stage::{self, DESKS, Stage, first_of};
-use anyhow::Result;
-use pt_crew::{Behaviour, Births, Next};
-use pt_node::{Desk, Fault, Item, Pick, Pid, Reason};
+use crate::stage::{DESKS, first_of};
+use anyhow::{Result, bail};
+use pt_crew::{Behaviour, Births, Crew, Next, are_idle};
+use pt_node::{Account, Config, Desk, Fault, FreeGate, Item, Node, Pick, Pid, Quiet, Reason, open};
 use pt_supervisor::{
-    Child, Limit, Restart, Start, Strategy, Supervised, Supervisor, quiet_children_live,
+    Child, Limit, Restart, Start, Strategy, Supervised, Supervisor, gathered_children_live,
+    quiet_children_live,
 };
 use std::alloc::{AllocError, Global};
 use std::fmt::{self, Display, Formatter, Write};
@@ -30,7 +38,7 @@ struct Workers {
 
 impl Start<Member> for Workers {
     ghost starts = { λ old boss place result new. (b : Member) (first : Next) → result ≡ Ok (b, first)
-        → BeginsAs (option_map standing b.boss) first };
+        → BeginsAs (boss_of b) first };
 
     fn start(&mut self, _supervisor: Pid, _place: usize) -> Result<(Member, Next), Fault> {
         let worker = Member { boss: None };
@@ -49,7 +57,7 @@ struct Member {
 }
 
 impl Behaviour for Member {
-    ghost answers = { AnswerAs (λ b. option_map standing b.boss) };
+    ghost answers = { AnswerAs boss_of };
 
     #[tactic(auto, using(pt_node::proofs::GoingOn::stays))]
     fn handle(
@@ -67,13 +75,15 @@ impl Behaviour for Member {
 }
 
 impl Supervised for Member {
-    ghost supervisor = { λ b. option_map standing b.boss };
+    ghost supervisor = { boss_of };
 
     ghost supervises = { λ b d me item next now e births h. h };
 }
 
 /// A supervisor of three permanent children, which starts each again by itself, a hundred times at most.
-fn team(alloc: Global) -> Result<Member, AllocError> {
+fn team(alloc: Global) -> Result<Member, AllocError>
+    ensures { IfOk result (λ b. BeginsAs (boss_of b) Next.Proceed) }
+{
     let child = Child::new(Restart::Permanent);
     let children = vec![in alloc; child, child, child]?;
     let limit = Limit::new(alloc, 100, u64::MAX)?;
@@ -82,54 +92,133 @@ fn team(alloc: Global) -> Result<Member, AllocError> {
     Ok(Member { boss: Some(boss) })
 }
 
-/// What came of it.
-#[derive(Clone, Copy, Debug)]
+/// The crew of a desk, which its supervisor has entered.
+fn staffed(alloc: Global, desk: &mut Desk) -> Result<Crew<Member>>
+    ensures upholds { IfOk result (λ c. UpholdsOn (Keeps boss_of) c desk.new.shard) }
+    ensures goes_on { GoesOn desk.old desk.new }
+{
+    quiet_children_live::<Member>();
+    let mut crew = Crew::new(alloc, 8);
+    let boss = team(alloc)?;
+    crew.enter(desk, boss, Next::Proceed)?;
+    Ok(crew)
+}
+
+/// A crew for each desk, which its supervisor has entered.
+fn all_staffed(alloc: Global, desks: &mut Vec<Desk>) -> Result<Vec<Crew<Member>>>
+    ensures upholds { IfOk result (λ crews. AreTeams crews.items desks.new.items) }
+    ensures node { AreDesks desks.old.items → AreDesks desks.new.items }
+{
+    let mut crews = Vec::new(alloc);
+    for place in 0..desks.len() {
+        let crew = staffed(alloc, &mut desks[place])?;
+        crews.push(crew)?;
+    }
+    Ok(crews)
+}
+
+/// Opens the node, with a supervisor on each desk.
+fn opened(alloc: Global) -> Result<(Node, Vec<Crew<Member>>)>
+    ensures { IfOk result (λ r. AreTeams r.1.items r.0) }
+{
+    let mut desks = open(alloc, Config::DEFAULT.with_desks(DESKS).with_slots(16))?;
+    let crews = all_staffed(alloc, &mut desks);
+    // desks cannot be dropped, and a node can
+    let node = Node::of_desks(alloc, desks);
+    Ok((node, crews?))
+}
+
+/// Runs the crews until nobody has anything to do, and no letter is on its way.
+fn come_to_rest(node: &mut Node, crews: &mut Vec<Crew<Member>>) -> Result<()>
+    ensures upholds { IfOk result (λ _. AreTeams crews.old.items node.old → AreTeams crews.new.items node.new) }
+    ensures still { IfOk result (λ _. AreIdle crews.new.items node.new × AreStill node.new) }
+{
+    gathered_children_live::<Member, FreeGate>(&FreeGate);
+    if node.run_single(crews, 50, 1_024, &FreeGate).is_err() {
+        bail!("the scene does not run");
+    }
+    if node.turn_until_still(1_024).stopped.is_some() {
+        bail!("the node is not still");
+    }
+    if !are_idle(crews.as_slice(), node.desks()) {
+        bail!("somebody has something to do");
+    }
+    Ok(())
+}
+
+/// Gathers and settles a node that is still, which leaves it as it is.
+fn settled(node: Node) -> Result<Quiet>
+    ensures desks { AreStill node → IfOk result (λ q. q.gathered.shards ≡ all_shards node) }
+    ensures lawful { IfOk result (λ q. IsGathered q.gathered × LinksStand q.gathered) }
+{
+    let quiet = node.gather()?.settle()?;
+    // read for the proof alone: it says what holds of every gathered node
+    let _desks = quiet.desks();
+    Ok(quiet)
+}
+
+/// The crews of a node that came to rest, and the node.
+#[derive(Drop)]
 pub struct Teams {
-    wanted: usize,
-    living: usize,
+    crews: Vec<Crew<Member>>,
+    quiet: Quiet,
+}
+
+/// Plays the scene until all is still. Then each child that its supervisor wants alive lives.
+pub fn play(alloc: Global) -> Result<Teams>
+    ensures { IfOk result (λ t. AllChildrenLive boss_of t.crews.items t.quiet.gathered) }
+{
+    gathered_children_live::<Member, FreeGate>(&FreeGate);
+    let (mut node, mut crews) = opened(alloc)?;
+    come_to_rest(&mut node, &mut crews)?;
+    let quiet = settled(node)?;
+    Ok(Teams { crews, quiet })
+}
+
+impl Teams {
+    /// The children of a desk's supervisor.
+    fn children(&self, desk: u8) -> &[Child] {
+        let Some(crew) = self.crews.get(usize::from(desk)) else {
+            return &[];
+        };
+        match crew.behaviour(first_of(desk)) {
+            Some(Member { boss: Some(boss) }) => boss.children(),
+            _ => &[],
+        }
+    }
+
+    /// Whether a child lives, by the history of the node.
+    fn lives(&self, child: &Child) -> bool {
+        match child.pid {
+            Some(pid) => matches!(self.quiet.account(pid), Some(Account { ended: None, .. })),
+            None => false,
+        }
+    }
+
+    /// How many children of a desk's supervisor are to live, and how many of these do.
+    fn counted(&self, desk: u8) -> (u32, u32) {
+        let mut wanted: u32 = 0;
+        let mut living: u32 = 0;
+        for child in self.children(desk) {
+            if child.wanted {
+                wanted = wanted.saturating_add(1);
+                living = living.saturating_add(u32::from(self.lives(child)));
+            }
+        }
+        (wanted, living)
+    }
 }
 
 impl Display for Teams {
     fn fmt<W: Write>(&self, f: &mut Formatter<W>) -> fmt::Result {
-        write!(
-            f,
-            "team: {CRASHES} workers of each desk crashed; of {} that are to live {} do",
-            self.wanted, self.living
-        )
-    }
-}
-
-impl Teams {
-    /// What the supervisor of a desk has to tell, and its crew.
-    fn add(&mut self, desk: u8, stage: &Stage<Member>) {
-        let Some(member) = stage.crew().behaviour(first_of(desk)) else {
-            return;
-        };
-        if let Some(boss) = &member.boss {
-            let others = stage.crew().len().saturating_sub(1);
-            self.wanted = self.wanted.saturating_add(boss.children().len());
-            self.living = self.living.saturating_add(others);
+        write!(f, "team: {CRASHES} workers of each desk crashed")?;
+        for desk in 0..DESKS {
+            let (wanted, living) = self.counted(desk);
+            write!(
+                f,
+                "\nstill: of {wanted} children of desk {desk} that are to live {living} do"
+            )?;
         }
+        Ok(())
     }
-}
-
-fn made(alloc: Global) -> Result<Stage<Member>, AllocError> {
-    Ok(Stage::new(alloc, 8, team(alloc)?))
-}
-
-/// Plays the scene. That each child lives once all is still is what `quiet_children_live` says of these.
-pub fn play(alloc: Global) -> Result<Teams> {
-    quiet_children_live::<Member>();
-    let stages = [made(alloc)?, made(alloc)?, made(alloc)?, made(alloc)?];
-    let works = stage::play(alloc, 16, 50, stages)?;
-    let mut teams = Teams {
-        wanted: 0,
-        living: 0,
-    };
-    for desk in 0..DESKS {
-        if let Some(stage) = works.get(desk as usize) {
-            teams.add(desk, stage);
-        }
-    }
-    Ok(teams)
 }

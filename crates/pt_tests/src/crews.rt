@@ -379,7 +379,9 @@ fn ends<R: Abort>(rt: &R, alloc: Global, desk: &mut Desk) -> Result<(), Fail>
     let a = crew.enter(desk, Player::Echo { heard: 0 }, Next::Wait(Pick::Any))?;
     crew.step(desk);
     assert_eq!(rt; crew.queued(), 0);
+    assert!(rt; crew.is_idle(desk));
     desk.exit(a, Reason::Normal)?;
+    assert!(rt; !crew.is_idle(desk));
     crew.step(desk);
     assert_eq!(rt; crew.len(), 0);
     assert_eq!(rt; last_of(&crew), Some((a, Next::Wait(Pick::Any))));
