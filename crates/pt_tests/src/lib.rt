@@ -6,7 +6,7 @@
 //! | `layers` | the layers below a node, each called by itself |
 //! | `recipes` | the recipes of `pt_uses`, each run once |
 //! | `crews` | the crews of `pt_crew`: processes that run code |
-//! | `supervisors` | the supervisors of `pt_supervisor`: whom they start again |
+//! | `supervisors` | the supervisors of `pt_supervisor`: whom they start again, and when they give up |
 //! | `asking` | the calls of `pt_calls`: by what they end |
 //!
 //! A crate with tests is proved twice, once without them, and reads all that is below it before its first function; so

@@ -2,8 +2,8 @@
 
 ghost use Rattle.pt_node.specs.Desks.{AreDesks, IsStill};
 
-use pt_crew::{Behaviour, Births, Crew, Next, trap};
-use pt_node::{Config, Desk, Fault, Item, Pick, Pid, Reason, open};
+use pt_crew::{Behaviour, Births, Crew, Next, trap, watch};
+use pt_node::{Config, Desk, Event, Fault, Item, Pick, Pid, Reason, open};
 use pt_supervisor::{Child, Limit, Restart, Shutdown, Start, Strategy, Supervisor};
 use pt_uses::steps::gathered;
 use std::alloc::{AllocError, Global};
@@ -240,6 +240,73 @@ fn tree<R: Abort>(rt: &R, alloc: Global, desk: &mut Desk) -> Result<(), Fail>
     root_ends(rt, &mut crew, desk, root)
 }
 
+/// How many children the process has borne, by the journal.
+fn borne(desk: &Desk, parent: Pid) -> usize {
+    let mut count: usize = 0;
+    for stamped in desk.journal().events() {
+        if let Event::Born(_, Some(by), _) = stamped.event {
+            if by == parent {
+                count = count.saturating_add(1);
+            }
+        }
+    }
+    count
+}
+
+/// How many children a supervisor of the crew says that it has started.
+fn started(crew: &Crew<Actor>, boss: Pid) -> u64 {
+    match crew.behaviour(boss) {
+        Some(Actor::Boss(supervisor)) => supervisor.started(),
+        _ => 0,
+    }
+}
+
+/// The second child crashes; how many children the supervisor has borne then, and how many processes its crew has.
+fn after_a_crash(crew: &mut Crew<Actor>, desk: &mut Desk, boss: Pid) -> Result<(usize, usize), Fail>
+    ensures { IsStill desk.old desk.new }
+{
+    if let Some(second) = pids(crew, boss)[1] {
+        desk.exit(second, Reason::Other(7))?;
+    }
+    ten_steps(crew, desk);
+    Ok((borne(desk, boss), crew.len()))
+}
+
+/// Two crashes are followed by a restart each, and the third is one too many.
+fn three_crashes<R: Abort>(
+    rt: &R,
+    crew: &mut Crew<Actor>,
+    desk: &mut Desk,
+    boss: Pid,
+) -> Result<(), Fail>
+    ensures { IsStill desk.old desk.new }
+{
+    ten_steps(crew, desk);
+    assert_eq!(rt; (borne(desk, boss), crew.len()), (3, 4));
+    let first = after_a_crash(crew, desk, boss)?;
+    assert_eq!(rt; first, (4, 4));
+    let second = after_a_crash(crew, desk, boss)?;
+    assert_eq!(rt; second, (5, 4));
+    assert_eq!(rt; started(crew, boss), 5);
+    let third = after_a_crash(crew, desk, boss)?;
+    assert_eq!(rt; third, (5, 0));
+    Ok(())
+}
+
+/// Past its limit of restarts a supervisor ends with `shutdown`, and its children with it.
+fn gives_up<R: Abort>(rt: &R, alloc: Global, desk: &mut Desk) -> Result<(), Fail>
+    ensures { IsStill desk.old desk.new }
+{
+    let mut crew = Crew::new(alloc, 4);
+    let boss = boss(alloc, &mut crew, desk, Strategy::OneForOne)?;
+    let watcher = desk.spawn()?;
+    let monitor = watch(desk, watcher, boss)?;
+    three_crashes(rt, &mut crew, desk, boss)?;
+    let down = desk.receive(watcher, Pick::DownOf(monitor))?;
+    assert_eq!(rt; down, Some(Item::Down(monitor, boss, Reason::Shutdown)));
+    Ok(())
+}
+
 #[tactic(auto, using(pt_node::proofs::StillDesks::still_desks))]
 fn on_first<R: Abort>(rt: &R, alloc: Global, desks: &mut Vec<Desk>) -> Result<(), Fail>
     requires { AreDesks desks.old.items }
@@ -256,6 +323,14 @@ fn tree_on_first<R: Abort>(rt: &R, alloc: Global, desks: &mut Vec<Desk>) -> Resu
     tree(rt, alloc, &mut desks[0])
 }
 
+#[tactic(auto, using(pt_node::proofs::StillDesks::still_desks))]
+fn gives_up_on_first<R: Abort>(rt: &R, alloc: Global, desks: &mut Vec<Desk>) -> Result<(), Fail>
+    requires { AreDesks desks.old.items }
+    ensures { AreDesks desks.new.items }
+{
+    gives_up(rt, alloc, &mut desks[0])
+}
+
 #[test]
 fn a_strategy_says_who_is_started_again(rt: HostRuntime) -> Result<(), Fail> {
     let mut desks = open(rt.alloc(), ONE_DESK)?;
@@ -270,6 +345,16 @@ fn a_strategy_says_who_is_started_again(rt: HostRuntime) -> Result<(), Fail> {
 fn a_tree_is_started_again_and_ends_as_one(rt: HostRuntime) -> Result<(), Fail> {
     let mut desks = open(rt.alloc(), ONE_DESK)?;
     let outcome = tree_on_first(&rt, rt.alloc(), &mut desks);
+    let node = gathered(rt.alloc(), desks);
+    outcome?;
+    let _node = node?;
+    Ok(())
+}
+
+#[test]
+fn past_its_limit_a_supervisor_gives_up(rt: HostRuntime) -> Result<(), Fail> {
+    let mut desks = open(rt.alloc(), ONE_DESK)?;
+    let outcome = gives_up_on_first(&rt, rt.alloc(), &mut desks);
     let node = gathered(rt.alloc(), desks);
     outcome?;
     let _node = node?;
