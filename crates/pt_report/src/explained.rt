@@ -85,6 +85,17 @@ fn notes_on(
         numbers: &numbers,
         endings: &endings,
     };
+    notes_from(alloc, sources, quiet)
+}
+
+/// The same, of these sources.
+fn notes_from(
+    alloc: Global,
+    sources: Sources<'_, '_>,
+    quiet: &Quiet,
+) -> Result<Vec<Note>, AllocError>
+    ensures { IfOk result (λ notes. AreNotesOf quiet.now notes.items) }
+{
     notes_of(alloc, sources, quiet, quiet.pids())
 }
 
