@@ -1,5 +1,5 @@
 -- The first of a list that passes a test, come to one after the other.
-use Rattle.std.proofs.Common.{◌≡◌, zero, suc, ℕ, ◌+◌, ◌<◌, Bool, true, false, List, [], ◌∷◌, length, take, get_or, Option, Some, None, refl, add-one, subst, sym, arith}
+use Rattle.std.proofs.Common.{◌≡◌, zero, suc, ℕ, ◌+◌, ◌<◌, Bool, true, false, List, [], ◌∷◌, length, take, get_or, Some, None, refl, add-one, subst, sym, arith}
 use Rattle.std.specs.List.{find}
 
 module _ {X : Type 0} (test : X → Bool) where

@@ -6,11 +6,10 @@ use Rattle.pt_script.specs.Plans.{Plan, Whole}
 use Rattle.pt_script.specs.Nodes.{config_of}
 use Rattle.std.specs.List.{All}
 use Rattle.std.proofs.lemmas.Bool.{cases_eq, eqb-true, eq-eqb}
-use Rattle.std.proofs.lemmas.List.{take_more, take_all, get_or-map, map-append, reverse-append, get_or-set_same, get_or-set_other, length-set, get_or_default}
+use Rattle.std.proofs.lemmas.List.{take_more, take_all, map-append, reverse-append, get_or-set_same, get_or-set_other, length-set, get_or_default}
 use Rattle.std.proofs.lemmas.List.Elements.{filter-append, All-head, All-tail}
 use Rattle.std.proofs.lemmas.List.Sums.{fold-append}
 use Rattle.std.proofs.lemmas.Slice.Zip.{length-zip, get_or-zip}
-use Rattle.pt_carrier.proofs.Lists.{map-set_same}
 use Rattle.pt_signal.specs.declared.pid.Pid.{Pid}
 use Rattle.pt_events.specs.declared.event.Event.{Event}
 use Rattle.pt_shard.specs.declared.config.Config.{Config}
@@ -19,7 +18,7 @@ use Rattle.pt_shard.specs.declared.fault.Fault.TheVariants.{Full, Memory, Worn, 
 use Rattle.pt_shard.specs.ShardState.{ShardState, past}
 use Rattle.pt_shard.specs.Calls.{Bears, CanWrite, IsWorn}
 use Rattle.pt_shard.specs.Opening.{fresh}
-use Rattle.pt_desk.specs.DeskState.{DeskState, IsDesk, GoesOn, place}
+use Rattle.pt_desk.specs.DeskState.{DeskState, IsDesk, GoesOn}
 use Rattle.pt_node.specs.Desks.{AreDesksOf}
 use Rattle.pt_node.proofs.StillDesks.{still_node}
 use Rattle.pt_node.specs.Opening.{AreFresh}

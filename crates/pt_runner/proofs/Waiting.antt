@@ -34,7 +34,7 @@ use Rattle.pt_script.specs.declared.values.Pattern.{Pattern}
 use Rattle.pt_script.specs.declared.values.Pattern.TheVariants.{Any, Kind, From, ExitOf, DownOf, AliveOf}
 use Rattle.pt_runner.specs.declared.calls.Progress.TheVariants.{Stays}
 use Rattle.pt_runner.specs.declared.runner.Actor.{Actor}
-use Rattle.pt_runner.specs.Acting.{Acting, ActsAt, DoesOperation, Plays, Table, acting, next_of, pick_of, set_acting}
+use Rattle.pt_runner.specs.Acting.{Acting, ActsAt, DoesOperation, Plays, acting, pick_of, set_acting}
 use Rattle.pt_runner.specs.Waiting.{FindsNothing, IsNoted, IsTrueOf, IsUnmarked, KnowsOf, WaitsSince, came_in, is_before, is_of, marked, since, sleeps}
 use Rattle.pt_runner.proofs.Acting.{table_of, acting_at, acting_within, set_actor, take_at}
 

@@ -1,6 +1,5 @@
 use Rattle.std.proofs.Common.{◌≡◌, ◌<◌, true, ℕ, List, length, ap, sym, subst, ◌∙◌, arith}
 use Rattle.std.proofs.lemmas.List.Elements.{All-get_or}
-use Rattle.pt_runner.specs.declared.runner.Actor.{Actor}
 use Rattle.pt_runner.specs.Waiting.{IsTrueOf, sleeps}
 use Rattle.pt_runner.proofs.Waiting.{asleep, skipped}
 use Rattle.pt_runner.proofs.runner.Runner.act.Goals as goal
