@@ -1,5 +1,5 @@
 -- The first of a list that passes a test, and the list without it.
-use Rattle.std.proofs.Common.{◌≡◌, ℕ, suc, ◌+◌, ◌-◌, ◌<◌, ◌≤◌, Bool, true, false, not, cond, ltb, List, [], ◌∷◌, ◌++◌, length, get_or, take, drop, refl, ap, sym, subst, ◌∙◌, arith, length-append, length-take, length-drop, Option, Some, None}
+use Rattle.std.proofs.Common.{◌≡◌, ℕ, suc, ◌+◌, ◌-◌, ◌<◌, ◌≤◌, Bool, true, false, not, cond, ltb, List, [], ◌∷◌, ◌++◌, length, get_or, take, drop, refl, ap, sym, subst, ◌∙◌, arith, length-append, length-take, length-drop, Some, None}
 use Rattle.std.specs.List.{find, position, position_or_len, remove, slice_get}
 use Rattle.std.proofs.lemmas.List.{take_at, drop_at, take_more, drop-drop, drop-take, drop-append-le}
 use Rattle.std.proofs.lemmas.Grind.{common_steps}
@@ -20,11 +20,10 @@ module _ {X : Type 0} where
       let rest : take (length all - 1) all ≡ front = ap (take (length all - 1)) whole ∙ take_at front (z ∷ []) _ n in
       rw (last, rest) refl
 
-  -- the item at a place goes before those before it, and then the head moves past it
-  pub drop-brought_front : (xs ys : List X) (head place k : ℕ) (d : X) → head + place < length xs → k ≡ place + 1
+  turned_front : (xs ys : List X) (head place k : ℕ) (d : X) → head + place < length xs → k ≡ place + 1
       → ys ≡ drop (length (take k (drop head xs)) - 1) (take k (drop head xs)) ++ take (length (take k (drop head xs)) - 1) (take k (drop head xs))
       → drop (head + 1) (take head xs ++ (ys ++ drop k (drop head xs))) ≡ remove (drop head xs) place
-  drop-brought_front xs ys head place k d within wide turned =
+  turned_front xs ys head place k d within wide turned =
       let zs = drop head xs in
       let short : place < length zs = omega (arith, length-drop head xs) in
       let whole : take k zs ≡ take place zs ++ get_or zs place d ∷ [] = ap (λ n. take n zs) wide ∙ take_more zs place d short in
@@ -35,6 +34,13 @@ module _ {X : Type 0} where
       ∙ ap (λ l. drop 1 (l ++ drop k zs)) turned
       ∙ spun (take place zs) (get_or zs place d) (drop k zs) (take k zs) whole
       ∙ ap (λ n. take place zs ++ drop n zs) past
+
+  -- the item at a place goes before those before it, and then the head moves past it
+  pub drop-brought_front : (xs ys : List X) (head place k : ℕ) → head + place < length xs → k ≡ place + 1
+      → ys ≡ drop (length (take k (drop head xs)) - 1) (take k (drop head xs)) ++ take (length (take k (drop head xs)) - 1) (take k (drop head xs))
+      → drop (head + 1) (take head xs ++ (ys ++ drop k (drop head xs))) ≡ remove (drop head xs) place
+  drop-brought_front [] ys head place k within wide turned = absurd (omega (arith, within))
+  drop-brought_front (x ∷ xs) ys head place k within wide turned = turned_front (x ∷ xs) ys head place k x within wide turned
 
   -- to take an item out past the head is to take it out of what stands from the head on
   pub drop-remove : (xs : List X) (head place : ℕ) → head + place < length xs → drop head (remove xs (head + place)) ≡ remove (drop head xs) place

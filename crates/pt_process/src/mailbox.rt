@@ -93,48 +93,55 @@ impl Mailbox {
     }
 
     /// Takes the item at a place; the others stay, in order.
+    #[inline(always)]
     pub fn take_at(&mut self, place: usize) -> Item
         requires { place < length self.old }
         ensures item { slice_get self.old place ≡ Some result }
         ensures rest { self.new ≡ remove self.old place }
     {
-        let item = take_out(&mut self.items, &mut self.head, place);
-        close_gap(&mut self.items, &mut self.head);
+        let item = self.items[self.head + place];
+        if place == 0 {
+            self.head += 1;
+        } else {
+            take_out(&mut self.items, &mut self.head, place);
+        }
+        if self.head > self.items.len() - self.head {
+            close_gap(&mut self.items, &mut self.head);
+        }
         item
     }
 }
 
 /// Takes an item out: what stands before it moves up, or what stands behind it down, whichever is the shorter.
-fn take_out(items: &mut Vec<Item>, head: &mut usize, place: usize) -> Item
+#[inline(never)]
+fn take_out(items: &mut Vec<Item>, head: &mut usize, place: usize)
     requires { head.old + place < length items.old.items }
-    ensures item { slice_get (drop head.old items.old.items) place ≡ Some result }
     ensures waiting { drop head.new items.new.items ≡ remove (drop head.old items.old.items) place }
     ensures within { head.new ≤ length items.new.items }
 {
     let taken = *head + place;
     if place >= items.len() - taken {
-        return items.remove(taken);
+        items.remove(taken);
+    } else {
+        items[*head..taken + 1].rotate_right(1);
+        *head += 1;
     }
-    let item = items[taken];
-    items[*head..taken + 1].rotate_right(1);
-    *head += 1;
-    item
 }
 
-/// Closes the gap before the head where it is more than half, so that its cost was paid by as many takes.
+/// Closes the gap before the head. It is closed where it is more than half, so that its cost was paid by as many takes.
+#[inline(always)]
 fn close_gap(items: &mut Vec<Item>, head: &mut usize)
-    requires { head.old ≤ length items.old.items }
+    requires within { head.old ≤ length items.old.items }
+    requires half { length items.old.items - head.old ≤ head.old }
     ensures waiting { drop head.new items.new.items ≡ drop head.old items.old.items }
-    ensures bounded { 2 * head.new ≤ length items.new.items }
+    ensures closed { head.new ≡ 0 }
 {
     let waiting = items.len() - *head;
-    if *head > waiting {
-        if waiting > 0 {
-            bring_forward(items, *head);
-        }
-        items.truncate(waiting);
-        *head = 0;
+    if waiting > 0 {
+        bring_forward(items, *head);
     }
+    items.truncate(waiting);
+    *head = 0;
 }
 
 /// Copies what stands from the head on to the front, in one block: `copy_within` goes item by item. Most takes leave an

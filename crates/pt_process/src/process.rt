@@ -249,6 +249,7 @@ impl Process {
     }
 
     /// Takes the item at a place; the others stay, in order.
+    #[inline(always)]
     pub fn take_at(&mut self, place: usize) -> Item
         requires { place < length self.old.state.waiting }
         ensures item { slice_get self.old.state.waiting place ≡ Some result }
