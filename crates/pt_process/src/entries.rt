@@ -240,6 +240,7 @@ fn write<K: Eq + Copy, V: Copy>(few: &mut Vec<(K, V)>, key: &K, value: V)
     }
 }
 
+#[inline(always)]
 fn take<K: Eq + Copy, V: Copy>(few: &mut Vec<(K, V)>, key: &K) -> Option<V>
     ensures value { result ≡ lookup (K.eq key.now) few.old.items }
     ensures rest { few.new.items ≡ remove_entry (K.eq key.now) few.old.items }
