@@ -1,9 +1,8 @@
 #!/usr/bin/env python3
 """table.py RAW: the tables of bench/RESULTS.md from lines 'SETTING PROGRAM WORKLOAD PER_SECOND'.
 
-A figure is the best of all rounds, in millions a second. A ratio is that of the bests; behind it, in brackets, the least and
-the greatest ratio of one round, whose programs ran one after the other. Of programs on threads a figure is the median of all
-rounds, with the best in brackets, and a ratio that of the medians."""
+A figure is the median of all rounds, in millions a second, with the best in brackets. A ratio is that of the medians; behind
+it, in brackets, the least and the greatest ratio of one round, whose programs ran one after the other."""
 import sys
 from statistics import median
 from collections import defaultdict
@@ -17,17 +16,24 @@ for line in open(sys.argv[1]):
             works.append(words[2])
 
 
+# in millions a second
 def figure(key):
-    best = max(rates.get(key, [0]))
-    return f"{best / 1e6:.3g}" if best else ""
+    each = rates.get(key)
+    return f"{median(each) / 1e6:.3g} ({max(each) / 1e6:.3g})" if each else ""
 
 
 def ratio(key, base):
     ours, theirs = rates.get(key), rates.get(base)
-    if not ours or not theirs or not max(theirs):
+    if not ours or not theirs or not median(theirs):
         return ""
     each = [a / b for a, b in zip(ours, theirs) if b]
-    return f"{max(ours) / max(theirs):.2f} ({min(each):.2f} to {max(each):.2f})"
+    return f"{median(ours) / median(theirs):.2f} ({min(each):.2f} to {max(each):.2f})"
+
+
+# how long one time takes, in parts of a second
+def time(key, parts, form):
+    each = [it for it in rates.get(key, []) if it]
+    return f"{parts / median(each):{form}} ({parts / max(each):{form}})" if each else ""
 
 
 def table(title, heads, rows):
@@ -95,12 +101,6 @@ table(
     ["Workload", "Rust, unordered", "to it"],
     [[NAMES[it], figure((plain, "rust-unordered", it)), ratio((plain, "desk", it), (plain, "rust-unordered", it))] for it in NAMES],
 )
-# nanoseconds of one time, of the best round
-def nanoseconds(key):
-    best = max(rates.get(key, [0]))
-    return f"{1e9 / best:.0f}" if best else ""
-
-
 GROWTH = [
     ("10,000 events", "events_10000"),
     ("100,000 events", "events_100000"),
@@ -112,7 +112,7 @@ GROWTH = [
 table(
     "Growth: nanoseconds of a message with its turn and its receive, and of a birth and its end",
     ["Behind or beside", "message, Pundewo", "message, Rust", "birth and end, Pundewo", "birth and end, Rust"],
-    [[name] + [nanoseconds((plain, by, f"{work}_{it}")) for work in ("message", "birth") for by in ("desk", "rust")] for name, it in GROWTH],
+    [[name] + [time((plain, by, f"{work}_{it}"), 1e9, '.0f') for work in ("message", "birth") for by in ("desk", "rust")] for name, it in GROWTH],
 )
 table(
     "The slots",
@@ -141,18 +141,12 @@ table(
 )
 
 
-# milliseconds of one time, of the best round
-def milliseconds(work):
-    best = max(rates.get((plain, "epochs", work), [0]))
-    return f"{1e3 / best:.2f}" if best else ""
-
-
 LIVE = [("10", "10"), ("1,000", "1000"), ("65,000", "65000")]
 table(
     "Epochs: milliseconds of gathering, settling and going on, on four desks",
     ["Events of the epoch", "live on each desk", "gather", "settle", "resume"],
     [
-        [events, live, *[milliseconds(f"{call}_{number}_of_{word}") for call in ("gather", "settle", "resume")]]
+        [events, live, *[time((plain, "epochs", f"{call}_{number}_of_{word}"), 1e3, '.2f') for call in ("gather", "settle", "resume")]]
         for events, word in (("1,200", "few"), ("100,800", "100000"))
         for live, number in LIVE
         if (plain, "epochs", f"gather_{number}_of_{word}") in rates
@@ -166,29 +160,14 @@ table(
 )
 
 
-# the median of all rounds, and the best, in millions a second
-def middle(key):
-    each = rates.get(key)
-    return f"{median(each) / 1e6:.2f} ({max(each) / 1e6:.2f})" if each else ""
-
-
-# of the medians
-def middle_ratio(key, base):
-    ours, theirs = rates.get(key), rates.get(base)
-    if not ours or not theirs:
-        return ""
-    each = [a / b for a, b in zip(ours, theirs)]
-    return f"{median(ours) / median(theirs):.2f} ({min(each):.2f} to {max(each):.2f})"
-
-
 SHAPES = {"own": "each desk for itself", "all": "all to all", "ring": "ring of 1,000", "way": "one way"}
 ON_THREADS = [(shape, count) for shape in SHAPES for count in (1, 2, 4, 8)]
 table(
     "On threads: messages of all desks together",
     ["Shape", "Threads", "Pundewo", "Rust", "Rust, no journal", "Erlang", "to Rust", "to Erlang"],
     [
-        [SHAPES[shape], str(count), *[middle((plain, by, f"{shape}_{count}")) for by in ("hand", "actors", "actors-bare", "erlang")]]
-        + [middle_ratio((plain, "hand", f"{shape}_{count}"), (plain, by, f"{shape}_{count}")) for by in ("actors", "erlang")]
+        [SHAPES[shape], str(count), *[figure((plain, by, f"{shape}_{count}")) for by in ("hand", "actors", "actors-bare", "erlang")]]
+        + [ratio((plain, "hand", f"{shape}_{count}"), (plain, by, f"{shape}_{count}")) for by in ("actors", "erlang")]
         for shape, count in ON_THREADS
         if (plain, "hand", f"{shape}_{count}") in rates
     ],
@@ -198,7 +177,7 @@ table(
     ["Shape", "Threads", "Pundewo", "by a crew", "Rust", "Rust, no journal", "Erlang"],
     [
         [SHAPES[shape], str(count)]
-        + [middle_ratio((plain, by, f"{shape}_{count}"), (plain, by, f"{shape}_1")) for by in ("hand", "crew", "actors", "actors-bare", "erlang")]
+        + [ratio((plain, by, f"{shape}_{count}"), (plain, by, f"{shape}_1")) for by in ("hand", "crew", "actors", "actors-bare", "erlang")]
         for shape, count in ON_THREADS
         if count > 1 and (plain, "hand", f"{shape}_{count}") in rates
     ],
@@ -207,9 +186,9 @@ table(
     "On threads, on huge pages",
     ["Shape", "Threads", "Pundewo", "Rust", "Rust, no journal", "to Rust", "to one desk"],
     [
-        [SHAPES[shape], str(count), *[middle((huge, by, f"{shape}_{count}")) for by in ("hand", "actors", "actors-bare")]]
-        + [middle_ratio((huge, "hand", f"{shape}_{count}"), (huge, "actors", f"{shape}_{count}"))]
-        + [middle_ratio((huge, "hand", f"{shape}_{count}"), (huge, "hand", f"{shape}_1")) if count > 1 else ""]
+        [SHAPES[shape], str(count), *[figure((huge, by, f"{shape}_{count}")) for by in ("hand", "actors", "actors-bare")]]
+        + [ratio((huge, "hand", f"{shape}_{count}"), (huge, "actors", f"{shape}_{count}"))]
+        + [ratio((huge, "hand", f"{shape}_{count}"), (huge, "hand", f"{shape}_1")) if count > 1 else ""]
         for shape, count in ON_THREADS
         if (huge, "hand", f"{shape}_{count}") in rates
     ],
@@ -218,9 +197,9 @@ table(
     "Crews: messages of all desks together",
     ["Shape", "Threads", "by a crew", "on desks that rest", "by hand", "Erlang", "to hand", "to Erlang", "resting, to Erlang"],
     [
-        [SHAPES[shape], str(count), *[middle((plain, by, f"{shape}_{count}")) for by in ("crew", "rest", "hand", "erlang")]]
-        + [middle_ratio((plain, "crew", f"{shape}_{count}"), (plain, by, f"{shape}_{count}")) for by in ("hand", "erlang")]
-        + [middle_ratio((plain, "rest", f"{shape}_{count}"), (plain, "erlang", f"{shape}_{count}"))]
+        [SHAPES[shape], str(count), *[figure((plain, by, f"{shape}_{count}")) for by in ("crew", "rest", "hand", "erlang")]]
+        + [ratio((plain, "crew", f"{shape}_{count}"), (plain, by, f"{shape}_{count}")) for by in ("hand", "erlang")]
+        + [ratio((plain, "rest", f"{shape}_{count}"), (plain, "erlang", f"{shape}_{count}"))]
         for shape, count in ON_THREADS
         if (plain, "crew", f"{shape}_{count}") in rates
     ],
@@ -244,7 +223,7 @@ table(
     "A step of a crew that hands one message over, beside processes that wait",
     ["Processes that wait", "millions a second", "instructions"],
     [
-        [f"{count:,}", middle((plain, "idle", str(count))), instructions(f"idle_{count}")]
+        [f"{count:,}", figure((plain, "idle", str(count))), instructions(f"idle_{count}")]
         for count in (10, 1_000, 65_000)
         if (plain, "idle", str(count)) in rates
     ],
@@ -269,17 +248,11 @@ table(
 )
 
 
-# milliseconds of one time, the median of all rounds and the best; a rate is for a thousand seconds
-def large(work):
-    each = rates.get((plain, "large", work))
-    return f"{1e6 / median(each):.3g} ({1e6 / max(each):.3g})" if each else ""
-
-
 table(
     "Many events: milliseconds",
     ["Events", "gather", "history", "settle", "judge"],
     [
-        [f"{count:,}", *[large(f"{call}_{count}") for call in ("gather", "history", "settle", "replay")]]
+        [f"{count:,}", *[time((plain, "large", f"{call}_{count}"), 1e6, '.3g') for call in ("gather", "history", "settle", "replay")]]
         for count in (10_000, 100_000, 1_000_000, 10_000_000)
         if (plain, "large", f"history_{count}") in rates
     ],
