@@ -17,10 +17,13 @@ pub map-set_same : {X Y : Type 0} (f : X → Y) (xs : List X) (i : ℕ) (old x :
 map-set_same f xs i old x l r e =
     map-set f xs i x ∙ ap (set (map f xs) i) (e ∙ sym (get_or-map_read f xs i old (f x) l r)) ∙ set-get_or (map f xs) i (f x)
 
--- a write to the element `old` that puts one more at the end of its list
+-- a write to the element `old` that puts more at the end of its list, and one that puts one more there
+pub map-set_longer : {X Y : Type 0} (f : X → List Y) (xs : List X) (i : ℕ) (old x : X) (more : List Y) → i < length xs → old ≡ get_or xs i old → f x ≡ f old ++ more → map f (set xs i x) ≡ set (map f xs) i (get_or (map f xs) i [] ++ more)
+map-set_longer f xs i old x more l r e =
+    map-set f xs i x ∙ ap (set (map f xs) i) (e ∙ ap (λ ys. ys ++ more) (sym (get_or-map_read f xs i old [] l r)))
+
 pub map-set_more : {X Y : Type 0} (f : X → List Y) (xs : List X) (i : ℕ) (old x : X) (y : Y) → i < length xs → old ≡ get_or xs i old → f x ≡ f old ++ y ∷ [] → map f (set xs i x) ≡ set (map f xs) i (get_or (map f xs) i [] ++ y ∷ [])
-map-set_more f xs i old x y l r e =
-    map-set f xs i x ∙ ap (set (map f xs) i) (e ∙ ap (λ ys. ys ++ y ∷ []) (sym (get_or-map_read f xs i old [] l r)))
+map-set_more f xs i old x y l r e = map-set_longer f xs i old x (y ∷ []) l r e
 
 -- lists with equal parts are equally long
 pub length-map_same : {X Y : Type 0} (f : X → Y) (xs ys : List X) → map f xs ≡ map f ys → length xs ≡ length ys

@@ -58,6 +58,10 @@ ComeInTo number lanes =
 abbrev pub one_more : List (List Letter) → ℕ → Letter → List (List Letter)
 one_more lists k letter = slice_set lists k (slice_index_or lists k [] ++ letter ∷ [])
 
+-- the list for desk k gets more letters at its end
+abbrev pub more_of : List (List Letter) → ℕ → List Letter → List (List Letter)
+more_of lists k letters = slice_set lists k (slice_index_or lists k [] ++ letters)
+
 -- the letters posted to desk k less those known to be collected number the capacity of the lane
 abbrev pub IsFull : OutEnds → ℕ → Type 0
 IsFull o k = length (slice_index_or o.posted k []) ≡ slice_index_or o.capacity k 0 + slice_index_or o.seen k 0
@@ -65,6 +69,11 @@ IsFull o k = length (slice_index_or o.posted k []) ≡ slice_index_or o.capacity
 -- they number less: the lane has a place that this end knows of
 abbrev pub HasPlace : OutEnds → ℕ → Type 0
 HasPlace o k = length (slice_index_or o.posted k []) < slice_index_or o.capacity k 0 + slice_index_or o.seen k 0
+
+-- they leave so many places or more: the lane has as many that this end knows of
+abbrev pub HasPlaces : OutEnds → ℕ → ℕ → Type 0
+HasPlaces o k count =
+    length (slice_index_or o.posted k []) + count ≤ slice_index_or o.capacity k 0 + slice_index_or o.seen k 0
 
 -- the lane to desk k may have been looked at, and no other
 pub record LooksAt (old new : OutEnds) (k : ℕ) : Type 0 where

@@ -1,5 +1,6 @@
 -- The two ends of one lane.
-use Rattle.std.specs.Prelude.{ℕ, List, []}
+use Rattle.std.specs.Prelude.{◌≡◌, ℕ, List, []}
+use Rattle.std.specs.List.{All}
 use denote.RawPtr.{Ptr}
 use Rattle.pt_signal.specs.declared.letter.Letter.{Letter}
 use Rattle.rtrb.specs.declared.producer.Producer.{Producer}
@@ -43,6 +44,10 @@ on_lane from to l = record l {
   from = record l.from { shard = from };
   to = record l.to { shard = to };
 }
+
+-- each of the letters goes from the one desk to the other
+abbrev pub AllGo : ℕ → ℕ → List Letter → Type 0
+AllGo from to letters = All (λ (l : Letter). (l.from.shard ≡ from) × (l.to.shard ≡ to)) letters
 
 -- the ends of a new lane
 abbrev pub new_sending : Ring → ℕ → ℕ → ℕ → Sending

@@ -1,6 +1,6 @@
 //! One lane: a ring with an end that sends and an end that receives.
 
-ghost use Rattle.std.specs.Prelude.{◌≡◌, ◌↔◌, ◌+◌, ◌-◌, ◌^◌, ◌<◌, ◌≤◌, min, vec_len, length, map, [], ◌∷◌, ◌++◌};
+ghost use Rattle.std.specs.Prelude.{◌≡◌, ◌↔◌, ◌+◌, ◌-◌, ◌^◌, ◌<◌, ◌≤◌, min, vec_len, length, map, [], ◌∷◌, ◌++◌, take};
 ghost use Rattle.std.specs.Prelude.{IsTrue, IfOk, IfSome, false};
 ghost use Rattle.std.specs.Bool.{OnTrue, OnFalse};
 ghost use mathlib.Core.List.{IsPrefix};
@@ -8,7 +8,7 @@ ghost use Rattle.std.specs.Vec.{vec_capacity};
 ghost use Rattle.rtrb.specs.Ring.{sent, known_free, producer_capacity, received, known_items};
 ghost use Rattle.pt_signal.specs.declared.letter.Letter.{Letter};
 ghost use Rattle.pt_carrier.specs.Lanes.{Sending, Receiving, sending_ring, receiving_ring, on_lane, new_sending};
-ghost use Rattle.pt_carrier.specs.Lanes.{new_receiving};
+ghost use Rattle.pt_carrier.specs.Lanes.{new_receiving, AllGo};
 
 use pt_signal::Letter;
 use rtrb::{Consumer, Producer, RingBuffer};
@@ -88,6 +88,26 @@ impl OutLane {
     {
         self.ring.push_reserved(letter);
         self.count = self.count.saturating_add(1);
+    }
+
+    /// Posts as many of the letters, from the first on, as there are places for, and says how many.
+    ///
+    /// All of them show at the other end at once, where one letter after the other would each be shown alone.
+    #[inline(always)]
+    pub(crate) fn post_run(&mut self, letters: &[Letter]) -> usize
+        requires { AllGo self.old.from self.old.to letters.now }
+        ensures same { (self.new.ring ≡ self.old.ring) × (self.new.from ≡ self.old.from) × (self.new.to ≡ self.old.to) }
+        ensures posted { self.new.posted ≡ self.old.posted ++ take result letters.now }
+        ensures within { result ≤ length letters.now }
+        ensures full { result < length letters.now → length self.new.posted ≡ self.new.capacity + self.new.seen }
+        ensures room { length self.old.posted + length letters.now ≤ self.old.capacity + self.old.seen
+            → result ≡ length letters.now }
+        ensures knows { (self.new.capacity ≡ self.old.capacity) × (self.old.seen ≤ self.new.seen) }
+    {
+        let (posted, _rest) = self.ring.push_partial_slice(letters);
+        let count = posted.len();
+        self.count = self.count.saturating_add(count as u64);
+        count
     }
 
     /// How many letters were posted.

@@ -40,6 +40,9 @@
 //! is moved whole, once into its ring and once out of it. `reunite` looks at each lane once and moves each left-over
 //! letter once.
 //!
+//! Who has several letters for one desk takes [`Outs::post_run`] in place of as many `post`: they are copied into the
+//! ring one behind the other, and shown to the other end by one write for all of them.
+//!
 //! Who wants a letter only to read it takes [`Ins::next_from`], [`Ins::front`] and [`Ins::pass`] in place of `collect`:
 //! the letter is then read in its ring, and goes from there without being moved out.
 //!

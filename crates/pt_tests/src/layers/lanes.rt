@@ -5,6 +5,7 @@
 //! both ends on one thread, `two_threads_exchange_letters` with each on a thread of its own.
 
 ghost use Rattle.std.specs.Prelude.{◌≡◌, ◌<◌, ◌≤◌, length, map, vec_len};
+ghost use Rattle.pt_carrier.specs.Lanes.{AllGo};
 ghost use Rattle.pt_carrier.specs.Node.{places, IsNode};
 ghost use Rattle.pt_carrier.specs.declared.ends.TheConstants.{MAX_DESKS};
 ghost use Rattle.pt_carrier.specs.declared.opening.TheConstants.{MAX_CAPACITY};
@@ -178,6 +179,34 @@ fn a_full_lane_refuses_and_looks_again(rt: HostRuntime) {
     posts(&rt, &mut pairs, 0, 1, 2);
     assert_eq!(rt; counts(&pairs, 0, 1), (2, 1));
     leaves(&rt, rt.alloc(), pairs, 4, &[(1, letter(0, 1, 2))]);
+}
+
+/// Posts a run of letters, and says how many had places.
+fn post_run(pairs: &mut Vec<(Outs, Ins)>, from: u8, to: u8, letters: &[Letter]) -> usize
+    requires node { IsNode (map places pairs.old.items) }
+    requires desks { (from < vec_len pairs.old) × (to < vec_len pairs.old) }
+    requires names { AllGo from to letters.now }
+    ensures place { map places pairs.new.items ≡ map places pairs.old.items }
+    ensures count { vec_len pairs.new ≡ vec_len pairs.old }
+{
+    pairs[usize::from(from)].0.post_run(to, letters)
+}
+
+#[test]
+fn a_run_goes_as_far_as_there_are_places(rt: HostRuntime) {
+    let mut pairs = opened(&rt, rt.alloc(), 2, 3);
+    let five = [1, 2, 3, 4, 5].map(|num| letter(0, 1, num));
+    assert_eq!(rt; post_run(&mut pairs, 0, 1, &five), 3);
+    assert_eq!(rt; post(&mut pairs, 0, 1, 4), Some(letter(0, 1, 4)));
+    collects(&rt, &mut pairs, 1, 0, 1);
+    collects(&rt, &mut pairs, 1, 0, 2);
+    assert_eq!(rt; post_run(&mut pairs, 0, 1, &five[3..]), 2);
+    assert_eq!(rt; counts(&pairs, 0, 1), (5, 2));
+    for num in 3..6 {
+        collects(&rt, &mut pairs, 1, 0, num);
+    }
+    collects_none(&rt, &mut pairs, 1);
+    leaves(&rt, rt.alloc(), pairs, 4, &[]);
 }
 
 #[test]
