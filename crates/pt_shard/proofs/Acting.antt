@@ -16,7 +16,7 @@ use Rattle.pt_signal.specs.Values.{same_pid, fits, without_first}
 use Rattle.pt_signal.specs.Process.{ProcessState, say, sent, estate}
 use Rattle.pt_events.specs.declared.event.Event.{Event}
 use Rattle.pt_events.specs.declared.event.Event.TheVariants.{Said, Took, Flag, Left}
-use Rattle.pt_events.specs.History.{Start, living, is_living, life, touches, is_unborn, left_sends, sent_by, MaySay}
+use Rattle.pt_events.specs.History.{Start, Phase, unborn, living, ended, is_living, life, touches, is_unborn, left_sends, sent_by, MaySay}
 use Rattle.pt_events.specs.Journal.{letter, IsHome, MayHere, IsNewAt, IsKnown}
 use Rattle.pt_events.proofs.Steps.{said, took, flagged, left}
 use Rattle.pt_slots.specs.declared.Key.{Key}
@@ -185,6 +185,15 @@ pub record Found (a : Parts) (p : Pid) : Type 0 where
   pub me : Pid
   pub s : ProcessState
   pub there : Some (me, s) ≡ process_at a.processes.desk a.processes.table p
+
+-- who lives by the journal stands in the slots
+pub found_living : (a : Parts) → IsWhole a → (p : Pid) → lives (shard_of a) p ≡ true → Found a p
+found_living a whole p alive = go (life a.book.start (past (shard_of a)) p) refl alive
+  where
+    go : (f : Phase) → life a.book.start (past (shard_of a)) p ≡ f → is_living f ≡ true → Found a p
+    go (living s) is h = record { me = p; s = s; there = sym (whole.sound.processes p ∙ ap (of_phase p) is) }
+    go unborn is h = absurd (cc)
+    go (ended r s) is h = absurd (cc)
 
 module _ (a : Parts) (whole : IsWhole a) (p : Pid) (f : Found a p) where
   pub both : (life a.book.start (past (shard_of a)) p ≡ living f.s) × (f.me ≡ p)

@@ -1,5 +1,5 @@
 -- How many live on a desk: as many as slots are taken.
-use Rattle.std.proofs.Common.{◌≡◌, ◌==◌, ℕ, Bool, true, false, cond, count_by, Option, Some, None, refl, sym, ap, ◌∙◌, subst}
+use Rattle.std.proofs.Common.{◌≡◌, ℕ, Bool, true, false, cond, count_by, Option, Some, None, refl, sym, ap, ◌∙◌}
 use Rattle.std.specs.Prelude.{is_some}
 use Rattle.std.specs.List.{range_with_len}
 use Rattle.std.proofs.lemmas.Bool.{eq-eqb}
@@ -8,7 +8,7 @@ use Rattle.pt_slots.specs.State.{at, issued}
 use Rattle.pt_slots.specs.Taken.{taken_slots}
 use Rattle.pt_process.specs.ProcessView.{ProcessView}
 use Rattle.pt_events.specs.History.{Phase, unborn, living, ended, is_living}
-use Rattle.pt_shard.specs.ShardState.{ShardState, lives, phase_of}
+use Rattle.pt_shard.specs.ShardState.{lives, phase_of}
 use Rattle.pt_shard.specs.Fit.{latest_pid}
 use Rattle.pt_shard.specs.Living.{living_in, living_count}
 use Rattle.pt_shard.specs.Sound.{of_phase}

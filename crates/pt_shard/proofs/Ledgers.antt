@@ -50,10 +50,10 @@ module _ (items : List LettersState) (i j : ℕ) (is : i ≡ j) (within : j < le
       let fewer : new.room ≡ get_or (rooms_in items) i 0 - 1 = omega (arith, less, at) in
       map-set (λ (b : LettersState). b.room) items i new ∙ ap (set (rooms_in items) i) fewer ∙ ap (λ k. set (rooms_in items) k (get_or (rooms_in items) k 0 - 1)) is
 
-  pub popped_letters : new.letters ≡ drop 1 old.letters → letters_in (set items i new) ≡ set (letters_in items) j (drop 1 (get_or (letters_in items) j []))
-  popped_letters popped =
+  pub passed_letters : (count : ℕ) → new.letters ≡ drop count old.letters → letters_in (set items i new) ≡ set (letters_in items) j (drop count (get_or (letters_in items) j []))
+  passed_letters count passed =
       let at : get_or (letters_in items) i [] ≡ old.letters = get_or-map_read (λ (b : LettersState). b.letters) items i old [] inside read in
-      map-set (λ (b : LettersState). b.letters) items i new ∙ ap (set (letters_in items) i) (popped ∙ ap (drop 1) (sym at)) ∙ ap (λ k. set (letters_in items) k (drop 1 (get_or (letters_in items) k []))) is
+      map-set (λ (b : LettersState). b.letters) items i new ∙ ap (set (letters_in items) i) (passed ∙ ap (drop count) (sym at)) ∙ ap (λ k. set (letters_in items) k (drop count (get_or (letters_in items) k []))) is
 
   pub same_letters : new.letters ≡ old.letters → letters_in (set items i new) ≡ letters_in items
   same_letters same = map-set_same (λ (b : LettersState). b.letters) items i old new inside read same

@@ -1,5 +1,5 @@
 -- A desk on which nothing has happened, and one whose letters are moved.
-use Rattle.std.proofs.Common.{◌≡◌, ℕ, ◌<◌, ◌≤◌, ◌⊎◌, inl, inr, ◌==◌, Bool, true, false, not, List, [], ◌∷◌, length, drop, set, get_or, replicate, Option, None, refl, sym, ◌∙◌, subst, arith}
+use Rattle.std.proofs.Common.{◌≡◌, ℕ, zero, suc, ◌<◌, ◌≤◌, ◌⊎◌, inl, inr, ◌==◌, Bool, true, false, not, List, [], ◌∷◌, length, drop, set, get_or, replicate, Option, None, refl, sym, ◌∙◌, subst, arith}
 use Rattle.std.specs.Prelude.{IfSome}
 use Rattle.std.proofs.lemmas.Bool.{eqb-true, eq-eqb, both_ways, cases_lt}
 use Rattle.std.proofs.lemmas.Bool.Decides.{nat_tests}
@@ -55,32 +55,33 @@ module _ (a : Parts) (whole : IsWhole a) (outbox : List (List Letter)) (hold : O
   pub moved_extends : Extends (shard_of a) (shard_of moved)
   moved_extends = record { start = refl; number = refl; config = refl; more = []; journal = refl; known = λ p h. h }
 
-drop_between : (d e : ℕ) (ls : List Letter) → AreBetween d e ls → AreBetween d e (drop 1 ls)
-drop_between d e [] h = tt
-drop_between d e (l ∷ ls) h = h.1
+drop_between : (d e count : ℕ) (ls : List Letter) → AreBetween d e ls → AreBetween d e (drop count ls)
+drop_between d e zero ls h = h
+drop_between d e (suc count) [] h = tt
+drop_between d e (suc count) (l ∷ ls) h = drop_between d e count ls h.1
 
--- without the oldest letter for desk `to`
-module _ (a : Parts) (whole : IsWhole a) (to : ℕ) where
+-- without so many of the oldest letters for desk `to`
+module _ (a : Parts) (whole : IsWhole a) (to count : ℕ) where
   abbrev pub less : List (List Letter)
-  less = set a.book.outbox to (drop 1 (get_or a.book.outbox to []))
+  less = set a.book.outbox to (drop count (get_or a.book.outbox to []))
 
   pub less_boxes : length less ≡ a.config.desks
-  less_boxes = length-set a.book.outbox to (drop 1 (get_or a.book.outbox to [])) ∙ whole.sound.fit.boxes
+  less_boxes = length-set a.book.outbox to (drop count (get_or a.book.outbox to [])) ∙ whole.sound.fit.boxes
 
   pub less_boxed : (e : ℕ) → AreBetween a.processes.desk e (get_or less e [])
   less_boxed e = go (to == e) refl (cases_lt e (length a.book.outbox))
     where
       go : (b : Bool) → (to == e) ≡ b → (e < length a.book.outbox) ⊎ (length a.book.outbox ≤ e) → AreBetween a.processes.desk e (get_or less e [])
       go b k (inr beyond) =
-          let n = length-set a.book.outbox to (drop 1 (get_or a.book.outbox to [])) in
+          let n = length-set a.book.outbox to (drop count (get_or a.book.outbox to [])) in
           subst (AreBetween a.processes.desk e) (sym (get_or_past less e [] (omega (arith, beyond, n)))) tt
       go true k (inl within) =
           let at : to ≡ e = eqb-true to e k in
-          let here : get_or (set a.book.outbox e (drop 1 (get_or a.book.outbox e []))) e [] ≡ drop 1 (get_or a.book.outbox e []) = get_or-set_same a.book.outbox e (drop 1 (get_or a.book.outbox e [])) [] within in
-          subst (λ t. AreBetween a.processes.desk e (get_or (set a.book.outbox t (drop 1 (get_or a.book.outbox t []))) e [])) (sym at)
-          (subst (AreBetween a.processes.desk e) (sym here) (drop_between a.processes.desk e (get_or a.book.outbox e []) (whole.sound.fit.boxed e)))
+          let here : get_or (set a.book.outbox e (drop count (get_or a.book.outbox e []))) e [] ≡ drop count (get_or a.book.outbox e []) = get_or-set_same a.book.outbox e (drop count (get_or a.book.outbox e [])) [] within in
+          subst (λ t. AreBetween a.processes.desk e (get_or (set a.book.outbox t (drop count (get_or a.book.outbox t []))) e [])) (sym at)
+          (subst (AreBetween a.processes.desk e) (sym here) (drop_between a.processes.desk e count (get_or a.book.outbox e []) (whole.sound.fit.boxed e)))
       go false k (inl within) =
-          subst (AreBetween a.processes.desk e) (sym (get_or-set_other a.book.outbox to e (drop 1 (get_or a.book.outbox to [])) [] (λ h. both_ways (to == e) k (eq-eqb to e (sym h))))) (whole.sound.fit.boxed e)
+          subst (AreBetween a.processes.desk e) (sym (get_or-set_other a.book.outbox to e (drop count (get_or a.book.outbox to [])) [] (λ h. both_ways (to == e) k (eq-eqb to e (sym h))))) (whole.sound.fit.boxed e)
 
 -- nothing has happened ------------------------------------------------------------------------
 

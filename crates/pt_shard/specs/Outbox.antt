@@ -3,9 +3,13 @@ use Rattle.std.specs.Prelude.{ℕ, ◌+◌, ◌==◌, cond, List, [], ◌∷◌,
 use Rattle.pt_signal.specs.declared.letter.Letter.{Letter}
 use Rattle.pt_shard.specs.ShardState.{ShardState, box}
 
+-- the desk without so many of the oldest letters that wait for desk e
+abbrev pub sent_on_some : ℕ → ℕ → ShardState → ShardState
+sent_on_some e count d = record d { outbox = slice_set d.outbox e (drop count (box d e)) }
+
 -- the desk without the oldest letter that waits for desk e
 abbrev pub sent_on : ℕ → ShardState → ShardState
-sent_on e d = record d { outbox = slice_set d.outbox e (drop 1 (box d e)) }
+sent_on e d = sent_on_some e 1 d
 
 abbrev pub holding : Option Letter → ShardState → ShardState
 holding letter d = record d { hold = letter }

@@ -325,18 +325,27 @@ impl Ledger {
         }
     }
 
-    pub(crate) fn count_out(&self, to: u8) -> usize
+    /// The letters that wait to be posted to desk `to`, oldest first.
+    #[inline(always)]
+    pub(crate) fn letters_for(&self, to: u8) -> &[Letter]
         requires { to < length self.now.book.outbox }
-        ensures { result ≡ length (slice_index_or self.now.book.outbox to []) }
+        ensures { result.now ≡ slice_index_or self.now.book.outbox to [] }
     {
-        self.outbox[usize::from(to)].len()
+        self.outbox[usize::from(to)].as_slice()
     }
 
-    pub(crate) fn out_at(&self, to: u8, place: usize) -> Option<Letter>
-        requires { to < length self.now.book.outbox }
-        ensures { result ≡ slice_get (slice_index_or self.now.book.outbox to []) place }
+    /// Lets so many of the oldest letters go that wait to be posted to desk `to`.
+    #[inline(always)]
+    pub(crate) fn pass_out(&mut self, to: u8, count: usize)
+        requires desk { to < length self.old.book.outbox }
+        requires wait { count ≤ length (slice_index_or self.old.book.outbox to []) }
+        ensures { self.new.book
+            ≡ record self.old.book {
+              outbox = slice_set self.old.book.outbox to
+                  (drop count (slice_index_or self.old.book.outbox to []));
+            } }
     {
-        self.outbox[usize::from(to)].at(place)
+        self.outbox[usize::from(to)].pass(count);
     }
 
     pub(crate) fn next_out(&mut self, to: u8) -> Option<Letter>

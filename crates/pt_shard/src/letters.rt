@@ -1,26 +1,35 @@
 //! The letters for one desk.
 
-ghost use Rattle.std.specs.Prelude.{◌≡◌, ◌+◌, ◌<◌, ◌≤◌, ◌++◌, ◌∷◌, [], length, drop, slice_get, OnOk};
+ghost use Rattle.std.specs.Prelude.{◌≡◌, ◌+◌, ◌-◌, ◌<◌, ◌≤◌, ◌++◌, ◌∷◌, [], length, drop, take, slice_get, OnOk};
 
 use pt_signal::Letter;
 use std::alloc::{AllocError, Global};
-use std::collections::VecDeque;
 use std::marker::Model;
 
 /// The letters that wait for one desk, oldest first.
+///
+/// To let one go moves no other. The places of those that have gone are used again where a letter finds no room behind
+/// the others: where nothing waits, or where more have gone than wait, so that each that is moved was paid by one that
+/// has gone.
 #[derive(Drop)]
 pub(crate) struct Letters {
-    letters: VecDeque<Letter>,
+    letters: Vec<Letter>,
+    /// How many of them have gone on.
+    head: usize,
 }
 
 impl Model for Letters {
-    ghost use Rattle.std.specs.Prelude.{◌-◌};
-    ghost use Rattle.std.specs.VecDeque.{deque_len, deque_capacity};
+    ghost use Rattle.std.specs.Prelude.{◌-◌, ◌≤◌, drop, length, vec_len, vec_capacity};
     ghost use Rattle.pt_shard.specs.LettersState.{LettersState};
 
     ghost Value = { LettersState };
 
-    ghost view = { λ l. record { letters = l.letters.items; room = deque_capacity l.letters - deque_len l.letters } };
+    ghost view = { λ l. record {
+      letters = drop l.head l.letters.items;
+      room = vec_capacity l.letters - vec_len l.letters;
+    } };
+
+    ghost invariant = { λ l. l.head ≤ length l.letters.items };
 }
 
 impl Letters {
@@ -28,7 +37,8 @@ impl Letters {
         ensures { result.letters ≡ [] }
     {
         Letters {
-            letters: VecDeque::new(alloc),
+            letters: Vec::new(alloc),
+            head: 0,
         }
     }
 
@@ -36,14 +46,14 @@ impl Letters {
     pub(crate) fn len(&self) -> usize
         ensures { result ≡ length self.now.letters }
     {
-        self.letters.len()
+        self.letters.len() - self.head
     }
 
-    /// The letter at this place, counted from the oldest.
-    pub(crate) fn at(&self, place: usize) -> Option<Letter>
-        ensures { result ≡ slice_get self.now.letters place }
+    #[inline(always)]
+    pub(crate) fn as_slice(&self) -> &[Letter]
+        ensures { result.now ≡ self.now.letters }
     {
-        self.letters.get(place).copied()
+        &self.letters[self.head..]
     }
 
     #[inline(always)]
@@ -51,7 +61,25 @@ impl Letters {
         ensures first { result ≡ slice_get self.old.letters 0 }
         ensures rest { self.new.letters ≡ drop 1 self.old.letters }
     {
-        self.letters.pop_front()
+        if self.len() == 0 {
+            return None;
+        }
+        let letter = self.letters[self.head];
+        self.pass(1);
+        Some(letter)
+    }
+
+    /// Lets so many of the oldest go.
+    #[inline(always)]
+    pub(crate) fn pass(&mut self, count: usize)
+        requires { count ≤ length self.old.letters }
+        ensures { self.new.letters ≡ drop count self.old.letters }
+    {
+        self.head += count;
+        if self.head == self.letters.len() {
+            self.letters.clear();
+            self.head = 0;
+        }
     }
 
     /// Makes room for so many more letters.
@@ -60,8 +88,22 @@ impl Letters {
         ensures same { self.new.letters ≡ self.old.letters }
         ensures room { OnOk result (count ≤ self.new.room) }
     {
-        if count <= self.letters.capacity().saturating_sub(self.letters.len()) {
+        if count <= self.letters.capacity() - self.letters.len() {
             return Ok(());
+        }
+        self.make_room(count)
+    }
+
+    #[inline(never)]
+    fn make_room(&mut self, count: usize) -> Result<(), AllocError>
+        ensures same { self.new.letters ≡ self.old.letters }
+        ensures room { OnOk result (count ≤ self.new.room) }
+    {
+        let waiting = self.len();
+        if self.head > waiting {
+            bring_forward(&mut self.letters, self.head);
+            self.letters.truncate(waiting);
+            self.head = 0;
         }
         self.letters.reserve(count)
     }
@@ -73,6 +115,17 @@ impl Letters {
         ensures letters { self.new.letters ≡ self.old.letters ++ letter ∷ [] }
         ensures room { self.new.room + 1 ≡ self.old.room }
     {
-        self.letters.push_back_reserved(letter);
+        self.letters.push_reserved(letter);
     }
+}
+
+/// Copies what stands from the head on to the front, in one block: `copy_within` goes letter by letter.
+fn bring_forward(letters: &mut [Letter], head: usize)
+    requires within { head ≤ length letters.old }
+    requires apart { length letters.old - head ≤ head }
+    ensures front { take (length letters.old - head) letters.new ≡ drop head letters.old }
+    ensures len { length letters.new ≡ length letters.old }
+{
+    let (gap, waiting) = letters.split_at_mut(head);
+    gap[..waiting.len()].copy_from_slice(waiting);
 }

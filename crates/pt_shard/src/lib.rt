@@ -20,10 +20,10 @@
 //! # Calls and letters
 //!
 //! A call writes at most one event into the journal, stamped one above the clock. What the event sends waits as
-//! letters, each with the event's stamp, in the outbox: one queue for each receiving desk, taken out by `next_out`.
-//! `handle` takes one letter to its receiver, and `handle_in_place` one that stays where it stands; what that calls
-//! for, as the DOWNs of a process that it ends, waits in the outbox in its turn. A letter that was taken from a lane
-//! and cannot be handled yet stands in the hold.
+//! letters, each with the event's stamp, in the outbox: one queue for each receiving desk, taken out by `next_out`, or
+//! seen as one slice by `letters_for` and taken out by `pass_out`. `handle` takes one letter to its receiver, and
+//! `handle_in_place` one that stays where it stands; what that calls for, as the DOWNs of a process that it ends, waits
+//! in the outbox in its turn. A letter that was taken from a lane and cannot be handled yet stands in the hold.
 //!
 //! # Pids
 //!

@@ -18,7 +18,7 @@ ghost use Rattle.pt_shard.specs.Known.{knows};
 ghost use Rattle.pt_shard.specs.Reading.{read_of};
 ghost use Rattle.pt_shard.specs.Extends.{Extends};
 ghost use Rattle.pt_shard.specs.Fit.{IsFit};
-ghost use Rattle.pt_shard.specs.Outbox.{sent_on, holding, count_pending};
+ghost use Rattle.pt_shard.specs.Outbox.{sent_on, sent_on_some, holding, count_pending};
 ghost use Rattle.pt_shard.specs.Calls.{Calls, Monitors, Bears, BearsChild, link_event, unlink_event, first_match};
 ghost use Rattle.pt_shard.specs.Calls.{take_event, demonitor_event, held_by, new_ref, Refuses};
 ghost use Rattle.pt_shard.specs.Plain.{IsPlain};
@@ -297,6 +297,21 @@ impl Shard {
         self.say(from, to, Signal::Message(body))
     }
 
+    /// The same of a sender that is known to live here, which is not looked up.
+    ///
+    /// Refused as `Worn` or `Memory`.
+    #[inline(always)]
+    pub fn send_living(&mut self, from: Pid, to: Pid, body: Body) -> Result<(), Fault>
+        requires known { knows self.old to ≡ true }
+        requires lives { lives self.old from ≡ true }
+        ensures does { Calls from (Some (Event.Said from to (Signal.Message body))) tt self.old result self.new }
+        ensures extends { Extends self.old self.new }
+        ensures fit { IsFit self.new }
+    {
+        self.expect_known(to);
+        tell(&mut self.ledger, from, to, Signal::Message(body))
+    }
+
     /// Writes that a process sends an exit signal that no link carries, and puts its letter out.
     ///
     /// Refused as `Gone`, `Worn` or `Memory`.
@@ -554,14 +569,23 @@ impl Shard {
         Ok(Some(letter.to))
     }
 
+    /// The letters that wait to be posted to desk `to`, oldest first.
+    #[inline(always)]
+    pub fn letters_for(&self, to: u8) -> &[Letter]
+        requires { to < self.now.config.desks }
+        ensures { result.now ≡ box self.now to }
+    {
+        // looked at for the proof alone: what holds of the shard is said of all its fields
+        let _ = &self.processes;
+        self.ledger.letters_for(to)
+    }
+
     /// How many letters wait to be posted to desk `to`.
     pub fn count_out(&self, to: u8) -> usize
         requires { to < self.now.config.desks }
         ensures { result ≡ length (box self.now to) }
     {
-        // looked at for the proof alone: what holds of the shard is said of all its fields
-        let _ = &self.processes;
-        self.ledger.count_out(to)
+        self.letters_for(to).len()
     }
 
     /// The letter at this place among those that wait to be posted to desk `to`, counted from the oldest.
@@ -569,9 +593,19 @@ impl Shard {
         requires { to < self.now.config.desks }
         ensures { result ≡ slice_get (box self.now to) place }
     {
-        // looked at for the proof alone: what holds of the shard is said of all its fields
-        let _ = &self.processes;
-        self.ledger.out_at(to, place)
+        self.letters_for(to).get(place).copied()
+    }
+
+    /// Takes so many of the oldest letters out that wait to be posted to desk `to`.
+    #[inline(always)]
+    pub fn pass_out(&mut self, to: u8, count: usize)
+        requires desk { to < self.old.config.desks }
+        requires wait { count ≤ length (box self.old to) }
+        ensures rest { self.new ≡ sent_on_some to count self.old }
+        ensures extends { Extends self.old self.new }
+        ensures fit { IsFit self.new }
+    {
+        self.ledger.pass_out(to, count);
     }
 
     /// Takes the oldest letter out that waits to be posted to desk `to`.

@@ -1,5 +1,5 @@
 use Rattle.std.proofs.Common.{ap}
-use Rattle.pt_shard.proofs.Ledgers.{popped_letters}
+use Rattle.pt_shard.proofs.Ledgers.{passed_letters}
 use Rattle.pt_shard.proofs.ledger.Ledger.next_out.Goals as goal
 
 pub returns-clause-rest : goal.returns-clause-rest
@@ -7,4 +7,4 @@ returns-clause-rest c =
     let within = rw (← c.self.view_is) at c.requires in
     rw (← c.self.view_is)
     (ap (λ o. record { start = c.self.inside.origin.start; desk = c.self.inside.journal.desk; clock = c.self.inside.clock; journal = c.self.inside.journal.past; outbox = o; hold = c.self.inside.hold })
-    (popped_letters c.self.inside.outbox.items c.from.result c.args.to c.from.ensures within c.index_mut.result.now c.pop.new.self c.index_mut.ensures.value c.pop.ensures.rest))
+    (passed_letters c.self.inside.outbox.items c.from.result c.args.to c.from.ensures within c.index_mut.result.now c.pop.new.self c.index_mut.ensures.value 1 c.pop.ensures.rest))

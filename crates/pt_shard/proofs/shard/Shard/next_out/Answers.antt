@@ -8,7 +8,7 @@ whole c =
     let i = c.self.inside in
     let a = parts_of i.config i.ledger.book i.processes in
     subst (λ b. IsWhole (parts_of i.config b i.processes)) (sym c.next_out.ensures.rest)
-    (moved_whole a c.self.invariant (less a c.self.invariant c.args.to) i.ledger.book.hold (less_boxes a c.self.invariant c.args.to) (less_boxed a c.self.invariant c.args.to) c.self.invariant.sound.fit.held)
+    (moved_whole a c.self.invariant (less a c.self.invariant c.args.to 1) i.ledger.book.hold (less_boxes a c.self.invariant c.args.to 1) (less_boxed a c.self.invariant c.args.to 1) c.self.invariant.sound.fit.held)
 
 pub invariant_of-self : goal.invariant_of-self
 invariant_of-self c = whole c

@@ -1,6 +1,5 @@
-use Rattle.std.proofs.Common.{◌≡◌, ◌++◌, ap, sym, subst, ◌∙◌, arith}
+use Rattle.std.proofs.Common.{◌++◌, ap, sym, ◌∙◌}
 use Rattle.std.specs.Prelude.{option_to_list}
-use Rattle.std.specs.List.{filter_map, range_with_len}
 use Rattle.pt_shard.specs.Living.{living_in}
 use Rattle.pt_shard.proofs.Listed.{listed_more}
 use Rattle.pt_shard.proofs.shard.Shard.pids.Goals as goal
