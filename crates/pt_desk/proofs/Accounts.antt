@@ -1,18 +1,18 @@
 -- The accounts of a desk, over what it does.
-use Rattle.std.proofs.Common.{◌≡◌, ◌≢◌, ℕ, ◌+◌, ◌<◌, ◌≤◌, ◌==◌, Bool, true, false, cond, List, [], ◌∷◌, ◌++◌, length, max, map, filter, drop, get_or, set, Option, Some, None, refl, sym, ap, ◌∙◌, subst, append_assoc, append-nil, ⊎_elim, arith}
+use Rattle.std.proofs.Common.{◌≡◌, ◌≢◌, ℕ, ◌+◌, ◌<◌, ◌≤◌, ◌==◌, Bool, true, false, cond, List, [], ◌∷◌, ◌++◌, length, max, map, filter, take, drop, get_or, set, Option, Some, None, refl, sym, ap, ◌∙◌, subst, append_assoc, append-nil, ⊎_elim, arith}
 use Rattle.std.specs.Prelude.{IfSome}
 use Rattle.std.proofs.lemmas.Bool.{eqb-true, eq-eqb, ne_eqb, both_ways, cases_lt}
-use Rattle.std.proofs.lemmas.List.{get_or_past, get_or-set_same, get_or-set_other, length-set}
+use Rattle.std.proofs.lemmas.List.{get_or_past, get_or-set_same, get_or-set_other, length-set, take-append-drop}
 use Rattle.std.proofs.lemmas.List.Elements.{filter-append}
 use Rattle.pt_signal.specs.declared.letter.Letter.{Letter}
 use Rattle.pt_signal.specs.Process.{sent}
 use Rattle.pt_events.specs.declared.event.Event.{Event}
 use Rattle.pt_events.specs.History.{sent_by}
 use Rattle.pt_events.specs.Journal.{letter, letters, posts, gots, Agrees}
-use Rattle.pt_carrier.specs.Ends.{Place, OutEnds, InEnds, one_more, Collects}
+use Rattle.pt_carrier.specs.Ends.{Place, OutEnds, InEnds, more_of, Collects}
 use Rattle.pt_carrier.specs.Meeting.{out_kept, in_kept}
 use Rattle.pt_shard.specs.ShardState.{ShardState, box, past, written, handled, came}
-use Rattle.pt_shard.specs.Outbox.{sent_on, holding, held_from}
+use Rattle.pt_shard.specs.Outbox.{sent_on_some, holding, held_from}
 use Rattle.pt_shard.specs.Fit.{IsFit}
 use Rattle.pt_desk.specs.DeskState.{IsAccounted}
 use Rattle.pt_events.proofs.Agreeing.{Agrees-got, Agrees-posted}
@@ -80,35 +80,36 @@ module _ (s : ShardState) (o : OutEnds) (i : InEnds) (acc : IsAccounted s o i) w
           ap (λ z. get_or z d []) takes.collected ∙ get_or-set_other i.collected l.from.shard d (get_or i.collected l.from.shard [] ++ l ∷ []) [] (λ r. both_ways (l.from.shard == d) q (eq-eqb l.from.shard d (sym r))) in
           rw q (subst (λ z. Agrees z (gots s.journal d) []) (sym same) (before d h))
 
--- the oldest letter that waits for desk e is posted
-pub accounted_posted : (s s' : ShardState) (o o' : OutEnds) (i : InEnds) (e : ℕ) (l : Letter) → e < s.config.desks → IsFit s → IsAccounted s o i
-    → get_or s.outbox e [] ≡ l ∷ drop 1 (get_or s.outbox e []) → s' ≡ sent_on e s
-    → o'.posted ≡ one_more o.posted e l → o'.place ≡ o.place → IsAccounted s' o' i
-accounted_posted s s' o o' i e l e_in fit acc first after more place =
+-- so many of the oldest letters that wait for desk e are posted
+pub accounted_posted : (s s' : ShardState) (o o' : OutEnds) (i : InEnds) (e count : ℕ) → e < s.config.desks → IsFit s → IsAccounted s o i
+    → s' ≡ sent_on_some e count s → o'.posted ≡ more_of o.posted e (take count (get_or s.outbox e [])) → o'.place ≡ o.place → IsAccounted s' o' i
+accounted_posted s s' o o' i e count e_in fit acc after more place =
     subst (λ z. IsAccounted z o' i) (sym after) (record {
       out_number = ap (λ p. p.number) place ∙ acc.out_number;
       in_number = acc.in_number;
       out_desks = ap (λ p. length p.rings) place ∙ acc.out_desks;
       in_desks = acc.in_desks;
-      posted_desks = ap length more ∙ length-set o.posted e (get_or o.posted e [] ++ l ∷ []) ∙ acc.posted_desks;
+      posted_desks = ap length more ∙ length-set o.posted e (get_or o.posted e [] ++ take count (get_or s.outbox e [])) ∙ acc.posted_desks;
       collected_desks = acc.collected_desks;
       posted = λ k h. go k h (k == e) refl;
       collected = acc.collected;
     })
   where
-    here : posts s.start s.journal e ≡ get_or o'.posted e [] ++ get_or (set s.outbox e (drop 1 (get_or s.outbox e []))) e []
+    here : posts s.start s.journal e ≡ get_or o'.posted e [] ++ get_or (set s.outbox e (drop count (get_or s.outbox e []))) e []
     here =
-        acc.posted e e_in ∙ ap (λ z. get_or o.posted e [] ++ z) first ∙ sym (append_assoc (get_or o.posted e []) (l ∷ []) (drop 1 (get_or s.outbox e [])))
-        ∙ ap (λ z. z ++ drop 1 (get_or s.outbox e [])) (sym (ap (λ z. get_or z e []) more ∙ get_or-set_same o.posted e (get_or o.posted e [] ++ l ∷ []) [] (omega (arith, e_in, acc.posted_desks))))
-        ∙ ap (λ z. get_or o'.posted e [] ++ z) (sym (get_or-set_same s.outbox e (drop 1 (get_or s.outbox e [])) [] (omega (arith, e_in, fit.boxes))))
+        acc.posted e e_in
+        ∙ ap (λ z. get_or o.posted e [] ++ z) (sym (take-append-drop count (get_or s.outbox e [])))
+        ∙ sym (append_assoc (get_or o.posted e []) (take count (get_or s.outbox e [])) (drop count (get_or s.outbox e [])))
+        ∙ ap (λ z. z ++ drop count (get_or s.outbox e [])) (sym (ap (λ z. get_or z e []) more ∙ get_or-set_same o.posted e (get_or o.posted e [] ++ take count (get_or s.outbox e [])) [] (omega (arith, e_in, acc.posted_desks))))
+        ∙ ap (λ z. get_or o'.posted e [] ++ z) (sym (get_or-set_same s.outbox e (drop count (get_or s.outbox e [])) [] (omega (arith, e_in, fit.boxes))))
 
-    go : (k : ℕ) → k < s.config.desks → (b : Bool) → (k == e) ≡ b → posts s.start s.journal k ≡ get_or o'.posted k [] ++ get_or (set s.outbox e (drop 1 (get_or s.outbox e []))) k []
-    go k h true q = subst (λ k. posts s.start s.journal k ≡ get_or o'.posted k [] ++ get_or (set s.outbox e (drop 1 (get_or s.outbox e []))) k []) (sym (eqb-true k e q)) here
+    go : (k : ℕ) → k < s.config.desks → (b : Bool) → (k == e) ≡ b → posts s.start s.journal k ≡ get_or o'.posted k [] ++ get_or (set s.outbox e (drop count (get_or s.outbox e []))) k []
+    go k h true q = subst (λ k. posts s.start s.journal k ≡ get_or o'.posted k [] ++ get_or (set s.outbox e (drop count (get_or s.outbox e []))) k []) (sym (eqb-true k e q)) here
     go k h false q =
         let ne : k ≢ e = λ r. both_ways (k == e) q (eq-eqb k e r) in
         acc.posted k h
-        ∙ ap (λ z. z ++ get_or s.outbox k []) (sym (ap (λ z. get_or z k []) more ∙ get_or-set_other o.posted e k (get_or o.posted e [] ++ l ∷ []) [] ne))
-        ∙ ap (λ z. get_or o'.posted k [] ++ z) (sym (get_or-set_other s.outbox e k (drop 1 (get_or s.outbox e [])) [] ne))
+        ∙ ap (λ z. z ++ get_or s.outbox k []) (sym (ap (λ z. get_or z k []) more ∙ get_or-set_other o.posted e k (get_or o.posted e [] ++ take count (get_or s.outbox e [])) [] ne))
+        ∙ ap (λ z. get_or o'.posted k [] ++ z) (sym (get_or-set_other s.outbox e k (drop count (get_or s.outbox e [])) [] ne))
 
 -- the accounts for every number, those of no desk among them -----------------------------------
 

@@ -1,14 +1,15 @@
 -- What a post does to the lanes out of a desk.
-use Rattle.std.proofs.Common.{◌≡◌, ℕ, ◌+◌, ◌<◌, ◌≤◌, inl, inr, below_more, true, false, List, [], ◌∷◌, ◌++◌, length, take, drop, get_or, set, refl, sym, ap, ◌∙◌, subst, append_assoc, append-nil, length-drop, get_or-drop, arith}
-use Rattle.std.proofs.lemmas.List.{take_more, drop-drop, drop_all, get_or-set_same, get_or-set_other}
+use Rattle.std.proofs.Common.{◌≡◌, ℕ, ◌+◌, ◌<◌, ◌≤◌, inl, inr, below_more, List, [], ◌++◌, length, take, drop, get_or, set, refl, sym, ap, ◌∙◌, arith}
+use Rattle.std.proofs.lemmas.Bool.{cases_lt}
+use Rattle.std.proofs.lemmas.List.{drop_all, get_or-set_same, get_or-set_other, length-take-le}
 use Rattle.pt_signal.specs.declared.letter.Letter.{Letter}
-use Rattle.pt_carrier.specs.Ends.{OutEnds, InEnds, one_more, LooksAt}
+use Rattle.pt_carrier.specs.Ends.{OutEnds, InEnds, more_of, LooksAt, IsFull}
 use Rattle.pt_shard.specs.ShardState.{ShardState}
-use Rattle.pt_shard.specs.Outbox.{sent_on}
+use Rattle.pt_shard.specs.Outbox.{sent_on_some}
 use Rattle.pt_shard.specs.Fit.{IsFit}
 use Rattle.pt_desk.specs.Sight.{Sight}
 use Rattle.pt_desk.specs.DeskState.{DeskState, IsAccounted, posted_to, waits_for}
-use Rattle.pt_desk.specs.Posting.{total, PostsTo, OnlyPosts, SameLane, PostsSome, PostsOne}
+use Rattle.pt_desk.specs.Posting.{total, PostsTo, OnlyPosts, SameLane, PostsSome}
 use Rattle.pt_desk.proofs.Letters.{total_more}
 
 -- the desk of these parts
@@ -22,18 +23,23 @@ looked_then old mid new e looks same = record {
   others = same ∙ looks.others ∙ ap (set old.seen e) (ap (λ z. get_or z e 0) (sym same));
 }
 
-pub posts_one : (s s' : ShardState) (o o' : OutEnds) (i : InEnds) (v : Sight) (e : ℕ) (l : Letter) → e < s.config.desks → IsFit s → IsAccounted s o i
-    → get_or s.outbox e [] ≡ l ∷ drop 1 (get_or s.outbox e []) → s' ≡ sent_on e s
-    → o'.posted ≡ one_more o.posted e l → o'.place ≡ o.place → o'.capacity ≡ o.capacity → LooksAt o o' e → PostsOne e (of_parts s o i v) true (of_parts s' o' i v)
-posts_one s s' o o' i v e l e_in fit acc first after more place capacity looks = (
-  l,
-  first,
-  ap (λ z. get_or z e []) more ∙ get_or-set_same o.posted e (get_or o.posted e [] ++ l ∷ []) [] (omega (arith, e_in, acc.posted_desks)),
-  ap (λ (z : ShardState). get_or z.outbox e []) after ∙ get_or-set_same s.outbox e (drop 1 (get_or s.outbox e [])) [] (omega (arith, e_in, fit.boxes)),
+-- so many of the oldest letters for desk e were posted, and all of them or as many as the lane has places for
+pub posts_some : (s s' : ShardState) (o o' : OutEnds) (i : InEnds) (v : Sight) (e count : ℕ) → e < s.config.desks → IsFit s → IsAccounted s o i
+    → count ≤ length (get_or s.outbox e []) → (count < length (get_or s.outbox e []) → IsFull o' e) → s' ≡ sent_on_some e count s
+    → o'.posted ≡ more_of o.posted e (take count (get_or s.outbox e [])) → o'.place ≡ o.place → o'.capacity ≡ o.capacity → LooksAt o o' e
+    → PostsTo e (of_parts s o i v) (of_parts s' o' i v) × PostsSome e count (of_parts s o i v) (of_parts s' o' i v)
+posts_some s s' o o' i v e count e_in fit acc within full after more place capacity looks = (
+  record {
+    count = count;
+    posted = ap (λ z. get_or z e []) more ∙ get_or-set_same o.posted e (get_or o.posted e [] ++ take count (get_or s.outbox e [])) [] (omega (arith, e_in, acc.posted_desks));
+    left = left;
+    full = elim (cases_lt count (length (get_or s.outbox e []))) [ inl short ↦ inr (full short) | inr all ↦ inl (left ∙ drop_all count (get_or s.outbox e []) all) ];
+    seen = looks.more;
+  },
   record {
     others = λ k n. record {
-      posted = ap (λ z. get_or z k []) more ∙ get_or-set_other o.posted e k (get_or o.posted e [] ++ l ∷ []) [] n;
-      waits = ap (λ (z : ShardState). get_or z.outbox k []) after ∙ get_or-set_other s.outbox e k (drop 1 (get_or s.outbox e [])) [] n;
+      posted = ap (λ z. get_or z k []) more ∙ get_or-set_other o.posted e k (get_or o.posted e [] ++ take count (get_or s.outbox e [])) [] n;
+      waits = ap (λ (z : ShardState). get_or z.outbox k []) after ∙ get_or-set_other s.outbox e k (drop count (get_or s.outbox e [])) [] n;
       seen = ap (λ z. get_or z k 0) looks.others ∙ get_or-set_other o.seen e k (get_or o'.seen e 0) 0 n;
     };
     only = record {
@@ -44,17 +50,12 @@ posts_one s s' o o' i v e l e_in fit acc first after more place capacity looks =
       sight = refl;
     };
     seen = looks.more;
-    counted = ap total more ∙ total_more o.posted e l (omega (arith, e_in, acc.posted_desks));
+    counted = ap total more ∙ total_more o.posted e (take count (get_or s.outbox e [])) (omega (arith, e_in, acc.posted_desks)) ∙ ap (λ n. total o.posted + n) (length-take-le count (get_or s.outbox e []) within);
   },
 )
-
-pub same_lanes : (d : DeskState) (e : ℕ) → PostsSome e 0 d d
-same_lanes d e = record {
-  others = λ k n. record { posted = refl; waits = refl; seen = refl };
-  only = record { shard = refl; place = refl; capacity = refl; ins = refl; sight = refl };
-  seen = omega arith;
-  counted = omega arith;
-}
+  where
+    left : get_or s'.outbox e [] ≡ drop count (get_or s.outbox e [])
+    left = ap (λ (z : ShardState). get_or z.outbox e []) after ∙ get_or-set_same s.outbox e (drop count (get_or s.outbox e [])) [] (omega (arith, e_in, fit.boxes))
 
 pub only_then : (old mid new : DeskState) → OnlyPosts old mid → OnlyPosts mid new → OnlyPosts old new
 only_then old mid new a b = record {
@@ -63,57 +64,6 @@ only_then old mid new a b = record {
   capacity = b.capacity ∙ a.capacity;
   ins = b.ins ∙ a.ins;
   sight = b.sight ∙ a.sight;
-}
-
-pub some_then : (old mid new : DeskState) (e m n : ℕ) → PostsSome e m old mid → PostsSome e n mid new → PostsSome e (m + n) old new
-some_then old mid new e m n a b = record {
-  others = λ k d. record {
-    posted = (b.others k d).posted ∙ (a.others k d).posted;
-    waits = (b.others k d).waits ∙ (a.others k d).waits;
-    seen = (b.others k d).seen ∙ (a.others k d).seen;
-  };
-  only = only_then old mid new a.only b.only;
-  seen = omega (arith, a.seen, b.seen);
-  counted = omega (arith, a.counted, b.counted);
-}
-
--- so many letters for desk e were posted, the oldest that waited
-pub record PostsFront (e count : ℕ) (old new : DeskState) : Type 0 where
-  pub posted : posted_to new e ≡ posted_to old e ++ take count (waits_for old e)
-  pub left : waits_for new e ≡ drop count (waits_for old e)
-  pub some : PostsSome e count old new
-
-take_next : (n : ℕ) (xs : List Letter) (l : Letter) (rest : List Letter) → drop n xs ≡ l ∷ rest → take (n + 1) xs ≡ take n xs ++ l ∷ []
-take_next n xs l rest h =
-    let long : n < length xs = omega (arith, length-drop n xs, ap length h) in
-    let at : get_or xs n l ≡ l = ap (λ k. get_or xs k l) (omega arith) ∙ sym (get_or-drop n xs 0 l) ∙ ap (λ ys. get_or ys 0 l) h in
-    take_more xs n l long ∙ ap (λ y. take n xs ++ y ∷ []) at
-
-pub no_front : (d : DeskState) (e : ℕ) → PostsFront e 0 d d
-no_front d e = record { posted = sym (append-nil (posted_to d e)); left = refl; some = same_lanes d e }
-
-pub front_one : (old mid new : DeskState) (e n : ℕ) → PostsFront e n old mid → PostsOne e mid true new → PostsFront e (n + 1) old new
-front_one old mid new e n front (l, first, posted, left, some) = record {
-  posted =
-      posted ∙ ap (λ z. z ++ l ∷ []) front.posted ∙ append_assoc (posted_to old e) (take n (waits_for old e)) (l ∷ [])
-      ∙ ap (λ z. posted_to old e ++ z) (sym (take_next n (waits_for old e) l (drop 1 (waits_for mid e)) (sym front.left ∙ first)));
-  left = left ∙ ap (drop 1) front.left ∙ drop-drop 1 n (waits_for old e);
-  some = some_then old mid new e n 1 front.some some;
-}
-
-pub front_stops : (old mid new : DeskState) (e n : ℕ) → PostsFront e n old mid → PostsOne e mid false new → PostsTo e old new × PostsSome e n old new
-front_stops old mid new e n front (full, posted, left, some) = (
-  record { count = n; posted = posted ∙ front.posted; left = left ∙ front.left; full = inr full; seen = omega (arith, front.some.seen, some.seen) },
-  subst (λ k. PostsSome e k old new) (omega arith) (some_then old mid new e n 0 front.some some),
-)
-
-pub front_whole : (old new : DeskState) (e n : ℕ) → n ≡ length (waits_for old e) → PostsFront e n old new → PostsTo e old new
-front_whole old new e n all front = record {
-  count = n;
-  posted = front.posted;
-  left = front.left;
-  full = inl (front.left ∙ drop_all n (waits_for old e) (omega arith));
-  seen = front.some.seen;
 }
 
 -- one desk after the other

@@ -19,7 +19,7 @@ use Rattle.pt_carrier.specs.Meeting.{out_kept, in_kept}
 use Rattle.pt_shard.specs.ShardState.{ShardState, past, written, ended_in}
 use Rattle.pt_desk.specs.Sight.{Sight, death_by, deaths_in, seat_of, deaths_before, WasInTurn, IsSeen, AllSeen, IsSeated, HasWordsAt, AllHaveWords}
 use Rattle.pt_shard.specs.declared.config.Config.{Config}
-use Rattle.pt_shard.specs.Outbox.{sent_on}
+use Rattle.pt_shard.specs.Outbox.{sent_on_some}
 use Rattle.pt_shard.specs.Fit.{IsFit}
 use Rattle.pt_desk.specs.DeskState.{IsDesk, IsAccounted}
 use Rattle.pt_desk.proofs.Accounts.{accounted_met}
@@ -85,8 +85,8 @@ pub same_whole : (s s' : ShardState) (o o' : OutEnds) (i i' : InEnds) (v : Sight
 same_whole s s' o o' i i' v seat same fit accounts whole =
     (record { fit = fit; accounts = accounts; seated = same_seated s s' v same whole.0.seated }, whole.1 ∙ sym (same_seat s s' v same))
 
-pub posted_whole : (s s' : ShardState) (o o' : OutEnds) (i : InEnds) (v : Sight) (seat : SeatState) (e : ℕ) → s' ≡ sent_on e s → IsFit s' → IsAccounted s' o' i → IsWhole s o i v seat → IsWhole s' o' i v seat
-posted_whole s s' o o' i v seat e after fit accounts whole =
+pub posted_whole : (s s' : ShardState) (o o' : OutEnds) (i : InEnds) (v : Sight) (seat : SeatState) (e count : ℕ) → s' ≡ sent_on_some e count s → IsFit s' → IsAccounted s' o' i → IsWhole s o i v seat → IsWhole s' o' i v seat
+posted_whole s s' o o' i v seat e count after fit accounts whole =
     same_whole s s' o o' i i v seat
     (record {
       start = ap (λ (z : ShardState). z.start) after;

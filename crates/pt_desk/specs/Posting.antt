@@ -1,5 +1,5 @@
 -- How a desk posts.
-use Rattle.std.specs.Prelude.{◌≡◌, ◌≢◌, ℕ, ◌+◌, ◌<◌, ◌≤◌, ◌⊎◌, Bool, true, false, List, [], ◌∷◌, ◌++◌, length, sum_by}
+use Rattle.std.specs.Prelude.{◌≡◌, ◌≢◌, ℕ, ◌+◌, ◌<◌, ◌≤◌, ◌⊎◌, List, [], ◌++◌, length, sum_by}
 use Rattle.std.specs.Prelude.{take, drop, slice_index_or}
 use Rattle.pt_signal.specs.declared.letter.Letter.{Letter}
 use Rattle.pt_carrier.specs.Ends.{IsFull}
@@ -44,12 +44,3 @@ pub record PostsSome (e count : ℕ) (old new : DeskState) : Type 0 where
   pub only : OnlyPosts old new
   pub seen : slice_index_or old.outs.seen e 0 ≤ slice_index_or new.outs.seen e 0
   pub counted : total new.outs.posted ≡ total old.outs.posted + count
-
--- the oldest letter that waits for desk e is posted, unless the lane is full
-abbrev pub PostsOne : ℕ → DeskState → Bool → DeskState → Type 0
-PostsOne e old true new =
-    (l : Letter) × (waits_for old e ≡ l ∷ drop 1 (waits_for old e)) × (posted_to new e ≡ posted_to old e ++ l ∷ [])
-    × (waits_for new e ≡ drop 1 (waits_for old e)) × PostsSome e 1 old new
-PostsOne e old false new =
-    IsFull new.outs e × (posted_to new e ≡ posted_to old e) × (waits_for new e ≡ waits_for old e)
-    × PostsSome e 0 old new

@@ -23,7 +23,7 @@ ghost use Rattle.pt_desk.specs.DeskState.{collected_from};
 ghost use Rattle.pt_desk.specs.Meeting.{DesksMeet, MeetsItself};
 ghost use Rattle.pt_desk.specs.Sight.{IsSeated, seat_of};
 ghost use Rattle.pt_desk.specs.Reaching.{LooksFirst, Reaches, has_link_to_make, has_monitor_to_make};
-ghost use Rattle.pt_desk.specs.Posting.{PostsOne, PostsTo, PostsSome, Posts, total};
+ghost use Rattle.pt_desk.specs.Posting.{PostsTo, PostsSome, Posts, total};
 ghost use Rattle.pt_desk.specs.InPlace.{HandlesFront, HoldsFront, CanTell, told};
 ghost use Rattle.pt_desk.specs.Turns.{HandlesAtMostOne, Turns};
 
@@ -341,8 +341,11 @@ impl Desk {
         ensures ends { HasSameEnds self.old self.new }
         ensures goes_on { GoesOn self.old self.new }
     {
-        self.reach(self.alive_here(from), from, to)?;
-        self.shard.send(from, to, body)
+        if !self.shard.alive_here(from) {
+            return Err(Fault::Gone);
+        }
+        self.look(from, to)?;
+        self.shard.send_living(from, to, body)
     }
 
     /// Sends an exit signal that no link carries: Erlang's `exit/2`, section Receiving Exit Signals.
@@ -584,31 +587,40 @@ impl Desk {
         ensures to { PostsTo to self.old self.new }
         ensures some { PostsSome to result self.old self.new }
     {
-        let waiting = self.shard.count_out(to);
-        let mut posted: u64 = 0;
-        for _letter in 0..waiting {
-            if !self.post_one(to) {
-                return posted;
-            }
-            posted += 1;
+        match self.shard.letters_for(to).len() {
+            0 => 0,
+            1 => self.post_one(to),
+            _ => self.post_run(to),
         }
-        posted
     }
 
-    /// Posts the oldest letter that waits for desk `to`, if the lane has a place.
-    fn post_one(&mut self, to: u8) -> bool
+    /// The same, where one letter waits: it goes into its lane without the ring's call for a run.
+    #[inline(always)]
+    fn post_one(&mut self, to: u8) -> u64
         requires desk { to < self.old.shard.config.desks }
-        requires waits { 0 < length (waits_for self.old to) }
-        ensures { PostsOne to self.old result self.new }
+        requires one { length (waits_for self.old to) ≡ 1 }
+        ensures to { PostsTo to self.old self.new }
+        ensures some { PostsSome to result self.old self.new }
     {
         if self.outs.is_full(to) {
-            return false;
+            return 0;
         }
-        let Some(letter) = self.shard.next_out(to) else {
-            unreachable!();
-        };
+        let letter = self.shard.letters_for(to)[0];
         self.outs.post_reserved(to, letter);
-        true
+        self.shard.pass_out(to, 1);
+        1
+    }
+
+    /// The same, of all that wait.
+    #[inline(never)]
+    fn post_run(&mut self, to: u8) -> u64
+        requires { to < self.old.shard.config.desks }
+        ensures to { PostsTo to self.old self.new }
+        ensures some { PostsSome to result self.old self.new }
+    {
+        let posted = self.outs.post_run(to, self.shard.letters_for(to));
+        self.shard.pass_out(to, posted);
+        posted as u64
     }
 
     /// Handles the letter in the hold, or else the next that is collected, and says whether there was one.

@@ -11,14 +11,14 @@ use Rattle.pt_desk.proofs.desk.Desk.send.Goals as goal
 
 pub invariant_of-self : goal.invariant_of-self
 invariant_of-self c =
-    let i = c.self.inside in
+    let i = c.self-2.inside in
     let s = i.shard in
-    step_whole s c.send.new.self i.outs i.ins (sight_of (arc_value i.directory) i.seat i.before) i.seat
-    (calls_step c.args.from (Some (Said c.args.from c.args.to (Message c.args.body))) tt s c.send.result c.send.new.self (own_said _ _ _) c.send.ensures.does) c.self.invariant c.send.ensures.fit
+    step_whole s c.send_living.new.self i.outs i.ins (sight_of (arc_value i.directory) i.seat i.before) i.seat
+    (calls_step c.args.from (Some (Said c.args.from c.args.to (Message c.args.body))) tt s c.send_living.result c.send_living.new.self (own_said _ _ _) c.send_living.ensures.does) c.self-2.invariant c.send_living.ensures.fit
 
 pub returns-clause-goes_on : goal.returns-clause-goes_on
 returns-clause-goes_on c =
-    let i = c.self.inside in
-    let new = of_parts c.send.new.self i.outs i.ins (sight_of (arc_value i.directory) i.seat i.before) in
-    goes_on_then c.args.self.now c.reach.new.self new c.in_ok-reach.ensures.goes_on
-    (subst (λ d. GoesOn d new) c.self.view_is (shard_goes_on i.shard c.send.new.self i.outs i.ins (sight_of (arc_value i.directory) i.seat i.before) c.send.ensures.extends))
+    let i = c.self-2.inside in
+    let new = of_parts c.send_living.new.self i.outs i.ins (sight_of (arc_value i.directory) i.seat i.before) in
+    goes_on_then c.args.self.now c.look.new.self new c.in_ok-look.ensures.goes_on
+    (subst (λ d. GoesOn d new) c.self-2.view_is (shard_goes_on i.shard c.send_living.new.self i.outs i.ins (sight_of (arc_value i.directory) i.seat i.before) c.send_living.ensures.extends))
