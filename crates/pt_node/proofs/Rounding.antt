@@ -3,9 +3,9 @@ use Rattle.std.proofs.Common.{◌≡◌, ◌≢◌, ℕ, zero, suc, ◌+◌, ◌
 use Rattle.std.proofs.lemmas.Bool.{eqb-true, eq-eqb, both_ways}
 use Rattle.std.proofs.lemmas.List.{get_or_default, get_or-set_same, get_or-set_other, length-set}
 use Rattle.pt_desk.specs.DeskState.{DeskState}
-use Rattle.pt_node.specs.Running.{AllGoOn, AllWork, BeginRelation, HasTurn, HaveEnded, Round, Rounds, StepRelation, TakesOrEnds, TakesTurn, TakesTurns, Workers, Works}
+use Rattle.pt_node.specs.Running.{AllGoOn, AllWork, BeginRelation, HasTurn, HaveEnded, Round, Rounds, WorkRelation, TakesOrEnds, TakesTurn, TakesTurns, Workers, Works}
 
-module _ {W : Type 0} (lets : BeginRelation W) (does : StepRelation W) (budget : ℕ) where
+module _ {W : Type 0} (lets : BeginRelation W) (does : WorkRelation W) (budget : ℕ) where
   -- one worker, before and after a turn of that number, and whether it has ended
   abbrev OneTurn : ℕ → DeskState × W → Bool → DeskState × W → Bool → Type 0
   OneTurn turn p ended p' ended' =

@@ -619,7 +619,7 @@ impl Node {
         budget: u32,
         gate: &G,
     ) -> Result<(), RunFault>
-        ensures { RunsNode (AllWork (begins_by W.standing (G.lets gate.now)) W.does turns budget)
+        ensures { RunsNode (AllWork (begins_by W.standing (G.lets gate.now)) (W.does, W.hears) turns budget)
             self.old works.old.items result self.new works.new.items }
     {
         run_desks(rt, self.alloc, &mut self.desks, works, turns, budget, gate)
@@ -636,8 +636,9 @@ impl Node {
         budget: u32,
         gate: &G,
     ) -> Result<(), RunFault>
-        ensures { RunsNode (λ old new. AllWork (begins_by W.standing (G.lets gate.now)) W.does turns budget old new
-            × InRounds (begins_by W.standing (G.lets gate.now)) W.does turns budget old new)
+        ensures { RunsNode (λ old new.
+            AllWork (begins_by W.standing (G.lets gate.now)) (W.does, W.hears) turns budget old new
+            × InRounds (begins_by W.standing (G.lets gate.now)) (W.does, W.hears) turns budget old new)
             self.old works.old.items result self.new works.new.items }
     {
         run_desks_single(self.alloc, &mut self.desks, works, turns, budget, gate)

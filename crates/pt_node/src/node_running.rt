@@ -24,7 +24,7 @@ pub(crate) fn run_desks<R: Threads + Sync, G: Gate + Sync, W: Task + Send>(
     budget: u32,
     gate: &G,
 ) -> Result<(), RunFault>
-    ensures runs { RunsNode (AllWork (begins_by W.standing (G.lets gate.now)) W.does turns budget)
+    ensures runs { RunsNode (AllWork (begins_by W.standing (G.lets gate.now)) (W.does, W.hears) turns budget)
         desks.old.items works.old.items result desks.new.items works.new.items }
     ensures node { AreDesks desks.old.items → AreDesks desks.new.items }
 {
@@ -51,8 +51,9 @@ pub(crate) fn run_desks_single<G: Gate, W: Task>(
     gate: &G,
 ) -> Result<(), RunFault>
     requires { AreDesks desks.old.items }
-    ensures runs { RunsNode (λ old new. AllWork (begins_by W.standing (G.lets gate.now)) W.does turns budget old new
-        × InRounds (begins_by W.standing (G.lets gate.now)) W.does turns budget old new)
+    ensures runs { RunsNode (λ old new.
+        AllWork (begins_by W.standing (G.lets gate.now)) (W.does, W.hears) turns budget old new
+        × InRounds (begins_by W.standing (G.lets gate.now)) (W.does, W.hears) turns budget old new)
         desks.old.items works.old.items result desks.new.items works.new.items }
     ensures node { AreDesks desks.new.items }
 {

@@ -68,10 +68,10 @@ impl<W: Task> Ran<W> {
 
 /// Lets each desk's worker do up to `turns` turns on a thread of its own, and gives every desk back, in order.
 ///
-/// A worker's turn is `gate.before`, which may end it, the work's `step`, the desk's `turn` with that budget, and
-/// `gate.after`. It ends too, before `gate.before`, where its work is done or has failed. The desks are lent, so none
-/// moves into a thread; where no thread can be made the workers run one after another. When `run` returns every worker
-/// has ended. An empty list is given back.
+/// A worker's turn is `gate.before`, which may end it, the work's `step`, the desk's `turn` with that budget, the
+/// work's `turned`, which is told what that turn answered, and `gate.after`. It ends too, before `gate.before`, where
+/// its work is done or has failed. The desks are lent, so none moves into a thread; where no thread can be made the
+/// workers run one after another. When `run` returns every worker has ended. An empty list is given back.
 ///
 /// Each desk that comes back is the one at its place in the list handed in, gone on. So the desks of one node are that
 /// still, and [`gather`](crate::gather) takes them. Each worker takes all its turns, or those before the first that did
@@ -86,7 +86,7 @@ pub fn run<R: Threads + Sync, G: Gate + Sync, W: Task + Send>(
 ) -> Ran<W>
     ensures each { AllGoOn desks.items result.desks.items }
     ensures turns { AllWork
-        (begins_by W.standing (G.lets gate.now)) W.does turns budget desks.items result.desks.items }
+        (begins_by W.standing (G.lets gate.now)) (W.does, W.hears) turns budget desks.items result.desks.items }
     ensures desks { AreDesks (map (λ p. p.0) desks.items) → AreDesks (map (λ p. p.0) result.desks.items) }
 {
     let mut desks = desks;
@@ -108,9 +108,10 @@ pub fn run_single<G: Gate, W: Task>(
 ) -> Ran<W>
     ensures each { AllGoOn desks.items result.desks.items }
     ensures turns { AllWork
-        (begins_by W.standing (G.lets gate.now)) W.does turns budget desks.items result.desks.items }
+        (begins_by W.standing (G.lets gate.now)) (W.does, W.hears) turns budget desks.items result.desks.items }
     ensures rounds { length desks.items ≤ MAX_DESKS
-        → InRounds (begins_by W.standing (G.lets gate.now)) W.does turns budget desks.items result.desks.items }
+        → InRounds (begins_by W.standing (G.lets gate.now))
+        (W.does, W.hears) turns budget desks.items result.desks.items }
     ensures desks { AreDesks (map (λ p. p.0) desks.items) → AreDesks (map (λ p. p.0) result.desks.items) }
 {
     let mut desks = desks;
@@ -127,9 +128,9 @@ fn all_rounds<G: Gate, W: Task>(desks: &mut Vec<(Desk, W)>, turns: u64, budget: 
     requires { length desks.old.items ≤ MAX_DESKS }
     ensures each { AllGoOn desks.old.items desks.new.items }
     ensures turns { AllWork
-        (begins_by W.standing (G.lets gate.now)) W.does turns budget desks.old.items desks.new.items }
+        (begins_by W.standing (G.lets gate.now)) (W.does, W.hears) turns budget desks.old.items desks.new.items }
     ensures rounds { InRounds
-        (begins_by W.standing (G.lets gate.now)) W.does turns budget desks.old.items desks.new.items }
+        (begins_by W.standing (G.lets gate.now)) (W.does, W.hears) turns budget desks.old.items desks.new.items }
 {
     let mut ended = [false; 64];
     for turn in 0..turns {
@@ -149,7 +150,8 @@ fn one_round<G: Gate, W: Task>(
 ) -> bool
     requires { length desks.old.items ≤ MAX_DESKS }
     ensures each { AllGoOn desks.old.items desks.new.items }
-    ensures round { Round (begins_by W.standing (G.lets gate.now)) W.does budget turn (length desks.old.items)
+    ensures round { Round
+        (begins_by W.standing (G.lets gate.now)) (W.does, W.hears) budget turn (length desks.old.items)
         (desks.old.items, ended.old) (desks.new.items, ended.new) }
     ensures none { result ≡ false → HaveEnded (length desks.old.items) ended.new }
 {
@@ -175,7 +177,8 @@ fn turn_at<G: Gate, W: Task>(
     requires desk { d < length desks.old.items }
     requires few { length desks.old.items ≤ MAX_DESKS }
     ensures each { AllGoOn desks.old.items desks.new.items }
-    ensures turn { HasTurn (begins_by W.standing (G.lets gate.now)) W.does budget turn d (desks.old.items, ended.old)
+    ensures turn { HasTurn
+        (begins_by W.standing (G.lets gate.now)) (W.does, W.hears) budget turn d (desks.old.items, ended.old)
         (desks.new.items, ended.new) }
 {
     if ended[d] {
@@ -188,7 +191,7 @@ fn turn_at<G: Gate, W: Task>(
 fn one_by_one<G: Gate, W: Task>(desks: &mut Vec<(Desk, W)>, turns: u64, budget: u32, gate: &G)
     ensures each { AllGoOn desks.old.items desks.new.items }
     ensures turns { AllWork
-        (begins_by W.standing (G.lets gate.now)) W.does turns budget desks.old.items desks.new.items }
+        (begins_by W.standing (G.lets gate.now)) (W.does, W.hears) turns budget desks.old.items desks.new.items }
 {
     for d in 0..desks.len() {
         work_turns(&mut desks[d], turns, budget, gate);
@@ -204,7 +207,8 @@ fn work_all<R: Threads + Sync, G: Gate + Sync, W: Task + Send>(
     gate: &G,
 )
     ensures each { AllGoOn desks.old desks.new }
-    ensures turns { AllWork (begins_by W.standing (G.lets gate.now)) W.does turns budget desks.old desks.new }
+    ensures turns { AllWork
+        (begins_by W.standing (G.lets gate.now)) (W.does, W.hears) turns budget desks.old desks.new }
 {
     let workers = desks.len();
     if workers > 0 {
@@ -223,7 +227,8 @@ fn work_all<R: Threads + Sync, G: Gate + Sync, W: Task + Send>(
 fn work_turns<G: Gate, W: Task>(pair: &mut (Desk, W), turns: u64, budget: u32, gate: &G)
     ensures goes_on { GoesOn pair.old.0 pair.new.0 }
     ensures turns { Works
-        (begins_by W.standing (G.lets gate.now) pair.old.0.shard.number) W.does turns budget pair.old pair.new }
+        (begins_by W.standing (G.lets gate.now) pair.old.0.shard.number) (W.does, W.hears) turns budget
+        pair.old pair.new }
 {
     for turn in 0..turns {
         if !one_turn(pair, turn, budget, gate) {
@@ -236,7 +241,7 @@ fn work_turns<G: Gate, W: Task>(pair: &mut (Desk, W), turns: u64, budget: u32, g
 fn one_turn<G: Gate, W: Task>(pair: &mut (Desk, W), turn: u64, budget: u32, gate: &G) -> bool
     ensures goes_on { GoesOn pair.old.0 pair.new.0 }
     ensures lets { begins_by W.standing (G.lets gate.now) pair.old.0.shard.number pair.old.1 turn result }
-    ensures takes { MatchBool result (TakesTurn W.does budget pair.old pair.new) (pair.new ≡ pair.old) }
+    ensures takes { MatchBool result (TakesTurn (W.does, W.hears) budget pair.old pair.new) (pair.new ≡ pair.old) }
 {
     let (desk, work) = pair;
     let number = desk.number();
@@ -244,7 +249,8 @@ fn one_turn<G: Gate, W: Task>(pair: &mut (Desk, W), turn: u64, budget: u32, gate
         return false;
     }
     work.step(desk);
-    let _ = desk.turn(budget);
+    let turned = desk.turn(budget);
+    work.turned(desk, turned);
     gate.after(number, turn);
     true
 }

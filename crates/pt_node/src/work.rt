@@ -2,10 +2,11 @@
 
 ghost use Rattle.std.specs.Prelude.{◌≡◌, ⊤};
 ghost use Rattle.pt_desk.specs.DeskState.{DeskState, GoesOn};
+ghost use Rattle.pt_desk.specs.declared.turned.Turned.{Turned};
 ghost use Rattle.pt_node.specs.declared.work.Standing.{Standing};
 ghost use Rattle.pt_node.specs.declared.work.Standing.TheVariants.{Going};
 
-use pt_desk::Desk;
+use pt_desk::{Desk, Turned};
 
 /// What a worker does with its desk in each of its turns, before the desk's own turn.
 ///
@@ -15,14 +16,23 @@ use pt_desk::Desk;
 /// What else a step may do is the ghost member `does`, of the work and the desk before it and the two after it: what a
 /// run promises of its workers is said in its terms. A work that says nothing there promises nothing else.
 ///
+/// After the desk's turn it is told what that turn did. What it does then is the ghost member `hears`, of the work
+/// before it, the desk, what the turn answered and the work after it: a work that says nothing there stays as it was.
+///
 /// A work goes on for as many turns as it is asked for. One that can end by itself is a [`Task`].
 pub trait Work {
     ghost does: { Self → DeskState → Self → DeskState → Type 0 } = { λ _ _ _ _. ⊤ };
+
+    ghost hears: { Self → DeskState → Turned → Self → Type 0 } = { λ old _ _ new. new ≡ old };
 
     /// One step.
     fn step(&mut self, desk: &mut Desk)
         ensures does { does self.old desk.old self.new desk.new }
         ensures goes_on { GoesOn desk.old desk.new };
+
+    /// Told what the turn of the desk did that followed the step. A work that needs nothing of it does nothing here.
+    fn turned(&mut self, desk: &Desk, turned: Turned)
+        ensures { hears self.old desk.now turned self.new };
 }
 
 /// What a work says of itself.
@@ -46,12 +56,18 @@ pub enum Standing {
 pub trait Task {
     ghost does: { Self → DeskState → Self → DeskState → Type 0 } = { λ _ _ _ _. ⊤ };
 
+    ghost hears: { Self → DeskState → Turned → Self → Type 0 } = { λ old _ _ new. new ≡ old };
+
     ghost standing: { Self → Standing };
 
     /// One step, as [`Work::step`].
     fn step(&mut self, desk: &mut Desk)
         ensures does { does self.old desk.old self.new desk.new }
         ensures goes_on { GoesOn desk.old desk.new };
+
+    /// Told what the turn of the desk did that followed the step, as [`Work::turned`].
+    fn turned(&mut self, desk: &Desk, turned: Turned)
+        ensures { hears self.old desk.now turned self.new };
 
     /// Whether it goes on, is done, or has failed.
     fn standing(&self) -> Standing
@@ -61,10 +77,16 @@ pub trait Task {
 impl<W: Work> Task for W {
     ghost does = { W.does };
 
+    ghost hears = { W.hears };
+
     ghost standing = { λ _. Going };
 
     fn step(&mut self, desk: &mut Desk) {
         Work::step(self, desk)
+    }
+
+    fn turned(&mut self, desk: &Desk, turned: Turned) {
+        Work::turned(self, desk, turned)
     }
 
     fn standing(&self) -> Standing {

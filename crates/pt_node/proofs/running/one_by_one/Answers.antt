@@ -1,5 +1,5 @@
 use Rattle.std.proofs.Common.{◌<◌, length, refl, arith}
-use Rattle.pt_node.specs.Running.{begins_by}
+use Rattle.pt_node.specs.Running.{WorkRelation, begins_by}
 use Rattle.pt_node.proofs.GoingOn.{all_stay, all_go_on_then, one_goes_on}
 use Rattle.pt_node.proofs.Rounding.{one_done, one_rest}
 use Rattle.pt_node.proofs.running.one_by_one.Goals as goal
@@ -17,7 +17,7 @@ loop-d-preserved g c =
     let p' = c.work_turns.new.pair in
     let within : d < length mid = omega (arith, c.loop-d-test.true, inv.each.count) in
     let lets = begins_by g.W.Task.standing (g.G.Gate.lets c.args.gate.now) in
-    let does = g.W.Task.does in
+    let does : WorkRelation g.row.W.Denot = (g.W.Task.does, g.W.Task.hears) in
     record {
       each = all_go_on_then _ _ _ inv.each (one_goes_on mid d p p' within c.index_mut.ensures.value c.work_turns.ensures.goes_on);
       done = one_done lets does c.args.budget c.args.turns d old mid p p' within c.index_mut.ensures.value inv.rest c.work_turns.ensures.turns inv.done;

@@ -1,6 +1,6 @@
 use Rattle.std.proofs.Common.{refl, sym, ◌∙◌, arith}
 use Rattle.std.proofs.lemmas.Bool.{both_ways}
-use Rattle.pt_node.specs.Running.{Workers, begins_by}
+use Rattle.pt_node.specs.Running.{WorkRelation, Workers, begins_by}
 use Rattle.pt_node.proofs.GoingOn.{all_stay, all_go_on_then}
 use Rattle.pt_node.proofs.Rounding.{none_more, turn_more}
 use Rattle.pt_node.proofs.running.one_round.Goals as goal
@@ -19,7 +19,7 @@ pub loop-d-preserved : goal.loop-d-preserved
 loop-d-preserved g c =
     let inv = c.loop-d.invariant in
     let lets = begins_by g.W.Task.standing (g.G.Gate.lets c.args.gate.now) in
-    let does = g.W.Task.does in
+    let does : WorkRelation g.row.W.Denot = (g.W.Task.does, g.W.Task.hears) in
     let start : Workers g.row.W.Denot = (c.args.desks.now.items, c.args.ended.now) in
     let old : Workers g.row.W.Denot = (c.loop-d.desks.items, c.loop-d.ended) in
     let new : Workers g.row.W.Denot = (c.turn_at.new.desks.items, c.turn_at.new.ended) in

@@ -5,6 +5,6 @@ use Rattle.pt_node.proofs.running.one_round.Given as goal
 abbrev pub invariant-loop-d : goal.invariant-loop-d
 invariant-loop-d g l = record {
   each : AllGoOn l.initial.desks.items l.desks.items;
-  round : Round (begins_by g.W.Task.standing (g.G.Gate.lets l.gate)) g.W.Task.does l.budget l.turn l.d (l.initial.desks.items, l.initial.ended) (l.desks.items, l.ended);
+  round : Round (begins_by g.W.Task.standing (g.G.Gate.lets l.gate)) (g.W.Task.does, g.W.Task.hears) l.budget l.turn l.d (l.initial.desks.items, l.initial.ended) (l.desks.items, l.ended);
   none : l.goes_on ≡ false → HaveEnded l.d l.ended;
 }

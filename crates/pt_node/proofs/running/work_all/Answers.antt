@@ -16,6 +16,6 @@ returns-then-workers-gt0-clause-each g c =
 pub returns-then-workers-gt0-clause-turns : goal.returns-then-workers-gt0-clause-turns
 returns-then-workers-gt0-clause-turns g c = λ d x l.
     let at = (c.for_each_mut.ensures d x l).1 in
-    let called : Works (begins_by g.W.Task.standing (g.G.Gate.lets c.args.gate.now) at.argument.now.0.shard.number) g.W.Task.does c.args.turns c.args.budget at.argument.now at.after_call.now = search rules in
-    subst (λ y. Works (begins_by g.W.Task.standing (g.G.Gate.lets c.args.gate.now) (get_or c.args.desks.now d x).0.shard.number) g.W.Task.does c.args.turns c.args.budget (get_or c.args.desks.now d x) y) at.left
-    (subst (λ y. Works (begins_by g.W.Task.standing (g.G.Gate.lets c.args.gate.now) y.0.shard.number) g.W.Task.does c.args.turns c.args.budget y at.after_call.now) at.argument_is called)
+    let called : Works (begins_by g.W.Task.standing (g.G.Gate.lets c.args.gate.now) at.argument.now.0.shard.number) (g.W.Task.does, g.W.Task.hears) c.args.turns c.args.budget at.argument.now at.after_call.now = search rules in
+    subst (λ y. Works (begins_by g.W.Task.standing (g.G.Gate.lets c.args.gate.now) (get_or c.args.desks.now d x).0.shard.number) (g.W.Task.does, g.W.Task.hears) c.args.turns c.args.budget (get_or c.args.desks.now d x) y) at.left
+    (subst (λ y. Works (begins_by g.W.Task.standing (g.G.Gate.lets c.args.gate.now) y.0.shard.number) (g.W.Task.does, g.W.Task.hears) c.args.turns c.args.budget y at.after_call.now) at.argument_is called)

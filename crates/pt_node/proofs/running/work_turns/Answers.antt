@@ -1,6 +1,6 @@
 use Rattle.std.proofs.Common.{◌≡◌, add-one, true, false, MatchBool, inr, sym, subst}
 use Rattle.pt_desk.proofs.Turning.{goes_on_then}
-use Rattle.pt_node.specs.Running.{TakesTurns, TakesTurn, begins_by}
+use Rattle.pt_node.specs.Running.{TakesTurn, TakesTurns, WorkRelation, begins_by}
 use Rattle.pt_node.proofs.running.work_turns.Goals as goal
 
 pub returns-then-not-one_turn-clause-goes_on : goal.returns-then-not-one_turn-clause-goes_on
@@ -9,7 +9,7 @@ returns-then-not-one_turn-clause-goes_on g c = goes_on_then _ _ _ c.loop-turn.in
 pub returns-then-not-one_turn-clause-turns : goal.returns-then-not-one_turn-clause-turns
 returns-then-not-one_turn-clause-turns g c =
     let lets = begins_by g.W.Task.standing (g.G.Gate.lets c.args.gate.now) in
-    let does = g.W.Task.does in
+    let does : WorkRelation g.row.W.Denot = (g.W.Task.does, g.W.Task.hears) in
     let same : c.loop-turn.pair.0.shard.number ≡ c.args.pair.now.0.shard.number = c.loop-turn.invariant.goes_on.shard.number in
     let shut = subst (λ n. lets n c.loop-turn.pair.1 c.loop-turn.turn false) same (subst (λ b. lets c.loop-turn.pair.0.shard.number c.loop-turn.pair.1 c.loop-turn.turn b) c.if-not-one_turn.true c.one_turn.ensures.lets) in
     let stays : c.one_turn.new.pair ≡ c.loop-turn.pair = subst (λ b. MatchBool b (TakesTurn does c.args.budget c.loop-turn.pair c.one_turn.new.pair) (c.one_turn.new.pair ≡ c.loop-turn.pair)) c.if-not-one_turn.true c.one_turn.ensures.takes in
@@ -22,7 +22,7 @@ returns-then-not-one_turn-clause-turns g c =
 pub loop-turn-preserved : goal.loop-turn-preserved
 loop-turn-preserved g c =
     let lets = begins_by g.W.Task.standing (g.G.Gate.lets c.args.gate.now) in
-    let does = g.W.Task.does in
+    let does : WorkRelation g.row.W.Denot = (g.W.Task.does, g.W.Task.hears) in
     let same : c.loop-turn.pair.0.shard.number ≡ c.args.pair.now.0.shard.number = c.loop-turn.invariant.goes_on.shard.number in
     let let_in = subst (λ n. lets n c.loop-turn.pair.1 c.loop-turn.turn true) same (subst (λ b. lets c.loop-turn.pair.0.shard.number c.loop-turn.pair.1 c.loop-turn.turn b) c.if-not-one_turn.false c.one_turn.ensures.lets) in
     let took : TakesTurn does c.args.budget c.loop-turn.pair c.one_turn.new.pair = subst (λ b. MatchBool b (TakesTurn does c.args.budget c.loop-turn.pair c.one_turn.new.pair) (c.one_turn.new.pair ≡ c.loop-turn.pair)) c.if-not-one_turn.false c.one_turn.ensures.takes in
