@@ -90,7 +90,9 @@ module _ {B : Type 0} (answers : Answers B) (stands : Relation B) (k : IsUpheld 
 
   -- a worker's turn, and so many of them
   worker_on : (budget : ℕ) (old new : DeskState × Crew B) → TakesTurn (CrewsDo answers) budget old new → UpholdsOn stands old.1 old.0.shard → UpholdsOn stands new.1 new.0.shard
-  worker_on budget old new h a = turn_on new.1 budget h.stepped h.turned new.0 h.turn (step_on old.1 new.1 old.0.shard h.stepped.shard h.step a)
+  worker_on budget old new h a =
+      subst (λ (c : Crew B). UpholdsOn stands c new.0.shard) (sym h.hears)
+      (turn_on h.worked budget h.stepped h.turned new.0 h.turn (step_on old.1 h.worked old.0.shard h.stepped.shard h.step a))
 
   workers_on : (lets : Crew B → ℕ → Bool → Type 0) (budget count : ℕ) (old new : DeskState × Crew B) → TakesTurns lets (CrewsDo answers) budget count old new → UpholdsOn stands old.1 old.0.shard → UpholdsOn stands new.1 new.0.shard
   workers_on lets budget zero old new h a = subst (λ (x : DeskState × Crew B). UpholdsOn stands x.1 x.0.shard) (sym h) a

@@ -2,7 +2,7 @@
 use Rattle.std.specs.Prelude.{◌≡◌, ℕ, ◌<◌, ◌==◌, ◌&&◌, Bool, true, List, length, slice_index_or, Result}
 use Rattle.pt_shard.specs.ShardState.{ShardState}
 use Rattle.pt_desk.specs.DeskState.{DeskState}
-use Rattle.pt_node.specs.Running.{AllWork, BeginRelation, InRounds, StepRelation}
+use Rattle.pt_node.specs.Running.{AllWork, BeginRelation, InRounds, WorkRelation, step_alone}
 use Rattle.pt_node.specs.NodeRunning.{RunsNode}
 use Rattle.pt_node.specs.Stillness.{RunsRounds}
 use Rattle.pt_node.specs.declared.run_fault.RunFault.{RunFault}
@@ -22,9 +22,9 @@ pub record AreIdle {B : Type 0} (crews : List (Crew B)) (desks : List DeskState)
   pub each : (d : ℕ) (c : Crew B) (x : DeskState) → d < length desks
       → is_idle (slice_index_or crews d c) (slice_index_or desks d x).shard ≡ true
 
--- what a run of crews promises of each step
-abbrev pub CrewsDo : {B : Type 0} → Answers B → StepRelation (Crew B)
-CrewsDo answers old d new e = CrewDoes answers old d.shard new e.shard
+-- what a run of crews promises of each step. What a turn of its desk did changes nothing of a crew
+abbrev pub CrewsDo : {B : Type 0} → Answers B → WorkRelation (Crew B)
+CrewsDo answers = step_alone (λ old d new e. CrewDoes answers old d.shard new e.shard)
 
 -- the crew is one of the desk, and its behaviours uphold what they have to
 pub record UpholdsOn {B : Type 0} (stands : Relation B) (c : Crew B) (d : ShardState) : Type 0 where

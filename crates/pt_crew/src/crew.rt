@@ -543,4 +543,6 @@ impl<B: Behaviour + Drop> Work for Crew<B> {
         self.admit(desk);
         self.look(desk);
     }
+
+    fn turned(&mut self, _desk: &Desk, _turned: Turned) {}
 }

@@ -12,7 +12,7 @@ use Rattle.pt_desk.specs.DeskState.{DeskState}
 use Rattle.pt_desk.proofs.Turning.{turn_goes_on}
 use Rattle.pt_node.specs.NodeRunning.{ArePaired}
 use Rattle.pt_node.specs.Resuming.{Resumes}
-use Rattle.pt_node.specs.Running.{AllWork, BeginRelation, InRounds, Round, Rounds, TakesOrEnds, TakesTurn, TakesTurns, Workers, Works}
+use Rattle.pt_node.specs.Running.{AllWork, BeginRelation, InRounds, Round, Rounds, TakesOrEnds, TakesTurn, TakesTurns, Workers, Works, step_alone}
 use Rattle.pt_script.specs.Plans.{Whole}
 use Rattle.pt_choices.specs.declared.Options.{Options}
 use Rattle.pt_runner.specs.declared.runner.Runner.{Runner}
@@ -33,28 +33,29 @@ AllAttended pairs = (d : ℕ) (x : Pair) → d < length pairs → IsAttended (ge
 
 -- a turn ------------------------------------------------------------------------------------
 
-turn_does : (budget : ℕ) (old new : Pair) → IsAttended old → TakesTurn RunnerSteps budget old new → TakesTurn RunnerDoes budget old new × IsAttended new
+turn_does : (budget : ℕ) (old new : Pair) → IsAttended old → TakesTurn (step_alone RunnerSteps) budget old new → TakesTurn (step_alone RunnerDoes) budget old new × IsAttended new
 turn_does budget old new attended h =
     let so = h.step attended in
     let t = h.turn in
     let on = turn_goes_on h.stepped t.posted_desk t.last new.0 t.letters h.turned.stopped h.turned.handled budget t.posts t.handles t.ends in
-    let r = new.1 in (
-      record { stepped = h.stepped; step = so.0; goes_on = h.goes_on; turned = h.turned; turn = t },
-      inr (inr (knows_later r.script.now.processes r.pids.items r.actors.items r.came.items r.read h.stepped.shard new.0.shard on.shard so.1)),
+    let r = h.worked in (
+      record { stepped = h.stepped; worked = r; step = so.0; goes_on = h.goes_on; turned = h.turned; turn = t; hears = h.hears },
+      subst (λ (x : Runner). Attends x new.0.shard) (sym {A = Runner} h.hears)
+      (inr (inr (knows_later r.script.now.processes r.pids.items r.actors.items r.came.items r.read h.stepped.shard new.0.shard on.shard so.1))),
     )
 
-turns_do : (lets : Runner → ℕ → Bool → Type 0) (budget count : ℕ) (old new : Pair) → IsAttended old → TakesTurns lets RunnerSteps budget count old new → TakesTurns lets RunnerDoes budget count old new × IsAttended new
+turns_do : (lets : Runner → ℕ → Bool → Type 0) (budget count : ℕ) (old new : Pair) → IsAttended old → TakesTurns lets (step_alone RunnerSteps) budget count old new → TakesTurns lets (step_alone RunnerDoes) budget count old new × IsAttended new
 turns_do lets budget zero old new attended same = (same, subst IsAttended (sym {A = Pair} same) attended)
 turns_do lets budget (suc count) old new attended (last, took, begins, turn) =
     let before = turns_do lets budget count old last attended took in
     let next = turn_does budget last new before.1 turn in
     ((last, before.0, begins, next.0), next.1)
 
-works_do : (lets : Runner → ℕ → Bool → Type 0) (turns budget : ℕ) (old new : Pair) → IsAttended old → Works lets RunnerSteps turns budget old new → Works lets RunnerDoes turns budget old new
+works_do : (lets : Runner → ℕ → Bool → Type 0) (turns budget : ℕ) (old new : Pair) → IsAttended old → Works lets (step_alone RunnerSteps) turns budget old new → Works lets (step_alone RunnerDoes) turns budget old new
 works_do lets turns budget old new attended h = record { count = h.count; took = (turns_do lets budget h.count old new attended h.took).0; ends = h.ends }
 
 module _ (lets : BeginRelation Runner) where
-  pub all_do : (turns budget : ℕ) (old new : List Pair) → AllAttended old → AllWork lets RunnerSteps turns budget old new → AllWork lets RunnerDoes turns budget old new
+  pub all_do : (turns budget : ℕ) (old new : List Pair) → AllAttended old → AllWork lets (step_alone RunnerSteps) turns budget old new → AllWork lets (step_alone RunnerDoes) turns budget old new
   all_do turns budget old new attended h = λ d x lt. works_do (lets (get_or old d x).0.shard.number) turns budget (get_or old d x) (get_or new d x) (attended d x lt) (h d x lt)
 
   -- rounds ------------------------------------------------------------------------------------
@@ -76,11 +77,11 @@ module _ (lets : BeginRelation Runner) where
       rest later zero x lt = all zero x (omega arith)
       rest later (suc e) x lt = later e x (omega (arith, lt))
 
-  taken : (budget : ℕ) (begins : Bool) (old new : Pair) → IsAttended old → MatchBool begins (TakesTurn RunnerSteps budget old new) (new ≡ old) → MatchBool begins (TakesTurn RunnerDoes budget old new) (new ≡ old) × IsAttended new
+  taken : (budget : ℕ) (begins : Bool) (old new : Pair) → IsAttended old → MatchBool begins (TakesTurn (step_alone RunnerSteps) budget old new) (new ≡ old) → MatchBool begins (TakesTurn (step_alone RunnerDoes) budget old new) (new ≡ old) × IsAttended new
   taken budget true old new attended h = turn_does budget old new attended h
   taken budget false old new attended h = (h, subst IsAttended (sym {A = Pair} h) attended)
 
-  takes_or_ends : (n budget turn d : ℕ) (old new : Workers Runner) → d < n → Stays n old → TakesOrEnds lets RunnerSteps budget turn d old new → TakesOrEnds lets RunnerDoes budget turn d old new × Stays n new
+  takes_or_ends : (n budget turn d : ℕ) (old new : Workers Runner) → d < n → Stays n old → TakesOrEnds lets (step_alone RunnerSteps) budget turn d old new → TakesOrEnds lets (step_alone RunnerDoes) budget turn d old new × Stays n new
   takes_or_ends n budget turn d old new lt stays h =
       let at = get_or old.0 d h.pair in
       let so = taken budget h.begins at h.pair (stays.0 d h.pair (omega (arith, lt, stays.1))) h.takes in (
@@ -88,26 +89,26 @@ module _ (lets : BeginRelation Runner) where
         (subst AllAttended (sym {A = List Pair} h.desks) (set_attended old.0 d h.pair stays.0 so.1), ap length h.desks ∙ length-set old.0 d h.pair ∙ stays.1),
       )
 
-  has_turn : (n budget turn d : ℕ) (old new : Workers Runner) (ended : Bool) → d < n → Stays n old → MatchBool ended (new ≡ old) (TakesOrEnds lets RunnerSteps budget turn d old new)
-      → MatchBool ended (new ≡ old) (TakesOrEnds lets RunnerDoes budget turn d old new) × Stays n new
+  has_turn : (n budget turn d : ℕ) (old new : Workers Runner) (ended : Bool) → d < n → Stays n old → MatchBool ended (new ≡ old) (TakesOrEnds lets (step_alone RunnerSteps) budget turn d old new)
+      → MatchBool ended (new ≡ old) (TakesOrEnds lets (step_alone RunnerDoes) budget turn d old new) × Stays n new
   has_turn n budget turn d old new true lt stays h = (h, subst (Stays n) (sym {A = Workers Runner} h) stays)
   has_turn n budget turn d old new false lt stays h = takes_or_ends n budget turn d old new lt stays h
 
-  round : (n budget turn d : ℕ) (old new : Workers Runner) → d ≤ n → Stays n old → Round lets RunnerSteps budget turn d old new → Round lets RunnerDoes budget turn d old new × Stays n new
+  round : (n budget turn d : ℕ) (old new : Workers Runner) → d ≤ n → Stays n old → Round lets (step_alone RunnerSteps) budget turn d old new → Round lets (step_alone RunnerDoes) budget turn d old new × Stays n new
   round n budget turn zero old new le stays same = (same, subst (Stays n) (sym {A = Workers Runner} same) stays)
   round n budget turn (suc d) old new le stays (mid, before, last) =
       let first = round n budget turn d old mid (omega (arith, le)) stays before in
       let next = has_turn n budget turn d mid new (get_or mid.1 d false) (omega (arith, le)) first.1 last in
       ((mid, first.0, next.0), next.1)
 
-  rounds : (n budget turn : ℕ) (old new : Workers Runner) → Stays n old → Rounds lets RunnerSteps budget n turn old new → Rounds lets RunnerDoes budget n turn old new × Stays n new
+  rounds : (n budget turn : ℕ) (old new : Workers Runner) → Stays n old → Rounds lets (step_alone RunnerSteps) budget n turn old new → Rounds lets (step_alone RunnerDoes) budget n turn old new × Stays n new
   rounds n budget zero old new stays same = (same, subst (Stays n) (sym {A = Workers Runner} same) stays)
   rounds n budget (suc turn) old new stays (mid, before, last) =
       let first = rounds n budget turn old mid stays before in
       let next = round n budget turn n mid new (omega arith) first.1 last in
       ((mid, first.0, next.0), next.1)
 
-  pub in_rounds : (turns budget : ℕ) (old new : List Pair) → AllAttended old → InRounds lets RunnerSteps turns budget old new → InRounds lets RunnerDoes turns budget old new
+  pub in_rounds : (turns budget : ℕ) (old new : List Pair) → AllAttended old → InRounds lets (step_alone RunnerSteps) turns budget old new → InRounds lets (step_alone RunnerDoes) turns budget old new
   in_rounds turns budget old new attended (ended, h) = (ended, (rounds (length old) budget turns _ (new, ended) (attended, refl) h).0)
 
 -- an epoch begins -----------------------------------------------------------------------------

@@ -13,7 +13,7 @@ use Rattle.pt_desk.specs.DeskState.{DeskState}
 use Rattle.pt_node.specs.Gathering.{Gathers}
 use Rattle.pt_node.specs.NodeRunning.{RunsPaired}
 use Rattle.pt_node.specs.Resuming.{Resumes}
-use Rattle.pt_node.specs.Running.{AllWork, InRounds, always}
+use Rattle.pt_node.specs.Running.{AllWork, InRounds, always, step_alone}
 use Rattle.pt_choices.specs.declared.Mode.TheVariants.{Single}
 use Rattle.pt_choices.specs.declared.Options.{Options}
 use Rattle.pt_choices.specs.declared.Show.{Show}
@@ -33,8 +33,9 @@ Staffed = List DeskState × List Runner
 -- Desks were run as the options say: each took all its turns, in each of which the processes of its runner did their
 -- next operations, and then the desk its turn with this budget; on a single thread these came in rounds.
 pub record RunsAs (options : Options) (budget : ℕ) (old new : List (DeskState × Runner)) : Type 0 where
-  pub turns : AllWork (λ desk _. always desk) RunnerDoes options.turns budget old new
-  pub rounds : options.threads ≡ Single → InRounds (λ desk _. always desk) RunnerDoes options.turns budget old new
+  pub turns : AllWork (λ desk _. always desk) (step_alone RunnerDoes) options.turns budget old new
+  pub rounds : options.threads ≡ Single
+      → InRounds (λ desk _. always desk) (step_alone RunnerDoes) options.turns budget old new
 
 -- so were these, each with the runner at its place
 abbrev pub RunsOn : Options → ℕ → Staffed → Staffed → Type 0

@@ -8,7 +8,7 @@ ghost use Rattle.pt_resting.specs.Bringing.{BringsFirst, Brings};
 use crate::bells::Bells;
 use crate::resting::Rests;
 use pt_crew::tell;
-use pt_node::{Body, Desk, Fault, Pid, Work};
+use pt_node::{Body, Desk, Fault, Pid, Turned, Work};
 use rtrb::{Consumer, Producer, PushError, RingBuffer};
 use std::alloc::{AllocError, Global};
 
@@ -150,10 +150,16 @@ impl<W: Work> Work for Porter<W> {
     ghost does = { λ old d new e. (mid : DeskState) × Brings old.me (received old.ring) d (received new.ring) mid
         × W.Work.does old.work mid new.work e };
 
+    ghost hears = { λ old d turned new. W.Work.hears old.work d turned new.work };
+
     #[tactic(auto, using(pt_node::proofs::GoingOn::stays, pt_desk::proofs::Turning::goes_on_then))]
     fn step(&mut self, desk: &mut Desk) {
         self.bring(desk);
         self.work.step(desk);
+    }
+
+    fn turned(&mut self, desk: &Desk, turned: Turned) {
+        self.work.turned(desk, turned);
     }
 }
 

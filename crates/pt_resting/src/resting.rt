@@ -4,7 +4,7 @@ ghost use Rattle.std.specs.Prelude.{◌≡◌, Bool};
 
 use crate::bells::Bells;
 use pt_crew::{Behaviour, Crew};
-use pt_node::{Desk, Event, Pid, Stamped, Work};
+use pt_node::{Desk, Event, Pid, Stamped, Turned, Work};
 
 /// A work that knows whether it has something to do by itself, though nothing comes to its desk.
 pub trait Rests: Work {
@@ -95,6 +95,8 @@ fn targets_of(desk: &Desk, events: &[Stamped]) -> u64 {
 impl<'a, W: Rests> Work for Resting<'a, W> {
     ghost does = { λ old d new e. W.Work.does old.work d new.work e };
 
+    ghost hears = { λ old d turned new. W.Work.hears old.work d turned new.work };
+
     fn step(&mut self, desk: &mut Desk) {
         let before = desk.clock();
         let quiet = self.clock == Some(before) && desk.pending() == 0;
@@ -106,5 +108,9 @@ impl<'a, W: Rests> Work for Resting<'a, W> {
         let idle = quiet && clock == before && desk.pending() == 0 && !self.work.has_work();
         self.bells.tell(desk.number(), idle, self.posts);
         self.clock = Some(clock);
+    }
+
+    fn turned(&mut self, desk: &Desk, turned: Turned) {
+        self.work.turned(desk, turned);
     }
 }

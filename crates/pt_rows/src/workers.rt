@@ -3,7 +3,7 @@
 ghost use Rattle.pt_node.specs.Desks.{AreDesks};
 
 use crate::fifty::{By, all_come};
-use pt_node::{Desk, FreeGate, Ran, Work, assign, release, run_single};
+use pt_node::{Desk, FreeGate, Ran, Turned, Work, assign, release, run_single};
 use std::alloc::{AllocError, Global};
 use std::test::Fail;
 
@@ -18,6 +18,8 @@ impl Work for Idle {
 
     #[tactic(auto, using(pt_node::proofs::GoingOn::stays))]
     fn step(&mut self, _desk: &mut Desk) {}
+
+    fn turned(&mut self, _desk: &Desk, _turned: Turned) {}
 }
 
 #[test]

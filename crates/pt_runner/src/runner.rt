@@ -18,7 +18,7 @@ ghost use Rattle.pt_runner.specs.Waiting.{Attends, HasSameRest, IsAbreast, IsTru
 ghost use Rattle.pt_runner.specs.Waiting.{marked, sleeps};
 
 use crate::calls::{Progress, References, call, pick_of, progress_of};
-use pt_node::{Desk, Event, Fault, Pid, Reason, Work};
+use pt_node::{Desk, Event, Fault, Pid, Reason, Turned, Work};
 use pt_script::{Operation, Pattern, Script};
 use std::alloc::Global;
 
@@ -433,4 +433,6 @@ impl Work for Runner<'_> {
             self.act(index, desk);
         }
     }
+
+    fn turned(&mut self, _desk: &Desk, _turned: Turned) {}
 }

@@ -4,7 +4,7 @@ ghost use Rattle.pt_desk.specs.DeskState.{GoesOn};
 
 use anyhow::{Result, bail};
 use pt_crew::{Behaviour, Crew, Next};
-use pt_node::{Config, Desk, FreeGate, Node, Pid, Work};
+use pt_node::{Config, Desk, FreeGate, Node, Pid, Turned, Work};
 use std::alloc::Global;
 
 /// How many desks a scene has.
@@ -62,6 +62,8 @@ impl<B: Behaviour + Drop> Work for Stage<B> {
         self.begin(desk);
         self.crew.step(desk);
     }
+
+    fn turned(&mut self, _desk: &Desk, _turned: Turned) {}
 }
 
 /// Plays a scene: so many rounds of turns over four desks, and what their crews are then.

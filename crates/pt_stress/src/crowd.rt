@@ -6,7 +6,7 @@ ghost use Rattle.pt_desk.specs.DeskState.{GoesOn};
 
 use crate::board::{Board, DESKS, SLOTS};
 use crate::dice::Dice;
-use pt_node::{Body, Desk, Pick, Pid, Reason, Ref, Work};
+use pt_node::{Body, Desk, Pick, Pid, Reason, Ref, Turned, Work};
 
 /// How many processes are born on a desk before they call each other.
 const FIRST: u64 = 8;
@@ -181,4 +181,6 @@ impl<'a> Work for Crowd<'a> {
         }
         self.made = self.made.saturating_add(1);
     }
+
+    fn turned(&mut self, _desk: &Desk, _turned: Turned) {}
 }

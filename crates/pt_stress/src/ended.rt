@@ -3,7 +3,7 @@
 ghost use Rattle.pt_desk.specs.DeskState.{GoesOn};
 
 use crate::workers::{Meeting, gathered_again, paired, two_desks, two_players};
-use pt_node::{Body, Desk, Event, Fault, Gate, Pid, Reason, Stamped, Work, run};
+use pt_node::{Body, Desk, Event, Fault, Gate, Pid, Reason, Stamped, Turned, Work, run};
 use std::sync::atomic::{AtomicU64, Ordering};
 use std::test::Fail;
 
@@ -90,6 +90,8 @@ impl<'a> Work for Parter<'a> {
             self.parting.over.store(1, Ordering::SeqCst);
         }
     }
+
+    fn turned(&mut self, _desk: &Desk, _turned: Turned) {}
 }
 
 /// How many calls of a to b the history has as refused.

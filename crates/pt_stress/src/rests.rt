@@ -4,7 +4,7 @@ ghost use Rattle.pt_desk.specs.DeskState.{GoesOn};
 
 use crate::board::DESKS;
 use pt_crew::tell;
-use pt_node::{Body, Config, Desk, Item, Node, Pick, Pid, Work};
+use pt_node::{Body, Config, Desk, Item, Node, Pick, Pid, Turned, Work};
 use pt_resting::{Bells, Door, Porter, Post, RestGate, Resting, Rests, way_in};
 use std::alloc::Global;
 use std::sync::Wait;
@@ -121,6 +121,8 @@ impl<'a> Work for Relay<'a> {
             self.hand_on(desk, body);
         }
     }
+
+    fn turned(&mut self, _desk: &Desk, _turned: Turned) {}
 }
 
 impl<'a> Rests for Relay<'a> {

@@ -6,7 +6,7 @@ ghost use Rattle.pt_desk.specs.DeskState.{GoesOn};
 ghost use Rattle.pt_node.specs.Desks.{AreDesks, IsStill};
 
 use pt_node::{
-    Body, Config, Desk, FreeGate, Gate, Gathered, MAX_STAMP, Pick, Pid, Ran, Work, assign, gather,
+    Body, Config, Desk, FreeGate, Gate, Gathered, MAX_STAMP, Pick, Pid, Ran, Turned, Work, assign, gather,
     open, release, run, run_single,
 };
 use std::alloc::Global;
@@ -93,6 +93,8 @@ impl<'a> Work for Meeter<'a> {
     fn step(&mut self, desk: &mut Desk) {
         self.meetings.step.meet(desk.number());
     }
+
+    fn turned(&mut self, _desk: &Desk, _turned: Turned) {}
 }
 
 /// Two workers meet, and end once both players have taken all their items.
@@ -186,6 +188,8 @@ impl<'a> Work for Player<'a> {
         self.sends = !self.sends;
         self.calls_left -= 1;
     }
+
+    fn turned(&mut self, _desk: &Desk, _turned: Turned) {}
 }
 
 /// Counts its steps.
@@ -203,6 +207,8 @@ impl Work for Stepping {
     fn step(&mut self, _desk: &mut Desk) {
         self.steps = self.steps.saturating_add(1);
     }
+
+    fn turned(&mut self, _desk: &Desk, _turned: Turned) {}
 }
 
 /// The desks of a new node.

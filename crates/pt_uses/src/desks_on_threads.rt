@@ -7,7 +7,7 @@ ghost use Rattle.pt_node.specs.Desks.{AreDesks};
 
 use crate::RecipeError;
 use crate::steps::{gathered, tell};
-use pt_node::{Config, Desk, FreeGate, Gathered, Pid, Ran, Work, assign, open, release, run};
+use pt_node::{Config, Desk, FreeGate, Gathered, Pid, Ran, Turned, Work, assign, open, release, run};
 use std::alloc::Global;
 use std::thread::Threads;
 
@@ -30,6 +30,8 @@ impl Work for Sender {
             self.sent = self.sent.saturating_add(1);
         }
     }
+
+    fn turned(&mut self, _desk: &Desk, _turned: Turned) {}
 }
 
 /// Opens a node, lets the first process of each desk send to that of the next for so many turns, and gathers the node.

@@ -96,7 +96,8 @@ pub fn epochs<R: Threads + Sync, W: Task + Send, A: Archive>(
     archive: &mut A,
 ) -> Result<Node, Halted>
     ensures { IfOk result (λ next. PassAsOne
-        (AllWork (begins_by W.standing (λ desk turn. always desk turn)) W.does plan.turns plan.budget) A.keeps
+        (AllWork (begins_by W.standing (λ desk turn. always desk turn)) (W.does, W.hears) plan.turns plan.budget)
+        A.keeps
         plan.epochs (record { desks = node; works = works.old.items; archive = archive.old })
         (record { desks = next; works = works.new.items; archive = archive.new })) }
 {
@@ -117,7 +118,8 @@ fn one_epoch<R: Threads + Sync, W: Task + Send, A: Archive>(
     archive: &mut A,
 ) -> Result<Node, Halted>
     ensures { IfOk result (λ next. (history : List Stamped) × Passes
-        (AllWork (begins_by W.standing (λ desk turn. always desk turn)) W.does plan.turns plan.budget) A.keeps history
+        (AllWork (begins_by W.standing (λ desk turn. always desk turn)) (W.does, W.hears) plan.turns plan.budget)
+        A.keeps history
         (record { desks = node; works = works.old.items; archive = archive.old })
         (record { desks = next; works = works.new.items; archive = archive.new })) }
 {
