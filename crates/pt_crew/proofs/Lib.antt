@@ -1,4 +1,3 @@
-pub mod Quiet
 pub mod Places
 pub mod Waking
 pub mod Beginning

@@ -11,35 +11,15 @@ use Rattle.pt_events.specs.declared.event.Event.TheVariants.{Born, Said, Came, T
 use Rattle.pt_events.specs.declared.event.Stamped.{Stamped}
 use Rattle.pt_shard.specs.ShardState.{ShardState}
 use Rattle.pt_crew.specs.declared.crew.Crew.{Crew}
-use Rattle.pt_crew.specs.Waking.{Knows, IsAwake, came_to, came_in}
+use Rattle.pt_node.specs.Waking.{came_in, came_to}
+use Rattle.pt_node.proofs.Unread.{Oldest, oldest}
+use Rattle.pt_crew.specs.Waking.{Knows, IsAwake}
 use Rattle.std.specs.Option.{option_map}
 use Rattle.pt_crew.specs.declared.crew.Member.{Member}
 use Rattle.pt_crew.specs.Crews.{members, role, KnowsDesk, IsSame}
 use Rattle.pt_crew.specs.Parts.{Wakes, WakesBy}
 use Rattle.pt_crew.proofs.Waking.{by_cases, same_queue}
 use Rattle.pt_crew.proofs.Places.{same_pid_sym}
-
--- the oldest of those that were not read
-pub record Oldest {X : Type 0} (more : List X) (seen : List X) (x : X) : Type 0 where
-  pub front : List X
-  pub is : more ≡ front ++ x ∷ []
-
-oldest_of : {X : Type 0} (more seen r : List X) (x : X) → reverse more ≡ r → x ≡ get_or (reverse (more ++ seen)) (length seen) x → 0 < length r → Oldest more seen x
-oldest_of more seen [] x e at some = absurd (omega (arith, some))
-oldest_of {X} more seen (y ∷ ys) x e at some = record {
-  front = reverse ys;
-  is = sym (reverse-reverse more) ∙ ap reverse e ∙ reverse-append (y ∷ []) ys ∙ ap (λ (z : X). reverse ys ++ z ∷ []) (sym x_is);
-}
-  where
-    x_is : x ≡ y
-    x_is =
-        at
-        ∙ ap (λ (l : List X). get_or l (length seen) x) (reverse-append more seen ∙ ap (λ (l : List X). reverse seen ++ l) e)
-        ∙ ap (λ n. get_or (reverse seen ++ y ∷ ys) n x) (let l = length-reverse seen in omega (arith, l))
-        ∙ get_or-append-add (reverse seen) (y ∷ ys) 0 x
-
-pub oldest : {X : Type 0} (more seen : List X) (x : X) → length seen < length (more ++ seen) → x ≡ get_or (reverse (more ++ seen)) (length seen) x → Oldest more seen x
-oldest more seen x within at = oldest_of more seen (reverse more) x refl at (omega (arith, within, length-append more seen, length-reverse more))
 
 or_nil : (b : Bool) → (b || false) ≡ b
 or_nil true = refl

@@ -7,38 +7,27 @@ use Rattle.std.specs.List.{AllByRecursion, IsDistinct}
 use Rattle.pt_signal.specs.declared.pid.Pid.{Pid}
 use Rattle.pt_signal.specs.Values.{same_pid}
 use Rattle.pt_events.specs.declared.event.Stamped.{Stamped}
-use Rattle.pt_events.specs.History.{Phase, unborn, living, ended, Start, life, is_living, is_unborn}
-use Rattle.pt_events.specs.Journal.{events}
-use Rattle.pt_events.proofs.Phases.{after_born}
+use Rattle.pt_events.specs.History.{Phase, unborn, living, ended, is_living, is_unborn}
 use Rattle.pt_shard.specs.ShardState.{ShardState, phase_of}
 use Rattle.pt_shard.specs.Extends.{Extends}
 use Rattle.pt_crew.specs.declared.behaviour.Next.{Next}
+use Rattle.pt_crew.specs.declared.behaviour.Next.TheVariants.{Wait, Proceed, Stop}
 use Rattle.pt_crew.specs.declared.crew.Member.{Member}
-use Rattle.pt_crew.specs.Waking.{Members, IsQueue, Knows, has_work, came_to, came_in, in_queue}
+use Rattle.pt_crew.specs.Waking.{Members, IsQueue, Knows, has_work, in_queue}
 use Rattle.pt_crew.specs.declared.crew.Crew.{Crew}
 use Rattle.pt_crew.specs.Crews.{members, role, queue, IsSame, KeepsRest, KnowsDesk}
 use Rattle.pt_crew.specs.Parts.{Queued, IsLonger, Wakes, is_marked}
 use Rattle.std.specs.Option.{option_map}
 use Rattle.pt_signal.proofs.Same.{same_pid_refl, same_pid_is}
-use Rattle.pt_crew.proofs.Quiet.{quiet, neither}
+use Rattle.pt_node.specs.Waking.{came_in, came_to}
+use Rattle.pt_node.proofs.Waiting.{born_later, need_not_before, neither}
 use Rattle.pt_crew.proofs.Places.{same_pid_sym, same_pid_laws}
 
--- nothing came to p since the desk was so
-pub worked_before : (old new : ShardState) (e : Extends old new) (n : Next) (p : Pid) → came_in p e.more ≡ false → has_work n (phase_of new p) ≡ true → has_work n (phase_of old p) ≡ true
-worked_before old new e n p none w =
-    quiet old.start n p e.more old.journal none
-    (subst (λ (j : List Stamped). has_work n (life old.start (events j) p) ≡ true) e.journal
-    (subst (λ (t : Start). has_work n (life t (events new.journal) p) ≡ true) e.start w))
-
--- who was born stays so
-born_on : (start : Start) (p : Pid) (more seen : List Stamped) → is_unborn (life start (events seen) p) ≡ false → is_unborn (life start (events (more ++ seen)) p) ≡ false
-born_on start p [] seen h = h
-born_on start p (s ∷ more) seen h = after_born p s.event (life start (events (more ++ seen)) p) (born_on start p more seen h)
-
-pub born_later : (old new : ShardState) (e : Extends old new) (p : Pid) → is_unborn (phase_of old p) ≡ false → is_unborn (phase_of new p) ≡ false
-born_later old new e p h =
-    subst (λ (t : Start). is_unborn (life t (events new.journal) p) ≡ false) (sym e.start)
-    (subst (λ (j : List Stamped). is_unborn (life old.start (events j) p) ≡ false) (sym e.journal) (born_on old.start p e.more old.journal h))
+-- nothing came to p since the desk was so: what it has to do now it had to do then
+worked_before : (old new : ShardState) (e : Extends old new) (n : Next) (p : Pid) → came_in p e.more ≡ false → has_work n (phase_of new p) ≡ true → has_work n (phase_of old p) ≡ true
+worked_before old new e (Wait k) p none w = need_not_before old new e k p none w
+worked_before old new e Proceed p none w = refl
+worked_before old new e (Stop r) p none w = refl
 
 -- the desk goes on: what is not read grows
 pub knows_later : {B : Type 0} (members : Members B) (queue : List Pid) (read : ℕ) (old new : ShardState) → Extends old new → Knows members queue read old → Knows members queue read new

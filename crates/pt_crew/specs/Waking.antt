@@ -1,34 +1,22 @@
 -- Who of a crew has something to do, and who of it stands in the queue.
-use Rattle.std.specs.Prelude.{◌≡◌, ℕ, Bool, true, false, List, length, ◌++◌, Option, Some, is_some}
-use Rattle.std.specs.List.{IsDistinct, find, list_any}
+use Rattle.std.specs.Prelude.{◌≡◌, ℕ, Bool, true, false, List, length, ◌++◌, Option, Some}
+use Rattle.std.specs.List.{IsDistinct, list_any}
 use Rattle.pt_signal.specs.declared.pid.Pid.{Pid}
-use Rattle.pt_signal.specs.Values.{same_pid, fits}
-use Rattle.pt_events.specs.declared.event.Event.{Event}
-use Rattle.pt_events.specs.declared.event.Event.TheVariants.{Came, Left}
+use Rattle.pt_signal.specs.Values.{same_pid}
 use Rattle.pt_events.specs.declared.event.Stamped.{Stamped}
-use Rattle.pt_events.specs.History.{Phase, unborn, living, ended, is_unborn}
+use Rattle.pt_events.specs.History.{Phase, is_unborn}
 use Rattle.pt_shard.specs.ShardState.{ShardState, phase_of}
+use Rattle.pt_node.specs.Waking.{came_in, need_not_wait}
 use Rattle.pt_crew.specs.declared.behaviour.Next.{Next}
 use Rattle.pt_crew.specs.declared.behaviour.Next.TheVariants.{Wait, Proceed, Stop}
 use Rattle.pt_crew.specs.declared.crew.Member.{Member}
 
--- a process in this phase has something to do: an item that its pick fits stands in its mailbox, or it is to proceed
--- or to end, or has ended and is to leave its crew
+-- A process in this phase has something to do: it need not wait, as an item that its pick fits stands in its mailbox, or
+-- it has ended and is to leave its crew; or it is to proceed or to end.
 abbrev pub has_work : Next → Phase → Bool
-has_work (Wait k) unborn = false
-has_work (Wait k) (living s) = is_some (find (fits k) s.waiting)
-has_work (Wait k) (ended r s) = true
+has_work (Wait k) f = need_not_wait k f
 has_work Proceed f = true
 has_work (Stop r) f = true
-
--- a signal came to p, or p ended by a call of its own
-abbrev pub came_to : Pid → Event → Bool
-came_to p (Came a b x) = same_pid p b
-came_to p (Left q r) = same_pid p q
-came_to p _ = false
-
-abbrev pub came_in : Pid → List Stamped → Bool
-came_in p journal = list_any (λ (s : Stamped). came_to p s.event) journal
 
 abbrev pub in_queue : Pid → List Pid → Bool
 in_queue p queue = list_any (same_pid p) queue

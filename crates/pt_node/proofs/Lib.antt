@@ -24,3 +24,5 @@ pub mod Weighing
 pub mod Receiving
 pub mod Bounding
 pub mod Laned
+pub mod Waiting
+pub mod Unread

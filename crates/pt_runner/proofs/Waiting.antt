@@ -20,13 +20,9 @@ use Rattle.pt_events.specs.History.{Phase, unborn, living, ended, is_living, is_
 use Rattle.pt_shard.specs.ShardState.{ShardState, lives, phase_of}
 use Rattle.pt_shard.specs.Calls.{Calls, CanWriteIf, after_if, first_match, take_event}
 use Rattle.pt_shard.specs.Extends.{Extends}
-use Rattle.pt_crew.specs.declared.behaviour.Next.TheVariants.{Wait}
-use Rattle.pt_crew.specs.Waking.{has_work, came_to}
-use Rattle.pt_crew.specs.Waking.{came_in as crew_came_in}
-use Rattle.pt_node.specs.Waking.{woken_by}
-use Rattle.pt_crew.proofs.Quiet.{neither}
-use Rattle.pt_crew.proofs.Reading.{Oldest, oldest}
-use Rattle.pt_crew.proofs.Waking.{born_later, worked_before}
+use Rattle.pt_node.specs.Waking.{came_in, came_to}
+use Rattle.pt_node.proofs.Unread.{Oldest, oldest}
+use Rattle.pt_node.proofs.Waiting.{finds_nothing_later, neither}
 use Rattle.pt_script.specs.Plans.{Plan}
 use Rattle.pt_script.specs.declared.values.Operation.{Operation}
 use Rattle.pt_script.specs.declared.values.Operation.TheVariants.{Receive}
@@ -35,50 +31,14 @@ use Rattle.pt_script.specs.declared.values.Pattern.TheVariants.{Any, Kind, From,
 use Rattle.pt_runner.specs.declared.calls.Progress.TheVariants.{Stays}
 use Rattle.pt_runner.specs.declared.runner.Actor.{Actor}
 use Rattle.pt_runner.specs.Acting.{Acting, ActsAt, DoesOperation, Plays, acting, pick_of, set_acting}
-use Rattle.pt_runner.specs.Waiting.{FindsNothing, IsNoted, IsTrueOf, IsUnmarked, KnowsOf, WaitsSince, came_in, is_before, is_of, marked, since, sleeps}
+use Rattle.pt_runner.specs.Waiting.{FindsNothing, IsNoted, IsTrueOf, IsUnmarked, KnowsOf, WaitsSince, is_before, marked, since, sleeps}
 use Rattle.pt_runner.proofs.Acting.{table_of, acting_at, acting_within, set_actor, take_at}
 
 -- whom nothing came to ------------------------------------------------------------------------
 
-is_none : {X : Type 0} (o : Option X) → is_some o ≡ false → o ≡ None
-is_none None h = refl
-is_none (Some x) h = absurd (cc)
-
-waiting_lives : (k : Pick) (f : Phase) → has_work (Wait k) f ≡ false → is_unborn f ≡ false → (is_living f ≡ true) × (find (fits k) (state_of f).waiting ≡ None)
-waiting_lives k unborn w b = absurd (cc)
-waiting_lives k (living s) w b = (refl, is_none (find (fits k) s.waiting) w)
-waiting_lives k (ended r s) w b = absurd (cc)
-
-lives_waiting : (k : Pick) (f : Phase) → is_living f ≡ true → find (fits k) (state_of f).waiting ≡ None → (has_work (Wait k) f ≡ false) × (is_unborn f ≡ false)
-lives_waiting k unborn a n = absurd (cc)
-lives_waiting k (living s) a n = (ap is_some n, refl)
-lives_waiting k (ended r s) a n = absurd (cc)
-
--- what a crew calls so is what a runner calls so
-came_to_is : (p : Pid) (e : Event) → came_to p e ≡ is_of p (woken_by e)
-came_to_is p (Born q parent link) = refl
-came_to_is p (Said a b x) = refl
-came_to_is p (Came a b x) = refl
-came_to_is p (Took q k item) = refl
-came_to_is p (Flag q on) = refl
-came_to_is p (Left q r) = refl
-came_to_is p (Refused a b) = refl
-
-came_in_is : (p : Pid) (events : List Stamped) → crew_came_in p events ≡ came_in p events
-came_in_is p [] = refl
-came_in_is p (s ∷ events) = (λ i. came_to_is p s.event i || came_in_is p events i)
-
-idle_later : (old new : ShardState) (e : Extends old new) (k : Pick) (p : Pid) → came_in p e.more ≡ false → has_work (Wait k) (phase_of old p) ≡ false → has_work (Wait k) (phase_of new p) ≡ false
-idle_later old new e k p none was = go (has_work (Wait k) (phase_of new p)) refl
-  where
-    go : (b : Bool) → has_work (Wait k) (phase_of new p) ≡ b → has_work (Wait k) (phase_of new p) ≡ false
-    go false is = is
-    go true is = absurd (let w : true ≡ false = sym (worked_before old new e (Wait k) p (came_in_is p e.more ∙ none) is) ∙ was in cc)
-
 finds_later : (plans : List Plan) (pids : List (Option Pid)) (a : Acting) (old new : ShardState) (e : Extends old new) → came_in a.pid e.more ≡ false → FindsNothing plans pids a old → FindsNothing plans pids a new
 finds_later plans pids a old new e none f =
-    let was = lives_waiting f.pick (phase_of old a.pid) f.alive f.nothing in
-    let now = waiting_lives f.pick (phase_of new a.pid) (idle_later old new e f.pick a.pid none was.0) (born_later old new e a.pid was.1) in
+    let now = finds_nothing_later old new e f.pick a.pid none f.alive f.nothing in
     record { pattern = f.pattern; pick = f.pick; next = f.next; picks = f.picks; alive = now.0; nothing = now.1 }
 
 -- the journal grows -----------------------------------------------------------------------------
@@ -96,7 +56,7 @@ waits_later plans pids a w old new e h = record {
   finds = λ none.
       let split : came_in a.pid (since w new.journal) ≡ (came_in a.pid e.more || came_in a.pid (since w old.journal)) =
       ap (λ (j : List Stamped). came_in a.pid (since w j)) e.journal ∙ ap (came_in a.pid) (since_later w e.more old.journal h.within)
-      ∙ list_any-append (λ (s : Stamped). is_of a.pid (woken_by s.event)) e.more (since w old.journal) in
+      ∙ list_any-append (λ (s : Stamped). came_to a.pid s.event) e.more (since w old.journal) in
       let two = neither (came_in a.pid e.more) (came_in a.pid (since w old.journal)) (sym split ∙ none) in
       finds_later plans pids a old new e two.0 (h.finds two.1);
 }
@@ -184,7 +144,7 @@ set_quiet came p b n w m within at le =
       | inr other ↦ (others p b other.1, other.0)
     ]
 
-event_quiet : (e : Event) (came : List ℕ) (p : Pid) (n w m : ℕ) → w ≤ m → slice_get (marked e (m + 1) came) p.slot ≡ Some n → n ≤ w → (is_of p (woken_by e) ≡ false) × (slice_get came p.slot ≡ Some n)
+event_quiet : (e : Event) (came : List ℕ) (p : Pid) (n w m : ℕ) → w ≤ m → slice_get (marked e (m + 1) came) p.slot ≡ Some n → n ≤ w → (came_to p e ≡ false) × (slice_get came p.slot ≡ Some n)
 event_quiet (Born q parent link) came p n w m within at le = (refl, at)
 event_quiet (Said a b x) came p n w m within at le = (refl, at)
 event_quiet (Came a b x) came p n w m within at le = set_quiet came p b n w m within at le

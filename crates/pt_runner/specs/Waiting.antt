@@ -1,8 +1,7 @@
 -- What a runner knows of the processes that wait, by the events of the desk's journal that it read.
 use Rattle.std.specs.Prelude.{◌≡◌, ◌⊎◌, ℕ, ◌-◌, ◌<◌, ◌≤◌, Bool, false, true, List, ◌++◌, length, slice_get}
 use Rattle.std.specs.Prelude.{slice_set, take, leb, Option, Some, None}
-use Rattle.std.specs.List.{All, list_any}
-use Rattle.pt_signal.specs.Values.{same_pid}
+use Rattle.std.specs.List.{All}
 use Rattle.pt_signal.specs.declared.pid.Pid.{Pid}
 use Rattle.pt_signal.specs.declared.item.Pick.{Pick}
 use Rattle.pt_events.specs.declared.event.Event.{Event}
@@ -11,21 +10,13 @@ use Rattle.pt_events.specs.declared.event.Stamped.{Stamped}
 use Rattle.pt_shard.specs.Calls.{first_match}
 use Rattle.pt_shard.specs.ShardState.{ShardState, lives}
 use Rattle.pt_desk.specs.DeskState.{DeskState}
-use Rattle.pt_node.specs.Waking.{woken_by}
+use Rattle.pt_node.specs.Waking.{came_in}
 use Rattle.pt_script.specs.Plans.{Plan}
 use Rattle.pt_script.specs.declared.values.Operation.TheVariants.{Receive}
 use Rattle.pt_script.specs.declared.values.Pattern.{Pattern}
 use Rattle.pt_runner.specs.Acting.{Acting, RunnerDoes, acting, next_of, pick_of}
 use Rattle.pt_runner.specs.declared.runner.Actor.{Actor}
 use Rattle.pt_runner.specs.declared.runner.Runner.{Runner}
-
-abbrev pub is_of : Pid → Option Pid → Bool
-is_of p (Some q) = same_pid p q
-is_of p None = false
-
--- a signal came to p by these events, or it left
-abbrev pub came_in : Pid → List Stamped → Bool
-came_in p events = list_any (λ (s : Stamped). is_of p (woken_by s.event)) events
 
 -- the events of a journal from a place on, the newest first as in the journal
 abbrev pub since : ℕ → List Stamped → List Stamped

@@ -242,6 +242,23 @@ impl<'a> Runner<'a> {
         None
     }
 
+    /// Goes on over the desk of the same number in a node that was resumed: it forgets what it read of a journal, and
+    /// lets every process that waits try its receive again. For what came to them while the node was settled stands in
+    /// no journal that is left.
+    ///
+    /// Where each process is in its list stays, and so do the pids. It costs the number of its processes, and of the
+    /// slots of the desk; nothing is refused.
+    pub fn begin_again(&mut self)
+        ensures table { table self.new ≡ table self.old }
+        ensures attends { (d : ShardState) → Attends self.new d }
+        ensures knows { (d : ShardState) → Knows self.new d }
+        ensures waits { All IsUnmarked self.new.actors.items }
+    {
+        self.wake_all();
+        self.came.as_mut_slice().fill(0);
+        self.read = 0;
+    }
+
     /// Lets every process that waits try its receive again.
     fn wake_all(&mut self)
         ensures table { table self.new ≡ table self.old }
@@ -264,9 +281,7 @@ impl<'a> Runner<'a> {
         if 0 < self.read && self.read <= events {
             return;
         }
-        self.wake_all();
-        self.came.as_mut_slice().fill(0);
-        self.read = 0;
+        self.begin_again();
     }
 
     /// Reads what is new in the desk's journal.

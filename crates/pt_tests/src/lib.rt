@@ -7,6 +7,7 @@
 //! | `recipes` | the recipes of `pt_uses`, each run once |
 //! | `crews` | the crews of `pt_crew`: processes that run code |
 //! | `supervisors` | the supervisors of `pt_supervisor`: whom they start again, and when they give up |
+//! | `works` | works that are told what the turns of their desks did |
 //! | `asking` | the calls of `pt_calls`: by what they end |
 //!
 //! A crate with tests is proved twice, once without them, and reads all that is below it before its first function; so
@@ -23,3 +24,5 @@ mod layers;
 mod recipes;
 #[cfg(test)]
 mod supervisors;
+#[cfg(test)]
+mod works;

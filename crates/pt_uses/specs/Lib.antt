@@ -5,3 +5,4 @@ pub mod Payloads
 pub mod Telling
 pub mod Epochs
 pub mod Rings
+pub mod Quiet

@@ -6,6 +6,7 @@
 //! | [`game`] | a loop of ticks, with what belongs to each process in a map by its pid |
 //! | [`desks_on_threads`] | a desk a thread, and what is gathered of them |
 //! | [`epochs`] | a node that goes on for as long as is wanted, its history written out every so many turns |
+//! | [`until_quiet`] | workers that end by themselves once nothing is to be done on their desks |
 //! | [`payloads`] | what does not fit into a message, kept beside the table and named by its number |
 //!
 //! Processes that run code by themselves, with supervisors, calls and crashes, are a crew's: `pt_scenes` has those.
@@ -21,5 +22,6 @@ pub mod game;
 pub mod payloads;
 pub mod steps;
 pub mod two_processes;
+pub mod until_quiet;
 
 pub use error::RecipeError;
