@@ -6,8 +6,8 @@ ghost use Rattle.pt_desk.specs.DeskState.{GoesOn};
 ghost use Rattle.pt_node.specs.Desks.{AreDesks, IsStill};
 
 use pt_node::{
-    Body, Config, Desk, FreeGate, Gate, Gathered, MAX_STAMP, Pick, Pid, Ran, Turned, Work, assign, gather,
-    open, release, run, run_single,
+    Body, Config, Desk, FreeGate, Gate, Gathered, MAX_STAMP, Pick, Pid, Ran, Turned, Work, assign,
+    gather, open, release, run, run_single,
 };
 use std::alloc::Global;
 use std::process::Abort;
