@@ -1,5 +1,5 @@
 -- What a desk knows of the ends before its journal: the latest of each slot, as its table has them.
-use Rattle.std.proofs.Common.{◌≡◌, ℕ, zero, suc, ◌+◌, ◌<◌, ◌≤◌, ◌==◌, Bool, true, false, cond, List, [], ◌∷◌, map, Option, Some, None, refl, sym, ap, ◌∙◌, subst, arith}
+use Rattle.std.proofs.Common.{◌≡◌, ℕ, zero, suc, ◌+◌, ◌<◌, ◌≤◌, Bool, true, false, cond, List, [], ◌∷◌, map, Option, Some, None, refl, sym, ap, ◌∙◌, subst, arith}
 use Rattle.std.specs.Prelude.{slice_get, filter_map}
 use Rattle.std.specs.Option.{option_or}
 use Rattle.std.proofs.lemmas.Bool.{eq-eqb}
@@ -8,8 +8,7 @@ use lib.ListN.{get_elem?}
 use Rattle.pt_signal.specs.declared.pid.Pid.{Pid}
 use Rattle.pt_signal.specs.Values.{same_pid}
 use Rattle.pt_signal.proofs.Same.{same_pid_is}
-use Rattle.pt_events.specs.History.{Past, Phase, Start, at_start, is_ended, life, phase_or_unborn}
-use Rattle.std.specs.Map.{lookup}
+use Rattle.pt_events.specs.History.{Past, Start, at_start, is_ended, life}
 use Rattle.pt_accounts.specs.LifeState.{LifeState}
 use Rattle.pt_accounts.specs.Table.{Slots, Tells, at, found, of_version, slot_at}
 use Rattle.pt_accounts.specs.DeskLives.{DeskTable, IsTableOf, latest_end, latest_ends}
