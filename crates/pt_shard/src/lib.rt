@@ -57,6 +57,7 @@
 //! journal is always a lawful one (`specs/Fit`), and each live process is what the journal gives.
 #![tactic(auto)]
 
+mod acts;
 mod config;
 mod fault;
 mod laws;

@@ -1,11 +1,10 @@
 //! A desk without its lanes.
 
-ghost use Rattle.std.specs.Prelude.{◌≡◌, true, ◌<◌, ◌≤◌, ◌^◌, ◌-◌, min, max, drop, length, slice_get, Some, None};
-ghost use Rattle.std.specs.Prelude.{IfSome, IsSome, IfOk, OnOk, cond, false, is_some, option_to_list, ◌==◌, ◌++◌};
+ghost use Rattle.std.specs.Prelude.{◌≡◌, true, ◌<◌, ◌≤◌, ◌^◌, ◌-◌, min, length, slice_get, Some, None};
+ghost use Rattle.std.specs.Prelude.{IfOk, OnOk, cond, false, is_some, option_to_list, ◌==◌, ◌++◌};
 ghost use Rattle.std.specs.Option.{option_copied};
 ghost use Rattle.pt_signal.specs.declared.signal.Signal.{Signal};
 ghost use Rattle.pt_events.specs.declared.event.Event.{Event};
-ghost use Rattle.pt_carrier.specs.declared.ends.TheConstants.{MAX_DESKS};
 ghost use Rattle.pt_shard.specs.ShardState.{phase_of, lives, state_in, box, Handles};
 ghost use Rattle.pt_shard.specs.Restart.{restarted};
 ghost use Rattle.pt_shard.specs.InTurn.{IsInTurn};
@@ -22,26 +21,20 @@ ghost use Rattle.pt_shard.specs.Outbox.{sent_on, sent_on_some, holding, count_pe
 ghost use Rattle.pt_shard.specs.Calls.{Calls, Monitors, Bears, BearsChild, link_event, unlink_event, first_match};
 ghost use Rattle.pt_shard.specs.Calls.{take_event, demonitor_event, held_by, new_ref, Refuses};
 ghost use Rattle.pt_shard.specs.Plain.{IsPlain};
-ghost use Rattle.pt_signal.specs.Process.{answer_of_dead, handle};
-ghost use Rattle.pt_process.specs.Outcome.{Accepts};
-ghost use Rattle.std.specs.List.{find};
-ghost use Rattle.std.specs.Map.{lookup};
-ghost use Rattle.pt_signal.specs.Values.{fits, same_ref};
-ghost use Rattle.pt_process.specs.Peers.{peers};
-ghost use Rattle.pt_shard.specs.Sound.{Every};
-ghost use Rattle.pt_shard.specs.Processes.{in_place};
 ghost use Rattle.pt_events.specs.declared.event.TheConstants.{MAX_STAMP};
-ghost use Rattle.pt_shard.specs.Acts.{Acts, Tells, PreparesBirth, TakesIn, GivesBack, PreparesEnding, IsReadyToEnd};
-ghost use Rattle.pt_shard.specs.Acts.{EndsBy, taking, linking, unlinking, giving_up, ref_after};
 
+use crate::acts::{
+    ask, bounce, close_monitor, drop_link, end_by, keep_link, open_monitor, prepare_birth,
+    prepare_ending, set_flag, take, take_in, tell,
+};
 use crate::config::Config;
 use crate::fault::Fault;
 use crate::ledger::Ledger;
 use crate::processes::{Processes, new_process};
 use crate::stop::Stop;
 use pt_events::{Event, Journal};
-use pt_process::{Outcome, Process};
-use pt_signal::{Body, Ids, Item, Letter, LinkId, Pick, Pid, Reason, Ref, Signal};
+use pt_process::Process;
+use pt_signal::{Body, Ids, Item, Letter, Pick, Pid, Reason, Ref, Signal};
 use std::alloc::{AllocError, Global};
 use std::marker::Model;
 
@@ -670,232 +663,4 @@ impl Shard {
         };
         tell(&mut self.ledger, from, to, signal)
     }
-}
-
-/// Writes down that a process says a signal, which changes nothing in it, and sends it.
-#[inline(always)]
-fn tell(ledger: &mut Ledger, from: Pid, to: Pid, signal: Signal) -> Result<(), Fault>
-    requires { to.shard < length ledger.old.book.outbox }
-    ensures { Tells (Event.Said from to signal) tt ledger.old result ledger.new }
-{
-    ledger.prepare_said(0, to)?;
-    ledger.write_said(from, to, signal);
-    Ok(())
-}
-
-/// Writes down that a process asks whether another is alive, sends the question, and answers its reference.
-fn ask(ledger: &mut Ledger, p: Pid, t: Pid) -> Result<Ref, Fault>
-    requires { t.shard < length ledger.old.book.outbox }
-    ensures { Tells (Event.Said p t (Signal.AliveAsk (ref_after ledger.old.book)))
-        (ref_after ledger.old.book) ledger.old result ledger.new }
-{
-    ledger.prepare_said(0, t)?;
-    let question = ledger.next_ref();
-    ledger.write_said(p, t, Signal::AliveAsk(question));
-    Ok(question)
-}
-
-/// Sets the flag of a process, writes it down, and answers what it was.
-fn set_flag(process: &mut Process, ledger: &mut Ledger, p: Pid, on: bool) -> Result<bool, Fault>
-    ensures { Acts
-        (Some (Event.Flag p on)) process.old.state.traps process.old ledger.old result process.new ledger.new }
-{
-    ledger.prepare(0)?;
-    let before = process.set_trap(on);
-    ledger.write(0, Event::Flag(p, on));
-    Ok(before)
-}
-
-/// Enters the half of a link that a process keeps, and says it to the other, unless there is such a link.
-fn keep_link(process: &mut Process, ledger: &mut Ledger, p: Pid, to: Pid) -> Result<(), Fault>
-    requires { to.shard < length ledger.old.book.outbox }
-    ensures { Acts
-        (linking p to ledger.old.book process.old.state) tt process.old ledger.old result process.new ledger.new }
-{
-    if p == to || process.linked(to).is_some() {
-        return Ok(());
-    }
-    ledger.prepare_said(0, to)?;
-    let id = ledger.next_link();
-    process.add_link(to, id)?;
-    ledger.write_said(p, to, Signal::Link(id));
-    Ok(())
-}
-
-/// Takes the half of a link back that a process keeps, if there is one, and says it to the other.
-fn drop_link(process: &mut Process, ledger: &mut Ledger, p: Pid, to: Pid) -> Result<(), Fault>
-    requires { to.shard < length ledger.old.book.outbox }
-    ensures { Acts (unlinking p to process.old.state) tt process.old ledger.old result process.new ledger.new }
-{
-    let Some(ids) = process.linked(to) else {
-        return Ok(());
-    };
-    ledger.prepare_said(0, to)?;
-    process.cut_link(to);
-    ledger.write_said(p, to, Signal::Unlink(ids));
-    Ok(())
-}
-
-/// Opens a monitor of a process, says it to the target, and answers its reference.
-fn open_monitor(process: &mut Process, ledger: &mut Ledger, w: Pid, t: Pid) -> Result<Ref, Fault>
-    requires near { t.shard < length ledger.old.book.outbox }
-    requires new { lookup (same_ref (ref_after ledger.old.book)) process.old.state.watching ≡ None }
-    ensures { Acts (Some (Event.Said w t (Signal.Monitor (ref_after ledger.old.book))))
-        (ref_after ledger.old.book) process.old ledger.old result process.new ledger.new }
-{
-    ledger.prepare_said(0, t)?;
-    let monitor = ledger.next_ref();
-    process.add_monitor(monitor, t)?;
-    ledger.write_said(w, t, Signal::Monitor(monitor));
-    Ok(monitor)
-}
-
-/// Closes the monitor of a process, if it is open, and says it to the target; else takes the DOWN out that waits, where
-/// that is asked. It answers whether it wrote an event.
-fn close_monitor(
-    process: &mut Process,
-    ledger: &mut Ledger,
-    w: Pid,
-    monitor: Ref,
-    flush: bool,
-) -> Result<bool, Fault>
-    requires { IfSome (lookup (same_ref monitor) process.old.state.watching)
-        (λ t. t.shard < length ledger.old.book.outbox) }
-    ensures { Acts (giving_up w monitor flush process.old.state)
-        (is_some (giving_up w monitor flush process.old.state)) process.old ledger.old result process.new ledger.new }
-{
-    let Some(t) = process.target_of(monitor) else {
-        if !flush {
-            return Ok(false);
-        }
-        let taken = take(process, ledger, w, Pick::DownOf(monitor))?;
-        return Ok(taken.is_some());
-    };
-    ledger.prepare_said(0, t)?;
-    process.cut_monitor(monitor);
-    ledger.write_said(w, t, Signal::Demonitor(monitor));
-    Ok(true)
-}
-
-/// Takes the first item that fits out of the mailbox of a process, and writes it down.
-#[inline(always)]
-fn take(
-    process: &mut Process,
-    ledger: &mut Ledger,
-    p: Pid,
-    pick: Pick,
-) -> Result<Option<Item>, Fault>
-    ensures { Acts (taking p pick process.old.state)
-        (find (fits pick) process.old.state.waiting) process.old ledger.old result process.new ledger.new }
-{
-    let Some(place) = process.place(pick) else {
-        return Ok(None);
-    };
-    ledger.prepare(0)?;
-    let item = process.take_at(place);
-    ledger.write(0, Event::Took(p, pick, item));
-    Ok(Some(item))
-}
-
-/// Makes room for a birth, and for the half of a link that the parent then keeps, where one is asked for. It answers
-/// the id of the link.
-fn prepare_birth(
-    parent: &mut Process,
-    ledger: &mut Ledger,
-    linked: bool,
-) -> Result<Option<LinkId>, Fault>
-    ensures { PreparesBirth linked parent.old ledger.old result parent.new ledger.new }
-{
-    ledger.prepare(0)?;
-    if !linked {
-        return Ok(None);
-    }
-    parent.room()?;
-    Ok(Some(ledger.next_link()))
-}
-
-/// Takes a letter to a live process, and sends what it answers.
-#[inline(always)]
-fn take_in(process: &mut Process, ledger: &mut Ledger, letter: &Letter) -> Result<(), Stop>
-    requires { letter.now.from.shard < length ledger.old.book.outbox }
-    ensures { TakesIn letter.now process.old ledger.old result process.new ledger.new }
-{
-    if let Signal::AliveAsk(question) = letter.signal {
-        return answer(ledger, letter, question);
-    }
-    ledger.prepare(letter.stamp)?;
-    accept(process, letter)?;
-    let event = Event::Came(letter.from, letter.to, letter.signal);
-    ledger.write(letter.stamp, event);
-    Ok(())
-}
-
-/// Takes the signal of a letter into a process. A message has a way of its own: where it goes with all others, the signal
-/// is first copied in pieces, for each letter.
-#[inline(always)]
-fn accept(process: &mut Process, letter: &Letter) -> Result<Outcome, AllocError>
-    ensures { Accepts process.old
-        (handle process.old.me process.old.state letter.now.from letter.now.signal) result process.new }
-{
-    match letter.signal {
-        Signal::Message(body) => process.accept(letter.from, Signal::Message(body)),
-        signal => process.accept(letter.from, signal),
-    }
-}
-
-/// Answers for a live process that it is. The question changes nothing of the process.
-#[inline(never)]
-fn answer(ledger: &mut Ledger, letter: &Letter, question: Ref) -> Result<(), Stop>
-    requires { letter.now.from.shard < length ledger.old.book.outbox }
-    ensures { GivesBack letter.now (Some (Signal.AliveSay question true)) ledger.old result ledger.new }
-{
-    give_back(ledger, letter, Some(Signal::AliveSay(question, true)))
-}
-
-/// Sends what goes back where a letter comes to a process that is not alive.
-///
-/// It is not inlined, nor is `answer`, since each letter that is taken in would then clear places for the signal that
-/// goes back.
-#[inline(never)]
-fn bounce(ledger: &mut Ledger, letter: &Letter) -> Result<(), Stop>
-    requires { letter.now.from.shard < length ledger.old.book.outbox }
-    ensures { GivesBack letter.now (answer_of_dead letter.now.signal) ledger.old result ledger.new }
-{
-    give_back(ledger, letter, letter.signal.answer_of_dead())
-}
-
-/// Writes that a letter came, and sends what goes back, if anything.
-fn give_back(ledger: &mut Ledger, letter: &Letter, back: Option<Signal>) -> Result<(), Stop>
-    requires { letter.now.from.shard < length ledger.old.book.outbox }
-    ensures { GivesBack letter.now back ledger.old result ledger.new }
-{
-    ledger.prepare_came(letter.stamp, back, letter.from)?;
-    ledger.write_came(letter, back);
-    Ok(())
-}
-
-/// Takes a letter to a process that ends by it, with room for what it then owes.
-#[inline(never)]
-fn prepare_ending(process: &mut Process, ledger: &mut Ledger, letter: &Letter) -> Result<(), Stop>
-    requires few { length ledger.old.book.outbox ≤ MAX_DESKS }
-    requires near { Every (λ q. q.shard < length ledger.old.book.outbox) (peers process.old.state) }
-    ensures { PreparesEnding letter.now process.old ledger.old result process.new ledger.new }
-{
-    ledger.prepare_end(letter.stamp, process)?;
-    process.accept(letter.from, letter.signal)?;
-    Ok(())
-}
-
-/// Ends a process by a letter that was prepared, and sends what it owes.
-#[inline(never)]
-fn end_by(processes: &mut Processes, ledger: &mut Ledger, letter: &Letter, reason: Reason)
-    requires lives { IsSome (in_place processes.old.table letter.now.to) }
-    requires can { max ledger.old.book.clock letter.now.stamp < MAX_STAMP }
-    requires room { 0 < ledger.old.room }
-    requires owes { IsReadyToEnd letter.now.to reason processes.old ledger.old }
-    ensures { EndsBy letter.now reason processes.old ledger.old processes.new ledger.new }
-{
-    let estate = processes.end(letter.to, reason);
-    let event = Event::Came(letter.from, letter.to, letter.signal);
-    ledger.write_end(letter.stamp, event, letter.to, &estate);
 }

@@ -1,4 +1,4 @@
-use Rattle.pt_shard.proofs.shard.end_by.Goals as goal
+use Rattle.pt_shard.proofs.acts.end_by.Goals as goal
 
 pub write_end-requires-clause-from : goal.write_end-requires-clause-from
 write_end-requires-clause-from c = (c.requires.owes c.end-estate.new.self c.end-estate.result c.end-estate.ensures.desk c.end-estate.ensures.ends).0

@@ -1,5 +1,5 @@
 use Rattle.std.proofs.Common.{rules}
-use Rattle.pt_shard.proofs.shard.set_flag.Goals as goal
+use Rattle.pt_shard.proofs.acts.set_flag.Goals as goal
 
 pub returns : goal.returns
 returns c = search rules

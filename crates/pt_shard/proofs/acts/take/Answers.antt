@@ -3,7 +3,7 @@ use Rattle.pt_events.specs.declared.event.Event.TheVariants.{Took}
 use Rattle.pt_process.specs.ProcessView.{ProcessView}
 use Rattle.pt_shard.proofs.Acting.{own_book}
 use Rattle.pt_shard.proofs.Taken.{none_taken, one_taken, not_taken}
-use Rattle.pt_shard.proofs.shard.take.Goals as goal
+use Rattle.pt_shard.proofs.acts.take.Goals as goal
 
 pub returns-in_default : goal.returns-in_default
 returns-in_default c = none_taken c.args.p c.args.pick c.args.process.now c.args.ledger.now c.args.ledger.now c.in_default.ensures.0
