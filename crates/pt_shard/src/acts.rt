@@ -208,10 +208,10 @@ pub(crate) fn take_in(
     Ok(())
 }
 
-/// Takes the signal of a letter into a process. A message has a way of its own: where it goes with all others, the signal
-/// is first copied in pieces, for each letter.
+/// Takes the signal of a letter into a process. A message has a way of its own: where it goes with all others, the
+/// signal is first copied in pieces, for each letter.
 #[inline(always)]
-pub(crate) fn accept(process: &mut Process, letter: &Letter) -> Result<Outcome, AllocError>
+fn accept(process: &mut Process, letter: &Letter) -> Result<Outcome, AllocError>
     ensures { Accepts process.old
         (handle process.old.me process.old.state letter.now.from letter.now.signal) result process.new }
 {
@@ -223,7 +223,7 @@ pub(crate) fn accept(process: &mut Process, letter: &Letter) -> Result<Outcome, 
 
 /// Answers for a live process that it is. The question changes nothing of the process.
 #[inline(never)]
-pub(crate) fn answer(ledger: &mut Ledger, letter: &Letter, question: Ref) -> Result<(), Stop>
+fn answer(ledger: &mut Ledger, letter: &Letter, question: Ref) -> Result<(), Stop>
     requires { letter.now.from.shard < length ledger.old.book.outbox }
     ensures { GivesBack letter.now (Some (Signal.AliveSay question true)) ledger.old result ledger.new }
 {
@@ -243,11 +243,7 @@ pub(crate) fn bounce(ledger: &mut Ledger, letter: &Letter) -> Result<(), Stop>
 }
 
 /// Writes that a letter came, and sends what goes back, if anything.
-pub(crate) fn give_back(
-    ledger: &mut Ledger,
-    letter: &Letter,
-    back: Option<Signal>,
-) -> Result<(), Stop>
+fn give_back(ledger: &mut Ledger, letter: &Letter, back: Option<Signal>) -> Result<(), Stop>
     requires { letter.now.from.shard < length ledger.old.book.outbox }
     ensures { GivesBack letter.now back ledger.old result ledger.new }
 {

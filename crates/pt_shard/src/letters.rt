@@ -1,6 +1,6 @@
 //! The letters for one desk.
 
-ghost use Rattle.std.specs.Prelude.{◌≡◌, ◌+◌, ◌-◌, ◌<◌, ◌≤◌, ◌++◌, ◌∷◌, [], length, drop, take, slice_get, OnOk};
+ghost use Rattle.std.specs.Prelude.{◌≡◌, ◌+◌, ◌<◌, ◌≤◌, ◌++◌, ◌∷◌, [], length, drop, slice_get, OnOk};
 
 use pt_signal::Letter;
 use std::alloc::{AllocError, Global};
@@ -99,10 +99,8 @@ impl Letters {
         ensures same { self.new.letters ≡ self.old.letters }
         ensures room { OnOk result (count ≤ self.new.room) }
     {
-        let waiting = self.len();
-        if self.head > waiting {
-            bring_forward(&mut self.letters, self.head);
-            self.letters.truncate(waiting);
+        if self.head > self.len() {
+            self.letters.drain(..self.head);
             self.head = 0;
         }
         self.letters.reserve(count)
@@ -117,15 +115,4 @@ impl Letters {
     {
         self.letters.push_reserved(letter);
     }
-}
-
-/// Copies what stands from the head on to the front, in one block: `copy_within` goes letter by letter.
-fn bring_forward(letters: &mut [Letter], head: usize)
-    requires within { head ≤ length letters.old }
-    requires apart { length letters.old - head ≤ head }
-    ensures front { take (length letters.old - head) letters.new ≡ drop head letters.old }
-    ensures len { length letters.new ≡ length letters.old }
-{
-    let (gap, waiting) = letters.split_at_mut(head);
-    gap[..waiting.len()].copy_from_slice(waiting);
 }
