@@ -44,6 +44,7 @@ impl Model for DeskLives {
 }
 
 /// One of the process's own events happens.
+#[inline(always)]
 fn show(slots: &mut Vec<Slot>, pid: Pid, event: Event) -> Result<(), AllocError>
     requires { MayShow slots.old.items pid event }
     ensures changes { OnOk result (Changes pid (shown event) slots.old.items slots.new.items) }
@@ -111,6 +112,7 @@ fn bear_child(
 }
 
 /// The event happens. After a refusal each process is as before.
+#[inline(always)]
 fn observe(alloc: Global, slots: &mut Vec<Slot>, event: Event) -> Result<(), AllocError>
     requires { MayObserve slots.old.items event }
     ensures observes { OnOk result (Observes event slots.old.items slots.new.items) }

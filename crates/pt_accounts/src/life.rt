@@ -43,6 +43,7 @@ impl Model for Life {
 }
 
 /// One of its own events happens to a live process; the reason with which it ends by that, if it does.
+#[inline(always)]
 fn meet(process: &mut Process, event: Event) -> Result<Option<Reason>, AllocError>
     requires { MayDo process.old.me process.old.state event }
     ensures me { process.new.me ≡ process.old.me }
@@ -95,6 +96,7 @@ impl Life {
     }
 
     /// One of its own events happens. After a refusal it is as before.
+    #[inline(always)]
     pub(crate) fn see(&mut self, event: Event) -> Result<(), AllocError>
         requires { MaySee event self.old }
         ensures pid { self.new.pid ≡ self.old.pid }

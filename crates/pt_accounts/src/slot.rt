@@ -158,6 +158,7 @@ impl Slot {
     }
 
     /// One of that version's own events happens. After a refusal each is as before.
+    #[inline(always)]
     pub(crate) fn see(&mut self, version: u32, event: Event) -> Result<(), AllocError>
         requires { IfSome (of_version self.old version) (MaySee event) }
         ensures versions { OnOk result
