@@ -41,7 +41,7 @@ turn_does budget old new attended h =
     let r = h.worked in (
       record { stepped = h.stepped; worked = r; step = so.0; goes_on = h.goes_on; turned = h.turned; turn = t; hears = h.hears },
       subst (λ (x : Runner). Attends x new.0.shard) (sym {A = Runner} h.hears)
-      (inr (inr (knows_later r.script.now.processes r.pids.items r.actors.items r.came.items r.read h.stepped.shard new.0.shard on.shard so.1))),
+          (inr (inr (knows_later r.script.now.processes r.pids.items r.actors.items r.came.items r.read h.stepped.shard new.0.shard on.shard so.1))),
     )
 
 turns_do : (lets : Runner → ℕ → Bool → Type 0) (budget count : ℕ) (old new : Pair) → IsAttended old → TakesTurns lets (step_alone RunnerSteps) budget count old new → TakesTurns lets (step_alone RunnerDoes) budget count old new × IsAttended new

@@ -7,7 +7,9 @@ ghost use Rattle.pt_node.specs.Desks.{AreDesks};
 
 use crate::RecipeError;
 use crate::steps::{gathered, tell};
-use pt_node::{Config, Desk, FreeGate, Gathered, Pid, Ran, Turned, Work, assign, open, release, run};
+use pt_node::{
+    Config, Desk, FreeGate, Gathered, Pid, Ran, Turned, Work, assign, open, release, run,
+};
 use std::alloc::Global;
 use std::thread::Threads;
 
