@@ -18,9 +18,6 @@ post_run-posted-requires-clause-names c =
     subst (λ ls. AllGo i.outs.place.number c.args.to ls) (sym c.letters_for.ensures)
     (subst (λ d. AllGo d c.args.to waiting) (sym whole.accounts.out_number) (all_go i.shard.number c.args.to waiting (whole.fit.boxed c.args.to)))
 
-pub pass_out-requires-clause-wait : goal.pass_out-requires-clause-wait
-pass_out-requires-clause-wait c = omega (arith, c.post_run-posted.ensures.within, ap length c.letters_for.ensures)
-
 pub invariant_of-self : goal.invariant_of-self
 invariant_of-self c =
     let i = c.self.inside in
