@@ -4,3 +4,4 @@ pub mod Retained
 pub mod Exchanged
 pub mod Written
 pub mod Archiving
+pub mod Quieted

@@ -5,7 +5,7 @@
 //! [`Node::turn_until_still`](pt_node::Node::turn_until_still) brings it.
 
 ghost use Rattle.std.specs.Prelude.{◌≡◌};
-ghost use Rattle.pt_uses.specs.Quiet.{did_nothing};
+ghost use Rattle.pt_uses.specs.Quiet.{EndsQuietly, did_nothing};
 
 use pt_node::{Desk, Standing, Task, Turned, Work};
 
@@ -48,15 +48,13 @@ impl<W> UntilQuiet<W> {
 }
 
 impl<W: Work> Task for UntilQuiet<W> {
-    ghost use Rattle.pt_uses.specs.Quiet.{quiet_with, standing_at};
+    ghost use Rattle.pt_uses.specs.Quiet.{HearsWithin, StepsWithin, standing_of};
 
-    ghost does = { λ old d new e. W.Work.does old.work d new.work e × (new.quiet ≡ old.quiet)
-        × (new.enough ≡ old.enough) };
+    ghost does = { StepsWithin W.Work.does };
 
-    ghost hears = { λ old d turned new. W.Work.hears old.work d turned new.work
-        × (new.quiet ≡ quiet_with turned old.quiet) × (new.enough ≡ old.enough) };
+    ghost hears = { HearsWithin W.Work.hears };
 
-    ghost standing = { λ task. standing_at task.enough task.quiet };
+    ghost standing = { standing_of };
 
     fn step(&mut self, desk: &mut Desk) {
         self.work.step(desk);
@@ -86,3 +84,9 @@ fn did_nothing(turned: &Turned) -> bool
 {
     turned.posted == 0 && turned.handled == 0 && turned.stopped.is_none()
 }
+
+/// A run at an open gate ends such a worker only behind as many turns in a row that did nothing as were enough for it,
+/// unless it has taken all its turns. It does nothing.
+pub fn ends_behind_quiet_turns<W: Work>(_work: &W)
+    ensures { EndsQuietly (W.Work.does, W.Work.hears) }
+{}
