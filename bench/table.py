@@ -16,10 +16,15 @@ for line in open(sys.argv[1]):
             works.append(words[2])
 
 
+# three digits of it that count, or all before the point
+def digits(number):
+    return f"{number:,.0f}" if number >= 100 else f"{number:.3g}"
+
+
 # in millions a second
 def figure(key):
     each = rates.get(key)
-    return f"{median(each) / 1e6:.3g} ({max(each) / 1e6:.3g})" if each else ""
+    return f"{digits(median(each) / 1e6)} ({digits(max(each) / 1e6)})" if each else ""
 
 
 def ratio(key, base):
@@ -31,9 +36,9 @@ def ratio(key, base):
 
 
 # how long one time takes, in parts of a second
-def time(key, parts, form):
+def time(key, parts):
     each = [it for it in rates.get(key, []) if it]
-    return f"{parts / median(each):{form}} ({parts / max(each):{form}})" if each else ""
+    return f"{digits(parts / median(each))} ({digits(parts / max(each))})" if each else ""
 
 
 def table(title, heads, rows):
@@ -112,7 +117,7 @@ GROWTH = [
 table(
     "Growth: nanoseconds of a message with its turn and its receive, and of a birth and its end",
     ["Behind or beside", "message, Pundewo", "message, Rust", "birth and end, Pundewo", "birth and end, Rust"],
-    [[name] + [time((plain, by, f"{work}_{it}"), 1e9, '.0f') for work in ("message", "birth") for by in ("desk", "rust")] for name, it in GROWTH],
+    [[name] + [time((plain, by, f"{work}_{it}"), 1e9) for work in ("message", "birth") for by in ("desk", "rust")] for name, it in GROWTH],
 )
 table(
     "The slots",
@@ -146,7 +151,7 @@ table(
     "Epochs: milliseconds of gathering, settling and going on, on four desks",
     ["Events of the epoch", "live on each desk", "gather", "settle", "resume"],
     [
-        [events, live, *[time((plain, "epochs", f"{call}_{number}_of_{word}"), 1e3, '.2f') for call in ("gather", "settle", "resume")]]
+        [events, live, *[time((plain, "epochs", f"{call}_{number}_of_{word}"), 1e3) for call in ("gather", "settle", "resume")]]
         for events, word in (("1,200", "few"), ("100,800", "100000"))
         for live, number in LIVE
         if (plain, "epochs", f"gather_{number}_of_{word}") in rates
@@ -252,7 +257,7 @@ table(
     "Many events: milliseconds",
     ["Events", "gather", "history", "settle", "judge"],
     [
-        [f"{count:,}", *[time((plain, "large", f"{call}_{count}"), 1e6, '.3g') for call in ("gather", "history", "settle", "replay")]]
+        [f"{count:,}", *[time((plain, "large", f"{call}_{count}"), 1e6) for call in ("gather", "history", "settle", "replay")]]
         for count in (10_000, 100_000, 1_000_000, 10_000_000)
         if (plain, "large", f"history_{count}") in rates
     ],
