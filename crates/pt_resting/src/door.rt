@@ -148,9 +148,10 @@ impl<W> Porter<W> {
 
 impl<W: Work> Work for Porter<W> {
     ghost does = { λ old d new e. (mid : DeskState) × Brings old.me (received old.ring) d (received new.ring) mid
-        × W.Work.does old.work mid new.work e };
+        × W.Work.does old.work mid new.work e × (new.me ≡ old.me) × (new.most ≡ old.most) };
 
-    ghost hears = { λ old d turned new. W.Work.hears old.work d turned new.work };
+    ghost hears = { λ old d turned new. W.Work.hears old.work d turned new.work
+        × (received new.ring ≡ received old.ring) × (new.me ≡ old.me) × (new.most ≡ old.most) };
 
     #[tactic(auto, using(pt_node::proofs::GoingOn::stays, pt_desk::proofs::Turning::goes_on_then))]
     fn step(&mut self, desk: &mut Desk) {
