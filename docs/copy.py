@@ -1,30 +1,35 @@
 #!/usr/bin/env python3
-"""Copies pt_node, and each crate of this repository that it stands on, into another repository.
+"""Copies crates of this repository, and each crate that they stand on, into another repository.
 
-    docs/copy.py FOLDER [CRATE]
+    docs/copy.py FOLDER [CRATE..]
 
-FOLDER is the root of that repository. The crates go into its crates/ with their sources, definitions and proofs, and
-their lines behind those of its crates.txt. Where it has one of them already, nothing is copied. CRATE is the crate that
-is wanted, where it is another one than pt_node.
+FOLDER is the root of that repository. Without a name the crate is pt_node. The crates go into its crates/ with their
+sources, definitions and proofs, and their lines go to the end of its crates.txt. A crate that is there already and is
+equal is passed over. If one of that name is there and differs, nothing is copied, and the status is 1. HANDLES and
+.gitignore are written if they are missing.
 """
+from __future__ import annotations
 
-import pathlib
+import argparse
+import filecmp
 import shutil
 import sys
+from pathlib import Path
 
-ROOT = pathlib.Path(__file__).resolve().parent.parent
+ROOT = Path(__file__).resolve().parent.parent
 PARTS = ("src", "specs", "proofs")
 
 
-def lines_of(root):
-    """The line of each crate in crates.txt, by name, lowest crate first."""
-    lines = (root / "crates.txt").read_text().splitlines()
+def lines_of(file: Path) -> dict[str, str]:
+    """The line of each crate in a crates.txt, by name, lowest crate first."""
+    lines = file.read_text().splitlines() if file.exists() else []
     return {line.split(":")[0].split()[0]: line for line in lines if ":" in line and not line.startswith("#")}
 
 
-def below(wanted, lines):
-    """The crate and those of this repository that it stands on, lowest first."""
-    reached, todo = set(), [wanted]
+def below(wanted: list[str], lines: dict[str, str]) -> list[str]:
+    """The crates and those of this repository that they stand on, lowest first."""
+    reached: set[str] = set()
+    todo = list(wanted)
     while todo:
         name = todo.pop()
         if name not in reached:
@@ -33,30 +38,66 @@ def below(wanted, lines):
     return [name for name in lines if name in reached]
 
 
-def copy(names, lines, target):
+def files_of(crate: Path) -> dict[str, Path]:
+    """The files of a crate that are copied, by their paths in it."""
+    return {str(it.relative_to(crate)): it for part in PARTS for it in sorted((crate / part).rglob("*")) if it.is_file()}
+
+
+def is_equal(one: Path, other: Path) -> bool:
+    """Whether two crates have the same files with the same bytes."""
+    ours, theirs = files_of(one), files_of(other)
+    return ours.keys() == theirs.keys() and all(filecmp.cmp(ours[it], theirs[it], shallow=False) for it in ours)
+
+
+def copy(names: list[str], lines: dict[str, str], target: Path) -> None:
+    """Copies these crates, and adds the lines that crates.txt lacks."""
     for name in names:
         for part in PARTS:
             if (ROOT / "crates" / name / part).is_dir():
                 shutil.copytree(ROOT / "crates" / name / part, target / "crates" / name / part)
-    with open(target / "crates.txt", "a") as list_of_crates:
-        list_of_crates.writelines(lines[name] + "\n" for name in names)
+    listed = target / "crates.txt"
+    text = listed.read_text() if listed.exists() else ""
+    if text and not text.endswith("\n"):
+        text += "\n"
+    listed.write_text(text + "".join(lines[name] + "\n" for name in names if name not in lines_of(listed)))
 
 
-def main():
-    if len(sys.argv) not in (2, 3):
-        sys.exit(__doc__)
-    target = pathlib.Path(sys.argv[1])
-    lines = lines_of(ROOT)
-    wanted = sys.argv[2] if len(sys.argv) == 3 else "pt_node"
-    if wanted not in lines:
-        sys.exit(f"no crate {wanted} in crates.txt")
-    names = below(wanted, lines)
-    there = [name for name in names if (target / "crates" / name).exists()]
+def write_missing(target: Path) -> list[str]:
+    """Writes HANDLES and .gitignore, if they are missing; returns the names of what it wrote."""
+    written = []
+    for name, text in (("HANDLES", (ROOT / "HANDLES").read_text()), (".gitignore", "out/\n")):
+        if not (target / name).exists():
+            (target / name).write_text(text)
+            written.append(name)
+    return written
+
+
+def main() -> int:
+    parser = argparse.ArgumentParser(description="Copies crates, and those that they stand on, into another repository.")
+    parser.add_argument("folder", type=Path, help="the root of the other repository")
+    parser.add_argument("crates", nargs="*", default=["pt_node"], help="the crates that are wanted (pt_node)")
+    given = parser.parse_args()
+    lines = lines_of(ROOT / "crates.txt")
+    unknown = [name for name in given.crates if name not in lines]
+    if unknown:
+        parser.error(f"no such crate in crates.txt: {' '.join(unknown)}")
+    if not given.folder.is_dir():
+        parser.error(f"no such folder: {given.folder}")
+    names = below(given.crates, lines)
+    there = [name for name in names if (given.folder / "crates" / name).exists()]
+    other = [name for name in there if not is_equal(ROOT / "crates" / name, given.folder / "crates" / name)]
+    if other:
+        print(f"{given.folder} has other crates of these names: {' '.join(other)}; nothing was copied", file=sys.stderr)
+        return 1
+    copy([name for name in names if name not in there], lines, given.folder)
+    written = write_missing(given.folder)
+    print("copied:", " ".join(name for name in names if name not in there) or "nothing")
     if there:
-        sys.exit(f"{target} has crates of these names already: {' '.join(there)}")
-    copy(names, lines, target)
-    print("copied:", " ".join(names))
+        print("there already, and equal:", " ".join(there))
+    if written:
+        print("written:", " ".join(written))
+    return 0
 
 
 if __name__ == "__main__":
-    main()
+    sys.exit(main())
