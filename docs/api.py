@@ -17,8 +17,8 @@ PAGE = ROOT / "docs/API.md"
 
 HEAD = """# What a program calls
 
-Made from the sources by `docs/api.py`; the gate compares it. One `use pt_node::{..}` has all of it. The whole of each
-call stands in its documentation and its contract, in the file that is named.
+Made from the sources by `docs/api.py`; the gate compares it. `use pt_node::{..}` has each name of this page; crews,
+supervisors and calls are in [RUNTIME](RUNTIME.md). The documentation and the contract of each call are in the named file.
 """
 
 ITEM = re.compile(r"pub (struct|enum|trait|fn|const) (\w+)")

@@ -1,4 +1,5 @@
 //! The program of the README: a process watches another, and hears how it ended.
+#![tactic(auto)]
 
 use anyhow::Result;
 use pt_node::{Config, Item, Node, NodeFault, Pick, Reason};
