@@ -4,25 +4,19 @@
 #   checks/audit/run.sh
 #
 # Each history that is stored beside the examples is legal, and so is one of each script that is made here on many
-# threads: how many events, desks and letters on their way it has is counted here by itself. So it is with a carriage
+# threads: this script counts the events, desks and letters on their way of each by itself. So it is with a carriage
 # return before each line feed, without the last line feed, and cut into one file a desk. A stored one that is cut off
-# behind a line is legal as far as it goes: what is told, if anything, is a letter on its way. Behind any byte, the last
+# behind a line is legal as far as it goes: the auditor reports a letter on its way or nothing. Behind any byte, the last
 # line is at fault or none. selected.txt has what is printed of a history, and refused.txt histories that are not legal,
-# with the line at fault of each. The crates are copied to a folder of their own and only compiled there, not proved. RT
-# names another 'rt'.
+# with the line at fault of each. The programs are bin/pt_run and bin/pt_audit, which are built first if they are not up
+# to date.
 set -euo pipefail
 shopt -s nullglob
 
 here=$(cd "$(dirname "$0")" && pwd)
-source "$here/../../.ci/copy"
-mkdir "$work/cases" "$work/wanted" "$work/many" "$work/stored" "$work/desks"
-
-compared=0
-wrong=0
-wrong() {
-    echo "WRONG: $*"
-    wrong=$((wrong + 1))
-}
+source "$here/../../.ci/cases"
+"$root/.ci/build" pt_run pt_audit
+mkdir "$work/cases" "$work/wanted" "$work/stored" "$work/desks"
 
 # What is said of a legal history.
 counted() {
@@ -32,22 +26,25 @@ counted() {
         END { printf "legal: %d events, %d desks, %d letters on their way\n", events, desks, letters }' "$1"
 }
 
-# A history of each script, on many threads.
+# make NAME SCRIPT WORDS.. has the program make what it prints of a script on many threads.
+make() {
+    local name=$1 script=$2
+    shift 2
+    run pt_run "made-$name" "$script" "$@"
+    unset "ran[made-$name]"
+    [ "$(cat "$work/status/made-$name")" = 0 ] || wrong "made-$name" "$(cat "$work/err/made-$name")"
+}
+
 for script in "$root"/checks/examples/*.json; do
     name=$(basename "$script" .json)
-    cp "$script" "$work/many/$name"
-    printf '%s\n' --threads many --turns 100000 --print history >"$work/many/$name.args"
+    make "$name" "$script" --threads many --turns 100000 --print history
+    cp "$work/out/made-$name" "$work/stored/many-$name"
 done
-# (and a chart, which the auditor has to print likewise, but for the names: these stand in the script alone)
-cp "$root/checks/examples/lane.json" "$work/many/chart"
-{ cat "$root/checks/examples/lane.json.args"; printf '%s\n' --print chart; } >"$work/many/chart.args"
-(cd "$work/crates/pt_run" && "$rt" try --cases "$work/many") >"$work/made" 2>"$work/log" </dev/null ||
-    wrong "rt try ended with status $? on many threads"
-awk -v to="$work/stored/many-" '/^== / { name = $2; next } { print > (to name) }' "$work/made"
-[ "$(ls "$work/stored" | wc -l)" = "$(ls "$work/many"/*.args | wc -l)" ] || wrong "not each script has a history"
 
-sed '/^<text class="name"[^>]*>[A-Za-z][^<]*<\/text>$/d' "$work/stored/many-chart" >"$work/chart"
-rm "$work/stored/many-chart"
+# A chart, which the auditor has to print likewise, but for the names: only the script has these.
+mapfile -t words <"$root/checks/examples/lane.json.args"
+make chart "$root/checks/examples/lane.json" "${words[@]}" --print chart
+sed '/^<text class="name"[^>]*>[A-Za-z][^<]*<\/text>$/d' "$work/out/made-chart" >"$work/chart"
 
 for printed in "$root"/checks/examples/*.json.stdout; do
     head -n 1 "$printed" | grep -q '^[0-9]*@' || continue
@@ -55,7 +52,6 @@ for printed in "$root"/checks/examples/*.json.stdout; do
 done
 
 # One file a desk, letters left over in the last.
-files=()
 for history in "$work/stored"/*; do
     name=$(basename "$history")
     cp "$history" "$work/cases/$name"
@@ -70,7 +66,6 @@ for history in "$work/stored"/*; do
             grep "^[0-9]*@$desk " "$history" >"$work/desks/$name-$desk"
         fi
         echo "$name-$desk" >>"$work/cases/$name-desks.args"
-        files+=(--data "$name-$desk=$work/desks/$name-$desk")
     done
     for form in "$name" "$name-returns" "$name-cut" "$name-desks"; do
         counted "$history" >"$work/cases/$form.stdout"
@@ -114,39 +109,37 @@ cp "$work/stored/lane" "$work/cases/drawn"
 printf '%s\n' --print chart >"$work/cases/drawn.args"
 { cat "$work/chart"; echo "<!-- $(counted "$work/stored/lane") -->"; } >"$work/cases/drawn.stdout"
 
-(cd "$work/crates/pt_audit" &&
-    "$rt" try "${files[@]}" --cases "$work/cases") >"$work/printed" 2>"$work/log" </dev/null ||
-    wrong "rt try ended with status $?"
-mkdir "$work/said"
-awk -v to="$work/said/" '
-    /^case=/ { name = substr($1, 6); print > (to name ".line"); printf "%s", said > (to name); said = ""; next }
-    { said = said $0 "\n" }' "$work/log"
+# The auditor gets a case on standard input, and finds the files that its words name.
+room=$work/desks
+audit() {
+    local words=()
+    [ ! -f "$work/cases/$1.args" ] || mapfile -t words <"$work/cases/$1.args"
+    run pt_audit "$1" "$work/cases/$1" "${words[@]}"
+}
 
 for wanted in "$work/cases"/*.stdout; do
     name=$(basename "$wanted" .stdout)
-    compared=$((compared + 1))
-    grep -q ' status=0 .*output=expected' "$work/said/$name.line" || wrong "$name: $(cat "$work/said/$name.line")"
+    audit "$name"
+    is_same "$wanted" "$work/out/$name" "$name" "what it prints"
+    has_status "$name" 0
 done
 for wanted in "$work/wanted"/*; do
     name=$(basename "$wanted")
-    compared=$((compared + 1))
-    grep -q ' status=1 ' "$work/said/$name.line" || wrong "$name: $(cat "$work/said/$name.line")"
-    diff "$wanted" "$work/said/$name" || wrong "$name: it says something else"
+    audit "$name"
+    is_same "$wanted" "$work/err/$name" "$name" "standard error"
+    has_status "$name" 1
 done
 
-# A history that is cut off says nothing but that it is.
+# What a history that is cut off leads to: it is legal, or its end is at fault.
 for case in "$work/cases"/prefix-* "$work/cases"/bytes-*; do
     name=$(basename "$case")
-    compared=$((compared + 1))
-    ! grep -q ' status=0 ' "$work/said/$name.line" || continue
-    grep -q ' status=1 ' "$work/said/$name.line" || wrong "$name: $(cat "$work/said/$name.line")"
+    audit "$name"
+    [ "$(cat "$work/status/$name")" != 0 ] || continue
+    has_status "$name" 1
     lines=$(grep -c '' "$case")
     case $name in
-    prefix-*) grep -q "^line $((lines + 1)): no line tells of what is on its way: " "$work/said/$name" ;;
-    *) grep -q -e "^line $lines: " -e "^line $((lines + 1)): no line tells" "$work/said/$name" ;;
-    esac || wrong "$name: $(cat "$work/said/$name")"
+    prefix-*) grep -q "^line $((lines + 1)): no line tells of what is on its way: " "$work/err/$name" ;;
+    *) grep -q -e "^line $lines: " -e "^line $((lines + 1)): no line tells" "$work/err/$name" ;;
+    esac || wrong "$name" "$(cat "$work/err/$name")"
 done
-
-[ "$wrong" -eq 0 ] || cat "$work/log"
-echo "audit: $compared compared, $wrong not as they should be"
-[ "$compared" -gt 0 ] && [ "$wrong" -eq 0 ]
+verdict audit

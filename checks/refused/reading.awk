@@ -19,7 +19,7 @@ function wrong(why) {
 
 /^case=/ {
     runs++
-    if ($0 !~ / run=ended status=0 /) wrong($0)
+    if ($0 !~ / status=0$/) wrong($0)
     if (read == "") wrong("no script")
     if (name == "0000") {
         whole = read
@@ -37,6 +37,7 @@ END {
     name = "all"
     if (runs != CASES + 1) wrong(runs " runs")
     if (tried == 0 || tried + before > CASES - 4) wrong("there are fewer runs than pieces: " tried " and " before)
-    print "reading a script: " tried + 0 " pieces of memory, " bad + 0 " not as they should be"
+    print "reading a script: " tried + 0 " pieces of memory are refused"
+    print "refused reading: " (bad < runs ? runs - bad : 0) " passed, " bad + 0 " failed"
     exit bad > 0
 }

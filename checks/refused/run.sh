@@ -1,7 +1,9 @@
 #!/usr/bin/env bash
 # Shows that a call that is refused memory leaves all as it was, for each piece of memory that it takes.
 #
-#   checks/refused/run.sh
+#   checks/refused/run.sh            both of these
+#   checks/refused/run.sh calls      each call that takes memory
+#   checks/refused/run.sh reading    the reading of a script
 #
 # The program of calls/ makes each call that takes memory (calls.txt) on something that is made for it, with its Nth
 # growth refused, N = 1, 2, 3 and so on until nothing is refused. After each refusal all that can be read is compared,
@@ -9,43 +11,64 @@
 # on a heap of its own there (heap.rt.txt, over_heap), which refuses what it is told to, as often as it is told.
 #
 # Scripts are read by a parser that takes the host's memory alone. So reading.rt.txt reads one, once for each piece that
-# this takes, and `rt try` refuses that piece.
+# this takes, in a program that is built to refuse that piece.
 #
 # Both are compiled in a folder of their own and not proved; judge.awk and reading.awk say whether what they print is as
 # it should be. RT names another 'rt'.
 set -euo pipefail
 
+case ${1-} in
+'') parts=(calls reading) ;;
+calls | reading) parts=("$1") ;;
+*) echo "wanted: checks/refused/run.sh [calls|reading]" >&2; exit 2 ;;
+esac
+
 here=$(cd "$(dirname "$0")" && pwd)
 source "$here/../../.ci/copy"
-"$here/over_heap" "$work"
-mkdir -p "$work"/crates/{pt_heap,pt_refused,pt_reading}/src "$work/cases"
-cp "$here/heap.rt.txt" "$work/crates/pt_heap/src/lib.rt"
-for file in "$here"/calls/*.rt.txt; do
-    cp "$file" "$work/crates/pt_refused/src/$(basename "$file" .txt)"
-done
-cp "$here/reading.rt.txt" "$work/crates/pt_reading/src/main.rt"
-{
-    echo pt_reading: pt_script
-    echo pt_refused: pt_{heap,signal,slots,process,carrier,history,shard,node,crew,supervisor,resting,options,script,runner,report}
-} >>"$work/crates.txt"
+
+# The calls, in one run of their program.
+try_calls() {
+    local file status=0
+    "$here/over_heap" "$work"
+    mkdir -p "$work"/crates/{pt_heap,pt_refused}/src
+    cp "$here/heap.rt.txt" "$work/crates/pt_heap/src/lib.rt"
+    for file in "$here"/calls/*.rt.txt; do
+        cp "$file" "$work/crates/pt_refused/src/$(basename "$file" .txt)"
+    done
+    echo pt_refused: pt_{heap,signal,slots,process,carrier,history,shard,node,crew,supervisor,resting,options,script,runner,report} >>"$work/crates.txt"
+    "$root/.ci/build" --in "$work" pt_refused
+    env -i ASAN_OPTIONS=exitcode=99 timeout 1200 "$work/bin/pt_refused" >"$work/calls" 2>&1 </dev/null || status=$?
+    awk -v CALLS="$here/calls.txt" -v STATUS="$status" -f "$here/judge.awk" "$work/calls"
+}
 
 # The piece with this number is refused. Case K takes and gives back so many pieces first that it is about the Kth of
 # the reading's own; case 0000 takes so few that none is refused. There are more cases than the reading takes pieces.
 refused=1000
 cases=150
-echo 0000 >"$work/cases/0000"
-for ((k = 1; k <= cases; k++)); do
-    printf '%04d\n' "$((refused - k))" >"$work/cases/$(printf '%04d' "$k")"
-done
 
-# The status of each is that of its lowest run; what counts is what the runs print.
-(cd "$work/crates/pt_reading" &&
-    "$rt" try --steps 1000 --fail-alloc "$refused" --cases "$work/cases" >"$work/reading" 2>&1 </dev/null) || true &
-(cd "$work/crates/pt_refused" &&
-    "$rt" try --steps 1000 --seconds 1200 >"$work/calls" 2>&1 </dev/null) || true
-wait
+# Reads the script after so many other pieces.
+read_after() {
+    local status=0
+    echo "== $1"
+    env -i ASAN_OPTIONS=exitcode=99 timeout 60 "$work/bin/pt_reading" 2>&1 <<<"$2" || status=$?
+    echo "case=$1 status=$status"
+}
+
+try_reading() {
+    local k
+    mkdir -p "$work/crates/pt_reading/src"
+    cp "$here/reading.rt.txt" "$work/crates/pt_reading/src/main.rt"
+    echo pt_reading: pt_script >>"$work/crates.txt"
+    "$root/.ci/build" --in "$work" pt_reading -- --fail-alloc "$refused"
+    read_after 0000 0000 >"$work/reading"
+    for ((k = 1; k <= cases; k++)); do
+        read_after "$(printf '%04d' "$k")" "$((refused - k))" >>"$work/reading"
+    done
+    awk -v CASES="$cases" -f "$here/reading.awk" "$work/reading"
+}
 
 fine=true
-awk -v CALLS="$here/calls.txt" -f "$here/judge.awk" "$work/calls" || fine=false
-awk -v CASES="$cases" -f "$here/reading.awk" "$work/reading" || fine=false
+for part in "${parts[@]}"; do
+    "try_$part" || fine=false
+done
 $fine
