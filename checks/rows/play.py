@@ -193,11 +193,12 @@ def main(words: list[str]) -> int:
         plays = [play for row in rows for play in plays_of(row)]
         program = Path(words[0]).resolve()
         with ThreadPoolExecutor() as pool:
-            wrong = [line for line in pool.map(lambda play: run(program, play), plays) if line]
+            said = list(pool.map(lambda play: run(program, play), plays))
     except (Wrong, OSError) as fault:
         print(f"rows: {fault}", file=sys.stderr)
         return 1
-    answers = sum(is_expect(line) for play in plays for line in play.lines)
+    wrong = [line for line in said if line]
+    answers = sum(is_expect(line) for play, fault in zip(plays, said) if not fault for line in play.lines)
     for line in wrong:
         print(f"WRONG: {line}")
     print(f"rows: {len(rows)} rows, {answers} answers compared, {len(wrong)} wrong")
