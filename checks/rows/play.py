@@ -4,7 +4,7 @@
     checks/rows/play.py PT_SHELL [FILE..]
 
 PT_SHELL is the built program. Without files it plays all rows, `*.txt` beside this script except names.txt, and fails
-if a test that names.txt lists has neither a row nor a test in the crate pt_rows. Each row runs by itself, once for
+if a name that names.txt lists is neither that of a row nor that of a Rattle test. Each row runs by itself, once for
 each number of turns between `# cut` and `# uncut`. README.md says how to read and write a row.
 """
 from __future__ import annotations
@@ -18,7 +18,7 @@ from pathlib import Path
 from typing import Iterator, Optional
 
 HERE = Path(__file__).resolve().parent
-TESTS = HERE.parent.parent / "crates/pt_rows/src"
+CRATES = HERE.parent.parent / "crates"
 SECONDS = 60
 
 
@@ -143,9 +143,9 @@ def run(program: Path, play: Play) -> Optional[str]:
     return None
 
 
-def tests_left() -> set[str]:
-    """The tests that the crate pt_rows still has, each as `module.test`."""
-    return {f"{file.stem}.{test}" for file in TESTS.glob("*.rt")
+def rattle_tests() -> set[str]:
+    """The Rattle tests of all crates, each as `module.test`."""
+    return {f"{file.stem}.{test}" for file in CRATES.glob("*/src/**/*.rt")
             for test in re.findall(r"#\[test\]\nfn (\w+)", file.read_text(encoding="utf-8"))}
 
 
@@ -154,13 +154,13 @@ def check_names(rows: list[Row]) -> str:
     names = [name for name in (HERE / "names.txt").read_text(encoding="utf-8").split("\n") if name]
     if len(set(names)) != len(names):
         raise Wrong("names.txt: a name stands twice")
-    played, left = {row.name.split("/")[0] for row in rows}, tests_left()
+    played, left = {row.name.split("/")[0] for row in rows}, rattle_tests()
     lost = [name for name in names if name not in played and name not in left]
     if lost:
         raise Wrong("no row and no test: " + " ".join(lost))
     new = sorted(played - set(names))
     own = [name for name in names if name not in played]
-    return (f"names: {len(names)} before: {len(names) - len(own)} by rows, {len(own)} by tests of pt_rows alone"
+    return (f"names: {len(names)} before: {len(names) - len(own)} by rows, {len(own)} by Rattle tests alone"
             + (f"; new: {len(new)}" if new else ""))
 
 
