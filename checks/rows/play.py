@@ -153,7 +153,7 @@ def check_names(rows: list[Row]) -> str:
     """Compares the tests that there were with the rows and tests that there are: a line about it."""
     names = [name for name in (HERE / "names.txt").read_text(encoding="utf-8").split("\n") if name]
     if len(set(names)) != len(names):
-        raise Wrong("names.txt: a name stands twice")
+        raise Wrong("names.txt has a name twice")
     played, left = {row.name.split("/")[0] for row in rows}, rattle_tests()
     lost = [name for name in names if name not in played and name not in left]
     if lost:
@@ -165,13 +165,13 @@ def check_names(rows: list[Row]) -> str:
 
 
 def read_rows(files: list[Path]) -> list[Row]:
-    """The rows of all files. Fails if a name stands twice, or a row is not written as it has to be."""
+    """The rows of all files. Fails if two rows have one name, or a row is not written as it has to be."""
     rows = [row for file in files for row in rows_of(file)]
     seen: set[str] = set()
     for row in rows:
         check_row(row)
         if row.name in seen:
-            raise Wrong(f"{row.file.name}: {row.name} stands twice")
+            raise Wrong(f"{row.file.name}: another row has the name {row.name} too")
         seen.add(row.name)
     return rows
 
