@@ -1,202 +1,136 @@
 #!/usr/bin/env python3
-"""Prints the worked rows of the Rattle tests as one table, which each language plays.
+"""Prints the worked rows of checks/rows as one table, which C, Rust and Python play.
 
     bindings/rows.py > TABLE
 
-The rows stand in crates/pt_rows/src, as tables of calls with their answers. Each begins here with a line
-`row NAME DESKS SLOTS TOP_VERSION LANE START`, and each of its steps is a line `CALL WORDS.. = ANSWER`. A step that only
-the judge of histories can answer (`Ended`) is left out. `resume = handled N` gathers the node, settles it, and goes on
-from it.
+A row begins with a line `row NAME`; a row that is cut off after N turns has the name NAME@N. Each of its steps is a
+line `CALL WORDS.. = ANSWER`, or `CALL WORDS..` if the row does not compare the answer. All names of pids and references
+are replaced by what they stand for, and `open` has all five settings as numbers. The lines of an answer are joined by
+`; `. Steps that the C library has no call for are left out:
+
+- `judge`, since the judge of histories is not part of it;
+- `watching` and `kept` of a running node, and `waiting` of a settled one;
+- calls on a desk that the node does not have, since a program has no handle of it.
 """
+from __future__ import annotations
+
 import re
 import sys
+from collections.abc import Iterator
+from dataclasses import dataclass, field
 from pathlib import Path
 
-ROWS = Path(__file__).resolve().parent.parent / "crates/pt_rows/src"
-TOKEN = re.compile(r'\s*(?:("(?:[^"\\]|\\.)*")|(-?\d[\d_]*)|([A-Za-z_]\w*(?:::\w+)*)|(\.\.|[][(){},:&.]))')
+sys.path.insert(0, str(Path(__file__).resolve().parent.parent / "checks/rows"))
+sys.dont_write_bytecode = True
+
+from play import Line, Play, Wrong, is_call, is_expect, plays_of, read_rows, row_files  # noqa: E402
+
+FEWEST_ROWS = 115
+DEFAULTS = {"desks": 1, "slots": 1024, "top_version": 2**32 - 1, "lane": 64, "start": 0}
+BY_DESK = {"spawn", "turn", "clock", "pending", "journal", "event", "vacant", "knows"}
+WITHOUT_ACTOR = {"turn_all", "turn_until_still", "events", "gather"}
+NAMED = re.compile(r"<\d+\.\d+\.\d+>|#\d+\.\d+")
 
 
-class Reader:
-    """Reads the expressions of constants."""
+@dataclass
+class Step:
+    """A call and the lines of its answer; none if they are not compared."""
 
-    def __init__(self, text, names):
-        text = re.sub(r"//[^\n]*", "", text)
-        self.tokens = []
-        at = 0
-        while at < len(text.rstrip()):
-            match = TOKEN.match(text, at)
-            if not match:
-                raise SyntaxError(text[at:at + 60])
-            self.tokens.append(match.group().strip())
-            at = match.end()
-        self.at = 0
-        self.names = names
+    name: str
+    words: list[str]
+    answer: list[str] = field(default_factory=list)
 
-    def look(self):
-        return self.tokens[self.at] if self.at < len(self.tokens) else ""
-
-    def take(self, wanted=None):
-        token = self.look()
-        if wanted and token != wanted:
-            raise SyntaxError(f"{token} where {wanted} is to stand")
-        self.at += 1
-        return token
-
-    def many(self, end):
-        values = []
-        while self.look() != end:
-            values.append(self.expression())
-            if self.look() == ",":
-                self.take()
-        self.take(end)
-        return values
-
-    def expression(self):
-        value = self.plain()
-        while self.look() == ".":
-            self.take()
-            method = self.take().removeprefix("with_")
-            self.take("(")
-            value = {**value, method: self.many(")")[0]}
-        return value
-
-    def plain(self):
-        token = self.take()
-        if token == "&":
-            return self.plain()
-        if token == "[":
-            return self.many("]")
-        if token == "(":
-            return tuple(self.many(")"))
-        if token.startswith('"'):
-            return token[1:-1]
-        if re.match(r"-?\d", token):
-            return int(token.replace("_", ""))
-        if self.look() == "{":
-            return self.fields()
-        name = token.split("::")[-1]
-        if self.look() == "(":
-            self.take()
-            return call(name, self.many(")"))
-        if name in self.names:
-            return self.names[name]
-        return {"true": True, "false": False}.get(name, (name,))
-
-    def fields(self):
-        self.take("{")
-        value = {}
-        while self.look() != "}":
-            if self.look() == "..":
-                self.take()
-                value = {**self.expression(), **value}
-            else:
-                field = self.take()
-                if self.look() == ":":
-                    self.take()
-                    value[field] = self.expression()
-                else:
-                    value[field] = self.names[field]
-            if self.look() == ",":
-                self.take()
-        self.take("}")
-        return value
+    def text(self) -> str:
+        """The step as a line of the table."""
+        call = " ".join([self.name, *self.words])
+        return f"{call} = {'; '.join(self.answer)}" if self.answer else call
 
 
-def settings(slots):
-    return {"desks": 1, "slots": slots, "top_version": 2**32 - 1, "lane": 8, "start": 0}
+@dataclass
+class State:
+    """What is known of the node between two steps."""
+
+    desks: int = 0
+    phase: str = "closed"
+    names: dict[str, str] = field(default_factory=dict)
+
+    def follow(self, step: Step) -> None:
+        """What the node is after a step."""
+        if step.name == "open" and step.answer == ["ok"]:
+            self.desks, self.phase = int(step.words[0]), "running"
+        elif step.name in ("gather", "settle", "resume"):
+            self.phase = {"gather": "gathered", "settle": "settled", "resume": "running"}[step.name]
+
+    def can_play(self, step: Step) -> bool:
+        """Whether the C library has a call for the step."""
+        if step.name == "judge":
+            return False
+        if self.phase == "settled" and step.name == "waiting":
+            return False
+        if self.phase != "running" or step.name in WITHOUT_ACTOR or step.name == "open":
+            return True
+        if step.name in ("watching", "kept"):
+            return False
+        first = step.words[0]
+        desk = int(first) if step.name in BY_DESK else int(first[1:].split(".")[0])
+        return desk < self.desks
 
 
-def call(name, words):
-    if name == "settings":
-        return settings(*words)
-    if name == "two_desks":
-        return {**settings(8), "desks": 2, "lane": words[0]}
-    return (name, *words)
+def settings(words: list[str]) -> list[str]:
+    """The settings of `open` as numbers, in order."""
+    given = dict(word.split("=", 1) for word in words)
+    unknown = given.keys() - DEFAULTS.keys()
+    if unknown:
+        raise Wrong(f"no setting: {min(unknown)}")
+    return [str(given.get(name, default)) for name, default in DEFAULTS.items()]
 
 
-NAMES = {"u32::MAX": 2**32 - 1, "MAX": 2**32 - 1, "MAX_STAMP": 2**62, "DEFAULT": {**settings(1024), "lane": 64}}
+def steps_of(lines: list[Line]) -> Iterator[tuple[str, Step]]:
+    """The steps of a row, each with the name that its answer gets, or an empty one."""
+    name, step = "", None
+    for line in lines:
+        words = line.text.split()
+        if is_expect(line) and step is not None:
+            step.answer.append(" ".join(words[1:]))
+        elif is_call(line):
+            if step is not None:
+                yield name, step
+            name, words = (words[0], words[2:]) if words[1:2] == ["="] else ("", words)
+            step = Step(words[0], words[1:])
+    if step is not None:
+        yield name, step
 
 
-def text(value):
-    """A value as it is printed."""
-    if isinstance(value, bool):
-        return str(value).lower()
-    if isinstance(value, int):
-        return str(value)
-    if isinstance(value, dict) and "shard" in value:
-        return f"<{value['shard']}.{value['slot']}.{value['version']}>"
-    if isinstance(value, dict) and "number" in value:
-        return f"#{value['desk']}.{value['number']}"
-    name, *words = value
-    word = re.sub(r"(?<=[a-z])(?=[A-Z])", "-", name).lower()
-    if name == "Other":
-        return f"other:{words[0]}"
-    return " ".join([word, *map(text, words)])
+def lines_of(play: Play) -> Iterator[str]:
+    """The lines of the table for a row."""
+    yield f"row {play.row.name}" + ("" if play.turns is None else f"@{play.turns}")
+    state = State()
+    for name, step in steps_of(play.lines):
+        step.words = settings(step.words) if step.name == "open" else [state.names.get(w, w) for w in step.words]
+        if state.can_play(step):
+            yield step.text()
+        state.follow(step)
+        if name and not step.answer:
+            raise Wrong(f"{play.row.name}: {name} is compared with nothing")
+        if name and NAMED.fullmatch(step.answer[0]):
+            state.names[name] = step.answer[0]
 
 
-ON_DESK = {"SpawnOn": "spawn", "TurnOf": "turn", "ClockOf": "clock", "EventOf": "event", "KnowsOn": "knows"}
-
-
-def line(step):
-    (name, *words), answer = step
-    if name in ON_DESK:
-        word = ON_DESK[name]
-    else:
-        word = re.sub(r"(?<=[a-z])(?=[A-Z])", "_", name).lower()
-        if name in ("Spawn", "Turn", "Clock", "Event", "Knows"):
-            words = [0, *words]
-    return " ".join([word, *map(text, words)]) + f" = {answer}"
-
-
-def constants(source, names):
-    found = dict(names)
-    for name, _, value in re.findall(r"const (\w+): ([^=]+?) =\s*((?:[^;\"]|\"[^\"]*\")+);", source):
-        try:
-            found[name] = Reader(value, found).expression()
-        except (SyntaxError, KeyError, IndexError, TypeError):
-            pass
-    return found
-
-
-def rows():
-    known = constants((ROWS / "known.rt").read_text(), NAMES)
-    for path in sorted(ROWS.glob("*.rt")):
-        source = path.read_text()
-        common = constants(re.sub(r"\nfn .*?\n}\n", "\n", source, flags=re.S), known)
-        for name, body in re.findall(r"\nfn (\w+)\(rt: HostRuntime\)[^{]*\{\n(.*?)\n}\n", source, flags=re.S):
-            names = constants(body, common)
-            for _, words in re.findall(r"\b(play|play_whole|play_on|play_resumed)\(((?:[^()]|\([^()]*\))*)\)", body):
-                try:
-                    config, *tables = Reader("[" + words + "]", {**names, "alloc": 0, "rt": 0}).tail()
-                except (SyntaxError, KeyError, IndexError, TypeError):
-                    continue
-                # between two tables of a node that is resumed stands how many letters its settling handles
-                tables = [[(("Resume",), f"handled {it}")] if isinstance(it, int) else it for it in tables]
-                if isinstance(config, dict) and all(isinstance(table, list) for table in tables):
-                    yield f"{path.stem}.{name}", config, [step for table in tables for step in table]
-
-
-def tail(reader):
-    """What stands behind `&rt, rt.alloc(),` or `&rt, alloc,`."""
-    text_of = " ".join(reader.tokens)
-    text_of = re.sub(r"^\[ (?:& )?rt , (?:rt \. alloc \( \)|alloc) ,", "[", text_of)
-    return Reader(text_of, reader.names).expression()
-
-
-Reader.tail = tail
-
-
-def main():
-    count = 0
-    for name, config, steps in rows():
-        print("row", name, *(config[k] for k in ("desks", "slots", "top_version", "lane", "start")))
-        for step in steps:
-            if step[0][0] != "Ended":
-                print(line(step))
-        count += 1
-    if count < 40:
-        sys.exit(f"only {count} rows were found")
+def main() -> int:
+    """Prints the table, and returns the status."""
+    try:
+        rows = read_rows(row_files())
+        for row in rows:
+            for play in plays_of(row):
+                print("\n".join(lines_of(play)))
+    except (Wrong, OSError, ValueError) as fault:
+        print(f"rows.py: {fault}", file=sys.stderr)
+        return 1
+    if len(rows) < FEWEST_ROWS:
+        print(f"rows.py: only {len(rows)} rows were found", file=sys.stderr)
+        return 1
+    return 0
 
 
 if __name__ == "__main__":
-    main()
+    sys.exit(main())

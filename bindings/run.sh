@@ -1,7 +1,7 @@
 #!/usr/bin/env bash
 # Builds the static library and what stands over it, and runs all of it: C, Rust and Python play one table of calls, the
-# worked rows of the Rattle tests, and compare each answer; each compares its structs and codes with what the library
-# says of itself; the C examples run under valgrind.
+# worked rows of checks/rows, and compare each answer; each compares its structs and codes with what the library says of
+# itself; the C examples run under valgrind.
 #
 #   bindings/run.sh           everything, over an archive of `rt lib`, which proves what was not proved on this machine
 #   bindings/run.sh --gate    everything, over an archive that is built on the libraries which `rt ci` has just proved

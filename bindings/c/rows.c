@@ -5,7 +5,18 @@
 #include "pundewo.h"
 #include "pundewo_text.h"
 
-enum { MOST_DESKS = 64, MOST_WORDS = 8 };
+enum { MOST_DESKS = 64, MOST_HANDLES = MOST_DESKS + 2, MOST_WORDS = 8, MOST_BYTES = 65536 };
+
+/* A node, in one of its states. Its desks are in one of two places, so that a refused open leaves them alone. */
+typedef struct {
+    pt_desk desks[2][MOST_HANDLES];
+    size_t place, count;
+    bool is_running;
+    pt_gathered gathered;
+    pt_quiet quiet;
+} node;
+
+/* ---- words of the table */
 
 static pt_pid pid_of(const char *word) {
     unsigned shard = 0, slot = 0, version = 0;
@@ -20,16 +31,19 @@ static pt_ref ref_of(const char *word) {
     return (pt_ref){(uint8_t)desk, number};
 }
 
+static uint32_t number_of(const char *word) { return (uint32_t)strtoul(word, NULL, 10); }
+
 static pt_reason reason_of(const char *word) {
     static const char *const names[] = {"normal", "kill", "killed", "noproc", "shutdown"};
     for (uint32_t k = 0; k < 5; k++)
         if (!strcmp(word, names[k])) return (pt_reason){k, 0};
-    return (pt_reason){PT_OTHER, (uint32_t)strtoul(word + strlen("other:"), NULL, 10)};
+    return (pt_reason){PT_OTHER, number_of(word + strlen("other:"))};
 }
 
 static pt_pick pick_of(char **words) {
     pt_pick pick = {.code = PT_PICK_ANY};
-    if (!strcmp(words[0], "kind")) pick.code = PT_PICK_KIND, pick.kind = (uint32_t)strtoul(words[1], NULL, 10);
+    if (words[0] == NULL) return pick;
+    if (!strcmp(words[0], "kind")) pick.code = PT_PICK_KIND, pick.kind = number_of(words[1]);
     if (!strcmp(words[0], "from")) pick.code = PT_PICK_FROM, pick.pid = pid_of(words[1]);
     if (!strcmp(words[0], "exit-of")) pick.code = PT_PICK_EXIT_OF, pick.pid = pid_of(words[1]);
     if (!strcmp(words[0], "down-of")) pick.code = PT_PICK_DOWN_OF, pick.reference = ref_of(words[1]);
@@ -37,184 +51,493 @@ static pt_pick pick_of(char **words) {
     return pick;
 }
 
-static void find_event(FILE *to, pt_desk *desk, uint64_t stamp) {
-    pt_event event;
-    for (size_t k = 0; pt_event_at(desk, k, &event) == PT_OK; k++)
-        if (event.stamp == stamp) {
-            pt_print_event(to, event);
+/* ---- answers */
+
+static void print_code(FILE *to, uint32_t code) {
+    static const char *const settings[] = {"desks", "slots", "top_version", "lane", "start"};
+    if (code >= PT_BAD_DESKS && code <= PT_BAD_START) {
+        fprintf(to, "bounds %s", settings[code - PT_BAD_DESKS]);
+        return;
+    }
+    for (const char *c = pt_code_name(code); *c; c++) fputc(*c >= 'A' && *c <= 'Z' ? *c - 'A' + 'a' : *c, to);
+}
+
+static void print_bool(FILE *to, uint32_t code, bool yes) {
+    if (code == PT_OK) fputs(yes ? "true" : "false", to);
+    else print_code(to, code);
+}
+
+static void print_turned(FILE *to, pt_turned turned) {
+    fprintf(to, "posted %" PRIu64 " handled %" PRIu64, turned.posted, turned.handled);
+    if (turned.stopped != PT_OK) fputs(", then ", to), print_code(to, turned.stopped);
+}
+
+static void print_ids_or_none(FILE *to, uint32_t code, pt_ids ids) {
+    if (code == PT_OK) pt_print_ids(to, ids);
+    else fputs("none", to);
+}
+
+/* Between two lines of an answer; `count` are already there. */
+static void print_next(FILE *to, size_t count) {
+    if (count > 0) fputs("; ", to);
+}
+
+static void print_nothing(FILE *to, size_t count) {
+    if (count == 0) fputs("nothing", to);
+}
+
+/* ---- the node */
+
+static pt_desk *desk_at(node *n, size_t desk) { return &n->desks[n->place][desk < n->count ? desk : 0]; }
+
+/* The desk that the first word names, by its number or by a pid. */
+static pt_desk *desk_of(node *n, char **w) {
+    return desk_at(n, w[1] == NULL ? 0 : w[1][0] == '<' ? pid_of(w[1]).shard : number_of(w[1]));
+}
+
+/* Gives up the node in whatever state it is. Whether each handle was as it had to be. */
+static bool give_up(node *n) {
+    bool fine = true;
+    if (n->is_running)
+        for (size_t k = 0; k < n->count; k++) fine &= pt_give_up(&n->desks[n->place][k]) == PT_OK;
+    if (n->gathered.at) fine &= pt_gathered_give_up(&n->gathered) == PT_OK;
+    if (n->quiet.at) fine &= pt_quiet_give_up(&n->quiet) == PT_OK;
+    n->is_running = false;
+    n->count = 0;
+    return fine;
+}
+
+/* The history of a gathered or settled node, which the caller gives up. */
+static pt_history history_of(node *n) {
+    pt_history history = PT_NO_HISTORY;
+    if (n->gathered.at) pt_gathered_history(&n->gathered, &history);
+    else pt_quiet_history(&n->quiet, &history);
+    return history;
+}
+
+/* Gathers and settles what is left of a node, and gives it up. */
+static int close_node(node *n, const char *row) {
+    pt_history history;
+    size_t events = 0, more = 0, left = 0;
+    bool fine = true;
+    if (n->is_running) {
+        fine = pt_gather(n->desks[n->place], n->count, &n->gathered) == PT_OK;
+        n->is_running = !fine;
+    }
+    if (fine && n->gathered.at) {
+        history = history_of(n);
+        fine = pt_history_count(&history, &events) == PT_OK && pt_history_give_up(&history) == PT_OK;
+        uint32_t code = pt_settle(&n->gathered, &n->quiet);
+        /* a clock at its limit takes no more receipts */
+        if (code == PT_WORN) return !(give_up(n) && fine);
+        history = history_of(n);
+        fine = fine && code == PT_OK && pt_history_count(&history, &more) == PT_OK
+            && pt_history_left_count(&history, &left) == PT_OK && pt_history_give_up(&history) == PT_OK
+            && left == 0 && more >= events;
+    }
+    fine = give_up(n) && fine;
+    if (!fine) printf("%s: not gathered or not settled\n", row);
+    return !fine;
+}
+
+/* ---- calls of processes */
+
+static void call_open(FILE *to, node *n, char **w) {
+    pt_desk *fresh = n->desks[1 - n->place];
+    size_t count = strtoul(w[1], NULL, 10);
+    pt_config config = {number_of(w[2]), number_of(w[3]), number_of(w[4]), strtoull(w[5], NULL, 10)};
+    if (count > MOST_HANDLES) {
+        fputs("too many desks for this program", to);
+        return;
+    }
+    uint32_t code = pt_open(fresh, count, config);
+    if (code == PT_OK) {
+        if (!give_up(n)) fputs("wrong ", to);
+        n->place = 1 - n->place;
+        n->count = count;
+        n->is_running = true;
+    }
+    print_code(to, code);
+}
+
+static void print_spawned(FILE *to, uint32_t code, pt_pid pid) {
+    if (code == PT_OK) pt_print_pid(to, pid);
+    else print_code(to, code);
+}
+
+static void call_spawn(FILE *to, node *n, char **w) {
+    pt_pid pid;
+    uint32_t code = pt_spawn(desk_of(n, w), &pid);
+    print_spawned(to, code, pid);
+}
+
+static void call_spawn_child(FILE *to, node *n, char **w) {
+    pt_pid pid;
+    uint32_t code = pt_spawn_child(desk_of(n, w), pid_of(w[1]), !strcmp(w[2], "true"), &pid);
+    print_spawned(to, code, pid);
+}
+
+static void call_send(FILE *to, node *n, char **w) {
+    pt_body body = {.kind = number_of(w[3]), .num = strtoll(w[4], NULL, 10)};
+    if (w[5] != NULL) body.has_who = true, body.who = pid_of(w[6]);
+    print_code(to, pt_send(desk_of(n, w), pid_of(w[1]), pid_of(w[2]), body));
+}
+
+static void call_exit_signal(FILE *to, node *n, char **w) {
+    print_code(to, pt_exit_signal(desk_of(n, w), pid_of(w[1]), pid_of(w[2]), reason_of(w[3])));
+}
+
+static void call_link(FILE *to, node *n, char **w) {
+    print_code(to, pt_link(desk_of(n, w), pid_of(w[1]), pid_of(w[2])));
+}
+
+static void call_unlink(FILE *to, node *n, char **w) {
+    print_code(to, pt_unlink(desk_of(n, w), pid_of(w[1]), pid_of(w[2])));
+}
+
+static void call_exit(FILE *to, node *n, char **w) {
+    print_code(to, pt_exit(desk_of(n, w), pid_of(w[1]), reason_of(w[2])));
+}
+
+static void call_trap(FILE *to, node *n, char **w) {
+    bool was = false;
+    uint32_t code = pt_trap(desk_of(n, w), pid_of(w[1]), !strcmp(w[2], "true"), &was);
+    print_bool(to, code, was);
+}
+
+static void print_named(FILE *to, uint32_t code, pt_ref ref) {
+    if (code == PT_OK) pt_print_ref(to, ref);
+    else print_code(to, code);
+}
+
+static void call_monitor(FILE *to, node *n, char **w) {
+    pt_ref ref;
+    uint32_t code = pt_monitor(desk_of(n, w), pid_of(w[1]), pid_of(w[2]), &ref);
+    print_named(to, code, ref);
+}
+
+static void call_ask_alive(FILE *to, node *n, char **w) {
+    pt_ref ref;
+    uint32_t code = pt_ask_alive(desk_of(n, w), pid_of(w[1]), pid_of(w[2]), &ref);
+    print_named(to, code, ref);
+}
+
+static void call_demonitor(FILE *to, node *n, char **w) {
+    bool wrote = false;
+    uint32_t code = pt_demonitor(desk_of(n, w), pid_of(w[1]), ref_of(w[2]), !strcmp(w[3], "true"), &wrote);
+    print_bool(to, code, wrote);
+}
+
+static void call_receive(FILE *to, node *n, char **w) {
+    pt_item item;
+    uint32_t code = pt_receive(desk_of(n, w), pid_of(w[1]), pick_of(w + 2), &item);
+    if (code == PT_OK) pt_print_item(to, item);
+    else if (code == PT_NOTHING) fputs("none", to);
+    else print_code(to, code);
+}
+
+/* ---- turns */
+
+static void call_turn(FILE *to, node *n, char **w) {
+    pt_turned turned = {0};
+    uint32_t code = pt_turn(desk_of(n, w), number_of(w[2]), &turned);
+    if (code == PT_OK) print_turned(to, turned);
+    else print_code(to, code);
+}
+
+/* One turn of each desk: what they did together, and the first stop, with its desk in `where`. */
+static pt_turned turn_each(node *n, uint32_t budget, size_t *where) {
+    pt_turned sum = {0}, turned = {0};
+    for (size_t k = 0; k < n->count; k++) {
+        pt_turn(desk_at(n, k), budget, &turned);
+        sum.posted += turned.posted;
+        sum.handled += turned.handled;
+        if (sum.stopped == PT_OK && turned.stopped != PT_OK) sum.stopped = turned.stopped, *where = k;
+    }
+    return sum;
+}
+
+static void call_turn_all(FILE *to, node *n, char **w) {
+    size_t where = 0;
+    print_turned(to, turn_each(n, number_of(w[1]), &where));
+}
+
+/* What one desk posts may be for a desk that had its turn before: so two rounds without a letter are needed. */
+static void call_turn_until_still(FILE *to, node *n, char **w) {
+    uint32_t budget = number_of(w[1]) > 0 ? number_of(w[1]) : 1;
+    uint64_t handled = 0;
+    size_t where = 0;
+    for (int still = 0; still < 2;) {
+        pt_turned round = turn_each(n, budget, &where);
+        handled += round.handled;
+        if (round.stopped != PT_OK) {
+            fprintf(to, "handled %" PRIu64 ", then desk %zu ", handled, where);
+            print_code(to, round.stopped);
             return;
         }
-    fputs("none", to);
+        still = round.handled > 0 ? 0 : still + 1;
+    }
+    fprintf(to, "handled %" PRIu64, handled);
 }
 
-static void stamps(FILE *to, pt_desk *desk) {
-    pt_event event;
-    for (size_t k = 0; pt_event_at(desk, k, &event) == PT_OK; k++) fprintf(to, "%" PRIu64 " ", event.stamp);
+/* ---- what a node says of itself */
+
+static void call_clock(FILE *to, node *n, char **w) {
+    uint64_t number = 0;
+    pt_clock(desk_of(n, w), &number);
+    fprintf(to, "%" PRIu64, number);
 }
 
-static void waiting(FILE *to, pt_desk *desk, pt_pid p) {
-    size_t count;
-    pt_item item;
-    if (pt_waiting(desk, p, &count) == PT_NOTHING) fputs("none", to);
-    else
-        for (size_t k = 0; k < count; k++) {
-            pt_peek(desk, p, k, &item);
-            pt_print_item(to, item);
-            fputc(';', to);
-        }
+static void call_pending(FILE *to, node *n, char **w) {
+    uint64_t number = 0;
+    pt_pending(desk_of(n, w), &number);
+    fprintf(to, "%" PRIu64, number);
 }
 
-/* Makes the call that the words are, and writes its answer. */
-static void make(FILE *to, pt_desk *desk, char **w) {
-    const char *name = w[0];
-    bool yes = false;
-    size_t count;
-    uint64_t number;
-    uint8_t small;
+static void call_vacant(FILE *to, node *n, char **w) {
     pt_pid pid;
-    pt_ref ref;
-    pt_ids ids;
+    if (pt_vacant(desk_of(n, w), &pid) == PT_OK) pt_print_pid(to, pid);
+    else fputs("none", to);
+}
+
+static void call_knows(FILE *to, node *n, char **w) {
+    bool yes = false;
+    uint32_t code = pt_knows(desk_of(n, w), pid_of(w[2]), &yes);
+    print_bool(to, code, yes);
+}
+
+static void call_waiting(FILE *to, node *n, char **w) {
+    size_t count = 0;
     pt_item item;
-    pt_turned turned;
-    uint32_t code = PT_OK;
-    if (!strcmp(name, "spawn") || !strcmp(name, "child") || !strcmp(name, "linked_child")) {
-        code = *name == 's' ? pt_spawn(desk, &pid) : pt_spawn_child(desk, pid_of(w[1]), *name == 'l', &pid);
-        if (code == PT_OK) return pt_print_pid(to, pid);
-    } else if (!strcmp(name, "vacant")) {
-        if (pt_vacant(desk, &pid) == PT_OK) pt_print_pid(to, pid);
-        else fputs("none", to);
-        return;
-    } else if (!strcmp(name, "send")) {
-        pt_body body = {.kind = (uint32_t)strtoul(w[3], NULL, 10), .num = strtoll(w[4], NULL, 10)};
-        code = pt_send(desk, pid_of(w[1]), pid_of(w[2]), body);
-    } else if (!strcmp(name, "exit_signal")) code = pt_exit_signal(desk, pid_of(w[1]), pid_of(w[2]), reason_of(w[3]));
-    else if (!strcmp(name, "link")) code = pt_link(desk, pid_of(w[1]), pid_of(w[2]));
-    else if (!strcmp(name, "unlink")) code = pt_unlink(desk, pid_of(w[1]), pid_of(w[2]));
-    else if (!strcmp(name, "exit")) code = pt_exit(desk, pid_of(w[1]), reason_of(w[2]));
-    else if (!strcmp(name, "monitor") || !strcmp(name, "ask_alive")) {
-        code = (*name == 'm' ? pt_monitor : pt_ask_alive)(desk, pid_of(w[1]), pid_of(w[2]), &ref);
-        if (code == PT_OK) return pt_print_ref(to, ref);
-    } else if (!strcmp(name, "trap") || !strcmp(name, "demonitor") || !strcmp(name, "flush")) {
-        if (*name == 't') code = pt_trap(desk, pid_of(w[1]), !strcmp(w[2], "true"), &yes);
-        else code = pt_demonitor(desk, pid_of(w[1]), ref_of(w[2]), *name == 'f', &yes);
-        if (code == PT_OK) return (void)fputs(yes ? "true" : "false", to);
-    } else if (!strcmp(name, "receive")) {
-        code = pt_receive(desk, pid_of(w[1]), pick_of(w + 2), &item);
-        if (code == PT_OK) return pt_print_item(to, item);
-        if (code == PT_NOTHING) return (void)fputs("none", to);
-    } else if (!strcmp(name, "turn")) {
-        code = pt_turn(desk, (uint32_t)strtoul(w[2], NULL, 10), &turned);
-        fprintf(to, "posted %" PRIu64 " handled %" PRIu64, turned.posted, turned.handled);
-        if (turned.stopped != PT_OK) fprintf(to, ", then %s", pt_code_name(turned.stopped));
-        return;
-    } else if (!strcmp(name, "number")) return pt_number(desk, &small), (void)fprintf(to, "%u", small);
-    else if (!strcmp(name, "clock")) return pt_clock(desk, &number), (void)fprintf(to, "%" PRIu64, number);
-    else if (!strcmp(name, "pending")) return pt_pending(desk, &number), (void)fprintf(to, "%" PRIu64, number);
-    else if (!strcmp(name, "events")) return pt_event_count(desk, &count), (void)fprintf(to, "%zu", count);
-    else if (!strcmp(name, "event")) return find_event(to, desk, strtoull(w[2], NULL, 10));
-    else if (!strcmp(name, "stamps")) return stamps(to, desk);
-    else if (!strcmp(name, "waiting")) return waiting(to, desk, pid_of(w[1]));
-    else if (!strcmp(name, "alive")) return pt_alive(desk, pid_of(w[1]), &yes), (void)fputs(yes ? "true" : "false", to);
-    else if (!strcmp(name, "knows")) return pt_knows(desk, pid_of(w[2]), &yes), (void)fputs(yes ? "true" : "false", to);
-    else if (!strcmp(name, "linked")) {
-        if (pt_linked(desk, pid_of(w[1]), pid_of(w[2]), &ids) == PT_OK) pt_print_ids(to, ids);
-        else fputs("none", to);
-        return;
-    } else {
-        fprintf(to, "no call %s", name);
+    if (pt_waiting(desk_of(n, w), pid_of(w[1]), &count) != PT_OK) {
+        fputs("none", to);
         return;
     }
-    fputs(pt_code_name(code), to);
+    for (size_t k = 0; k < count && pt_peek(desk_of(n, w), pid_of(w[1]), k, &item) == PT_OK; k++) {
+        print_next(to, k);
+        pt_print_item(to, item);
+    }
+    print_nothing(to, count);
 }
 
-/* The desk that the words name, or desk 0 where the node has none of that number. */
-static size_t desk_of(char **w, size_t count) {
-    size_t desk = w[1] == NULL ? 0 : w[1][0] == '<' ? pid_of(w[1]).shard : strtoul(w[1], NULL, 10);
-    return desk < count ? desk : 0;
+static void call_journal(FILE *to, node *n, char **w) {
+    size_t k = 0;
+    for (pt_event event; pt_event_at(desk_of(n, w), k, &event) == PT_OK; k++) {
+        print_next(to, k);
+        pt_print_event(to, event);
+    }
+    print_nothing(to, k);
 }
 
-/* Gathers and settles the node, and gives it up. */
-static int close_node(pt_desk *desks, size_t count, const char *row) {
-    pt_gathered node = PT_NO_GATHERED;
-    pt_quiet quiet = PT_NO_QUIET;
+static void call_history(FILE *to, node *n, char **w) {
+    pt_history history = history_of(n);
+    size_t k = 0;
+    (void)w;
+    for (pt_event event; pt_history_at(&history, k, &event) == PT_OK; k++) {
+        print_next(to, k);
+        pt_print_event(to, event);
+    }
+    print_nothing(to, k);
+    pt_history_give_up(&history);
+}
+
+/* The event with this stamp, if it is one of a desk and has it. */
+static bool is_event(pt_event event, char **w) {
+    return event.desk == number_of(w[1]) && event.stamp == strtoull(w[2], NULL, 10);
+}
+
+static void call_event(FILE *to, node *n, char **w) {
     pt_history history = PT_NO_HISTORY;
-    size_t events = 0, more = 0, left = 0;
-    if (count == 0) return 0;
-    if (pt_gather(desks, count, &node) != PT_OK || pt_gathered_history(&node, &history) != PT_OK
-        || pt_history_count(&history, &events) != PT_OK || pt_history_give_up(&history) != PT_OK) {
-        printf("%s: not gathered\n", row);
-        return 1;
+    pt_event event;
+    bool found = false;
+    if (!n->is_running) history = history_of(n);
+    for (size_t k = 0; !found; k++) {
+        uint32_t code = n->is_running ? pt_event_at(desk_of(n, w), k, &event) : pt_history_at(&history, k, &event);
+        if (code != PT_OK) break;
+        found = is_event(event, w);
     }
-    /* a clock at its limit takes no more receipts */
-    uint32_t code = pt_settle(&node, &quiet);
-    if (code == PT_WORN) return pt_gathered_give_up(&node) != PT_OK;
-    if (code != PT_OK || pt_quiet_history(&quiet, &history) != PT_OK || pt_history_count(&history, &more) != PT_OK
-        || pt_history_left_count(&history, &left) != PT_OK || left != 0 || more < events
-        || pt_history_give_up(&history) != PT_OK || pt_quiet_give_up(&quiet) != PT_OK) {
-        printf("%s: not settled\n", row);
-        return 1;
-    }
-    return 0;
+    if (found) pt_print_event(to, event);
+    else fputs("none", to);
+    if (!n->is_running) pt_history_give_up(&history);
 }
 
-/* Gathers and settles the node, and goes on from it: writes how many letters settling handled. */
-static void resume(FILE *to, pt_desk *desks, size_t count) {
-    pt_gathered node = PT_NO_GATHERED;
-    pt_quiet quiet = PT_NO_QUIET;
+static void call_events(FILE *to, node *n, char **w) {
+    size_t sum = 0, count = 0;
+    (void)w;
+    if (n->is_running)
+        for (size_t k = 0; k < n->count; k++, sum += count) pt_event_count(desk_at(n, k), &count);
+    else {
+        pt_history history = history_of(n);
+        pt_history_count(&history, &sum);
+        pt_history_give_up(&history);
+    }
+    fprintf(to, "%zu", sum);
+}
+
+static void call_alive(FILE *to, node *n, char **w) {
+    bool yes = false;
+    pt_account account;
+    if (n->is_running) pt_alive(desk_of(n, w), pid_of(w[1]), &yes);
+    else yes = pt_quiet_account(&n->quiet, pid_of(w[1]), &account) == PT_OK && !account.has_ended;
+    print_bool(to, PT_OK, yes);
+}
+
+static void call_linked(FILE *to, node *n, char **w) {
+    pt_ids ids;
+    uint32_t code = n->is_running ? pt_linked(desk_of(n, w), pid_of(w[1]), pid_of(w[2]), &ids)
+                                  : pt_quiet_linked(&n->quiet, pid_of(w[1]), pid_of(w[2]), &ids);
+    print_ids_or_none(to, code, ids);
+}
+
+/* ---- gathered, settled and resumed nodes */
+
+static void call_gather(FILE *to, node *n, char **w) {
+    size_t left = 0;
+    (void)w;
+    uint32_t code = pt_gather(n->desks[n->place], n->count, &n->gathered);
+    if (code != PT_OK) {
+        print_code(to, code);
+        return;
+    }
+    n->is_running = false;
+    pt_history history = history_of(n);
+    pt_history_left_count(&history, &left);
+    pt_history_give_up(&history);
+    fprintf(to, "left-over %zu", left);
+}
+
+static void call_left_over(FILE *to, node *n, char **w) {
+    pt_history history = history_of(n);
+    size_t k = 0;
+    (void)w;
+    for (pt_left_over left; pt_history_left_at(&history, k, &left) == PT_OK; k++) {
+        print_next(to, k);
+        pt_print_left_over(to, left);
+    }
+    print_nothing(to, k);
+    pt_history_give_up(&history);
+}
+
+static void call_settle(FILE *to, node *n, char **w) {
     uint64_t handled = 0;
-    uint8_t known = 0;
-    uint32_t code = pt_gather(desks, count, &node);
-    if (code == PT_OK) code = pt_settle(&node, &quiet);
-    if (code == PT_OK) code = pt_quiet_handled(&quiet, &handled);
-    if (code == PT_OK) code = pt_quiet_desks(&quiet, &known);
-    /* one handle more than the node has desks is refused, and the node is as it was */
-    if (code == PT_OK && (known != count || pt_resume(&quiet, desks, count + 1) != PT_BAD_DESKS)) fputs("wrong ", to);
-    if (code == PT_OK) code = pt_resume(&quiet, desks, count);
-    if (code == PT_OK && pt_resume(&quiet, desks, count) != PT_EMPTY) fputs("not empty ", to);
+    (void)w;
+    uint32_t code = pt_settle(&n->gathered, &n->quiet);
+    if (code == PT_OK) code = pt_quiet_handled(&n->quiet, &handled);
     if (code == PT_OK) fprintf(to, "handled %" PRIu64, handled);
-    else fputs(pt_code_name(code), to);
+    else print_code(to, code);
+}
+
+static void call_pids(FILE *to, node *n, char **w) {
+    size_t k = 0;
+    (void)w;
+    for (pt_pid pid; pt_quiet_pid_at(&n->quiet, k, &pid) == PT_OK; k++) {
+        if (k > 0) fputc(' ', to);
+        pt_print_pid(to, pid);
+    }
+    print_nothing(to, k);
+}
+
+static void call_account(FILE *to, node *n, char **w) {
+    pt_account a;
+    if (pt_quiet_account(&n->quiet, pid_of(w[1]), &a) != PT_OK) {
+        fputs("none", to);
+        return;
+    }
+    if (a.has_ended) fputs("ended ", to), pt_print_reason(to, a.ended);
+    else fputs("alive", to);
+    fprintf(to, " arrived %" PRIu64 " taken %" PRIu64 " waiting %" PRIu64, a.arrived, a.taken, a.waiting);
+}
+
+static void call_ended(FILE *to, node *n, char **w) {
+    pt_account account;
+    if (pt_quiet_account(&n->quiet, pid_of(w[1]), &account) == PT_OK && account.has_ended)
+        pt_print_reason(to, account.ended);
+    else fputs("none", to);
+}
+
+static void call_kept(FILE *to, node *n, char **w) {
+    bool yes = false;
+    uint32_t code = pt_quiet_kept(&n->quiet, pid_of(w[1]), ref_of(w[2]), &yes);
+    print_bool(to, code, yes);
+}
+
+static void call_watching(FILE *to, node *n, char **w) {
+    bool yes = false;
+    uint32_t code = pt_quiet_watching(&n->quiet, pid_of(w[1]), ref_of(w[2]), &yes);
+    print_bool(to, code, yes);
+}
+
+static void call_resume(FILE *to, node *n, char **w) {
+    pt_desk *desks = n->desks[n->place];
+    uint8_t known = 0;
+    (void)w;
+    /* one handle more than the node has desks is refused, and the node is as it was */
+    if (pt_quiet_desks(&n->quiet, &known) != PT_OK || known != n->count
+        || pt_resume(&n->quiet, desks, n->count + 1) != PT_BAD_DESKS)
+        fputs("wrong ", to);
+    uint32_t code = pt_resume(&n->quiet, desks, n->count);
+    if (code == PT_OK && pt_resume(&n->quiet, desks, n->count) != PT_EMPTY) fputs("not empty ", to);
+    n->is_running = code == PT_OK;
+    print_code(to, code);
+}
+
+/* ---- the table */
+
+typedef void call(FILE *, node *, char **);
+
+static const struct { const char *name; call *make; } calls[] = {
+    {"open", call_open}, {"spawn", call_spawn}, {"spawn_child", call_spawn_child}, {"send", call_send},
+    {"exit_signal", call_exit_signal}, {"link", call_link}, {"unlink", call_unlink}, {"trap", call_trap},
+    {"exit", call_exit}, {"monitor", call_monitor}, {"demonitor", call_demonitor}, {"ask_alive", call_ask_alive},
+    {"receive", call_receive}, {"turn", call_turn}, {"turn_all", call_turn_all},
+    {"turn_until_still", call_turn_until_still}, {"clock", call_clock}, {"pending", call_pending},
+    {"journal", call_journal}, {"event", call_event}, {"events", call_events}, {"vacant", call_vacant},
+    {"alive", call_alive}, {"knows", call_knows}, {"waiting", call_waiting}, {"linked", call_linked},
+    {"watching", call_watching}, {"kept", call_kept}, {"gather", call_gather}, {"left_over", call_left_over},
+    {"history", call_history}, {"settle", call_settle}, {"pids", call_pids}, {"account", call_account},
+    {"ended", call_ended}, {"resume", call_resume},
+};
+
+/* Makes the call that the words are, and writes its answer to `got`, of MOST_BYTES. */
+static void make(char *got, node *n, char **words) {
+    FILE *to = fmemopen(got, MOST_BYTES, "w");
+    bool found = false;
+    for (size_t k = 0; k < sizeof calls / sizeof *calls && !found; k++)
+        if (!strcmp(words[0], calls[k].name)) calls[k].make(to, n, words), found = true;
+    if (!found) fprintf(to, "no call %s", words[0]);
+    fputc(0, to);
+    fclose(to);
 }
 
 int main(int argc, char **argv) {
+    static char line[MOST_BYTES], got[MOST_BYTES], row[256];
+    static node n;
     FILE *table = argc > 1 ? fopen(argv[1], "r") : stdin;
-    pt_desk desks[MOST_DESKS + 1] = {PT_NO_DESK};
-    size_t count = 0;
-    char line[4096], row[256] = "", got[4096];
-    int wrong = 0, steps = 0, rows = 0;
+    int wrong = 0, steps = 0, answers = 0, rows = 0;
     while (table && fgets(line, sizeof line, table)) {
         line[strcspn(line, "\n")] = 0;
         if (!strncmp(line, "row ", 4)) {
-            pt_config config;
-            wrong += close_node(desks, count, row);
-            if (sscanf(line, "row %255s %zu %" SCNu32 " %" SCNu32 " %" SCNu32 " %" SCNu64, row, &count, &config.slots,
-                    &config.top_version, &config.lane, &config.start) != 6
-                || count > MOST_DESKS || pt_open(desks, count, config) != PT_OK) {
-                printf("%s: not opened\n", line);
-                return 1;
-            }
+            wrong += close_node(&n, row);
+            snprintf(row, sizeof row, "%.*s", (int)sizeof row - 1, line + 4);
             rows++;
             continue;
         }
-        char *answer = strstr(line, " = ");
-        char *words[MOST_WORDS] = {0};
-        if (!answer) continue;
-        *answer = 0;
-        answer += 3;
+        char *answer = strstr(line, " = "), *words[MOST_WORDS + 1] = {0};
         int k = 0;
+        if (answer) *answer = 0;
         for (char *word = strtok(line, " "); word && k < MOST_WORDS; word = strtok(NULL, " ")) words[k++] = word;
-        FILE *to = fmemopen(got, sizeof got, "w");
-        if (!strcmp(words[0], "resume")) resume(to, desks, count);
-        else make(to, &desks[desk_of(words, count)], words);
-        fputc(0, to);
-        fclose(to);
+        if (k == 0) continue;
+        make(got, &n, words);
         steps++;
-        if (strcmp(got, answer)) {
-            printf("%s: %s: %s where %s is wanted\n", row, words[0], got, answer);
+        if (!answer) continue;
+        answers++;
+        if (strcmp(got, answer + 3)) {
+            printf("%s: %s: %s where %s is wanted\n", row, words[0], got, answer + 3);
             wrong++;
         }
     }
-    wrong += close_node(desks, count, row);
+    wrong += close_node(&n, row);
     if (table && table != stdin) fclose(table);
-    printf("c: %d rows, %d steps, %d wrong\n", rows, steps, wrong);
-    return wrong != 0 || steps == 0;
+    printf("c: %d rows, %d steps, %d answers compared, %d wrong\n", rows, steps, answers, wrong);
+    return wrong != 0 || answers == 0;
 }

@@ -30,98 +30,187 @@ def text(value):
     return "none" if value is None else str(value).lower() if isinstance(value, bool) else str(value)
 
 
-def turned(desk, budget):
-    turn = desk.turn(budget)
-    why = "" if turn.stopped is None else f", then {turn.stopped.name.capitalize()}"
+def joined(values, between="; "):
+    return between.join(map(str, values)) or "nothing"
+
+
+def refused(code):
+    """The text of a refusal."""
+    name = code.name.lower()
+    return name.replace("bad_", "bounds ", 1) if name.startswith("bad_") else name
+
+
+def turned(turn):
+    why = "" if turn.stopped is None else f", then {refused(turn.stopped)}"
     return f"posted {turn.posted} handled {turn.handled}{why}"
 
 
-def event(desk, stamp):
-    return next((event for event in desk.events() if event.stamp == stamp), None)
+def account(told):
+    if told is None:
+        return None
+    how = "alive" if told.ended is None else f"ended {told.ended}"
+    return f"{how} arrived {told.arrived} taken {told.taken} waiting {told.waiting}"
+
+
+def ended(told):
+    return None if told is None else told.ended
+
+
+def event(events, words):
+    desk, stamp = map(int, words)
+    return next((event for event in events if (event.desk, event.stamp) == (desk, stamp)), None)
 
 
 def waiting(desk, process):
     items = desk.waiting(process)
-    return None if items is None else "".join(f"{item};" for item in items)
+    return None if items is None else joined(items)
 
 
-CALLS = {
+def body(words):
+    return p.Body(int(words[0]), int(words[1]), pid(words[3]) if words[2:] else None)
+
+
+ON_DESK = {
     "spawn": lambda d, w: d.spawn(),
-    "child": lambda d, w: d.spawn_child(pid(w[0])),
-    "linked_child": lambda d, w: d.spawn_child(pid(w[0]), True),
-    "send": lambda d, w: d.send(pid(w[0]), pid(w[1]), p.Body(int(w[2]), int(w[3]))) or "ok",
+    "spawn_child": lambda d, w: d.spawn_child(pid(w[0]), w[1] == "true"),
+    "send": lambda d, w: d.send(pid(w[0]), pid(w[1]), body(w[2:])) or "ok",
     "exit_signal": lambda d, w: d.exit_signal(pid(w[0]), pid(w[1]), reason(w[2])) or "ok",
     "link": lambda d, w: d.link(pid(w[0]), pid(w[1])) or "ok",
     "unlink": lambda d, w: d.unlink(pid(w[0]), pid(w[1])) or "ok",
     "trap": lambda d, w: d.trap(pid(w[0]), w[1] == "true"),
     "exit": lambda d, w: d.exit(pid(w[0]), reason(w[1])) or "ok",
     "monitor": lambda d, w: d.monitor(pid(w[0]), pid(w[1])),
-    "demonitor": lambda d, w: d.demonitor(pid(w[0]), ref(w[1])),
-    "flush": lambda d, w: d.demonitor(pid(w[0]), ref(w[1]), True),
+    "demonitor": lambda d, w: d.demonitor(pid(w[0]), ref(w[1]), w[2] == "true"),
     "ask_alive": lambda d, w: d.ask_alive(pid(w[0]), pid(w[1])),
-    "receive": lambda d, w: d.receive(pid(w[0]), pick(w[1:])),
-    "turn": lambda d, w: turned(d, int(w[1])),
-    "number": lambda d, w: d.number,
+    "receive": lambda d, w: d.receive(pid(w[0]), pick(w[1:] or ["any"])),
+    "turn": lambda d, w: turned(d.turn(int(w[1]))),
     "clock": lambda d, w: d.clock(),
     "pending": lambda d, w: d.pending(),
-    "events": lambda d, w: d.event_count(),
-    "event": lambda d, w: event(d, int(w[1])),
-    "stamps": lambda d, w: "".join(f"{event.stamp} " for event in d.events()),
+    "journal": lambda d, w: joined(d.events()),
+    "event": lambda d, w: event(d.events(), w),
     "alive": lambda d, w: d.alive(pid(w[0])),
     "knows": lambda d, w: d.knows(pid(w[1])),
     "vacant": lambda d, w: d.vacant(),
     "linked": lambda d, w: d.linked(pid(w[0]), pid(w[1])),
     "waiting": lambda d, w: waiting(d, pid(w[0])),
 }
-NAMES = {Code.NOPROC: "NoProc", Code.UNKNOWN: "unknown"}
+ON_HISTORY = {
+    "events": lambda h, w: len(h),
+    "event": lambda h, w: event(h.events(), w),
+    "history": lambda h, w: joined(h.events()),
+    "left_over": lambda h, w: joined(h.left_over()),
+}
+ON_QUIET = {
+    "pids": lambda q, w: joined(q.pids(), " "),
+    "account": lambda q, w: account(q.account(pid(w[0]))),
+    "ended": lambda q, w: ended(q.account(pid(w[0]))),
+    "alive": lambda q, w: q.account(pid(w[0])) is not None and ended(q.account(pid(w[0]))) is None,
+    "linked": lambda q, w: q.linked(pid(w[0]), pid(w[1])),
+    "kept": lambda q, w: q.kept(pid(w[0]), ref(w[1])),
+    "watching": lambda q, w: q.watching(pid(w[0]), ref(w[1])),
+}
 
 
-def make(desks, name, words):
-    """Makes a call on the desk that its words name, and answers its text."""
-    first = words[0] if words else "0"
-    number = pid(first).shard if first.startswith("<") else int(first)
-    desk = desks[number if number < len(desks) else 0]
-    try:
-        return text(CALLS[name](desk, words))
-    except Fault as fault:
-        return NAMES.get(fault.code, fault.code.name.capitalize())
+def turn_each(desks, budget):
+    """One turn of each desk: what they did together, and the first that was stopped."""
+    turns = [desk.turn(budget) for desk in desks]
+    stops = [(number, turn.stopped) for number, turn in enumerate(turns) if turn.stopped is not None]
+    place, stopped = stops[0] if stops else (0, None)
+    return p.Turned(sum(turn.posted for turn in turns), sum(turn.handled for turn in turns), stopped), place
 
 
-def close(desks):
-    """Gathers and settles a node. A clock at its limit takes no more receipts."""
-    if not desks:
-        return
-    gathered = p.gather(desks)
-    before = len(gathered.history())
-    try:
-        history = gathered.settle().history()
-        assert len(history) >= before and not list(history.left_over())
-    except p.Unsettled as fault:
-        assert fault.code == Code.WORN
+def turn_until_still(desks, budget):
+    """Turns of all desks, until two rounds have handled nothing: what one desk posts may be for one before it."""
+    handled = still = 0
+    while still < 2:
+        turn, place = turn_each(desks, max(1, budget))
+        handled += turn.handled
+        if turn.stopped is not None:
+            return f"handled {handled}, then desk {place} {refused(turn.stopped)}"
+        still = 0 if turn.handled else still + 1
+    return f"handled {handled}"
+
+
+class Player:
+    """A node in one of its states: `node` is None, the desks, a Gathered or a Quiet."""
+
+    def __init__(self):
+        self.node = None
+
+    def make(self, name, words):
+        """Makes a call, and returns the text of its answer."""
+        try:
+            return text(self.answer(name, words))
+        except Fault as fault:
+            return refused(fault.code)
+
+    def answer(self, name, words):
+        if name == "open":
+            count, *settings = map(int, words)
+            self.node = p.open_node(count, Config(*settings))
+            return "ok"
+        if isinstance(self.node, p.Gathered):
+            return self.settle() if name == "settle" else ON_HISTORY[name](self.node.history(), words)
+        if isinstance(self.node, p.Quiet):
+            return self.on_quiet(name, words)
+        return self.gather() if name == "gather" else self.on_desks(name, words)
+
+    def gather(self):
+        self.node = p.gather(self.node)
+        return f"left-over {len(list(self.node.history().left_over()))}"
+
+    def settle(self):
+        self.node = self.node.settle()
+        return f"handled {self.node.handled()}"
+
+    def on_quiet(self, name, words):
+        if name == "resume":
+            self.node = self.node.resume()
+            return "ok"
+        if name in ON_QUIET:
+            return ON_QUIET[name](self.node, words)
+        return ON_HISTORY[name](self.node.history(), words)
+
+    def on_desks(self, name, words):
+        if name == "turn_all":
+            return turned(turn_each(self.node, int(words[0]))[0])
+        if name == "turn_until_still":
+            return turn_until_still(self.node, int(words[0]))
+        if name == "events":
+            return sum(desk.event_count() for desk in self.node)
+        number = pid(words[0]).shard if words[0].startswith("<") else int(words[0])
+        return ON_DESK[name](self.node[number], words)
+
+    def close(self):
+        """Gathers and settles what is left of the node. A clock at its limit takes no more receipts."""
+        if self.node is None or isinstance(self.node, p.Quiet):
+            return
+        gathered = self.node if isinstance(self.node, p.Gathered) else p.gather(self.node)
+        before = len(gathered.history())
+        try:
+            history = gathered.settle().history()
+            assert len(history) >= before and not list(history.left_over())
+        except p.Unsettled as fault:
+            assert fault.code == Code.WORN
 
 
 class Rows(unittest.TestCase):
     def test_rows_answer_as_they_do_in_rattle(self):
-        desks, row, rows, steps = [], "", 0, 0
+        player, row, rows, answers = Player(), "", 0, 0
         with open(os.environ["PUNDEWO_ROWS"]) as table:
             for line in table.read().splitlines():
                 if line.startswith("row "):
-                    close(desks)
-                    _, row, count, *settings = line.split()
-                    desks = p.open_node(int(count), Config(*map(int, settings)))
-                    rows += 1
-                else:
-                    call, answer = line.split(" = ", 1)
-                    name, *words = call.split()
-                    if name == "resume":
-                        quiet = p.gather(desks).settle()
-                        told, desks = f"handled {quiet.handled()}", quiet.resume()
-                    else:
-                        told = make(desks, name, words)
+                    player.close()
+                    player, row, rows = Player(), line[4:], rows + 1
+                    continue
+                call, _, answer = line.partition(" = ")
+                name, *words = call.split()
+                told = player.make(name, words)
+                if answer:
                     self.assertEqual(told, answer, f"{row}: {call}")
-                    steps += 1
-        close(desks)
-        self.assertTrue(rows >= 40 and steps >= 400)
+                    answers += 1
+        player.close()
+        self.assertTrue(rows >= 115 and answers >= 2000)
 
 
 class About(unittest.TestCase):
@@ -204,6 +293,14 @@ class Handles(unittest.TestCase):
             quiet.resume()
         self.assertEqual(caught.exception.code, Code.EMPTY)
         self.assertEqual(p.gather(more).desks(), 2)
+
+    def test_a_process_of_another_desk_is_gone(self):
+        (desk,) = p.open_node()
+        other = Pid(1, 0, 1)
+        self.assertEqual((desk.number, desk.alive(other), desk.knows(other)), (0, False, False))
+        with self.assertRaises(Fault) as caught:
+            desk.receive(other)
+        self.assertEqual(caught.exception.code, Code.GONE)
 
     def test_who_is_woken(self):
         (desk,) = p.open_node()

@@ -1,8 +1,7 @@
-//! A node that is called by the pids of its processes.
+//! What only Rattle can ask of a node: who is in a slot, what a process holds, and its desks one by one.
 
-use crate::bench;
 use crate::known::{A, A1, B, two_desks};
-use pt_node::{Body, Config, Fault, Item, Node, NodeFault, Pick, Pid, Reason, Ref};
+use pt_node::{Body, Config, Fault, Node, NodeFault, Pid, Reason, Ref};
 use std::alloc::AllocError;
 use std::process::Abort;
 use std::test::Fail;
@@ -32,46 +31,6 @@ fn bears(rt: &impl Abort, node: &mut Node, desk: u8, p: Pid) {
 
 fn ends(rt: &impl Abort, node: &mut Node, p: Pid) {
     assert_eq!(rt; node.exit(p, Reason::Normal), Ok(()));
-}
-
-#[test]
-fn a_call_is_made_on_the_desk_of_its_pid(rt: HostRuntime) -> Result<(), Fail> {
-    let mut node = Node::open(rt.alloc(), two_desks(8))?;
-    assert_eq!(rt; node.count(), 2);
-    assert_eq!(rt; node.vacant(1), Some(A1));
-    bears(&rt, &mut node, 0, A);
-    bears(&rt, &mut node, 1, A1);
-    three_letters_go(&rt, &mut node);
-    two_items_wait(&rt, &mut node);
-    let gathered = node.gather()?;
-    assert_eq!(rt; gathered.left_over()?.len(), 0);
-    Ok(())
-}
-
-/// A monitor, a question and a message go to the other desk, and what is sent is taken there.
-fn three_letters_go(rt: &impl Abort, node: &mut Node) {
-    assert_eq!(rt; node.spawn_child(A, true), Ok(B));
-    assert_eq!(rt; node.trap(A, true), Ok(false));
-    assert!(rt; node.monitor(A, A1).is_ok());
-    assert!(rt; node.ask_alive(A, A1).is_ok());
-    assert_eq!(rt; node.send(A, A1, HELLO), Ok(()));
-    let posted = node.turn_all(16);
-    assert_eq!(rt; posted.posted, 3);
-    assert_eq!(rt; posted.handled, 3);
-    assert_eq!(rt; node.receive(A1, Pick::Any), Ok(Some(Item::User(A, HELLO))));
-}
-
-/// The answer to the question and the end that was watched come back.
-fn two_items_wait(rt: &impl Abort, node: &mut Node) {
-    ends(rt, node, A1);
-    assert!(rt; !node.alive(A1));
-    assert_eq!(rt; node.turn_all(16).posted, 2);
-    assert_eq!(rt; node.turn_all(16).handled, 2);
-    let Some(waits) = node.waiting(A) else {
-        panic!(rt; "it does not live");
-    };
-    assert_eq!(rt; waits.len(), 2);
-    assert_eq!(rt; node.desks().len(), 2);
 }
 
 /// Who lives in these slots of these desks.
@@ -226,44 +185,19 @@ fn two_events_are_new(rt: &impl Abort, node: &mut Node) {
     assert!(rt; journal.since(4).is_empty());
 }
 
+/// A desk that there is not, and a target that the node cannot have had, are different refusals.
 #[test]
 fn what_the_node_does_not_have_is_refused(rt: HostRuntime) -> Result<(), Fail> {
     let mut node = Node::open(rt.alloc(), two_desks(8))?;
-    what_is_far_is_refused(&rt, &mut node);
-    who_is_unknown_is_refused(&rt, &mut node);
-    nothing_is_told_of_what_is_far(&rt, &node);
-    ends(&rt, &mut node, A);
-    refuses(
-        &rt,
-        node.exit(A, Reason::Normal),
-        NodeFault::Refused(Fault::Gone),
-    );
-    bears(&rt, &mut node, 0, Pid { version: 2, ..A });
-    Ok(())
-}
-
-fn what_is_far_is_refused(rt: &impl Abort, node: &mut Node) {
-    refuses(rt, node.spawn(2), NodeFault::NoDesk);
-    refuses(rt, node.turn(2, 16), NodeFault::NoDesk);
-    refuses(rt, node.send(FAR, A, HELLO), NodeFault::NoDesk);
-    bears(rt, node, 0, A);
-}
-
-fn who_is_unknown_is_refused(rt: &impl Abort, node: &mut Node) {
-    refuses(rt, node.send(A, FAR, HELLO), NodeFault::Unknown);
-    refuses(rt, node.link(A, B), NodeFault::Unknown);
-    refuses(rt, node.unlink(A, B), NodeFault::Unknown);
-    refuses(rt, node.monitor(A, B), NodeFault::Unknown);
-    refuses(rt, node.ask_alive(A, B), NodeFault::Unknown);
-    refuses(rt, node.exit_signal(A, B, Reason::Kill), NodeFault::Unknown);
-    assert_eq!(rt; node.clock(0), Some(1));
-}
-
-fn nothing_is_told_of_what_is_far(rt: &impl Abort, node: &Node) {
+    refuses(&rt, node.spawn(2), NodeFault::NoDesk);
+    refuses(&rt, node.turn(2, 16), NodeFault::NoDesk);
+    refuses(&rt, node.send(FAR, A, HELLO), NodeFault::NoDesk);
+    bears(&rt, &mut node, 0, A);
+    refuses(&rt, node.send(A, FAR, HELLO), NodeFault::Unknown);
+    refuses(&rt, node.link(A, B), NodeFault::Unknown);
     assert_eq!(rt; node.clock(2), None);
     assert!(rt; node.journal(2).is_none());
-    assert!(rt; node.waiting(FAR).is_none());
-    assert!(rt; !node.alive(FAR));
+    Ok(())
 }
 
 #[test]
@@ -273,68 +207,4 @@ fn the_desks_of_a_node_make_it_again(rt: HostRuntime) -> Result<(), Fail> {
     let node = Node::of_desks(rt.alloc(), node.into_desks());
     assert!(rt; node.alive(A1));
     Ok(())
-}
-
-/// How many slots of each desk are used again and again, beside the first, and how often.
-const SLOTS: u32 = 20;
-
-const LIVES: u32 = 10;
-
-/// Why a call to a process is refused that is seen to have ended.
-const NO_PROC: NodeFault = NodeFault::Refused(Fault::NoProc);
-
-#[test]
-fn slots_that_are_used_again_and_again_are_told_apart(rt: HostRuntime) -> Result<(), Fail> {
-    let config = Config {
-        slots: SLOTS + 1,
-        ..two_desks(8)
-    };
-    let mut node = Node::open(rt.alloc(), config)?;
-    bears(&rt, &mut node, 0, A);
-    bears(&rt, &mut node, 1, A1);
-    for life in 1..=LIVES {
-        use_once(&rt, &mut node, 0, life);
-        use_once(&rt, &mut node, 1, life);
-    }
-    let gathered = node.gather()?;
-    assert!(rt; bench::judged(rt.alloc(), &gathered)?.is_some());
-    Ok(())
-}
-
-/// The processes of a desk are born, and end.
-fn use_once(rt: &impl Abort, node: &mut Node, desk: u8, life: u32) {
-    all_are_born(rt, node, desk, life);
-    all_end(rt, node, desk, life);
-}
-
-/// The process that a slot of a desk has in its so-manieth life.
-fn in_slot(desk: u8, slot: u32, life: u32) -> Pid {
-    Pid {
-        shard: desk,
-        slot,
-        version: life,
-    }
-}
-
-/// The slots are taken from the first on.
-fn all_are_born(rt: &impl Abort, node: &mut Node, desk: u8, life: u32) {
-    for slot in 1..=SLOTS {
-        bears(rt, node, desk, in_slot(desk, slot, life));
-    }
-    refuses(rt, node.spawn(desk), NodeFault::Refused(Fault::Full));
-}
-
-/// The slots are given up from the last on, so that the first is the next that is taken. A process can be sent to until
-/// it ends, and not from then on, although the one before it and the next in its slot were or are.
-fn all_end(rt: &impl Abort, node: &mut Node, desk: u8, life: u32) {
-    for back in 0..SLOTS {
-        let p = in_slot(desk, SLOTS - back, life);
-        assert_eq!(rt; node.send(A, p, HELLO), Ok(()));
-        ends(rt, node, p);
-        refuses(rt, node.send(A, p, HELLO), NO_PROC);
-        refuses(rt, node.link(A1, p), NO_PROC);
-        let first = Pid { version: 1, ..p };
-        refuses(rt, node.send(A1, first, HELLO), NO_PROC);
-        let _ = node.turn_all(16);
-    }
 }

@@ -25,24 +25,6 @@ pub(crate) const B: Pid = Pid {
     slot: 1,
     version: 1,
 };
-/// The third one.
-pub(crate) const C: Pid = Pid {
-    shard: 0,
-    slot: 2,
-    version: 1,
-};
-/// The fourth one.
-pub(crate) const D: Pid = Pid {
-    shard: 0,
-    slot: 3,
-    version: 1,
-};
-/// The fifth one.
-pub(crate) const E: Pid = Pid {
-    shard: 0,
-    slot: 4,
-    version: 1,
-};
 
 /// Settings of two desks, each with eight slots, lanes of so many letters and all versions.
 pub(crate) fn two_desks(lane: u32) -> Config {

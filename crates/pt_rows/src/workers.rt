@@ -1,10 +1,8 @@
-//! Workers that do nothing in their steps, on the calling thread: what comes to pass is the turns of their desks.
+//! Workers that do nothing in their steps, on the calling thread: what happens is the turns of their desks.
 
-ghost use Rattle.pt_node.specs.Desks.{AreDesks};
-
-use crate::fifty::{By, all_come};
-use pt_node::{Desk, FreeGate, Ran, Turned, Work, assign, release, run_single};
-use std::alloc::{AllocError, Global};
+use crate::known::{A, A1, B1, two_desks};
+use pt_node::{Body, Desk, FreeGate, Item, Node, Pid, Turned, Work};
+use std::process::Abort;
 use std::test::Fail;
 
 /// Does nothing.
@@ -24,19 +22,45 @@ impl Work for Idle {
 
 #[test]
 fn workers_that_do_nothing_bring_all_letters(rt: HostRuntime) -> Result<(), Fail> {
-    all_come(&rt, rt.alloc(), By::Workers)
+    let mut node = Node::open(rt.alloc(), two_desks(1))?;
+    assert_eq!(rt; node.spawn(0), Ok(A));
+    assert_eq!(rt; node.spawn(1), Ok(A1));
+    assert_eq!(rt; node.spawn(1), Ok(B1));
+    send_fifty(&rt, &mut node);
+    let mut works = vec![in rt.alloc(); Idle; 2]?;
+    node.run_single(&mut works, 50, 16, &FreeGate)?;
+    let waiting = node.waiting(B1).unwrap_or(&[]);
+    assert_eq!(rt; waiting.len(), 100);
+    assert!(rt; has_in_order(waiting, A, 50));
+    assert!(rt; has_in_order(waiting, A1, 50));
+    Ok(())
 }
 
-/// Fifty turns of each desk, in rounds.
-pub(crate) fn take_rounds(alloc: Global, desks: &mut Vec<Desk>) -> Result<(), AllocError>
-    requires { AreDesks desks.old.items }
-    ensures { AreDesks desks.new.items }
-{
-    let mut works = vec![in alloc; Idle; desks.len()]?;
-    let mut pairs = Vec::with_capacity(alloc, desks.len())?;
-    assign(desks, &mut works, &mut pairs);
-    let Ran { desks: mut pairs } = run_single(pairs, 50, 16, &FreeGate);
-    release(&mut pairs, desks, &mut works);
-    pairs.destroy_empty();
-    Ok(())
+/// Each of the two senders sends fifty messages.
+fn send_fifty(rt: &impl Abort, node: &mut Node) {
+    for num in 0..50 {
+        let body = Body {
+            kind: 1,
+            num,
+            who: None,
+        };
+        assert_eq!(rt; node.send(A, B1, body), Ok(()));
+        assert_eq!(rt; node.send(A1, B1, body), Ok(()));
+    }
+}
+
+/// Whether the messages from one sender are numbered 0, 1, 2 and so on, below `count`.
+fn has_in_order(items: &[Item], from: Pid, count: i64) -> bool {
+    let mut next: i64 = 0;
+    for item in items {
+        if let Item::User(sender, body) = *item
+            && sender == from
+        {
+            if body.num != next {
+                return false;
+            }
+            next = next.saturating_add(1);
+        }
+    }
+    next == count
 }
