@@ -1,4 +1,4 @@
-//! What a running node tells of its desks and processes.
+//! What a running node returns about its desks and processes.
 
 use pt_node::{Config, Node, Pid};
 use std::process::Abort;
@@ -18,7 +18,7 @@ const A: Pid = Pid {
     version: 1,
 };
 
-/// A desk of its settings, on which nobody lives.
+/// Nobody lives on the node's only desk.
 fn has_nobody(rt: &impl Abort, node: &Node) {
     assert_eq!(rt; node.count(), 1);
     assert_eq!(rt; node.config(), ONE_DESK);
@@ -27,7 +27,7 @@ fn has_nobody(rt: &impl Abort, node: &Node) {
     assert_eq!(rt; node.lives_in(0, 0), None);
 }
 
-/// A process that has done nothing yet.
+/// One process lives there, and has done nothing yet.
 fn has_one(rt: &impl Abort, node: &Node) {
     assert!(rt; node.alive(A));
     assert_eq!(rt; node.lives_in(0, 0), Some(A));
@@ -44,7 +44,7 @@ fn settings_are_changed_one_by_one(rt: HostRuntime) {
 }
 
 #[test]
-fn a_node_tells_who_lives(rt: HostRuntime) {
+fn a_node_reports_who_lives(rt: HostRuntime) {
     let mut node = Node::open(rt.alloc(), ONE_DESK).ok().expect(&rt, "a node");
     has_nobody(&rt, &node);
     assert_eq!(rt; node.spawn(0), Ok(A));

@@ -1,4 +1,4 @@
-//! Crews and recipes that are called on a desk, each on a node of its own.
+//! Crews and recipes that work on a desk, each on a node of its own.
 
 ghost use Rattle.std.specs.Prelude.{◌≡◌};
 ghost use Rattle.pt_node.specs.Desks.{AreDesks, IsStill};
@@ -19,7 +19,7 @@ const ONE_DESK: Config = Config {
     ..Config::DEFAULT
 };
 
-/// What is played on the desk of a node.
+/// What runs on the desk of a node.
 #[derive(Drop)]
 enum Play {
     Game,
@@ -27,7 +27,7 @@ enum Play {
     Crew,
 }
 
-/// Plays on a new node, and gathers it.
+/// Runs on a new node, and gathers it.
 fn played(rt: &impl Abort, alloc: Global, play: Play) {
     let mut desks = open(alloc, ONE_DESK).ok().expect(rt, "a node");
     on_first(rt, alloc, &mut desks, play);
@@ -78,7 +78,7 @@ fn write(rt: &impl Abort, alloc: Global, desk: &mut Desk)
     greet(rt, alloc, desk, &mut texts);
 }
 
-/// A text comes, and nothing is kept of it.
+/// A text arrives with its message, and the table of texts is empty then.
 fn greet(rt: &impl Abort, alloc: Global, desk: &mut Desk, texts: &mut Texts)
     ensures { IsStill desk.old desk.new }
 {
@@ -92,7 +92,7 @@ fn greet(rt: &impl Abort, alloc: Global, desk: &mut Desk, texts: &mut Texts)
     assert_eq!(rt; texts.kept.len(), 0);
 }
 
-/// A process that ends at the first item that it hears.
+/// A process that exits at its first item.
 #[derive(Drop)]
 struct Once;
 
@@ -130,7 +130,7 @@ const HELLO: Body = Body {
     who: None,
 };
 
-/// A process enters, and waits once it has begun.
+/// A process enters, and waits after its first step.
 fn waits(rt: &impl Abort, crew: &mut Crew<Once>, desk: &mut Desk) -> Pid
     ensures { IsStill desk.old desk.new }
 {
@@ -144,7 +144,7 @@ fn waits(rt: &impl Abort, crew: &mut Crew<Once>, desk: &mut Desk) -> Pid
     p
 }
 
-/// It is sent a message and hears it in a step, ends in the next, and is taken from the crew.
+/// It handles a message in one step, exits in the next, and is taken from the crew.
 fn leaves(rt: &impl Abort, crew: &mut Crew<Once>, desk: &mut Desk, p: Pid)
     ensures { IsStill desk.old desk.new }
 {

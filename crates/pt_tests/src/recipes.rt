@@ -1,4 +1,4 @@
-//! The recipes of `pt_uses` that open a node themselves, or are handed one.
+//! The recipes of `pt_uses` that open a node themselves, or receive one.
 
 use pt_node::{Body, Config, FreeGate, Gathered, Node, Pid, Standing, Task};
 use pt_uses::desks_on_threads::{Sender, ring};
@@ -24,14 +24,14 @@ const A: Pid = Pid {
     version: 1,
 };
 
-/// It sends to itself.
+/// A worker whose process sends to itself.
 const SENDER: Sender = Sender {
     me: A,
     to: A,
     sent: 0,
 };
 
-/// So many events happened.
+/// The node's history has so many events.
 fn happened(rt: &impl Abort, node: &Gathered, events: usize) {
     let history = node.history().expect(rt, "memory");
     assert_eq!(rt; history.len(), events);
@@ -57,7 +57,7 @@ fn of_one(rt: &impl Abort, alloc: Global) -> Node {
     node
 }
 
-/// What happens in two epochs of a turn each.
+/// What happens in two epochs of one turn each.
 const TWO_EPOCHS: &[u8] = b"1@0 born <0.0.1>
 2@0 said <0.0.1> -> <0.0.1> message 1 0
 3@0 came <0.0.1> -> <0.0.1> message 1 0
@@ -65,7 +65,7 @@ const TWO_EPOCHS: &[u8] = b"1@0 born <0.0.1>
 5@0 came <0.0.1> -> <0.0.1> message 1 1
 ";
 
-/// The node goes on for two epochs, and the archive has both.
+/// The node resumes once, and the archive has both epochs.
 fn goes_on<R: Abort + Threads + Sync>(
     rt: &R,
     alloc: Global,

@@ -1,10 +1,10 @@
-//! A supervisor and what it is made of, without a desk.
+//! A supervisor, its children and its limits, without a desk.
 
 use pt_node::{Pid, Reason};
 use pt_supervisor::{Child, Limit, Restart, Shutdown, Strategy, Supervisor};
 use std::process::Abort;
 
-/// What is to start the children; nobody asks for it here.
+/// Starts no child.
 #[derive(Drop)]
 struct Nobody;
 
@@ -14,7 +14,7 @@ const PARENT: Pid = Pid {
     version: 1,
 };
 
-/// A child that lives, and is ended by `kill`.
+/// A live child that is stopped by `kill`.
 const KILLED: Child = Child {
     pid: Some(PARENT),
     restart: Restart::Transient,
@@ -47,7 +47,7 @@ fn restarts_are_limited(rt: HostRuntime) {
     assert!(rt; !limit.allows(8));
 }
 
-/// Nobody was started, and all are to end.
+/// It has started no child.
 fn look(rt: &impl Abort, supervisor: &Supervisor<Nobody>) {
     assert_eq!(rt; supervisor.started(), 0);
     assert_eq!(rt; supervisor.children().len(), 1);

@@ -1,4 +1,4 @@
-//! `pt_auditor`: events and letters left over that are heard by themselves, without their texts.
+//! `pt_auditor`: a history that is read event by event, without its text.
 
 use pt_auditor::{Hearing, Verdict};
 use pt_events::{Event, Stamped};

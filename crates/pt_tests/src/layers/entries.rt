@@ -1,10 +1,10 @@
-//! `pt_process`: entries in order of entry, called by themselves, and what a process tells of its lists.
+//! `pt_process`: entries in order of entry, and how many entries the lists of a process have.
 
 use pt_process::{Entries, Process};
 use pt_signal::{Body, Item, LinkId, Pick, Pid, Ref, Signal};
 use std::process::Abort;
 
-/// Two entries, the older one with another value.
+/// Two entries, of which the older one gets another value.
 fn fill(rt: &impl Abort, entries: &mut Entries<u32, u32>) {
     assert!(rt; entries.insert(1, 10).is_ok());
     assert!(rt; entries.insert(2, 20).is_ok());
@@ -20,7 +20,7 @@ fn look(rt: &impl Abort, entries: &Entries<u32, u32>) {
 }
 
 #[test]
-fn entries_stand_in_order_of_entry(rt: HostRuntime) {
+fn entries_keep_their_order(rt: HostRuntime) {
     let mut entries: Entries<u32, u32> = Entries::new(rt.alloc());
     fill(&rt, &mut entries);
     look(&rt, &entries);

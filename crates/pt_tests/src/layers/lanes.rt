@@ -1,4 +1,4 @@
-//! `pt_carrier`: how many letters an end has collected.
+//! `pt_carrier`: how many letters a desk has collected from a lane.
 
 ghost use Rattle.std.specs.Prelude.{◌≡◌, length};
 

@@ -2,7 +2,7 @@
 
 use pt_slots::{Key, Slots};
 
-/// The first version of the only slot.
+/// The first key of the only slot.
 const FIRST: Key = Key {
     slot: 0,
     version: 1,

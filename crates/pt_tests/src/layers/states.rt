@@ -1,4 +1,4 @@
-//! `pt_history`: what a state of the judge tells of processes, and a history that is judged over one.
+//! `pt_history`: what the judge's state reports about processes, and a history that is judged over a state.
 
 use pt_history::{Event, State, replay, replay_from};
 use pt_signal::{Ids, LinkId, Pid, Reason, Ref, Signal};

@@ -1,4 +1,4 @@
-//! `pt_texts`: each value that is read back from its text.
+//! `pt_texts`: one text of each kind of value is read back.
 
 use pt_signal::{Body, Ids, LinkId, Pid, Reason, Ref};
 use pt_texts::{
