@@ -1,4 +1,4 @@
-//! Nodes and their workers, as tests: the settings that open a node, workers on two threads, and nodes under stress.
+//! Tests that are proved: nodes under stress, which `rt try` is too slow for, and desks that rest.
 //!
 //! The stress is 40 nodes of 8 desks on 8 threads, each with 64 processes at first that call each other at random,
 //! 200,000 calls in all, gathered while letters are on their way. What every node keeps whatever the threads do,
@@ -14,11 +14,7 @@ mod crowd;
 #[cfg(test)]
 mod dice;
 #[cfg(test)]
-mod ended;
-#[cfg(test)]
 mod node;
-#[cfg(test)]
-mod opening;
 #[cfg(test)]
 mod pace;
 #[cfg(test)]
@@ -27,5 +23,3 @@ mod rests;
 mod resumed;
 #[cfg(test)]
 mod stress;
-#[cfg(test)]
-mod workers;

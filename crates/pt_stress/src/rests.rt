@@ -7,9 +7,9 @@ use pt_crew::tell;
 use pt_node::{Body, Config, Desk, Item, Node, Pick, Pid, Turned, Work};
 use pt_resting::{Bells, Door, Porter, Post, RestGate, Resting, Rests, way_in};
 use std::alloc::Global;
+use std::process::Abort;
 use std::sync::Wait;
 use std::sync::atomic::{AtomicU64, Ordering};
-use std::test::Fail;
 use std::thread::{Threads, join_mut};
 use std::time::Duration;
 
@@ -163,86 +163,112 @@ fn hand_in<R: Wait>(rt: &R, plan: Plan, door: &mut Door<'_>, bells: &Bells, note
 
 /// The work of a desk, and the door to it; who posts there rings these bells.
 fn relaying<'a>(
+    rt: &impl Abort,
     alloc: Global,
     desk: u8,
     rung: &'a Bells,
     bells: &'a Bells,
     notes: &'a Notes,
-) -> Result<(Door<'a>, Relaying<'a>), Fail> {
+) -> (Door<'a>, Relaying<'a>) {
     let me = first_of(desk);
-    let (door, porter) = way_in(alloc, rung, 4, me, 4, Relay { me, notes })?;
-    Ok((door, Resting::new(porter, bells)))
+    let (door, porter) = way_in(alloc, rung, 4, me, 4, Relay { me, notes }).expect(rt, "memory");
+    (door, Resting::new(porter, bells))
 }
 
-/// A node of eight desks, with a process on each.
-fn opened(alloc: Global) -> Result<Node, Fail> {
-    let config = Config::DEFAULT.with_desks(DESKS).with_slots(4);
-    let mut node = Node::open(alloc, config)?;
+/// A process on each desk.
+fn settle_in(rt: &impl Abort, node: &mut Node) {
     for desk in 0..DESKS {
-        let _ = node.spawn(desk)?;
+        assert!(rt; node.spawn(desk).is_ok());
     }
-    Ok(node)
+}
+
+/// A node of eight desks.
+fn opened(rt: &impl Abort, alloc: Global) -> Node {
+    let config = Config::DEFAULT.with_desks(DESKS).with_slots(4);
+    Node::open(alloc, config).ok().expect(rt, "a node")
+}
+
+/// The works of the other desks, behind that of the first; nobody uses their doors.
+fn push_others<'a>(
+    rt: &impl Abort,
+    alloc: Global,
+    bells: &'a Bells,
+    notes: &'a Notes,
+    works: &mut Vec<Relaying<'a>>,
+) {
+    for desk in 1..DESKS {
+        let (_door, work) = relaying(rt, alloc, desk, bells, bells, notes);
+        works.push(work).expect(rt, "memory");
+    }
+}
+
+/// Runs the node, while the messages are handed in, and says whether it ran.
+fn run_all<R: Threads + Wait + Sync + Abort>(
+    rt: &R,
+    plan: Plan,
+    node: &mut Node,
+    works: &mut Vec<Relaying<'_>>,
+    door: &mut Door<'_>,
+    bells: &Bells,
+    notes: &Notes,
+) -> bool {
+    let gate = RestGate::new(rt, bells, plan.longest);
+    let (ran, ()) = join_mut(
+        rt,
+        &mut || node.run(rt, works, u64::MAX, 16, &gate).is_ok(),
+        &mut || hand_in(rt, plan, door, bells, notes),
+    );
+    ran
 }
 
 /// Runs a node whose desks rest, while the messages are handed in; whoever hands one in rings the bells `rung`.
-fn play<'a, R: Threads + Wait + Sync>(
+fn play<'a, R: Threads + Wait + Sync + Abort>(
     rt: &R,
     alloc: Global,
     plan: Plan,
     rung: &'a Bells,
     bells: &'a Bells,
     notes: &'a Notes,
-) -> Result<bool, Fail> {
-    let mut node = opened(alloc)?;
-    let (mut door, first) = relaying(alloc, 0, rung, bells, notes)?;
-    let mut works = Vec::new(alloc);
-    works.push(first)?;
-    for desk in 1..DESKS {
-        let (_door, work) = relaying(alloc, desk, rung, bells, notes)?;
-        works.push(work)?;
-    }
-    let gate = RestGate::new(rt, bells, plan.longest);
-    let (ran, ()) = join_mut(
-        rt,
-        &mut || node.run(rt, &mut works, u64::MAX, 16, &gate).is_ok(),
-        &mut || hand_in(rt, plan, &mut door, bells, notes),
-    );
-    Ok(ran)
+) {
+    let mut node = opened(rt, alloc);
+    settle_in(rt, &mut node);
+    let (mut door, first) = relaying(rt, alloc, 0, rung, bells, notes);
+    let mut works = vec![in alloc; first].expect(rt, "memory");
+    push_others(rt, alloc, bells, notes, &mut works);
+    assert!(rt; run_all(rt, plan, &mut node, &mut works, &mut door, bells, notes));
 }
 
 /// Each message wakes eight desks, one by the other; they rest in between, and for the second afterwards, in which
 /// desks that do not rest would take more turns than they may.
 #[test]
-fn desks_rest_until_they_are_woken(rt: HostRuntime) -> Result<(), Fail> {
-    let bells = Bells::new(rt.alloc(), DESKS)?;
+fn desks_rest_until_they_are_woken(rt: HostRuntime) {
+    let bells = Bells::new(rt.alloc(), DESKS).expect(&rt, "memory");
     let notes = Notes::new();
     let plan = Plan {
         messages: 50,
         idle: Duration::from_secs(1),
         longest: Duration::from_secs(3_600),
     };
-    assert!(rt; play(&rt, rt.alloc(), plan, &bells, &bells, &notes)?);
+    play(&rt, rt.alloc(), plan, &bells, &bells, &notes);
     assert_eq!(rt; notes.arrived(), 50);
     assert_eq!(rt; notes.strays.load(Ordering::SeqCst), 0);
     let turns = notes.turns.load(Ordering::SeqCst);
     assert!(rt; turns < MOST_TURNS, "{turns} turns");
-    Ok(())
 }
 
 /// Who hands a message in rings at other bells, so nobody is woken by it: it comes once the first desk has rested for as
 /// long as it may.
 #[test]
-fn a_wake_up_that_is_missed_costs_the_longest_rest(rt: HostRuntime) -> Result<(), Fail> {
-    let others = Bells::new(rt.alloc(), DESKS)?;
-    let bells = Bells::new(rt.alloc(), DESKS)?;
+fn a_wake_up_that_is_missed_costs_the_longest_rest(rt: HostRuntime) {
+    let others = Bells::new(rt.alloc(), DESKS).expect(&rt, "memory");
+    let bells = Bells::new(rt.alloc(), DESKS).expect(&rt, "memory");
     let notes = Notes::new();
     let plan = Plan {
         messages: 5,
         idle: Duration::from_millis(1),
         longest: Duration::from_millis(100),
     };
-    assert!(rt; play(&rt, rt.alloc(), plan, &others, &bells, &notes)?);
+    play(&rt, rt.alloc(), plan, &others, &bells, &notes);
     assert_eq!(rt; notes.arrived(), 5);
     assert_eq!(rt; notes.strays.load(Ordering::SeqCst), 0);
-    Ok(())
 }

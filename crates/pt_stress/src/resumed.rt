@@ -2,42 +2,37 @@
 
 ghost use Rattle.pt_node.specs.Desks.{AreDesks};
 
-use crate::board::{Board, DESKS};
+use crate::board::Board;
 use crate::crowd::Crowd;
-use crate::node::{gathered, opened, staffed};
-use crate::pace::Pace;
-use crate::stress::{BUDGET, CALLS, done_by, told, works};
-use pt_history::replay;
-use pt_node::{Desk, Event, Quiet, Stamped, resume, run};
-use std::alloc::{AllocError, Global};
+use crate::node::opened;
+use crate::stress::{Done, gathered_crowd, judged, told, works};
+use pt_node::{Desk, Gathered, Quiet, Stamped, resume};
+use std::alloc::Global;
 use std::process::Abort;
-use std::test::Fail;
 use std::thread::Threads;
 
 /// How many rounds a node runs.
 const ROUNDS: u64 = 4;
 
+/// Letters are on their way in the node of a crowd, and its history tells what the crowd did.
+fn look_at(rt: &impl Abort, node: &Gathered, done: Done) {
+    let history = node.history().expect(rt, "memory");
+    assert_eq!(rt; told(history.as_slice(), done.made), done);
+    assert!(rt; node.left_over().expect(rt, "memory").len() > 0);
+}
+
 /// The crowd runs on its threads, is gathered while letters are on their way, and settles.
-fn run_round<'a, R: Threads + Sync + Abort>(
+fn run_round<R: Threads + Sync + Abort>(
     rt: &R,
     alloc: Global,
     desks: Vec<Desk>,
-    works: Vec<Crowd<'a>>,
-    pace: &Pace,
-) -> Result<Quiet, Fail>
+    works: Vec<Crowd<'_>>,
+) -> Quiet
     requires { AreDesks desks.items }
 {
-    let pairs = staffed(rt, alloc, desks, works);
-    let ran = run(rt, pairs, CALLS, BUDGET, pace);
-    let (node, works) = gathered(rt, alloc, ran);
-    let done = done_by(works.as_slice());
-    assert_eq!(rt; done.made, u64::from(DESKS) * CALLS);
-    assert_eq!(rt; told(node.history()?.as_slice(), done.made), done);
-    assert!(rt; node.left_over()?.len() > 0);
-    match node.settle() {
-        Ok(quiet) => Ok(quiet),
-        Err(_) => Err(AllocError)?,
-    }
+    let (node, done) = gathered_crowd(rt, alloc, desks, works);
+    look_at(rt, &node, done);
+    node.settle().ok().expect(rt, "it does not settle")
 }
 
 /// The desks of the next round.
@@ -57,14 +52,13 @@ fn next_round<R: Threads + Sync + Abort>(
     board: &Board,
     seed: u64,
     before: Option<Quiet>,
-) -> Result<Quiet, Fail> {
-    let pace = Pace::new(alloc)?;
-    let works = works(alloc, board, seed)?;
+) -> Quiet {
+    let works = works(alloc, board, seed).expect(rt, "memory");
     let desks = match before {
         Some(quiet) => resumed(rt, alloc, quiet),
         None => opened(rt, alloc),
     };
-    run_round(rt, alloc, desks, works, &pace)
+    run_round(rt, alloc, desks, works)
 }
 
 /// Whether each event stands above the one before, by stamp and then by desk.
@@ -79,37 +73,25 @@ fn rises(history: &[Stamped]) -> bool {
     true
 }
 
-/// All that happened is one legal history from the very beginning, in which nothing is on its way.
-fn judge(rt: &impl Abort, alloc: Global, history: &[Stamped]) -> Result<(), Fail> {
-    assert!(rt; rises(history));
-    let mut events: Vec<Event> = Vec::with_capacity(alloc, history.len())?;
-    for stamped in history {
-        events.push(stamped.event)?;
+/// The history of a round comes after those before it.
+fn append(rt: &impl Abort, history: &mut Vec<Stamped>, quiet: &Quiet) {
+    for event in quiet.history().expect(rt, "memory") {
+        history.push(event).expect(rt, "memory");
     }
-    match replay(alloc, events.as_slice()) {
-        Ok(state) => assert_eq!(rt; state.in_flight(), 0),
-        Err((place, cause)) => panic!(rt; "event {place} is unlawful: {cause}"),
-    }
-    Ok(())
 }
 
-/// A node runs its rounds on 8 threads and goes on between them.
-fn rounds<R: Threads + Sync + Abort>(rt: &R, alloc: Global, seed: u64) -> Result<(), Fail> {
-    let board = Board::new(alloc)?;
-    let mut history = Vec::new(alloc);
+/// A node runs its rounds on 8 threads and goes on between them. All that happened is one legal history from the very
+/// beginning, in which nothing is on its way.
+#[test]
+fn a_crowd_that_goes_on_is_lawful(rt: HostRuntime) {
+    let board = Board::new(rt.alloc()).expect(&rt, "memory");
+    let mut history = Vec::new(rt.alloc());
     let mut before = None;
     for round in 0..ROUNDS {
-        let own = seed.wrapping_mul(ROUNDS).wrapping_add(round);
-        let quiet = next_round(rt, alloc, &board, own, before)?;
-        for event in quiet.history()? {
-            history.push(event)?;
-        }
+        let quiet = next_round(&rt, rt.alloc(), &board, 100 * ROUNDS + round, before);
+        append(&rt, &mut history, &quiet);
         before = Some(quiet);
     }
-    judge(rt, alloc, history.as_slice())
-}
-
-#[test]
-fn a_crowd_that_goes_on_is_lawful(rt: HostRuntime) -> Result<(), Fail> {
-    rounds(&rt, rt.alloc(), 100)
+    assert!(rt; rises(history.as_slice()));
+    assert_eq!(rt; judged(&rt, rt.alloc(), history.as_slice()), 0);
 }

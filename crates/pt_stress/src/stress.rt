@@ -1,14 +1,15 @@
 //! Crowds that run on threads, and what their histories are.
 
+ghost use Rattle.pt_node.specs.Desks.{AreDesks};
+
 use crate::board::{Board, DESKS};
 use crate::crowd::Crowd;
 use crate::node::{gathered, opened, staffed};
 use crate::pace::Pace;
-use pt_history::{State, replay};
-use pt_node::{Event, Gathered, Quiet, Signal, Stamped, run};
+use pt_history::replay;
+use pt_node::{Desk, Event, FreeGate, Gathered, Quiet, Signal, Stamped, run, run_single};
 use std::alloc::{AllocError, Global};
 use std::process::Abort;
-use std::test::Fail;
 use std::thread::Threads;
 
 /// How many calls each worker makes.
@@ -71,113 +72,133 @@ pub(crate) fn told(history: &[Stamped], made: u64) -> Done {
     told
 }
 
-/// The state that a history leads to, which the judge has to let pass.
-fn judged(rt: &impl Abort, alloc: Global, history: &[Stamped]) -> Result<State, AllocError> {
-    let mut events: Vec<Event> = Vec::with_capacity(alloc, history.len())?;
+/// The events of a history, without their stamps.
+fn events_of(rt: &impl Abort, alloc: Global, history: &[Stamped]) -> Vec<Event> {
+    let mut events: Vec<Event> = Vec::with_capacity(alloc, history.len()).expect(rt, "memory");
     for stamped in history {
-        events.push(stamped.event)?;
+        events.push(stamped.event).expect(rt, "memory");
     }
+    events
+}
+
+/// How many signals are on their way at the end of a history, which the judge has to let pass.
+pub(crate) fn judged(rt: &impl Abort, alloc: Global, history: &[Stamped]) -> u64 {
+    let events = events_of(rt, alloc, history);
     match replay(alloc, events.as_slice()) {
-        Ok(state) => Ok(state),
+        Ok(state) => state.in_flight(),
         Err((place, cause)) => panic!(rt; "event {place} is unlawful: {cause}"),
     }
 }
 
 /// The history of a node whose crowd has run, which the judge lets pass: how many events it has, and how many letters
 /// are left over.
-fn ended(rt: &impl Abort, alloc: Global, node: &Gathered, done: Done) -> Result<(u64, u64), Fail> {
-    let history = node.history()?;
+fn ended(rt: &impl Abort, alloc: Global, node: &Gathered, done: Done) -> (u64, u64) {
+    let history = node.history().expect(rt, "memory");
     assert_eq!(rt; told(history.as_slice(), done.made), done);
-    let left = node.left_over()?.len() as u64;
+    let left = node.left_over().expect(rt, "memory").len() as u64;
     assert!(rt; left > 0);
-    assert_eq!(rt; judged(rt, alloc, history.as_slice())?.in_flight(), left);
-    Ok((history.len() as u64, left))
+    assert_eq!(rt; judged(rt, alloc, history.as_slice()), left);
+    (history.len() as u64, left)
 }
 
 /// Its history when it has settled, which the judge lets pass too.
-fn settled(
-    rt: &impl Abort,
-    alloc: Global,
-    quiet: &Quiet,
-    events: u64,
-    left: u64,
-) -> Result<(), Fail> {
+fn settled(rt: &impl Abort, alloc: Global, quiet: &Quiet, events: u64, left: u64) {
     assert!(rt; quiet.handled() >= left);
-    let history = quiet.history()?;
+    let history = quiet.history().expect(rt, "memory");
     assert_eq!(rt;
         history.len() as u64,
         events.saturating_add(quiet.handled())
     );
-    assert_eq!(rt; judged(rt, alloc, history.as_slice())?.in_flight(), 0);
-    Ok(())
+    assert_eq!(rt; judged(rt, alloc, history.as_slice()), 0);
 }
 
-fn settles(rt: &impl Abort, alloc: Global, node: Gathered, done: Done) -> Result<(), Fail> {
-    let (events, left) = ended(rt, alloc, &node, done)?;
-    let Ok(quiet) = node.settle() else {
-        return Err(AllocError)?;
-    };
-    settled(rt, alloc, &quiet, events, left)
+/// The node is judged, and judged again when it has settled.
+fn settles(rt: &impl Abort, alloc: Global, node: Gathered, done: Done) {
+    let (events, left) = ended(rt, alloc, &node, done);
+    let quiet = node.settle().ok().expect(rt, "it does not settle");
+    settled(rt, alloc, &quiet, events, left);
 }
 
-/// A node runs on 8 threads, is gathered and settles.
-fn stress<R: Threads + Sync + Abort>(rt: &R, alloc: Global, seed: u64) -> Result<(), Fail> {
-    let board = Board::new(alloc)?;
-    let pace = Pace::new(alloc)?;
-    let works = works(alloc, &board, seed)?;
-    let desks = opened(rt, alloc);
+/// The crowd runs on 8 threads, and its node is gathered.
+pub(crate) fn gathered_crowd<R: Threads + Sync + Abort>(
+    rt: &R,
+    alloc: Global,
+    desks: Vec<Desk>,
+    works: Vec<Crowd<'_>>,
+) -> (Gathered, Done)
+    requires { AreDesks desks.items }
+{
+    let pace = Pace::new(alloc).expect(rt, "memory");
     let pairs = staffed(rt, alloc, desks, works);
     let ran = run(rt, pairs, CALLS, BUDGET, &pace);
     let (node, works) = gathered(rt, alloc, ran);
     let done = done_by(works.as_slice());
     assert_eq!(rt; done.made, u64::from(DESKS) * CALLS);
-    settles(rt, alloc, node, done)
+    (node, done)
+}
+
+/// A node runs on 8 threads, is gathered and settles.
+fn stress<R: Threads + Sync + Abort>(rt: &R, alloc: Global, seed: u64) {
+    let board = Board::new(alloc).expect(rt, "memory");
+    let works = works(alloc, &board, seed).expect(rt, "memory");
+    let (node, done) = gathered_crowd(rt, alloc, opened(rt, alloc), works);
+    settles(rt, alloc, node, done);
 }
 
 /// Five nodes of 5,000 calls each.
-fn stress_five<R: Threads + Sync + Abort>(rt: &R, alloc: Global, five: u64) -> Result<(), Fail> {
+fn stress_five<R: Threads + Sync + Abort>(rt: &R, alloc: Global, five: u64) {
     for node in 0..5 {
-        stress(rt, alloc, five.wrapping_mul(5).wrapping_add(node))?;
+        stress(rt, alloc, five.wrapping_mul(5).wrapping_add(node));
     }
-    Ok(())
+}
+
+/// The same crowd on one thread, in rounds.
+#[test]
+fn one_thread_makes_all_calls(rt: HostRuntime) {
+    let board = Board::new(rt.alloc()).expect(&rt, "memory");
+    let works = works(rt.alloc(), &board, 0).expect(&rt, "memory");
+    let pairs = staffed(&rt, rt.alloc(), opened(&rt, rt.alloc()), works);
+    let ran = run_single(pairs, CALLS, BUDGET, &FreeGate);
+    let (_node, works) = gathered(&rt, rt.alloc(), ran);
+    assert_eq!(rt; done_by(works.as_slice()).made, u64::from(DESKS) * CALLS);
 }
 
 #[test]
-fn the_first_five_are_lawful(rt: HostRuntime) -> Result<(), Fail> {
-    stress_five(&rt, rt.alloc(), 0)
+fn the_first_five_are_lawful(rt: HostRuntime) {
+    stress_five(&rt, rt.alloc(), 0);
 }
 
 #[test]
-fn the_second_five_are_lawful(rt: HostRuntime) -> Result<(), Fail> {
-    stress_five(&rt, rt.alloc(), 1)
+fn the_second_five_are_lawful(rt: HostRuntime) {
+    stress_five(&rt, rt.alloc(), 1);
 }
 
 #[test]
-fn the_third_five_are_lawful(rt: HostRuntime) -> Result<(), Fail> {
-    stress_five(&rt, rt.alloc(), 2)
+fn the_third_five_are_lawful(rt: HostRuntime) {
+    stress_five(&rt, rt.alloc(), 2);
 }
 
 #[test]
-fn the_fourth_five_are_lawful(rt: HostRuntime) -> Result<(), Fail> {
-    stress_five(&rt, rt.alloc(), 3)
+fn the_fourth_five_are_lawful(rt: HostRuntime) {
+    stress_five(&rt, rt.alloc(), 3);
 }
 
 #[test]
-fn the_fifth_five_are_lawful(rt: HostRuntime) -> Result<(), Fail> {
-    stress_five(&rt, rt.alloc(), 4)
+fn the_fifth_five_are_lawful(rt: HostRuntime) {
+    stress_five(&rt, rt.alloc(), 4);
 }
 
 #[test]
-fn the_sixth_five_are_lawful(rt: HostRuntime) -> Result<(), Fail> {
-    stress_five(&rt, rt.alloc(), 5)
+fn the_sixth_five_are_lawful(rt: HostRuntime) {
+    stress_five(&rt, rt.alloc(), 5);
 }
 
 #[test]
-fn the_seventh_five_are_lawful(rt: HostRuntime) -> Result<(), Fail> {
-    stress_five(&rt, rt.alloc(), 6)
+fn the_seventh_five_are_lawful(rt: HostRuntime) {
+    stress_five(&rt, rt.alloc(), 6);
 }
 
 #[test]
-fn the_eighth_five_are_lawful(rt: HostRuntime) -> Result<(), Fail> {
-    stress_five(&rt, rt.alloc(), 7)
+fn the_eighth_five_are_lawful(rt: HostRuntime) {
+    stress_five(&rt, rt.alloc(), 7);
 }

@@ -1,12 +1,10 @@
-//! The layers below a node, each called by itself: `pt_slots`, `pt_process`, `pt_carrier`, `pt_directory`,
-//! `pt_history`, `pt_shard`, `pt_desk`, `pt_texts` and `pt_auditor`, a module a layer.
+//! The layers below a node, each called by itself: `pt_slots`, `pt_process`, `pt_carrier`, `pt_history`, `pt_texts`,
+//! `pt_auditor` and `pt_script`, a module a layer.
 
 mod auditor;
-mod desk;
-mod directory;
-mod history;
+mod entries;
 mod lanes;
-mod process;
-mod shard;
+mod scripts;
 mod slots;
+mod states;
 mod texts;

@@ -1,28 +1,28 @@
-//! The tests of all layers and recipes, through the public calls of each; histories worked by hand stand in `pt_rows`,
-//! scripts and what is printed of them in `pt_prints`, nodes under stress in `pt_stress`.
+//! Proved tests. Each makes public calls that no program and no other crate makes, and compares their answers. The tests
+//! of what the layers do are in `checks/tried`: they are run and not proved.
 //!
 //! | Module | Tests of |
 //! |---|---|
 //! | `layers` | the layers below a node, each called by itself |
-//! | `recipes` | the recipes of `pt_uses`, each run once |
-//! | `crews` | the crews of `pt_crew`: processes that run code |
-//! | `supervisors` | the supervisors of `pt_supervisor`: whom they start again, and when they give up |
-//! | `works` | works that are told what the turns of their desks did |
-//! | `asking` | the calls of `pt_calls`: by what they end |
+//! | `nodes` | what a running node returns about its desks and processes |
+//! | `on_a_desk` | crews and recipes that are called on a desk |
+//! | `supervisors` | a supervisor and what it is made of, without a desk |
+//! | `recipes` | the recipes of `pt_uses` that open a node themselves |
+//! | `refusals` | the texts of the refusals that no program prints |
 //!
-//! A crate with tests is proved twice, once without them, and reads all that is below it before its first function; so
-//! the tests of all these stand here together.
+//! A crate with tests is proved twice, and each proof first reads all crates below it; so all proved tests are in this
+//! crate. No function that owns a node returns early: what is dropped at each return costs most.
 #![tactic(auto)]
 
 #[cfg(test)]
-mod asking;
-#[cfg(test)]
-mod crews;
-#[cfg(test)]
 mod layers;
+#[cfg(test)]
+mod nodes;
+#[cfg(test)]
+mod on_a_desk;
 #[cfg(test)]
 mod recipes;
 #[cfg(test)]
-mod supervisors;
+mod refusals;
 #[cfg(test)]
-mod works;
+mod supervisors;

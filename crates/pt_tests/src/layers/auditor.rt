@@ -1,101 +1,57 @@
-//! `pt_auditor`: a history read from its bytes, in pieces, and what is told of it.
+//! `pt_auditor`: a history that is read event by event, without its text.
 
-use pt_auditor::{Audit, Contradiction, Fault, Hearing, Objection, Selection, Verdict, Why};
+use pt_auditor::{Hearing, Verdict};
 use pt_events::{Event, Stamped};
-use pt_history::Cause;
-use pt_signal::{Pid, Reason};
-use std::alloc::Global;
-use std::test::Fail;
+use pt_signal::{Body, Letter, Pid, Signal};
+use pt_texts::LeftOver;
 
-const TEXT: &[u8] = b"1@0 born <0.0.1>
-2@0 said <0.0.1> -> <1.0.1> message 1 7
-3@0 left <0.0.1> shutdown
-left-over 0 -> 1 <0.0.1> -> <1.0.1> message 1 7 @2
-";
-
-const PID: Pid = Pid {
+const ME: Pid = Pid {
     shard: 0,
     slot: 0,
     version: 1,
 };
 
+const HELLO: Signal = Signal::Message(Body {
+    kind: 1,
+    num: 7,
+    who: None,
+});
+
 const BORN: Stamped = Stamped {
     stamp: 1,
     desk: 0,
-    event: Event::Born(PID, None, None),
+    event: Event::Born(ME, None, None),
 };
 
-const LEFT: Stamped = Stamped {
+const SAID: Stamped = Stamped {
     stamp: 2,
     desk: 0,
-    event: Event::Left(PID, Reason::Shutdown),
+    event: Event::Said(ME, ME, HELLO),
 };
 
-/// The verdict on the text, of which so many bytes are read first.
-fn verdict(alloc: Global, text: &[u8], first: usize) -> Result<Verdict, Fault> {
-    let audit = Audit::new(alloc);
-    let cut = first.min(text.len());
-    audit
-        .read(alloc, &text[..cut])?
-        .read(alloc, &text[cut..])?
-        .end(alloc)
-}
+const LEFT_OVER: LeftOver = LeftOver {
+    from_desk: 0,
+    to_desk: 0,
+    letter: Letter {
+        from: ME,
+        to: ME,
+        signal: HELLO,
+        stamp: 2,
+    },
+};
+
+const WHOLE: Verdict = Verdict {
+    events: 2,
+    desks: 1,
+    letters: 1,
+};
 
 #[test]
-fn pieces(rt: HostRuntime) {
-    let legal = Verdict {
-        events: 3,
-        desks: 1,
-        letters: 1,
-    };
-    for first in [0, 1, 16, 17, 100] {
-        assert_eq!(rt; verdict(rt.alloc(), TEXT, first), Ok(legal));
-    }
-}
-
-#[test]
-fn a_letter_is_not_told_of(rt: HostRuntime) {
-    let fault = verdict(rt.alloc(), &TEXT[..57], 0).err();
-    assert!(rt;
-        matches!(
-            fault,
-            Some(Fault {
-                line: 3,
-                why: Why::Over(_)
-            })
-        )
-    );
-}
-
-#[test]
-fn what_became_of_a_process(rt: HostRuntime) -> Result<(), Fail> {
-    let alloc = rt.alloc();
-    let hearing = Hearing::new(alloc).hear(alloc, BORN).ok().ok_or("born")?;
-    let hearing = hearing.hear(alloc, LEFT).ok().ok_or("left")?;
-    let standing = hearing.standing(0).ok_or("a process")?;
-    let printed = format!(in alloc; "{standing}")?;
-    assert_eq!(rt; printed.as_str(), "<0.0.1> ended shutdown waiting 0");
-    assert!(rt; hearing.standing(1).is_none());
-    let again = Stamped { stamp: 3, ..LEFT };
-    assert_eq!(rt;
-        hearing.hear(alloc, again).err(),
-        Some(Objection::MayNot(
-            Cause::NotAlive,
-            Contradiction::Dead(PID, Some(Reason::Shutdown))
-        ))
-    );
-    Ok(())
-}
-
-#[test]
-fn what_is_asked_for(rt: HostRuntime) {
-    let asked = Selection {
-        pid: Some(PID),
-        from: 2,
-        to: 2,
-    };
-    assert!(rt; asked.has_event(LEFT));
-    assert!(rt; !asked.has_event(BORN));
-    assert!(rt; asked.has_process(PID));
-    assert!(rt; !asked.has_process(Pid { slot: 1, ..PID }));
+fn a_history_is_heard(rt: HostRuntime) {
+    let hearing = Hearing::new(rt.alloc());
+    let hearing = hearing.hear(rt.alloc(), BORN).ok().expect(&rt, "born");
+    let hearing = hearing.hear(rt.alloc(), SAID).ok().expect(&rt, "said");
+    let hearing = hearing.tell(LEFT_OVER).ok().expect(&rt, "told");
+    assert_eq!(rt; hearing.standing(0).map(|standing| standing.pid), Some(ME));
+    assert_eq!(rt; hearing.end().ok(), Some(WHOLE));
 }

@@ -1,0 +1,174 @@
+//! Crews and recipes that work on a desk, each on a node of its own.
+
+ghost use Rattle.std.specs.Prelude.{◌≡◌};
+ghost use Rattle.pt_node.specs.Desks.{AreDesks, IsStill};
+
+use pt_crew::{Behaviour, Births, Crew, Next, join, part, tell};
+use pt_node::{Body, Config, Desk, Item, Pick, Pid, Reason, Work, open};
+use pt_uses::game::{Game, HIT};
+use pt_uses::payloads::Texts;
+use pt_uses::steps;
+use std::alloc::Global;
+use std::process::Abort;
+
+const ONE_DESK: Config = Config {
+    desks: 1,
+    slots: 8,
+    top_version: u32::MAX,
+    lane: 8,
+    ..Config::DEFAULT
+};
+
+/// What runs on the desk of a node.
+#[derive(Drop)]
+enum Play {
+    Game,
+    Texts,
+    Crew,
+}
+
+/// Runs on a new node, and gathers it.
+fn played(rt: &impl Abort, alloc: Global, play: Play) {
+    let mut desks = open(alloc, ONE_DESK).ok().expect(rt, "a node");
+    on_first(rt, alloc, &mut desks, play);
+    let _node = steps::gathered(alloc, desks).ok().expect(rt, "memory");
+}
+
+#[tactic(auto, using(pt_node::proofs::StillDesks::still_desks))]
+fn on_first(rt: &impl Abort, alloc: Global, desks: &mut Vec<Desk>, play: Play)
+    requires { AreDesks desks.old.items }
+    ensures { AreDesks desks.new.items }
+{
+    on_desk(rt, alloc, &mut desks[0], play)
+}
+
+fn on_desk(rt: &impl Abort, alloc: Global, desk: &mut Desk, play: Play)
+    ensures { IsStill desk.old desk.new }
+{
+    match play {
+        Play::Game => fight(rt, alloc, desk),
+        Play::Texts => write(rt, alloc, desk),
+        Play::Crew => serve(rt, alloc, desk),
+    }
+}
+
+fn fight(rt: &impl Abort, alloc: Global, desk: &mut Desk)
+    ensures { IsStill desk.old desk.new }
+{
+    let mut game = Game::new(alloc);
+    hit(rt, desk, &mut game);
+}
+
+/// An orc hits an elf.
+fn hit(rt: &impl Abort, desk: &mut Desk, game: &mut Game)
+    ensures { IsStill desk.old desk.new }
+{
+    let orc = game.enter(desk, 10).expect(rt, "memory");
+    let elf = game.enter(desk, 5).expect(rt, "memory");
+    assert_eq!(rt; steps::tell(desk, orc, elf, HIT, 2), Ok(()));
+    assert_eq!(rt; game.tick(desk), Ok(()));
+    assert_eq!(rt; game.tick(desk), Ok(()));
+    assert_eq!(rt; game.health.get(&elf).copied(), Some(3));
+}
+
+fn write(rt: &impl Abort, alloc: Global, desk: &mut Desk)
+    ensures { IsStill desk.old desk.new }
+{
+    let mut texts = Texts::new(alloc);
+    greet(rt, alloc, desk, &mut texts);
+}
+
+/// A text arrives with its message, and the table of texts is empty then.
+fn greet(rt: &impl Abort, alloc: Global, desk: &mut Desk, texts: &mut Texts)
+    ensures { IsStill desk.old desk.new }
+{
+    let ada = desk.spawn().expect(rt, "memory");
+    let hello = String::from_str(alloc, "hello").expect(rt, "memory");
+    let _number = texts.send(desk, ada, ada, hello).expect(rt, "memory");
+    texts.drop_lost(desk);
+    let _ = desk.turn(16);
+    let came = texts.receive(desk, ada).expect(rt, "memory");
+    assert!(rt; came.is_some_and(|(from, text)| from == ada && text.as_str() == "hello"));
+    assert_eq!(rt; texts.kept.len(), 0);
+}
+
+/// A process that exits at its first item.
+#[derive(Drop)]
+struct Once;
+
+impl Behaviour for Once {
+    ghost use Rattle.std.specs.Prelude.{⊤};
+
+    ghost answers = { λ _ _ _ _ _ _ _ _. ⊤ };
+
+    #[tactic(auto, using(pt_node::proofs::GoingOn::stays))]
+    fn handle(
+        &mut self,
+        _desk: &mut Desk,
+        _births: &mut Births<Once>,
+        _me: Pid,
+        item: Option<Item>,
+    ) -> Next {
+        match item {
+            Some(_) => Next::Stop(Reason::Other(3)),
+            None => Next::Wait(Pick::Any),
+        }
+    }
+}
+
+fn serve(rt: &impl Abort, alloc: Global, desk: &mut Desk)
+    ensures { IsStill desk.old desk.new }
+{
+    let mut crew = Crew::new(alloc, 1);
+    let p = waits(rt, &mut crew, desk);
+    leaves(rt, &mut crew, desk, p);
+}
+
+const HELLO: Body = Body {
+    kind: 1,
+    num: 7,
+    who: None,
+};
+
+/// A process enters, and waits after its first step.
+fn waits(rt: &impl Abort, crew: &mut Crew<Once>, desk: &mut Desk) -> Pid
+    ensures { IsStill desk.old desk.new }
+{
+    let p = crew.enter(desk, Once, Next::Proceed).expect(rt, "memory");
+    assert_eq!(rt; crew.next(p), Some(Next::Proceed));
+    crew.step(desk);
+    assert_eq!(rt; crew.next(p), Some(Next::Wait(Pick::Any)));
+    assert!(rt; crew.is_idle(desk));
+    assert_eq!(rt; crew.begin_again(), Ok(()));
+    assert_eq!(rt; crew.queued(), 1);
+    p
+}
+
+/// It handles a message in one step, exits in the next, and is taken from the crew.
+fn leaves(rt: &impl Abort, crew: &mut Crew<Once>, desk: &mut Desk, p: Pid)
+    ensures { IsStill desk.old desk.new }
+{
+    assert_eq!(rt; join(desk, p, p), Ok(()));
+    assert_eq!(rt; part(desk, p, p), Ok(()));
+    assert_eq!(rt; tell(desk, p, p, HELLO), Ok(()));
+    let _ = desk.turn(16);
+    crew.step(desk);
+    crew.step(desk);
+    let left = crew.take_left().map(|role| role.next);
+    assert_eq!(rt; left, Some(Next::Stop(Reason::Other(3))));
+}
+
+#[test]
+fn a_monster_is_hit(rt: HostRuntime) {
+    played(&rt, rt.alloc(), Play::Game);
+}
+
+#[test]
+fn a_text_comes_with_its_message(rt: HostRuntime) {
+    played(&rt, rt.alloc(), Play::Texts);
+}
+
+#[test]
+fn a_member_waits_and_leaves(rt: HostRuntime) {
+    played(&rt, rt.alloc(), Play::Crew);
+}
