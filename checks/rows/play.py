@@ -144,9 +144,9 @@ def run(program: Path, play: Play) -> Optional[str]:
 
 
 def rattle_tests() -> set[str]:
-    """The Rattle tests of all crates, each as `module.test`."""
-    return {f"{file.stem}.{test}" for file in CRATES.glob("*/src/**/*.rt")
-            for test in re.findall(r"#\[test\]\nfn (\w+)", file.read_text(encoding="utf-8"))}
+    """The names of the Rattle tests, proved or run alone."""
+    files = [*CRATES.glob("*/src/**/*.rt"), *HERE.parent.glob("tried/*/*.rt.txt")]
+    return {test for file in files for test in re.findall(r"#\[test\]\nfn (\w+)", file.read_text(encoding="utf-8"))}
 
 
 def check_names(rows: list[Row]) -> str:
@@ -155,7 +155,7 @@ def check_names(rows: list[Row]) -> str:
     if len(set(names)) != len(names):
         raise Wrong("names.txt has a name twice")
     played, left = {row.name.split("/")[0] for row in rows}, rattle_tests()
-    lost = [name for name in names if name not in played and name not in left]
+    lost = [name for name in names if name not in played and name.split(".")[1] not in left]
     if lost:
         raise Wrong("no row and no test: " + " ".join(lost))
     new = sorted(played - set(names))
