@@ -440,9 +440,9 @@ def chosen(words: list[str], everything: bool) -> dict[str, list[Edit]]:
         if word not in known:
             raise Broken(f"no wrong body or crate is called {word}")
     if words:
-        edits = [it for it in edits if it.label in words or it.crate in words]
+        edits = [it for it in edits if {it.label, it.crate} & {*words}]
     elif not everything:
-        edits = [it for it in edits if it.label not in left_out]
+        edits = [it for it in edits if not {it.label, it.crate} & left_out]
     crates: dict[str, list[Edit]] = {}
     for edit in edits:
         crates.setdefault(edit.crate, []).append(edit)
