@@ -51,24 +51,40 @@ class Broken(Exception):
 
 @dataclass(frozen=True)
 class Function:
-    """A function of a source file, with its place there (lines from 0)."""
+    """A function of a source file, by the end of the prover's name, with its place there (lines from 0)."""
 
     path: str
     first: int
     last: int
 
 
-def type_name(text: str) -> str:
-    """The name of a type or trait, without generics, path and references."""
-    text = re.sub(r"<.*", "", text.replace("&mut ", "").replace("&", "").replace("dyn ", "")).strip()
-    return text.split("::")[-1]
+def parts_of(text: str) -> list[str]:
+    """The types of a list that is separated by commas, those within brackets apart."""
+    parts, depth = [""], 0
+    for letter in text:
+        depth += (letter in "<([") - (letter in ">)]")
+        if letter == "," and depth == 0:
+            parts.append("")
+        else:
+            parts[-1] += letter
+    return [it.strip() for it in parts if it.strip()]
+
+
+def flat_name(text: str) -> str:
+    """What the prover calls a type among the arguments of a trait: its names, one behind the other."""
+    text = re.sub(r"&('\w+ )?(mut )?|dyn ", "", text).strip()
+    if text.startswith("("):
+        inner = parts_of(text[1:-1])
+        return f"Tuple{len(inner)}" + "".join(map(flat_name, inner))
+    name, found, rest = text.partition("<")
+    return name.split("::")[-1].strip() + ("".join(map(flat_name, parts_of(rest.rstrip()[:-1]))) if found else "")
 
 
 def owner_of(header: str) -> str:
-    """What the prover calls the block of this `impl` or `trait` line: its type, or type and trait together."""
+    """What the prover calls the block of this `impl` or `trait` line: its type, or type, trait and the trait's arguments."""
     header = re.sub(r"\s+", " ", header).split(" where ")[0].rstrip("{ ")
-    if header.startswith(("trait ", "pub trait ", "pub(crate) trait ")):
-        return type_name(re.split(r"trait ", header, maxsplit=1)[1].split(":")[0])
+    if re.match(r"(pub(\(\w+\))? )?trait ", header):
+        return re.split(r"[:<]", header.partition("trait ")[2])[0].strip()
     header = re.sub(r"^(unsafe )?impl\s*", "", header)
     if header.startswith("<"):
         depth = 0
@@ -78,7 +94,8 @@ def owner_of(header: str) -> str:
                 header = header[at + 1 :].strip()
                 break
     trait, found, of = header.rpartition(" for ")
-    return type_name(of) + type_name(trait) if found else type_name(header)
+    name = flat_name(of.partition("<")[0])
+    return name + flat_name(trait) if found else name
 
 
 def functions_of(text: str, module: str) -> list[Function]:
@@ -99,8 +116,9 @@ def functions_of(text: str, module: str) -> list[Function]:
         start = re.match(r'( *)(pub(\([a-z]+\))? )?(const )?(unsafe )?(extern "C" )?fn (\w+)', line)
         if start and len(start[1]) in (0, 4):
             last = end_of(lines, at, start[1])
-            of = owner if start[1] else ""
-            found.append(Function("::".join(it for it in (module, of, start[7]) if it), at, last))
+            # (the prover names a method by the module of its type, which may be another one)
+            of = owner if start[1] else module
+            found.append(Function("::".join(it for it in (of, start[7]) if it), at, last))
     return found
 
 
@@ -325,11 +343,11 @@ class Trials:
         return batch, texts
 
     def asked_for(self, changed: set[str]) -> list[str]:
-        """The functions that are to be proved: the changed ones and the three shortest others, or an empty list for all."""
+        """The functions to ask for: the changed ones and three short others, plain functions first; an empty list for all."""
         files = [it for file, text in self.texts.items() for it in functions_of(text, module_of(file))]
         names = [it.path for it in files]
         free = [it for it in files if it.path not in changed and names.count(it.path) == 1 and it.last - it.first > 1]
-        free.sort(key=lambda it: it.last - it.first)
+        free.sort(key=lambda it: (re.search(r"[A-Z]", it.path) is not None, it.last - it.first))
         return [*sorted(changed), *(it.path for it in free[:3])] if changed and free else []
 
     def try_batch(self, batch: list[Edit]) -> None:
@@ -402,7 +420,8 @@ class Trials:
                 Path(room, file).write_text(text)
             words = [str(self.kit.folder / "bin" / "rattle"), "check", *self.kit.words(self.crate)]
             for name in only:
-                words += ["--only", f"{self.crate}::{name}"]
+                # (a plain function by its whole name, a method by the end of its name)
+                words += ["--only", name if name[0].isupper() else f"{self.crate}::{name}"]
             ran = subprocess.Popen(words, cwd=room, stdin=subprocess.DEVNULL, stdout=subprocess.PIPE, stderr=subprocess.STDOUT, text=True, errors="replace")
             text = ran.stdout.read() if ran.stdout else ""
             _, _, used = os.wait4(ran.pid, 0)
@@ -413,6 +432,9 @@ class Trials:
             print(f"{self.crate}: check {self.checks}: {seconds:.0f} processor seconds", flush=True)
             if self.logs:
                 (self.logs / f"{self.crate}.{self.checks}.log").write_text(text)
+        unknown = re.search(r"^rattle: error: `.*` (has no function|fits).*", text, re.M)
+        if unknown:
+            raise Broken(f"{self.crate}: {unknown[0][:200]}")
         return understood(text, self.crate, seconds)
 
 
