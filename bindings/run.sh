@@ -91,6 +91,26 @@ if [ "$mode" = --speed ]; then
     exit
 fi
 
+# The page's own lines, the first block of its chapter on building, build an example and run it; the other examples are
+# built by the same line.
+commands=$(awk '/^## Building/ { here = 1 } here && /^```/ { fences++; next } here && fences == 1' "$here/../docs/EMBEDDING.md")
+by_the_page() { # SED-SCRIPT
+    (
+        cd "$work/page"
+        rt() { command "$rt" "$@"; }
+        eval "$(sed "$1" <<<"$commands")"
+    )
+}
+mkdir -p "$work/page/crates/pt_c/out"
+ln -s "$here" "$work/page/bindings"
+ln -s "$work/lib/libpt_c.a" "$work/page/crates/pt_c/out/libpt_c.a"
+by_the_page '' >"$work/printed"
+for example in about no_memory resumed ring supervisor; do
+    by_the_page "/^\.\//d; s/ping_pong/$example/g"
+    [ -x "$work/page/$example" ] || { echo "bindings: the lines of docs/EMBEDDING.md do not build $example"; exit 1; }
+done
+echo "c: the lines of docs/EMBEDDING.md build the examples"
+
 "$here/rows.py" >"$work/table"
 
 # C, and C++ for the header

@@ -210,6 +210,7 @@ class Numbers(unittest.TestCase):
         for reason in REASON.bounds() + [REASON.good(draw) for _ in range(200)]:
             pid = desk.spawn()
             monitor = desk.monitor(watcher, pid)
+            desk.turn()
             desk.exit(pid, reason)
             desk.turn()
             self.assertEqual(desk.receive(watcher), p.Item("down", pid, monitor, reason))
