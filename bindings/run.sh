@@ -28,6 +28,9 @@ needs cc "the C examples" "apt-get install gcc libc6-dev"
 needs cargo "the Rust crate" "apt-get install cargo, or https://rustup.rs (1.85 or later)"
 needs python3 "the Python module" "apt-get install python3 (3.9 or later)"
 [ "$missing" -eq 0 ] || exit 1
+if ! cargo clippy --version >/dev/null 2>&1; then
+    echo "bindings: no clippy: the Rust crate is not linted (rustup component add clippy, or apt-get install rust-clippy)"
+fi
 # (only what is wrong with memory shows under it)
 if ! command -v valgrind >/dev/null; then
     echo "bindings: no valgrind: the memory of the C examples is not looked at (apt-get install valgrind libc6-dbg)"
@@ -138,8 +141,17 @@ if command -v valgrind >/dev/null; then
 fi
 echo "c: examples passed"
 
-# Rust: tests, examples of the documentation, and the pages themselves
-(cd "$here/rust" && cargo test -q --offline && cargo doc -q --offline --no-deps && cargo build -q --offline --examples)
+# Rust: tests, examples of the documentation, the pages themselves, and lints
+(
+    cd "$here/rust"
+    cargo test -q --offline
+    RUSTDOCFLAGS="-D warnings" cargo doc -q --offline --no-deps
+    cargo build -q --offline --examples
+    if cargo clippy --version >/dev/null 2>&1; then
+        cargo clippy -q --offline --lib --examples -- -D warnings
+        echo "rust: clippy finds nothing"
+    fi
+)
 echo "rust: tests and pages passed"
 
 # Python
