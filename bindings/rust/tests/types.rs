@@ -133,7 +133,9 @@ fn printed_texts_read_back() {
         "<256.0.1>", "<0.4294967296.1>", "<0.0.4294967296>", "<0.0.1> ", " <0.0.1>", "<0.0.0x1>", "<0.0.\u{661}>",
     ];
     reads_back(&pids, &others);
-    let others = ["", "#", "#0", "#0.", "#.1", "~0.1x", "#0.1.2", "#256.1", "#0.18446744073709551616", "#0.01", "#0.+1"];
+    let others = [
+        "", "#", "#0", "#0.", "#.1", "~0.1x", "#0.1.2", "#256.1", "#0.18446744073709551616", "#0.01", "#0.+1", "~0.+1",
+    ];
     let numbers = [(0, 0), (1, 7), (63, 1 << 62), (u8::MAX, u64::MAX)];
     reads_back(&numbers.map(|(desk, number)| Ref { desk, number }), &others);
     reads_back(&numbers.map(|(desk, number)| LinkId { desk, number }), &others);
