@@ -29,7 +29,7 @@ needs cargo "the Rust crate" "apt-get install cargo, or https://rustup.rs (1.85 
 needs python3 "the Python module" "apt-get install python3 (3.9 or later)"
 [ "$missing" -eq 0 ] || exit 1
 if ! cargo clippy --version >/dev/null 2>&1; then
-    echo "bindings: no clippy: the Rust crate is not linted (rustup component add clippy, or apt-get install rust-clippy)"
+    echo "bindings: no clippy: the Rust crate is not linted (rustup component add clippy; apt-get install rust-clippy)"
 fi
 # (only what is wrong with memory shows under it)
 if ! command -v valgrind >/dev/null; then
@@ -96,7 +96,8 @@ fi
 
 # The page's own lines, the first block of its chapter on building, build an example and run it; the other examples are
 # built by the same line.
-commands=$(awk '/^## Building/ { here = 1 } here && /^```/ { fences++; next } here && fences == 1' "$here/../docs/EMBEDDING.md")
+commands=$(awk '/^## Building/ { here = 1 } here && /^```/ { fences++; next } here && fences == 1' \
+    "$here/../docs/EMBEDDING.md")
 by_the_page() { # SED-SCRIPT
     (
         cd "$work/page"

@@ -119,7 +119,8 @@ class A(Domain):
             if kind is not self.kind:
                 yield A(kind).good(draw)
         value = self.good(draw)
-        yield from (0, 1, 2**70, True, 1.5, "", "normal", "<0.0.1>", b"x", (), (0, 0, 1), [0, 0, 1], object(), self.kind)
+        yield from (0, 1, 2**70, True, 1.5, "", "normal", "<0.0.1>", b"x", (), (0, 0, 1), [0, 0, 1], object())
+        yield self.kind
         if isinstance(value, tuple):
             yield tuple(value)
         if not self.option:

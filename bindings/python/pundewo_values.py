@@ -242,7 +242,8 @@ class Body(_Checked, _Body):
 
 
 ITEMS = ("user", "exit", "down", "alive")
-_ITEM_FIELDS = {"user": ("body",), "exit": ("reason",), "down": ("reference", "reason"), "alive": ("reference", "alive")}
+_ITEM_FIELDS = {"user": ("body",), "exit": ("reason",), "down": ("reference", "reason"),
+                "alive": ("reference", "alive")}
 
 
 class _Item(NamedTuple):

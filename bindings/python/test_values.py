@@ -84,8 +84,8 @@ class Values(unittest.TestCase):
                 for bad in (domain.low - 1, domain.high + 1):
                     with self.assertRaises(ValueError) as caught:
                         kind(**{**fields, field: bad})
-                    self.assertEqual(str(caught.exception), f"{kind.__name__}.{field} is {bad}, and must be an int from "
-                                                            f"{domain.low} to {domain.high}")
+                    wanted = f"an int from {domain.low} to {domain.high}"
+                    self.assertEqual(str(caught.exception), f"{kind.__name__}.{field} is {bad}, and must be {wanted}")
                 for bad in (True, 1.0, "1", None):
                     with self.assertRaises(TypeError) as caught:
                         kind(**{**fields, field: bad})
