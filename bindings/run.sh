@@ -28,6 +28,9 @@ needs cc "the C examples" "apt-get install gcc libc6-dev"
 needs cargo "the Rust crate" "apt-get install cargo, or https://rustup.rs (1.85 or later)"
 needs python3 "the Python module" "apt-get install python3 (3.9 or later)"
 [ "$missing" -eq 0 ] || exit 1
+if ! cargo clippy --version >/dev/null 2>&1; then
+    echo "bindings: no clippy: the Rust crate is not linted (rustup component add clippy; apt-get install rust-clippy)"
+fi
 # (only what is wrong with memory shows under it)
 if ! command -v valgrind >/dev/null; then
     echo "bindings: no valgrind: the memory of the C examples is not looked at (apt-get install valgrind libc6-dbg)"
@@ -91,6 +94,27 @@ if [ "$mode" = --speed ]; then
     exit
 fi
 
+# The page's own lines, the first block of its chapter on building, build an example and run it; the other examples are
+# built by the same line.
+commands=$(awk '/^## Building/ { here = 1 } here && /^```/ { fences++; next } here && fences == 1' \
+    "$here/../docs/EMBEDDING.md")
+by_the_page() { # SED-SCRIPT
+    (
+        cd "$work/page"
+        rt() { command "$rt" "$@"; }
+        eval "$(sed "$1" <<<"$commands")"
+    )
+}
+mkdir -p "$work/page/crates/pt_c/out"
+ln -s "$here" "$work/page/bindings"
+ln -s "$work/lib/libpt_c.a" "$work/page/crates/pt_c/out/libpt_c.a"
+by_the_page '' >"$work/printed"
+for example in about no_memory resumed ring supervisor; do
+    by_the_page "/^\.\//d; s/ping_pong/$example/g"
+    [ -x "$work/page/$example" ] || { echo "bindings: the lines of docs/EMBEDDING.md do not build $example"; exit 1; }
+done
+echo "c: the lines of docs/EMBEDDING.md build the examples"
+
 "$here/rows.py" >"$work/table"
 
 # C, and C++ for the header
@@ -118,8 +142,17 @@ if command -v valgrind >/dev/null; then
 fi
 echo "c: examples passed"
 
-# Rust: tests, examples of the documentation, and the pages themselves
-(cd "$here/rust" && cargo test -q --offline && cargo doc -q --offline --no-deps && cargo build -q --offline --examples)
+# Rust: tests, examples of the documentation, the pages themselves, and lints
+(
+    cd "$here/rust"
+    cargo test -q --offline
+    RUSTDOCFLAGS="-D warnings" cargo doc -q --offline --no-deps
+    cargo build -q --offline --examples
+    if cargo clippy --version >/dev/null 2>&1; then
+        cargo clippy -q --offline --lib --examples -- -D warnings
+        echo "rust: clippy finds nothing"
+    fi
+)
 echo "rust: tests and pages passed"
 
 # Python

@@ -1,4 +1,6 @@
 /* Two processes of one desk send each other messages; prints how many a second of processor time, the best of five. */
+#define _POSIX_C_SOURCE 200809L /* clock_gettime */
+
 #include <assert.h>
 #include <stdio.h>
 #include <stdlib.h>

@@ -4,8 +4,12 @@ A node is a set of desks. Each holds processes, keeps a journal of what happened
 time. `open_node` makes the desks, `Desk.turn` moves letters between them, `gather` brings them together, and
 `Gathered.settle` brings the letters that are left over to their receivers.
 
+A call checks each argument before it calls the library. A value of a wrong type is a TypeError and a number out of its
+range a ValueError, which name the argument: nothing has been called then. A call that the table itself refuses is a
+Fault.
+
 PUNDEWO_SO names the shared library, which `bindings/run.sh` makes; without it `libpundewo.so` beside this file is
-taken.
+taken. The values are in `pundewo_values.py`, which this module needs beside it.
 """
 
 from __future__ import annotations
@@ -13,44 +17,33 @@ from __future__ import annotations
 import ctypes as c
 import itertools
 import os
-from dataclasses import dataclass
-from enum import IntEnum
 from pathlib import Path
-from typing import Iterator, NamedTuple, Optional, Sequence, Union
+from typing import Any, Callable, Iterator, Optional, Sequence, TypeVar
+
+from pundewo_values import (
+    ANY, EVENTS, ITEMS, KILL, KILLED, NOPROC, NORMAL, PICKS, REASONS, SHUTDOWN, SIGNALS, U8, U32, U64, Account, Body,
+    Code, Config, Event, Ids, Item, LeftOver, LinkId, Pick, Pid, Reason, Ref, Signal, Turned, flag, number, of_type,
+    shown, unchecked,
+)
 
 __all__ = [
     "Account", "Body", "Code", "Config", "Desk", "Event", "Fault", "Gathered", "History", "Ids", "Item", "LeftOver",
-    "Pick", "Pid", "Quiet", "Reason", "Ref", "Signal", "Turned", "Unsettled", "gather", "open_node",
+    "LinkId", "Pick", "Pid", "Quiet", "Reason", "Ref", "Signal", "Turned", "Unsettled", "gather", "open_node",
 ]
 
-
-class Code(IntEnum):
-    """What calls answer."""
-
-    OK = 0
-    FULL = 1
-    MEMORY = 2
-    WORN = 3
-    GONE = 4
-    MYSELF = 5
-    NOPROC = 6
-    UNKNOWN = 7
-    NOTHING = 8
-    EMPTY = 9
-    FILLED = 10
-    BAD_DESKS = 11
-    BAD_SLOTS = 12
-    BAD_TOP_VERSION = 13
-    BAD_LANE = 14
-    BAD_START = 15
+T = TypeVar("T")
+V = TypeVar("V")
 
 
 class Fault(Exception):
     """A refused call. What was called is as it was, but for a note of one that is refused as NOPROC."""
 
     def __init__(self, code: Code):
+        self.code = of_type("code", code, Code)
         super().__init__(code.name.lower())
-        self.code = code
+
+    def __reduce__(self) -> tuple:
+        return type(self), (self.code,)
 
 
 class CPid(c.Structure):
@@ -147,244 +140,60 @@ def _declare() -> None:
 _declare()
 
 
-class Pid(NamedTuple):
-    """The name of a process: its desk, its slot there, and how often the slot was given out."""
-
-    shard: int
-    slot: int
-    version: int
-
-    def __str__(self) -> str:
-        return f"<{self.shard}.{self.slot}.{self.version}>"
-
-
-class Ref(NamedTuple):
-    """The reference of a monitor or of a question."""
-
-    desk: int
-    number: int
-
-    def __str__(self) -> str:
-        return f"#{self.desk}.{self.number}"
-
-
-class LinkId(NamedTuple):
-    """The id of a link."""
-
-    desk: int
-    number: int
-
-    def __str__(self) -> str:
-        return f"~{self.desk}.{self.number}"
-
-
-class Ids(NamedTuple):
-    """The ids under which two processes are linked."""
-
-    one: LinkId
-    two: Optional[LinkId]
-
-    def __str__(self) -> str:
-        return str(self.one) if self.two is None else f"{self.one}+{self.two}"
-
-
-REASONS = ("normal", "kill", "killed", "noproc", "shutdown")
-
-
-class Reason(NamedTuple):
-    """An exit reason: one of REASONS, or "other" with a number of the caller's own."""
-
-    name: str
-    number: int = 0
-
-    def __str__(self) -> str:
-        return f"other:{self.number}" if self.name == "other" else self.name
-
-
-NORMAL, KILL, KILLED, NOPROC, SHUTDOWN = map(Reason, REASONS)
-
-
-class Body(NamedTuple):
-    """What a message holds: a kind, a number, and a process that it speaks of."""
-
-    kind: int
-    num: int
-    who: Optional[Pid] = None
-
-    def __str__(self) -> str:
-        return f"{self.kind} {self.num}" + (f" who {self.who}" if self.who is not None else "")
-
-
-ITEMS = ("user", "exit", "down", "alive")
-
-
-class Item(NamedTuple):
-    """What stands in a mailbox; `name` is one of ITEMS, and what does not belong to it is None."""
-
-    name: str
-    pid: Pid
-    reference: Optional[Ref] = None
-    reason: Optional[Reason] = None
-    body: Optional[Body] = None
-    alive: Optional[bool] = None
-
-    def __str__(self) -> str:
-        alive = None if self.alive is None else "yes" if self.alive else "no"
-        words = (self.name, self.reference, self.pid, self.reason, self.body, alive)
-        return " ".join(str(word) for word in words if word is not None)
-
-
-PICKS = ("kind", "from", "exit-of", "down-of", "alive-of", "any")
-
-
-class Pick(NamedTuple):
-    """Which items a receive takes: one of PICKS, with the kind, the pid or the reference that it asks for."""
-
-    name: str = "any"
-    what: Union[None, int, Pid, Ref] = None
-
-    def __str__(self) -> str:
-        return self.name if self.name == "any" else f"{self.name} {self.what}"
-
-
-ANY = Pick()
-SIGNALS = ("message", "link", "unlink", "exit", "link-exit", "monitor", "demonitor", "down", "alive-ask", "alive-say")
-
-
-class Signal(NamedTuple):
-    """What one process sends another: one of SIGNALS, with what it carries, in the order in which it is printed."""
-
-    name: str
-    words: tuple
-
-    def __str__(self) -> str:
-        texts = ("yes" if word is True else "no" if word is False else str(word) for word in self.words)
-        return " ".join([self.name, *texts])
-
-
-EVENTS = ("born", "said", "came", "took", "flag", "left", "refused")
-
-
-@dataclass(frozen=True)
-class Event:
-    """What happened: one of EVENTS, with its stamp, its desk and the process whose event it is."""
-
-    stamp: int
-    desk: int
-    name: str
-    pid: Pid
-    peer: Optional[Pid] = None
-    link: Optional[LinkId] = None
-    reason: Optional[Reason] = None
-    pick: Optional[Pick] = None
-    item: Optional[Item] = None
-    signal: Optional[Signal] = None
-    on: Optional[bool] = None
-
-    def __str__(self) -> str:
-        head = f"{self.stamp}@{self.desk} {self.name} "
-        if self.name == "born":
-            parent = "" if self.peer is None else f" by {self.peer}"
-            return head + f"{self.pid}{parent}" + ("" if self.link is None else f" link {self.link}")
-        if self.name == "said":
-            return head + f"{self.pid} -> {self.peer} {self.signal}"
-        if self.name == "came":
-            return head + f"{self.peer} -> {self.pid} {self.signal}"
-        if self.name == "took":
-            return head + f"{self.pid} {self.pick} = {self.item}"
-        if self.name == "flag":
-            return head + f"{self.pid} " + ("on" if self.on else "off")
-        if self.name == "left":
-            return head + f"{self.pid} {self.reason}"
-        return head + f"{self.pid} -> {self.peer}"
-
-
-class LeftOver(NamedTuple):
-    """A letter that was sent and had not come when the desks were gathered."""
-
-    from_desk: int
-    to_desk: int
-    sender: Pid
-    to: Pid
-    signal: Signal
-    stamp: int
-
-    def __str__(self) -> str:
-        return f"left-over {self.from_desk} -> {self.to_desk} {self.sender} -> {self.to} {self.signal} @{self.stamp}"
-
-
-class Turned(NamedTuple):
-    """What a turn did, and why it stopped at a letter, which stays."""
-
-    posted: int
-    handled: int
-    stopped: Optional[Code]
-
-
-class Account(NamedTuple):
-    """What became of a process."""
-
-    ended: Optional[Reason]
-    arrived: int
-    taken: int
-    waiting: int
-
-
-class Config(NamedTuple):
-    """The settings of a node."""
-
-    slots: int = 1024
-    top_version: int = 2**32 - 1
-    lane: int = 64
-    start: int = 0
-
-
+# What crosses out of the library. Its structs have numbers of the right widths alone, so these are not checked again.
 def _pid(p: CPid) -> Pid:
-    return Pid(p.shard, p.slot, p.version)
+    return unchecked(Pid, (p.shard, p.slot, p.version))
 
 
 def _ref(m: CRef) -> Ref:
-    return Ref(m.desk, m.number)
+    return unchecked(Ref, (m.desk, m.number))
 
 
 def _link(i: CRef) -> LinkId:
-    return LinkId(i.desk, i.number)
+    return unchecked(LinkId, (i.desk, i.number))
 
 
 def _ids(ids: CIds) -> Ids:
-    return Ids(_link(ids.one), _link(ids.two) if ids.has_two else None)
+    return unchecked(Ids, (_link(ids.one), _link(ids.two) if ids.has_two else None))
 
 
 def _reason(r: CReason) -> Reason:
-    return Reason(REASONS[r.code]) if r.code < len(REASONS) else Reason("other", r.number)
+    return unchecked(Reason, (REASONS[r.code], 0) if r.code < len(REASONS) else ("other", r.number))
 
 
 def _body(b: CBody) -> Body:
-    return Body(b.kind, b.num, _pid(b.who) if b.has_who else None)
+    return unchecked(Body, (b.kind, b.num, _pid(b.who) if b.has_who else None))
 
 
 def _item(i: CItem) -> Item:
     name = ITEMS[i.code]
-    return Item(name, _pid(i.pid), _ref(i.reference) if name in ("down", "alive") else None,
-                _reason(i.reason) if name in ("exit", "down") else None, _body(i.body) if name == "user" else None,
-                i.alive if name == "alive" else None)
+    return unchecked(Item, (
+        name, _pid(i.pid), _ref(i.reference) if name in ("down", "alive") else None,
+        _reason(i.reason) if name in ("exit", "down") else None, _body(i.body) if name == "user" else None,
+        i.alive if name == "alive" else None))
 
 
 def _pick(k: CPick) -> Pick:
-    name = PICKS[min(k.code, 5)]
-    return Pick(name, {"kind": k.kind, "from": _pid(k.pid), "exit-of": _pid(k.pid), "down-of": _ref(k.reference),
-                       "alive-of": _ref(k.reference)}.get(name))
+    name, what = PICKS[min(k.code, 5)], None
+    if name == "kind":
+        what = k.kind
+    elif name in ("from", "exit-of"):
+        what = _pid(k.pid)
+    elif name in ("down-of", "alive-of"):
+        what = _ref(k.reference)
+    return unchecked(Pick, (name, what))
 
 
 def _signal(x: CSignal) -> Signal:
     name = SIGNALS[x.code]
-    words = {
-        "message": (_body(x.body),), "link": (_link(x.ids.one),), "unlink": (_ids(x.ids),),
-        "exit": (_reason(x.reason),),
-        "link-exit": (_ids(x.ids), _reason(x.reason)), "down": (_ref(x.reference), _reason(x.reason)),
-        "alive-say": (_ref(x.reference), x.alive),
-    }
-    return Signal(name, words.get(name, (_ref(x.reference),)))
+    return unchecked(Signal, (name, _WORDS[name](x) if name in _WORDS else (_ref(x.reference),)))
+
+
+_WORDS: dict[str, Callable[[CSignal], tuple]] = {
+    "message": lambda x: (_body(x.body),), "link": lambda x: (_link(x.ids.one),), "unlink": lambda x: (_ids(x.ids),),
+    "exit": lambda x: (_reason(x.reason),), "link-exit": lambda x: (_ids(x.ids), _reason(x.reason)),
+    "down": lambda x: (_ref(x.reference), _reason(x.reason)), "alive-say": lambda x: (_ref(x.reference), x.alive),
+}
 
 
 def _event(e: CEvent) -> Event:
@@ -397,22 +206,43 @@ def _event(e: CEvent) -> Event:
 
 
 def _left_over(l: CLeftOver) -> LeftOver:
-    return LeftOver(l.from_desk, l.to_desk, _pid(l.sender), _pid(l.to), _signal(l.signal), l.stamp)
+    return unchecked(LeftOver, (l.from_desk, l.to_desk, _pid(l.sender), _pid(l.to), _signal(l.signal), l.stamp))
 
 
-def _c_reason(r: Reason) -> CReason:
-    return CReason(REASONS.index(r.name) if r.name in REASONS else len(REASONS), r.number)
+# What crosses into the library. A value was checked when it was made, so only its type is checked here. A value of a
+# subclass, which may make its values in another way, is made again.
+def _own(field: str, value: object, kind: type[V]) -> V:
+    return value if type(value) is kind else kind(*of_type(field, value, kind))
 
 
-def _c_pick(k: Pick) -> CPick:
-    pick = CPick(code=PICKS.index(k.name))
-    if k.name == "kind":
-        pick.kind = k.what
-    elif k.name in ("from", "exit-of"):
-        pick.pid = CPid(*k.what)
-    elif k.name in ("down-of", "alive-of"):
-        pick.reference = CRef(*k.what)
-    return pick
+def _c_pid(field: str, p: Pid) -> CPid:
+    return CPid(*(p if type(p) is Pid else _own(field, p, Pid)))
+
+
+def _c_ref(field: str, m: Ref) -> CRef:
+    return CRef(*_own(field, m, Ref))
+
+
+def _c_reason(field: str, reason: Reason) -> CReason:
+    name, value = _own(field, reason, Reason)
+    return CReason(REASONS.index(name) if name in REASONS else len(REASONS), value)
+
+
+def _c_body(field: str, body: Body) -> CBody:
+    kind, num, who = body if type(body) is Body else _own(field, body, Body)
+    return CBody(kind, num) if who is None else CBody(kind, num, True, _c_pid(f"{field}.who", who))
+
+
+def _c_pick(field: str, pick: Pick) -> CPick:
+    name, what = _own(field, pick, Pick)
+    crossing = CPick(code=PICKS.index(name))
+    if name == "kind":
+        crossing.kind = what
+    elif name in ("from", "exit-of"):
+        crossing.pid = _c_pid(f"{field}.what", what)
+    elif name in ("down-of", "alive-of"):
+        crossing.reference = _c_ref(f"{field}.what", what)
+    return crossing
 
 
 class _Held:
@@ -420,13 +250,14 @@ class _Held:
 
     _give_up = "pt_give_up"
 
-    def __init__(self, at: Optional[int] = None):
-        self._handle = CHandle(at)
+    def __init__(self) -> None:
+        self._handle = CHandle()
+        self._at = c.byref(self._handle)
 
     def close(self) -> None:
         """Gives up what there is, and its memory; a second time it does nothing."""
-        if getattr(self, "_handle", None) is not None and self._handle.at:
-            getattr(lib, self._give_up)(c.byref(self._handle))
+        if getattr(self, "_at", None) is not None and self._handle.at:
+            getattr(lib, self._give_up)(self._at)
 
     __del__ = close
 
@@ -436,31 +267,30 @@ class _Held:
     def __exit__(self, *_):
         self.close()
 
-    def _call(self, name: str, *words) -> Code:
-        return Code(getattr(lib, "pt_" + name)(c.byref(self._handle), *words))
-
-    def _must(self, name: str, *words) -> None:
-        code = self._call(name, *words)
+    def _must(self, call: Callable[..., int], *words: Any) -> None:
+        code = call(self._at, *words)
         if code:
-            raise Fault(code)
+            raise Fault(Code(code))
 
-    def _give(self, name: str, out, *words):
+    def _give(self, call: Callable[..., int], out: T, *words: Any) -> T:
         """The value that a call passes out, or a Fault."""
-        self._must(name, *words, c.byref(out))
+        code = call(self._at, *words, c.byref(out))
+        if code:
+            raise Fault(Code(code))
         return out
 
-    def _find(self, name: str, out, *words):
+    def _find(self, call: Callable[..., int], out: T, *words: Any) -> Optional[T]:
         """The same, where NOTHING is None."""
-        code = self._call(name, *words, c.byref(out))
+        code = call(self._at, *words, c.byref(out))
+        if not code:
+            return out
         if code == Code.NOTHING:
             return None
-        if code:
-            raise Fault(code)
-        return out
+        raise Fault(Code(code))
 
-    def _each(self, name: str, kind, convert, start: int = 0) -> Iterator:
+    def _each(self, call: Callable[..., int], kind: type[T], convert: Callable[[T], V], start: int = 0) -> Iterator[V]:
         for place in itertools.count(start):
-            out = self._find(name, kind(), place)
+            out = self._find(call, kind(), place)
             if out is None:
                 return
             yield convert(out)
@@ -469,111 +299,113 @@ class _Held:
 class Desk(_Held):
     """A desk of a node. Use it on one thread at a time."""
 
-    def __init__(self, at: int, node: object, number: int, count: int):
-        super().__init__(at)
+    def __init__(self, handle: CHandle, node: object, number: int, count: int):
+        super().__init__()
+        self._handle.at = of_type("handle", handle, CHandle).at
         self._node, self.number, self._count = node, number, count
 
     def spawn(self) -> Pid:
         """Makes a process that no other one bears."""
-        return _pid(self._give("spawn", CPid()))
+        return _pid(self._give(lib.pt_spawn, CPid()))
 
     def spawn_child(self, parent: Pid, linked: bool = False) -> Pid:
         """Makes a process that its parent bears, linked with it where that is asked."""
-        return _pid(self._give("spawn_child", CPid(), CPid(*parent), linked))
+        return _pid(self._give(lib.pt_spawn_child, CPid(), _c_pid("parent", parent), flag("linked", linked)))
 
     def send(self, sender: Pid, to: Pid, body: Body) -> None:
         """Sends a message."""
-        who = CPid(*body.who) if body.who is not None else CPid()
-        self._must("send", CPid(*sender), CPid(*to), CBody(body.kind, body.num, body.who is not None, who))
+        self._must(lib.pt_send, _c_pid("sender", sender), _c_pid("to", to), _c_body("body", body))
 
     def exit_signal(self, sender: Pid, to: Pid, reason: Reason) -> None:
         """Sends an exit signal that no link carries."""
-        self._must("exit_signal", CPid(*sender), CPid(*to), _c_reason(reason))
+        self._must(lib.pt_exit_signal, _c_pid("sender", sender), _c_pid("to", to), _c_reason("reason", reason))
 
     def link(self, p: Pid, to: Pid) -> None:
         """Links p with another process."""
-        self._must("link", CPid(*p), CPid(*to))
+        self._must(lib.pt_link, _c_pid("p", p), _c_pid("to", to))
 
     def unlink(self, p: Pid, to: Pid) -> None:
         """Takes the link of p with another process back."""
-        self._must("unlink", CPid(*p), CPid(*to))
+        self._must(lib.pt_unlink, _c_pid("p", p), _c_pid("to", to))
 
     def monitor(self, watcher: Pid, target: Pid) -> Ref:
         """Watches another process, and answers the reference that its DOWN will have."""
-        return _ref(self._give("monitor", CRef(), CPid(*watcher), CPid(*target)))
+        return _ref(self._give(lib.pt_monitor, CRef(), _c_pid("watcher", watcher), _c_pid("target", target)))
 
     def demonitor(self, watcher: Pid, monitor: Ref, flush: bool = False) -> bool:
         """Gives a monitor up, and answers whether it wrote an event; `flush` takes a DOWN that waits."""
-        return self._give("demonitor", c.c_bool(), CPid(*watcher), CRef(*monitor), flush).value
+        return self._give(lib.pt_demonitor, c.c_bool(), _c_pid("watcher", watcher), _c_ref("monitor", monitor),
+                          flag("flush", flush)).value
 
     def ask_alive(self, p: Pid, target: Pid) -> Ref:
         """Asks whether another process is alive, and answers the reference that the answer will have."""
-        return _ref(self._give("ask_alive", CRef(), CPid(*p), CPid(*target)))
+        return _ref(self._give(lib.pt_ask_alive, CRef(), _c_pid("p", p), _c_pid("target", target)))
 
     def trap(self, p: Pid, on: bool = True) -> bool:
         """Sets whether p traps exits, and answers whether it did."""
-        return self._give("trap", c.c_bool(), CPid(*p), on).value
+        return self._give(lib.pt_trap, c.c_bool(), _c_pid("p", p), flag("on", on)).value
 
     def receive(self, p: Pid, pick: Pick = ANY) -> Optional[Item]:
         """Takes the first item that fits out of the mailbox of p, where one does."""
-        out = self._find("receive", CItem(), CPid(*p), _c_pick(pick))
+        out = self._find(lib.pt_receive, CItem(), _c_pid("p", p), _c_pick("pick", pick))
         return None if out is None else _item(out)
 
     def exit(self, p: Pid, reason: Reason = NORMAL) -> None:
         """Ends p."""
-        self._must("exit", CPid(*p), _c_reason(reason))
+        self._must(lib.pt_exit, _c_pid("p", p), _c_reason("reason", reason))
 
     def turn(self, budget: int = 64) -> Turned:
         """Posts the letters that wait, and then handles at most `budget`."""
-        out = self._give("turn", CTurned(), budget)
-        return Turned(out.posted, out.handled, Code(out.stopped) if out.stopped else None)
+        out = self._give(lib.pt_turn, CTurned(), number("budget", budget, 0, U32))
+        return unchecked(Turned, (out.posted, out.handled, Code(out.stopped) if out.stopped else None))
 
     def clock(self) -> int:
         """The stamp of the newest event, or the start of the clock."""
-        return self._give("clock", c.c_uint64()).value
+        return self._give(lib.pt_clock, c.c_uint64()).value
 
     def alive(self, p: Pid) -> bool:
         """Whether p lives here."""
-        return self._give("alive", c.c_bool(), CPid(*p)).value
+        return self._give(lib.pt_alive, c.c_bool(), _c_pid("p", p)).value
 
     def knows(self, p: Pid) -> bool:
         """Whether p may be the target of a call."""
-        return self._give("knows", c.c_bool(), CPid(*p)).value
+        return self._give(lib.pt_knows, c.c_bool(), _c_pid("p", p)).value
 
     def pending(self) -> int:
         """How many letters wait in the outbox and the hold."""
-        return self._give("pending", c.c_uint64()).value
+        return self._give(lib.pt_pending, c.c_uint64()).value
 
     def vacant(self) -> Optional[Pid]:
         """The pid that the next birth has, or None where no slot is free."""
-        out = self._find("vacant", CPid())
+        out = self._find(lib.pt_vacant, CPid())
         return None if out is None else _pid(out)
 
     def waiting(self, p: Pid) -> Optional[list[Item]]:
         """The items that wait in the mailbox of p, oldest first, or None where it does not live here."""
-        count = self._find("waiting", c.c_size_t(), CPid(*p))
+        process = _c_pid("p", p)
+        count = self._find(lib.pt_waiting, c.c_size_t(), process)
         if count is None:
             return None
-        return [_item(self._give("peek", CItem(), CPid(*p), place)) for place in range(count.value)]
+        return [_item(self._give(lib.pt_peek, CItem(), process, place)) for place in range(count.value)]
 
     def linked(self, p: Pid, peer: Pid) -> Optional[Ids]:
         """The ids under which p is linked with another process, by p's own half of the link."""
-        out = self._find("linked", CIds(), CPid(*p), CPid(*peer))
+        out = self._find(lib.pt_linked, CIds(), _c_pid("p", p), _c_pid("peer", peer))
         return None if out is None else _ids(out)
 
     def event_count(self) -> int:
         """How many events the journal has."""
-        return self._give("event_count", c.c_size_t()).value
+        return self._give(lib.pt_event_count, c.c_size_t()).value
 
     def events(self, start: int = 0) -> Iterator[Event]:
         """The events of the journal from this place on, oldest first."""
-        return self._each("event_at", CEvent, _event, start)
+        return self._each(lib.pt_event_at, CEvent, _event, number("start", start, 0, U64))
 
     def woken(self, start: int) -> tuple[list[Pid], int]:
         """The processes to which a signal came, or that left, from the event at this place on, and the place from
         which to ask again. Nobody who got an item or ended is missed; a signal may queue nothing, as a link."""
-        at, pids = c.c_size_t(start), []
-        while (out := self._find("next_woken", CPid(), c.byref(at))) is not None:
+        at, pids = c.c_size_t(number("start", start, 0, U64)), []
+        while (out := self._find(lib.pt_next_woken, CPid(), c.byref(at))) is not None:
             pids.append(_pid(out))
         return pids, at.value
 
@@ -584,20 +416,20 @@ class History(_Held):
     _give_up = "pt_history_give_up"
 
     def __len__(self) -> int:
-        return self._give("history_count", c.c_size_t()).value
+        return self._give(lib.pt_history_count, c.c_size_t()).value
 
     def events(self) -> Iterator[Event]:
         """The events, the first one first."""
-        return self._each("history_at", CEvent, _event)
+        return self._each(lib.pt_history_at, CEvent, _event)
 
     def left_over(self) -> Iterator[LeftOver]:
         """The letters left over, by sending desk, then by receiving desk."""
-        return self._each("history_left_at", CLeftOver, _left_over)
+        return self._each(lib.pt_history_left_at, CLeftOver, _left_over)
 
 
-def _history(held: _Held, name: str) -> History:
+def _history(held: _Held, call: Callable[..., int]) -> History:
     history = History()
-    held._must(name, c.byref(history._handle))
+    held._must(call, history._at)
     return history
 
 
@@ -612,18 +444,18 @@ class Gathered(_Held):
 
     def desks(self) -> int:
         """How many desks the node has."""
-        return self._give("gathered_desks", c.c_uint8()).value
+        return self._give(lib.pt_gathered_desks, c.c_uint8()).value
 
     def history(self) -> History:
         """The events of all desks in one legal order, and the letters left over."""
-        return _history(self, "gathered_history")
+        return _history(self, lib.pt_gathered_history)
 
     def settle(self) -> Quiet:
         """Brings the letters left over to their receivers; this value is empty then."""
         quiet = Quiet()
-        code = self._call("settle", c.byref(quiet._handle))
+        code = lib.pt_settle(self._at, quiet._at)
         if code:
-            raise Unsettled(code)
+            raise Unsettled(Code(code))
         return quiet
 
 
@@ -634,11 +466,11 @@ class Quiet(_Held):
 
     def history(self) -> History:
         """The events of all desks in one legal order."""
-        return _history(self, "quiet_history")
+        return _history(self, lib.pt_quiet_history)
 
     def desks(self) -> int:
         """How many desks the node has."""
-        return self._give("quiet_desks", c.c_uint8()).value
+        return self._give(lib.pt_quiet_desks, c.c_uint8()).value
 
     def resume(self) -> list[Desk]:
         """Goes on from the node: its desks, in order, with empty journals over what was left behind; this value is
@@ -646,50 +478,55 @@ class Quiet(_Held):
         versions go on. Take the history before, where it is to be kept. Where there is no memory, this value is as it
         was."""
         handles = (CHandle * self.desks())()
-        self._must("resume", handles, len(handles))
+        self._must(lib.pt_resume, handles, len(handles))
         return _desks_of(handles)
 
     def handled(self) -> int:
         """How many letters settling handled."""
-        return self._give("quiet_handled", c.c_uint64()).value
+        return self._give(lib.pt_quiet_handled, c.c_uint64()).value
 
     def pids(self) -> Iterator[Pid]:
         """The pids of all processes that were ever born, by shard, slot and version."""
-        return self._each("quiet_pid_at", CPid, _pid)
+        return self._each(lib.pt_quiet_pid_at, CPid, _pid)
 
     def account(self, p: Pid) -> Optional[Account]:
         """What became of p, or None where it was never born."""
-        out = self._find("quiet_account", CAccount(), CPid(*p))
+        out = self._find(lib.pt_quiet_account, CAccount(), _c_pid("p", p))
         if out is None:
             return None
-        return Account(_reason(out.ended) if out.has_ended else None, out.arrived, out.taken, out.waiting)
+        ended = _reason(out.ended) if out.has_ended else None
+        return unchecked(Account, (ended, out.arrived, out.taken, out.waiting))
 
     def linked(self, p: Pid, peer: Pid) -> Optional[Ids]:
         """The ids under which p is linked with another process, or was just after its own end."""
-        out = self._find("quiet_linked", CIds(), CPid(*p), CPid(*peer))
+        out = self._find(lib.pt_quiet_linked, CIds(), _c_pid("p", p), _c_pid("peer", peer))
         return None if out is None else _ids(out)
 
     def kept(self, target: Pid, monitor: Ref) -> bool:
         """Whether a process keeps a watch of this reference, or did just after its own end."""
-        return self._give("quiet_kept", c.c_bool(), CPid(*target), CRef(*monitor)).value
+        return self._give(lib.pt_quiet_kept, c.c_bool(), _c_pid("target", target), _c_ref("monitor", monitor)).value
 
     def watching(self, watcher: Pid, monitor: Ref) -> bool:
         """Whether a process's monitor of this reference is open."""
-        return self._give("quiet_watching", c.c_bool(), CPid(*watcher), CRef(*monitor)).value
+        return self._give(lib.pt_quiet_watching, c.c_bool(), _c_pid("watcher", watcher),
+                          _c_ref("monitor", monitor)).value
 
 
-def _desks_of(handles) -> list[Desk]:
+def _desks_of(handles: c.Array[CHandle]) -> list[Desk]:
     """The desks of a new node, each with one of these handles."""
     node = object()
-    return [Desk(handle.at, node, number, len(handles)) for number, handle in enumerate(handles)]
+    return [Desk(handle, node, number, len(handles)) for number, handle in enumerate(handles)]
 
 
 def open_node(count: int = 1, config: Config = Config()) -> list[Desk]:
-    """Opens a node: its desks, in order, on which nothing has happened."""
+    """Opens a node: its desks, in order, on which nothing has happened. A count or a setting out of the table's own
+    range is a Fault, as BAD_DESKS or BAD_SLOTS; a count that no desk's number can have is a ValueError."""
+    count = number("count", count, 0, U8)
+    settings = CConfig(*_own("config", config, Config))
     handles = (CHandle * count)()
-    code = Code(lib.pt_open(handles, count, CConfig(*config)))
+    code = lib.pt_open(handles, count, settings)
     if code:
-        raise Fault(code)
+        raise Fault(Code(code))
     return _desks_of(handles)
 
 
@@ -698,15 +535,20 @@ def gather(desks: Sequence[Desk]) -> Gathered:
 
     Raises ValueError where they are not that, and Fault where there is no memory; then they are as they were.
     """
+    try:
+        given = iter(desks)
+    except TypeError:
+        raise TypeError(f"desks is {shown(desks)}, and must be a sequence of type Desk") from None
+    desks = [of_type(f"desks[{place}]", desk, Desk) for place, desk in enumerate(given)]
     whole = bool(desks) and len(desks) == desks[0]._count and all(
         desk._node is desks[0]._node and desk.number == number for number, desk in enumerate(desks))
     if not whole:
-        raise ValueError("these are not all desks of one node in order")
+        raise ValueError("desks are not all desks of one node in order")
     handles = (CHandle * len(desks))(*(desk._handle for desk in desks))
     gathered = Gathered()
-    code = Code(lib.pt_gather(handles, len(desks), c.byref(gathered._handle)))
+    code = lib.pt_gather(handles, len(desks), gathered._at)
     for desk, handle in zip(desks, handles):
-        desk._handle = CHandle(handle.at)
+        desk._handle.at = handle.at
     if code:
-        raise Fault(code)
+        raise Fault(Code(code))
     return gathered

@@ -1,14 +1,14 @@
 //! The proved process table of Pundewo, from safe Rust.
 //!
 //! A node is a set of [`Desk`]s. Each holds processes, keeps a journal of what happened on it, and belongs to one
-//! thread at a time: it is `Send`, and each call takes it by `&mut`. Signals travel between desks as letters, which a
-//! [`turn`](Desk::turn) posts and handles. In the end [`gather`] brings all desks together, and
-//! [`settle`](Gathered::settle) the letters that are left over to their receivers.
+//! thread at a time: each call that changes it takes it by `&mut`, and one that reads it by `&`. Signals travel between
+//! desks as letters, which a [`turn`](Desk::turn) posts and handles. In the end [`gather`] brings all desks together,
+//! and [`settle`](Gathered::settle) the letters that are left over to their receivers.
 //!
 //! ```
 //! use pundewo::{Body, Config, Item, Pick, gather, open};
 //!
-//! let mut desks = open(2, Config { slots: 8, top_version: 100, lane: 16, start: 0 })?;
+//! let mut desks = open(2, Config::default())?;
 //! let (here, there) = (desks[0].spawn()?, desks[1].spawn()?);
 //! desks[0].send(here, there, Body { kind: 1, num: 7, who: None })?;
 //! desks[0].turn(16);
@@ -16,7 +16,7 @@
 //! let item = desks[1].receive(there, Pick::Kind(1))?;
 //! assert_eq!(item, Some(Item::User(here, Body { kind: 1, num: 7, who: None })));
 //! let quiet = gather(desks).map_err(|back| back.fault)?.settle().map_err(|back| back.fault)?;
-//! let mut history = quiet.history()?;
+//! let history = quiet.history()?;
 //! assert_eq!(history.events().last().unwrap().to_string(), "4@1 took <1.0.1> kind 1 = user <0.0.1> 1 7");
 //! # Ok::<(), pundewo::Fault>(())
 //! ```
@@ -25,35 +25,63 @@
 //!
 //! Of each function of the library, that it does what the table's own call does, and that a refusal changes nothing.
 //! Nothing checks a Rust call against that contract: each function here meets what the one that it calls asks of its
-//! caller. Handles begin empty, are never copied, and are lent to one call at a time, since they are private and each
-//! call has `&mut`; [`gather`] tests that it has all desks of one [`open`] or one [`resume`](Quiet::resume), each once
-//! and in order.
+//! caller. Handles begin empty, are never copied, and are lent to one call at a time: they are private, a call that
+//! changes has `&mut`, and a reader locks the handle while it reads. [`gather`] tests that it has all desks of one
+//! [`open`] or one [`resume`](Quiet::resume), each once and in order.
 //!
-//! A desk is shared by no two threads:
+//! So all types are `Send` and `Sync`, errors too. Two threads cannot change one desk at the same time:
 //!
-//! ```compile_fail
-//! fn shared<T: Sync>() {}
-//! shared::<pundewo::Desk>();
+//! ```compile_fail,E0499
+//! let mut desks = pundewo::open(1, pundewo::Config::default()).unwrap();
+//! std::thread::scope(|threads| {
+//!     threads.spawn(|| desks[0].turn(1));
+//!     threads.spawn(|| desks[0].turn(1));
+//! });
 //! ```
+
+#![deny(missing_debug_implementations)]
 
 #[doc(hidden)]
 pub mod raw;
 mod values;
 
 pub use values::{
-    Account, Body, Config, Event, Fault, Happened, Ids, Item, LeftOver, LinkId, Pick, Pid, Reason, Ref, Signal, Turned,
+    Account, Body, Config, Event, Fault, Happened, Ids, Item, LeftOver, LinkId, NotRead, Pick, Pid, Reason, Ref, Signal,
+    Turned,
 };
 
 use raw::{Handle, RawAccount, RawEvent, RawIds, RawItem, RawLeftOver, RawRef, RawTurned};
-use std::cell::RefCell;
 use std::fmt;
 use std::ptr::null_mut;
 use std::sync::atomic::{AtomicU64, Ordering};
+use std::sync::{Mutex, MutexGuard, PoisonError};
 
 const OK: u32 = 0;
 const NOTHING: u32 = 8;
 
 const NONE: Handle = Handle { at: null_mut() };
+
+/// The handle of a value, for one call at a time.
+struct Held(Mutex<Handle>);
+
+impl Held {
+    fn new(handle: Handle) -> Held {
+        Held(Mutex::new(handle))
+    }
+
+    /// The handle, for a call that changes what it has, and without a lock.
+    // (a call that panicked has left the handle as the library wrote it)
+    #[inline]
+    fn own(&mut self) -> &mut Handle {
+        self.0.get_mut().unwrap_or_else(PoisonError::into_inner)
+    }
+
+    /// The handle, for a call that reads. The lock takes some 16 nanoseconds.
+    #[inline]
+    fn lent(&self) -> MutexGuard<'_, Handle> {
+        self.0.lock().unwrap_or_else(PoisonError::into_inner)
+    }
+}
 
 /// The fault of a code. A handle of this crate is never empty where it is called, and never full where it is filled.
 // Cold, so that an inlined call that succeeds costs its caller one test.
@@ -94,19 +122,16 @@ fn found<T>(code: u32, value: T) -> Option<T> {
 /// A desk of a node. Dropped, it is given up, with its processes and its journal.
 pub struct Desk {
     // from `open` on it has a desk, until it is dropped or gathered
-    handle: Handle,
+    handle: Held,
     node: u64,
     number: u8,
     count: usize,
 }
 
-// SAFETY: the library proves that the handle's type is `Send`.
-unsafe impl Send for Desk {}
-
 impl Drop for Desk {
     fn drop(&mut self) {
         // SAFETY: the handle is the only one of its desk, or empty, which is answered by a code.
-        unsafe { raw::pt_give_up(&mut self.handle) };
+        unsafe { raw::pt_give_up(self.handle.own()) };
     }
 }
 
@@ -120,11 +145,16 @@ impl fmt::Debug for Desk {
 fn desks_of(handles: Vec<Handle>) -> Vec<Desk> {
     static NODES: AtomicU64 = AtomicU64::new(0);
     let (node, count) = (NODES.fetch_add(1, Ordering::Relaxed), handles.len());
-    handles.into_iter().zip(0..).map(|(handle, number)| Desk { handle, node, number, count }).collect()
+    let desk_of = |(handle, number)| Desk { handle: Held::new(handle), node, number, count };
+    handles.into_iter().zip(0..).map(desk_of).collect()
 }
 
 /// Opens a node: its desks, in order, on which nothing has happened.
 pub fn open(count: usize, config: Config) -> Result<Vec<Desk>, Fault> {
+    // (so many that no desk's number counts them would need memory for their handles first)
+    if count > usize::from(u8::MAX) {
+        return Err(Fault::BadDesks);
+    }
     let mut handles: Vec<Handle> = (0..count).map(|_| NONE).collect();
     // SAFETY: the handles are empty, and as many as are told.
     told(unsafe { raw::pt_open(handles.as_mut_ptr(), count, config) })?;
@@ -156,21 +186,21 @@ pub fn gather(mut desks: Vec<Desk>) -> Result<Gathered, DesksBack> {
     if !whole {
         return Err(DesksBack { fault: Fault::NotOneNode, desks });
     }
-    let mut handles: Vec<Handle> = desks.iter_mut().map(|desk| std::mem::replace(&mut desk.handle, NONE)).collect();
+    let mut handles: Vec<Handle> = desks.iter_mut().map(|desk| std::mem::replace(desk.handle.own(), NONE)).collect();
     let mut handle = NONE;
     // SAFETY: these are all desks of one node, each once and in order, and the handle of the node is empty.
     let code = unsafe { raw::pt_gather(handles.as_mut_ptr(), handles.len(), &mut handle) };
     if code == OK {
-        return Ok(Gathered { handle });
+        return Ok(Gathered { handle: Held::new(handle) });
     }
     for (desk, handle) in desks.iter_mut().zip(handles) {
-        desk.handle = handle;
+        *desk.handle.own() = handle;
     }
     Err(DesksBack { fault: fault_of(code), desks })
 }
 
-// SAFETY of the calls below: the handle is the only one of what it has, and lent by `&mut`; the references are to
-// separate values.
+// SAFETY of the calls below: the handle is the only one of what it has, and this call alone has it, by `&mut self` or
+// by its lock; the references are to separate values.
 impl Desk {
     /// The number of the desk in its node.
     #[inline]
@@ -182,7 +212,7 @@ impl Desk {
     #[inline]
     pub fn spawn(&mut self) -> Result<Pid, Fault> {
         let mut out = Pid::default();
-        told(unsafe { raw::pt_spawn(&mut self.handle, &mut out) })?;
+        told(unsafe { raw::pt_spawn(self.handle.own(), &mut out) })?;
         Ok(out)
     }
 
@@ -190,39 +220,39 @@ impl Desk {
     #[inline]
     pub fn spawn_child(&mut self, parent: Pid, linked: bool) -> Result<Pid, Fault> {
         let mut out = Pid::default();
-        told(unsafe { raw::pt_spawn_child(&mut self.handle, parent, linked, &mut out) })?;
+        told(unsafe { raw::pt_spawn_child(self.handle.own(), parent, linked, &mut out) })?;
         Ok(out)
     }
 
     /// Sends a message.
     #[inline]
     pub fn send(&mut self, from: Pid, to: Pid, body: Body) -> Result<(), Fault> {
-        told(unsafe { raw::pt_send(&mut self.handle, from, to, body.into()) })
+        told(unsafe { raw::pt_send(self.handle.own(), from, to, body.into()) })
     }
 
     /// Sends an exit signal that no link carries.
     #[inline]
     pub fn exit_signal(&mut self, from: Pid, to: Pid, reason: Reason) -> Result<(), Fault> {
-        told(unsafe { raw::pt_exit_signal(&mut self.handle, from, to, reason.into()) })
+        told(unsafe { raw::pt_exit_signal(self.handle.own(), from, to, reason.into()) })
     }
 
     /// Links p with another process.
     #[inline]
     pub fn link(&mut self, p: Pid, to: Pid) -> Result<(), Fault> {
-        told(unsafe { raw::pt_link(&mut self.handle, p, to) })
+        told(unsafe { raw::pt_link(self.handle.own(), p, to) })
     }
 
     /// Takes the link of p with another process back.
     #[inline]
     pub fn unlink(&mut self, p: Pid, to: Pid) -> Result<(), Fault> {
-        told(unsafe { raw::pt_unlink(&mut self.handle, p, to) })
+        told(unsafe { raw::pt_unlink(self.handle.own(), p, to) })
     }
 
     /// Watches another process, and answers the reference that its DOWN will have.
     #[inline]
     pub fn monitor(&mut self, watcher: Pid, target: Pid) -> Result<Ref, Fault> {
         let mut out = RawRef::default();
-        told(unsafe { raw::pt_monitor(&mut self.handle, watcher, target, &mut out) })?;
+        told(unsafe { raw::pt_monitor(self.handle.own(), watcher, target, &mut out) })?;
         Ok(out.into())
     }
 
@@ -230,7 +260,7 @@ impl Desk {
     #[inline]
     pub fn demonitor(&mut self, watcher: Pid, monitor: Ref, flush: bool) -> Result<bool, Fault> {
         let mut wrote = false;
-        told(unsafe { raw::pt_demonitor(&mut self.handle, watcher, monitor.into(), flush, &mut wrote) })?;
+        told(unsafe { raw::pt_demonitor(self.handle.own(), watcher, monitor.into(), flush, &mut wrote) })?;
         Ok(wrote)
     }
 
@@ -238,7 +268,7 @@ impl Desk {
     #[inline]
     pub fn ask_alive(&mut self, p: Pid, target: Pid) -> Result<Ref, Fault> {
         let mut out = RawRef::default();
-        told(unsafe { raw::pt_ask_alive(&mut self.handle, p, target, &mut out) })?;
+        told(unsafe { raw::pt_ask_alive(self.handle.own(), p, target, &mut out) })?;
         Ok(out.into())
     }
 
@@ -246,7 +276,7 @@ impl Desk {
     #[inline]
     pub fn trap(&mut self, p: Pid, on: bool) -> Result<bool, Fault> {
         let mut was = false;
-        told(unsafe { raw::pt_trap(&mut self.handle, p, on, &mut was) })?;
+        told(unsafe { raw::pt_trap(self.handle.own(), p, on, &mut was) })?;
         Ok(was)
     }
 
@@ -254,7 +284,7 @@ impl Desk {
     #[inline]
     pub fn receive(&mut self, p: Pid, pick: Pick) -> Result<Option<Item>, Fault> {
         let mut out = RawItem::default();
-        match unsafe { raw::pt_receive(&mut self.handle, p, pick.into(), &mut out) } {
+        match unsafe { raw::pt_receive(self.handle.own(), p, pick.into(), &mut out) } {
             OK => Ok(Some(out.into())),
             NOTHING => Ok(None),
             code => Err(fault_of(code)),
@@ -264,67 +294,67 @@ impl Desk {
     /// Ends p.
     #[inline]
     pub fn exit(&mut self, p: Pid, reason: Reason) -> Result<(), Fault> {
-        told(unsafe { raw::pt_exit(&mut self.handle, p, reason.into()) })
+        told(unsafe { raw::pt_exit(self.handle.own(), p, reason.into()) })
     }
 
     /// Posts the letters that wait, and then handles at most `budget`.
     #[inline]
     pub fn turn(&mut self, budget: u32) -> Turned {
         let mut out = RawTurned::default();
-        unsafe { raw::pt_turn(&mut self.handle, budget, &mut out) };
+        unsafe { raw::pt_turn(self.handle.own(), budget, &mut out) };
         let stopped = (out.stopped != OK).then(|| fault_of(out.stopped));
         Turned { posted: out.posted, handled: out.handled, stopped }
     }
 
     /// The stamp of the newest event, or the start of the clock.
     #[inline]
-    pub fn clock(&mut self) -> u64 {
+    pub fn clock(&self) -> u64 {
         let mut out = 0;
-        unsafe { raw::pt_clock(&mut self.handle, &mut out) };
+        unsafe { raw::pt_clock(&mut self.handle.lent(), &mut out) };
         out
     }
 
     /// Whether p lives here.
     #[inline]
-    pub fn alive(&mut self, p: Pid) -> bool {
+    pub fn alive(&self, p: Pid) -> bool {
         let mut out = false;
-        unsafe { raw::pt_alive(&mut self.handle, p, &mut out) };
+        unsafe { raw::pt_alive(&mut self.handle.lent(), p, &mut out) };
         out
     }
 
     /// Whether p may be the target of a call.
     #[inline]
-    pub fn knows(&mut self, p: Pid) -> bool {
+    pub fn knows(&self, p: Pid) -> bool {
         let mut out = false;
-        unsafe { raw::pt_knows(&mut self.handle, p, &mut out) };
+        unsafe { raw::pt_knows(&mut self.handle.lent(), p, &mut out) };
         out
     }
 
     /// How many letters wait in the outbox and the hold.
     #[inline]
-    pub fn pending(&mut self) -> u64 {
+    pub fn pending(&self) -> u64 {
         let mut out = 0;
-        unsafe { raw::pt_pending(&mut self.handle, &mut out) };
+        unsafe { raw::pt_pending(&mut self.handle.lent(), &mut out) };
         out
     }
 
     /// The pid that the next birth has, or `None` where no slot is free.
     #[inline]
-    pub fn vacant(&mut self) -> Option<Pid> {
+    pub fn vacant(&self) -> Option<Pid> {
         let mut out = Pid::default();
-        let code = unsafe { raw::pt_vacant(&mut self.handle, &mut out) };
+        let code = unsafe { raw::pt_vacant(&mut self.handle.lent(), &mut out) };
         found(code, out)
     }
 
     /// The items that wait in the mailbox of p, oldest first, or `None` where it does not live here.
     #[inline]
-    pub fn waiting(&mut self, p: Pid) -> Option<impl Iterator<Item = Item> + '_> {
+    pub fn waiting(&self, p: Pid) -> Option<impl Iterator<Item = Item> + '_> {
         let mut count = 0;
-        let code = unsafe { raw::pt_waiting(&mut self.handle, p, &mut count) };
+        let code = unsafe { raw::pt_waiting(&mut self.handle.lent(), p, &mut count) };
         found(code, count).map(|count| {
             (0..count).map_while(move |place| {
                 let mut out = RawItem::default();
-                let code = unsafe { raw::pt_peek(&mut self.handle, p, place, &mut out) };
+                let code = unsafe { raw::pt_peek(&mut self.handle.lent(), p, place, &mut out) };
                 found(code, out.into())
             })
         })
@@ -332,81 +362,94 @@ impl Desk {
 
     /// The ids under which p is linked with another process, by p's own half of the link.
     #[inline]
-    pub fn linked(&mut self, p: Pid, peer: Pid) -> Option<Ids> {
+    pub fn linked(&self, p: Pid, peer: Pid) -> Option<Ids> {
         let mut out = RawIds::default();
-        let code = unsafe { raw::pt_linked(&mut self.handle, p, peer, &mut out) };
+        let code = unsafe { raw::pt_linked(&mut self.handle.lent(), p, peer, &mut out) };
         found(code, out.into())
     }
 
     /// How many events the journal has.
     #[inline]
-    pub fn event_count(&mut self) -> usize {
+    pub fn event_count(&self) -> usize {
         let mut out = 0;
-        unsafe { raw::pt_event_count(&mut self.handle, &mut out) };
+        unsafe { raw::pt_event_count(&mut self.handle.lent(), &mut out) };
         out
     }
 
     /// The events of the journal from this place on, oldest first.
     #[inline]
-    pub fn events(&mut self, from: usize) -> impl Iterator<Item = Event> + '_ {
+    pub fn events(&self, from: usize) -> impl Iterator<Item = Event> + '_ {
         (from..).map_while(move |place| {
             let mut out = RawEvent::default();
-            let code = unsafe { raw::pt_event_at(&mut self.handle, place, &mut out) };
+            let code = unsafe { raw::pt_event_at(&mut self.handle.lent(), place, &mut out) };
             found(code, out.into())
         })
     }
 
     /// The next process to which a signal came, or that left, from the event at place `at` on, which is then behind
     /// that event. Nobody who got an item or ended is missed; a signal may queue nothing, as a link.
+    // (a scheduler calls this for each event, with the desk for itself: so without a lock)
     #[inline]
     pub fn next_woken(&mut self, at: &mut usize) -> Option<Pid> {
         let mut out = Pid::default();
-        let code = unsafe { raw::pt_next_woken(&mut self.handle, at, &mut out) };
+        let code = unsafe { raw::pt_next_woken(self.handle.own(), at, &mut out) };
         found(code, out)
     }
 }
 
 /// The desks of a node at rest, and the letters left over. Dropped, it is given up.
 pub struct Gathered {
-    handle: Handle,
+    handle: Held,
 }
 
-// SAFETY: the library proves that the handle's type is `Send`.
-unsafe impl Send for Gathered {}
-
-impl Drop for Gathered {
-    fn drop(&mut self) {
-        unsafe { raw::pt_gathered_give_up(&mut self.handle) };
+impl fmt::Debug for Gathered {
+    fn fmt(&self, f: &mut fmt::Formatter<'_>) -> fmt::Result {
+        f.write_str("Gathered { .. }")
     }
 }
 
-/// A node that was not settled, with what was handled so far.
+impl Drop for Gathered {
+    fn drop(&mut self) {
+        unsafe { raw::pt_gathered_give_up(self.handle.own()) };
+    }
+}
+
+/// A node that was not settled, with what was handled so far, and why. It may be settled again.
+#[derive(Debug)]
 pub struct Unsettled {
     pub fault: Fault,
     pub gathered: Gathered,
 }
 
+impl fmt::Display for Unsettled {
+    fn fmt(&self, f: &mut fmt::Formatter<'_>) -> fmt::Result {
+        write!(f, "the node is not settled: {}", self.fault)
+    }
+}
+
+impl std::error::Error for Unsettled {}
+
 impl Gathered {
     /// How many desks the node has.
     #[inline]
-    pub fn desks(&mut self) -> u8 {
+    pub fn desks(&self) -> u8 {
         let mut out = 0;
-        unsafe { raw::pt_gathered_desks(&mut self.handle, &mut out) };
+        unsafe { raw::pt_gathered_desks(&mut self.handle.lent(), &mut out) };
         out
     }
 
     /// The events of all desks in one legal order, and the letters left over.
-    pub fn history(&mut self) -> Result<History, Fault> {
+    pub fn history(&self) -> Result<History, Fault> {
         let mut handle = NONE;
-        told(unsafe { raw::pt_gathered_history(&mut self.handle, &mut handle) })?;
-        Ok(History { handle })
+        told(unsafe { raw::pt_gathered_history(&mut self.handle.lent(), &mut handle) })?;
+        Ok(History { handle: Held::new(handle) })
     }
 
     /// Brings the letters left over to their receivers, until there are none.
     pub fn settle(mut self) -> Result<Quiet, Unsettled> {
         let mut handle = NONE;
-        match unsafe { raw::pt_settle(&mut self.handle, &mut handle) } {
-            OK => Ok(Quiet { handle: RefCell::new(handle) }),
+        match unsafe { raw::pt_settle(self.handle.own(), &mut handle) } {
+            OK => Ok(Quiet { handle: Held::new(handle) }),
             code => Err(Unsettled { fault: fault_of(code), gathered: self }),
         }
     }
@@ -414,28 +457,26 @@ impl Gathered {
 
 /// A node in which no letter is left over. Dropped, it is given up.
 pub struct Quiet {
-    handle: RefCell<Handle>,
+    handle: Held,
 }
 
-// SAFETY: the library proves that the handle's type is `Send`.
-unsafe impl Send for Quiet {}
+impl fmt::Debug for Quiet {
+    fn fmt(&self, f: &mut fmt::Formatter<'_>) -> fmt::Result {
+        f.write_str("Quiet { .. }")
+    }
+}
 
 impl Drop for Quiet {
     fn drop(&mut self) {
-        unsafe { raw::pt_quiet_give_up(self.handle.get_mut()) };
+        unsafe { raw::pt_quiet_give_up(self.handle.own()) };
     }
 }
 
 /// A settled node that has not gone on, as it was, and why.
+#[derive(Debug)]
 pub struct Resting {
     pub fault: Fault,
     pub quiet: Quiet,
-}
-
-impl fmt::Debug for Resting {
-    fn fmt(&self, f: &mut fmt::Formatter<'_>) -> fmt::Result {
-        write!(f, "Resting {{ fault: {:?}, .. }}", self.fault)
-    }
 }
 
 impl fmt::Display for Resting {
@@ -450,15 +491,15 @@ impl Quiet {
     /// The events of all desks in one legal order.
     pub fn history(&self) -> Result<History, Fault> {
         let mut handle = NONE;
-        told(unsafe { raw::pt_quiet_history(&mut self.handle.borrow_mut(), &mut handle) })?;
-        Ok(History { handle })
+        told(unsafe { raw::pt_quiet_history(&mut self.handle.lent(), &mut handle) })?;
+        Ok(History { handle: Held::new(handle) })
     }
 
     /// How many desks the node has.
     #[inline]
     pub fn desks(&self) -> u8 {
         let mut out = 0;
-        unsafe { raw::pt_quiet_desks(&mut self.handle.borrow_mut(), &mut out) };
+        unsafe { raw::pt_quiet_desks(&mut self.handle.lent(), &mut out) };
         out
     }
 
@@ -485,7 +526,7 @@ impl Quiet {
         let count = usize::from(self.desks());
         let mut handles: Vec<Handle> = (0..count).map(|_| NONE).collect();
         // SAFETY: the handles are empty, and as many as are told.
-        match unsafe { raw::pt_resume(self.handle.get_mut(), handles.as_mut_ptr(), count) } {
+        match unsafe { raw::pt_resume(self.handle.own(), handles.as_mut_ptr(), count) } {
             OK => Ok(desks_of(handles)),
             code => Err(Resting { fault: fault_of(code), quiet: self }),
         }
@@ -495,7 +536,7 @@ impl Quiet {
     #[inline]
     pub fn handled(&self) -> u64 {
         let mut out = 0;
-        unsafe { raw::pt_quiet_handled(&mut self.handle.borrow_mut(), &mut out) };
+        unsafe { raw::pt_quiet_handled(&mut self.handle.lent(), &mut out) };
         out
     }
 
@@ -504,7 +545,7 @@ impl Quiet {
     pub fn pids(&self) -> impl Iterator<Item = Pid> + '_ {
         (0..).map_while(move |place| {
             let mut out = Pid::default();
-            let code = unsafe { raw::pt_quiet_pid_at(&mut self.handle.borrow_mut(), place, &mut out) };
+            let code = unsafe { raw::pt_quiet_pid_at(&mut self.handle.lent(), place, &mut out) };
             found(code, out)
         })
     }
@@ -513,7 +554,7 @@ impl Quiet {
     #[inline]
     pub fn account(&self, p: Pid) -> Option<Account> {
         let mut out = RawAccount::default();
-        let code = unsafe { raw::pt_quiet_account(&mut self.handle.borrow_mut(), p, &mut out) };
+        let code = unsafe { raw::pt_quiet_account(&mut self.handle.lent(), p, &mut out) };
         found(code, out.into())
     }
 
@@ -521,7 +562,7 @@ impl Quiet {
     #[inline]
     pub fn linked(&self, p: Pid, peer: Pid) -> Option<Ids> {
         let mut out = RawIds::default();
-        let code = unsafe { raw::pt_quiet_linked(&mut self.handle.borrow_mut(), p, peer, &mut out) };
+        let code = unsafe { raw::pt_quiet_linked(&mut self.handle.lent(), p, peer, &mut out) };
         found(code, out.into())
     }
 
@@ -529,7 +570,7 @@ impl Quiet {
     #[inline]
     pub fn kept(&self, target: Pid, monitor: Ref) -> bool {
         let mut out = false;
-        unsafe { raw::pt_quiet_kept(&mut self.handle.borrow_mut(), target, monitor.into(), &mut out) };
+        unsafe { raw::pt_quiet_kept(&mut self.handle.lent(), target, monitor.into(), &mut out) };
         out
     }
 
@@ -537,50 +578,53 @@ impl Quiet {
     #[inline]
     pub fn watching(&self, watcher: Pid, monitor: Ref) -> bool {
         let mut out = false;
-        unsafe { raw::pt_quiet_watching(&mut self.handle.borrow_mut(), watcher, monitor.into(), &mut out) };
+        unsafe { raw::pt_quiet_watching(&mut self.handle.lent(), watcher, monitor.into(), &mut out) };
         out
     }
 }
 
 /// The events of all desks of a node in one legal order, and the letters that are on their way at its end.
 pub struct History {
-    handle: Handle,
+    handle: Held,
 }
 
-// SAFETY: the library proves that the handle's type is `Send`.
-unsafe impl Send for History {}
+impl fmt::Debug for History {
+    fn fmt(&self, f: &mut fmt::Formatter<'_>) -> fmt::Result {
+        f.write_str("History { .. }")
+    }
+}
 
 impl Drop for History {
     fn drop(&mut self) {
-        unsafe { raw::pt_history_give_up(&mut self.handle) };
+        unsafe { raw::pt_history_give_up(self.handle.own()) };
     }
 }
 
 impl History {
     /// How many events it has.
     #[inline]
-    pub fn count(&mut self) -> usize {
+    pub fn count(&self) -> usize {
         let mut out = 0;
-        unsafe { raw::pt_history_count(&mut self.handle, &mut out) };
+        unsafe { raw::pt_history_count(&mut self.handle.lent(), &mut out) };
         out
     }
 
     /// The events, the first one first.
     #[inline]
-    pub fn events(&mut self) -> impl Iterator<Item = Event> + '_ {
+    pub fn events(&self) -> impl Iterator<Item = Event> + '_ {
         (0..).map_while(move |place| {
             let mut out = RawEvent::default();
-            let code = unsafe { raw::pt_history_at(&mut self.handle, place, &mut out) };
+            let code = unsafe { raw::pt_history_at(&mut self.handle.lent(), place, &mut out) };
             found(code, out.into())
         })
     }
 
     /// The letters left over, by sending desk, then by receiving desk.
     #[inline]
-    pub fn left_over(&mut self) -> impl Iterator<Item = LeftOver> + '_ {
+    pub fn left_over(&self) -> impl Iterator<Item = LeftOver> + '_ {
         (0..).map_while(move |place| {
             let mut out = RawLeftOver::default();
-            let code = unsafe { raw::pt_history_left_at(&mut self.handle, place, &mut out) };
+            let code = unsafe { raw::pt_history_left_at(&mut self.handle.lent(), place, &mut out) };
             found(code, out.into())
         })
     }

@@ -3,19 +3,23 @@
 use crate::{Config, Pid};
 
 #[repr(C)]
+#[derive(Debug)]
 pub struct Handle {
     pub at: *mut u8,
 }
 
+// SAFETY: the library proves that the type of each handle is `Send`.
+unsafe impl Send for Handle {}
+
 #[repr(C)]
-#[derive(Clone, Copy, Default)]
+#[derive(Clone, Copy, Debug, Default)]
 pub struct RawRef {
     pub desk: u8,
     pub number: u64,
 }
 
 #[repr(C)]
-#[derive(Clone, Copy, Default)]
+#[derive(Clone, Copy, Debug, Default)]
 pub struct RawIds {
     pub one: RawRef,
     pub has_two: bool,
@@ -23,14 +27,14 @@ pub struct RawIds {
 }
 
 #[repr(C)]
-#[derive(Clone, Copy, Default)]
+#[derive(Clone, Copy, Debug, Default)]
 pub struct RawReason {
     pub code: u32,
     pub number: u32,
 }
 
 #[repr(C)]
-#[derive(Clone, Copy, Default)]
+#[derive(Clone, Copy, Debug, Default)]
 pub struct RawBody {
     pub kind: u32,
     pub num: i64,
@@ -39,7 +43,7 @@ pub struct RawBody {
 }
 
 #[repr(C)]
-#[derive(Clone, Copy, Default)]
+#[derive(Clone, Copy, Debug, Default)]
 pub struct RawItem {
     pub code: u32,
     pub alive: bool,
@@ -50,7 +54,7 @@ pub struct RawItem {
 }
 
 #[repr(C)]
-#[derive(Clone, Copy, Default)]
+#[derive(Clone, Copy, Debug, Default)]
 pub struct RawPick {
     pub code: u32,
     pub kind: u32,
@@ -59,7 +63,7 @@ pub struct RawPick {
 }
 
 #[repr(C)]
-#[derive(Clone, Copy, Default)]
+#[derive(Clone, Copy, Debug, Default)]
 pub struct RawSignal {
     pub code: u32,
     pub alive: bool,
@@ -70,7 +74,7 @@ pub struct RawSignal {
 }
 
 #[repr(C)]
-#[derive(Clone, Copy, Default)]
+#[derive(Clone, Copy, Debug, Default)]
 pub struct RawEvent {
     pub stamp: u64,
     pub desk: u8,
@@ -88,7 +92,7 @@ pub struct RawEvent {
 }
 
 #[repr(C)]
-#[derive(Clone, Copy, Default)]
+#[derive(Clone, Copy, Debug, Default)]
 pub struct RawLeftOver {
     pub from_desk: u8,
     pub to_desk: u8,
@@ -99,7 +103,7 @@ pub struct RawLeftOver {
 }
 
 #[repr(C)]
-#[derive(Clone, Copy, Default)]
+#[derive(Clone, Copy, Debug, Default)]
 pub struct RawTurned {
     pub posted: u64,
     pub handled: u64,
@@ -107,7 +111,7 @@ pub struct RawTurned {
 }
 
 #[repr(C)]
-#[derive(Clone, Copy, Default)]
+#[derive(Clone, Copy, Debug, Default)]
 pub struct RawAccount {
     pub has_ended: bool,
     pub ended: RawReason,

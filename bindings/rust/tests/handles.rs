@@ -40,7 +40,9 @@ fn desks_before_and_after_a_resumption_are_of_two_nodes() {
 #[test]
 fn settings_out_of_range_are_told() {
     assert_eq!(open(0, CONFIG).err(), Some(Fault::BadDesks));
+    assert_eq!(open(65, CONFIG).err(), Some(Fault::BadDesks));
     assert_eq!(open(300, CONFIG).err(), Some(Fault::BadDesks));
+    assert_eq!(open(usize::MAX, CONFIG).err(), Some(Fault::BadDesks));
     assert_eq!(open(1, Config { slots: 0, ..CONFIG }).err(), Some(Fault::BadSlots));
     assert_eq!(open(1, Config { top_version: 0, ..CONFIG }).err(), Some(Fault::BadTopVersion));
     assert_eq!(open(1, Config { lane: 70_000, ..CONFIG }).err(), Some(Fault::BadLane));
