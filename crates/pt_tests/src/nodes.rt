@@ -32,8 +32,8 @@ fn has_one(rt: &impl Abort, node: &Node) {
     assert!(rt; node.alive(A));
     assert_eq!(rt; node.lives_in(0, 0), Some(A));
     assert_eq!(rt; node.linked(A, A), None);
-    assert_eq!(rt; node.waiting(A).map(|items| items.len()), Some(0));
-    assert_eq!(rt; node.process(A).map(|process| process.links_len()), Some(0));
+    assert_eq!(rt; node.waiting(A).expect(rt, "alive").len(), 0);
+    assert_eq!(rt; node.process(A).expect(rt, "alive").links_len(), 0);
 }
 
 #[test]

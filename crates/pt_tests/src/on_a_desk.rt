@@ -88,7 +88,9 @@ fn greet(rt: &impl Abort, alloc: Global, desk: &mut Desk, texts: &mut Texts)
     texts.drop_lost(desk);
     let _ = desk.turn(16);
     let came = texts.receive(desk, ada).expect(rt, "memory");
-    assert!(rt; came.is_some_and(|(from, text)| from == ada && text.as_str() == "hello"));
+    let (from, text) = came.expect(rt, "a text");
+    assert_eq!(rt; from, ada);
+    assert_eq!(rt; text.as_str(), "hello");
     assert_eq!(rt; texts.kept.len(), 0);
 }
 
@@ -154,8 +156,8 @@ fn leaves(rt: &impl Abort, crew: &mut Crew<Once>, desk: &mut Desk, p: Pid)
     let _ = desk.turn(16);
     crew.step(desk);
     crew.step(desk);
-    let left = crew.take_left().map(|role| role.next);
-    assert_eq!(rt; left, Some(Next::Stop(Reason::Other(3))));
+    let left = crew.take_left().expect(rt, "it left");
+    assert_eq!(rt; left.next, Next::Stop(Reason::Other(3)));
 }
 
 #[test]

@@ -52,6 +52,7 @@ fn a_history_is_heard(rt: HostRuntime) {
     let hearing = hearing.hear(rt.alloc(), BORN).ok().expect(&rt, "born");
     let hearing = hearing.hear(rt.alloc(), SAID).ok().expect(&rt, "said");
     let hearing = hearing.tell(LEFT_OVER).ok().expect(&rt, "told");
-    assert_eq!(rt; hearing.standing(0).map(|standing| standing.pid), Some(ME));
+    let standing = hearing.standing(0).expect(&rt, "a process");
+    assert_eq!(rt; standing.pid, ME);
     assert_eq!(rt; hearing.end().ok(), Some(WHOLE));
 }

@@ -43,7 +43,7 @@ fn look_first(rt: &impl Abort, state: &State) {
 fn look_later(rt: &impl Abort, state: &State) {
     assert!(rt; !state.alive(B));
     assert_eq!(rt; state.ended(B), Some(Reason::Shutdown));
-    assert_eq!(rt; state.waiting(A).map(|items| items.len()), Some(0));
+    assert_eq!(rt; state.waiting(A).expect(rt, "alive").len(), 0);
     assert_eq!(rt; state.in_flight(), 2);
 }
 
