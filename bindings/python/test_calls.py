@@ -190,6 +190,12 @@ def rows() -> Iterator[tuple[str, str, dict[str, Domain]]]:
                 yield where, name, words
 
 
+def loose(value: Any, **fields: Any) -> Any:
+    """A value of a subclass that does not check, with other fields."""
+    kind = type("Loose", (type(value),), {"__slots__": ()})
+    return tuple.__new__(kind, [fields.get(field, word) for field, word in zip(value._fields, value)])
+
+
 class Numbers(unittest.TestCase):
     def test_a_message_comes_as_it_was_sent(self):
         draw = random.Random(6)
@@ -232,19 +238,26 @@ class Numbers(unittest.TestCase):
             self.assertEqual(caught.exception.code, p.Code.BAD_DESKS)
 
     def test_a_value_of_a_subclass_is_checked_as_it_crosses(self):
-        class Loose(p.Pid):
-            def __new__(cls, *words: int) -> Loose:
-                return tuple.__new__(cls, words)
-
         (desk,) = p.open_node()
         pid = desk.spawn()
-        self.assertTrue(desk.alive(Loose(*pid)))
-        for loose in (Loose(256, 0, 1), Loose(0, 2**32, 1), Loose(0, 0, 1.0)):
-            for call in (lambda: desk.alive(loose), lambda: desk.send(pid, pid, p.Body(1, 1, loose)),
-                         lambda: desk.receive(pid, p.Pick("from", loose))):
-                with self.assertRaises((TypeError, ValueError)):
-                    call()
+        self.assertTrue(desk.alive(loose(pid)))
+        for bad in (loose(pid, shard=256), loose(pid, slot=2**32), loose(pid, version=1.0)):
+            for call in (lambda: desk.alive(bad), lambda: desk.send(pid, pid, p.Body(1, 1, bad)),
+                         lambda: desk.receive(pid, p.Pick("from", bad))):
+                self.assertRaises((TypeError, ValueError), call)
+        monitor = loose(p.Ref(0, 1), number=2**64)
+        for call in (lambda: desk.demonitor(pid, monitor), lambda: desk.receive(pid, p.Pick("down-of", monitor)),
+                     lambda: desk.send(pid, pid, loose(p.Body(1, 1), num=2**63)),
+                     lambda: desk.exit(pid, loose(p.NORMAL, name="crash")),
+                     lambda: desk.receive(pid, loose(p.ANY, what=1)),
+                     lambda: p.open_node(1, loose(p.Config(), lane=-1))):
+            self.assertRaises((TypeError, ValueError), call)
         self.assertEqual(desk.clock(), 1)
+
+    def test_a_desk_is_made_of_a_handle_alone(self):
+        for bad in (1, None, object()):
+            with self.assertRaisesRegex(TypeError, "handle is .* and must be of type CHandle"):
+                p.Desk(bad, None, 0, 1)
 
     def test_a_fault_has_a_code(self):
         for bad in (1, "full", None, True):
