@@ -157,7 +157,7 @@ fn on_desks(desks: &mut [Desk], name: &str, w: &[&str]) -> String {
     match name {
         "turn_all" => turned_text(turn_each(desks, w[0].parse().unwrap()).0),
         "turn_until_still" => turn_until_still(desks, w[0].parse::<u32>().unwrap().max(1)),
-        "events" => desks.iter_mut().map(Desk::event_count).sum::<usize>().to_string(),
+        "events" => desks.iter().map(Desk::event_count).sum::<usize>().to_string(),
         _ => {
             let desk: usize = if w[0].starts_with('<') { pid(w[0]).shard.into() } else { w[0].parse().unwrap() };
             on_desk(&mut desks[desk], name, w)
