@@ -4,9 +4,9 @@ use Rattle.std.specs.Prelude.{is_some}
 use Rattle.pt_desk.specs.DeskState.{DeskState}
 use Rattle.pt_gathered.specs.Gathered.{GatheredState}
 use Rattle.pt_gathered.specs.Quiet.{QuietState}
-use Rattle.pt_c.specs.Answers.{Place, value_in, values, had, full}
+use Rattle.pt_table.specs.Answers.{Place, value_in, values, had, full}
 use Rattle.pt_c.specs.Nodes.{IfEmpty, GathersAs, SettlesAs, IsSettledOf, NotSettled}
-use Rattle.pt_c.proofs.InRow.{first_value}
+use Rattle.pt_table.proofs.InRow.{first_value}
 
 module _ {S : Type 0} where
   pub place_is : (p : Place S) (s : S) → value_in p ≡ Some s → p ≡ full s

@@ -1,5 +1,1 @@
-pub mod Values
-pub mod Handles
-pub mod InRow
 pub mod Joining
-pub mod Waking

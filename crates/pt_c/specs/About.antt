@@ -1,11 +1,11 @@
 -- What the library says of itself: its codes, the sizes of what crosses, and a sample of each struct, whose fields have
 -- the numbers 1, 2, 3 and so on in order, a bool being true.
 use Rattle.std.specs.Prelude.{true, pos}
-use Rattle.pt_c.specs.declared.types.PtEvent.{PtEvent}
-use Rattle.pt_c.specs.declared.types.PtLeftOver.{PtLeftOver}
-use Rattle.pt_c.specs.declared.types.PtTurned.{PtTurned}
-use Rattle.pt_c.specs.declared.types.PtAccount.{PtAccount}
-use Rattle.pt_c.specs.declared.types.PtConfig.{PtConfig}
+use Rattle.pt_table.specs.declared.types.PtEvent.{PtEvent}
+use Rattle.pt_table.specs.declared.types.PtLeftOver.{PtLeftOver}
+use Rattle.pt_table.specs.declared.types.PtTurned.{PtTurned}
+use Rattle.pt_table.specs.declared.types.PtAccount.{PtAccount}
+use Rattle.pt_table.specs.declared.types.PtConfig.{PtConfig}
 use Rattle.pt_c.specs.declared.about.PtCodes.{PtCodes}
 use Rattle.pt_c.specs.declared.about.PtSizes.{PtSizes}
 

@@ -1,8 +1,2 @@
-pub mod Held
-pub mod Crossing
-pub mod Codes
-pub mod Answers
 pub mod Nodes
-pub mod Reading
-pub mod Waking
 pub mod About

@@ -23,10 +23,10 @@ use Rattle.pt_node.specs.Desks.{AreDesks, desk_kept}
 use Rattle.pt_node.specs.Opening.{AreFresh}
 use Rattle.pt_node.specs.Gathering.{Gathers, HasJournalsOf, ReadsAreTrue}
 use Rattle.pt_node.specs.Resuming.{Resumes}
-use Rattle.pt_c.specs.declared.types.PtConfig.{PtConfig}
-use Rattle.pt_c.specs.Codes.{open_code, stop_code, empty, filled}
-use Rattle.pt_c.specs.Crossing.{config_in}
-use Rattle.pt_c.specs.Answers.{Place, value_in, values, full, HistoryState}
+use Rattle.pt_table.specs.declared.types.PtConfig.{PtConfig}
+use Rattle.pt_table.specs.Codes.{open_code, stop_code, empty, filled}
+use Rattle.pt_table.specs.Crossing.{config_in}
+use Rattle.pt_table.specs.Answers.{Place, value_in, values, full, HistoryState}
 
 -- opening ------------------------------------------------------------------------------
 

@@ -4,15 +4,15 @@ ghost use Rattle.std.specs.Prelude.{◌≡◌};
 ghost use Rattle.pt_c.specs.About.{all_codes, all_sizes, sample_event, sample_left_over, sample_turned, sample_account};
 ghost use Rattle.pt_c.specs.About.{sample_config};
 
-use crate::codes::{DONE, EMPTY, FILLED, NOTHING, UNKNOWN, code_of, open_code};
-use crate::crossing::{event_out, item_out, pick_out, reason_out, signal_out};
-use crate::types::{
-    PtAccount, PtBody, PtConfig, PtEvent, PtIds, PtItem, PtLeftOver, PtPick, PtPid, PtReason,
-    PtRef, PtSignal, PtTurned,
-};
 use pt_node::{
     Body, Event, Fault, Ids, Item, LinkId, OpenError, Pick, Pid, Reason, Ref, Setting, Signal,
     Stamped,
+};
+use pt_table::codes::{DONE, EMPTY, FILLED, NOTHING, UNKNOWN, code_of, open_code};
+use pt_table::crossing::{event_out, item_out, pick_out, reason_out, signal_out};
+use pt_table::types::{
+    PtAccount, PtBody, PtConfig, PtEvent, PtIds, PtItem, PtLeftOver, PtPick, PtPid, PtReason,
+    PtRef, PtSignal, PtTurned,
 };
 use std::mem::size_of;
 

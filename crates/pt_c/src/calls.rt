@@ -3,18 +3,18 @@
 //! Each is the desk's call of that name, made on the desk that the handle has. 9 is answered where it has none.
 
 ghost use Rattle.std.specs.Prelude.{◌≡◌};
-ghost use Rattle.pt_c.specs.Answers.{Called, Spawns, SpawnsChild, Sends, SendsExit, Links, Unlinks, Watches, Unwatches};
-ghost use Rattle.pt_c.specs.Answers.{Asks, Traps, Takes, Exits, TurnsOnce};
-ghost use Rattle.pt_c.specs.Crossing.{pid_in, ref_in, reason_in, body_in, pick_in};
+ghost use Rattle.pt_table.specs.Answers.{Called, Spawns, SpawnsChild, Sends, SendsExit, Links, Unlinks, Watches, Unwatches};
+ghost use Rattle.pt_table.specs.Answers.{Asks, Traps, Takes, Exits, TurnsOnce};
+ghost use Rattle.pt_table.specs.Crossing.{pid_in, ref_in, reason_in, body_in, pick_in};
 
-use crate::codes::{DONE, EMPTY};
-use crate::crossing::{body_in, pick_in, pid_in, reason_in, ref_in};
-use crate::desk_handle::{DeskHandle, claim, hold};
-use crate::doing::{
+use pt_table::codes::{DONE, EMPTY};
+use pt_table::crossing::{body_in, pick_in, pid_in, reason_in, ref_in};
+use pt_table::desk_handle::{DeskHandle, claim, hold};
+use pt_table::doing::{
     ask_alive, demonitor, exit, exit_signal, link, monitor, receive, send, spawn, spawn_child,
     trap, turn, unlink,
 };
-use crate::types::{PtBody, PtItem, PtPick, PtPid, PtReason, PtRef, PtTurned};
+use pt_table::types::{PtBody, PtItem, PtPick, PtPid, PtReason, PtRef, PtTurned};
 use std::alloc::Global;
 
 /// Makes a process that no other one bears, as `Desk::spawn` does. Its pid goes to `out` where 0 is answered.

@@ -5,24 +5,12 @@
 //! contract says so: its code and what it passes out are that call's answer, and after a refusal all is as it was. An
 //! empty handle is tested for, and is a code.
 //!
-//! What has an enum or an option in Rattle crosses as a plain struct with a code (`types`); `about` tells codes, sizes
-//! and fields, to be compared with a header.
+//! What has an enum or an option in Rattle crosses as a plain struct with a code (`pt_table::types`); `about` tells codes,
+//! sizes and fields, to be compared with a header. `pt_table` has all that exports nothing.
 #![tactic(auto)]
 
 mod about;
 mod calls;
-mod codes;
-mod crossing;
-mod desk_handle;
-mod doing;
-mod gathered_handle;
-mod held;
-mod history_handle;
-mod looking;
-mod loose;
 mod node;
-mod quiet_handle;
 mod reads;
 mod resuming;
-mod rows;
-mod types;

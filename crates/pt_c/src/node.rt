@@ -3,28 +3,28 @@
 ghost use Rattle.std.specs.Prelude.{◌≡◌, ◌≤◌, [], map, length, IfOk, cond};
 ghost use Rattle.std.specs.Vec.{vec_capacity};
 ghost use Rattle.pt_node.specs.Desks.{AreDesks};
-ghost use Rattle.pt_c.specs.Answers.{value_in, values};
+ghost use Rattle.pt_table.specs.Answers.{value_in, values};
 ghost use Rattle.pt_c.specs.Nodes.{OpensAs, OpensMany, AreAllFull, GathersAs, Joins, SettlesAs, GivesUp, Tells, Writes};
 ghost use Rattle.pt_c.specs.Nodes.{IsHistoryOf, IsQuietHistoryOf};
 
-use crate::codes::{DONE, EMPTY, FILLED, MEMORY, open_code, stop_code};
-use crate::desk_handle::{DeskHandle, claim as claim_desk};
-use crate::gathered_handle::{
+use pt_node::{Config, Desk, Gathered, OpenError, Quiet, Setting, abandon, gather, open};
+use pt_table::codes::{DONE, EMPTY, FILLED, MEMORY, open_code, stop_code};
+use pt_table::desk_handle::{DeskHandle, claim as claim_desk};
+use pt_table::gathered_handle::{
     GatheredHandle, claim as claim_gathered, filled as filled_gathered, hold as hold_gathered,
     is_full as has_gathered, spare as spare_gathered, take_out as take_gathered,
 };
-use crate::held::{HeldDesk, HeldGathered, History};
-use crate::history_handle::{
+use pt_table::held::{HeldDesk, HeldGathered, History};
+use pt_table::history_handle::{
     HistoryHandle, claim as claim_history, filled as filled_history, is_full as has_history,
     spare as spare_history,
 };
-use crate::quiet_handle::{
+use pt_table::quiet_handle::{
     QuietHandle, claim as claim_quiet, filled as filled_quiet, hold as hold_quiet,
     is_full as has_quiet, spare as spare_quiet,
 };
-use crate::rows::{count_full, empty_all, fill_all, spare_places};
-use crate::types::PtConfig;
-use pt_node::{Config, Desk, Gathered, OpenError, Quiet, Setting, abandon, gather, open};
+use pt_table::rows::{count_full, empty_all, fill_all, spare_places};
+use pt_table::types::PtConfig;
 use std::alloc::{AllocError, Global};
 
 /// Opens a node: each handle gets one of its desks, in order, as `open` makes them.

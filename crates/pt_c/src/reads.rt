@@ -5,23 +5,23 @@
 ghost use Rattle.std.specs.Prelude.{◌≡◌, length, reverse, slice_get};
 ghost use Rattle.pt_shard.specs.ShardState.{lives};
 ghost use Rattle.pt_shard.specs.Known.{knows};
-ghost use Rattle.pt_c.specs.Answers.{Read, Shows};
-ghost use Rattle.pt_c.specs.Reading.{event_of, item_of, linked_in, waits_in, pending_in, event_count_in};
-ghost use Rattle.pt_c.specs.Waking.{Woken, NobodyIsMissed};
-ghost use Rattle.pt_c.specs.Reading.{TellsCount, TellsPid, TellsAccount, TellsLinked, TellsKept, TellsWatching};
-ghost use Rattle.pt_c.specs.Crossing.{pid_in, pid_out, ref_in, ids_out, item_out, event_out, left_out};
+ghost use Rattle.pt_table.specs.Answers.{Read, Shows};
+ghost use Rattle.pt_table.specs.Reading.{event_of, item_of, linked_in, waits_in, pending_in, event_count_in};
+ghost use Rattle.pt_table.specs.Waking.{Woken, NobodyIsMissed};
+ghost use Rattle.pt_table.specs.Reading.{TellsCount, TellsPid, TellsAccount, TellsLinked, TellsKept, TellsWatching};
+ghost use Rattle.pt_table.specs.Crossing.{pid_in, pid_out, ref_in, ids_out, item_out, event_out, left_out};
 
-use crate::codes::{DONE, EMPTY};
-use crate::crossing::{pid_in, ref_in};
-use crate::desk_handle::{DeskHandle, claim as claim_desk, hold as hold_desk};
-use crate::gathered_handle::{GatheredHandle, claim as claim_gathered, hold as hold_gathered};
-use crate::history_handle::{HistoryHandle, claim as claim_history, hold as hold_history};
-use crate::looking::{
+use pt_table::codes::{DONE, EMPTY};
+use pt_table::crossing::{pid_in, ref_in};
+use pt_table::desk_handle::{DeskHandle, claim as claim_desk, hold as hold_desk};
+use pt_table::gathered_handle::{GatheredHandle, claim as claim_gathered, hold as hold_gathered};
+use pt_table::history_handle::{HistoryHandle, claim as claim_history, hold as hold_history};
+use pt_table::looking::{
     account, event_at, history_event, history_left, kept, linked, next_woken, peek, pid_at,
     pid_count, quiet_linked, vacant, waiting, watching,
 };
-use crate::quiet_handle::{QuietHandle, claim as claim_quiet, hold as hold_quiet};
-use crate::types::{PtAccount, PtEvent, PtIds, PtItem, PtLeftOver, PtPid, PtRef};
+use pt_table::quiet_handle::{QuietHandle, claim as claim_quiet, hold as hold_quiet};
+use pt_table::types::{PtAccount, PtEvent, PtIds, PtItem, PtLeftOver, PtPid, PtRef};
 use std::alloc::Global;
 
 /// The stamp of the newest event, or the start of the clock.
@@ -525,7 +525,7 @@ pub extern "C" fn pt_history_left_at(
 /// event only the process that is named for it may get an item or end. A named one need not have got any, since a
 /// signal may queue nothing.
 #[unsafe(no_mangle)]
-#[tactic(auto, using(crate::proofs::Waking::nobody_is_missed))]
+#[tactic(auto, using(pt_table::proofs::Waking::nobody_is_missed))]
 pub extern "C" fn pt_next_woken(
     alloc: Global,
     h: &mut DeskHandle,

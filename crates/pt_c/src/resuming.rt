@@ -2,14 +2,14 @@
 
 ghost use Rattle.std.specs.Prelude.{◌≡◌, length, map};
 ghost use Rattle.std.specs.Option.{option_map};
-ghost use Rattle.pt_c.specs.Answers.{value_in};
+ghost use Rattle.pt_table.specs.Answers.{value_in};
 ghost use Rattle.pt_c.specs.Nodes.{ResumesAs};
 
-use crate::codes::{DONE, EMPTY, FILLED, MEMORY, open_code};
-use crate::desk_handle::DeskHandle;
-use crate::quiet_handle::{QuietHandle, claim, filled, hold, take_out};
-use crate::rows::{count_full, fill_all, spare_places};
 use pt_node::{OpenError, Setting, resume};
+use pt_table::codes::{DONE, EMPTY, FILLED, MEMORY, open_code};
+use pt_table::desk_handle::DeskHandle;
+use pt_table::quiet_handle::{QuietHandle, claim, filled, hold, take_out};
+use pt_table::rows::{count_full, fill_all, spare_places};
 use std::alloc::Global;
 
 /// Goes on from a settled node, as `resume` does: each handle gets one of its desks, in order, with an empty journal

@@ -1,6 +1,6 @@
 use Rattle.std.proofs.Common.{◌≡◌, Some, sym, ap, ◌∙◌}
 use Rattle.std.specs.Option.{option_map}
-use Rattle.pt_c.specs.Answers.{full, value_in}
+use Rattle.pt_table.specs.Answers.{full, value_in}
 use Rattle.pt_c.proofs.Joining.{place_is, settled, not_settled}
 use Rattle.pt_c.proofs.node.pt_settle.Goals as goal
 

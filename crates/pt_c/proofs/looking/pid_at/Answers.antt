@@ -1,4 +1,0 @@
-use Rattle.pt_c.proofs.looking.pid_at.Goals as goal
-
-pub returns : goal.returns
-returns c = (c.pids.result.now, c.pids.ensures, c.show_pid_at.ensures)

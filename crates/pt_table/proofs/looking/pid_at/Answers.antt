@@ -1,0 +1,4 @@
+use Rattle.pt_table.proofs.looking.pid_at.Goals as goal
+
+pub returns : goal.returns
+returns c = (c.pids.result.now, c.pids.ensures, c.show_pid_at.ensures)

@@ -1,0 +1,192 @@
+-- What a call answers C, and what it leaves.
+use Rattle.std.specs.Prelude.{◌≡◌, ℕ, Bool, true, false, ◌∷◌, [], List, Option, Some, None}
+use Rattle.std.specs.Prelude.{Result, Ok, Err, is_some, slice_get, cond}
+use Rattle.pt_signal.specs.declared.pid.Pid.{Pid}
+use Rattle.pt_signal.specs.declared.ids.Ref.{Ref}
+use Rattle.pt_signal.specs.declared.item.Body.{Body}
+use Rattle.pt_signal.specs.declared.item.Item.{Item}
+use Rattle.pt_signal.specs.declared.item.Pick.{Pick}
+use Rattle.pt_signal.specs.declared.reason.Reason.{Reason}
+use Rattle.pt_signal.specs.declared.signal.Signal.{Signal}
+use Rattle.pt_events.specs.declared.event.Event.{Event}
+use Rattle.pt_events.specs.declared.event.Stamped.{Stamped}
+use Rattle.pt_gathered.specs.declared.left_over.LeftOver.{LeftOver}
+use Rattle.pt_shard.specs.declared.fault.Fault.{Fault}
+use Rattle.pt_shard.specs.ShardState.{ShardState, lives, state_in}
+use Rattle.pt_shard.specs.Known.{knows}
+use Rattle.pt_shard.specs.Calls.{Calls, Monitors, Bears, BearsChild, link_event, unlink_event, first_match}
+use Rattle.pt_shard.specs.Calls.{take_event, demonitor_event, new_ref}
+use Rattle.pt_desk.specs.declared.turned.Turned.{Turned}
+use Rattle.pt_desk.specs.DeskState.{DeskState, HasSameEnds, GoesOn}
+use Rattle.pt_desk.specs.Reaching.{Reaches, has_link_to_make, has_monitor_to_make}
+use Rattle.pt_desk.specs.Turns.{Turns}
+use Rattle.pt_table.specs.declared.types.PtPid.{PtPid}
+use Rattle.pt_table.specs.declared.types.PtRef.{PtRef}
+use Rattle.pt_table.specs.declared.types.PtItem.{PtItem}
+use Rattle.pt_table.specs.declared.types.PtTurned.{PtTurned}
+use Rattle.pt_table.specs.Codes.{code_at, found_code, some_code, stop_code, unknown, empty}
+use Rattle.pt_table.specs.Crossing.{pid_out, ref_out, item_out}
+
+-- handles ------------------------------------------------------------------------------
+
+-- What a handle has: nothing, or a place on the heap, with a value or without.
+abbrev pub Place : Type 0 → Type 0
+Place S = Option (Option S)
+
+abbrev pub value_in : {S : Type 0} → Place S → Option S
+value_in (Some (Some s)) = Some s
+value_in _ = None
+
+abbrev pub full : {S : Type 0} → S → Place S
+full s = Some (Some s)
+
+abbrev pub had : {S : Type 0} → Option S → List S → List S
+had (Some s) rest = s ∷ rest
+had None rest = rest
+
+-- what the handles of a row have, in order
+abbrev pub values : {S : Type 0} → List (Place S) → List S
+values [] = []
+values (p ∷ places) = had (value_in p) (values places)
+
+-- a call of what the handle has: P ties it before and after; where the handle has nothing the code says so, and nothing
+-- has changed
+abbrev pub Called : {S : Type 0} → Place S → Place S → ℕ → Type 0 → (S → S → Type 0) → Type 0
+Called (Some (Some old)) (Some (Some new)) code kept P = P old new
+Called (Some (Some old)) _ code kept P = ⊥
+Called old new code kept P = (code ≡ empty) × (new ≡ old) × kept
+
+-- a call that only reads
+abbrev pub Read : {S : Type 0} → Place S → Place S → ℕ → Type 0 → (S → Type 0) → Type 0
+Read (Some (Some old)) new code kept P = (new ≡ Some (Some old)) × P old
+Read old new code kept P = (code ≡ empty) × (new ≡ old) × kept
+
+-- what is passed out ---------------------------------------------------------------------
+
+-- the value of an answer, and what stood there where there is none
+abbrev pub told_or : {A B : Type 0} → (A → B) → B → Result A Fault → B
+told_or f before (Ok a) = f a
+told_or f before (Err e) = before
+
+abbrev pub found_or : {A B : Type 0} → (A → B) → B → Result (Option A) Fault → B
+found_or f before (Ok (Some a)) = f a
+found_or f before _ = before
+
+abbrev pub some_or : {A B : Type 0} → (A → B) → B → Option A → B
+some_or f before (Some a) = f a
+some_or f before None = before
+
+-- an answer that P allows, as its code
+abbrev pub Answers : ℕ → (Result (Unit {0}) Fault → Type 0) → Type 0
+Answers code P = (r : Result (Unit {0}) Fault) × (code ≡ code_at r) × P r
+
+-- the same where an answer has a value too
+abbrev pub Gives : {A B : Type 0} → ℕ → B → B → (A → B) → (Result A Fault → Type 0) → Type 0
+Gives {A} code before after f P = (r : Result A Fault) × (code ≡ code_at r) × (after ≡ told_or f before r) × P r
+
+-- the same where an answer may be that there is none
+abbrev pub Finds : {A B : Type 0} → ℕ → B → B → (A → B) → (Result (Option A) Fault → Type 0) → Type 0
+Finds {A} code before after f P =
+    (r : Result (Option A) Fault) × (code ≡ found_code r) × (after ≡ found_or f before r) × P r
+
+-- what is read, where there is any
+abbrev pub Shows : {A B : Type 0} → ℕ → B → B → (A → B) → Option A → Type 0
+Shows code before after f a = (code ≡ some_code a) × (after ≡ some_or f before a)
+
+-- the calls ------------------------------------------------------------------------------
+
+-- what a call that does not look at other desks keeps of a desk
+abbrev pub Stays : DeskState → DeskState → Type 0
+Stays old new = HasSameEnds old new × (new.sight ≡ old.sight) × GoesOn old new
+
+-- and one that does
+abbrev pub Looks : DeskState → DeskState → Type 0
+Looks old new = HasSameEnds old new × GoesOn old new
+
+-- a call whose target the desk may not know: the code says that it does not, and nothing has changed
+abbrev pub IfKnown : Bool → ℕ → Type 0 → Type 0 → Type 0
+IfKnown true code kept P = P
+IfKnown false code kept P = (code ≡ unknown) × kept
+
+unfoldable pub Spawns : ℕ → PtPid → PtPid → DeskState → DeskState → Type 0
+Spawns code before after old new =
+    Gives code before after pid_out (λ r. Bears None None old.shard r new.shard) × Stays old new
+
+unfoldable pub SpawnsChild : Pid → Bool → ℕ → PtPid → PtPid → DeskState → DeskState → Type 0
+SpawnsChild parent linked code before after old new =
+    Gives code before after pid_out (λ r. BearsChild parent linked old.shard r new.shard) × Stays old new
+
+unfoldable pub Sends : Pid → Pid → Body → ℕ → DeskState → DeskState → Type 0
+Sends from to body code old new =
+    IfKnown (knows old.shard to) code (new ≡ old)
+    (Answers code (λ r. Reaches (lives old.shard from) from to
+    (Calls from (Some (Event.Said from to (Signal.Message body))) tt old.shard r new.shard) old r new)
+    × Looks old new)
+
+unfoldable pub SendsExit : Pid → Pid → Reason → ℕ → DeskState → DeskState → Type 0
+SendsExit from to reason code old new =
+    IfKnown (knows old.shard to) code (new ≡ old)
+    (Answers code (λ r. Calls from (Some (Event.Said from to (Signal.Exit reason))) tt old.shard r new.shard)
+    × Stays old new)
+
+unfoldable pub Links : Pid → Pid → ℕ → DeskState → DeskState → Type 0
+Links p to code old new =
+    IfKnown (knows old.shard to) code (new ≡ old)
+    (Answers code (λ r. Reaches (has_link_to_make old.shard p to) p to
+    (Calls p (link_event old.shard p to) tt old.shard r new.shard) old r new)
+    × Looks old new)
+
+unfoldable pub Unlinks : Pid → Pid → ℕ → DeskState → DeskState → Type 0
+Unlinks p to code old new =
+    IfKnown (knows old.shard to) code (new ≡ old)
+    (Answers code (λ r. Calls p (unlink_event old.shard p to) tt old.shard r new.shard) × Stays old new)
+
+unfoldable pub Watches : Pid → Pid → ℕ → PtRef → PtRef → DeskState → DeskState → Type 0
+Watches w t code before after old new =
+    IfKnown (knows old.shard t) code ((new ≡ old) × (after ≡ before))
+    (Gives code before after ref_out (λ r. Reaches (has_monitor_to_make old.shard w t) w t
+    (Monitors w t old.shard r new.shard) old r new)
+    × Looks old new)
+
+unfoldable pub Unwatches : Pid → Ref → Bool → ℕ → Bool → Bool → DeskState → DeskState → Type 0
+Unwatches w m flush code before after old new =
+    Gives code before after (λ b. b) (λ r. Calls w (demonitor_event old.shard w m flush)
+    (is_some (demonitor_event old.shard w m flush)) old.shard r new.shard)
+    × Stays old new
+
+unfoldable pub Asks : Pid → Pid → ℕ → PtRef → PtRef → DeskState → DeskState → Type 0
+Asks p t code before after old new =
+    IfKnown (knows old.shard t) code ((new ≡ old) × (after ≡ before))
+    (Gives code before after ref_out (λ r. Calls p (Some (Event.Said p t (Signal.AliveAsk (new_ref old.shard))))
+    (new_ref old.shard) old.shard r new.shard)
+    × Stays old new)
+
+unfoldable pub Traps : Pid → Bool → ℕ → Bool → Bool → DeskState → DeskState → Type 0
+Traps p on code before after old new =
+    Gives code before after (λ b. b)
+    (λ r. Calls p (Some (Event.Flag p on)) (state_in old.shard p).traps old.shard r new.shard)
+    × Stays old new
+
+unfoldable pub Takes : Pid → Pick → ℕ → PtItem → PtItem → DeskState → DeskState → Type 0
+Takes p pick code before after old new =
+    Finds code before after item_out
+    (λ r. Calls p (take_event old.shard p pick) (first_match old.shard p pick) old.shard r new.shard)
+    × Stays old new
+
+unfoldable pub Exits : Pid → Reason → ℕ → DeskState → DeskState → Type 0
+Exits p reason code old new =
+    Answers code (λ r. Calls p (Some (Event.Left p reason)) tt old.shard r new.shard) × Stays old new
+
+abbrev pub turned_out : Turned → PtTurned
+turned_out t = record { posted = t.posted; handled = t.handled; stopped = stop_code t.stopped }
+
+unfoldable pub TurnsOnce : ℕ → PtTurned → DeskState → DeskState → Type 0
+TurnsOnce budget out old new = (t : Turned) × (out ≡ turned_out t) × Turns budget old t new × GoesOn old new
+
+-- histories ------------------------------------------------------------------------------
+
+pub record HistoryState : Type 0 where
+  -- the events of all desks, oldest first
+  pub events : List Stamped
+  -- the letters that were on their way at its end
+  pub left : List LeftOver

@@ -1,0 +1,69 @@
+//! The codes of what calls answer.
+
+ghost use Rattle.std.specs.Prelude.{◌≡◌};
+ghost use Rattle.pt_table.specs.Codes.{code_of, code_at, stop_code, open_code};
+
+use pt_node::{Fault, OpenError, Setting, Stop};
+
+/// The call was made.
+pub const DONE: u32 = 0;
+
+/// There was no memory.
+pub const MEMORY: u32 = 2;
+
+/// The desk cannot have had the target.
+pub const UNKNOWN: u32 = 7;
+
+/// There is nothing of what was asked for.
+pub const NOTHING: u32 = 8;
+
+/// A handle has nothing.
+pub const EMPTY: u32 = 9;
+
+/// A handle that is to be filled has something.
+pub const FILLED: u32 = 10;
+
+pub fn code_of(fault: Fault) -> u32
+    ensures { result ≡ code_of fault }
+{
+    match fault {
+        Fault::Full => 1,
+        Fault::Memory => MEMORY,
+        Fault::Worn => 3,
+        Fault::Gone => 4,
+        Fault::Myself => 5,
+        Fault::NoProc => 6,
+    }
+}
+
+pub fn code_at(answer: Result<(), Fault>) -> u32
+    ensures { result ≡ code_at answer }
+{
+    match answer {
+        Ok(()) => DONE,
+        Err(fault) => code_of(fault),
+    }
+}
+
+pub fn stop_code(stop: Option<Stop>) -> u32
+    ensures { result ≡ stop_code stop }
+{
+    match stop {
+        None => DONE,
+        Some(Stop::Memory) => MEMORY,
+        Some(Stop::Worn) => 3,
+    }
+}
+
+pub fn open_code(error: OpenError) -> u32
+    ensures { result ≡ open_code error }
+{
+    match error {
+        OpenError::Memory => MEMORY,
+        OpenError::Bounds(Setting::Desks) => 11,
+        OpenError::Bounds(Setting::Slots) => 12,
+        OpenError::Bounds(Setting::TopVersion) => 13,
+        OpenError::Bounds(Setting::Lane) => 14,
+        OpenError::Bounds(Setting::Start) => 15,
+    }
+}

@@ -1,0 +1,479 @@
+//! The table's values as what crosses, and the other way round.
+
+ghost use Rattle.std.specs.Prelude.{◌≡◌};
+ghost use Rattle.pt_table.specs.Crossing.{pid_in, pid_out, ref_in, ref_out, link_out, ids_out, reason_in, reason_out};
+ghost use Rattle.pt_table.specs.Crossing.{body_in, body_out, pick_in, pick_out, item_out, signal_out, event_out};
+ghost use Rattle.pt_table.specs.Crossing.{left_out, account_out, no_pid, no_ref, no_ids, no_reason, no_body, no_pick};
+ghost use Rattle.pt_table.specs.Crossing.{no_item, no_signal, blank};
+
+use crate::types::{
+    PtAccount, PtBody, PtEvent, PtIds, PtItem, PtLeftOver, PtPick, PtPid, PtReason, PtRef, PtSignal,
+};
+use pt_node::{
+    Account, Body, Event, Ids, Item, LeftOver, LinkId, Pick, Pid, Reason, Ref, Signal, Stamped,
+};
+
+pub fn pid_in(p: PtPid) -> Pid
+    ensures { result ≡ pid_in p }
+{
+    Pid {
+        shard: p.shard,
+        slot: p.slot,
+        version: p.version,
+    }
+}
+
+pub fn pid_out(p: Pid) -> PtPid
+    ensures { result ≡ pid_out p }
+{
+    PtPid {
+        shard: p.shard,
+        slot: p.slot,
+        version: p.version,
+    }
+}
+
+pub fn ref_in(m: PtRef) -> Ref
+    ensures { result ≡ ref_in m }
+{
+    Ref {
+        desk: m.desk,
+        number: m.number,
+    }
+}
+
+pub fn ref_out(m: Ref) -> PtRef
+    ensures { result ≡ ref_out m }
+{
+    PtRef {
+        desk: m.desk,
+        number: m.number,
+    }
+}
+
+pub fn link_out(i: LinkId) -> PtRef
+    ensures { result ≡ link_out i }
+{
+    PtRef {
+        desk: i.desk,
+        number: i.number,
+    }
+}
+
+pub fn ids_out(ids: Ids) -> PtIds
+    ensures { result ≡ ids_out ids }
+{
+    match ids.two {
+        Some(two) => PtIds {
+            one: link_out(ids.one),
+            has_two: true,
+            two: link_out(two),
+        },
+        None => PtIds {
+            one: link_out(ids.one),
+            has_two: false,
+            two: no_ref(),
+        },
+    }
+}
+
+pub fn reason_in(r: PtReason) -> Reason
+    ensures { result ≡ reason_in r }
+{
+    if r.code == 0 {
+        Reason::Normal
+    } else if r.code == 1 {
+        Reason::Kill
+    } else if r.code == 2 {
+        Reason::Killed
+    } else if r.code == 3 {
+        Reason::Noproc
+    } else if r.code == 4 {
+        Reason::Shutdown
+    } else {
+        Reason::Other(r.number)
+    }
+}
+
+pub fn reason_out(r: Reason) -> PtReason
+    ensures { result ≡ reason_out r }
+{
+    match r {
+        Reason::Normal => PtReason { code: 0, number: 0 },
+        Reason::Kill => PtReason { code: 1, number: 0 },
+        Reason::Killed => PtReason { code: 2, number: 0 },
+        Reason::Noproc => PtReason { code: 3, number: 0 },
+        Reason::Shutdown => PtReason { code: 4, number: 0 },
+        Reason::Other(number) => PtReason { code: 5, number },
+    }
+}
+
+pub fn body_in(b: PtBody) -> Body
+    ensures { result ≡ body_in b }
+{
+    Body {
+        kind: b.kind,
+        num: b.num,
+        who: if b.has_who { Some(pid_in(b.who)) } else { None },
+    }
+}
+
+pub fn body_out(b: Body) -> PtBody
+    ensures { result ≡ body_out b }
+{
+    match b.who {
+        Some(who) => PtBody {
+            kind: b.kind,
+            num: b.num,
+            has_who: true,
+            who: pid_out(who),
+        },
+        None => PtBody {
+            kind: b.kind,
+            num: b.num,
+            has_who: false,
+            who: no_pid(),
+        },
+    }
+}
+
+pub fn pick_in(k: PtPick) -> Pick
+    ensures { result ≡ pick_in k }
+{
+    if k.code == 0 {
+        Pick::Kind(k.kind)
+    } else if k.code == 1 {
+        Pick::From(pid_in(k.pid))
+    } else if k.code == 2 {
+        Pick::ExitOf(pid_in(k.pid))
+    } else if k.code == 3 {
+        Pick::DownOf(ref_in(k.reference))
+    } else if k.code == 4 {
+        Pick::AliveOf(ref_in(k.reference))
+    } else {
+        Pick::Any
+    }
+}
+
+pub fn pick_out(k: Pick) -> PtPick
+    ensures { result ≡ pick_out k }
+{
+    let blank = no_pick();
+    match k {
+        Pick::Kind(kind) => PtPick {
+            code: 0,
+            kind,
+            ..blank
+        },
+        Pick::From(pid) => PtPick {
+            code: 1,
+            pid: pid_out(pid),
+            ..blank
+        },
+        Pick::ExitOf(pid) => PtPick {
+            code: 2,
+            pid: pid_out(pid),
+            ..blank
+        },
+        Pick::DownOf(monitor) => PtPick {
+            code: 3,
+            reference: ref_out(monitor),
+            ..blank
+        },
+        Pick::AliveOf(question) => PtPick {
+            code: 4,
+            reference: ref_out(question),
+            ..blank
+        },
+        Pick::Any => PtPick { code: 5, ..blank },
+    }
+}
+
+pub fn item_out(i: Item) -> PtItem
+    ensures { result ≡ item_out i }
+{
+    let blank = no_item();
+    match i {
+        Item::User(from, body) => PtItem {
+            code: 0,
+            pid: pid_out(from),
+            body: body_out(body),
+            ..blank
+        },
+        Item::Exit(from, reason) => PtItem {
+            code: 1,
+            pid: pid_out(from),
+            reason: reason_out(reason),
+            ..blank
+        },
+        Item::Down(monitor, from, reason) => PtItem {
+            code: 2,
+            pid: pid_out(from),
+            reference: ref_out(monitor),
+            reason: reason_out(reason),
+            ..blank
+        },
+        Item::Alive(question, pid, alive) => PtItem {
+            code: 3,
+            alive,
+            pid: pid_out(pid),
+            reference: ref_out(question),
+            ..blank
+        },
+    }
+}
+
+pub fn signal_out(x: Signal) -> PtSignal
+    ensures { result ≡ signal_out x }
+{
+    let blank = no_signal();
+    match x {
+        Signal::Message(body) => PtSignal {
+            code: 0,
+            body: body_out(body),
+            ..blank
+        },
+        Signal::Link(id) => PtSignal {
+            code: 1,
+            ids: ids_out(Ids::of(id)),
+            ..blank
+        },
+        Signal::Unlink(ids) => PtSignal {
+            code: 2,
+            ids: ids_out(ids),
+            ..blank
+        },
+        Signal::Exit(reason) => PtSignal {
+            code: 3,
+            reason: reason_out(reason),
+            ..blank
+        },
+        Signal::LinkExit(ids, reason) => PtSignal {
+            code: 4,
+            reason: reason_out(reason),
+            ids: ids_out(ids),
+            ..blank
+        },
+        Signal::Monitor(monitor) => PtSignal {
+            code: 5,
+            reference: ref_out(monitor),
+            ..blank
+        },
+        Signal::Demonitor(monitor) => PtSignal {
+            code: 6,
+            reference: ref_out(monitor),
+            ..blank
+        },
+        Signal::Down(monitor, reason) => PtSignal {
+            code: 7,
+            reason: reason_out(reason),
+            reference: ref_out(monitor),
+            ..blank
+        },
+        Signal::AliveAsk(question) => PtSignal {
+            code: 8,
+            reference: ref_out(question),
+            ..blank
+        },
+        Signal::AliveSay(question, alive) => PtSignal {
+            code: 9,
+            alive,
+            reference: ref_out(question),
+            ..blank
+        },
+    }
+}
+
+pub fn event_out(s: Stamped) -> PtEvent
+    ensures { result ≡ event_out s }
+{
+    let blank = blank(s.stamp, s.desk);
+    match s.event {
+        Event::Born(pid, parent, link) => PtEvent {
+            has_peer: parent.is_some(),
+            has_link: link.is_some(),
+            code: 0,
+            pid: pid_out(pid),
+            peer: match parent {
+                Some(parent) => pid_out(parent),
+                None => no_pid(),
+            },
+            link: match link {
+                Some(link) => link_out(link),
+                None => no_ref(),
+            },
+            ..blank
+        },
+        Event::Said(from, to, signal) => PtEvent {
+            has_peer: true,
+            code: 1,
+            pid: pid_out(from),
+            peer: pid_out(to),
+            signal: signal_out(signal),
+            ..blank
+        },
+        Event::Came(from, to, signal) => PtEvent {
+            has_peer: true,
+            code: 2,
+            pid: pid_out(to),
+            peer: pid_out(from),
+            signal: signal_out(signal),
+            ..blank
+        },
+        Event::Took(pid, pick, item) => PtEvent {
+            code: 3,
+            pid: pid_out(pid),
+            pick: pick_out(pick),
+            item: item_out(item),
+            ..blank
+        },
+        Event::Flag(pid, on) => PtEvent {
+            on,
+            code: 4,
+            pid: pid_out(pid),
+            ..blank
+        },
+        Event::Left(pid, reason) => PtEvent {
+            code: 5,
+            pid: pid_out(pid),
+            reason: reason_out(reason),
+            ..blank
+        },
+        Event::Refused(from, to) => PtEvent {
+            has_peer: true,
+            code: 6,
+            pid: pid_out(from),
+            peer: pid_out(to),
+            ..blank
+        },
+    }
+}
+
+pub fn left_out(l: LeftOver) -> PtLeftOver
+    ensures { result ≡ left_out l }
+{
+    PtLeftOver {
+        from_desk: l.from_desk,
+        to_desk: l.to_desk,
+        from: pid_out(l.letter.from),
+        to: pid_out(l.letter.to),
+        stamp: l.letter.stamp,
+        signal: signal_out(l.letter.signal),
+    }
+}
+
+pub fn account_out(a: Account) -> PtAccount
+    ensures { result ≡ account_out a }
+{
+    PtAccount {
+        has_ended: a.ended.is_some(),
+        ended: match a.ended {
+            Some(reason) => reason_out(reason),
+            None => no_reason(),
+        },
+        arrived: a.arrived,
+        taken: a.taken,
+        waiting: a.waiting,
+    }
+}
+
+fn no_pid() -> PtPid
+    ensures { result ≡ no_pid }
+{
+    PtPid {
+        shard: 0,
+        slot: 0,
+        version: 0,
+    }
+}
+
+fn no_ref() -> PtRef
+    ensures { result ≡ no_ref }
+{
+    PtRef { desk: 0, number: 0 }
+}
+
+fn no_ids() -> PtIds
+    ensures { result ≡ no_ids }
+{
+    PtIds {
+        one: no_ref(),
+        has_two: false,
+        two: no_ref(),
+    }
+}
+
+fn no_reason() -> PtReason
+    ensures { result ≡ no_reason }
+{
+    PtReason { code: 0, number: 0 }
+}
+
+fn no_body() -> PtBody
+    ensures { result ≡ no_body }
+{
+    PtBody {
+        kind: 0,
+        num: 0,
+        has_who: false,
+        who: no_pid(),
+    }
+}
+
+fn no_pick() -> PtPick
+    ensures { result ≡ no_pick }
+{
+    PtPick {
+        code: 0,
+        kind: 0,
+        pid: no_pid(),
+        reference: no_ref(),
+    }
+}
+
+fn no_item() -> PtItem
+    ensures { result ≡ no_item }
+{
+    PtItem {
+        code: 0,
+        alive: false,
+        pid: no_pid(),
+        reference: no_ref(),
+        reason: no_reason(),
+        body: no_body(),
+    }
+}
+
+fn no_signal() -> PtSignal
+    ensures { result ≡ no_signal }
+{
+    PtSignal {
+        code: 0,
+        alive: false,
+        reason: no_reason(),
+        reference: no_ref(),
+        ids: no_ids(),
+        body: no_body(),
+    }
+}
+
+/// An event of which nothing but its stamp and its desk is told.
+fn blank(stamp: u64, desk: u8) -> PtEvent
+    ensures { result ≡ blank stamp desk }
+{
+    PtEvent {
+        stamp,
+        desk,
+        has_peer: false,
+        has_link: false,
+        on: false,
+        code: 0,
+        pid: no_pid(),
+        peer: no_pid(),
+        link: no_ref(),
+        reason: no_reason(),
+        pick: no_pick(),
+        item: no_item(),
+        signal: no_signal(),
+    }
+}

@@ -1,0 +1,167 @@
+//! The calls of a desk, with what crosses in the place of the table's values.
+
+ghost use Rattle.std.specs.Prelude.{◌≡◌};
+ghost use Rattle.pt_table.specs.Answers.{Spawns, SpawnsChild, Sends, SendsExit, Links, Unlinks, Watches, Unwatches, Asks};
+ghost use Rattle.pt_table.specs.Answers.{Traps, Takes, Exits, TurnsOnce};
+
+use crate::codes::{DONE, NOTHING, UNKNOWN, code_at, code_of, stop_code};
+use crate::crossing::{item_out, pid_out, ref_out};
+use crate::types::{PtItem, PtPid, PtRef, PtTurned};
+use pt_node::{Body, Desk, Pick, Pid, Reason, Ref};
+
+#[tactic(auto, unfolding(crate::specs::Answers::Spawns))]
+pub fn spawn(desk: &mut Desk, out: &mut PtPid) -> u32
+    ensures { Spawns result out.old out.new desk.old desk.new }
+{
+    match desk.spawn() {
+        Ok(pid) => {
+            *out = pid_out(pid);
+            DONE
+        }
+        Err(fault) => code_of(fault),
+    }
+}
+
+#[tactic(auto, unfolding(crate::specs::Answers::SpawnsChild))]
+pub fn spawn_child(desk: &mut Desk, parent: Pid, linked: bool, out: &mut PtPid) -> u32
+    ensures { SpawnsChild parent linked result out.old out.new desk.old desk.new }
+{
+    match desk.spawn_child(parent, linked) {
+        Ok(pid) => {
+            *out = pid_out(pid);
+            DONE
+        }
+        Err(fault) => code_of(fault),
+    }
+}
+
+#[tactic(auto, unfolding(crate::specs::Answers::Sends))]
+pub fn send(desk: &mut Desk, from: Pid, to: Pid, body: Body) -> u32
+    ensures { Sends from to body result desk.old desk.new }
+{
+    if !desk.knows(to) {
+        return UNKNOWN;
+    }
+    code_at(desk.send(from, to, body))
+}
+
+#[tactic(auto, unfolding(crate::specs::Answers::SendsExit))]
+pub fn exit_signal(desk: &mut Desk, from: Pid, to: Pid, reason: Reason) -> u32
+    ensures { SendsExit from to reason result desk.old desk.new }
+{
+    if !desk.knows(to) {
+        return UNKNOWN;
+    }
+    code_at(desk.exit_signal(from, to, reason))
+}
+
+#[tactic(auto, unfolding(crate::specs::Answers::Links))]
+pub fn link(desk: &mut Desk, p: Pid, to: Pid) -> u32
+    ensures { Links p to result desk.old desk.new }
+{
+    if !desk.knows(to) {
+        return UNKNOWN;
+    }
+    code_at(desk.link(p, to))
+}
+
+#[tactic(auto, unfolding(crate::specs::Answers::Unlinks))]
+pub fn unlink(desk: &mut Desk, p: Pid, to: Pid) -> u32
+    ensures { Unlinks p to result desk.old desk.new }
+{
+    if !desk.knows(to) {
+        return UNKNOWN;
+    }
+    code_at(desk.unlink(p, to))
+}
+
+#[tactic(auto, unfolding(crate::specs::Answers::Watches))]
+pub fn monitor(desk: &mut Desk, w: Pid, t: Pid, out: &mut PtRef) -> u32
+    ensures { Watches w t result out.old out.new desk.old desk.new }
+{
+    if !desk.knows(t) {
+        return UNKNOWN;
+    }
+    match desk.monitor(w, t) {
+        Ok(monitor) => {
+            *out = ref_out(monitor);
+            DONE
+        }
+        Err(fault) => code_of(fault),
+    }
+}
+
+#[tactic(auto, unfolding(crate::specs::Answers::Unwatches))]
+pub fn demonitor(desk: &mut Desk, w: Pid, monitor: Ref, flush: bool, wrote: &mut bool) -> u32
+    ensures { Unwatches w monitor flush result wrote.old wrote.new desk.old desk.new }
+{
+    match desk.demonitor(w, monitor, flush) {
+        Ok(did) => {
+            *wrote = did;
+            DONE
+        }
+        Err(fault) => code_of(fault),
+    }
+}
+
+#[tactic(auto, unfolding(crate::specs::Answers::Asks))]
+pub fn ask_alive(desk: &mut Desk, p: Pid, t: Pid, out: &mut PtRef) -> u32
+    ensures { Asks p t result out.old out.new desk.old desk.new }
+{
+    if !desk.knows(t) {
+        return UNKNOWN;
+    }
+    match desk.ask_alive(p, t) {
+        Ok(question) => {
+            *out = ref_out(question);
+            DONE
+        }
+        Err(fault) => code_of(fault),
+    }
+}
+
+#[tactic(auto, unfolding(crate::specs::Answers::Traps))]
+pub fn trap(desk: &mut Desk, p: Pid, on: bool, was: &mut bool) -> u32
+    ensures { Traps p on result was.old was.new desk.old desk.new }
+{
+    match desk.trap(p, on) {
+        Ok(before) => {
+            *was = before;
+            DONE
+        }
+        Err(fault) => code_of(fault),
+    }
+}
+
+#[tactic(auto, unfolding(crate::specs::Answers::Takes))]
+pub fn receive(desk: &mut Desk, p: Pid, pick: Pick, out: &mut PtItem) -> u32
+    ensures { Takes p pick result out.old out.new desk.old desk.new }
+{
+    match desk.receive(p, pick) {
+        Ok(Some(item)) => {
+            *out = item_out(item);
+            DONE
+        }
+        Ok(None) => NOTHING,
+        Err(fault) => code_of(fault),
+    }
+}
+
+#[tactic(auto, unfolding(crate::specs::Answers::Exits))]
+pub fn exit(desk: &mut Desk, p: Pid, reason: Reason) -> u32
+    ensures { Exits p reason result desk.old desk.new }
+{
+    code_at(desk.exit(p, reason))
+}
+
+#[tactic(auto, unfolding(crate::specs::Answers::TurnsOnce))]
+pub fn turn(desk: &mut Desk, budget: u32) -> PtTurned
+    ensures { TurnsOnce budget result desk.old desk.new }
+{
+    let turned = desk.turn(budget);
+    PtTurned {
+        posted: turned.posted,
+        handled: turned.handled,
+        stopped: stop_code(turned.stopped),
+    }
+}

@@ -1,0 +1,194 @@
+//! What is read, as what crosses.
+
+ghost use Rattle.std.specs.Prelude.{◌≡◌, length, reverse, slice_get};
+ghost use Rattle.pt_table.specs.Answers.{Shows};
+ghost use Rattle.pt_table.specs.Reading.{event_of, item_of, linked_in, waits_in};
+ghost use Rattle.pt_table.specs.Waking.{Woken};
+ghost use Rattle.pt_table.specs.Reading.{TellsCount, TellsPid, TellsAccount, TellsLinked, TellsKept, TellsWatching};
+ghost use Rattle.pt_table.specs.Crossing.{pid_out, ids_out, item_out, event_out, left_out};
+
+use crate::codes::{DONE, NOTHING};
+use crate::crossing::{account_out, event_out, ids_out, item_out, left_out, pid_out};
+use crate::held::History;
+use crate::types::{PtAccount, PtEvent, PtIds, PtItem, PtLeftOver, PtPid};
+use pt_node::{Desk, Ids, Item, Pid, Quiet, Ref, Stamped};
+
+fn show_pid(pid: Option<Pid>, out: &mut PtPid) -> u32
+    ensures { Shows result out.old out.new pid_out pid }
+{
+    match pid {
+        Some(pid) => {
+            *out = pid_out(pid);
+            DONE
+        }
+        None => NOTHING,
+    }
+}
+
+fn show_ids(ids: Option<Ids>, out: &mut PtIds) -> u32
+    ensures { Shows result out.old out.new ids_out ids }
+{
+    match ids {
+        Some(ids) => {
+            *out = ids_out(ids);
+            DONE
+        }
+        None => NOTHING,
+    }
+}
+
+fn show_event(events: &[Stamped], place: usize, out: &mut PtEvent) -> u32
+    ensures { Shows result out.old out.new event_out (slice_get events.now place) }
+{
+    match events.get(place) {
+        Some(event) => {
+            *out = event_out(*event);
+            DONE
+        }
+        None => NOTHING,
+    }
+}
+
+pub fn vacant(desk: &Desk, out: &mut PtPid) -> u32
+    ensures { Shows result out.old out.new pid_out desk.now.shard.vacant }
+{
+    show_pid(desk.vacant(), out)
+}
+
+pub fn waiting(desk: &Desk, p: Pid, out: &mut usize) -> u32
+    ensures { Shows result out.old out.new length (waits_in desk.now p) }
+{
+    match desk.waiting(p) {
+        Some(items) => {
+            *out = items.len();
+            DONE
+        }
+        None => NOTHING,
+    }
+}
+
+pub fn peek(desk: &Desk, p: Pid, place: usize, out: &mut PtItem) -> u32
+    ensures { Shows result out.old out.new item_out (item_of (waits_in desk.now p) place) }
+{
+    match desk.waiting(p) {
+        Some(items) => show_item(items, place, out),
+        None => NOTHING,
+    }
+}
+
+fn show_item(items: &[Item], place: usize, out: &mut PtItem) -> u32
+    ensures { Shows result out.old out.new item_out (slice_get items.now place) }
+{
+    match items.get(place) {
+        Some(item) => {
+            *out = item_out(*item);
+            DONE
+        }
+        None => NOTHING,
+    }
+}
+
+pub fn linked(desk: &Desk, p: Pid, peer: Pid, out: &mut PtIds) -> u32
+    ensures { Shows result out.old out.new ids_out (linked_in desk.now p peer) }
+{
+    show_ids(desk.linked(p, peer), out)
+}
+
+pub fn event_at(desk: &Desk, place: usize, out: &mut PtEvent) -> u32
+    ensures { Shows result out.old out.new event_out (event_of desk.now place) }
+{
+    show_event(desk.journal().events(), place, out)
+}
+
+pub fn next_woken(desk: &Desk, at: &mut usize, out: &mut PtPid) -> u32
+    ensures { Woken result at.old at.new out.old out.new (reverse desk.now.shard.journal) }
+{
+    wake_from(desk.journal().events(), at, out)
+}
+
+fn wake_from(events: &[Stamped], at: &mut usize, out: &mut PtPid) -> u32
+    ensures { Woken result at.old at.new out.old out.new events.now }
+{
+    match pt_node::next_woken(events, at) {
+        Some(pid) => {
+            *out = pid_out(pid);
+            DONE
+        }
+        None => NOTHING,
+    }
+}
+
+pub fn pid_count(quiet: &Quiet, out: &mut usize) -> u32
+    ensures { TellsCount quiet.now result out.new }
+{
+    *out = quiet.pids().len();
+    DONE
+}
+
+pub fn pid_at(quiet: &Quiet, place: usize, out: &mut PtPid) -> u32
+    ensures { TellsPid quiet.now place result out.old out.new }
+{
+    show_pid_at(quiet.pids(), place, out)
+}
+
+fn show_pid_at(pids: &[Pid], place: usize, out: &mut PtPid) -> u32
+    ensures { Shows result out.old out.new pid_out (slice_get pids.now place) }
+{
+    match pids.get(place) {
+        Some(pid) => {
+            *out = pid_out(*pid);
+            DONE
+        }
+        None => NOTHING,
+    }
+}
+
+pub fn account(quiet: &Quiet, p: Pid, out: &mut PtAccount) -> u32
+    ensures { TellsAccount quiet.now p result out.old out.new }
+{
+    match quiet.account(p) {
+        Some(account) => {
+            *out = account_out(account);
+            DONE
+        }
+        None => NOTHING,
+    }
+}
+
+pub fn quiet_linked(quiet: &Quiet, p: Pid, peer: Pid, out: &mut PtIds) -> u32
+    ensures { TellsLinked quiet.now p peer result out.old out.new }
+{
+    show_ids(quiet.linked(p, peer), out)
+}
+
+pub fn kept(quiet: &Quiet, target: Pid, monitor: Ref, out: &mut bool) -> u32
+    ensures { TellsKept quiet.now target monitor result out.new }
+{
+    *out = quiet.kept(target, monitor);
+    DONE
+}
+
+pub fn watching(quiet: &Quiet, watcher: Pid, monitor: Ref, out: &mut bool) -> u32
+    ensures { TellsWatching quiet.now watcher monitor result out.new }
+{
+    *out = quiet.watching(watcher, monitor);
+    DONE
+}
+
+pub fn history_event(history: &History, place: usize, out: &mut PtEvent) -> u32
+    ensures { Shows result out.old out.new event_out (slice_get history.now.events place) }
+{
+    show_event(history.events.as_slice(), place, out)
+}
+
+pub fn history_left(history: &History, place: usize, out: &mut PtLeftOver) -> u32
+    ensures { Shows result out.old out.new left_out (slice_get history.now.left place) }
+{
+    match history.left.get(place) {
+        Some(letter) => {
+            *out = left_out(*letter);
+            DONE
+        }
+        None => NOTHING,
+    }
+}

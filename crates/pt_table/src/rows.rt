@@ -1,0 +1,70 @@
+//! The handles of desks, in a row.
+
+ghost use Rattle.std.specs.Prelude.{◌≡◌, ◌≤◌, [], map, length, replicate, None, IfOk, vec_len};
+ghost use Rattle.std.specs.Vec.{vec_capacity};
+ghost use Rattle.pt_table.specs.Answers.{values, full};
+
+use crate::desk_handle::{DeskHandle, filled, is_full, spare, take_out};
+use crate::held::HeldDesk;
+use pt_node::Desk;
+use std::alloc::{AllocError, Global};
+
+/// How many of the handles have a desk.
+pub fn count_full(alloc: Global, desks: &mut [DeskHandle]) -> usize
+    ensures same { map (λ h. h.state) desks.new ≡ map (λ h. h.state) desks.old }
+    ensures count { result ≡ length (values (map (λ h. h.state) desks.old)) }
+{
+    let mut count = 0;
+    for k in 0..desks.len() {
+        count += usize::from(is_full(alloc, &mut desks[k]));
+    }
+    count
+}
+
+/// Takes the desks of all handles, and their places.
+pub fn empty_all(
+    alloc: Global,
+    desks: &mut [DeskHandle],
+    places: &mut Vec<Box<HeldDesk, Global>>,
+    list: &mut Vec<Desk>,
+)
+    requires room { (length desks.old ≤ vec_capacity list.old) × (length desks.old ≤ vec_capacity places.old) }
+    requires none { (list.old.items ≡ []) × (places.old.items ≡ []) }
+    requires full { length (values (map (λ h. h.state) desks.old)) ≡ length desks.old }
+    ensures list { list.new.items ≡ values (map (λ h. h.state) desks.old) }
+    ensures places { length places.new.items ≡ length desks.old }
+    ensures empty { map (λ h. h.state) desks.new ≡ replicate (length desks.old) None }
+{
+    for k in 0..desks.len() {
+        let (place, desk) = take_out(alloc, &mut desks[k]).unwrap();
+        list.push_reserved(desk);
+        places.push_reserved(place);
+    }
+}
+
+/// Gives each handle a place with one of these desks.
+pub fn fill_all(desks: &mut [DeskHandle], places: Vec<Box<HeldDesk, Global>>, list: Vec<Desk>)
+    requires places { length places.items ≡ length desks.old }
+    requires list { length list.items ≡ length desks.old }
+    ensures { map (λ h. h.state) desks.new ≡ map full list.items }
+{
+    let mut places = places;
+    let mut list = list;
+    let mut k = desks.len();
+    while let Some(desk) = list.pop() {
+        k -= 1;
+        desks[k] = filled(places.pop().unwrap(), desk);
+    }
+    list.destroy_empty();
+}
+
+/// As many places with no desk.
+pub fn spare_places(alloc: Global, count: usize) -> Result<Vec<Box<HeldDesk, Global>>, AllocError>
+    ensures { IfOk result (λ v. length v.items ≡ count) }
+{
+    let mut places = Vec::with_capacity(alloc, count)?;
+    for _place in 0..count {
+        places.push(spare(alloc)?)?;
+    }
+    Ok(places)
+}
