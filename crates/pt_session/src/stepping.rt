@@ -1,0 +1,126 @@
+//! Steps from one state of a node to the next: it is opened, gathered, settled, and goes on.
+
+use crate::answer::Answer;
+use crate::looking_back::events_of;
+use crate::phase::Phase;
+use pt_events::Event;
+use pt_gathered::{Gathered, Quiet};
+use pt_node::Node;
+use pt_shard::Config;
+use std::alloc::{AllocError, Global};
+use std::mem;
+
+/// Opens a node. The one before goes, unless there is none in its place.
+pub(crate) fn open(
+    alloc: Global,
+    phase: &mut Phase,
+    earlier: &mut Vec<Event>,
+    config: Config,
+) -> Answer {
+    match Node::open(alloc, config) {
+        Ok(node) => {
+            *phase = Phase::Running(node);
+            earlier.clear();
+            Answer::Opened(Ok(()))
+        }
+        Err(error) => Answer::Opened(Err(error)),
+    }
+}
+
+/// Gathers the node, if it runs.
+pub(crate) fn gather(phase: &mut Phase) -> Option<Answer> {
+    match mem::replace(phase, Phase::Closed) {
+        Phase::Running(node) => {
+            let (next, answer) = gathered(node);
+            *phase = next;
+            Some(answer)
+        }
+        other => {
+            *phase = other;
+            None
+        }
+    }
+}
+
+fn gathered(node: Node) -> (Phase, Answer) {
+    match node.gather() {
+        Ok(gathered) => {
+            let answer = left_over(&gathered);
+            (Phase::Gathered(gathered), answer)
+        }
+        Err(back) => (Phase::Running(back.node), Answer::NoMemory),
+    }
+}
+
+/// How many letters are left over.
+fn left_over(gathered: &Gathered) -> Answer {
+    match gathered.left_over() {
+        Ok(letters) => Answer::LeftOver(letters.len() as u64),
+        Err(_) => Answer::NoMemory,
+    }
+}
+
+/// Settles the node, if it is gathered.
+pub(crate) fn settle(phase: &mut Phase) -> Option<Answer> {
+    match mem::replace(phase, Phase::Closed) {
+        Phase::Gathered(gathered) => {
+            let (next, answer) = settled(gathered);
+            *phase = next;
+            Some(answer)
+        }
+        other => {
+            *phase = other;
+            None
+        }
+    }
+}
+
+fn settled(gathered: Gathered) -> (Phase, Answer) {
+    match gathered.settle() {
+        Ok(quiet) => {
+            let answer = Answer::Handled(Ok(quiet.handled()));
+            (Phase::Settled(quiet), answer)
+        }
+        Err(unsettled) => (
+            Phase::Gathered(unsettled.gathered),
+            Answer::Handled(Err(unsettled.fault)),
+        ),
+    }
+}
+
+/// Goes on from the node, if it is settled.
+pub(crate) fn resume(alloc: Global, phase: &mut Phase, earlier: &mut Vec<Event>) -> Option<Answer> {
+    match mem::replace(phase, Phase::Closed) {
+        Phase::Settled(quiet) => {
+            let (next, answer) = resumed(alloc, quiet, earlier);
+            *phase = next;
+            Some(answer)
+        }
+        other => {
+            *phase = other;
+            None
+        }
+    }
+}
+
+fn resumed(alloc: Global, quiet: Quiet, earlier: &mut Vec<Event>) -> (Phase, Answer) {
+    let Ok(events) = with_epoch(alloc, earlier.as_slice(), &quiet) else {
+        return (Phase::Settled(quiet), Answer::NoMemory);
+    };
+    match Node::resume(alloc, quiet) {
+        Ok(node) => {
+            *earlier = events;
+            (Phase::Running(node), Answer::Resumed)
+        }
+        Err(back) => (Phase::Settled(back.quiet), Answer::NoMemory),
+    }
+}
+
+/// The events of all epochs, that of the node among them.
+fn with_epoch(alloc: Global, earlier: &[Event], quiet: &Quiet) -> Result<Vec<Event>, AllocError> {
+    let mut events = earlier.to_vec(alloc)?;
+    let history = quiet.history()?;
+    let epoch = events_of(alloc, history.as_slice())?;
+    events.extend_from_slice(epoch.as_slice())?;
+    Ok(events)
+}
