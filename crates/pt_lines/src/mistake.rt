@@ -1,5 +1,7 @@
 //! Why a line is no call.
 
+ghost use Rattle.std.specs.Prelude.{◌≡◌};
+
 use std::fmt;
 
 /// Why a line is no call, and where.
@@ -33,12 +35,19 @@ pub enum Why {
 }
 
 impl Mistake {
-    pub(crate) fn at(column: usize, why: Why) -> Mistake {
+    pub(crate) fn at(column: usize, why: Why) -> Mistake
+        ensures { result ≡ record { column = column; why = why } }
+    {
         Mistake { column, why }
     }
 }
 
 impl fmt::Display for Why {
+    ghost use Rattle.std.specs.Prelude.{Some};
+    ghost use Rattle.pt_lines.specs.Text.{why_text};
+
+    ghost output = { λ w. Some (why_text w) };
+
     fn fmt<W: fmt::Write>(&self, f: &mut fmt::Formatter<W>) -> fmt::Result {
         f.write_str(match *self {
             Why::NoCall => "no call",

@@ -1,5 +1,8 @@
 //! The calls, by name.
 
+ghost use Rattle.std.specs.Prelude.{◌≡◌, map};
+ghost use Rattle.pt_lines.specs.Calls as spec;
+
 use crate::call::{Call, Look};
 
 /// Which call it is, by what follows its name.
@@ -255,10 +258,19 @@ pub static CALLS: [Usage; 37] = [
 ];
 
 /// The call of this name.
-pub fn verb_of(word: &[u8]) -> Option<Verb> {
-    for place in 0..CALLS.len() {
-        if CALLS[place].name.as_bytes() == word {
-            return Some(CALLS[place].verb);
+pub fn verb_of(word: &[u8]) -> Option<Verb>
+    ensures { result ≡ spec.verb_of word.now }
+{
+    verb_in(CALLS.as_slice(), word)
+}
+
+/// The call of this name among those of a table.
+fn verb_in(table: &[Usage], word: &[u8]) -> Option<Verb>
+    ensures { result ≡ spec.first_named (map spec.named table.now) word.now }
+{
+    for place in 0..table.len() {
+        if table[place].name.as_bytes() == word {
+            return Some(table[place].verb);
         }
     }
     None
