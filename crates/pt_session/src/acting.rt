@@ -1,11 +1,15 @@
 //! Calls that change a node which runs.
 
+ghost use Rattle.pt_session.specs.Acting.{DoesAct};
+
 use crate::answer::Answer;
 use pt_lines::Act;
 use pt_node::Node;
 
 /// Makes the call.
-pub(crate) fn act(node: &mut Node, call: Act) -> Answer {
+pub(crate) fn act(node: &mut Node, call: Act) -> Answer
+    ensures { DoesAct call node.old result node.new }
+{
     match call {
         Act::Spawn(desk) => Answer::Made(node.spawn(desk)),
         Act::SpawnChild(parent, linked) => Answer::Made(node.spawn_child(parent, linked)),

@@ -2,13 +2,18 @@
 
 /// The line at that place of a text, without its line feed.
 pub(crate) fn line_at(text: &[u8], place: usize) -> &[u8] {
-    let mut end = place;
-    while end < text.len() && text[end] != b'\n' {
-        end += 1;
+    if text.len() < place {
+        return &text[..0];
     }
-    if place <= end && end <= text.len() {
-        &text[place..end]
-    } else {
-        &text[..0]
+    first_line(&text[place..])
+}
+
+/// What stands before the first line feed.
+fn first_line(text: &[u8]) -> &[u8] {
+    for end in 0..text.len() {
+        if text[end] == b'\n' {
+            return &text[..end];
+        }
     }
+    text
 }

@@ -1,15 +1,24 @@
 //! Looks at a node that runs.
 
+ghost use Rattle.std.specs.Prelude.{◌≡◌, ◌-◌, ◌^◌, ◌≤◌, min, length, reverse, Some, None, false};
+ghost use Rattle.std.specs.Option.{option_copied};
+ghost use Rattle.pt_shard.specs.Known.{knows};
+ghost use Rattle.pt_shard.specs.Outbox.{count_pending};
+ghost use Rattle.pt_node.specs.Node.{ReadsAt};
+ghost use Rattle.pt_node.specs.Stillness.{count_events};
+ghost use Rattle.pt_session.specs.Looking as spec;
+
 use crate::answer::Answer;
-use pt_desk::Desk;
-use pt_events::{Journal, Stamped};
+use pt_events::Stamped;
 use pt_lines::Look;
 use pt_node::Node;
 use pt_signal::{Item, Pid, Ref};
 use std::alloc::Global;
 
 /// What is read of a node that runs; `None` where that can be read of another one alone.
-pub(crate) fn look_at_node(alloc: Global, node: &Node, look: Look) -> Option<Answer> {
+pub(crate) fn look_at_node(alloc: Global, node: &Node, look: Look) -> Option<Answer>
+    ensures { spec.LooksAtNode look node.now result }
+{
     match look {
         Look::Clock(desk) => Some(Answer::Number(node.clock(desk))),
         Look::Pending(desk) => Some(Answer::Number(pending(node, desk))),
@@ -27,61 +36,79 @@ pub(crate) fn look_at_node(alloc: Global, node: &Node, look: Look) -> Option<Ans
     }
 }
 
-fn desk_at(node: &Node, desk: u8) -> Option<&Desk> {
-    node.desks().get(usize::from(desk))
-}
-
-fn pending(node: &Node, desk: u8) -> Option<u64> {
-    match desk_at(node, desk) {
-        Some(desk) => Some(desk.pending()),
-        None => None,
+fn pending(node: &Node, desk: u8) -> Option<u64>
+    ensures { ReadsAt desk (λ x. Some (min (count_pending x.shard) (2 ^ 64 - 1))) None node.now result }
+{
+    let d = usize::from(desk);
+    let desks = node.desks();
+    if d >= desks.len() {
+        return None;
     }
+    Some(desks[d].pending())
 }
 
-fn knows(node: &Node, desk: u8, pid: Pid) -> Option<bool> {
-    match desk_at(node, desk) {
-        Some(desk) => Some(desk.knows(pid)),
-        None => None,
+fn knows(node: &Node, desk: u8, pid: Pid) -> Option<bool>
+    ensures { ReadsAt desk (λ x. Some (knows x.shard pid)) None node.now result }
+{
+    let d = usize::from(desk);
+    let desks = node.desks();
+    if d >= desks.len() {
+        return None;
     }
+    Some(desks[d].knows(pid))
 }
 
-fn watching(node: &Node, pid: Pid, monitor: Ref) -> bool {
+fn watching(node: &Node, pid: Pid, monitor: Ref) -> bool
+    ensures { ReadsAt pid.shard (λ x. spec.is_watching (spec.process_in pid x) monitor) (spec.is_watching None monitor)
+        node.now result }
+{
     match node.process(pid) {
         Some(process) => process.watching(monitor),
         None => false,
     }
 }
 
-fn kept(node: &Node, pid: Pid, monitor: Ref) -> bool {
+fn kept(node: &Node, pid: Pid, monitor: Ref) -> bool
+    ensures { ReadsAt pid.shard (λ x. spec.is_kept (spec.process_in pid x) monitor) (spec.is_kept None monitor)
+        node.now result }
+{
     match node.process(pid) {
         Some(process) => process.kept(monitor),
         None => false,
     }
 }
 
-fn journal(alloc: Global, node: &Node, desk: u8) -> Answer {
-    match node.journal(desk) {
-        Some(journal) => events(alloc, journal),
-        None => Answer::Unknown,
+fn journal(alloc: Global, node: &Node, desk: u8) -> Answer
+    ensures { spec.IfEvents (Some result)
+        (λ events. ReadsAt desk (λ x. Some (reverse x.shard.journal)) None node.now (Some events))
+        (length node.now ≤ desk) }
+{
+    let d = usize::from(desk);
+    let desks = node.desks();
+    if d >= desks.len() {
+        return Answer::Unknown;
     }
-}
-
-fn events(alloc: Global, journal: &Journal) -> Answer {
-    match journal.events().to_vec(alloc) {
+    match desks[d].journal().events().to_vec(alloc) {
         Ok(events) => Answer::Events(events),
         Err(_) => Answer::NoMemory,
     }
 }
 
-fn event(node: &Node, desk: u8, stamp: u64) -> Option<Stamped> {
-    match node.journal(desk) {
-        Some(journal) => find_event(journal.events(), desk, stamp),
-        None => None,
+fn event(node: &Node, desk: u8, stamp: u64) -> Option<Stamped>
+    ensures { ReadsAt desk (λ x. spec.event_of (Some x.shard.journal) desk stamp) None node.now result }
+{
+    let d = usize::from(desk);
+    let desks = node.desks();
+    if d >= desks.len() {
+        return None;
     }
+    find_event(desks[d].journal().events(), desk, stamp)
 }
 
 /// The event of a desk that has the stamp.
-pub(crate) fn find_event(events: &[Stamped], desk: u8, stamp: u64) -> Option<Stamped> {
+pub(crate) fn find_event(events: &[Stamped], desk: u8, stamp: u64) -> Option<Stamped>
+    ensures { result ≡ spec.event_in events.now desk stamp }
+{
     for place in 0..events.len() {
         if events[place].desk == desk && events[place].stamp == stamp {
             return Some(events[place]);
@@ -91,16 +118,21 @@ pub(crate) fn find_event(events: &[Stamped], desk: u8, stamp: u64) -> Option<Sta
 }
 
 /// How many events the journals of all desks have, staying at `u64::MAX` once it is reached.
-fn count_events(node: &Node) -> u64 {
+fn count_events(node: &Node) -> u64
+    ensures { result ≡ min (count_events node.now) (2 ^ 64 - 1) }
+{
     let mut count: u64 = 0;
-    for desk in node.desks() {
-        count = count.saturating_add(desk.journal().events().len() as u64);
+    let desks = node.desks();
+    for place in 0..desks.len() {
+        count = count.saturating_add(desks[place].journal().events().len() as u64);
     }
     count
 }
 
 /// The items that wait in a mailbox, as an answer.
-pub(crate) fn items(alloc: Global, waiting: Option<&[Item]>) -> Answer {
+pub(crate) fn items(alloc: Global, waiting: Option<&[Item]>) -> Answer
+    ensures { spec.IfItems (Some result) (λ items. items ≡ option_copied waiting.entry) }
+{
     match waiting {
         Some(items) => match items.to_vec(alloc) {
             Ok(items) => Answer::Items(Some(items)),

@@ -70,17 +70,17 @@ impl Session {
         };
         let end = line.len().saturating_add(1);
         match command_of(&self.names, words.as_slice(), end) {
-            Ok(command) => self.follow(command, words.as_slice()),
+            Ok(command) => self.follow(command),
             Err(mistake) => Err(Complaint::Mistake(mistake)),
         }
     }
 
-    fn follow(&mut self, command: Command<'_>, words: &[Word<'_>]) -> Result<Heard, Complaint> {
+    fn follow(&mut self, command: Command<'_>) -> Result<Heard, Complaint> {
         match command {
             Command::Nothing => Ok(Heard::Silent),
             Command::Expect(wanted) => self.expect(wanted),
             Command::Help => self.help(),
-            Command::Call(name, call) => self.call(name, call, column_of(name, words)),
+            Command::Call(name, column, call) => self.call(name, column, call),
         }
     }
 
@@ -113,7 +113,7 @@ impl Session {
     }
 
     /// Makes a call. The name at that place of the line is given to the pid or the reference that is answered.
-    fn call(&mut self, name: Option<&[u8]>, call: Call, column: usize) -> Result<Heard, Complaint> {
+    fn call(&mut self, name: Option<&[u8]>, column: usize, call: Call) -> Result<Heard, Complaint> {
         if self.is_comparing() {
             return Err(Complaint::LinesLeft);
         }
@@ -164,15 +164,6 @@ impl Session {
         self.answer = text;
         self.compared = 0;
         Ok(())
-    }
-}
-
-/// The column of a call's name.
-fn column_of(name: Option<&[u8]>, words: &[Word<'_>]) -> usize {
-    let place = if name.is_some() { 2 } else { 0 };
-    match words.get(place) {
-        Some(word) => word.column,
-        None => 1,
     }
 }
 

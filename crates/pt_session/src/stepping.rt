@@ -1,5 +1,8 @@
 //! Steps from one state of a node to the next: it is opened, gathered, settled, and goes on.
 
+ghost use Rattle.std.specs.Prelude.{Some};
+ghost use Rattle.pt_session.specs.Stepping as spec;
+
 use crate::answer::Answer;
 use crate::looking_back::events_of;
 use crate::phase::Phase;
@@ -16,7 +19,9 @@ pub(crate) fn open(
     phase: &mut Phase,
     earlier: &mut Vec<Event>,
     config: Config,
-) -> Answer {
+) -> Answer
+    ensures { spec.OpensAs config phase.old earlier.old.items result phase.new earlier.new.items }
+{
     match Node::open(alloc, config) {
         Ok(node) => {
             *phase = Phase::Running(node);
@@ -28,7 +33,9 @@ pub(crate) fn open(
 }
 
 /// Gathers the node, if it runs.
-pub(crate) fn gather(phase: &mut Phase) -> Option<Answer> {
+pub(crate) fn gather(phase: &mut Phase) -> Option<Answer>
+    ensures { spec.GathersAs phase.old result phase.new }
+{
     match mem::replace(phase, Phase::Closed) {
         Phase::Running(node) => {
             let (next, answer) = gathered(node);
@@ -42,7 +49,9 @@ pub(crate) fn gather(phase: &mut Phase) -> Option<Answer> {
     }
 }
 
-fn gathered(node: Node) -> (Phase, Answer) {
+fn gathered(node: Node) -> (Phase, Answer)
+    ensures { spec.GathersTo node result.1 result.0 }
+{
     match node.gather() {
         Ok(gathered) => {
             let answer = left_over(&gathered);
@@ -61,7 +70,9 @@ fn left_over(gathered: &Gathered) -> Answer {
 }
 
 /// Settles the node, if it is gathered.
-pub(crate) fn settle(phase: &mut Phase) -> Option<Answer> {
+pub(crate) fn settle(phase: &mut Phase) -> Option<Answer>
+    ensures { spec.SettlesAs phase.old result phase.new }
+{
     match mem::replace(phase, Phase::Closed) {
         Phase::Gathered(gathered) => {
             let (next, answer) = settled(gathered);
@@ -75,7 +86,9 @@ pub(crate) fn settle(phase: &mut Phase) -> Option<Answer> {
     }
 }
 
-fn settled(gathered: Gathered) -> (Phase, Answer) {
+fn settled(gathered: Gathered) -> (Phase, Answer)
+    ensures { spec.SettlesTo gathered result.1 result.0 }
+{
     match gathered.settle() {
         Ok(quiet) => {
             let answer = Answer::Handled(Ok(quiet.handled()));

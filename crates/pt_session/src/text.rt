@@ -1,5 +1,10 @@
 //! Answers as texts: lines, each with a line feed at its end.
 
+ghost use Rattle.std.specs.Prelude.{◌≡◌, ◌++◌, codes, IfOk, OnOk, string_bytes};
+ghost use Rattle.pt_signal.specs.Text as signal_text;
+ghost use Rattle.pt_events.specs.Text.{stamped_text};
+ghost use Rattle.pt_session.specs.Text as spec;
+
 use crate::answer::Answer;
 use pt_accounts::Account;
 use pt_desk::Turned;
@@ -13,7 +18,9 @@ use pt_signal::{Ids, Item, Pid, Reason, Ref};
 use std::alloc::{AllocError, Global};
 
 /// The lines of an answer.
-pub(crate) fn text_of(alloc: Global, answer: &Answer) -> Result<String, AllocError> {
+pub(crate) fn text_of(alloc: Global, answer: &Answer) -> Result<String, AllocError>
+    ensures { IfOk result (λ s. string_bytes s ≡ spec.answer_text answer.now) }
+{
     match answer {
         Answer::Opened(result) => opened_text(alloc, *result),
         Answer::Made(result) => made_text(alloc, *result),
@@ -30,7 +37,8 @@ pub(crate) fn text_of(alloc: Global, answer: &Answer) -> Result<String, AllocErr
         Answer::Reason(reason) => reason_text(alloc, *reason),
         Answer::Event(event) => event_text(alloc, *event),
         Answer::Account(account) => account_text(alloc, *account),
-        Answer::Items(items) => items_text(alloc, items),
+        Answer::Items(Some(items)) => items_text(alloc, items.as_slice()),
+        Answer::Items(None) => word_text(alloc, "none"),
         Answer::Events(events) => events_text(alloc, events.as_slice()),
         Answer::Letters(letters) => letters_text(alloc, letters.as_slice()),
         Answer::Pids(pids) => pids_text(alloc, pids.as_slice()),
@@ -59,11 +67,15 @@ pub(crate) fn help_text(alloc: Global) -> Result<String, AllocError> {
 }
 
 /// One word, as a line.
-fn word_text(alloc: Global, word: &str) -> Result<String, AllocError> {
+fn word_text(alloc: Global, word: &str) -> Result<String, AllocError>
+    ensures { IfOk result (λ s. string_bytes s ≡ word.now ++ codes "\n") }
+{
     format!(in alloc; "{word}\n")
 }
 
-fn word_of_setting(setting: Setting) -> &'static str {
+fn word_of_setting(setting: Setting) -> &'static str
+    ensures { result.now ≡ spec.setting_word setting }
+{
     match setting {
         Setting::Desks => "desks",
         Setting::Slots => "slots",
@@ -73,7 +85,9 @@ fn word_of_setting(setting: Setting) -> &'static str {
     }
 }
 
-fn word_of_fault(fault: Fault) -> &'static str {
+fn word_of_fault(fault: Fault) -> &'static str
+    ensures { result.now ≡ spec.fault_word fault }
+{
     match fault {
         Fault::Full => "full",
         Fault::Memory => "memory",
@@ -84,29 +98,39 @@ fn word_of_fault(fault: Fault) -> &'static str {
     }
 }
 
-fn word_of_refusal(fault: NodeFault) -> &'static str {
+fn word_of_refusal(fault: NodeFault) -> &'static str
+    ensures { result.now ≡ spec.refusal_word fault }
+{
     match fault {
         NodeFault::NoDesk | NodeFault::Unknown => "unknown",
         NodeFault::Refused(fault) => word_of_fault(fault),
     }
 }
 
-fn word_of_stop(stop: Stop) -> &'static str {
+fn word_of_stop(stop: Stop) -> &'static str
+    ensures { result.now ≡ spec.stop_word stop }
+{
     match stop {
         Stop::Memory => "memory",
         Stop::Worn => "worn",
     }
 }
 
-fn word_of_truth(truth: bool) -> &'static str {
+fn word_of_truth(truth: bool) -> &'static str
+    ensures { result.now ≡ spec.truth_word truth }
+{
     if truth { "true" } else { "false" }
 }
 
-fn refused_text(alloc: Global, fault: NodeFault) -> Result<String, AllocError> {
+fn refused_text(alloc: Global, fault: NodeFault) -> Result<String, AllocError>
+    ensures { IfOk result (λ s. string_bytes s ≡ spec.line (spec.refusal_word fault)) }
+{
     word_text(alloc, word_of_refusal(fault))
 }
 
-fn opened_text(alloc: Global, given: Result<(), OpenError>) -> Result<String, AllocError> {
+fn opened_text(alloc: Global, given: Result<(), OpenError>) -> Result<String, AllocError>
+    ensures { IfOk result (λ s. string_bytes s ≡ spec.opened_text given) }
+{
     match given {
         Ok(()) => word_text(alloc, "ok"),
         Err(OpenError::Memory) => word_text(alloc, "memory"),
@@ -117,35 +141,45 @@ fn opened_text(alloc: Global, given: Result<(), OpenError>) -> Result<String, Al
     }
 }
 
-fn made_text(alloc: Global, given: Result<Pid, NodeFault>) -> Result<String, AllocError> {
+fn made_text(alloc: Global, given: Result<Pid, NodeFault>) -> Result<String, AllocError>
+    ensures { IfOk result (λ s. string_bytes s ≡ spec.made_text given) }
+{
     match given {
         Ok(pid) => format!(in alloc; "{pid}\n"),
         Err(fault) => refused_text(alloc, fault),
     }
 }
 
-fn done_text(alloc: Global, given: Result<(), NodeFault>) -> Result<String, AllocError> {
+fn done_text(alloc: Global, given: Result<(), NodeFault>) -> Result<String, AllocError>
+    ensures { IfOk result (λ s. string_bytes s ≡ spec.done_text given) }
+{
     match given {
         Ok(()) => word_text(alloc, "ok"),
         Err(fault) => refused_text(alloc, fault),
     }
 }
 
-fn named_text(alloc: Global, given: Result<Ref, NodeFault>) -> Result<String, AllocError> {
+fn named_text(alloc: Global, given: Result<Ref, NodeFault>) -> Result<String, AllocError>
+    ensures { IfOk result (λ s. string_bytes s ≡ spec.named_text given) }
+{
     match given {
         Ok(made) => format!(in alloc; "{made}\n"),
         Err(fault) => refused_text(alloc, fault),
     }
 }
 
-fn told_text(alloc: Global, given: Result<bool, NodeFault>) -> Result<String, AllocError> {
+fn told_text(alloc: Global, given: Result<bool, NodeFault>) -> Result<String, AllocError>
+    ensures { IfOk result (λ s. string_bytes s ≡ spec.told_text given) }
+{
     match given {
         Ok(truth) => word_text(alloc, word_of_truth(truth)),
         Err(fault) => refused_text(alloc, fault),
     }
 }
 
-fn taken_text(alloc: Global, given: Result<Option<Item>, NodeFault>) -> Result<String, AllocError> {
+fn taken_text(alloc: Global, given: Result<Option<Item>, NodeFault>) -> Result<String, AllocError>
+    ensures { IfOk result (λ s. string_bytes s ≡ spec.taken_text given) }
+{
     match given {
         Ok(Some(item)) => format!(in alloc; "{item}\n"),
         Ok(None) => word_text(alloc, "none"),
@@ -153,14 +187,18 @@ fn taken_text(alloc: Global, given: Result<Option<Item>, NodeFault>) -> Result<S
     }
 }
 
-fn turned_text(alloc: Global, given: Result<Turned, NodeFault>) -> Result<String, AllocError> {
+fn turned_text(alloc: Global, given: Result<Turned, NodeFault>) -> Result<String, AllocError>
+    ensures { IfOk result (λ s. string_bytes s ≡ spec.turned_text given) }
+{
     match given {
         Ok(turned) => turn_text(alloc, turned),
         Err(fault) => refused_text(alloc, fault),
     }
 }
 
-fn turn_text(alloc: Global, turned: Turned) -> Result<String, AllocError> {
+fn turn_text(alloc: Global, turned: Turned) -> Result<String, AllocError>
+    ensures { IfOk result (λ s. string_bytes s ≡ spec.turn_text turned) }
+{
     let Turned {
         posted,
         handled,
@@ -175,7 +213,9 @@ fn turn_text(alloc: Global, turned: Turned) -> Result<String, AllocError> {
     }
 }
 
-fn rested_text(alloc: Global, rested: Rested) -> Result<String, AllocError> {
+fn rested_text(alloc: Global, rested: Rested) -> Result<String, AllocError>
+    ensures { IfOk result (λ s. string_bytes s ≡ spec.rested_text rested) }
+{
     let handled = rested.handled;
     match rested.stopped {
         None => format!(in alloc; "handled {handled}\n"),
@@ -187,49 +227,63 @@ fn rested_text(alloc: Global, rested: Rested) -> Result<String, AllocError> {
     }
 }
 
-fn number_text(alloc: Global, number: Option<u64>) -> Result<String, AllocError> {
+fn number_text(alloc: Global, number: Option<u64>) -> Result<String, AllocError>
+    ensures { IfOk result (λ s. string_bytes s ≡ spec.number_text number) }
+{
     match number {
         Some(number) => format!(in alloc; "{number}\n"),
         None => word_text(alloc, "unknown"),
     }
 }
 
-fn truth_text(alloc: Global, truth: Option<bool>) -> Result<String, AllocError> {
+fn truth_text(alloc: Global, truth: Option<bool>) -> Result<String, AllocError>
+    ensures { IfOk result (λ s. string_bytes s ≡ spec.truth_text truth) }
+{
     match truth {
         Some(truth) => word_text(alloc, word_of_truth(truth)),
         None => word_text(alloc, "unknown"),
     }
 }
 
-fn pid_text(alloc: Global, pid: Option<Pid>) -> Result<String, AllocError> {
+fn pid_text(alloc: Global, pid: Option<Pid>) -> Result<String, AllocError>
+    ensures { IfOk result (λ s. string_bytes s ≡ spec.or_none signal_text.pid_text pid) }
+{
     match pid {
         Some(pid) => format!(in alloc; "{pid}\n"),
         None => word_text(alloc, "none"),
     }
 }
 
-fn ids_text(alloc: Global, ids: Option<Ids>) -> Result<String, AllocError> {
+fn ids_text(alloc: Global, ids: Option<Ids>) -> Result<String, AllocError>
+    ensures { IfOk result (λ s. string_bytes s ≡ spec.or_none signal_text.ids_text ids) }
+{
     match ids {
         Some(ids) => format!(in alloc; "{ids}\n"),
         None => word_text(alloc, "none"),
     }
 }
 
-fn reason_text(alloc: Global, reason: Option<Reason>) -> Result<String, AllocError> {
+fn reason_text(alloc: Global, reason: Option<Reason>) -> Result<String, AllocError>
+    ensures { IfOk result (λ s. string_bytes s ≡ spec.or_none signal_text.reason_text reason) }
+{
     match reason {
         Some(reason) => format!(in alloc; "{reason}\n"),
         None => word_text(alloc, "none"),
     }
 }
 
-fn event_text(alloc: Global, event: Option<Stamped>) -> Result<String, AllocError> {
+fn event_text(alloc: Global, event: Option<Stamped>) -> Result<String, AllocError>
+    ensures { IfOk result (λ s. string_bytes s ≡ spec.or_none stamped_text event) }
+{
     match event {
         Some(event) => format!(in alloc; "{event}\n"),
         None => word_text(alloc, "none"),
     }
 }
 
-fn account_text(alloc: Global, account: Option<Account>) -> Result<String, AllocError> {
+fn account_text(alloc: Global, account: Option<Account>) -> Result<String, AllocError>
+    ensures { IfOk result (λ s. string_bytes s ≡ spec.account_text account) }
+{
     let Some(account) = account else {
         return word_text(alloc, "none");
     };
@@ -247,75 +301,110 @@ fn account_text(alloc: Global, account: Option<Account>) -> Result<String, Alloc
     }
 }
 
-fn items_text(alloc: Global, items: &Option<Vec<Item>>) -> Result<String, AllocError> {
+fn items_text(alloc: Global, items: &[Item]) -> Result<String, AllocError>
+    ensures { IfOk result (λ s. string_bytes s ≡ spec.mailbox_text items.now) }
+{
     match items {
-        Some(items) => mailbox_text(alloc, items.as_slice()),
-        None => word_text(alloc, "none"),
+        [] => word_text(alloc, "nothing"),
+        [first, rest @ ..] => {
+            let first = *first;
+            let mut text = format!(in alloc; "{first}")?;
+            push_items(&mut text, rest)?;
+            text.push_str("\n")?;
+            Ok(text)
+        }
     }
 }
 
-fn mailbox_text(alloc: Global, items: &[Item]) -> Result<String, AllocError> {
-    if items.len() == 0 {
-        return word_text(alloc, "nothing");
-    }
-    let mut text = String::new(alloc);
+/// Adds each item behind a semicolon.
+fn push_items(text: &mut String, items: &[Item]) -> Result<(), AllocError>
+    ensures { OnOk result (string_bytes text.new ≡ string_bytes text.old ++ spec.more_items items.now) }
+{
     for place in 0..items.len() {
-        if place > 0 {
-            text.push_str("; ")?;
-        }
         let item = items[place];
-        write!(text, "{item}")?;
+        write!(text, "; {item}")?;
     }
-    text.push_str("\n")?;
+    Ok(())
+}
+
+fn events_text(alloc: Global, events: &[Stamped]) -> Result<String, AllocError>
+    ensures { IfOk result (λ s. string_bytes s ≡ spec.events_text events.now) }
+{
+    match events {
+        [] => word_text(alloc, "nothing"),
+        _ => event_lines(alloc, events),
+    }
+}
+
+fn event_lines(alloc: Global, events: &[Stamped]) -> Result<String, AllocError>
+    ensures { IfOk result (λ s. string_bytes s ≡ spec.event_lines events.now) }
+{
+    let mut text = String::new(alloc);
+    for place in 0..events.len() {
+        let event = events[place];
+        write!(text, "{event}\n")?;
+    }
     Ok(text)
 }
 
-fn events_text(alloc: Global, events: &[Stamped]) -> Result<String, AllocError> {
-    if events.len() == 0 {
-        return word_text(alloc, "nothing");
+fn letters_text(alloc: Global, letters: &[LeftOver]) -> Result<String, AllocError>
+    ensures { IfOk result (λ s. string_bytes s ≡ spec.letters_text letters.now) }
+{
+    match letters {
+        [] => word_text(alloc, "nothing"),
+        _ => letter_lines(alloc, letters),
     }
+}
+
+fn letter_lines(alloc: Global, letters: &[LeftOver]) -> Result<String, AllocError>
+    ensures { IfOk result (λ s. string_bytes s ≡ spec.letter_lines letters.now) }
+{
     let mut text = String::new(alloc);
-    for event in events {
-        writeln!(text, "{event}")?;
+    for place in 0..letters.len() {
+        let letter = letters[place];
+        write!(text, "{letter}\n")?;
     }
     Ok(text)
 }
 
-fn letters_text(alloc: Global, letters: &[LeftOver]) -> Result<String, AllocError> {
-    if letters.len() == 0 {
-        return word_text(alloc, "nothing");
-    }
-    let mut text = String::new(alloc);
-    for letter in letters {
-        writeln!(text, "{letter}")?;
-    }
-    Ok(text)
-}
-
-fn pids_text(alloc: Global, pids: &[Pid]) -> Result<String, AllocError> {
-    if pids.len() == 0 {
-        return word_text(alloc, "nothing");
-    }
-    let mut text = String::new(alloc);
-    for place in 0..pids.len() {
-        if place > 0 {
-            text.push_str(" ")?;
+fn pids_text(alloc: Global, pids: &[Pid]) -> Result<String, AllocError>
+    ensures { IfOk result (λ s. string_bytes s ≡ spec.pids_text pids.now) }
+{
+    match pids {
+        [] => word_text(alloc, "nothing"),
+        [first, rest @ ..] => {
+            let first = *first;
+            let mut text = format!(in alloc; "{first}")?;
+            push_pids(&mut text, rest)?;
+            text.push_str("\n")?;
+            Ok(text)
         }
-        let pid = pids[place];
-        write!(text, "{pid}")?;
     }
-    text.push_str("\n")?;
-    Ok(text)
 }
 
-fn handled_text(alloc: Global, given: Result<u64, Stop>) -> Result<String, AllocError> {
+/// Adds each pid behind a space.
+fn push_pids(text: &mut String, pids: &[Pid]) -> Result<(), AllocError>
+    ensures { OnOk result (string_bytes text.new ≡ string_bytes text.old ++ spec.more_pids pids.now) }
+{
+    for place in 0..pids.len() {
+        let pid = pids[place];
+        write!(text, " {pid}")?;
+    }
+    Ok(())
+}
+
+fn handled_text(alloc: Global, given: Result<u64, Stop>) -> Result<String, AllocError>
+    ensures { IfOk result (λ s. string_bytes s ≡ spec.handled_text given) }
+{
     match given {
         Ok(count) => format!(in alloc; "handled {count}\n"),
         Err(stop) => word_text(alloc, word_of_stop(stop)),
     }
 }
 
-fn judged_text(alloc: Global, given: Result<(), (u64, Cause)>) -> Result<String, AllocError> {
+fn judged_text(alloc: Global, given: Result<(), (u64, Cause)>) -> Result<String, AllocError>
+    ensures { IfOk result (λ s. string_bytes s ≡ spec.judged_text given) }
+{
     match given {
         Ok(()) => word_text(alloc, "legal"),
         Err((place, cause)) => format!(in alloc; "event {place}: {cause}\n"),

@@ -1,0 +1,4 @@
+pub mod Acting
+pub mod Text
+pub mod Looking
+pub mod Stepping
