@@ -1,4 +1,6 @@
 pub mod Acting
 pub mod Text
 pub mod Looking
+pub mod LookingBack
+pub mod Sessions
 pub mod Stepping

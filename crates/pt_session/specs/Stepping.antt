@@ -2,7 +2,7 @@
 use Rattle.std.specs.Prelude.{◌≡◌, ℕ, List, [], ◌++◌, length, map, reverse, Option, Some, None, Result, Ok, Err}
 use Rattle.pt_events.specs.declared.event.Event.{Event}
 use Rattle.pt_events.specs.declared.event.Stamped.{Stamped}
-use Rattle.pt_events.specs.Journal.{IsMerge, events}
+use Rattle.pt_events.specs.Journal.{IsMerge}
 use Rattle.pt_shard.specs.declared.config.Config.{Config}
 use Rattle.pt_desk.specs.DeskState.{DeskState}
 use Rattle.pt_gathered.specs.Gathered.{GatheredState, journals}
@@ -17,6 +17,10 @@ use Rattle.pt_node.specs.Node.{OpensNode}
 use Rattle.pt_node.specs.Resuming.{Resumes}
 use Rattle.pt_session.specs.declared.answer.Answer.{Answer}
 use Rattle.pt_session.specs.declared.phase.Phase.{Phase}
+
+-- events without their stamps and desks
+abbrev pub bare : List Stamped → List Event
+bare history = map (λ (s : Stamped). s.event) history
 
 -- the node is in this state, and is so
 abbrev pub IfRunning : Phase → (List DeskState → Type 0) → Type 0
@@ -67,11 +71,16 @@ SettlesAs (Phase.Gathered g) (Some a) new = SettlesTo g a new
 SettlesAs (Phase.Gathered g) None new = ⊥
 SettlesAs old a new = (a ≡ None) × (new ≡ old)
 
+-- the events of the epochs before, and then those of the node's history
+abbrev pub HasEpoch : QuietState → List Event → List Event → Type 0
+HasEpoch q before after =
+    (history : List Stamped) × IsMerge (journals q.gathered) (reverse history) × (after ≡ before ++ bare history)
+
 -- the node runs on, and its history is among those of the epochs before; or there was no memory, and all is as it was
 abbrev pub ResumesTo : QuietState → List Event → Answer → Phase → List Event → Type 0
 ResumesTo q before Answer.Resumed new after =
     IfRunning new (λ desks. Resumes q.gathered desks)
-    × ((merged : List Stamped) × IsMerge (journals q.gathered) merged × (after ≡ before ++ reverse (events merged)))
+    × HasEpoch q before after
 ResumesTo q before Answer.NoMemory new after = (new ≡ Phase.Settled q) × (after ≡ before)
 ResumesTo q before _ new after = ⊥
 

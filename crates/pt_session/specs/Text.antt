@@ -24,7 +24,6 @@ use Rattle.pt_gathered.specs.declared.left_over.LeftOver.{LeftOver}
 use Rattle.pt_gathered.specs.Text.{left_over_text}
 use Rattle.pt_node.specs.declared.node_fault.NodeFault.{NodeFault}
 use Rattle.pt_node.specs.declared.node_fault.NodeFault.TheVariants as node_fault
-use Rattle.pt_node.specs.declared.stillness.Rested.{Rested}
 use Rattle.pt_node.specs.declared.stillness.Stopped.{Stopped}
 use Rattle.pt_session.specs.declared.answer.Answer.{Answer}
 
@@ -90,19 +89,20 @@ abbrev pub then_text : Option Stop → List ℕ
 then_text None = codes "\n"
 then_text (Some s) = codes ", then " ++ stop_word s ++ codes "\n"
 
-abbrev pub turn_text : Turned → List ℕ
-turn_text t = codes "posted " ++ decimal t.posted ++ codes " handled " ++ decimal t.handled ++ then_text t.stopped
+abbrev pub turn_text : ℕ → ℕ → Option Stop → List ℕ
+turn_text posted handled stopped =
+    codes "posted " ++ decimal posted ++ codes " handled " ++ decimal handled ++ then_text stopped
 
 abbrev pub turned_text : Result Turned NodeFault → List ℕ
-turned_text (Ok t) = turn_text t
+turned_text (Ok t) = turn_text t.posted t.handled t.stopped
 turned_text (Err f) = line (refusal_word f)
 
 abbrev pub stopped_text : Option Stopped → List ℕ
 stopped_text None = codes "\n"
 stopped_text (Some s) = codes ", then desk " ++ decimal s.desk ++ codes " " ++ stop_word s.cause ++ codes "\n"
 
-abbrev pub rested_text : Rested → List ℕ
-rested_text r = codes "handled " ++ decimal r.handled ++ stopped_text r.stopped
+abbrev pub rested_text : ℕ → Option Stopped → List ℕ
+rested_text handled stopped = codes "handled " ++ decimal handled ++ stopped_text stopped
 
 abbrev pub number_text : Option ℕ → List ℕ
 number_text (Some n) = line (decimal n)
@@ -117,14 +117,14 @@ abbrev pub or_none : {A : Type 0} → (A → List ℕ) → Option A → List ℕ
 or_none print (Some x) = line (print x)
 or_none print None = line (codes "none")
 
-abbrev pub counts_text : Account → List ℕ
-counts_text a =
-    codes " arrived " ++ decimal a.arrived ++ codes " taken " ++ decimal a.taken ++ codes " waiting "
-    ++ decimal a.waiting ++ codes "\n"
+abbrev pub counts_text : ℕ → ℕ → ℕ → List ℕ
+counts_text arrived taken waiting =
+    codes " arrived " ++ decimal arrived ++ codes " taken " ++ decimal taken ++ codes " waiting " ++ decimal waiting
+    ++ codes "\n"
 
 abbrev pub fate_text : Option Reason → Account → List ℕ
-fate_text None a = codes "alive" ++ counts_text a
-fate_text (Some r) a = codes "ended " ++ reason_text r ++ counts_text a
+fate_text None a = codes "alive" ++ counts_text a.arrived a.taken a.waiting
+fate_text (Some r) a = codes "ended " ++ reason_text r ++ counts_text a.arrived a.taken a.waiting
 
 abbrev pub account_text : Option Account → List ℕ
 account_text None = line (codes "none")
@@ -166,9 +166,12 @@ abbrev pub handled_text : Result ℕ Stop → List ℕ
 handled_text (Ok n) = codes "handled " ++ decimal n ++ codes "\n"
 handled_text (Err s) = line (stop_word s)
 
+abbrev pub contradiction_text : ℕ → Cause → List ℕ
+contradiction_text place cause = codes "event " ++ decimal place ++ codes ": " ++ cause_text cause ++ codes "\n"
+
 abbrev pub judged_text : Result (Unit {0}) (ℕ × Cause) → List ℕ
 judged_text (Ok u) = line (codes "legal")
-judged_text (Err stop) = codes "event " ++ decimal stop.0 ++ codes ": " ++ cause_text stop.1 ++ codes "\n"
+judged_text (Err stop) = contradiction_text stop.0 stop.1
 
 -- the lines of an answer
 abbrev pub answer_text : Answer → List ℕ
@@ -179,7 +182,7 @@ answer_text (Answer.Named r) = named_text r
 answer_text (Answer.Told r) = told_text r
 answer_text (Answer.Taken r) = taken_text r
 answer_text (Answer.Turned r) = turned_text r
-answer_text (Answer.Rested r) = rested_text r
+answer_text (Answer.Rested r) = rested_text r.handled r.stopped
 answer_text (Answer.Number n) = number_text n
 answer_text (Answer.Truth b) = truth_text b
 answer_text (Answer.Pid p) = or_none pid_text p

@@ -1,11 +1,11 @@
 //! A session of calls on a node: a line is heard, what it asks for is done, and the answer is a text.
 //!
 //! ```
-//! let mut session = Session::new(alloc);
-//! session.hear(b"open desks=2")?;
-//! session.hear(b"a = spawn 0")?;
-//! session.answer();                                        // <0.0.1>
-//! session.hear(b"expect <0.0.1>")?;
+//! let mut session = begin(alloc);
+//! hear(&mut session, b"open desks=2")?;
+//! hear(&mut session, b"a = spawn 0")?;
+//! answer_of(&session);                                     // <0.0.1>
+//! hear(&mut session, b"expect <0.0.1>")?;
 //! ```
 //!
 //! What a line may be, `pt_lines` says. A session has one node at most: it runs, is gathered, or is settled, and each
@@ -29,4 +29,4 @@ pub use answer::Answer;
 pub use complaint::{Complaint, State};
 pub use phase::Phase;
 pub use running::{Fault, PROMPT, run};
-pub use session::{Heard, Session};
+pub use session::{Heard, Session, answer_of, begin, hear, is_comparing, next_line};

@@ -1,7 +1,15 @@
 //! Looks at a node that was gathered, or settled.
 
+ghost use Rattle.std.specs.Prelude.{◌≡◌, IfOk, Some};
+ghost use Rattle.pt_accounts.specs.LivesState.{account_in};
+ghost use Rattle.pt_gathered.specs.Gathered.{begins};
+ghost use Rattle.pt_session.specs.Looking.{IfItems};
+ghost use Rattle.pt_session.specs.LookingBack as spec;
+ghost use Rattle.pt_session.specs.Stepping.{bare};
+
 use crate::answer::Answer;
 use crate::looking::{find_event, items};
+use pt_accounts::Account;
 use pt_events::{Event, Stamped};
 use pt_gathered::{Gathered, Quiet};
 use pt_judge::{replay, replay_from};
@@ -15,16 +23,28 @@ pub(crate) fn look_at_gathered(
     gathered: &Gathered,
     earlier: &[Event],
     look: Look,
-) -> Option<Answer> {
+) -> Option<Answer>
+    ensures { spec.LooksAtGathered look gathered.now earlier.now result }
+{
     match look {
         Look::LeftOver => Some(match gathered.left_over() {
             Ok(letters) => Answer::Letters(letters),
             Err(_) => Answer::NoMemory,
         }),
-        Look::History | Look::Event(_, _) | Look::Events | Look::Judge => {
-            Some(look_at_history(alloc, gathered.history(), earlier, look))
-        }
+        Look::History => Some(gathered_history(alloc, gathered, earlier, look)),
+        Look::Event(_, _) => Some(gathered_history(alloc, gathered, earlier, look)),
+        Look::Events => Some(gathered_history(alloc, gathered, earlier, look)),
+        Look::Judge => Some(gathered_history(alloc, gathered, earlier, look)),
         _ => None,
+    }
+}
+
+fn gathered_history(alloc: Global, gathered: &Gathered, earlier: &[Event], look: Look) -> Answer
+    ensures { spec.TellsHistory gathered.now look earlier.now result }
+{
+    match gathered.history() {
+        Ok(history) => look_at_history(alloc, history, earlier, look),
+        Err(_) => Answer::NoMemory,
     }
 }
 
@@ -34,18 +54,21 @@ pub(crate) fn look_at_quiet(
     quiet: &Quiet,
     earlier: &[Event],
     look: Look,
-) -> Option<Answer> {
+) -> Option<Answer>
+    ensures { spec.LooksAtQuiet look quiet.now earlier.now result }
+{
     match look {
-        Look::History | Look::Event(_, _) | Look::Events | Look::Judge => {
-            Some(look_at_history(alloc, quiet.history(), earlier, look))
-        }
+        Look::History => Some(quiet_history(alloc, quiet, earlier, look)),
+        Look::Event(_, _) => Some(quiet_history(alloc, quiet, earlier, look)),
+        Look::Events => Some(quiet_history(alloc, quiet, earlier, look)),
+        Look::Judge => Some(quiet_history(alloc, quiet, earlier, look)),
         Look::Pids => Some(match quiet.pids().to_vec(alloc) {
             Ok(pids) => Answer::Pids(pids),
             Err(_) => Answer::NoMemory,
         }),
         Look::Account(pid) => Some(Answer::Account(quiet.account(pid))),
-        Look::Ended(pid) => Some(Answer::Reason(ended(quiet, pid))),
-        Look::Alive(pid) => Some(Answer::Truth(Some(alive(quiet, pid)))),
+        Look::Ended(pid) => Some(Answer::Reason(ended_of(quiet.account(pid)))),
+        Look::Alive(pid) => Some(Answer::Truth(Some(is_alive(quiet.account(pid))))),
         Look::Waiting(pid) => Some(waiting(alloc, quiet, pid)),
         Look::Linked(pid, peer) => Some(Answer::Ids(quiet.linked(pid, peer))),
         Look::Watching(pid, monitor) => Some(Answer::Truth(Some(quiet.watching(pid, monitor)))),
@@ -54,38 +77,47 @@ pub(crate) fn look_at_quiet(
     }
 }
 
-fn ended(quiet: &Quiet, pid: Pid) -> Option<Reason> {
-    match quiet.account(pid) {
+fn quiet_history(alloc: Global, quiet: &Quiet, earlier: &[Event], look: Look) -> Answer
+    ensures { spec.TellsHistory quiet.now.gathered look earlier.now result }
+{
+    match quiet.history() {
+        Ok(history) => look_at_history(alloc, history, earlier, look),
+        Err(_) => Answer::NoMemory,
+    }
+}
+
+fn ended_of(account: Option<Account>) -> Option<Reason>
+    ensures { result ≡ spec.ended_of account }
+{
+    match account {
         Some(account) => account.ended,
         None => None,
     }
 }
 
-fn alive(quiet: &Quiet, pid: Pid) -> bool {
-    match quiet.account(pid) {
+fn is_alive(account: Option<Account>) -> bool
+    ensures { result ≡ spec.is_alive account }
+{
+    match account {
         Some(account) => account.ended.is_none(),
         None => false,
     }
 }
 
 /// The items that wait in a mailbox, as the state says that the history leads to.
-fn waiting(alloc: Global, quiet: &Quiet, pid: Pid) -> Answer {
+fn waiting(alloc: Global, quiet: &Quiet, pid: Pid) -> Answer
+    ensures { IfItems (Some result) (λ items. Unit {0}) }
+{
     match quiet.state() {
         Ok(state) => items(alloc, state.waiting(pid)),
         Err(_) => Answer::NoMemory,
     }
 }
 
-/// What is read of a history, if there was memory for it.
-fn look_at_history(
-    alloc: Global,
-    history: Result<Vec<Stamped>, AllocError>,
-    earlier: &[Event],
-    look: Look,
-) -> Answer {
-    let Ok(history) = history else {
-        return Answer::NoMemory;
-    };
+/// What is read of a history.
+fn look_at_history(alloc: Global, history: Vec<Stamped>, earlier: &[Event], look: Look) -> Answer
+    ensures { spec.OfHistory look history.items earlier.now result }
+{
     match look {
         Look::Event(desk, stamp) => { Answer::Event(find_event(history.as_slice(), desk, stamp)) }
         Look::Events => Answer::Number(Some(history.len() as u64)),
@@ -95,7 +127,9 @@ fn look_at_history(
 }
 
 /// What the judge of histories says of a history, over the events of all epochs before.
-fn judge(alloc: Global, earlier: &[Event], history: &[Stamped]) -> Answer {
+fn judge(alloc: Global, earlier: &[Event], history: &[Stamped]) -> Answer
+    ensures { spec.IsJudged earlier.now history.now result }
+{
     let Ok(events) = events_of(alloc, history) else {
         return Answer::NoMemory;
     };
@@ -109,6 +143,8 @@ fn judge(alloc: Global, earlier: &[Event], history: &[Stamped]) -> Answer {
 }
 
 /// The events, without their stamps and desks.
-pub(crate) fn events_of(alloc: Global, history: &[Stamped]) -> Result<Vec<Event>, AllocError> {
+pub(crate) fn events_of(alloc: Global, history: &[Stamped]) -> Result<Vec<Event>, AllocError>
+    ensures { IfOk result (λ events. events.items ≡ bare history.now) }
+{
     history.iter().map(|stamped| stamped.event).collect(alloc)
 }

@@ -1,7 +1,7 @@
 //! The lines of a reader are heard, and the answers written.
 
 use crate::complaint::Complaint;
-use crate::session::{Heard, Session};
+use crate::session::{Heard, Session, answer_of, begin, hear as hear_line, is_comparing};
 use crate::telling::{tell, tell_end};
 use std::alloc::Global;
 use std::io;
@@ -39,7 +39,7 @@ pub fn run<R: BufRead, W: Write, E: Write>(
     out: &mut W,
     errors: &mut E,
 ) -> Result<(), Fault> {
-    let mut session = Session::new(alloc);
+    let mut session = begin(alloc);
     let mut line = Vec::new(alloc);
     for number in 1..u64::MAX {
         prompt(is_person, out)?;
@@ -83,10 +83,10 @@ fn hear<W: Write, E: Write>(
     out: &mut W,
     errors: &mut E,
 ) -> Result<(), Fault> {
-    match session.hear(line) {
+    match hear_line(session, line) {
         Ok(Heard::Silent) => Ok(()),
         Ok(Heard::Answered) => {
-            out.write_all(session.answer().as_bytes())?;
+            out.write_all(answer_of(session).as_bytes())?;
             out.flush()?;
             Ok(())
         }
@@ -108,7 +108,7 @@ fn fault_of(complaint: Complaint) -> Fault {
 
 /// The lines have ended.
 fn end<E: Write>(session: &Session, number: u64, errors: &mut E) -> Result<(), Fault> {
-    if session.is_comparing() {
+    if is_comparing(session) {
         tell_end(errors, session, number)?;
         errors.flush()?;
         return Err(Fault::Line);

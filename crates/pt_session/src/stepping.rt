@@ -1,6 +1,7 @@
 //! Steps from one state of a node to the next: it is opened, gathered, settled, and goes on.
 
-ghost use Rattle.std.specs.Prelude.{Some};
+ghost use Rattle.std.specs.Prelude.{◌≡◌, IfOk, IfSome, length};
+ghost use Rattle.pt_gathered.specs.LeftOvers.{all_left};
 ghost use Rattle.pt_session.specs.Stepping as spec;
 
 use crate::answer::Answer;
@@ -53,19 +54,21 @@ fn gathered(node: Node) -> (Phase, Answer)
     ensures { spec.GathersTo node result.1 result.0 }
 {
     match node.gather() {
-        Ok(gathered) => {
-            let answer = left_over(&gathered);
-            (Phase::Gathered(gathered), answer)
-        }
+        Ok(gathered) => match count_left(&gathered) {
+            Some(count) => (Phase::Gathered(gathered), Answer::LeftOver(count)),
+            None => (Phase::Gathered(gathered), Answer::NoMemory),
+        },
         Err(back) => (Phase::Running(back.node), Answer::NoMemory),
     }
 }
 
-/// How many letters are left over.
-fn left_over(gathered: &Gathered) -> Answer {
+/// How many letters are left over, if there was memory for the list of them.
+fn count_left(gathered: &Gathered) -> Option<u64>
+    ensures { IfSome result (λ n. n ≡ length (all_left gathered.now)) }
+{
     match gathered.left_over() {
-        Ok(letters) => Answer::LeftOver(letters.len() as u64),
-        Err(_) => Answer::NoMemory,
+        Ok(letters) => Some(letters.len() as u64),
+        Err(_) => None,
     }
 }
 
@@ -102,7 +105,9 @@ fn settled(gathered: Gathered) -> (Phase, Answer)
 }
 
 /// Goes on from the node, if it is settled.
-pub(crate) fn resume(alloc: Global, phase: &mut Phase, earlier: &mut Vec<Event>) -> Option<Answer> {
+pub(crate) fn resume(alloc: Global, phase: &mut Phase, earlier: &mut Vec<Event>) -> Option<Answer>
+    ensures { spec.ResumesAs phase.old earlier.old.items result phase.new earlier.new.items }
+{
     match mem::replace(phase, Phase::Closed) {
         Phase::Settled(quiet) => {
             let (next, answer) = resumed(alloc, quiet, earlier);
@@ -116,7 +121,9 @@ pub(crate) fn resume(alloc: Global, phase: &mut Phase, earlier: &mut Vec<Event>)
     }
 }
 
-fn resumed(alloc: Global, quiet: Quiet, earlier: &mut Vec<Event>) -> (Phase, Answer) {
+fn resumed(alloc: Global, quiet: Quiet, earlier: &mut Vec<Event>) -> (Phase, Answer)
+    ensures { spec.ResumesTo quiet earlier.old.items result.1 result.0 earlier.new.items }
+{
     let Ok(events) = with_epoch(alloc, earlier.as_slice(), &quiet) else {
         return (Phase::Settled(quiet), Answer::NoMemory);
     };
@@ -130,7 +137,9 @@ fn resumed(alloc: Global, quiet: Quiet, earlier: &mut Vec<Event>) -> (Phase, Ans
 }
 
 /// The events of all epochs, that of the node among them.
-fn with_epoch(alloc: Global, earlier: &[Event], quiet: &Quiet) -> Result<Vec<Event>, AllocError> {
+fn with_epoch(alloc: Global, earlier: &[Event], quiet: &Quiet) -> Result<Vec<Event>, AllocError>
+    ensures { IfOk result (λ events. spec.HasEpoch quiet.now earlier.now events.items) }
+{
     let mut events = earlier.to_vec(alloc)?;
     let history = quiet.history()?;
     let epoch = events_of(alloc, history.as_slice())?;

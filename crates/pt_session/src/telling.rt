@@ -1,7 +1,7 @@
 //! What is told of a line that was not done.
 
 use crate::complaint::{Complaint, State};
-use crate::session::Session;
+use crate::session::{Session, next_line};
 use pt_lines::{Mistake, Why};
 use std::io;
 use std::io::Write;
@@ -73,7 +73,7 @@ fn tell_word<W: Write>(out: &mut W, line: &[u8], column: usize) -> io::Result<()
 /// What stands before the first blank.
 fn word_in(text: &[u8]) -> &[u8] {
     for place in 0..text.len() {
-        if text[place] == b' ' || text[place] == b'\t' || text[place] == b'\r' {
+        if is_blank(text[place]) {
             return &text[..place];
         }
     }
@@ -89,18 +89,41 @@ fn tell_unexpected<W: Write>(
     write!(out, "line {number}: wanted ")?;
     out.write_all(wanted_in(line))?;
     out.write_all(b", answered ")?;
-    out.write_all(session.next_line())?;
+    out.write_all(next_line(session))?;
     out.write_all(b"\n")
 }
 
 /// What stands behind the first word of a line, without the blanks before it.
 fn wanted_in(line: &[u8]) -> &[u8] {
-    let line = line.trim_ascii();
-    line[word_in(line).len()..].trim_ascii()
+    without_blanks(without_word(without_blanks(line)))
+}
+
+/// The text without the blanks in front.
+fn without_blanks(text: &[u8]) -> &[u8] {
+    for place in 0..text.len() {
+        if !is_blank(text[place]) {
+            return &text[place..];
+        }
+    }
+    &text[..0]
+}
+
+/// The text without the word in front.
+fn without_word(text: &[u8]) -> &[u8] {
+    for place in 0..text.len() {
+        if is_blank(text[place]) {
+            return &text[place..];
+        }
+    }
+    &text[..0]
+}
+
+fn is_blank(byte: u8) -> bool {
+    byte == b' ' || byte == b'\t' || byte == b'\r'
 }
 
 fn tell_left<W: Write>(out: &mut W, session: &Session, number: u64) -> io::Result<()> {
     write!(out, "line {number}: not compared: ")?;
-    out.write_all(session.next_line())?;
+    out.write_all(next_line(session))?;
     out.write_all(b"\n")
 }

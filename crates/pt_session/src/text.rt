@@ -12,7 +12,7 @@ use pt_events::Stamped;
 use pt_gathered::LeftOver;
 use pt_judge::Cause;
 use pt_lines::CALLS;
-use pt_node::{NodeFault, Rested};
+use pt_node::{NodeFault, Stopped};
 use pt_shard::{Fault, OpenError, Setting, Stop};
 use pt_signal::{Ids, Item, Pid, Reason, Ref};
 use std::alloc::{AllocError, Global};
@@ -29,7 +29,7 @@ pub(crate) fn text_of(alloc: Global, answer: &Answer) -> Result<String, AllocErr
         Answer::Told(result) => told_text(alloc, *result),
         Answer::Taken(result) => taken_text(alloc, *result),
         Answer::Turned(result) => turned_text(alloc, *result),
-        Answer::Rested(rested) => rested_text(alloc, *rested),
+        Answer::Rested(rested) => rested_text(alloc, rested.handled, rested.stopped),
         Answer::Number(number) => number_text(alloc, *number),
         Answer::Truth(truth) => truth_text(alloc, *truth),
         Answer::Pid(pid) => pid_text(alloc, *pid),
@@ -191,19 +191,19 @@ fn turned_text(alloc: Global, given: Result<Turned, NodeFault>) -> Result<String
     ensures { IfOk result (λ s. string_bytes s ≡ spec.turned_text given) }
 {
     match given {
-        Ok(turned) => turn_text(alloc, turned),
+        Ok(turned) => turn_text(alloc, turned.posted, turned.handled, turned.stopped),
         Err(fault) => refused_text(alloc, fault),
     }
 }
 
-fn turn_text(alloc: Global, turned: Turned) -> Result<String, AllocError>
-    ensures { IfOk result (λ s. string_bytes s ≡ spec.turn_text turned) }
+fn turn_text(
+    alloc: Global,
+    posted: u64,
+    handled: u64,
+    stopped: Option<Stop>,
+) -> Result<String, AllocError>
+    ensures { IfOk result (λ s. string_bytes s ≡ spec.turn_text posted handled stopped) }
 {
-    let Turned {
-        posted,
-        handled,
-        stopped,
-    } = turned;
     match stopped {
         None => format!(in alloc; "posted {posted} handled {handled}\n"),
         Some(stop) => {
@@ -213,11 +213,10 @@ fn turn_text(alloc: Global, turned: Turned) -> Result<String, AllocError>
     }
 }
 
-fn rested_text(alloc: Global, rested: Rested) -> Result<String, AllocError>
-    ensures { IfOk result (λ s. string_bytes s ≡ spec.rested_text rested) }
+fn rested_text(alloc: Global, handled: u64, stopped: Option<Stopped>) -> Result<String, AllocError>
+    ensures { IfOk result (λ s. string_bytes s ≡ spec.rested_text handled stopped) }
 {
-    let handled = rested.handled;
-    match rested.stopped {
+    match stopped {
         None => format!(in alloc; "handled {handled}\n"),
         Some(stopped) => {
             let desk = stopped.desk;
@@ -284,21 +283,27 @@ fn event_text(alloc: Global, event: Option<Stamped>) -> Result<String, AllocErro
 fn account_text(alloc: Global, account: Option<Account>) -> Result<String, AllocError>
     ensures { IfOk result (λ s. string_bytes s ≡ spec.account_text account) }
 {
-    let Some(account) = account else {
-        return word_text(alloc, "none");
-    };
-    let Account {
-        ended,
-        arrived,
-        taken,
-        waiting,
-    } = account;
-    match ended {
-        None => { format!(in alloc; "alive arrived {arrived} taken {taken} waiting {waiting}\n") }
-        Some(reason) => {
-            format!(in alloc; "ended {reason} arrived {arrived} taken {taken} waiting {waiting}\n")
-        }
+    match account {
+        Some(account) => fate_text(alloc, account.ended, account),
+        None => word_text(alloc, "none"),
     }
+}
+
+fn fate_text(alloc: Global, ended: Option<Reason>, account: Account) -> Result<String, AllocError>
+    ensures { IfOk result (λ s. string_bytes s ≡ spec.fate_text ended account) }
+{
+    let counts = counts_text(alloc, account.arrived, account.taken, account.waiting)?;
+    let counts = counts.as_str();
+    match ended {
+        None => format!(in alloc; "alive{counts}"),
+        Some(reason) => format!(in alloc; "ended {reason}{counts}"),
+    }
+}
+
+fn counts_text(alloc: Global, arrived: u64, taken: u64, waiting: u64) -> Result<String, AllocError>
+    ensures { IfOk result (λ s. string_bytes s ≡ spec.counts_text arrived taken waiting) }
+{
+    format!(in alloc; " arrived {arrived} taken {taken} waiting {waiting}\n")
 }
 
 fn items_text(alloc: Global, items: &[Item]) -> Result<String, AllocError>
@@ -407,6 +412,12 @@ fn judged_text(alloc: Global, given: Result<(), (u64, Cause)>) -> Result<String,
 {
     match given {
         Ok(()) => word_text(alloc, "legal"),
-        Err((place, cause)) => format!(in alloc; "event {place}: {cause}\n"),
+        Err(found) => contradiction_text(alloc, found.0, found.1),
     }
+}
+
+fn contradiction_text(alloc: Global, place: u64, cause: Cause) -> Result<String, AllocError>
+    ensures { IfOk result (λ s. string_bytes s ≡ spec.contradiction_text place cause) }
+{
+    format!(in alloc; "event {place}: {cause}\n")
 }
