@@ -85,24 +85,29 @@ taken_text (Ok (Some i)) = line (item_text i)
 taken_text (Ok None) = line (codes "none")
 taken_text (Err f) = line (refusal_word f)
 
-abbrev pub then_text : Option Stop → List ℕ
-then_text None = codes "\n"
-then_text (Some s) = codes ", then " ++ stop_word s ++ codes "\n"
+unfoldable pub turns_text : ℕ → ℕ → List ℕ
+turns_text posted handled = codes "posted " ++ decimal posted ++ codes " handled " ++ decimal handled
+
+unfoldable pub then_text : Stop → List ℕ
+then_text s = codes ", then " ++ stop_word s
 
 abbrev pub turn_text : ℕ → ℕ → Option Stop → List ℕ
-turn_text posted handled stopped =
-    codes "posted " ++ decimal posted ++ codes " handled " ++ decimal handled ++ then_text stopped
+turn_text posted handled None = line (turns_text posted handled)
+turn_text posted handled (Some s) = line (turns_text posted handled ++ then_text s)
 
 abbrev pub turned_text : Result Turned NodeFault → List ℕ
 turned_text (Ok t) = turn_text t.posted t.handled t.stopped
 turned_text (Err f) = line (refusal_word f)
 
-abbrev pub stopped_text : Option Stopped → List ℕ
-stopped_text None = codes "\n"
-stopped_text (Some s) = codes ", then desk " ++ decimal s.desk ++ codes " " ++ stop_word s.cause ++ codes "\n"
+unfoldable pub count_text : ℕ → List ℕ
+count_text handled = codes "handled " ++ decimal handled
+
+unfoldable pub stopped_text : Stopped → List ℕ
+stopped_text s = codes ", then desk " ++ decimal s.desk ++ codes " " ++ stop_word s.cause
 
 abbrev pub rested_text : ℕ → Option Stopped → List ℕ
-rested_text handled stopped = codes "handled " ++ decimal handled ++ stopped_text stopped
+rested_text handled None = line (count_text handled)
+rested_text handled (Some s) = line (count_text handled ++ stopped_text s)
 
 abbrev pub number_text : Option ℕ → List ℕ
 number_text (Some n) = line (decimal n)
@@ -117,18 +122,17 @@ abbrev pub or_none : {A : Type 0} → (A → List ℕ) → Option A → List ℕ
 or_none print (Some x) = line (print x)
 or_none print None = line (codes "none")
 
-abbrev pub counts_text : ℕ → ℕ → ℕ → List ℕ
+unfoldable pub counts_text : ℕ → ℕ → ℕ → List ℕ
 counts_text arrived taken waiting =
     codes " arrived " ++ decimal arrived ++ codes " taken " ++ decimal taken ++ codes " waiting " ++ decimal waiting
-    ++ codes "\n"
 
-abbrev pub fate_text : Option Reason → Account → List ℕ
-fate_text None a = codes "alive" ++ counts_text a.arrived a.taken a.waiting
-fate_text (Some r) a = codes "ended " ++ reason_text r ++ counts_text a.arrived a.taken a.waiting
+abbrev pub fate_text : Option Reason → List ℕ → List ℕ
+fate_text None counts = line (codes "alive" ++ counts)
+fate_text (Some r) counts = line (codes "ended " ++ reason_text r ++ counts)
 
 abbrev pub account_text : Option Account → List ℕ
 account_text None = line (codes "none")
-account_text (Some a) = fate_text a.ended a
+account_text (Some a) = fate_text a.ended (counts_text a.arrived a.taken a.waiting)
 
 abbrev pub more_items : List Item → List ℕ
 more_items [] = []
@@ -163,15 +167,15 @@ pids_text [] = line (codes "nothing")
 pids_text (p ∷ pids) = pid_text p ++ more_pids pids ++ codes "\n"
 
 abbrev pub handled_text : Result ℕ Stop → List ℕ
-handled_text (Ok n) = codes "handled " ++ decimal n ++ codes "\n"
+handled_text (Ok n) = line (count_text n)
 handled_text (Err s) = line (stop_word s)
 
-abbrev pub contradiction_text : ℕ → Cause → List ℕ
-contradiction_text place cause = codes "event " ++ decimal place ++ codes ": " ++ cause_text cause ++ codes "\n"
+unfoldable pub contradiction_text : ℕ → Cause → List ℕ
+contradiction_text place cause = codes "event " ++ decimal place ++ codes ": " ++ cause_text cause
 
 abbrev pub judged_text : Result (Unit {0}) (ℕ × Cause) → List ℕ
 judged_text (Ok u) = line (codes "legal")
-judged_text (Err stop) = contradiction_text stop.0 stop.1
+judged_text (Err stop) = line (contradiction_text stop.0 stop.1)
 
 -- the lines of an answer
 abbrev pub answer_text : Answer → List ℕ

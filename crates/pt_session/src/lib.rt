@@ -18,6 +18,7 @@ mod complaint;
 mod expecting;
 mod looking;
 mod looking_back;
+mod parts;
 mod phase;
 mod running;
 mod session;

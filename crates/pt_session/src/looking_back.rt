@@ -146,5 +146,9 @@ fn judge(alloc: Global, earlier: &[Event], history: &[Stamped]) -> Answer
 pub(crate) fn events_of(alloc: Global, history: &[Stamped]) -> Result<Vec<Event>, AllocError>
     ensures { IfOk result (λ events. events.items ≡ bare history.now) }
 {
-    history.iter().map(|stamped| stamped.event).collect(alloc)
+    let mut events = Vec::new(alloc);
+    for place in 0..history.len() {
+        events.push(history[place].event)?;
+    }
+    Ok(events)
 }

@@ -6,6 +6,7 @@ ghost use Rattle.pt_events.specs.Text.{stamped_text};
 ghost use Rattle.pt_session.specs.Text as spec;
 
 use crate::answer::Answer;
+use crate::parts::{Contradiction, Count, Counts, Then, ThenAt, Turns, word_of_stop};
 use pt_accounts::Account;
 use pt_desk::Turned;
 use pt_events::Stamped;
@@ -107,15 +108,6 @@ fn word_of_refusal(fault: NodeFault) -> &'static str
     }
 }
 
-fn word_of_stop(stop: Stop) -> &'static str
-    ensures { result.now ≡ spec.stop_word stop }
-{
-    match stop {
-        Stop::Memory => "memory",
-        Stop::Worn => "worn",
-    }
-}
-
 fn word_of_truth(truth: bool) -> &'static str
     ensures { result.now ≡ spec.truth_word truth }
 {
@@ -204,26 +196,38 @@ fn turn_text(
 ) -> Result<String, AllocError>
     ensures { IfOk result (λ s. string_bytes s ≡ spec.turn_text posted handled stopped) }
 {
+    let turns = Turns { posted, handled };
     match stopped {
-        None => format!(in alloc; "posted {posted} handled {handled}\n"),
-        Some(stop) => {
-            let stop = word_of_stop(stop);
-            format!(in alloc; "posted {posted} handled {handled}, then {stop}\n")
-        }
+        None => format!(in alloc; "{turns}\n"),
+        Some(stop) => stopped_text(alloc, turns, Then(stop)),
     }
+}
+
+fn stopped_text(alloc: Global, turns: Turns, stop: Then) -> Result<String, AllocError>
+    ensures { IfOk result (λ s. string_bytes s
+        ≡ spec.line (spec.turns_text turns.posted turns.handled ++ spec.then_text stop.0)) }
+{
+    let mut text = format!(in alloc; "{turns}")?;
+    write!(text, "{stop}\n")?;
+    Ok(text)
 }
 
 fn rested_text(alloc: Global, handled: u64, stopped: Option<Stopped>) -> Result<String, AllocError>
     ensures { IfOk result (λ s. string_bytes s ≡ spec.rested_text handled stopped) }
 {
+    let count = Count(handled);
     match stopped {
-        None => format!(in alloc; "handled {handled}\n"),
-        Some(stopped) => {
-            let desk = stopped.desk;
-            let cause = word_of_stop(stopped.cause);
-            format!(in alloc; "handled {handled}, then desk {desk} {cause}\n")
-        }
+        None => format!(in alloc; "{count}\n"),
+        Some(stopped) => stopped_rest_text(alloc, count, ThenAt(stopped)),
     }
+}
+
+fn stopped_rest_text(alloc: Global, count: Count, stop: ThenAt) -> Result<String, AllocError>
+    ensures { IfOk result (λ s. string_bytes s ≡ spec.line (spec.count_text count.0 ++ spec.stopped_text stop.0)) }
+{
+    let mut text = format!(in alloc; "{count}")?;
+    write!(text, "{stop}\n")?;
+    Ok(text)
 }
 
 fn number_text(alloc: Global, number: Option<u64>) -> Result<String, AllocError>
@@ -284,26 +288,42 @@ fn account_text(alloc: Global, account: Option<Account>) -> Result<String, Alloc
     ensures { IfOk result (λ s. string_bytes s ≡ spec.account_text account) }
 {
     match account {
-        Some(account) => fate_text(alloc, account.ended, account),
+        Some(account) => {
+            let Account {
+                ended,
+                arrived,
+                taken,
+                waiting,
+            } = account;
+            let counts = Counts {
+                arrived,
+                taken,
+                waiting,
+            };
+            fate_text(alloc, ended, counts)
+        }
         None => word_text(alloc, "none"),
     }
 }
 
-fn fate_text(alloc: Global, ended: Option<Reason>, account: Account) -> Result<String, AllocError>
-    ensures { IfOk result (λ s. string_bytes s ≡ spec.fate_text ended account) }
+fn fate_text(alloc: Global, ended: Option<Reason>, counts: Counts) -> Result<String, AllocError>
+    ensures { IfOk result (λ s. string_bytes s
+        ≡ spec.fate_text ended (spec.counts_text counts.arrived counts.taken counts.waiting)) }
 {
-    let counts = counts_text(alloc, account.arrived, account.taken, account.waiting)?;
-    let counts = counts.as_str();
     match ended {
-        None => format!(in alloc; "alive{counts}"),
-        Some(reason) => format!(in alloc; "ended {reason}{counts}"),
+        None => format!(in alloc; "alive{counts}\n"),
+        Some(reason) => ended_text(alloc, reason, counts),
     }
 }
 
-fn counts_text(alloc: Global, arrived: u64, taken: u64, waiting: u64) -> Result<String, AllocError>
-    ensures { IfOk result (λ s. string_bytes s ≡ spec.counts_text arrived taken waiting) }
+fn ended_text(alloc: Global, reason: Reason, counts: Counts) -> Result<String, AllocError>
+    ensures { IfOk result (λ s. string_bytes s
+        ≡ spec.line (codes "ended " ++ signal_text.reason_text reason
+        ++ spec.counts_text counts.arrived counts.taken counts.waiting)) }
 {
-    format!(in alloc; " arrived {arrived} taken {taken} waiting {waiting}\n")
+    let mut text = format!(in alloc; "ended {reason}")?;
+    write!(text, "{counts}\n")?;
+    Ok(text)
 }
 
 fn items_text(alloc: Global, items: &[Item]) -> Result<String, AllocError>
@@ -402,7 +422,10 @@ fn handled_text(alloc: Global, given: Result<u64, Stop>) -> Result<String, Alloc
     ensures { IfOk result (λ s. string_bytes s ≡ spec.handled_text given) }
 {
     match given {
-        Ok(count) => format!(in alloc; "handled {count}\n"),
+        Ok(handled) => {
+            let count = Count(handled);
+            format!(in alloc; "{count}\n")
+        }
         Err(stop) => word_text(alloc, word_of_stop(stop)),
     }
 }
@@ -417,7 +440,8 @@ fn judged_text(alloc: Global, given: Result<(), (u64, Cause)>) -> Result<String,
 }
 
 fn contradiction_text(alloc: Global, place: u64, cause: Cause) -> Result<String, AllocError>
-    ensures { IfOk result (λ s. string_bytes s ≡ spec.contradiction_text place cause) }
+    ensures { IfOk result (λ s. string_bytes s ≡ spec.line (spec.contradiction_text place cause)) }
 {
-    format!(in alloc; "event {place}: {cause}\n")
+    let found = Contradiction { place, cause };
+    format!(in alloc; "{found}\n")
 }
