@@ -4,3 +4,4 @@ pub mod Looking
 pub mod LookingBack
 pub mod Sessions
 pub mod Stepping
+pub mod Running
