@@ -1,0 +1,66 @@
+//! Why a line is no call.
+
+ghost use Rattle.std.specs.Prelude.{◌≡◌};
+
+use std::fmt;
+
+/// Why a line is no call, and where.
+#[derive(Clone, Copy, Debug, PartialEq, Eq)]
+pub struct Mistake {
+    /// Where the word stands that is at fault, or where one would stand that is missing, counted in bytes from 1.
+    pub column: usize,
+    pub why: Why,
+}
+
+/// What a word is not.
+#[derive(Clone, Copy, Debug, PartialEq, Eq)]
+pub enum Why {
+    /// There is no call of this name.
+    NoCall,
+    /// It has not the form of a name, or is the name of a call.
+    NoName,
+    NoPid,
+    NoRef,
+    NoReason,
+    NoPick,
+    /// It is neither `true` nor `false`.
+    NoTruth,
+    /// It is no decimal number, or too great for its place.
+    NoNumber,
+    NoSetting,
+    /// The call has fewer words.
+    TooMany,
+    /// The call has more words.
+    Missing,
+}
+
+impl Mistake {
+    pub(crate) fn at(column: usize, why: Why) -> Mistake
+        ensures { result ≡ record { column = column; why = why } }
+    {
+        Mistake { column, why }
+    }
+}
+
+impl fmt::Display for Why {
+    ghost use Rattle.std.specs.Prelude.{Some};
+    ghost use Rattle.pt_lines.specs.Text.{why_text};
+
+    ghost output = { λ w. Some (why_text w) };
+
+    fn fmt<W: fmt::Write>(&self, f: &mut fmt::Formatter<W>) -> fmt::Result {
+        f.write_str(match *self {
+            Why::NoCall => "no call",
+            Why::NoName => "no name",
+            Why::NoPid => "no pid",
+            Why::NoRef => "no reference",
+            Why::NoReason => "no reason",
+            Why::NoPick => "no pick",
+            Why::NoTruth => "neither true nor false",
+            Why::NoNumber => "no number in range",
+            Why::NoSetting => "no setting",
+            Why::TooMany => "a word too many",
+            Why::Missing => "a word is missing",
+        })
+    }
+}

@@ -1,0 +1,64 @@
+//! The settings of a node, as `desks=2`.
+
+ghost use Rattle.std.specs.Prelude.{◌≡◌, ◌==◌, ◌<◌, map, length, position, IfSome};
+ghost use Rattle.pt_lines.specs.Settings as spec;
+ghost use Rattle.pt_lines.specs.Words.{told};
+
+use crate::mistake::{Mistake, Why};
+use crate::values::{u8_of, u32_of, u64_of};
+use crate::word::Word;
+use pt_shard::Config;
+
+/// The settings with the one of this name, by the word of its number.
+fn with_named(config: Config, name: &[u8], number: Word<'_>) -> Result<Config, Mistake>
+    ensures { result ≡ spec.with_named config name.now (told number.entry) }
+{
+    if name == b"desks".as_slice() {
+        Ok(config.with_desks(u8_of(number)?))
+    } else if name == b"slots".as_slice() {
+        Ok(config.with_slots(u32_of(number)?))
+    } else if name == b"top_version".as_slice() {
+        Ok(config.with_top_version(u32_of(number)?))
+    } else if name == b"lane".as_slice() {
+        Ok(config.with_lane(u32_of(number)?))
+    } else if name == b"start".as_slice() {
+        Ok(config.with_start(u64_of(number)?))
+    } else {
+        Err(Mistake::at(number.column, Why::NoSetting))
+    }
+}
+
+/// The settings with the one that the word names.
+fn with_setting(config: Config, word: Word<'_>) -> Result<Config, Mistake>
+    ensures { result ≡ spec.with_setting config (told word.entry) }
+{
+    match sign_in(word.text) {
+        Some(sign) => {
+            let number = Word {
+                column: word.column,
+                text: &word.text[sign + 1..],
+            };
+            with_named(config, &word.text[..sign], number)
+        }
+        None => Err(Mistake::at(word.column, Why::NoSetting)),
+    }
+}
+
+/// Where the first `=` stands.
+fn sign_in(text: &[u8]) -> Option<usize>
+    ensures place { result ≡ position (λ c. c == 61) text.now }
+    ensures within { IfSome result (λ sign. sign < length text.now) }
+{
+    text.iter().position(|byte| *byte == b'=')
+}
+
+/// The settings that the words name, and of the others the defaults. Of one that is named twice the last counts.
+pub(crate) fn config_of(words: &[Word<'_>]) -> Result<Config, Mistake>
+    ensures { result ≡ spec.with_settings Config.DEFAULT (map told words.now) }
+{
+    let mut config = Config::DEFAULT;
+    for place in 0..words.len() {
+        config = with_setting(config, words[place])?;
+    }
+    Ok(config)
+}

@@ -1,0 +1,2 @@
+pub mod LineIn
+pub mod LineByLine

@@ -1,0 +1,6 @@
+use Rattle.std.proofs.Common.{◌≡◌, ◌-◌, ◌^◌, ◌≤◌, min, take}
+use Rattle.pt_node.specs.Stillness.{count_events}
+use Rattle.pt_session.proofs.looking.count_events.Given as goal
+
+abbrev pub invariant-loop-place : goal.invariant-loop-place
+invariant-loop-place l = l.count ≡ min (count_events (take l.place l.desks)) (2 ^ 64 - 1)

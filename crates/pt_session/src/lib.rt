@@ -1,0 +1,33 @@
+//! A session of calls on a node: a line is heard, what it asks for is done, and the answer is a text.
+//!
+//! ```
+//! let mut session = begin(alloc);
+//! hear(&mut session, b"open desks=2")?;
+//! hear(&mut session, b"a = spawn 0")?;
+//! answer_of(&session);                                     // <0.0.1>
+//! hear(&mut session, b"expect <0.0.1>")?;
+//! ```
+//!
+//! What a line may be, `pt_lines` says. A session has one node at most: it runs, is gathered, or is settled, and each
+//! call is the node's call of that name. [`run`] hears the lines of a reader and writes each answer.
+#![tactic(auto)]
+
+mod acting;
+mod answer;
+mod complaint;
+mod expecting;
+mod looking;
+mod looking_back;
+mod parts;
+mod phase;
+mod running;
+mod session;
+mod stepping;
+mod telling;
+mod text;
+
+pub use answer::Answer;
+pub use complaint::{Complaint, State};
+pub use phase::Phase;
+pub use running::{Fault, PROMPT, run};
+pub use session::{Heard, Session, answer_of, begin, hear, is_comparing, next_line};

@@ -1,0 +1,143 @@
+//! Looks at a node that runs.
+
+ghost use Rattle.std.specs.Prelude.{◌≡◌, ◌-◌, ◌^◌, ◌≤◌, min, length, reverse, Some, None, false};
+ghost use Rattle.std.specs.Option.{option_copied};
+ghost use Rattle.pt_shard.specs.Known.{knows};
+ghost use Rattle.pt_shard.specs.Outbox.{count_pending};
+ghost use Rattle.pt_node.specs.Node.{ReadsAt};
+ghost use Rattle.pt_node.specs.Stillness.{count_events};
+ghost use Rattle.pt_session.specs.Looking as spec;
+
+use crate::answer::Answer;
+use pt_events::Stamped;
+use pt_lines::Look;
+use pt_node::Node;
+use pt_signal::{Item, Pid, Ref};
+use std::alloc::Global;
+
+/// What is read of a node that runs; `None` where that can be read of another one alone.
+pub(crate) fn look_at_node(alloc: Global, node: &Node, look: Look) -> Option<Answer>
+    ensures { spec.LooksAtNode look node.now result }
+{
+    match look {
+        Look::Clock(desk) => Some(Answer::Number(node.clock(desk))),
+        Look::Pending(desk) => Some(Answer::Number(pending(node, desk))),
+        Look::Journal(desk) => Some(journal(alloc, node, desk)),
+        Look::Event(desk, stamp) => Some(Answer::Event(event(node, desk, stamp))),
+        Look::Events => Some(Answer::Number(Some(count_events(node)))),
+        Look::Vacant(desk) => Some(Answer::Pid(node.vacant(desk))),
+        Look::Alive(pid) => Some(Answer::Truth(Some(node.alive(pid)))),
+        Look::Knows(desk, pid) => Some(Answer::Truth(knows(node, desk, pid))),
+        Look::Waiting(pid) => Some(items(alloc, node.waiting(pid))),
+        Look::Linked(pid, peer) => Some(Answer::Ids(node.linked(pid, peer))),
+        Look::Watching(pid, monitor) => Some(Answer::Truth(Some(watching(node, pid, monitor)))),
+        Look::Kept(pid, monitor) => Some(Answer::Truth(Some(kept(node, pid, monitor)))),
+        _ => None,
+    }
+}
+
+fn pending(node: &Node, desk: u8) -> Option<u64>
+    ensures { ReadsAt desk (λ x. Some (min (count_pending x.shard) (2 ^ 64 - 1))) None node.now result }
+{
+    let d = usize::from(desk);
+    let desks = node.desks();
+    if d >= desks.len() {
+        return None;
+    }
+    Some(desks[d].pending())
+}
+
+fn knows(node: &Node, desk: u8, pid: Pid) -> Option<bool>
+    ensures { ReadsAt desk (λ x. Some (knows x.shard pid)) None node.now result }
+{
+    let d = usize::from(desk);
+    let desks = node.desks();
+    if d >= desks.len() {
+        return None;
+    }
+    Some(desks[d].knows(pid))
+}
+
+fn watching(node: &Node, pid: Pid, monitor: Ref) -> bool
+    ensures { ReadsAt pid.shard (λ x. spec.is_watching (spec.process_in pid x) monitor) (spec.is_watching None monitor)
+        node.now result }
+{
+    match node.process(pid) {
+        Some(process) => process.watching(monitor),
+        None => false,
+    }
+}
+
+fn kept(node: &Node, pid: Pid, monitor: Ref) -> bool
+    ensures { ReadsAt pid.shard (λ x. spec.is_kept (spec.process_in pid x) monitor) (spec.is_kept None monitor)
+        node.now result }
+{
+    match node.process(pid) {
+        Some(process) => process.kept(monitor),
+        None => false,
+    }
+}
+
+fn journal(alloc: Global, node: &Node, desk: u8) -> Answer
+    ensures { spec.IfEvents (Some result)
+        (λ events. ReadsAt desk (λ x. Some (reverse x.shard.journal)) None node.now (Some events))
+        (length node.now ≤ desk) }
+{
+    let d = usize::from(desk);
+    let desks = node.desks();
+    if d >= desks.len() {
+        return Answer::Unknown;
+    }
+    match desks[d].journal().events().to_vec(alloc) {
+        Ok(events) => Answer::Events(events),
+        Err(_) => Answer::NoMemory,
+    }
+}
+
+fn event(node: &Node, desk: u8, stamp: u64) -> Option<Stamped>
+    ensures { ReadsAt desk (λ x. spec.event_of (Some x.shard.journal) desk stamp) None node.now result }
+{
+    let d = usize::from(desk);
+    let desks = node.desks();
+    if d >= desks.len() {
+        return None;
+    }
+    find_event(desks[d].journal().events(), desk, stamp)
+}
+
+/// The event of a desk that has the stamp.
+pub(crate) fn find_event(events: &[Stamped], desk: u8, stamp: u64) -> Option<Stamped>
+    ensures { result ≡ spec.event_in events.now desk stamp }
+{
+    for place in 0..events.len() {
+        if events[place].desk == desk && events[place].stamp == stamp {
+            return Some(events[place]);
+        }
+    }
+    None
+}
+
+/// How many events the journals of all desks have, staying at `u64::MAX` once it is reached.
+fn count_events(node: &Node) -> u64
+    ensures { result ≡ min (count_events node.now) (2 ^ 64 - 1) }
+{
+    let mut count: u64 = 0;
+    let desks = node.desks();
+    for place in 0..desks.len() {
+        count = count.saturating_add(desks[place].journal().events().len() as u64);
+    }
+    count
+}
+
+/// The items that wait in a mailbox, as an answer.
+pub(crate) fn items(alloc: Global, waiting: Option<&[Item]>) -> Answer
+    ensures { spec.IfItems (Some result) (λ items. items ≡ option_copied waiting.entry) }
+{
+    match waiting {
+        Some(items) => match items.to_vec(alloc) {
+            Ok(items) => Answer::Items(Some(items)),
+            Err(_) => Answer::NoMemory,
+        },
+        None => Answer::Items(None),
+    }
+}
