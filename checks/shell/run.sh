@@ -12,7 +12,7 @@ shopt -s nullglob
 
 here=$(cd "$(dirname "$0")" && pwd)
 source "$here/../../.ci/copy"
-mkdir "$work/cases" "$work/said"
+mkdir "$work/cases" "$work/said" "$work/printed"
 
 compared=0
 wrong=0
@@ -29,16 +29,25 @@ for case in "$here"/*.txt; do
     name=$(basename "$case")
     [ -f "$case.stdout" ] || { wrong "$name has no .stdout"; continue; }
     cp "$case" "$work/cases/$name"
-    cp "$case.stdout" "$work/cases/$name.stdout"
     [ ! -f "$case.args" ] || cp "$case.args" "$work/cases/$name.args"
+    : >"$work/printed/$name"
+    : >"$work/said/$name"
 done
 
-# rt compares the output; what stands on standard error comes before the line that begins with 'case='.
-(cd "$work/crates/pt_shell" && "$rt" try --cases "$work/cases") >"$work/printed" 2>"$work/log" </dev/null ||
+# rt prints the output of each case below a heading, which begins a line, and what stands on standard error before the
+# line that begins with 'case='.
+(cd "$work/crates/pt_shell" && "$rt" try --cases "$work/cases") >"$work/output" 2>"$work/log" </dev/null ||
     wrong "rt try ended with status $?"
+awk -v to="$work/printed/" '/^== / { name = $2; next } { print > (to name) }' "$work/output"
 awk -v to="$work/said/" '
     /^case=/ { name = substr($1, 6); print > (to name ".line"); printf "%s", said > (to name); said = ""; next }
     { said = said $0 "\n" }' "$work/log"
+
+# A file, with a line feed at its end where it has a last line without one.
+lines() {
+    cat "$1"
+    [ -z "$(tail -c 1 "$1")" ] || echo
+}
 
 for case in "$here"/*.txt; do
     name=$(basename "$case")
@@ -48,12 +57,12 @@ for case in "$here"/*.txt; do
     [ ! -f "$case.status" ] || status=$(cat "$case.status")
     echo "== $line"
     [[ " $line " == *" status=$status "* ]] || wrong "$name: the status is not $status"
-    [[ " $line " == *" output=expected "* ]] || wrong "$name: it prints something else"
+    diff <(lines "$case.stdout") "$work/printed/$name" || wrong "$name: it prints something else"
     stderr=/dev/null
     [ ! -f "$case.stderr" ] || stderr=$case.stderr
     diff "$stderr" "$work/said/$name" || wrong "$name: something else stands on standard error"
 done
 
-[ "$wrong" -eq 0 ] || cat "$work/printed" "$work/log"
+[ "$wrong" -eq 0 ] || cat "$work/output" "$work/log"
 echo "shell: $compared compared, $wrong not as they should be"
 [ "$compared" -gt 0 ] && [ "$wrong" -eq 0 ]
