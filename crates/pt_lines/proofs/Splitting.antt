@@ -1,5 +1,5 @@
 -- One byte more of a line that is split into words.
-use Rattle.std.proofs.Common.{◌≡◌, ℕ, ◌+◌, ◌-◌, ◌<◌, ◌≤◌, List, [], ◌∷◌, ◌++◌, length, take, drop, get_or, refl, ap, sym, ◌∙◌, arith, append_assoc, true, false, Bool, length-drop}
+use Rattle.std.proofs.Common.{◌≡◌, ℕ, ◌+◌, ◌-◌, ◌<◌, ◌≤◌, List, [], ◌∷◌, ◌++◌, length, take, drop, get_or, ap, sym, ◌∙◌, arith, append_assoc, true, false, Bool, length-drop}
 use Rattle.std.proofs.lemmas.List.{at_drop_more, take_more, get_or-drop, length-take-le}
 use Rattle.std.specs.Prelude.{if◌then◌else◌, slice_range}
 use Rattle.pt_lines.specs.Words.{Told, is_blank, one_word, words_behind}

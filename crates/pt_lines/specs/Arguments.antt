@@ -1,17 +1,15 @@
 -- The words behind the name of a call, as values.
-use Rattle.std.specs.Prelude.{ℕ, Bool, List, [], ◌∷◌, Option, Some, None, Result, Ok, Err, slice_get, codes}
+use Rattle.std.specs.Prelude.{ℕ, List, [], ◌∷◌, Option, Some, None, Result, Ok, slice_get, codes}
 use Rattle.std.specs.Prelude.{if◌then◌else◌}
 use Rattle.std.specs.Str.{bytes_eq}
 use Rattle.pt_signal.specs.declared.pid.Pid.{Pid}
-use Rattle.pt_signal.specs.declared.ids.Ref.{Ref}
 use Rattle.pt_signal.specs.declared.item.Body.{Body}
 use Rattle.pt_signal.specs.declared.item.Pick.{Pick}
-use Rattle.pt_signal.specs.declared.reason.Reason.{Reason}
 use Rattle.pt_lines.specs.declared.mistake.Mistake.{Mistake}
 use Rattle.pt_lines.specs.declared.mistake.Why.TheVariants.{TooMany, Missing, NoPick}
 use Rattle.pt_lines.specs.Words.{Told}
 use Rattle.pt_lines.specs.Names.{Named}
-use Rattle.pt_lines.specs.Values.{◌>>=◌, mistake, pid_of, ref_of, reason_of, truth_of, u8_of, u32_of, u64_of, i64_of}
+use Rattle.pt_lines.specs.Values.{◌>>=◌, mistake, pid_of, ref_of, u32_of, i64_of}
 
 -- the first word behind those that are wanted is too many; where there is none, one is missing behind the line
 abbrev pub too_many_or_few : {A : Type 0} → ℕ → Option Told → Result A Mistake

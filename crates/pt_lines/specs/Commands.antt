@@ -1,5 +1,5 @@
 -- What a line asks for.
-use Rattle.std.specs.Prelude.{◌≡◌, ℕ, ◌+◌, Bool, false, ◌||◌, ◌&&◌, ◌==◌, List, [], ◌∷◌, length, Option, Some, None}
+use Rattle.std.specs.Prelude.{◌≡◌, ℕ, ◌+◌, Bool, false, ◌||◌, ◌==◌, List, [], ◌∷◌, length, Option, Some, None}
 use Rattle.std.specs.Prelude.{Result, Ok, Err, codes, is_some, if◌then◌else◌, map}
 use Rattle.std.specs.Option.{option_map}
 use Rattle.std.specs.Str.{bytes_eq}
@@ -9,7 +9,7 @@ use Rattle.pt_lines.specs.declared.command.Command.{Command}
 use Rattle.pt_lines.specs.declared.command.Command.TheVariants as code
 use Rattle.pt_lines.specs.declared.verb.Verb.{Verb}
 use Rattle.pt_lines.specs.declared.mistake.Mistake.{Mistake}
-use Rattle.pt_lines.specs.declared.mistake.Why.TheVariants.{NoCall, NoName, TooMany, Missing}
+use Rattle.pt_lines.specs.declared.mistake.Why.TheVariants.{NoCall, NoName, Missing}
 use Rattle.pt_lines.specs.Words.{Told, told, words_in}
 use Rattle.pt_lines.specs.Names.{Named, is_name}
 use Rattle.pt_lines.specs.Values.{◌>>=◌, mistake}

@@ -1,10 +1,10 @@
 -- A run goes on by one line more, or ends.
-use Rattle.std.proofs.Common.{◌≡◌, ◌≢◌, ℕ, zero, suc, Bool, true, false, List, [], ◌++◌, sym, ap, ◌∙◌, append_assoc, append-nil, refl, subst, Option, Some, None, Result, Ok, Err}
+use Rattle.std.proofs.Common.{◌≡◌, ℕ, suc, Bool, true, false, List, [], ◌++◌, sym, ap, ◌∙◌, append_assoc, append-nil, refl, subst, Option, Some, None}
 use Rattle.std.specs.Io.KnownBytes.{Appends, Keeps}
-use Rattle.std.specs.Io.BufRead.{take_through, drop_through, strip_last}
+use Rattle.std.specs.Io.BufRead.{strip_last}
 use Rattle.pt_shard.specs.declared.config.Config.{Config}
 use Rattle.pt_session.specs.Sessions.{SessionState, Hears, is_comparing}
-use Rattle.pt_session.specs.Running.{Runs, Passes, HasRun, HasRunAll, Steps, Reads, HearsLine, prompted, written}
+use Rattle.pt_session.specs.Running.{Runs, HasRun, HasRunAll, Steps, Reads, HearsLine, prompted, written}
 
 pub appends_then : (a b c : Option (List ℕ)) (x y : List ℕ) → Appends a b x → Appends b c y → Appends a c (x ++ y)
 appends_then None b c x y h k = tt

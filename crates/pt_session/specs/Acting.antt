@@ -1,5 +1,5 @@
 -- What a call that changes a node answers, and what it leaves.
-use Rattle.std.specs.Prelude.{◌≡◌, ◌-◌, ◌^◌, ℕ, Bool, max, min, length, is_some, List, Option, Some, None, Result, Ok, Err}
+use Rattle.std.specs.Prelude.{◌≡◌, ℕ, Bool, max, length, is_some, List, Option, Some, None, Result, Ok}
 use Rattle.std.specs.Prelude.{IfSome}
 use Rattle.pt_signal.specs.declared.pid.Pid.{Pid}
 use Rattle.pt_signal.specs.declared.ids.Ref.{Ref}

@@ -1,33 +1,24 @@
 -- What is read of a node.
-use Rattle.std.specs.Prelude.{◌≡◌, ◌-◌, ◌^◌, ◌<◌, ◌≤◌, ℕ, Bool, true, false, ◌==◌, ◌&&◌, min, cond, length, reverse, is_some}
-use Rattle.std.specs.Prelude.{List, Option, Some, None, Result, Ok, Err, map, if◌then◌else◌, IfNone}
+use Rattle.std.specs.Prelude.{◌≡◌, ◌-◌, ◌^◌, ◌≤◌, ℕ, Bool, false, ◌==◌, ◌&&◌, min, cond, length, reverse, is_some}
+use Rattle.std.specs.Prelude.{List, Option, Some, None}
 use Rattle.std.specs.Option.{option_map}
 use Rattle.std.specs.List.{find, list_any}
 use Rattle.std.specs.Map.{lookup}
 use Rattle.pt_signal.specs.Values.{same_ref}
-use Rattle.pt_signal.specs.Process.{ProcessState, held}
+use Rattle.pt_signal.specs.Process.{ProcessState}
 use Rattle.pt_signal.specs.declared.pid.Pid.{Pid}
 use Rattle.pt_signal.specs.declared.ids.Ref.{Ref}
 use Rattle.pt_signal.specs.declared.ids.Ids.{Ids}
 use Rattle.pt_signal.specs.declared.item.Item.{Item}
 use Rattle.pt_signal.specs.declared.reason.Reason.{Reason}
-use Rattle.pt_events.specs.declared.event.Event.{Event}
 use Rattle.pt_events.specs.declared.event.Stamped.{Stamped}
-use Rattle.pt_events.specs.History.{state, life, open_monitors}
-use Rattle.pt_events.specs.Journal.{IsMerge}
-use Rattle.pt_judge.specs.declared.cause.Cause.{Cause}
-use Rattle.pt_judge.specs.Judge.{FailsAfter}
 use Rattle.pt_accounts.specs.declared.account.Account.{Account}
-use Rattle.pt_accounts.specs.LivesState.{InEveryMerge, AreAllPids, account_in}
 use Rattle.pt_shard.specs.ShardState.{lives, state_in}
 use Rattle.pt_shard.specs.Calls.{held_by}
 use Rattle.pt_shard.specs.Known.{knows}
 use Rattle.pt_shard.specs.Outbox.{count_pending}
 use Rattle.pt_desk.specs.DeskState.{DeskState}
 use Rattle.pt_gathered.specs.declared.left_over.LeftOver.{LeftOver}
-use Rattle.pt_gathered.specs.Gathered.{GatheredState, begins, journals}
-use Rattle.pt_gathered.specs.LeftOvers.{all_left}
-use Rattle.pt_gathered.specs.Quiet.{QuietState}
 use Rattle.pt_node.specs.Node.{ReadsAt}
 use Rattle.pt_node.specs.Stillness.{count_events}
 use Rattle.pt_lines.specs.declared.call.Look.{Look}

@@ -1,5 +1,5 @@
 -- Steps from one state of a node to the next.
-use Rattle.std.specs.Prelude.{◌≡◌, ℕ, List, [], ◌++◌, length, map, reverse, Option, Some, None, Result, Ok, Err}
+use Rattle.std.specs.Prelude.{◌≡◌, ℕ, List, [], ◌++◌, length, map, reverse, Option, Some, None, Ok, Err}
 use Rattle.pt_events.specs.declared.event.Event.{Event}
 use Rattle.pt_events.specs.declared.event.Stamped.{Stamped}
 use Rattle.pt_events.specs.Journal.{IsMerge}
@@ -7,7 +7,7 @@ use Rattle.pt_shard.specs.declared.config.Config.{Config}
 use Rattle.pt_desk.specs.DeskState.{DeskState}
 use Rattle.pt_gathered.specs.Gathered.{GatheredState, journals}
 use Rattle.pt_gathered.specs.LeftOvers.{all_left}
-use Rattle.pt_gathered.specs.Lawful.{KeepsHeadline, IsLegalNode, IsQuietNode}
+use Rattle.pt_gathered.specs.Lawful.{KeepsHeadline, IsLegalNode}
 use Rattle.pt_gathered.specs.Quiet.{QuietState}
 use Rattle.pt_gathered.specs.Settling.{Runs, Settles, NothingLeft}
 use Rattle.pt_gathered.specs.Order.{Passes, SettlingStops}
