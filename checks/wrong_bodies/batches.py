@@ -40,7 +40,7 @@ HERE = Path(__file__).resolve().parent
 ROOT = HERE.parent.parent
 
 # How a proof file fails if a name is gone, which says nothing of the contract.
-OF_A_NAME = re.compile(r"has no field|is not in scope|has no `|was not admitted|no such|cannot be named")
+OF_A_NAME = re.compile(r"has no field|is not in scope|has no `|was not admitted|no such|cannot be named|was rejected, w(as|ere) not checked")
 # The least that a check takes of memory, in kilobytes, if several are to run side by side.
 MEMORY = 3_600_000
 
