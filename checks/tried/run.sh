@@ -45,7 +45,8 @@ fine=true
 for crate in "$@"; do
     add_modules "$crate"
     status=0
-    (cd "$work/crates/$crate" && "$rt" try --test) >"$work/said" 2>&1 </dev/null || status=$?
+    (cd "$work/crates/$crate" && "$root/.ci/unproved.py" "$crate" --test --seconds 300 --stdin /dev/null) \
+        >"$work/said" 2>&1 </dev/null || status=$?
     count=$(cat "$work/crates/$crate/src"/*.rt "$work/crates/$crate/src"/*/*.rt | grep -c '^ *#\[test\]')
     ok=$(grep -c '^test .* \.\.\. ok$' "$work/said" || true)
     if [ "$status" -ne 0 ] || [ "$ok" -ne "$count" ]; then
