@@ -9,6 +9,13 @@
 //! request of its own sender, the answer of its receiver. Both carry the number of the monitor's reference, which no
 //! other monitor of the client's desk has, so an answer belongs to one call alone. The kind is what is asked, and what
 //! is answered.
+//!
+//! # What is proved
+//!
+//! - **A call ends once.** It ends by its answer or by the `DOWN` of its server, if one of them comes, and never by
+//!   both. (`calls_end_once`)
+//! - **Asking.** `ask` is a monitor and a request under its number, or fails, and then nothing was asked. (`Asks`)
+//! - **Hearing.** `hear` says whether an item is the answer, the end of the server, late, or none of these.
 #![tactic(auto)]
 
 mod pending;

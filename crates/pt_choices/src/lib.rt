@@ -2,6 +2,10 @@
 //! printed.
 //!
 //! Whoever reads a command line makes these values, and whoever runs a script takes them; neither knows of the other.
+//!
+//! # What is proved
+//!
+//! - **Defaults.** `Options` has the defaults of the command line.
 #![tactic(auto)]
 
 ghost use Rattle.std.specs.Prelude.{◌≡◌};

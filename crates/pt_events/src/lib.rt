@@ -8,6 +8,13 @@
 //! What a history means stands in `specs/`: `History` says what each process is after a history, what an event
 //! sends, and which event may come next; `Journal` says what one desk's journal is, and how the journals of several
 //! desks make one history.
+//!
+//! # What is proved
+//!
+//! - **Journals.** A `Journal` is of one desk, and its stamps rise strictly.
+//! - **Journals from lists.** `Journal::of` takes a list exactly if it is a journal, and else hands it back.
+//! - **Clearing.** `Journal::clear` forgets the events and keeps their memory.
+//! - **Texts.** Each event prints exactly the bytes that its text definition gives. (`Display`)
 #![tactic(auto, unfolding(crate::specs::Text::parent_text, crate::specs::Text::link_text, crate::specs::Text::switch_text, crate::specs::Text::event_text, crate::specs::Text::stamped_text))]
 
 mod event;

@@ -46,6 +46,10 @@
 //! Adding an event takes constant time on average. `merge` takes two pieces of memory and for each event the
 //! logarithm of the number of journals. `replay` takes constant time for an event, but for a look through the letters
 //! on their way at each receipt, and through the lists of the one process that the event is of.
+//!
+//! # What is proved
+//!
+//! - **One name.** It has no code of its own: it exports events, laws, merge and judge.
 #![tactic(auto)]
 
 pub use pt_events::{Event, Journal, Stamped};

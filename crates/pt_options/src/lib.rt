@@ -6,6 +6,14 @@
 //!
 //! [`options`] reads the words, and [`laws`] says what it makes of some. `FILE` is the script; without it, and for `-`,
 //! the script is read from standard input.
+//!
+//! # What is proved
+//!
+//! - **Words.** `options` returns what the words ask for by the definitions of `clap` for this command, or an error of
+//!   the kind of their fault.
+//! - **Values.** `--turns=` takes 0 to 1,000,000, `--epochs=` 1 to 1,000,000, `--threads=` and `--print=` their own
+//!   words, and no other text. (`laws`)
+//! - **Flags.** `--explain` takes no value, `--help` is a kind of its own, and no word at all gives the defaults.
 #![tactic(auto)]
 
 ghost use Rattle.std.specs.Prelude.{◌≡◌, ◌≤◌, IfOk, codes, map, option_map, string_bytes};

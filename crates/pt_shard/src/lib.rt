@@ -53,8 +53,17 @@
 //!
 //! # What is proved
 //!
-//! Each call's contract says the whole of its answer over the journal alone (`specs/Calls`, `specs/ShardState`), the
-//! journal is always a lawful one (`specs/Fit`), and each live process is what the journal gives.
+//! - **Calls.** Each call answers exactly as its relation says, and a refusal changes nothing. (`Calls`)
+//! - **The journal.** A call's journal begins with the one before, and is a lawful journal of its desk. (`Fit`)
+//! - **Processes.** Each live process is what the journal gives. `process` lends a process that lives here, and no
+//!   other.
+//! - **Letters.** What an event sends waits in the outbox. `handle` and `handle_in_place` are one receipt.
+//! - **Pids.** A pid once known stays known, to its desk and to the others. (`Known`)
+//! - **Full.** A birth fails with `Full` exactly if each slot has a live process or has used its top version.
+//!   (`IsNextBirth`)
+//! - **Settings.** `Config::out_of_range` returns the first setting out of its range, and `None` exactly if all are in
+//!   theirs.
+//! - **Resuming.** `restart` empties the journal over the state that it leaves. Each process is what it was.
 #![tactic(auto)]
 
 mod acts;
