@@ -1,8 +1,8 @@
 #!/usr/bin/env python3
 """Whether the reading list of docs/WORKING.md is what the files of definitions are.
 
-    .ci/reading            prints what differs; its status is then 1
-    .ci/reading --write    puts the files' numbers of lines, and their sums, into the list
+    tools/reading.py            prints what differs; its status is then 1
+    tools/reading.py --write    puts the files' numbers of lines, and their sums, into the list
 
 Each file of a crate's specs/ stands in the list once, with its number of lines, or says in its first line that no
 public clause cites it. The last column of a row is the sum of the row.

@@ -1,7 +1,7 @@
 #!/usr/bin/env python3
 """Copies crates of this repository, and each crate that they stand on, into another repository.
 
-    docs/copy.py FOLDER [CRATE..]
+    tools/copy.py FOLDER [CRATE..]
 
 FOLDER is the root of that repository. Without a name the crate is pt_node. The crates go into its crates/ with their
 sources, definitions and proofs, and their lines go to the end of its crates.txt. A crate that is there already and is

@@ -1,8 +1,8 @@
 #!/usr/bin/env python3
 """Prints docs/API.md: what a program can use of `pt_node`, read off the sources.
 
-    docs/api.py > docs/API.md      writes the page anew
-    docs/api.py --compare          says the first line that differs, with status 1
+    tools/api.py > docs/API.md      writes the page anew
+    tools/api.py --compare          says the first line that differs, with status 1
 
 A type or a call stands there with its signature, the first sentence of its documentation, and those that say when it
 is refused.
@@ -17,7 +17,7 @@ PAGE = ROOT / "docs/API.md"
 
 HEAD = """# What a program calls
 
-Made from the sources by `docs/api.py`; the gate compares it. `use pt_node::{..}` has each name of this page; crews,
+Made from the sources by `tools/api.py`; the gate compares it. `use pt_node::{..}` has each name of this page; crews,
 supervisors and calls are in [RUNTIME](RUNTIME.md). The documentation and the contract of each call are in the named file.
 """
 
@@ -167,7 +167,7 @@ def main():
         if new != old:
             sys.exit(f"docs/API.md:{number}: the sources say: {new}")
     if made != stands:
-        sys.exit("docs/API.md: the sources say more, or less: write it anew by docs/api.py > docs/API.md")
+        sys.exit("docs/API.md: the sources say more, or less: write it anew by tools/api.py > docs/API.md")
 
 
 main()
