@@ -36,7 +36,7 @@ def words() -> list[str]:
     for path in ROOT.glob("crates/*/specs/**/*.antt"):
         for line in path.read_text().split("\n"):
             found = None if line.startswith(NONE) else DEFINITION.match(line)
-            if found and ("pub " in line.split(":")[0] or "record " in line):
+            if found and found[1] != "pub" and ("pub " in line.split(":")[0] or "record " in line):
                 crates[found[1]].add(path.relative_to(ROOT).parts[1])
     return [f"{word}: {', '.join(sorted(it))}" for word, it in sorted(crates.items()) if len(it) > 1]
 
