@@ -16,4 +16,4 @@ mod laws;
 
 pub use event::{Event, MAX_STAMP, Stamped};
 pub use journal::Journal;
-pub use laws::limits_stand;
+pub use laws::{journals_tell_their_pids, limits_stand};

@@ -6,7 +6,7 @@ use Rattle.pt_events.specs.History.{Past, IsLegal}
 use Rattle.pt_events.specs.Journal.{events, in_lane, IsMerge}
 use Rattle.pt_laws.specs.Laws.{MergeLegal, LanesFly}
 use Rattle.pt_laws.specs.Load.{IsQuiet}
-use Rattle.pt_laws.specs.JournalLaws.{JournalsSay}
+use Rattle.pt_events.specs.Locality.{JournalsSay}
 use Rattle.pt_laws.specs.LinkLaws.{MergeKnown, KnownAgain}
 use Rattle.pt_laws.specs.Resumed.{AllNewTo}
 use Rattle.pt_laws.specs.ResumedLaws.{LeftAgain, StampsNumber, BothNumber, StampsAreNew, OldRefsResumed}

@@ -1,17 +1,39 @@
 -- A journal tells of its pids what every merge does.
-use Rattle.std.proofs.Common.{◌≡◌, Bool, true, false, ◌==◌, List, [], ◌∷◌, ◌++◌, refl, sym, ap, ◌∙◌, subst, append-nil}
+use Rattle.std.proofs.Common.{◌≡◌, ℕ, Bool, true, false, cond, ◌==◌, List, [], ◌∷◌, ◌++◌, refl, sym, ap, ◌∙◌, subst, append-nil}
+use Rattle.std.proofs.lemmas.Bool.{eq-eqb}
 use Rattle.pt_signal.specs.declared.pid.Pid.{Pid}
 use Rattle.pt_events.specs.declared.event.Event.{Event}
 use Rattle.pt_events.specs.declared.event.Event.TheVariants.{Took}
 use Rattle.pt_events.specs.declared.event.Stamped.{Stamped}
-use Rattle.pt_events.specs.History.{life, arrived, state_of, at_start, sent_by, touches}
-use Rattle.pt_events.specs.Journal.{IsLocal, IsHome, events, of_desk}
-use Rattle.pt_events.specs.Locality.{AllHome}
-use Rattle.pt_laws.specs.JournalLaws.{ReadLocally, JournalsSay}
-use Rattle.pt_laws.specs.Taken.{taken, taken_by}
+use Rattle.pt_events.specs.History.{Start, life, arrived, state_of, at_start, sent_by, touches}
+use Rattle.pt_events.specs.Journal.{IsLocal, IsNext, IsHome, events, of_desk}
+use Rattle.pt_events.specs.Locality.{AllHome, ReadLocally, JournalsSay}
+use Rattle.pt_events.specs.Takes.{taken, taken_by}
 use Rattle.pt_events.proofs.Local.{home_untouched, life_local, arrived_local}
 use Rattle.pt_events.proofs.Homes.{sent_home}
-use Rattle.pt_laws.proofs.Merged.{all_home}
+
+-- the journals of a merge -----------------------------------------------------------------------
+
+module _ (start : Start) (low top : ℕ) where
+  -- each desk's events are a local journal
+  abbrev pub AllLocal : List Stamped → Type 0
+  AllLocal merged = (d : ℕ) → IsLocal start low top d (of_desk d merged)
+
+  pub head_local : (s : Stamped) (merged : List Stamped) → AllLocal (s ∷ merged) → IsNext start low top s.desk (of_desk s.desk merged) s
+  head_local s merged h = (subst (λ c. IsLocal start low top s.desk (cond c (s ∷ of_desk s.desk merged) (of_desk s.desk merged))) (eq-eqb s.desk s.desk refl) (h s.desk)).0
+
+  pub tail_local : (s : Stamped) (merged : List Stamped) → AllLocal (s ∷ merged) → AllLocal merged
+  tail_local s merged h d = go (s.desk == d) refl (h d)
+    where
+      go : (b : Bool) → (s.desk == d) ≡ b → IsLocal start low top d (of_desk d (s ∷ merged)) → IsLocal start low top d (of_desk d merged)
+      go true e k = (subst (λ c. IsLocal start low top d (cond c (s ∷ of_desk d merged) (of_desk d merged))) e k).1
+      go false e k = subst (λ c. IsLocal start low top d (cond c (s ∷ of_desk d merged) (of_desk d merged))) e k
+
+  pub all_home : (merged : List Stamped) → AllLocal merged → AllHome merged
+  all_home [] h = tt
+  all_home (s ∷ merged) h = ((head_local s merged h).home, all_home merged (tail_local s merged h))
+
+-- what they say --------------------------------------------------------------------------------
 
 untaken : (p : Pid) (e : Event) → touches p e ≡ false → taken_by p e ≡ []
 untaken p (Took q k i) h = rw h refl

@@ -1,6 +1,6 @@
 use Rattle.pt_events.proofs.Homes.{sent_home}
-use Rattle.pt_laws.proofs.lanes.Telling.{reads, says}
-use Rattle.pt_laws.proofs.laws.journals_tell_their_pids.Goals as goal
+use Rattle.pt_events.proofs.Telling.{reads, says}
+use Rattle.pt_events.proofs.laws.journals_tell_their_pids.Goals as goal
 
 pub returns-clause-life : goal.returns-clause-life
 returns-clause-life c = reads
