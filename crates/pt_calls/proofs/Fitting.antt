@@ -5,7 +5,7 @@ use Rattle.std.specs.Prelude.{MatchOption}
 use Rattle.std.specs.Result.{IsErrAnd}
 use Rattle.pt_signal.specs.declared.pid.Pid.{Pid}
 use Rattle.pt_signal.specs.declared.ids.Ref.{Ref}
-use Rattle.pt_events.specs.declared.event.TheConstants.{MAX_STAMP}
+use Rattle.pt_signal.specs.declared.config.TheConstants.{MAX_STAMP}
 use Rattle.pt_shard.specs.declared.fault.Fault.{Fault}
 use Rattle.pt_shard.specs.declared.fault.Fault.TheVariants.{NoProc}
 use Rattle.pt_shard.specs.ShardState.{ShardState}

@@ -11,7 +11,7 @@ use Rattle.pt_laws.specs.LinkLaws.{MergeKnown, KnownAgain}
 use Rattle.pt_laws.specs.Resumed.{AllNewTo}
 use Rattle.pt_laws.specs.ResumedLaws.{LeftAgain, StampsNumber, BothNumber, StampsAreNew, OldRefsResumed}
 use Rattle.pt_laws.proofs.living.Resumed.{over_legal, over_flying}
-use Rattle.pt_shard.specs.declared.config.Config.{Config}
+use Rattle.pt_signal.specs.declared.config.Config.{Config}
 use Rattle.pt_shard.specs.Opening.{fresh}
 use Rattle.pt_shard.specs.Restart.{restarted}
 use Rattle.pt_gathered.specs.Beginning.{IsBeginning}

@@ -9,7 +9,7 @@ use Rattle.pt_events.specs.Journal.{Agrees, IsLocal, IsMerge, LanesAgree, events
 use Rattle.pt_events.specs.Counting.{below}
 use Rattle.pt_laws.specs.Load.{IsStart, load, load_by_desk}
 use Rattle.pt_laws.proofs.DeskLoads.{merge_load}
-use Rattle.pt_shard.specs.declared.config.Config.{Config}
+use Rattle.pt_signal.specs.declared.config.Config.{Config}
 use Rattle.pt_shard.specs.ShardState.{ShardState}
 use Rattle.pt_shard.specs.Outbox.{held_from}
 use Rattle.pt_gathered.specs.Gathered.{IsShardOf, journal_at, start_of}

@@ -58,17 +58,20 @@
 #![tactic(auto)]
 
 mod acts;
-mod config;
 mod fault;
 mod laws;
 mod ledger;
 mod letters;
+mod origin;
 mod processes;
 mod shard;
 mod stop;
 
-pub use config::{Config, MAX_DESKS, MAX_LANE, MAX_SLOTS, MAX_STAMP, OpenError, Setting};
 pub use fault::Fault;
-pub use laws::{defaults_stand, known_to_others, limits_stand};
+pub use laws::{known_to_others, leaves_each};
+pub use pt_signal::{
+    Config, MAX_DESKS, MAX_LANE, MAX_SLOTS, MAX_STAMP, OpenError, Setting, defaults_stand,
+    limits_stand,
+};
 pub use shard::Shard;
 pub use stop::Stop;

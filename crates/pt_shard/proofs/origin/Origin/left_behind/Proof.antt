@@ -27,11 +27,11 @@ use denote.Triple.Entry.{on_entry, alive, Args}
 use denote.Triple.Spec.{Meets, triple_of}
 use denote.Triple.Table.{entered}
 use denote.Triple.Walked.{says, stay_none_ref, Stays, walk_of, Walks, ends_at, walked, Goes-none_ref, walk_Meets}
-use Rattle.pt_origin.specs.contracts.origin.Origin.left_behind.Key.{name as key}
-use Rattle.pt_origin.specs.contracts.origin.Origin.left_behind as f
-use Rattle.pt_origin.proofs.origin.Origin.left_behind.Statement as stated
-use Rattle.pt_origin.proofs.origin.Origin.left_behind.Code as code
-use Rattle.pt_origin.specs.contracts.origin.Origin as origin
+use Rattle.pt_shard.specs.contracts.origin.Origin.left_behind.Key.{name as key}
+use Rattle.pt_shard.specs.contracts.origin.Origin.left_behind as f
+use Rattle.pt_shard.proofs.origin.Origin.left_behind.Statement as stated
+use Rattle.pt_shard.proofs.origin.Origin.left_behind.Code as code
+use Rattle.pt_shard.specs.contracts.origin.Origin as origin
 use Rattle.pt_events.specs.contracts.journal.Journal as journal
 use Rattle.pt_events.specs.Journal.{events}
 use Rattle.pt_events.specs.Leaving.{start_after}

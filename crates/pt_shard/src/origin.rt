@@ -1,4 +1,8 @@
 //! What was before a journal, for clauses alone to read.
+//!
+//! A journal is read over a *start*: what each process was before its first event. A desk that goes on after its
+//! journal was handed over writes into an empty one, over the start that the old journal left behind. An [`Origin`]
+//! says which start that is; it takes no memory, since what the processes hold stands in the desk's slots.
 
 ghost use Rattle.std.specs.Prelude.{◌≡◌, []};
 ghost use Rattle.std.specs.Borrow.{ftrue};

@@ -21,11 +21,11 @@ use denote.Triple.Entry.{on_entry, alive}
 use denote.Triple.Spec.{Meets, triple_of}
 use denote.Triple.Table.{entered}
 use denote.Triple.Walked.{says, Stays, walk_of, Walks, ends_at, walked, walk_Meets}
-use Rattle.pt_origin.specs.contracts.origin.Origin.new.Key.{name as key}
-use Rattle.pt_origin.specs.contracts.origin.Origin.new as f
-use Rattle.pt_origin.proofs.origin.Origin.new.Statement as stated
-use Rattle.pt_origin.proofs.origin.Origin.new.Code as code
-use Rattle.pt_origin.specs.contracts.origin.Origin as made
+use Rattle.pt_shard.specs.contracts.origin.Origin.new.Key.{name as key}
+use Rattle.pt_shard.specs.contracts.origin.Origin.new as f
+use Rattle.pt_shard.proofs.origin.Origin.new.Statement as stated
+use Rattle.pt_shard.proofs.origin.Origin.new.Code as code
+use Rattle.pt_shard.specs.contracts.origin.Origin as made
 
 abbrev stayed : Stays (f.ended).signature.params (f.ended).kept
 stayed = tt

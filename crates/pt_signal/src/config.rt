@@ -3,16 +3,22 @@
 ghost use Rattle.std.specs.Prelude.{◌≡◌};
 ghost use Rattle.std.specs.Bool.{MatchBool};
 ghost use Rattle.std.specs.Option.{MatchOption};
-ghost use Rattle.pt_shard.specs.Opening.{IsInRange};
-ghost use Rattle.pt_shard.specs.Settings.{IsFirstOut};
+ghost use Rattle.pt_signal.specs.Settings.{IsFirstOut, IsInRange};
 
-pub use pt_carrier::{MAX_CAPACITY as MAX_LANE, MAX_DESKS};
-pub use pt_events::MAX_STAMP;
 use std::fmt;
 use thiserror::Error;
 
+/// The most desks of a node.
+pub const MAX_DESKS: u8 = 64;
+
 /// The most slots of a desk.
 pub const MAX_SLOTS: u32 = 65_536;
+
+/// The most letters that a lane holds.
+pub const MAX_LANE: u32 = 65_536;
+
+/// The greatest stamp: 2^62. A clock that has reached it is worn, and its desk writes no more events.
+pub const MAX_STAMP: u64 = 4_611_686_018_427_387_904;
 
 /// The settings of a node. [`Config::DEFAULT`] has each in its range, and `Config::DEFAULT.with_desks(2)` another
 /// number of desks.

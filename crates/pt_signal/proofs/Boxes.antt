@@ -2,7 +2,7 @@
 use Rattle.std.proofs.Common.{◌≡◌, ◌≢◌, ℕ, ◌<◌, List, [], ◌∷◌, ◌++◌, length, get_or}
 use Rattle.std.proofs.lemmas.List.{get_or-set_same, get_or-set_other, length-set}
 use Rattle.pt_signal.specs.declared.letter.Letter.{Letter}
-use Rattle.pt_carrier.specs.Ends.{one_more}
+use Rattle.pt_signal.specs.Boxes.{one_more}
 
 -- one letter more for desk j: there are as many lists, its list ends with the letter, and the others stay
 module _ (boxes : List (List Letter)) (j : ℕ) (l : Letter) where
