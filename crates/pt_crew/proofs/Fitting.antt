@@ -14,7 +14,7 @@ use Rattle.pt_shard.specs.Calls.{Monitors, Refuses}
 use Rattle.pt_desk.specs.DeskState.{DeskState}
 use Rattle.pt_desk.specs.Reaching.{Reaches, has_monitor_to_make}
 use Rattle.pt_crew.specs.Telling.{IfKnown}
-use Rattle.pt_calls.specs.Asking.{Watches}
+use Rattle.pt_crew.specs.Asking.{Watches}
 
 abbrev fine : Ref → Result Ref Fault
 fine m = Ok m

@@ -1,8 +1,8 @@
 use Rattle.std.proofs.Common.{Some, inr, sym, subst, ◌∙◌, ℤ}
 use Rattle.pt_desk.proofs.Turning.{goes_on_then}
-use Rattle.pt_calls.specs.Asking.{Tells}
-use Rattle.pt_calls.proofs.Fitting.{monitor_fits, carried}
-use Rattle.pt_calls.proofs.pending.Pending.ask.Goals as goal
+use Rattle.pt_crew.specs.Asking.{Tells}
+use Rattle.pt_crew.proofs.Fitting.{monitor_fits, carried}
+use Rattle.pt_crew.proofs.pending.Pending.ask.Goals as goal
 
 pub number_of-number-requires : goal.number_of-number-requires
 number_of-number-requires c = monitor_fits c.args.me c.args.server c.args.desk.now c.in_ok-monitor.monitor c.watch.new.desk c.in_ok-monitor.ensures.does

@@ -2,7 +2,6 @@
 //! printed.
 //!
 //! Whoever reads a command line makes these values, and whoever runs a script takes them; neither knows of the other.
-#![tactic(auto)]
 
 ghost use Rattle.std.specs.Prelude.{◌≡◌};
 

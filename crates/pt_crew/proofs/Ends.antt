@@ -3,9 +3,9 @@ use Rattle.std.proofs.Common.{◌≡◌, ℕ, ◌+◌, Bool, true, false, cond, 
 use Rattle.std.specs.List.{list_any}
 use Rattle.pt_signal.specs.declared.item.Item.{Item}
 use Rattle.pt_signal.specs.declared.item.Item.TheVariants.{User, Exit, Down, Alive}
-use Rattle.pt_calls.specs.declared.pending.Pending.{Pending}
-use Rattle.pt_calls.specs.declared.pending.Heard.{Heard}
-use Rattle.pt_calls.specs.Ending.{says, heard_as, is_end, ends, is_its, EndsOnce}
+use Rattle.pt_crew.specs.declared.pending.Pending.{Pending}
+use Rattle.pt_crew.specs.declared.pending.Heard.{Heard}
+use Rattle.pt_crew.specs.Ending.{says, heard_as, is_end, ends, is_its, EndsOnce}
 
 -- what an item says to an open call is an end of it
 abbrev AreEnds : Option Heard → Type 0

@@ -3,11 +3,11 @@
 ghost use Rattle.std.specs.Prelude.{◌≡◌, ◌<◌, ◌^◌, pos};
 ghost use Rattle.pt_desk.specs.DeskState.{GoesOn};
 ghost use Rattle.pt_crew.specs.Visiting.{takes};
-ghost use Rattle.pt_calls.specs.Asking.{Asks, refusal};
-ghost use Rattle.pt_calls.specs.Ending.{Closes, EndsOnce, after, heard, is_answer, says};
+ghost use Rattle.pt_crew.specs.Asking.{Asks, refusal};
+ghost use Rattle.pt_crew.specs.Ending.{Closes, EndsOnce, after, heard, is_answer, says};
 
+use crate::calls::{tell, unwatch, watch};
 use crate::request::speaks_of;
-use pt_crew::{tell, unwatch, watch};
 use pt_node::{Body, Desk, Fault, Item, Pid, Reason, Ref};
 
 /// What an item is to a call.

@@ -10,9 +10,9 @@ use Rattle.pt_signal.specs.declared.item.Item.TheVariants.{User, Down}
 use Rattle.pt_signal.specs.Values.{same_pid, same_ref}
 use Rattle.pt_shard.specs.declared.fault.Fault.{Fault}
 use Rattle.pt_desk.specs.DeskState.{DeskState}
-use Rattle.pt_calls.specs.declared.pending.Pending.{Pending}
-use Rattle.pt_calls.specs.declared.pending.Heard.{Heard}
-use Rattle.pt_calls.specs.Asking.{speaks_of, Unwatches}
+use Rattle.pt_crew.specs.declared.pending.Pending.{Pending}
+use Rattle.pt_crew.specs.declared.pending.Heard.{Heard}
+use Rattle.pt_crew.specs.Asking.{speaks_of, Unwatches}
 
 -- the message is an answer of the server, under the number of the call
 abbrev pub is_answer : Pending → Pid → Body → Bool

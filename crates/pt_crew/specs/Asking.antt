@@ -16,8 +16,8 @@ use Rattle.pt_shard.specs.Calls.{Calls, Monitors, demonitor_event}
 use Rattle.pt_desk.specs.DeskState.{DeskState}
 use Rattle.pt_desk.specs.Reaching.{Reaches, has_monitor_to_make}
 use Rattle.pt_crew.specs.Telling.{IfKnown}
-use Rattle.pt_calls.specs.declared.pending.Pending.{Pending}
-use Rattle.pt_calls.specs.declared.request.Request.{Request}
+use Rattle.pt_crew.specs.declared.pending.Pending.{Pending}
+use Rattle.pt_crew.specs.declared.request.Request.{Request}
 
 abbrev pub is_who : Option Pid → Pid → Bool
 is_who None p = false

@@ -3,9 +3,9 @@
 ghost use Rattle.std.specs.Prelude.{◌≡◌};
 ghost use Rattle.pt_desk.specs.DeskState.{GoesOn};
 ghost use Rattle.pt_crew.specs.Visiting.{takes};
-ghost use Rattle.pt_calls.specs.Asking.{Tells, answer, request_of, speaks_of};
+ghost use Rattle.pt_crew.specs.Asking.{Tells, answer, request_of, speaks_of};
 
-use pt_crew::tell;
+use crate::calls::tell;
 use pt_node::{Body, Desk, Fault, Item, Pid};
 
 /// A request that came: who asks, under which number, and what.
