@@ -1,6 +1,5 @@
 pub mod Lists
 pub mod Places
-pub mod Boxes
 pub mod Collecting
 pub mod Making
 pub mod Meeting

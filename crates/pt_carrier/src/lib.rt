@@ -67,11 +67,10 @@
 
 mod ends;
 mod lane;
-mod laws;
 mod opening;
 mod reunion;
 
-pub use ends::{Ins, MAX_DESKS, Outs, PostCause, Refused};
-pub use laws::limits_stand;
-pub use opening::{MAX_CAPACITY, open};
+pub use ends::{Ins, Outs, PostCause, Refused};
+pub use opening::open;
+pub use pt_signal::{MAX_DESKS, MAX_LANE as MAX_CAPACITY};
 pub use reunion::{Cause, EndsBack, Leftovers, reunite};

@@ -11,3 +11,5 @@ pub mod Handing
 pub mod Admitting
 pub mod Upholding
 pub mod Runs
+pub mod Ends
+pub mod Fitting

@@ -2,6 +2,8 @@ pub mod Steps
 pub mod Local
 pub mod Phases
 pub mod Homes
+pub mod Fields
+pub mod Telling
 pub mod Orders
 pub mod InOrder
 pub mod Since

@@ -21,6 +21,7 @@ mod event;
 mod journal;
 mod laws;
 
-pub use event::{Event, MAX_STAMP, Stamped};
+pub use event::{Event, Stamped};
 pub use journal::Journal;
-pub use laws::limits_stand;
+pub use laws::journals_tell_their_pids;
+pub use pt_signal::MAX_STAMP;

@@ -17,7 +17,7 @@ use Rattle.pt_signal.specs.Process.{or_else, id_list, has_id, held, same_watch}
 use Rattle.pt_events.specs.History.{Past, Start, Phase, open_monitors, at_start, life, after, state, state_of}
 use Rattle.pt_events.specs.History.{is_living}
 use Rattle.pt_laws.specs.Acts.{ActsMayCome}
-use Rattle.pt_laws.specs.Watch.{count}
+use Rattle.pt_events.specs.Counting.{count}
 use Rattle.pt_laws.specs.BirthsAndEnds.{ends_with}
 use Rattle.pt_laws.specs.Since.{standing, StandsSince}
 use Rattle.pt_laws.specs.MonitorLaws.{IsMadeOnce}

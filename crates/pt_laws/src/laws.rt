@@ -4,7 +4,7 @@ ghost use Rattle.pt_laws.specs.Acts.{LocalActs, LegalActs};
 ghost use Rattle.pt_laws.specs.BirthsAndEnds.{LivesOnce, StaysEnded, NothingAfterEnd, AliveUntilEnd};
 ghost use Rattle.pt_laws.specs.Words.{TrapIsLastFlag, HeldSince, IsHeldSince, PeersSince, OpenSince, IsOpenSince};
 ghost use Rattle.pt_laws.specs.Words.{KeptSince, IsKeptSince};
-ghost use Rattle.pt_laws.specs.JournalLaws.{ReadLocally, SentLocally, JournalsSay, MergeIsThere, MergeIsOne};
+ghost use Rattle.pt_laws.specs.JournalLaws.{MergeIsThere, MergeIsOne};
 ghost use Rattle.pt_laws.specs.Taken.{TakenByPosition};
 ghost use Rattle.pt_laws.specs.Laws.{CameOrFlies, SenderFront, MergeLegal};
 ghost use Rattle.pt_laws.specs.ResumedLaws.{ResumedLegal, ResumedSame, ResumedStart, ResumedTwice, EmptyIsLeft};
@@ -17,6 +17,8 @@ ghost use Rattle.pt_laws.specs.LoadLaws.{OneReceipt, ReceiptLowers, LoadByDesk};
 ghost use Rattle.pt_laws.specs.Headline.{HeadlineHolds};
 ghost use Rattle.pt_laws.specs.Asking.{AnswersAreTrue, QuietAnswers};
 ghost use Rattle.pt_laws.specs.Examples.{TenLines, Cascade, EarlyLink};
+
+pub use pt_events::journals_tell_their_pids;
 
 /// In one desk's local journal, and in a legal history, each event but a receipt may come. The laws that ask no more
 /// than that hold of both.
@@ -69,15 +71,6 @@ pub fn monitors_are_open_since()
 pub fn watches_are_kept_since()
     ensures list { KeptSince }
     ensures each { IsKeptSince }
-{}
-
-/// What a process is after a history (alive or not, its trap flag, links, monitors and waiting items), all that
-/// arrived in its mailbox, what it took, and what an event sends, is told by the events of its own desk. So a desk's
-/// journal says of its own pids what every merge says.
-pub fn journals_tell_their_pids()
-    ensures life { ReadLocally }
-    ensures sent { SentLocally }
-    ensures journals { JournalsSay }
 {}
 
 /// The local journals of finitely many desks have a merge, and one only.

@@ -19,13 +19,13 @@
 ghost use Rattle.std.specs.Prelude.{◌≡◌, ◌≤◌, IfOk, codes, map, option_map, string_bytes};
 ghost use Rattle.clap.specs.Words.{app_of, found_of, new_rule, rows_of};
 ghost use Rattle.pt_options.specs.Choosing as spec;
-ghost use Rattle.pt_choices.specs.declared.TheConstants.{MOST_EPOCHS, MOST_TURNS};
+ghost use Rattle.pt_render.specs.declared.choices.TheConstants.{MOST_EPOCHS, MOST_TURNS};
 
 pub mod laws;
 
 use clap::builder::ValueParser;
 use clap::{Arg, ArgAction, ArgMatches, Command};
-pub use pt_choices::{MOST_EPOCHS, MOST_TURNS, Mode, Options, Show, VERSION};
+pub use pt_render::{MOST_EPOCHS, MOST_TURNS, Mode, Options, Show, VERSION};
 use std::alloc::{AllocError, Global};
 
 static MODES: [&str; 2] = ["single", "many"];

@@ -61,23 +61,24 @@
 //! - **Pids.** A pid once known stays known, to its desk and to the others. (`Known`)
 //! - **Full.** A birth fails with `Full` exactly if each slot has a live process or has used its top version.
 //!   (`IsNextBirth`)
-//! - **Settings.** `Config::out_of_range` returns the first setting out of its range, and `None` exactly if all are in
-//!   theirs.
 //! - **Resuming.** `restart` empties the journal over the state that it leaves. Each process is what it was.
 #![tactic(auto)]
 
 mod acts;
-mod config;
 mod fault;
 mod laws;
 mod ledger;
 mod letters;
+mod origin;
 mod processes;
 mod shard;
 mod stop;
 
-pub use config::{Config, MAX_DESKS, MAX_LANE, MAX_SLOTS, MAX_STAMP, OpenError, Setting};
 pub use fault::Fault;
-pub use laws::{defaults_stand, known_to_others, limits_stand};
+pub use laws::{known_to_others, leaves_each};
+pub use pt_signal::{
+    Config, MAX_DESKS, MAX_LANE, MAX_SLOTS, MAX_STAMP, OpenError, Setting, defaults_stand,
+    limits_stand,
+};
 pub use shard::Shard;
 pub use stop::Stop;

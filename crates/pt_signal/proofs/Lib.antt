@@ -1,3 +1,5 @@
 pub mod Same
 pub mod Firsts
 pub mod Handling
+pub mod Lists
+pub mod Boxes

@@ -20,7 +20,7 @@ use Rattle.pt_laws.specs.Words.{peers, partner, peer_begins, peer_ends, HasOneEn
 use Rattle.pt_signal.proofs.Same.{same_pid_is, same_pid_refl}
 use Rattle.pt_laws.proofs.linking.Entries.{Keyed, cut_ids, held-enter, held-enter-other, held-cut, held-cut-other, held-removed, held-removed-other}
 use Rattle.pt_laws.proofs.order.Filters.{one_passes, remove_entry-first}
-use Rattle.pt_laws.proofs.living.Fields.{end_keeps, while_keeps, leaves_keeps, obey_keeps, down_keeps}
+use Rattle.pt_events.proofs.Fields.{end_keeps, while_keeps, leaves_keeps, obey_keeps, down_keeps}
 use Rattle.pt_laws.proofs.linking.LinksSince.{keyed, link_exit_links}
 
 abbrev Entries : Type 0

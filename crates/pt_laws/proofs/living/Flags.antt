@@ -16,7 +16,7 @@ use Rattle.pt_laws.specs.Acts.{ActsMayCome}
 use Rattle.pt_laws.specs.Words.{flag_of, last_flag}
 use Rattle.pt_signal.proofs.Same.{same_pid_is}
 use Rattle.pt_events.proofs.Phases.{each_branch}
-use Rattle.pt_laws.proofs.living.Fields.{while_keeps, leaves_keeps, gets_keeps, obey_keeps, link_exit_keeps, down_keeps, born_keeps, say_keeps}
+use Rattle.pt_events.proofs.Fields.{while_keeps, leaves_keeps, gets_keeps, obey_keeps, link_exit_keeps, down_keeps, born_keeps, say_keeps}
 
 handle_traps : (p : Pid) (s : ProcessState) (a : Pid) (x : Signal) → (handle p s a x).state.traps ≡ s.traps
 handle_traps p s a (Signal.Exit r) = obey_keeps (λ s. s.traps) (λ w s. refl) (verdict false s.traps (same_pid a p) a r) s

@@ -25,7 +25,7 @@ use Rattle.pt_laws.proofs.monitoring.Counts.{count_missing}
 use Rattle.pt_laws.proofs.monitoring.Downs.{opens, count_law}
 use Rattle.pt_laws.proofs.living.BirthsAndEnds.{handle_ending}
 use Rattle.pt_laws.proofs.order.Filters.{filter_all, filter_nothing, all_stay, none_passes, one_passes, remove_entry-first}
-use Rattle.pt_laws.proofs.living.Fields.{obey_keeps, link_exit_keeps, linked_keeps}
+use Rattle.pt_events.proofs.Fields.{obey_keeps, link_exit_keeps, linked_keeps}
 
 -- lists --------------------------------------------------------------------------------------------
 

@@ -4,7 +4,7 @@ use Rattle.std.proofs.lemmas.Bool.{cases_eq}
 use Rattle.pt_carrier.specs.Ends.{OutEnds, InEnds}
 use Rattle.pt_carrier.specs.Node.{places, entry}
 use Rattle.pt_carrier.specs.Reunion.{all_known}
-use Rattle.pt_carrier.proofs.Lists.{get_or-map_read}
+use Rattle.pt_signal.proofs.Lists.{get_or-map_read}
 use Rattle.pt_carrier.proofs.Places.{in_lanes, in_number}
 use Rattle.pt_carrier.proofs.Rooms.{HasRoom-same, room_list}
 use Rattle.pt_carrier.proofs.reunion.empty_all.Goals as goal

@@ -1,4 +1,4 @@
-use Rattle.pt_shard.specs.declared.config.TheConstants.Config.{DEFAULT}
+use Rattle.pt_signal.specs.declared.config.TheConstants.Config.{DEFAULT}
 use Rattle.pt_session.specs.Running.{HasRun, fresh}
 use Rattle.pt_session.specs.Sessions.{seen}
 use Rattle.pt_session.proofs.running.run.Given as goal

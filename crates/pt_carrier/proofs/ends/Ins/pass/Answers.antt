@@ -2,7 +2,7 @@ use Rattle.std.proofs.Common.{◌+◌, ◌%◌, ◌<◌, length, [], ◌∙◌, 
 use Rattle.std.proofs.lemmas.List.{length-map}
 use Rattle.pt_carrier.specs.Lanes.{Receiving}
 use Rattle.pt_carrier.specs.Ends.{InEnds}
-use Rattle.pt_carrier.proofs.Lists.{map-set_same, map-set_more, get_or-map_read, get_or-map_set_same, get_or-map_set_other}
+use Rattle.pt_signal.proofs.Lists.{map-set_same, map-set_more, get_or-map_read, get_or-map_set_same, get_or-map_set_other}
 use Rattle.pt_carrier.proofs.Collecting.{IsPrefix-is}
 use Rattle.pt_carrier.proofs.ends.Ins.pass.Goals as goal
 
