@@ -48,7 +48,9 @@
 //! on their way at each receipt, and through the lists of the one process that the event is of.
 #![tactic(auto)]
 
+pub mod laws;
+pub mod links;
+
 pub use pt_events::{Event, Journal, Stamped};
 pub use pt_judge::{Cause, Holding, State, replay, replay_from};
-pub use pt_laws::{laws, links};
 pub use pt_merge::merge;
