@@ -1,6 +1,6 @@
 -- Lemmas on lists.
-use Rattle.std.proofs.Common.{◌≡◌, ◌≢◌, ℕ, ◌+◌, ◌<◌, arith, below_more, List, Vec, [], ◌∷◌, ◌++◌, map, length, take, drop, get_or, set, sym, ◌∙◌, ap}
-use Rattle.std.proofs.lemmas.List.{map-append, map-set, set-get_or, get_or-map, length-map, get_or-set_same, get_or-set_other, get_or_append_left, get_or_push, set-append_left, set-append_right, set_comm, length-set, get_or-append_right, drop_all, append-nil, take_all}
+use Rattle.std.proofs.Common.{◌≡◌, ℕ, ◌+◌, ◌<◌, arith, below_more, List, Vec, [], ◌∷◌, ◌++◌, map, length, take, drop, get_or, set, sym, ◌∙◌, ap}
+use Rattle.std.proofs.lemmas.List.{map-append, length-map, get_or_append_left, get_or_push, set-append_left, set-append_right, set_comm, length-set, get_or-append_right, drop_all, append-nil, take_all}
 use Rattle.std.proofs.lemmas.Simd.{map-map}
 use Rattle.pt_signal.proofs.Lists.{get_or-map_read}
 use Rattle.pt_carrier.specs.Node.{lists}

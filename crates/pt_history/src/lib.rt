@@ -52,7 +52,9 @@
 //! - **One name.** It has no code of its own: it exports events, laws, merge and judge.
 #![tactic(auto)]
 
+pub mod laws;
+pub mod links;
+
 pub use pt_events::{Event, Journal, Stamped};
 pub use pt_judge::{Cause, Holding, State, replay, replay_from};
-pub use pt_laws::{laws, links};
 pub use pt_merge::merge;

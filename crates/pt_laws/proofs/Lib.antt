@@ -1,4 +1,3 @@
-pub mod Examples
 pub mod Merged
 pub mod Sums
 pub mod DeskLoads

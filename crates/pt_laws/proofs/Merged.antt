@@ -19,7 +19,7 @@ use Rattle.pt_events.specs.declared.event.Stamped.{Stamped}
 use Rattle.pt_signal.specs.Values.{same_pid, same_ref, same_link, without_first, fits}
 use Rattle.pt_signal.specs.Process.{Sent, sent, held}
 use Rattle.pt_events.specs.History.{Start, life, alive, state, is_living, is_ended, state_of, is_between, flying, landed, sent_by, made_link, made_ref, makes_link, makes_ref, is_this, May, MaySay, MayBear, IsLegal}
-use Rattle.pt_events.specs.Journal.{Journals, IsMerge, events, of_desk, letter, content, IsHome, IsOf, IsNewAt, IsLinkAt, MayHere, IsNext, IsLocal, letters, posts, got, got_of, gots, Agrees, LanesAgree, IsAfter, AllBefore, IsRising}
+use Rattle.pt_events.specs.Journal.{Journals, IsMerge, events, of_desk, letter, content, IsHome, IsOf, IsNewAt, IsLinkAt, MayHere, IsNext, letters, posts, got, got_of, gots, Agrees, LanesAgree, IsAfter, AllBefore, IsRising}
 use Rattle.pt_events.specs.Refusals.{stamped_below, IsTrueRefusal, AllTrueRefusals, RefusalsAreTrue}
 use Rattle.pt_signal.proofs.Same.{same_pid_is, same_pid_refl, same_ref_is, same_link_is}
 use Rattle.pt_events.proofs.Local.{AllHome}

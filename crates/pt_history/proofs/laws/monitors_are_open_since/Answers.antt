@@ -4,10 +4,10 @@ use Rattle.pt_signal.specs.declared.pid.Pid.{Pid}
 use Rattle.pt_signal.specs.declared.ids.Ref.{Ref}
 use Rattle.pt_events.specs.History.{life, at_start, open_monitors}
 use Rattle.pt_laws.specs.Since.{StandsSince}
-use Rattle.pt_laws.specs.Words.{monitor_opens, monitor_closes}
-use Rattle.pt_laws.proofs.monitoring.MonitorsSince.{open_since}
+use Rattle.pt_history.specs.Words.{monitor_opens, monitor_closes}
+use Rattle.pt_history.proofs.MonitorsSince.{open_since}
 use Rattle.pt_laws.proofs.living.Since.{stands_since}
-use Rattle.pt_laws.proofs.laws.monitors_are_open_since.Goals as goal
+use Rattle.pt_history.proofs.laws.monitors_are_open_since.Goals as goal
 
 pub returns-clause-list : goal.returns-clause-list
 returns-clause-list c start past w h once = open_since start w past h once

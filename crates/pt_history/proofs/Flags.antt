@@ -13,7 +13,7 @@ use Rattle.pt_signal.specs.Process.{ProcessState, verdict, held, holds_any, hand
 use Rattle.pt_events.specs.History.{Past, Start, Phase, unborn, living, ended, life, state, is_living, state_of, while_living}
 use Rattle.pt_events.specs.Journal.{MayHere}
 use Rattle.pt_laws.specs.Acts.{ActsMayCome}
-use Rattle.pt_laws.specs.Words.{flag_of, last_flag}
+use Rattle.pt_history.specs.Words.{flag_of, last_flag}
 use Rattle.pt_signal.proofs.Same.{same_pid_is}
 use Rattle.pt_events.proofs.Phases.{each_branch}
 use Rattle.pt_events.proofs.Fields.{while_keeps, leaves_keeps, gets_keeps, obey_keeps, link_exit_keeps, down_keeps, born_keeps, say_keeps}

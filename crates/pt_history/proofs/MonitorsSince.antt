@@ -18,7 +18,7 @@ use Rattle.pt_laws.specs.Acts.{ActsMayCome}
 use Rattle.pt_laws.specs.BirthsAndEnds.{signal_ends}
 use Rattle.pt_laws.specs.Since.{standing}
 use Rattle.pt_laws.specs.MonitorLaws.{IsMadeOnce}
-use Rattle.pt_laws.specs.Words.{monitor_opens, monitor_closes}
+use Rattle.pt_history.specs.Words.{monitor_opens, monitor_closes}
 use Rattle.pt_signal.proofs.Same.{same_pid_is}
 use Rattle.pt_events.proofs.Phases.{each_branch, after_ended}
 use Rattle.pt_laws.proofs.monitoring.Counts.{count_missing}

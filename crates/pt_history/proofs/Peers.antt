@@ -16,7 +16,8 @@ use Rattle.pt_signal.specs.Values.{same_pid, same_ref}
 use Rattle.pt_signal.specs.Process.{ProcessState, fresh, verdict, held, holds_any, enter, enter_at, cut, cut_at, leave_at, without_ids, one_id, add_id, handle, say}
 use Rattle.pt_events.specs.History.{Past, Start, Phase, unborn, living, ended, life, at_start, after, state_of, linked, newborn, while_living, gets, leaves}
 use Rattle.pt_laws.specs.Since.{standing}
-use Rattle.pt_laws.specs.Words.{peers, partner, peer_begins, peer_ends, HasOneEntryEach}
+use Rattle.pt_history.specs.Words.{peers, partner, peer_begins, peer_ends}
+use Rattle.pt_laws.specs.Words.{HasOneEntryEach}
 use Rattle.pt_signal.proofs.Same.{same_pid_is, same_pid_refl}
 use Rattle.pt_laws.proofs.linking.Entries.{Keyed, cut_ids, held-enter, held-enter-other, held-cut, held-cut-other, held-removed, held-removed-other}
 use Rattle.pt_laws.proofs.order.Filters.{one_passes, remove_entry-first}

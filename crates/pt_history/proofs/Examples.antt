@@ -1,7 +1,7 @@
 -- The worked histories, by computation.
 use Rattle.std.proofs.Common.{[], refl, rules}
 use Rattle.pt_events.specs.History.{IsLegal}
-use Rattle.pt_laws.specs.Examples.{TenLines, Cascade, EarlyLink, ten_lines, cascade, early}
+use Rattle.pt_history.specs.Examples.{TenLines, Cascade, EarlyLink, ten_lines, cascade, early}
 
 ten_lines_legal : IsLegal [] ten_lines
 ten_lines_legal = (refl, (refl, ((refl, refl), (refl, ((refl, tt), ((refl, refl), (refl, ((refl, tt), ((refl, tt), ((refl, tt), tt))))))))))

@@ -1,0 +1,5 @@
+pub mod Flags
+pub mod Peers
+pub mod MonitorsSince
+pub mod Examples
+pub mod EarlyLinks
