@@ -11,7 +11,7 @@
 //! # What is proved
 //!
 //! - **Exports.** Each function answers the code of the call that it makes on what its handle has, and passes out that
-//!   call's answer. (`Called`, `Read`)
+//!   call's answer. (`CallsThrough`, `ReadsThrough`)
 //! - **Refusals.** If a function fails, each handle and each struct passed in is as it was, also if memory is refused.
 //! - **Handles.** An empty handle, a full one that was to be filled, and a wrong number of desks are codes.
 //! - **Nodes.** Opening, gathering, settling and resuming leave in the handles what `open`, `gather`, `settle` and

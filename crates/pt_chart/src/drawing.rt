@@ -6,8 +6,8 @@ ghost use Rattle.std.specs.Option.{option_map};
 ghost use Rattle.pt_signal.specs.Values.{same_pid};
 ghost use Rattle.pt_chart.specs.declared.part.Part.TheVariants.{Mark as MarkPart};
 ghost use Rattle.pt_chart.specs.Drawing.{IsChart, bears, begins_row, column, drawing_text, drawn, end, ends_row};
-ghost use Rattle.pt_chart.specs.Drawing.{event_bearing, event_mark, given, ground, label_beside, letters, lines};
-ghost use Rattle.pt_chart.specs.Drawing.{longest_beside, mark, name, names, names_of, numbered, page_of, place_in};
+ghost use Rattle.pt_chart.specs.Drawing.{event_bearing, event_mark, called_given, ground, label_beside, letters, line_parts};
+ghost use Rattle.pt_chart.specs.Drawing.{longest_beside, mark, name, name_parts, column_names, each_numbered, page_of, place_in};
 ghost use Rattle.pt_chart.specs.Drawing.{sayings, starts_desk};
 ghost use Rattle.pt_chart.specs.Rows.{count_of, in_rows};
 
@@ -27,7 +27,7 @@ use std::alloc::{AllocError, Global};
 /// order; the pids of the processes stand above the first row and again after each 40, and above the pid of a process
 /// the first name that is given to it, with XML's own characters escaped.
 pub fn chart(alloc: Global, events: &[Stamped], called: &[Called<'_>]) -> Result<String, AllocError>
-    ensures { IfOk result (λ text. IsChart events.now (map given called.now) (string_bytes text)) }
+    ensures { IfOk result (λ text. IsChart events.now (map called_given called.now) (string_bytes text)) }
 {
     let layout = lay_out(alloc, events)?;
     drawing_of(alloc, events, called, &layout)
@@ -42,7 +42,7 @@ fn drawing_of(
 ) -> Result<String, AllocError>
     requires { length layout.now.rows.items ≡ length events.now }
     ensures { IfOk result (λ text. string_bytes text ≡ drawing_text (page_of events.now layout.now)
-        (names_of (map given called.now) layout.now.columns.items) (drawn events.now layout.now)) }
+        (column_names (map called_given called.now) layout.now.columns.items) (drawn events.now layout.now)) }
 {
     let page = page_of(alloc, events, layout)?;
     let names = names_of(alloc, called, layout.columns.as_slice())?;
@@ -61,7 +61,7 @@ fn write_drawing(
     text: &mut String,
 ) -> Result<(), AllocError>
     ensures { OnOk result (string_bytes text.new
-        ≡ string_bytes text.old ++ drawing_text page.now (map (λ n. n.now) names.now) parts.now) }
+        ≡ string_bytes text.old ++ drawing_text page.now (map (λ n. n.now) name_parts.now) parts.now) }
 {
     write_head(page, text)?;
     write_parts(alloc, page, names, parts, text)?;
@@ -165,7 +165,7 @@ fn row_if(rows: &[usize], event: Option<usize>) -> Option<usize>
 
 /// The ground of each process.
 fn list_grounds(columns: &[Column], parts: &mut Vec<Part>) -> Result<(), AllocError>
-    ensures { OnOk result (parts.new.items ≡ parts.old.items ++ numbered (ground columns.now) columns.now) }
+    ensures { OnOk result (parts.new.items ≡ parts.old.items ++ each_numbered (ground columns.now) columns.now) }
 {
     for place in 0..columns.len() {
         list_ground(place, &columns[place], columns, parts)?;
@@ -211,7 +211,7 @@ fn first_of_desk(columns: &[Column], desk: u8) -> Option<usize>
 
 /// The line and the life of each process.
 fn list_columns(rows: &[usize], columns: &[Column], parts: &mut Vec<Part>) -> Result<(), AllocError>
-    ensures { OnOk result (parts.new.items ≡ parts.old.items ++ numbered (column rows.now) columns.now) }
+    ensures { OnOk result (parts.new.items ≡ parts.old.items ++ each_numbered (column rows.now) columns.now) }
 {
     for place in 0..columns.len() {
         list_column(rows, place, &columns[place], parts)?;
@@ -249,7 +249,7 @@ fn row_of_end(rows: &[usize], ended: Option<(usize, Reason)>) -> Option<usize>
 
 /// An arrow a letter.
 fn list_letters(rows: &[usize], columns: &[Column], parts: &mut Vec<Part>) -> Result<(), AllocError>
-    ensures { OnOk result (parts.new.items ≡ parts.old.items ++ numbered (letters rows.now) columns.now) }
+    ensures { OnOk result (parts.new.items ≡ parts.old.items ++ each_numbered (letters rows.now) columns.now) }
 {
     for place in 0..columns.len() {
         list_letters_from(rows, place, &columns[place], parts)?;
@@ -276,7 +276,7 @@ fn list_letters_from(
 
 /// What each letter says.
 fn list_sayings(rows: &[usize], columns: &[Column], parts: &mut Vec<Part>) -> Result<(), AllocError>
-    ensures { OnOk result (parts.new.items ≡ parts.old.items ++ numbered (sayings rows.now) columns.now) }
+    ensures { OnOk result (parts.new.items ≡ parts.old.items ++ each_numbered (sayings rows.now) columns.now) }
 {
     for place in 0..columns.len() {
         list_sayings_of(rows, place, &columns[place], parts)?;
@@ -308,7 +308,7 @@ fn list_bearings(
     columns: &[Column],
     parts: &mut Vec<Part>,
 ) -> Result<(), AllocError>
-    ensures { OnOk result (parts.new.items ≡ parts.old.items ++ numbered (bears rows.now columns.now) events.now) }
+    ensures { OnOk result (parts.new.items ≡ parts.old.items ++ each_numbered (bears rows.now columns.now) events.now) }
 {
     for at in 0..events.len() {
         list_bearing(row_of(rows, at), events[at].event, columns, parts)?;
@@ -343,7 +343,7 @@ fn list_marks(
     columns: &[Column],
     parts: &mut Vec<Part>,
 ) -> Result<(), AllocError>
-    ensures { OnOk result (parts.new.items ≡ parts.old.items ++ numbered (mark rows.now columns.now) events.now) }
+    ensures { OnOk result (parts.new.items ≡ parts.old.items ++ each_numbered (mark rows.now columns.now) events.now) }
 {
     for at in 0..events.len() {
         list_mark(row_of(rows, at), events[at].event, columns, parts)?;
@@ -402,7 +402,7 @@ fn position_of(columns: &[Column], pid: Pid) -> Option<usize>
 
 /// A cross where a process ends.
 fn list_ends(rows: &[usize], columns: &[Column], parts: &mut Vec<Part>) -> Result<(), AllocError>
-    ensures { OnOk result (parts.new.items ≡ parts.old.items ++ numbered (end rows.now) columns.now) }
+    ensures { OnOk result (parts.new.items ≡ parts.old.items ++ each_numbered (end rows.now) columns.now) }
 {
     for place in 0..columns.len() {
         list_end(rows, place, &columns[place], parts)?;
@@ -436,7 +436,7 @@ fn list_lines(
     parts: &mut Vec<Part>,
 ) -> Result<(), AllocError>
     requires { length rows.now ≡ length events.now }
-    ensures { OnOk result (parts.new.items ≡ parts.old.items ++ numbered (lines rows.now columns.now) events.now) }
+    ensures { OnOk result (parts.new.items ≡ parts.old.items ++ each_numbered (line_parts rows.now columns.now) events.now) }
 {
     for at in 0..events.len() {
         list_line(rows, at, events[at], columns, parts)?;
@@ -453,7 +453,7 @@ fn list_line(
     parts: &mut Vec<Part>,
 ) -> Result<(), AllocError>
     requires { at < length rows.now }
-    ensures { OnOk result (parts.new.items ≡ parts.old.items ++ lines rows.now columns.now at event) }
+    ensures { OnOk result (parts.new.items ≡ parts.old.items ++ line_parts rows.now columns.now at event) }
 {
     let first = begins_row(rows, at);
     if first {
@@ -485,7 +485,7 @@ fn ends_row(rows: &[usize], at: usize) -> bool
 }
 
 fn list_names(row: usize, columns: &[Column], parts: &mut Vec<Part>) -> Result<(), AllocError>
-    ensures { OnOk result (parts.new.items ≡ parts.old.items ++ names columns.now row) }
+    ensures { OnOk result (parts.new.items ≡ parts.old.items ++ name_parts columns.now row) }
 {
     if row % BLOCK == 0 {
         list_all_names(row, columns, parts)
@@ -495,7 +495,7 @@ fn list_names(row: usize, columns: &[Column], parts: &mut Vec<Part>) -> Result<(
 }
 
 fn list_all_names(row: usize, columns: &[Column], parts: &mut Vec<Part>) -> Result<(), AllocError>
-    ensures { OnOk result (parts.new.items ≡ parts.old.items ++ numbered (name row) columns.now) }
+    ensures { OnOk result (parts.new.items ≡ parts.old.items ++ each_numbered (name row) columns.now) }
 {
     for place in 0..columns.len() {
         parts.push(Part::Name {

@@ -16,7 +16,7 @@
 //!
 //! - **Texts.** What it says of a refused script is the text of a place, of a member if one is wrong, and of what is
 //!   wrong. (`explain`)
-#![tactic(auto, unfolding(crate::specs::Texts::scene_text, crate::specs::Texts::wrong_text, crate::specs::Texts::why_text))]
+#![tactic(auto, unfolding(crate::specs::Texts::where_text, crate::specs::Texts::wrong_text, crate::specs::Texts::why_text))]
 
 mod explaining;
 mod finding;

@@ -49,7 +49,13 @@
 //!
 //! # What is proved
 //!
-//! - **One name.** It has no code of its own: it exports events, laws, merge and judge.
+//! - **One name.** It exports events, merge and judge, and states the laws that no crate of a node needs.
+//! - **Flags and links.** The flag of a process is the last one that it set. It is linked with just those with whom a
+//!   link was made since and not removed. (`trap_is_the_last_flag`, `peers_are_linked_since`)
+//! - **Open monitors.** A monitor is open if it was made and neither cancelled, delivered nor ended with its process.
+//!   (`monitors_are_open_since`)
+//! - **Early links.** A link to a process that is not born yet is answered. (`early_link_unknown`, `early_link_abroad`)
+//! - **Worked histories.** Some histories are shown legal and quiet by computing them. (`worked_histories`)
 #![tactic(auto)]
 
 pub mod laws;

@@ -7,7 +7,7 @@
 //! # What is proved
 //!
 //! - **One life.** A pid is born once and exits once.
-//! - **Each word in its own terms.** Alive, linked, monitoring, waiting and the flag are stated by what happened since,
+//! - **Each word in its own terms.** Alive, held links, kept watches and waiting items are stated by what happened since,
 //!   and are equal to what the fold over the history gives.
 //! - **Nothing lost.** Between two processes no signal is lost, doubled or overtaken.
 //! - **One DOWN.** A monitor gives one `DOWN` at most, and none after its demonitor.

@@ -17,7 +17,7 @@
 //!   arguments. (`command_of`)
 //! - **Mistakes.** Otherwise the column and the kind of the first mistake are returned.
 //! - **Names.** `Names` finds the value that was last given a name.
-#![tactic(auto, unfolding(crate::specs::Text::why_text))]
+#![tactic(auto, unfolding(crate::specs::Text::mistake_text))]
 
 mod arguments;
 mod call;

@@ -41,7 +41,7 @@
 //! - **Faults.** A script's fault is the first one. After any fault but `File` the writer is as it was, or has the
 //!   lines of the epochs that passed.
 //! - **Status.** It is 1 for a refused script and else 3. (`ReportFault::status`)
-#![tactic(auto, unfolding(crate::specs::Lines::fate_text, crate::specs::Lines::account_text, crate::specs::Lines::totals_text))]
+#![tactic(auto, unfolding(crate::specs::Lines::ending_text, crate::specs::Lines::account_text, crate::specs::Lines::totals_text))]
 
 mod called;
 mod chart;

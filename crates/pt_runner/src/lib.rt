@@ -43,7 +43,7 @@
 //!   (`RunnerDoes`)
 //! - **Operations.** What an operation does is one line a kind. (`Performs`)
 //! - **Attending.** All this holds if the runner attends its desk: it is new, or has taken each turn of it, or begins
-//!   again. (`Attends`)
+//!   again. (`RunnerAttends`)
 //! - **Places.** `place` tells where a process is in its list.
 #![tactic(auto)]
 

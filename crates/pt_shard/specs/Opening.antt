@@ -4,8 +4,8 @@ use Rattle.pt_signal.specs.declared.config.Config.{Config}
 use Rattle.pt_shard.specs.ShardState.{ShardState}
 
 -- the first birth has the first version of slot 0
-abbrev pub fresh : Config → ℕ → ShardState
-fresh c number = record {
+abbrev pub fresh_shard : Config → ℕ → ShardState
+fresh_shard c number = record {
   start = [];
   number = number;
   config = c;

@@ -9,7 +9,7 @@
 //! - **Restarts.** After an exit, which children are started again, and which others the strategy ends, is one function
 //!   of what the supervisor knows. (`starts_again`, `ends_from`)
 //! - **Limits.** When a restart is still allowed is exact. (`Limit::allows`)
-//! - **Handling.** What `handle` does on the desk, refusals included, is said whole. (`Handles`)
+//! - **Handling.** What `handle` does on the desk, refusals included, is said whole. (`SupervisorHandles`)
 //! - **Children are restarted.** Once the node is quiet and the crew idle, each child that a live supervisor wants
 //!   alive is alive, or unlinked itself. (`quiet_children_live`, `gathered_children_live`)
 //! - **No orphans.** Of a supervisor that stopped by itself no child lives, unless that child sent it an exit signal.
