@@ -1,3 +1,4 @@
+-- `lanes_from`: its loop over `e`.
 use Rattle.std.proofs.Common.{◌≡◌, ◌<◌, [], ◌∷◌, ◌++◌, length, get_or, set, arith, below_more, ap, ◌∙◌}
 use Rattle.std.proofs.lemmas.List.{get_or_append_left, get_or_push}
 use Rattle.pt_carrier.specs.Lanes.{Sending, new_sending, new_receiving}

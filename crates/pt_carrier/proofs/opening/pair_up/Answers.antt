@@ -1,3 +1,4 @@
+-- `pair_up`: its clauses `node`, `count` and `new`, and its loop over `d`, and what its call of `new` asks.
 use Rattle.std.proofs.Common.{◌≡◌, ◌<◌, [], length, get_or, arith, ap, ◌∙◌}
 use Rattle.pt_carrier.specs.Ends.{OutEnds, InEnds, out_ends, in_ends}
 use Rattle.pt_carrier.specs.Node.{lists}

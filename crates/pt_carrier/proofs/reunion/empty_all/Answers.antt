@@ -1,3 +1,4 @@
+-- `empty_all`: its clause `room`, and its loop over `outs`, and what its call of `empty_into` asks.
 use Rattle.std.proofs.Common.{◌≡◌, ◌≢◌, ⊎_elim, ◌+◌, ◌*◌, ◌<◌, [], ◌∷◌, ◌++◌, length, take, get_or, arith, ap, sym, refl, ◌∙◌, vec_len}
 use Rattle.std.proofs.lemmas.List.{get_or_push, get_or-take, take-take, take_at, length_push}
 use Rattle.std.proofs.lemmas.Bool.{cases_eq}

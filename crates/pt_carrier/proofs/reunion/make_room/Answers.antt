@@ -1,3 +1,4 @@
+-- `make_room`: its loop over `e` and `d`, and what its call of `known` asks.
 use Rattle.std.proofs.Common.{◌≡◌, ◌+◌, ◌*◌, [], ◌∷◌, ◌++◌, length, get_or, arith, ap, below_more}
 use Rattle.pt_carrier.specs.Ends.{OutEnds, InEnds}
 use Rattle.pt_carrier.specs.Node.{places, entry}

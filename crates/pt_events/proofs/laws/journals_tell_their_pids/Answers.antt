@@ -1,3 +1,4 @@
+-- `journals_tell_their_pids`: its clauses `life`, `sent` and `journals`.
 use Rattle.pt_events.proofs.Homes.{sent_home}
 use Rattle.pt_events.proofs.Telling.{reads, says}
 use Rattle.pt_events.proofs.laws.journals_tell_their_pids.Goals as goal

@@ -1,3 +1,4 @@
+-- `peers_are_linked_since`: its contract.
 use Rattle.pt_history.proofs.Peers.{peers_since}
 use Rattle.pt_history.proofs.laws.peers_are_linked_since.Goals as goal
 

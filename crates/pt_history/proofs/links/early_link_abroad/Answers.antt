@@ -1,3 +1,4 @@
+-- `early_link_abroad`: its contract.
 use Rattle.pt_history.proofs.EarlyLinks.{early_link_abroad}
 use Rattle.pt_history.proofs.links.early_link_abroad.Goals as goal
 

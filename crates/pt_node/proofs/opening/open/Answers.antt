@@ -1,3 +1,4 @@
+-- `open`: its clauses `accounted` and `seated`, and what its call of `make_whole` asks.
 use Rattle.std.proofs.Common.{◌≡◌, length, map, rules, arith}
 use Rattle.std.specs.Arc.{arc_value}
 use Rattle.pt_signal.specs.Settings.{IsInRange}

@@ -1,3 +1,4 @@
+-- `prepare`: its clauses `range`, `ended` and `capacity`, and what its calls of `fresh_seats` and `open` ask.
 use Rattle.std.proofs.Common.{◌<◌, ◌≤◌, sym, subst, ◌∙◌}
 use Rattle.pt_signal.specs.declared.config.TheConstants.{MAX_LANE}
 use Rattle.pt_directory.specs.Seats.{AreEnded}

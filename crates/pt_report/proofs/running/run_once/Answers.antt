@@ -1,3 +1,4 @@
+-- `run_once`: its clause `runs`.
 use Rattle.std.proofs.Common.{◌≡◌, sym, ◌∙◌}
 use Rattle.pt_render.specs.declared.choices.Mode.TheVariants.{Single, Many}
 use Rattle.pt_node.specs.Running.{always}

@@ -1,3 +1,4 @@
+-- `count_events`: what holds in its loop over `desk`.
 use Rattle.std.proofs.Common.{◌≡◌, ◌-◌, ◌^◌, length}
 use Rattle.std.specs.Prelude.{min}
 use Rattle.pt_events.specs.Counting.{below}

@@ -1,3 +1,4 @@
+-- `Ins::empty_into`: its loop over `d`.
 use Rattle.std.proofs.Common.{◌≡◌, ◌≢◌, ◌⊎◌, inl, inr, ℕ, ◌+◌, ◌*◌, ◌<◌, ◌≤◌, [], ◌++◌, length, map, get_or, set, arith, ap, sym, ◌∙◌, below_more}
 use Rattle.std.proofs.lemmas.List.{length-map, get_or-set_other}
 use Rattle.std.proofs.lemmas.Nat.{same_from_place}

@@ -1,3 +1,4 @@
+-- `Ins::first_among`: its clauses `same`, `some` and `others`, and its loop over `d`.
 use Rattle.std.proofs.Common.{◌≡◌, ◌≢◌, ◌<◌, ◌≤◌, ◌⊎◌, inl, inr, length, map, [], ◌∙◌, ap, arith, get_or, set, refl, sym, below_more}
 use Rattle.std.proofs.lemmas.List.{length-map}
 use Rattle.std.proofs.lemmas.Grind.{elements}

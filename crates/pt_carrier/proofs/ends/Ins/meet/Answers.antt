@@ -1,3 +1,4 @@
+-- `Ins::meet`: its contract, and what its call of `meet` asks.
 use Rattle.std.proofs.Common.{◌≡◌, List, [], length, get_or, ◌∙◌, ap, arith}
 use Rattle.pt_signal.specs.declared.letter.Letter.{Letter}
 use Rattle.pt_carrier.specs.Lanes.{Sending, Receiving}

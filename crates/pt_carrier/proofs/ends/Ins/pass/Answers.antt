@@ -1,3 +1,4 @@
+-- `Ins::pass`: its clauses `collects`, `place` and `others`.
 use Rattle.std.proofs.Common.{◌+◌, ◌%◌, ◌<◌, length, [], ◌∙◌, ap, arith, get_or, sym}
 use Rattle.std.proofs.lemmas.List.{length-map}
 use Rattle.pt_carrier.specs.Lanes.{Receiving}

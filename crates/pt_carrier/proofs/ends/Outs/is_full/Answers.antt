@@ -1,3 +1,4 @@
+-- `Outs::is_full`: its clauses `same`, `full`, `room` and `looks`.
 use Rattle.std.proofs.Common.{Bool, true, false, map, set, sym, ap, ◌∙◌, arith}
 use Rattle.std.specs.Bool.{OnTrue, OnFalse}
 use Rattle.std.proofs.lemmas.List.{map-set}

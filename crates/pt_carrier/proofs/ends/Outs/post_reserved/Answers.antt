@@ -1,3 +1,4 @@
+-- `Outs::post_reserved`: its clauses `same` and `posted`.
 use Rattle.std.proofs.Common.{ap, ◌∙◌}
 use Rattle.pt_carrier.specs.Lanes.{Sending}
 use Rattle.pt_carrier.specs.Ends.{OutEnds}

@@ -1,3 +1,4 @@
+-- `Outs::post_run`: its clauses `same`, `posted`, `full` and `looks`.
 use Rattle.std.proofs.Common.{map, set, sym, ap, ◌∙◌, arith}
 use Rattle.std.proofs.lemmas.List.{map-set}
 use Rattle.pt_carrier.specs.Lanes.{Sending}

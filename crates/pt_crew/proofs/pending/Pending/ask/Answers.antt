@@ -1,3 +1,4 @@
+-- `Pending::ask`: its clauses `does` and `goes_on`, and what its call of `number_of` asks.
 use Rattle.std.proofs.Common.{Some, inr, sym, subst, ◌∙◌, ℤ}
 use Rattle.pt_desk.proofs.Turning.{goes_on_then}
 use Rattle.pt_crew.specs.Asking.{TellsServer}

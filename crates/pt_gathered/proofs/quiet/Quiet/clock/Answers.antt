@@ -1,3 +1,4 @@
+-- `Quiet::clock`: its clauses `journals`, `shards` and `within`.
 use Rattle.std.proofs.Common.{ℕ, ◌<◌, ◌≤◌, length, get_or, sym, subst}
 use Rattle.pt_events.specs.Journal.{clock}
 use Rattle.pt_signal.specs.declared.config.TheConstants.{MAX_STAMP}
