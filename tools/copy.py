@@ -21,13 +21,13 @@ PARTS = ("src", "specs", "proofs")
 
 
 def lines_of(file: Path) -> dict[str, str]:
-    """The line of each crate in a crates.txt, by name, lowest crate first."""
+    """The line of each crate in a crates.txt, by name, in its order."""
     lines = file.read_text().splitlines() if file.exists() else []
     return {line.split(":")[0].split()[0]: line for line in lines if ":" in line and not line.startswith("#")}
 
 
 def below(wanted: list[str], lines: dict[str, str]) -> list[str]:
-    """The crates and those of this repository that they stand on, lowest first."""
+    """The crates and those of this repository that they stand on, in the order of crates.txt."""
     reached: set[str] = set()
     todo = list(wanted)
     while todo:
