@@ -122,7 +122,7 @@ slots_apart b (x ∷ slots) own i j p q at there same =
 -- a table -----------------------------------------------------------------------------------
 
 module _ (start : Start) (d : ℕ) (past : Past) (t : DeskTable) (is : IsTableOf start d past t) where
-  -- the life life_at a place is that of the pid of the place
+  -- the life at a place is that of the pid of the place
   pub life_at : (s j : ℕ) (l : LifeState) → slice_get (slot_at t.slots s) j ≡ Some l
       → (l.pid ≡ record { shard = d; slot = s; version = suc j }) × (l.phase ≡ life start past (record { shard = d; slot = s; version = suc j }))
   life_at s j l life_at =
