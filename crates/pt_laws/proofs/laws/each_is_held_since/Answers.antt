@@ -1,3 +1,4 @@
+-- `each_is_held_since`: its contract.
 use Rattle.std.proofs.Common.{◌≡◌, Bool, List, [], sym, subst}
 use Rattle.std.specs.Prelude.{Contains, ◌↔◌}
 use Rattle.pt_events.specs.declared.event.Event.{Event}
