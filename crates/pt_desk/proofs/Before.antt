@@ -203,7 +203,7 @@ own_start (b ∷ start) d own p h = go (same_pid p b.0) refl (own_start start d 
   where
     go : (t : Bool) → same_pid p b.0 ≡ t → (is_ended (at_start start p) ≡ true → p.shard ≡ d) → p.shard ≡ d
     go true e rest = ap (λ (q : Pid). q.shard) (same_pid_is p b.0 e) ∙ own.0
-    go false e rest = rest (rw e life_at h)
+    go false e rest = rest (rw e at h)
 
 pub old_ends : (s : ShardState) (v : Sight) → IsFit s → IsSeated s v → AreOldEnds (deaths_before v.before s.config.start) s.start s.config.slots s.config.start s.number
 old_ends s v fit seated = record {
