@@ -11,7 +11,7 @@ returns-then-not-bring_one-clause-brings g c =
     c.loop-place.invariant.me (omega (arith, c.loop-place-test.true)) c.if-not-bring_one.ensures.brings c.loop-place.invariant.so_far
 
 pub returns-then-not-bring_one-clause-ring : goal.returns-then-not-bring_one-clause-ring
-returns-then-not-bring_one-clause-ring g c = ring_then _ _ _ c.loop-place.invariant.ring c.if-not-bring_one.ensures.ring
+returns-then-not-bring_one-clause-ring g c = ring_then c.args.self.now.ring c.loop-place.self.ring c.bring_one.new.self.ring c.loop-place.invariant.ring c.if-not-bring_one.ensures.ring
 
 pub returns-then-not-bring_one-clause-goes_on : goal.returns-then-not-bring_one-clause-goes_on
 returns-then-not-bring_one-clause-goes_on g c = goes_on_then c.args.desk.now c.loop-place.desk c.bring_one.new.desk c.loop-place.invariant.goes_on c.if-not-bring_one.ensures.goes_on
@@ -20,7 +20,7 @@ pub loop-place-preserved : goal.loop-place-preserved
 loop-place-preserved g c = record {
   so_far = one_more c.args.self.now.me c.loop-place.self.me c.loop-place._place (received c.args.self.now.ring) (received c.loop-place.self.ring) (received c.bring_one.new.self.ring) (known_items c.bring_one.new.self.ring) c.args.desk.now c.loop-place.desk c.bring_one.new.desk
       c.loop-place.invariant.me c.if-not-bring_one.ensures.brings c.loop-place.invariant.so_far;
-  ring = ring_then _ _ _ c.loop-place.invariant.ring c.if-not-bring_one.ensures.ring;
+  ring = ring_then c.args.self.now.ring c.loop-place.self.ring c.bring_one.new.self.ring c.loop-place.invariant.ring c.if-not-bring_one.ensures.ring;
   me = c.loop-place.invariant.me ∙ c.if-not-bring_one.ensures.me;
   most = c.loop-place.invariant.most ∙ c.if-not-bring_one.ensures.most;
   work = c.loop-place.invariant.work ∙ c.if-not-bring_one.ensures.work;
@@ -29,8 +29,8 @@ loop-place-preserved g c = record {
 
 pub returns-clause-brings : goal.returns-clause-brings
 returns-clause-brings g c =
-    all_of c.args.self.now.me c.loop-place._place c.args.self.now.most (received c.args.self.now.ring) (received c.loop-place.self.ring) (received c.slots.new.self) (known_items c.slots.new.self) c.args.desk.now c.loop-place.desk
-    (omega (arith, c.loop-place-test.false, c.loop-place.auto._place-end)) c.slots.ensures.looked.1 c.loop-place.invariant.so_far
+    all_of c.args.self.now.me c.loop-place._place c.args.self.now.most (received c.args.self.now.ring) (received c.loop-place.self.ring) (received c.slots-more.new.self) (known_items c.slots-more.new.self) c.args.desk.now c.loop-place.desk
+    (omega (arith, c.loop-place-test.false, c.loop-place.auto._place-end)) c.slots-more.ensures.looked.1 c.loop-place.invariant.so_far
 
 pub returns-clause-ring : goal.returns-clause-ring
-returns-clause-ring g c = ring_then _ _ _ c.loop-place.invariant.ring c.slots.ensures.looked.0
+returns-clause-ring g c = ring_then c.args.self.now.ring c.loop-place.self.ring c.slots-more.new.self c.loop-place.invariant.ring c.slots-more.ensures.looked.0
