@@ -16,10 +16,11 @@ use crate::stage;
 use crate::stage::{DESKS, Stage, first_of};
 use anyhow::Result;
 use pt_crew::{
-    Behaviour, Births, Heard, Next, Pending, Request, reply, request_of, unwatch, watch,
+    Behaviour, Births, Heard, Next, Pending, Request, calls_end_once, reply, request_of, unwatch,
+    watch,
 };
 use pt_node::{Desk, Fault, Item, Pick, Pid, Reason, Ref};
-use pt_supervisor::{Child, Limit, Restart, Start, Strategy, Supervisor};
+use pt_supervisor::{Child, Limit, Restart, Start, Strategy, Supervisor, permanent_children_live};
 use std::alloc::{AllocError, Global};
 use std::collections::VecDeque;
 use std::fmt;
