@@ -74,7 +74,10 @@ pub(crate) fn word_at<'a>(value: &'a Value, member: &str) -> Option<&'a str> {
         "pick.alive" => text_at(value.get("pick")?, "alive"),
         _ => text_at(value, member),
     };
-    text.filter(|text| is_name(text))
+    match text {
+        Some(word) if is_name(word) => Some(word),
+        _ => None,
+    }
 }
 
 /// The name of the only member of an object.
