@@ -91,6 +91,21 @@ awk -v cases="$work/cases/" -v wanted="$work/wanted/" '
     /^=> / { print substr($0, 4) > (wanted name); name = ""; next }
     name != "" { gsub(/\\r/, "\r"); print > (cases name) }' "$here/refused.txt"
 
+# With --judge a history that no node prints is legal, and it is printed with one name a file if there are several.
+for wanted in "$work/wanted"/refused-*; do
+    grep -q '^legal, but of no node: ' "$wanted" || continue
+    name=$(basename "$wanted")-judged
+    cp "$work/cases/$(basename "$wanted")" "$work/cases/$name"
+    echo --judge >"$work/cases/$name.args"
+    counted "$work/cases/$name" >"$work/cases/$name.stdout"
+done
+printf '%s\n' '1@0 born <0.0.1>' '3@0 left <0.0.1> normal' >"$work/desks/first"
+printf '%s\n' '2@1 born <1.0.1>' '4@1 born <1.0.2>' >"$work/desks/second"
+: >"$work/cases/of_no_node-desks"
+printf '%s\n' first second >"$work/cases/of_no_node-desks.args"
+echo 'legal, but of no node: second: line 2: the version before it in the slot has not ended' \
+    >"$work/wanted/of_no_node-desks"
+
 # A line of a byte more than is read.
 printf '1@0 born <0.0.1>%1009s\n' '' >"$work/cases/refused-long"
 echo 'line 1: more than 1024 bytes' >"$work/wanted/refused-long"

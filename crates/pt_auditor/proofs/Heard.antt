@@ -22,7 +22,9 @@ use Rattle.pt_auditor.specs.declared.objection.Objection.TheVariants.{MayNot, Ot
 use Rattle.pt_auditor.specs.declared.hearing.Hearing.{Hearing}
 use Rattle.pt_auditor.specs.declared.hearing.Verdict.{Verdict}
 use Rattle.pt_auditor.specs.Objecting.{contradiction}
-use Rattle.pt_auditor.specs.Hearings.{Heard, IsHeard, IsObjection, IsMisfit, IsOldest, IsOfItsDesks, IsSunk, IsWithout, AllTold, newest, is_above, still, left_flying, with_letter, verdict_of}
+use Rattle.pt_auditor.specs.Hearings.{Heard, IsHeard, IsObjection, IsMisfit, IsOldest, IsOfItsDesks, IsSunk, IsWithout, AllTold, newest, is_above, still, left_flying, with_letter, IsVerdict}
+use Rattle.pt_auditor.specs.declared.foreign.Foreign.{Foreign}
+use Rattle.pt_auditor.specs.Foreigners.{IsOrigin}
 
 none_left : (left : List LeftOver) → length left ≡ 0 → left ≡ []
 none_left [] h = refl
@@ -71,6 +73,7 @@ module _ (t : Heard) (h : Hearing) (k : IsHeard t h) where
     count = w.count ∙ k.count;
     desks = w.desks ∙ k.desks;
     letters = omega (arith, w.letters, k.letters);
+    origin = subst (IsOrigin t.events) (sym w.foreign) k.origin;
   }
 
   pub other_letter : (l : LeftOver) (o : Option Signal) → IsOfItsDesks l → ¬ IsOldest h.state.flights l → o ≡ option_map (λ (f : Sent). f.signal) (find (is_between l.letter.from l.letter.to) h.state.flights)
@@ -84,8 +87,8 @@ module _ (t : Heard) (h : Hearing) (k : IsHeard t h) where
   pub all_told : slice_get h.state.flights 0 ≡ None → AllTold t
   all_told e = none_first (still (left_flying t.events) t.left) (subst (λ f. slice_get f 0 ≡ None) k.flies e)
 
-  pub verdict_is : (v : Verdict) → v.events ≡ h.events → v.desks ≡ h.desks → v.letters ≡ h.letters → v ≡ verdict_of t
-  verdict_is v e d l = λ i. record { events = (e ∙ k.count) i; desks = (d ∙ k.desks) i; letters = (l ∙ k.letters) i }
+  pub verdict_is : (v : Verdict) → v.events ≡ h.events → v.desks ≡ h.desks → v.letters ≡ h.letters → v.foreign ≡ h.foreign → IsVerdict t v
+  verdict_is v e d l f = record { events = e ∙ k.count; desks = d ∙ k.desks; letters = l ∙ k.letters; origin = subst (IsOrigin t.events) (sym f) k.origin }
 
 -- what may come next from the one to the other
 pub comes_next : (s : JudgeState) (a b : Pid) (x : Signal) (o : Option Cause) → o ≡ cause (known s) (Came a b x) → o ≡ None → find (is_between a b) s.flights ≡ Some (sent a b x)

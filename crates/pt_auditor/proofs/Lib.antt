@@ -1,2 +1,4 @@
+pub mod Foreign
 pub mod Heard
+pub mod Lengths
 pub mod Read

@@ -12,7 +12,9 @@
 mod against;
 mod audit;
 mod fault;
+mod foreign;
 mod hearing;
+mod laws;
 mod line;
 mod objection;
 mod selection;
@@ -21,7 +23,9 @@ mod text;
 
 pub use audit::Audit;
 pub use fault::{Fault, MOST_LINE, Why};
+pub use foreign::{Foreign, NoNode};
 pub use hearing::{Hearing, Verdict};
+pub use laws::lines_are_short;
 pub use objection::{Contradiction, Objection};
 pub use selection::Selection;
 pub use standing::Standing;
