@@ -24,8 +24,8 @@ use Rattle.pt_laws.proofs.order.Taken.{handle_queues}
 use Rattle.pt_events.proofs.Phases.{each_branch}
 use Rattle.pt_laws.proofs.living.Fields.{end_keeps, while_keeps, leaves_keeps, born_keeps, say_keeps}
 use Rattle.pt_accounts.specs.LifeState.{LifeState}
-use Rattle.pt_accounts.specs.Table.{Slots, of_version, at, Tells, AreTold}
-use Rattle.pt_accounts.specs.SlotState.{AreCounted, IsCounted}
+use Rattle.pt_accounts.specs.Table.{Slots, of_version, life_at, TableTells, AreTold}
+use Rattle.pt_accounts.specs.SlotState.{SlotsAreCounted, IsCounted}
 use Rattle.pt_accounts.specs.Steps.{AreAlike}
 use Rattle.pt_accounts.proofs.Told.{told_at}
 use Rattle.pt_accounts.proofs.MayObserve.{Few}
@@ -37,7 +37,7 @@ shorter k i (x ∷ xs) h = go (fits k x) refl (shorter k i xs)
     go : (b : Bool) → fits k x ≡ b → (find (fits k) xs ≡ Some i → length (without_first (fits k) xs) + 1 ≡ length xs)
         → length (without_first (fits k) (x ∷ xs)) + 1 ≡ length (x ∷ xs)
     go true e ih = rw e (omega arith)
-    go false e ih = let l = ih (rw e at h) in rw e (omega arith)
+    go false e ih = let l = ih (rw e life_at h) in rw e (omega arith)
 
 obeyed_one : (v : Verdict) (s : ProcessState) → length (obey v s).items ≤ 1
 obeyed_one drops s = omega arith
@@ -117,38 +117,38 @@ module _ (p : Pid) where
 
 -- so no count passes the number of events ------------------------------------------------------------
 
-pub few_counted : (n : ℕ) (slots : Slots) → n + 1 < 2 ^ 64 → AreCounted n slots → Few slots
-few_counted n slots h c s v = go (at slots s v) (c s v)
+pub few_counted : (n : ℕ) (slots : Slots) → n + 1 < 2 ^ 64 → SlotsAreCounted n slots → Few slots
+few_counted n slots h c s v = go (life_at slots s v) (c s v)
   where
     go : (o : Option LifeState) → IfSome o (IsCounted n) → IfSome o (λ l. l.taken + 1 < 2 ^ 64)
     go None k = tt
     go (Some l) k = omega (arith, k)
 
-pub counted_more : (n m : ℕ) (slots : Slots) → n ≤ m → AreCounted n slots → AreCounted m slots
-counted_more n m slots h c s v = go (at slots s v) (c s v)
+pub counted_more : (n m : ℕ) (slots : Slots) → n ≤ m → SlotsAreCounted n slots → SlotsAreCounted m slots
+counted_more n m slots h c s v = go (life_at slots s v) (c s v)
   where
     go : (o : Option LifeState) → IfSome o (IsCounted n) → IfSome o (IsCounted m)
     go None k = tt
     go (Some l) k = omega (arith, k)
 
-pub counted_alike : (n : ℕ) (old new : Slots) → AreAlike old new → AreCounted n old → AreCounted n new
+pub counted_alike : (n : ℕ) (old new : Slots) → AreAlike old new → SlotsAreCounted n old → SlotsAreCounted n new
 counted_alike n old new same c s v = subst (λ (l : List LifeState). IfSome (of_version l v) (IsCounted n)) (sym (same s)) (c s v)
 
 module _ (start : Start) (desk : ℕ) (old new : Slots) (past : Past) (e : Event) (n : ℕ) where
-  before : (p : Pid) (o : Option LifeState) → Tells start past p o → IfSome o (IsCounted n) → length (taken past p) + length (state start past p).waiting ≤ n
+  before : (p : Pid) (o : Option LifeState) → TableTells start past p o → IfSome o (IsCounted n) → length (taken past p) + length (state start past p).waiting ≤ n
   before p None h k = let a : length (taken past p) ≡ 0 = ap length h.1 in let b : length (state start past p).waiting ≡ 0 = ap (λ f. length (state_of f).waiting) h.0 in omega arith
   before p (Some l) h k = subst (IsCounted n) h.0 k
 
-  pub counted_next : AreTold start desk old past → AreTold start desk new (e ∷ past) → MayHere start past e → AreCounted n old → AreCounted (n + 1) new
-  counted_next told next may c s v = go (at new s v) (told_at start desk new (e ∷ past) one next refl)
+  pub counted_next : AreTold start desk old past → AreTold start desk new (e ∷ past) → MayHere start past e → SlotsAreCounted n old → SlotsAreCounted (n + 1) new
+  counted_next told next may c s v = go (life_at new s v) (told_at start desk new (e ∷ past) one next refl)
     where
       one : Pid
       one = record { shard = desk; slot = s; version = v }
 
-      go : (o : Option LifeState) → Tells start (e ∷ past) one o → IfSome o (IsCounted (n + 1))
+      go : (o : Option LifeState) → TableTells start (e ∷ past) one o → IfSome o (IsCounted (n + 1))
       go None h = tt
       go (Some l) h =
-          let b = before one (at old s v) (told_at start desk old past one told refl) (c s v) in
+          let b = before one (life_at old s v) (told_at start desk old past one told refl) (c s v) in
           let m = moves one start past e may in
           let a : length (taken (e ∷ past) one) ≡ length (taken past one) + length (taken_by one e) = length-append (taken past one) (taken_by one e) in
           let k : length (taken (e ∷ past) one) + length (state start (e ∷ past) one).waiting ≤ n + 1 = omega (arith, m.sum, m.one) in

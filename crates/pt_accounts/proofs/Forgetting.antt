@@ -9,9 +9,9 @@ use Rattle.pt_events.specs.History.{Past, Start, Phase, unborn, living, ended, l
 use Rattle.pt_events.specs.Leaving.{outcome, start_after}
 use Rattle.pt_events.proofs.Leaving.{leaves_each}
 use Rattle.pt_accounts.specs.LifeState.{LifeState}
-use Rattle.pt_accounts.specs.Table.{Slots, of_version, slot_at, at, Tells}
+use Rattle.pt_accounts.specs.Table.{Slots, of_version, slot_at, life_at, TableTells}
 use Rattle.pt_accounts.specs.DeskLives.{DeskTable, forgotten, all_forgotten, latest_end, BeginsAnew}
-use Rattle.pt_accounts.specs.SlotState.{AreCounted, IsCounted}
+use Rattle.pt_accounts.specs.SlotState.{SlotsAreCounted, IsCounted}
 use Rattle.pt_accounts.proofs.Told.{told_at, all_told}
 
 get_map : (lives : List LifeState) (v : ℕ) → of_version (map forgotten lives) v ≡ option_map forgotten (of_version lives v)
@@ -25,7 +25,7 @@ slot_map [] s = refl
 slot_map (lives ∷ slots) zero = refl
 slot_map (lives ∷ slots) (suc s) = slot_map slots s
 
-at_map : (slots : Slots) (s v : ℕ) → at (map (λ lives. map forgotten lives) slots) s v ≡ option_map forgotten (at slots s v)
+at_map : (slots : Slots) (s v : ℕ) → life_at (map (λ lives. map forgotten lives) slots) s v ≡ option_map forgotten (life_at slots s v)
 at_map slots s v = ap (λ (l : List LifeState). of_version l v) (slot_map slots s) ∙ get_map (slot_at slots s) v
 
 -- one process --------------------------------------------------------------------------------------
@@ -35,7 +35,7 @@ outcome_born unborn h = h
 outcome_born (living s) h = refl
 outcome_born (ended r s) h = refl
 
-tells_anew : (start : Start) (past : Past) (p : Pid) (o : Option LifeState) → Tells start past p o → Tells (start_after start past) [] p (option_map forgotten o)
+tells_anew : (start : Start) (past : Past) (p : Pid) (o : Option LifeState) → TableTells start past p o → TableTells (start_after start past) [] p (option_map forgotten o)
 tells_anew start past p None h = (leaves_each start past p ∙ ap outcome h.0, refl)
 tells_anew start past p (Some l) h = (
   ap forgotten h.0 ∙ ap (λ (f : Phase). record { pid = p; phase = f; taken = 0 }) (sym (leaves_each start past p)),
@@ -46,7 +46,7 @@ pub begins_anew : (t : DeskTable) → BeginsAnew t (all_forgotten t)
 begins_anew t start desk past h = (
   h.0,
   all_told (start_after start past) desk (map (λ lives. map forgotten lives) t.slots) []
-      (λ p s. subst (Tells (start_after start past) [] p) (sym (at_map t.slots p.slot p.version)) (tells_anew start past p (at t.slots p.slot p.version) (told_at start desk t.slots past p h.1 s))),
+      (λ p s. subst (TableTells (start_after start past) [] p) (sym (at_map t.slots p.slot p.version)) (tells_anew start past p (life_at t.slots p.slot p.version) (told_at start desk t.slots past p h.1 s))),
 )
 
 -- the counts fall ----------------------------------------------------------------------------------
@@ -56,8 +56,8 @@ waits_less unborn = omega arith
 waits_less (living s) = omega arith
 waits_less (ended r s) = omega arith
 
-pub counted_forgotten : (n : ℕ) (slots : Slots) → AreCounted n slots → AreCounted n (map (λ lives. map forgotten lives) slots)
-counted_forgotten n slots c s v = subst (λ o. IfSome o (IsCounted n)) (sym (at_map slots s v)) (go (at slots s v) (c s v))
+pub counted_forgotten : (n : ℕ) (slots : Slots) → SlotsAreCounted n slots → SlotsAreCounted n (map (λ lives. map forgotten lives) slots)
+counted_forgotten n slots c s v = subst (λ o. IfSome o (IsCounted n)) (sym (at_map slots s v)) (go (life_at slots s v) (c s v))
   where
     go : (o : Option LifeState) → IfSome o (IsCounted n) → IfSome (option_map forgotten o) (IsCounted n)
     go None k = tt

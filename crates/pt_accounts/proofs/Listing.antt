@@ -5,10 +5,10 @@ use Rattle.std.proofs.lemmas.Bool.{both_ways}
 use Rattle.pt_signal.specs.declared.pid.Pid.{Pid}
 use Rattle.pt_events.specs.History.{Past, Start, life, is_unborn}
 use Rattle.pt_accounts.specs.LifeState.{LifeState}
-use Rattle.pt_accounts.specs.Table.{Slots, of_version, slot_at, at, Tells, AreTold}
+use Rattle.pt_accounts.specs.Table.{Slots, of_version, slot_at, life_at, TableTells, AreTold}
 use Rattle.pt_accounts.specs.SlotState.{AreVersions}
 use Rattle.pt_accounts.specs.DeskLives.{pids_of, pids_in}
-use Rattle.pt_accounts.specs.Pids.{pid_at, IsBefore, IsBeforeAll, AreRising, IsIn}
+use Rattle.pt_accounts.specs.Pids.{pid_of_slot, IsBefore, IsBeforeAll, AreRising, IsIn}
 use Rattle.pt_accounts.proofs.Told.{told_at}
 
 -- each life has the pid of its place ---------------------------------------------------------------
@@ -17,28 +17,28 @@ abbrev Placed : ℕ → ℕ → Slots → Type 0
 Placed d s [] = ⊤
 Placed d s (lives ∷ slots) = AreVersions d s 1 lives × Placed d (s + 1) slots
 
-versions : (d s v : ℕ) (lives : List LifeState) → ((k : ℕ) (l : LifeState) → slice_get lives k ≡ Some l → l.pid ≡ pid_at d s (v + k)) → AreVersions d s v lives
+versions : (d s v : ℕ) (lives : List LifeState) → ((k : ℕ) (l : LifeState) → slice_get lives k ≡ Some l → l.pid ≡ pid_of_slot d s (v + k)) → AreVersions d s v lives
 versions d s v [] h = tt
 versions d s v (l ∷ lives) h =
-    (h 0 l refl ∙ ap (pid_at d s) (omega arith), versions d s (v + 1) lives (λ k l e. h (suc k) l e ∙ ap (pid_at d s) (omega arith)))
+    (h 0 l refl ∙ ap (pid_of_slot d s) (omega arith), versions d s (v + 1) lives (λ k l e. h (suc k) l e ∙ ap (pid_of_slot d s) (omega arith)))
 
-placed : (d s : ℕ) (slots : Slots) → ((i k : ℕ) (l : LifeState) → slice_get (slot_at slots i) k ≡ Some l → l.pid ≡ pid_at d (s + i) (k + 1)) → Placed d s slots
+placed : (d s : ℕ) (slots : Slots) → ((i k : ℕ) (l : LifeState) → slice_get (slot_at slots i) k ≡ Some l → l.pid ≡ pid_of_slot d (s + i) (k + 1)) → Placed d s slots
 placed d s [] h = tt
 placed d s (lives ∷ slots) h = (
-  versions d s 1 lives (λ k l e. h 0 k l e ∙ ap (λ n. pid_at d n (k + 1)) (omega arith) ∙ ap (pid_at d s) (omega arith)),
-  placed d (s + 1) slots (λ i k l e. h (suc i) k l e ∙ ap (λ n. pid_at d n (k + 1)) (omega arith)),
+  versions d s 1 lives (λ k l e. h 0 k l e ∙ ap (λ n. pid_of_slot d n (k + 1)) (omega arith) ∙ ap (pid_of_slot d s) (omega arith)),
+  placed d (s + 1) slots (λ i k l e. h (suc i) k l e ∙ ap (λ n. pid_of_slot d n (k + 1)) (omega arith)),
 )
 
-told_place : (start : Start) (d : ℕ) (slots : Slots) (past : Past) → AreTold start d slots past → (i k : ℕ) (l : LifeState) → slice_get (slot_at slots i) k ≡ Some l → l.pid ≡ pid_at d i (k + 1)
+told_place : (start : Start) (d : ℕ) (slots : Slots) (past : Past) → AreTold start d slots past → (i k : ℕ) (l : LifeState) → slice_get (slot_at slots i) k ≡ Some l → l.pid ≡ pid_of_slot d i (k + 1)
 told_place start d slots past told i k l e =
-    let h = subst (Tells start past (pid_at d i (suc k))) e (told_at start d slots past (pid_at d i (suc k)) told refl) in
-    ap (λ (l : LifeState). l.pid) h.0 ∙ ap (pid_at d i) (omega arith)
+    let h = subst (TableTells start past (pid_of_slot d i (suc k))) e (told_at start d slots past (pid_of_slot d i (suc k)) told refl) in
+    ap (λ (l : LifeState). l.pid) h.0 ∙ ap (pid_of_slot d i) (omega arith)
 
 told_placed : (start : Start) (d : ℕ) (slots : Slots) (past : Past) → AreTold start d slots past → Placed d 0 slots
-told_placed start d slots past told = placed d 0 slots (λ i k l e. told_place start d slots past told i k l e ∙ ap (λ n. pid_at d n (k + 1)) (omega arith))
+told_placed start d slots past told = placed d 0 slots (λ i k l e. told_place start d slots past told i k l e ∙ ap (λ n. pid_of_slot d n (k + 1)) (omega arith))
 
 pub slot_versions : (start : Start) (d : ℕ) (slots : Slots) (past : Past) (s : ℕ) → AreTold start d slots past → AreVersions d s 1 (slot_at slots s)
-slot_versions start d slots past s told = versions d s 1 (slot_at slots s) (λ k l e. told_place start d slots past told s k l e ∙ ap (pid_at d s) (omega arith))
+slot_versions start d slots past s told = versions d s 1 (slot_at slots s) (λ k l e. told_place start d slots past told s k l e ∙ ap (pid_of_slot d s) (omega arith))
 
 -- so they rise --------------------------------------------------------------------------------------
 
@@ -47,19 +47,19 @@ all_before p [] qs h k = k
 all_before p (q ∷ ps) qs h k = (h.0, all_before p ps qs h.1 k)
 
 -- a slot's later versions
-later_versions : (d s v w : ℕ) (lives : List LifeState) (p : Pid) → p ≡ pid_at d s v → v < w → AreVersions d s w lives → IsBeforeAll p (pids_of lives)
+later_versions : (d s v w : ℕ) (lives : List LifeState) (p : Pid) → p ≡ pid_of_slot d s v → v < w → AreVersions d s w lives → IsBeforeAll p (pids_of lives)
 later_versions d s v w [] p e l h = tt
 later_versions d s v w (x ∷ lives) p e l h =
-    let z : IsBefore (pid_at d s v) (pid_at d s w) = inr (inr (refl, refl, l)) in
-    (subst (λ q. IsBefore q x.pid) (sym e) (subst (IsBefore (pid_at d s v)) (sym h.0) z), later_versions d s v (w + 1) lives p e (omega arith) h.1)
+    let z : IsBefore (pid_of_slot d s v) (pid_of_slot d s w) = inr (inr (refl, refl, l)) in
+    (subst (λ q. IsBefore q x.pid) (sym e) (subst (IsBefore (pid_of_slot d s v)) (sym h.0) z), later_versions d s v (w + 1) lives p e (omega arith) h.1)
 
-later_slot : (d s v t w : ℕ) (lives : List LifeState) (p : Pid) → p ≡ pid_at d s v → s < t → AreVersions d t w lives → IsBeforeAll p (pids_of lives)
+later_slot : (d s v t w : ℕ) (lives : List LifeState) (p : Pid) → p ≡ pid_of_slot d s v → s < t → AreVersions d t w lives → IsBeforeAll p (pids_of lives)
 later_slot d s v t w [] p e l h = tt
 later_slot d s v t w (x ∷ lives) p e l h =
-    let z : IsBefore (pid_at d s v) (pid_at d t w) = inr (inl (refl, l)) in
-    (subst (λ q. IsBefore q x.pid) (sym e) (subst (IsBefore (pid_at d s v)) (sym h.0) z), later_slot d s v t (w + 1) lives p e l h.1)
+    let z : IsBefore (pid_of_slot d s v) (pid_of_slot d t w) = inr (inl (refl, l)) in
+    (subst (λ q. IsBefore q x.pid) (sym e) (subst (IsBefore (pid_of_slot d s v)) (sym h.0) z), later_slot d s v t (w + 1) lives p e l h.1)
 
-later_slots : (d s v t : ℕ) (slots : Slots) (p : Pid) → p ≡ pid_at d s v → s < t → Placed d t slots → IsBeforeAll p (pids_in slots)
+later_slots : (d s v t : ℕ) (slots : Slots) (p : Pid) → p ≡ pid_of_slot d s v → s < t → Placed d t slots → IsBeforeAll p (pids_in slots)
 later_slots d s v t [] p e l h = tt
 later_slots d s v t (lives ∷ slots) p e l h =
     all_before p (pids_of lives) (pids_in slots) (later_slot d s v t 1 lives p e l h.0) (later_slots d s v (t + 1) slots p e (omega arith) h.1)
@@ -124,17 +124,17 @@ of_slots (lives ∷ slots) p h =
 pub listed_born : (start : Start) (d : ℕ) (slots : Slots) (past : Past) (p : Pid) → AreTold start d slots past → IsIn p (pids_in slots) → (p.shard ≡ d) × (is_unborn (life start past p) ≡ false)
 listed_born start d slots past p told h =
     let r = of_slots slots p h in
-    let here = pid_at d r.0 (suc r.1) in
-    let t = subst (Tells start past here) r.3 (told_at start d slots past here told refl) in
+    let here = pid_of_slot d r.0 (suc r.1) in
+    let t = subst (TableTells start past here) r.3 (told_at start d slots past here told refl) in
     let same : here ≡ p = sym (r.4 ∙ ap (λ l. l.pid) t.0) in
     (ap (λ p. p.shard) (sym same), subst (λ p. is_unborn (life start past p) ≡ false) same t.1)
 
 pub born_listed : (start : Start) (d : ℕ) (slots : Slots) (past : Past) (p : Pid) → AreTold start d slots past → p.shard ≡ d → is_unborn (life start past p) ≡ false → IsIn p (pids_in slots)
-born_listed start d slots past p told home born = go p.version (at slots p.slot p.version) refl refl (told_at start d slots past p told home)
+born_listed start d slots past p told home born = go p.version (life_at slots p.slot p.version) refl refl (told_at start d slots past p told home)
   where
-    go : (v : ℕ) (o : Option LifeState) → p.version ≡ v → at slots p.slot p.version ≡ o → Tells start past p o → IsIn p (pids_in slots)
+    go : (v : ℕ) (o : Option LifeState) → p.version ≡ v → life_at slots p.slot p.version ≡ o → TableTells start past p o → IsIn p (pids_in slots)
     go v None n e t = let k : is_unborn (life start past p) ≡ true = ap is_unborn t.0 in absurd (both_ways _ born k)
-    go zero (Some l) n e t = let k : of_version (slot_at slots p.slot) 0 ≡ Some l = rw n at e in absurd (cc)
+    go zero (Some l) n e t = let k : of_version (slot_at slots p.slot) 0 ≡ Some l = rw n life_at e in absurd (cc)
     go (suc k) (Some l) n e t =
-        let at_k : slice_get (slot_at slots p.slot) k ≡ Some l = rw n at e in
+        let at_k : slice_get (slot_at slots p.slot) k ≡ Some l = rw n life_at e in
         subst (λ q. IsIn q (pids_in slots)) (ap (λ l. l.pid) t.0) (in_slots slots p.slot k l at_k)

@@ -24,8 +24,8 @@ use Rattle.pt_laws.specs.Load.{one_if}
 use Rattle.pt_laws.specs.Watch.{count}
 use Rattle.pt_laws.specs.Taken.{taken_by}
 use Rattle.pt_accounts.specs.LifeState.{LifeState}
-use Rattle.pt_accounts.specs.Table.{Slots, at, of_version, slot_at, Tells, AreTold}
-use Rattle.pt_accounts.specs.SlotState.{AreVersions, HasEnded, IsOver}
+use Rattle.pt_accounts.specs.Table.{Slots, life_at, of_version, slot_at, TableTells, AreTold}
+use Rattle.pt_accounts.specs.SlotState.{AreVersions, HasEnded, LifeIsOver}
 use Rattle.pt_accounts.specs.Steps.{MayShow, may_show_parent, MayObserve, Observes, MaySee, MayMeet, MayDo, IsNextOf, IsAnewAfter}
 use Rattle.pt_accounts.proofs.Places.{slice_get-past}
 use Rattle.pt_accounts.proofs.Told.{IsApart, Unmoved, place_other, told_at, all_told, none_unborn, told_changed, told_born, tells_still}
@@ -33,7 +33,7 @@ use Rattle.pt_accounts.proofs.Listing.{slot_versions}
 
 -- no life took as many as can be counted
 abbrev pub Few : Slots → Type 0
-Few slots = (s v : ℕ) → IfSome (at slots s v) (λ l. l.taken + 1 < 2 ^ 64)
+Few slots = (s v : ℕ) → IfSome (life_at slots s v) (λ l. l.taken + 1 < 2 ^ 64)
 
 -- a reference that was never made is open nowhere -----------------------------------------------
 
@@ -47,9 +47,9 @@ module _ (m : Ref) where
     where
       go : (b : Bool) → same_ref m k.0 ≡ b → (c : Bool) → lookup (same_ref m) (k ∷ l) ≡ None → (lookup (same_ref m) l ≡ None → lookup (same_ref m) (remove_entry (same_ref n) l) ≡ None)
           → lookup (same_ref m) (cond c l (k ∷ remove_entry (same_ref n) l)) ≡ None
-      go true e c h ih = let z : Some k.1 ≡ None = rw e at h in absurd (cc)
-      go false e true h ih = rw e at h
-      go false e false h ih = rw e (ih (rw e at h))
+      go true e c h ih = let z : Some k.1 ≡ None = rw e life_at h in absurd (cc)
+      go false e true h ih = rw e life_at h
+      go false e false h ih = rw e (ih (rw e life_at h))
 
   pushed : (n : Ref) (t : Pid) (l : List (Ref × Pid)) → same_ref m n ≡ false → lookup (same_ref m) l ≡ None → lookup (same_ref m) (l ++ (n, t) ∷ []) ≡ None
   pushed n t [] d h = rw d refl
@@ -57,8 +57,8 @@ module _ (m : Ref) where
     where
       go : (b : Bool) → same_ref m k.0 ≡ b → cond (same_ref m k.0) (Some k.1) (lookup (same_ref m) l) ≡ None → (lookup (same_ref m) l ≡ None → lookup (same_ref m) (l ++ (n, t) ∷ []) ≡ None)
           → cond (same_ref m k.0) (Some k.1) (lookup (same_ref m) (l ++ (n, t) ∷ [])) ≡ None
-      go true e h ih = let z : Some k.1 ≡ None = rw e at h in absurd (cc)
-      go false e h ih = rw e (ih (rw e at h))
+      go true e h ih = let z : Some k.1 ≡ None = rw e life_at h in absurd (cc)
+      go false e h ih = rw e (ih (rw e life_at h))
 
   obeyed : (v : Verdict) (s : ProcessState) → IsClosed s → IsClosed (obey v s).state
   obeyed drops s h = h
@@ -120,16 +120,16 @@ module _ (m : Ref) where
   count_closed (k ∷ l) h = go (same_ref m k.0) refl (count_closed l)
     where
       go : (b : Bool) → same_ref m k.0 ≡ b → (count (λ e. same_ref m e.0) l ≡ 0 → lookup (same_ref m) l ≡ None) → lookup (same_ref m) (k ∷ l) ≡ None
-      go true e ih = let z : one_if true + count (λ e. same_ref m e.0) l ≡ 0 = rw e at h in absurd (omega arith)
-      go false e ih = let z : one_if false + count (λ e. same_ref m e.0) l ≡ 0 = rw e at h in rw e (ih (omega arith))
+      go true e ih = let z : one_if true + count (λ e. same_ref m e.0) l ≡ 0 = rw e life_at h in absurd (omega arith)
+      go false e ih = let z : one_if false + count (λ e. same_ref m e.0) l ≡ 0 = rw e life_at h in rw e (ih (omega arith))
 
 -- who sees the event -------------------------------------------------------------------------------
 
 pub may_show : (start : Start) (desk : ℕ) (old : Slots) (past : Past) (e : Event) (t : Pid) → t.shard ≡ desk → touches t e ≡ true → Few old
     → (is_unborn (life start past t) ≡ false → MayMeet t (life start past t) e) → AreTold start desk old past → MayShow old t e
-may_show start desk old past e t home own few meets told = go (at old t.slot t.version) (few t.slot t.version) (told_at start desk old past t told home)
+may_show start desk old past e t home own few meets told = go (life_at old t.slot t.version) (few t.slot t.version) (told_at start desk old past t told home)
   where
-    go : (o : Option LifeState) → IfSome o (λ l. l.taken + 1 < 2 ^ 64) → Tells start past t o → IfSome o (MaySee e)
+    go : (o : Option LifeState) → IfSome o (λ l. l.taken + 1 < 2 ^ 64) → TableTells start past t o → IfSome o (MaySee e)
     go None f h = tt
     go (Some l) f h =
         let own_pid : l.pid ≡ t = ap (λ (l : LifeState). l.pid) h.0 in
@@ -169,7 +169,7 @@ version_next lives (suc (suc v)) p h k =
 not_unborn : (f : Phase) → is_ended f ≡ true → f ≡ unborn → ⊥
 not_unborn f h e = let k : is_ended f ≡ false = ap is_ended e in both_ways _ k h
 
-has_ended : (lives : List LifeState) → ((l : LifeState) → of_version lives (length lives) ≡ Some l → IsOver l) → HasEnded lives
+has_ended : (lives : List LifeState) → ((l : LifeState) → of_version lives (length lives) ≡ Some l → LifeIsOver l) → HasEnded lives
 has_ended [] h = tt
 has_ended (l ∷ []) h = h l refl
 has_ended (l ∷ m ∷ lives) h = has_ended (m ∷ lives) (λ x e. h x e)
@@ -185,19 +185,19 @@ module _ (start : Start) (desk : ℕ) (old : Slots) (past : Past) (q : Pid) (hom
 
   next_version : q.version ≡ length (slot_at old q.slot) + 1
   next_version =
-      version_next (slot_at old q.slot) q.version pos (none_unborn start past q (at old q.slot q.version) (told_at start desk old past q told home) u).0
-      (λ l none. not_unborn (life start past one) (before l) (subst (Tells start past one) none (told_at start desk old past one told home)).0)
+      version_next (slot_at old q.slot) q.version pos (none_unborn start past q (life_at old q.slot q.version) (told_at start desk old past q told home) u).0
+      (λ l none. not_unborn (life start past one) (before l) (subst (TableTells start past one) none (told_at start desk old past one told home)).0)
 
   -- the last of the slot has ended
   last_over : HasEnded (slot_at old q.slot)
   last_over = has_ended (slot_at old q.slot) over
     where
-      over : (l : LifeState) → of_version (slot_at old q.slot) (length (slot_at old q.slot)) ≡ Some l → IsOver l
+      over : (l : LifeState) → of_version (slot_at old q.slot) (length (slot_at old q.slot)) ≡ Some l → LifeIsOver l
       over l some =
           let n = next_version in
           let k = some_version (slot_at old q.slot) l some in
           let num : pred q.version ≡ length (slot_at old q.slot) = omega arith in
-          let h : Tells start past one (Some l) = subst (Tells start past one) (ap (of_version (slot_at old q.slot)) num ∙ some) (told_at start desk old past one told home) in
+          let h : TableTells start past one (Some l) = subst (TableTells start past one) (ap (of_version (slot_at old q.slot)) num ∙ some) (told_at start desk old past one told home) in
           ap (λ (l : LifeState). is_ended l.phase) h.0 ∙ before (omega arith)
 
   pub next_of_slot : IsNextOf q (slot_at old q.slot)
@@ -274,5 +274,5 @@ module _ (start : Start) (desk : ℕ) (old new : Slots) (past : Past) (told : Ar
   told_next (Flag q on) home may h = told_changed start desk old new past (Flag q on) q (λ p. refl) (moved (Flag q on) (λ p. refl) (λ p u. refl)) h told
   told_next (Left q r) home may h = told_changed start desk old new past (Left q r) q (λ p. refl) (moved (Left q r) (λ p. refl) (λ p u. refl)) h told
   told_next (Refused a b) home may h =
-      all_told start desk new (Refused a b ∷ past) (λ p s. subst (λ (z : Slots). Tells start (Refused a b ∷ past) p (at z p.slot p.version)) (sym h)
-      (tells_still start past p (Refused a b) (at old p.slot p.version) refl (told_at start desk old past p told s)))
+      all_told start desk new (Refused a b ∷ past) (λ p s. subst (λ (z : Slots). TableTells start (Refused a b ∷ past) p (life_at z p.slot p.version)) (sym h)
+      (tells_still start past p (Refused a b) (life_at old p.slot p.version) refl (told_at start desk old past p told s)))

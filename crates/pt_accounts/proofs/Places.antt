@@ -3,7 +3,7 @@ use Rattle.std.proofs.Common.{◌≡◌, ℕ, zero, suc, ◌+◌, ◌-◌, ◌<�
 use Rattle.std.proofs.lemmas.Bool.{eqb-true, eq-eqb, eqb-false, ne_eqb}
 use Rattle.std.specs.Option.{option_map}
 use Rattle.pt_accounts.specs.LifeState.{LifeState}
-use Rattle.pt_accounts.specs.Table.{Slots, of_version, slot_at, at}
+use Rattle.pt_accounts.specs.Table.{Slots, of_version, slot_at, life_at}
 
 zero_suc : (j : ℕ) → (0 == suc j) ≡ false
 zero_suc j = ne_eqb 0 (suc j) (λ e. omega arith)
@@ -50,7 +50,7 @@ seen_version xs (suc i) f x y n h e k zero = rw suc_zero refl
 seen_version xs (suc i) f x y n h e k (suc j) =
     let l : i < length xs = omega arith in
     let n : suc i - 1 ≡ i = omega arith in
-    let a : x ≡ get_or xs i x = rw n at e in
+    let a : x ≡ get_or xs i x = rw n life_at e in
     rw (n, suc_suc) (slice_get-set xs i j y l ∙ go (i == j) refl a)
   where
     go : (b : Bool) → (i == j) ≡ b → x ≡ get_or xs i x → cond (i == j) (Some y) (slice_get xs j) ≡ cond (i == j) (option_map f (slice_get xs j)) (slice_get xs j)
@@ -105,10 +105,10 @@ get_or-any (x ∷ xs) (suc i) c d h = get_or-any xs i c d (omega arith)
 -- the slot is one of the table's, and its lives are changed in one version
 pub at_changed : (slots : Slots) (i w : ℕ) (old new : List LifeState) (f : Option LifeState → Option LifeState) → i < length slots → old ≡ slot_at slots i
     → ((v : ℕ) → of_version new v ≡ cond (w == v) (f (of_version old v)) (of_version old v))
-    → (s v : ℕ) → at (set slots i new) s v ≡ cond ((i == s) && (w == v)) (f (at slots s v)) (at slots s v)
+    → (s v : ℕ) → life_at (set slots i new) s v ≡ cond ((i == s) && (w == v)) (f (life_at slots s v)) (life_at slots s v)
 at_changed slots i w old new f h e k s v = ap (λ z. of_version z v) (slot_at-set slots i s new h) ∙ go (i == s) refl
   where
-    go : (b : Bool) → (i == s) ≡ b → of_version (cond (i == s) new (slot_at slots s)) v ≡ cond ((i == s) && (w == v)) (f (at slots s v)) (at slots s v)
+    go : (b : Bool) → (i == s) ≡ b → of_version (cond (i == s) new (slot_at slots s)) v ≡ cond ((i == s) && (w == v)) (f (life_at slots s v)) (life_at slots s v)
     go false m = rw m refl
     go true m =
         let same : i ≡ s = eqb-true i s m in
@@ -117,15 +117,15 @@ at_changed slots i w old new f h e k s v = ap (λ z. of_version z v) (slot_at-se
 
 -- the slot is none of the table's
 pub at_unchanged : (slots : Slots) (i w : ℕ) (f : LifeState → LifeState) → length slots ≤ i
-    → (s v : ℕ) → at slots s v ≡ cond ((i == s) && (w == v)) (option_map f (at slots s v)) (at slots s v)
+    → (s v : ℕ) → life_at slots s v ≡ cond ((i == s) && (w == v)) (option_map f (life_at slots s v)) (life_at slots s v)
 at_unchanged slots i w f h s v = go (i == s) refl (w == v) refl
   where
-    go : (b : Bool) → (i == s) ≡ b → (c : Bool) → (w == v) ≡ c → at slots s v ≡ cond ((i == s) && (w == v)) (option_map f (at slots s v)) (at slots s v)
+    go : (b : Bool) → (i == s) ≡ b → (c : Bool) → (w == v) ≡ c → life_at slots s v ≡ cond ((i == s) && (w == v)) (option_map f (life_at slots s v)) (life_at slots s v)
     go false m c n = rw m refl
     go true m false n = rw (m, n) refl
     go true m true n =
         let same : i ≡ s = eqb-true i s m in
-        let none : at slots s v ≡ None = ap (λ z. of_version z v) (slot_at-past slots s (omega arith)) ∙ none_of_none v in
+        let none : life_at slots s v ≡ None = ap (λ z. of_version z v) (slot_at-past slots s (omega arith)) ∙ none_of_none v in
         rw (m, n, none) refl
 
 -- the next version of a slot
@@ -137,7 +137,7 @@ version_push lives l (suc w) e (suc v) = let k : w ≡ length lives = omega arit
 
 pub born_in : (old mid : Slots) (i w : ℕ) (l : LifeState) (lives new : List LifeState) → i < length mid → ((s : ℕ) → slot_at mid s ≡ slot_at old s)
     → lives ≡ get_or mid i lives → new ≡ lives ++ l ∷ [] → w ≡ length (slot_at old i) + 1
-    → (s v : ℕ) → at (set mid i new) s v ≡ cond ((i == s) && (w == v)) (Some l) (at old s v)
+    → (s v : ℕ) → life_at (set mid i new) s v ≡ cond ((i == s) && (w == v)) (Some l) (life_at old s v)
 born_in old mid i w l lives new h same e k n s v =
     let here : lives ≡ slot_at mid i = e ∙ get_or-any mid i lives [] h in
     let len : w ≡ length lives + 1 = n ∙ ap (λ z. length z + 1) (sym (same i) ∙ sym here) in

@@ -13,9 +13,9 @@ use Rattle.pt_events.specs.Journal.{events, clock, IsNext, IsLocal, IsNewAt, May
 use Rattle.pt_events.proofs.InOrder.{reverse_take, reverse_split}
 use Rattle.pt_laws.specs.MonitorLaws.{HasOldRefs}
 use Rattle.pt_laws.proofs.monitoring.MadeOnce.{clock_above}
-use Rattle.pt_accounts.specs.Table.{at, AreTold, Tells}
+use Rattle.pt_accounts.specs.Table.{life_at, AreTold, TableTells}
 use Rattle.pt_accounts.specs.DeskLives.{DeskTable, oldest, IsJournalOver, IsReadUpTo}
-use Rattle.pt_accounts.specs.Steps.{GoesOn, Observes, AreAlike, IsAnewAfter}
+use Rattle.pt_accounts.specs.Steps.{TableGoesOn, Observes, AreAlike, IsAnewAfter}
 use Rattle.pt_accounts.proofs.Told.{told_alike, all_told}
 use Rattle.pt_accounts.proofs.MayObserve.{unmade_closed, count_closed, told_next}
 
@@ -83,7 +83,7 @@ module _ (start : Start) (past evs : List Stamped) (given : evs ≡ reverse past
       let h : IsLocal start over.low over.top desk (s ∷ oldest n past) = subst (IsLocal start over.low over.top desk) (oldest_next past evs given n o s within here) (local_oldest start over.low over.top desk (n + 1) past over.local) in
       h.0
 
-  pub goes_on : (t : DeskTable) → t.desk ≡ desk → t.read ≡ n → IsReadUpTo start past t → GoesOn t s.event
+  pub goes_on : (t : DeskTable) → t.desk ≡ desk → t.read ≡ n → IsReadUpTo start past t → TableGoesOn t s.event
   goes_on t same read up = record {
     start = start;
     past = events (oldest n past);
@@ -147,9 +147,9 @@ read_nothing start journal t none told = record {
 
 -- a new table tells that nobody was
 pub read_new : (journal : List Stamped) (desk : ℕ) → IsReadUpTo [] journal (record { desk = desk; slots = []; read = 0 })
-read_new journal desk = read_nothing [] journal (record { desk = desk; slots = []; read = 0 }) refl (all_told [] desk [] [] (λ p s. subst (Tells [] [] p) (sym (none p.slot p.version)) (refl, refl)))
+read_new journal desk = read_nothing [] journal (record { desk = desk; slots = []; read = 0 }) refl (all_told [] desk [] [] (λ p s. subst (TableTells [] [] p) (sym (none p.slot p.version)) (refl, refl)))
   where
-    none : (s v : ℕ) → at [] s v ≡ None
+    none : (s v : ℕ) → life_at [] s v ≡ None
     none s zero = refl
     none s (suc v) = refl
 

@@ -6,13 +6,13 @@ use Rattle.pt_signal.specs.Process.{ProcessState, fresh}
 use Rattle.pt_accounts.specs.declared.held.Held.{Held}
 use Rattle.pt_accounts.specs.declared.held.Held.TheVariants.{Process, Nothing}
 
-abbrev pub pid_of : Held → Pid
-pid_of (Process process) = process.value.me
-pid_of (Nothing pid traps) = pid
+abbrev pub pid_held : Held → Pid
+pid_held (Process process) = process.value.me
+pid_held (Nothing pid traps) = pid
 
-abbrev pub holding : Held → ProcessState
-holding (Process process) = process.value.state
-holding (Nothing pid traps) = record fresh { traps = traps }
+abbrev pub state_held : Held → ProcessState
+state_held (Process process) = process.value.state
+state_held (Nothing pid traps) = record fresh { traps = traps }
 
 -- the lists of a live process stand
 abbrev pub Stands : Option Reason → Held → Type 0

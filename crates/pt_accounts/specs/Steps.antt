@@ -12,15 +12,15 @@ use Rattle.pt_events.specs.History.{Past, Start, Phase, unborn, living, ended, n
 use Rattle.pt_events.specs.Journal.{IsHome, MayHere, IsKnown}
 use Rattle.pt_laws.specs.Taken.{taken_by}
 use Rattle.pt_accounts.specs.LifeState.{LifeState}
-use Rattle.pt_accounts.specs.Table.{Slots, slot_at, at, AreTold}
+use Rattle.pt_accounts.specs.Table.{Slots, slot_at, life_at, AreTold}
 use Rattle.pt_accounts.specs.SlotState.{AreVersions, HasEnded}
 use Rattle.pt_accounts.specs.DeskLives.{DeskTable}
 
 -- one process ---------------------------------------------------------------------------------------
 
 -- the same process after the event
-abbrev pub shown : Event → LifeState → LifeState
-shown e l = record { pid = l.pid; phase = after l.pid e l.phase; taken = l.taken + length (taken_by l.pid e) }
+abbrev pub life_after : Event → LifeState → LifeState
+life_after e l = record { pid = l.pid; phase = after l.pid e l.phase; taken = l.taken + length (taken_by l.pid e) }
 
 -- a live process does this only so: a reference that is opened is not open, and nobody bears itself
 abbrev pub MayDo : Pid → ProcessState → Event → Type 0
@@ -42,24 +42,24 @@ pub record MaySee (e : Event) (l : LifeState) : Type 0 where
 
 -- the table -----------------------------------------------------------------------------------------
 
-abbrev pub is_place_of : Pid → ℕ → ℕ → Bool
-is_place_of p s v = (p.slot == s) && (p.version == v)
+abbrev pub is_life_of : Pid → ℕ → ℕ → Bool
+is_life_of p s v = (p.slot == s) && (p.version == v)
 
 -- the life in the place of p is changed by f, and no other
-abbrev pub Changes : Pid → (LifeState → LifeState) → Slots → Slots → Type 0
-Changes p f old new = (s v : ℕ) → at new s v ≡ cond (is_place_of p s v) (option_map f (at old s v)) (at old s v)
+abbrev pub ChangesLife : Pid → (LifeState → LifeState) → Slots → Slots → Type 0
+ChangesLife p f old new = (s v : ℕ) → life_at new s v ≡ cond (is_life_of p s v) (option_map f (life_at old s v)) (life_at old s v)
 
 -- each slot has had as many
 abbrev pub KeepsLengths : Slots → Slots → Type 0
 KeepsLengths old new = (s : ℕ) → length (slot_at new s) ≡ length (slot_at old s)
 
 -- l stands in the place of p, and all else is as before
-abbrev pub Puts : Pid → LifeState → Slots → Slots → Type 0
-Puts p l old new = (s v : ℕ) → at new s v ≡ cond (is_place_of p s v) (Some l) (at old s v)
+abbrev pub PutsLife : Pid → LifeState → Slots → Slots → Type 0
+PutsLife p l old new = (s v : ℕ) → life_at new s v ≡ cond (is_life_of p s v) (Some l) (life_at old s v)
 
 abbrev pub changes_parent : Option Pid → Event → Slots → Slots → Type 0
-changes_parent None e old new = (s v : ℕ) → at new s v ≡ at old s v
-changes_parent (Some q) e old new = Changes q (shown e) old new
+changes_parent None e old new = (s v : ℕ) → life_at new s v ≡ life_at old s v
+changes_parent (Some q) e old new = ChangesLife q (life_after e) old new
 
 -- each slot has had the same
 abbrev pub AreAlike : Slots → Slots → Type 0
@@ -69,22 +69,22 @@ AreAlike old new = (s : ℕ) → slot_at new s ≡ slot_at old s
 abbrev pub Observes : Event → Slots → Slots → Type 0
 Observes (Born p parent link) old new =
     (mid : Slots)
-    × Puts p (record { pid = p; phase = newborn parent link unborn; taken = 0 }) old mid
+    × PutsLife p (record { pid = p; phase = newborn parent link unborn; taken = 0 }) old mid
     × changes_parent parent (Born p parent link) mid new
-Observes (Said a b x) old new = Changes a (shown (Said a b x)) old new
-Observes (Came a b x) old new = Changes b (shown (Came a b x)) old new
-Observes (Took p k i) old new = Changes p (shown (Took p k i)) old new
-Observes (Flag p on) old new = Changes p (shown (Flag p on)) old new
-Observes (Left p r) old new = Changes p (shown (Left p r)) old new
+Observes (Said a b x) old new = ChangesLife a (life_after (Said a b x)) old new
+Observes (Came a b x) old new = ChangesLife b (life_after (Came a b x)) old new
+Observes (Took p k i) old new = ChangesLife p (life_after (Took p k i)) old new
+Observes (Flag p on) old new = ChangesLife p (life_after (Flag p on)) old new
+Observes (Left p r) old new = ChangesLife p (life_after (Left p r)) old new
 Observes (Refused a b) old new = new ≡ old
 
 abbrev pub MayShow : Slots → Pid → Event → Type 0
-MayShow slots p e = IfSome (at slots p.slot p.version) (MaySee e)
+MayShow slots p e = IfSome (life_at slots p.slot p.version) (MaySee e)
 
 -- the parent has another place than its child
 abbrev pub may_show_parent : Slots → Option Pid → Pid → Event → Type 0
 may_show_parent slots None p e = ⊤
-may_show_parent slots (Some q) p e = MayShow slots q e × (is_place_of p q.slot q.version ≡ false)
+may_show_parent slots (Some q) p e = MayShow slots q e × (is_life_of p q.slot q.version ≡ false)
 
 -- it is the slot's next, of which all are, and whose last one has ended
 pub record IsNextOf (p : Pid) (lives : List LifeState) : Type 0 where
@@ -109,7 +109,7 @@ IsAnewAfter start past (Said a b x) = IsAnew x (state start past a)
 IsAnewAfter start past _ = ⊤
 
 -- the event goes on from what the table tells of some history
-pub record GoesOn (t : DeskTable) (e : Event) : Type 0 where
+pub record TableGoesOn (t : DeskTable) (e : Event) : Type 0 where
   pub start : Start
   pub past : Past
   pub top : ℕ

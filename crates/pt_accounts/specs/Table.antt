@@ -17,8 +17,8 @@ of_version lives (suc k) = slice_get lives k
 abbrev pub slot_at : Slots → ℕ → List LifeState
 slot_at slots s = slice_index_or slots s []
 
-abbrev pub at : Slots → ℕ → ℕ → Option LifeState
-at slots s v = of_version (slot_at slots s) v
+abbrev pub life_at : Slots → ℕ → ℕ → Option LifeState
+life_at slots s v = of_version (slot_at slots s) v
 
 abbrev pub of_version_in : Option (List LifeState) → ℕ → Option LifeState
 of_version_in None v = None
@@ -26,12 +26,12 @@ of_version_in (Some lives) v = of_version lives v
 
 -- the life that a desk's table has for p
 abbrev pub found : ℕ → Slots → Pid → Option LifeState
-found desk slots p = cond (p.shard == desk) (at slots p.slot p.version) None
+found desk slots p = cond (p.shard == desk) (life_at slots p.slot p.version) None
 
 -- what the table has for p is what the history says of p
-abbrev pub Tells : Start → Past → Pid → Option LifeState → Type 0
-Tells start past p None = (life start past p ≡ unborn) × (taken past p ≡ [])
-Tells start past p (Some l) = (l ≡ record {
+abbrev pub TableTells : Start → Past → Pid → Option LifeState → Type 0
+TableTells start past p None = (life start past p ≡ unborn) × (taken past p ≡ [])
+TableTells start past p (Some l) = (l ≡ record {
   pid = p;
   phase = life start past p;
   taken = length (taken past p);
@@ -39,4 +39,4 @@ Tells start past p (Some l) = (l ≡ record {
 
 -- so of each pid of the desk
 abbrev pub AreTold : Start → ℕ → Slots → Past → Type 0
-AreTold start desk slots past = (p : Pid) → p.shard ≡ desk → Tells start past p (found desk slots p)
+AreTold start desk slots past = (p : Pid) → p.shard ≡ desk → TableTells start past p (found desk slots p)

@@ -8,8 +8,8 @@ ghost use Rattle.pt_accounts.specs.DeskLives.{forgotten, all_forgotten, BeginsAn
 ghost use Rattle.pt_accounts.specs.Table.{slot_at, of_version_in};
 ghost use Rattle.pt_events.specs.declared.event.Event.TheVariants.{Born};
 ghost use Rattle.pt_accounts.specs.SlotState.{IsCountedUpTo};
-ghost use Rattle.pt_accounts.specs.Steps.{Changes, Puts, Observes, AreAlike, IsNextOf, GoesOn};
-ghost use Rattle.pt_accounts.specs.Steps.{MayShow, MayObserve, shown};
+ghost use Rattle.pt_accounts.specs.Steps.{ChangesLife, PutsLife, Observes, AreAlike, IsNextOf, TableGoesOn};
+ghost use Rattle.pt_accounts.specs.Steps.{MayShow, MayObserve, life_after};
 
 use crate::Account;
 use crate::life::Life;
@@ -47,7 +47,7 @@ impl Model for DeskLives {
 #[inline(always)]
 fn show(slots: &mut Vec<Slot>, pid: Pid, event: Event) -> Result<(), AllocError>
     requires { MayShow slots.old.items pid event }
-    ensures changes { OnOk result (Changes pid (shown event) slots.old.items slots.new.items) }
+    ensures changes { OnOk result (ChangesLife pid (life_after event) slots.old.items slots.new.items) }
     ensures len { length slots.new.items ≡ length slots.old.items }
     ensures refused { OnErr result (AreAlike slots.old.items slots.new.items) }
 {
@@ -74,7 +74,7 @@ fn bear(alloc: Global, slots: &mut Vec<Slot>, pid: Pid, life: Life) -> Result<()
     requires pid { life.pid ≡ pid }
     requires next { IsNextOf pid (slot_at slots.old.items pid.slot) }
     ensures long { OnOk result (pid.slot < length slots.new.items) }
-    ensures puts { OnOk result (Puts pid life slots.old.items slots.new.items) }
+    ensures puts { OnOk result (PutsLife pid life slots.old.items slots.new.items) }
     ensures lives { OnOk result
         (slot_at slots.new.items pid.slot ≡ slot_at slots.old.items pid.slot ++ life ∷ []) }
     ensures others { OnOk result
@@ -180,7 +180,7 @@ impl DeskLives {
 
     /// The next event of the journal happens. After a refusal each process is as before.
     fn step(&mut self, event: Event) -> Result<(), AllocError>
-        requires next { GoesOn self.old event }
+        requires next { TableGoesOn self.old event }
         requires few { self.old.read + 1 < 2 ^ 64 }
         ensures desk { self.new.desk ≡ self.old.desk }
         ensures read { OnOk result (self.new.read ≡ self.old.read + 1) }

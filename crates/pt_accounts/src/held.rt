@@ -5,7 +5,7 @@ ghost use Rattle.std.specs.Map.{lookup};
 ghost use Rattle.std.specs.List.{list_any};
 ghost use Rattle.pt_signal.specs.Values.{same_ref};
 ghost use Rattle.pt_signal.specs.Process.{held};
-ghost use Rattle.pt_accounts.specs.Holding.{pid_of, holding};
+ghost use Rattle.pt_accounts.specs.Holding.{pid_held, state_held};
 
 use pt_process::Process;
 use pt_signal::{Ids, Pid, Ref};
@@ -21,7 +21,7 @@ pub(crate) enum Held {
 
 impl Held {
     pub(crate) fn pid(&self) -> Pid
-        ensures { result ≡ pid_of self.now }
+        ensures { result ≡ pid_held self.now }
     {
         match self {
             Held::Process(process) => process.me(),
@@ -31,7 +31,7 @@ impl Held {
 
     /// How many items wait.
     pub(crate) fn waiting(&self) -> usize
-        ensures { result ≡ length (holding self.now).waiting }
+        ensures { result ≡ length (state_held self.now).waiting }
     {
         match self {
             Held::Process(process) => process.waiting().len(),
@@ -41,7 +41,7 @@ impl Held {
 
     /// The ids under which it is linked with this process.
     pub(crate) fn linked(&self, peer: Pid) -> Option<Ids>
-        ensures { result ≡ held (holding self.now).links peer }
+        ensures { result ≡ held (state_held self.now).links peer }
     {
         match self {
             Held::Process(process) => process.linked(peer),
@@ -51,7 +51,7 @@ impl Held {
 
     /// Whether a watch of this reference is kept here.
     pub(crate) fn kept(&self, monitor: Ref) -> bool
-        ensures { result ≡ list_any (λ k. same_ref monitor k.0) (holding self.now).kept }
+        ensures { result ≡ list_any (λ k. same_ref monitor k.0) (state_held self.now).kept }
     {
         match self {
             Held::Process(process) => process.kept(monitor),
@@ -61,7 +61,7 @@ impl Held {
 
     /// Whether a monitor of this reference is open here.
     pub(crate) fn watching(&self, monitor: Ref) -> bool
-        ensures { result ≡ is_some (lookup (same_ref monitor) (holding self.now).watching) }
+        ensures { result ≡ is_some (lookup (same_ref monitor) (state_held self.now).watching) }
     {
         match self {
             Held::Process(process) => process.watching(monitor),
@@ -71,8 +71,8 @@ impl Held {
 
     /// Gives the lists up where they are empty, as those of an ended process mostly are.
     pub(crate) fn shrink(&mut self)
-        ensures pid { pid_of self.new ≡ pid_of self.old }
-        ensures state { holding self.new ≡ holding self.old }
+        ensures pid { pid_held self.new ≡ pid_held self.old }
+        ensures state { state_held self.new ≡ state_held self.old }
     {
         if let Held::Process(process) = self {
             if process.owed_len() == 0 && process.waiting().is_empty() {

@@ -8,7 +8,7 @@ ghost use Rattle.pt_signal.specs.Process.{held};
 ghost use Rattle.pt_events.specs.History.{unborn, living, newborn, live_or_end, state_of, open_monitors};
 ghost use Rattle.pt_events.specs.History.{change, reason_of};
 ghost use Rattle.pt_accounts.specs.LifeState.{account_of};
-ghost use Rattle.pt_accounts.specs.Steps.{shown, MaySee, MayDo};
+ghost use Rattle.pt_accounts.specs.Steps.{life_after, MaySee, MayDo};
 
 use crate::Account;
 use crate::held::Held;
@@ -33,11 +33,11 @@ pub(crate) struct Life {
 impl Model for Life {
     ghost use Rattle.pt_events.specs.History.{live_or_end};
     ghost use Rattle.pt_accounts.specs.LifeState.{LifeState};
-    ghost use Rattle.pt_accounts.specs.Holding.{pid_of, holding, Stands};
+    ghost use Rattle.pt_accounts.specs.Holding.{pid_held, state_held, Stands};
 
     ghost Value = { LifeState };
 
-    ghost view = { λ l. record { pid = pid_of l.held; phase = live_or_end l.ended (holding l.held); taken = l.taken } };
+    ghost view = { λ l. record { pid = pid_held l.held; phase = live_or_end l.ended (state_held l.held); taken = l.taken } };
 
     ghost invariant = { λ l. Stands l.ended l.held };
 }
@@ -100,7 +100,7 @@ impl Life {
     pub(crate) fn see(&mut self, event: Event) -> Result<(), AllocError>
         requires { MaySee event self.old }
         ensures pid { self.new.pid ≡ self.old.pid }
-        ensures shown { OnOk result (self.new ≡ shown event self.old) }
+        ensures shown { OnOk result (self.new ≡ life_after event self.old) }
         ensures refused { OnErr result (self.new ≡ self.old) }
     {
         if self.ended.is_some() {

@@ -8,8 +8,8 @@ ghost use Rattle.pt_events.specs.History.{is_ended};
 ghost use Rattle.pt_accounts.specs.LifeState.{LifeState, account_of};
 ghost use Rattle.pt_accounts.specs.Table.{of_version};
 ghost use Rattle.pt_accounts.specs.DeskLives.{pids_of, linked_in, kept_by, watching_in, forgotten, latest_end};
-ghost use Rattle.pt_accounts.specs.SlotState.{Finds, IsCounted, reasons_of, end_of, left_of, living_of};
-ghost use Rattle.pt_accounts.specs.Steps.{shown, MaySee, IsNextOf};
+ghost use Rattle.pt_accounts.specs.SlotState.{Finds, IsCounted, reasons_of, life_end, left_of, living_of};
+ghost use Rattle.pt_accounts.specs.Steps.{life_after, MaySee, IsNextOf};
 
 use crate::Account;
 use crate::life::Life;
@@ -84,7 +84,7 @@ fn add_reasons(forgotten: &mut Vec<Reason>, ended: &[Life])
 
 /// What it takes counts anew. One that has ended goes, and its reason is answered.
 fn forget_newest(newest: &mut Option<Life>) -> Option<Reason>
-    ensures reason { result ≡ end_of newest.old }
+    ensures reason { result ≡ life_end newest.old }
     ensures left { newest.new ≡ left_of newest.old }
 {
     let Some(life) = newest else {
@@ -164,7 +164,7 @@ impl Slot {
         ensures versions { OnOk result
             ((v : ℕ)
             → of_version self.new v
-            ≡ cond (version == v) (option_map (shown event) (of_version self.old v)) (of_version self.old v)) }
+            ≡ cond (version == v) (option_map (life_after event) (of_version self.old v)) (of_version self.old v)) }
         ensures length { OnOk result (length self.new ≡ length self.old) }
         ensures refused { OnErr result (self.new ≡ self.old) }
     {

@@ -12,7 +12,7 @@ use Rattle.pt_events.specs.Journal.{events}
 use Rattle.pt_events.specs.History.{is_between}
 use Rattle.pt_judge.specs.declared.cause.Cause.{Cause}
 use Rattle.pt_judge.specs.declared.cause.Cause.TheVariants.{NotFront}
-use Rattle.pt_judge.specs.Judging.{JudgeState, now_is, known, cause, is_signal}
+use Rattle.pt_judge.specs.Judging.{JudgeState, now_is, known_state, cause, is_signal}
 use Rattle.pt_judge.specs.Judge.{IsAfter, IsJudged}
 use Rattle.pt_judge.proofs.Trial.{same_known}
 use Rattle.pt_judge.proofs.Judged.{front_found, front_not_found}
@@ -55,7 +55,7 @@ module _ (t : Heard) (h : Hearing) (k : IsHeard t h) where
   above s (Some x) u z = absurd (cc)
 
   pub may_not : (s : Stamped) (c : Cause) (against : Contradiction) → t.left ≡ [] → is_above (newest t.events) s ≡ true → IsJudged [] (events t.events) s.event (Some c)
-      → against ≡ contradiction (known h.state) s.event c → IsObjection t s (MayNot c against)
+      → against ≡ contradiction (known_state h.state) s.event c → IsObjection t s (MayNot c against)
   may_not s c against e a j w = (e, a, j, w ∙ ap (λ z. contradiction z s.event c) (same_known [] (events t.events) h.state (state_after e)))
 
   -- one letter more
@@ -91,14 +91,14 @@ module _ (t : Heard) (h : Hearing) (k : IsHeard t h) where
   verdict_is v e d l f = record { events = e ∙ k.count; desks = d ∙ k.desks; letters = l ∙ k.letters; origin = subst (IsOrigin t.events) (sym f) k.origin }
 
 -- what may come next from the one to the other
-pub comes_next : (s : JudgeState) (a b : Pid) (x : Signal) (o : Option Cause) → o ≡ cause (known s) (Came a b x) → o ≡ None → find (is_between a b) s.flights ≡ Some (sent a b x)
+pub comes_next : (s : JudgeState) (a b : Pid) (x : Signal) (o : Option Cause) → o ≡ cause (known_state s) (Came a b x) → o ≡ None → find (is_between a b) s.flights ≡ Some (sent a b x)
 comes_next s a b x o h e = front_found a b x s.flights (go (is_signal (option_map (λ (l : Sent). l.signal) (find (is_between a b) s.flights)) x) (sym h ∙ e))
   where
     go : (c : Bool) → cond c None (Some NotFront) ≡ None → c ≡ true
     go true k = refl
     go false k = absurd (cc)
 
-pub comes_not : (s : JudgeState) (a b : Pid) (x : Signal) (o : Option Cause) (c : Cause) → o ≡ cause (known s) (Came a b x) → o ≡ Some c → ¬ (find (is_between a b) s.flights ≡ Some (sent a b x))
+pub comes_not : (s : JudgeState) (a b : Pid) (x : Signal) (o : Option Cause) (c : Cause) → o ≡ cause (known_state s) (Came a b x) → o ≡ Some c → ¬ (find (is_between a b) s.flights ≡ Some (sent a b x))
 comes_not s a b x o c h e = front_not_found a b x s.flights (go (is_signal (option_map (λ (l : Sent). l.signal) (find (is_between a b) s.flights)) x) (sym h ∙ e))
   where
     go : (d : Bool) → cond d None (Some NotFront) ≡ Some c → d ≡ false

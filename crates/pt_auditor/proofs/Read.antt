@@ -6,7 +6,7 @@ use Rattle.std.proofs.Math.Seq.{take-suc, drop-cons}
 use Rattle.pt_events.specs.declared.event.Stamped.{Stamped}
 use Rattle.pt_events.specs.Text.{stamped_text}
 use Rattle.pt_texts.specs.declared.left_over.LeftOver.{LeftOver}
-use Rattle.pt_texts.specs.Text.{left_over_text}
+use Rattle.pt_texts.specs.Text.{left_over_line}
 use Rattle.pt_texts.specs.Fits.{FitsStamped, FitsLeftOver}
 use Rattle.pt_auditor.specs.declared.fault.Fault.{Fault}
 use Rattle.pt_auditor.specs.declared.fault.Why.{Why}
@@ -14,7 +14,7 @@ use Rattle.pt_auditor.specs.declared.fault.Why.TheVariants.{Unread, Event, Lette
 use Rattle.pt_auditor.specs.declared.hearing.Hearing.{Hearing}
 use Rattle.pt_auditor.specs.declared.hearing.Verdict.{Verdict}
 use Rattle.pt_auditor.specs.Hearings.{Heard, IsHeard, MayHear, with_event, with_letter}
-use Rattle.pt_auditor.specs.Reading.{bare, IsEventLine, HistoryLines, IsPlain, joined, OneMore, IsFault, IsRead, IsOver, GoesOn, IsWhy, IsFaulty, IsWhole, Concludes, Closes}
+use Rattle.pt_auditor.specs.Reading.{without_return, IsEventLine, HistoryLines, IsPlain, joined_lines, OneMore, IsFault, IsRead, LineIsOver, LineGoesOn, IsWhy, IsFaulty, IsWholeText, Concludes, ClosesText}
 
 -- the line tells an event, or a letter ----------------------------------------------------
 
@@ -22,16 +22,16 @@ pub heard_event : (t : Heard) (line : List ℕ) (s : Stamped) (h : Hearing) → 
     → (u : Heard) × OneMore t line u × IsHeard u h
 heard_event t line s h e f m = (with_event s t, inl (s, (e, f), m.0, refl), m.1)
 
-pub heard_letter : (t : Heard) (line : List ℕ) (l : LeftOver) (h : Hearing) → line ≡ left_over_text l → FitsLeftOver l → IsHeard (with_letter l t) h
+pub heard_letter : (t : Heard) (line : List ℕ) (l : LeftOver) (h : Hearing) → line ≡ left_over_line l → FitsLeftOver l → IsHeard (with_letter l t) h
     → (u : Heard) × OneMore t line u × IsHeard u h
 heard_letter t line l h e f m = (with_letter l t, inr (l, (e, f), refl), m)
 
-event_line : (line : List ℕ) (lines : List (List ℕ)) (left : List LeftOver) (past : List Stamped) (s : Stamped) → left ≡ [] → IsEventLine (bare line) s → HistoryLines lines left past
+event_line : (line : List ℕ) (lines : List (List ℕ)) (left : List LeftOver) (past : List Stamped) (s : Stamped) → left ≡ [] → IsEventLine (without_return line) s → HistoryLines lines left past
     → HistoryLines (line ∷ lines) left (s ∷ past)
 event_line line lines [] past s e l h = (l, h)
 event_line line lines (x ∷ left) past s e l h = absurd (cc)
 
-one_line : (t u : Heard) (line : List ℕ) (lines : List (List ℕ)) → OneMore t (bare line) u → HistoryLines lines t.left t.events → HistoryLines (line ∷ lines) u.left u.events
+one_line : (t u : Heard) (line : List ℕ) (lines : List (List ℕ)) → OneMore t (without_return line) u → HistoryLines lines t.left t.events → HistoryLines (line ∷ lines) u.left u.events
 one_line t u line lines (inl (s, e, m, k)) h = subst (λ z. HistoryLines (line ∷ lines) z.left z.events) (sym k) (event_line line lines t.left t.events s m.0 e h)
 one_line t u line lines (inr (l, e, k)) h = subst (λ z. HistoryLines (line ∷ lines) z.left z.events) (sym k) (e, h)
 
@@ -60,7 +60,7 @@ module _ (text : List ℕ) (t : Heard) (h : Hearing) (line : List ℕ) (count : 
   pub pushed : (b : ℕ) (new : List ℕ) → (b == 10) ≡ false → new ≡ line ++ b ∷ [] → IsRead (text ++ b ∷ []) t h new count
   pushed b new n e = record {
     lines = r.lines;
-    splits = ap (λ z. z ++ b ∷ []) r.splits ∙ append_assoc (joined r.lines) line (b ∷ []) ∙ ap (λ z. joined r.lines ++ z) (sym e);
+    splits = ap (λ z. z ++ b ∷ []) r.splits ∙ append_assoc (joined_lines r.lines) line (b ∷ []) ∙ ap (λ z. joined_lines r.lines ++ z) (sym e);
     plain = r.plain;
     open_plain = subst IsPlain (sym e) (plain_push line b r.open_plain n);
     count_is = r.count_is;
@@ -68,10 +68,10 @@ module _ (text : List ℕ) (t : Heard) (h : Hearing) (line : List ℕ) (count : 
     heard = r.heard;
   }
 
-  pub line_over : (u : Heard) (g : Hearing) (new : List ℕ) (more : ℕ) → OneMore t (bare line) u → IsHeard u g → new ≡ [] → more ≡ min (count + 1) (2 ^ 64 - 1) → IsRead (text ++ 10 ∷ []) u g new more
+  pub line_over : (u : Heard) (g : Hearing) (new : List ℕ) (more : ℕ) → OneMore t (without_return line) u → IsHeard u g → new ≡ [] → more ≡ min (count + 1) (2 ^ 64 - 1) → IsRead (text ++ 10 ∷ []) u g new more
   line_over u g new more one k e m = record {
     lines = line ∷ r.lines;
-    splits = ap (λ z. z ++ 10 ∷ []) r.splits ∙ sym (append-nil (joined (line ∷ r.lines))) ∙ ap (λ z. joined (line ∷ r.lines) ++ z) (sym e);
+    splits = ap (λ z. z ++ 10 ∷ []) r.splits ∙ sym (append-nil (joined_lines (line ∷ r.lines))) ∙ ap (λ z. joined_lines (line ∷ r.lines) ++ z) (sym e);
     plain = (r.open_plain, r.plain);
     open_plain = subst IsPlain (sym e) tt;
     count_is = omega (arith, m, r.count_is);
@@ -95,35 +95,35 @@ module _ (text : List ℕ) (t : Heard) (h : Hearing) (line : List ℕ) (count : 
     why = w;
   }
 
-  abbrev whole_is : line ≡ [] → IsWhole text t
+  abbrev whole_is : line ≡ [] → IsWholeText text t
   whole_is e = record {
     lines = r.lines;
-    are = inl (r.splits ∙ ap (λ z. joined r.lines ++ z) e ∙ append-nil (joined r.lines));
+    are = inl (r.splits ∙ ap (λ z. joined_lines r.lines ++ z) e ∙ append-nil (joined_lines r.lines));
     plain = r.plain;
     tells = r.tells;
     stands = r.heard.stands;
   }
 
-  pub concluded : (o : Result Verdict Fault) → line ≡ [] → Closes t count o → Concludes text o
+  pub concluded : (o : Result Verdict Fault) → line ≡ [] → ClosesText t count o → Concludes text o
   concluded (Ok v) e c = (t, whole_is e, c.0, c.1)
   concluded (Err f) e c = inr (t, whole_is e, (c.0, omega (arith, c.1, r.count_is)))
 
 -- the same, where the last line was without its line feed
 module _ (text : List ℕ) (t : Heard) (h : Hearing) (count : ℕ) (r : IsRead (text ++ 10 ∷ []) t h [] count) where
-  abbrev open_is : IsWhole text t
+  abbrev open_is : IsWholeText text t
   open_is = record {
     lines = r.lines;
-    are = inr (r.splits ∙ append-nil (joined r.lines));
+    are = inr (r.splits ∙ append-nil (joined_lines r.lines));
     plain = r.plain;
     tells = r.tells;
     stands = r.heard.stands;
   }
 
-  pub concluded_open : (o : Result Verdict Fault) → Closes t count o → Concludes text o
+  pub concluded_open : (o : Result Verdict Fault) → ClosesText t count o → Concludes text o
   concluded_open (Ok v) c = (t, open_is, c.0, c.1)
   concluded_open (Err f) c = inr (t, open_is, (c.0, omega (arith, c.1, r.count_is)))
 
-pub why_is : (t : Heard) (line rest : List ℕ) (why : Why) → IsOver rest → IsFault t (bare line) why → IsWhy t line rest why
+pub why_is : (t : Heard) (line rest : List ℕ) (why : Why) → LineIsOver rest → IsFault t (without_return line) why → IsWhy t line rest why
 why_is t line rest (Unread n) o f = (o, f)
 why_is t line rest (Event s x) o f = (o, f)
 why_is t line rest (Letter l x) o f = (o, f)
@@ -142,8 +142,8 @@ module _ (text bytes : List ℕ) (n : ℕ) where
       ap (λ z. text ++ z) (ap (λ m. take m bytes) (add-one n) ∙ take-suc bytes n 0 h ∙ ap (λ c. take n bytes ++ c ∷ []) (sym e))
       ∙ sym (append_assoc text (take n bytes) (b ∷ []))
 
-  pub over_at : (b : ℕ) → n < length bytes → b ≡ get_or bytes n 0 → b ≡ 10 → IsOver (drop n bytes)
-  over_at b h e k = subst IsOver (sym (drop-cons bytes n 0 h)) (sym e ∙ k)
+  pub over_at : (b : ℕ) → n < length bytes → b ≡ get_or bytes n 0 → b ≡ 10 → LineIsOver (drop n bytes)
+  over_at b h e k = subst LineIsOver (sym (drop-cons bytes n 0 h)) (sym e ∙ k)
 
-  pub goes_on_at : (b : ℕ) → n < length bytes → b ≡ get_or bytes n 0 → (b == 10) ≡ false → GoesOn (drop n bytes)
-  goes_on_at b h e k = subst GoesOn (sym (drop-cons bytes n 0 h)) (ap (λ c. c == 10) (sym e) ∙ k)
+  pub goes_on_at : (b : ℕ) → n < length bytes → b ≡ get_or bytes n 0 → (b == 10) ≡ false → LineGoesOn (drop n bytes)
+  goes_on_at b h e k = subst LineGoesOn (sym (drop-cons bytes n 0 h)) (ap (λ c. c == 10) (sym e) ∙ k)

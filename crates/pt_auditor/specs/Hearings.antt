@@ -37,9 +37,9 @@ abbrev pub is_above : Option Stamped → Stamped → Bool
 is_above None s = true
 is_above (Some t) s = follows t s
 
-abbrev pub AreRising : List Stamped → Type 0
-AreRising [] = ⊤
-AreRising (s ∷ past) = (is_above (newest past) s ≡ true) × AreRising past
+abbrev pub EventsAreRising : List Stamped → Type 0
+EventsAreRising [] = ⊤
+EventsAreRising (s ∷ past) = (is_above (newest past) s ≡ true) × EventsAreRising past
 
 -- one more than the greatest desk
 abbrev pub desks_of : List Stamped → ℕ
@@ -47,8 +47,8 @@ desks_of [] = 0
 desks_of (s ∷ past) = max (desks_of past) (s.desk + 1)
 
 -- counts stop at the greatest number of 64 bits
-abbrev pub capped : ℕ → ℕ
-capped n = min n (2 ^ 64 - 1)
+abbrev pub capped_count : ℕ → ℕ
+capped_count n = min n (2 ^ 64 - 1)
 
 -- the history leaves these on their way
 abbrev pub left_flying : List Stamped → List Sent
@@ -69,15 +69,15 @@ abbrev pub IsOfItsDesks : LeftOver → Type 0
 IsOfItsDesks l = (l.from_desk ≡ l.letter.from.shard) × (l.to_desk ≡ l.letter.to.shard)
 
 -- each letter is the oldest of those that were not told of before it
-abbrev pub AreTold : List Sent → List LeftOver → Type 0
-AreTold flights [] = ⊤
-AreTold flights (l ∷ left) = (IsOfItsDesks l × IsOldest (still flights left) l) × AreTold flights left
+abbrev pub LettersAreTold : List Sent → List LeftOver → Type 0
+LettersAreTold flights [] = ⊤
+LettersAreTold flights (l ∷ left) = (IsOfItsDesks l × IsOldest (still flights left) l) × LettersAreTold flights left
 
 -- what was heard may be as it is
 pub record IsStanding (t : Heard) : Type 0 where
   pub legal : IsLegal [] (events t.events)
-  pub rising : AreRising t.events
-  pub told : AreTold (left_flying t.events) t.left
+  pub rising : EventsAreRising t.events
+  pub told : LettersAreTold (left_flying t.events) t.left
 
 -- the hearing heard this, and it may be as it is
 pub record IsHeard (t : Heard) (h : Hearing) : Type 0 where
@@ -86,9 +86,9 @@ pub record IsHeard (t : Heard) (h : Hearing) : Type 0 where
   pub knows : IsAfter [] (events t.events) (record h.state { flights = left_flying t.events })
   pub flies : h.state.flights ≡ still (left_flying t.events) t.left
   pub last : h.last ≡ newest t.events
-  pub count : h.events ≡ capped (length t.events)
+  pub count : h.events ≡ capped_count (length t.events)
   pub desks : h.desks ≡ desks_of t.events
-  pub letters : h.letters ≡ capped (length t.left)
+  pub letters : h.letters ≡ capped_count (length t.left)
   pub origin : IsOrigin t.events h.foreign
 
 -- the event may be heard next: no letter was told of, it is above the event before, and it may come
@@ -127,15 +127,15 @@ IsMisfit t l (OtherLetter o) =
     ≡ option_map (λ f. f.signal) (find (is_between l.letter.from l.letter.to) (still (left_flying t.events) t.left)))
 IsMisfit t l _ = ⊥
 
-abbrev pub Tells : Heard → LeftOver → Result Hearing Objection → Type 0
-Tells t l (Ok h) = IsHeard (with_letter l t) h
-Tells t l (Err o) = IsMisfit t l o
+abbrev pub TellsLetter : Heard → LeftOver → Result Hearing Objection → Type 0
+TellsLetter t l (Ok h) = IsHeard (with_letter l t) h
+TellsLetter t l (Err o) = IsMisfit t l o
 
 -- the counts of what was heard, and the first event that no node prints, if there is one
 pub record IsVerdict (t : Heard) (v : Verdict) : Type 0 where
-  pub events : v.events ≡ capped (length t.events)
+  pub events : v.events ≡ capped_count (length t.events)
   pub desks : v.desks ≡ desks_of t.events
-  pub letters : v.letters ≡ capped (length t.left)
+  pub letters : v.letters ≡ capped_count (length t.left)
   pub origin : IsOrigin t.events v.foreign
 
 -- the letters told of are all that is on its way
@@ -147,9 +147,9 @@ abbrev pub IsUntold : Heard → Objection → Type 0
 IsUntold t (Untold a b x) = slice_get (still (left_flying t.events) t.left) 0 ≡ Some (sent a b x)
 IsUntold t _ = ⊥
 
-abbrev pub Ends : Heard → Result Verdict Objection → Type 0
-Ends t (Ok v) = AllTold t × IsVerdict t v
-Ends t (Err o) = IsUntold t o
+abbrev pub EndsHearing : Heard → Result Verdict Objection → Type 0
+EndsHearing t (Ok v) = AllTold t × IsVerdict t v
+EndsHearing t (Err o) = IsUntold t o
 
 -- what the functions of the crate say of one event
 abbrev pub IsSunk : Option Stamped → Stamped → Option Stamped → Type 0

@@ -14,14 +14,14 @@ use Rattle.pt_auditor.specs.declared.objection.Contradiction.{Contradiction}
 use Rattle.pt_auditor.specs.declared.objection.Contradiction.TheVariants.{Oldest, First, Dead, Nothing}
 
 -- who has to be alive for the event, if anyone
-abbrev pub author : Event → Option Pid
-author (Born p parent link) = parent
-author (Said a b x) = Some a
-author (Came a b x) = None
-author (Took p k i) = Some p
-author (Flag p on) = Some p
-author (Left p r) = Some p
-author (Refused a b) = Some a
+abbrev pub actor_of_event : Event → Option Pid
+actor_of_event (Born p parent link) = parent
+actor_of_event (Said a b x) = Some a
+actor_of_event (Came a b x) = None
+actor_of_event (Took p k i) = Some p
+actor_of_event (Flag p on) = Some p
+actor_of_event (Left p r) = Some p
+actor_of_event (Refused a b) = Some a
 
 abbrev pub dead : Known → Option Pid → Contradiction
 dead k None = Nothing
@@ -32,5 +32,5 @@ dead k (Some p) = Dead p (reason_of (k.is p))
 abbrev pub contradiction : Known → Event → Cause → Contradiction
 contradiction k (Came a b x) NotFront = Oldest (option_map (λ l. l.signal) (find (is_between a b) k.flights))
 contradiction k (Took p j i) NotFirstMatch = First (find (fits j) (state_of (k.is p)).waiting)
-contradiction k e NotAlive = dead k (author e)
+contradiction k e NotAlive = dead k (actor_of_event e)
 contradiction k e c = Nothing

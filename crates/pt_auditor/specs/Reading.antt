@@ -5,7 +5,7 @@ use Rattle.pt_events.specs.declared.event.Stamped.{Stamped}
 use Rattle.pt_events.specs.Text.{stamped_text}
 use Rattle.pt_texts.specs.declared.left_over.LeftOver.{LeftOver}
 use Rattle.pt_texts.specs.declared.parse.Refused.{Refused}
-use Rattle.pt_texts.specs.Text.{left_over_text}
+use Rattle.pt_texts.specs.Text.{left_over_line}
 use Rattle.pt_texts.specs.Fits.{FitsStamped, FitsLeftOver}
 use Rattle.pt_texts.specs.Parsing.{finished}
 use Rattle.pt_texts.specs.Readers.{stamped_at, left_over_at}
@@ -18,28 +18,28 @@ use Rattle.pt_auditor.specs.declared.audit.Audit.{Audit}
 use Rattle.pt_auditor.specs.declared.hearing.Hearing.{Hearing}
 use Rattle.pt_auditor.specs.declared.hearing.Verdict.{Verdict}
 use Rattle.pt_auditor.specs.Hearings.{Heard, IsStanding, IsHeard, MayHear, IsObjection, IsMisfit, AllTold, IsUntold}
-use Rattle.pt_auditor.specs.Hearings.{with_event, with_letter, IsVerdict, capped}
+use Rattle.pt_auditor.specs.Hearings.{with_event, with_letter, IsVerdict, capped_count}
 
 -- the line without the carriage return that it ends with, if it does
-abbrev pub bare : List ℕ → List ℕ
-bare line = cond (slice_index line (length line - 1) == 13) (take (length line - 1) line) line
+abbrev pub without_return : List ℕ → List ℕ
+without_return line = cond (slice_index line (length line - 1) == 13) (take (length line - 1) line) line
 
 abbrev pub IsEventLine : List ℕ → Stamped → Type 0
 IsEventLine line s = (line ≡ stamped_text s) × FitsStamped s
 
 abbrev pub IsLetterLine : List ℕ → LeftOver → Type 0
-IsLetterLine line l = (line ≡ left_over_text l) × FitsLeftOver l
+IsLetterLine line l = (line ≡ left_over_line l) × FitsLeftOver l
 
 -- these lines, the newest first, are the texts of the events
 abbrev pub EventLines : List (List ℕ) → List Stamped → Type 0
 EventLines [] [] = ⊤
-EventLines (line ∷ lines) (s ∷ past) = IsEventLine (bare line) s × EventLines lines past
+EventLines (line ∷ lines) (s ∷ past) = IsEventLine (without_return line) s × EventLines lines past
 EventLines _ _ = ⊥
 
 -- these lines are the texts of the events, and then of the letters
 abbrev pub HistoryLines : List (List ℕ) → List LeftOver → List Stamped → Type 0
 HistoryLines lines [] past = EventLines lines past
-HistoryLines (line ∷ lines) (l ∷ left) past = IsLetterLine (bare line) l × HistoryLines lines left past
+HistoryLines (line ∷ lines) (l ∷ left) past = IsLetterLine (without_return line) l × HistoryLines lines left past
 HistoryLines _ _ past = ⊥
 
 -- no line feed is among the bytes
@@ -52,9 +52,9 @@ ArePlain [] = ⊤
 ArePlain (line ∷ lines) = IsPlain line × ArePlain lines
 
 -- the text of lines, the newest first, each with its line feed
-abbrev pub joined : List (List ℕ) → List ℕ
-joined [] = []
-joined (line ∷ lines) = joined lines ++ line ++ 10 ∷ []
+abbrev pub joined_lines : List (List ℕ) → List ℕ
+joined_lines [] = []
+joined_lines (line ∷ lines) = joined_lines lines ++ line ++ 10 ∷ []
 
 -- the line tells this event, or this letter, and it may be heard next
 abbrev pub OneMore : Heard → List ℕ → Heard → Type 0
@@ -79,35 +79,35 @@ IsFault t line (Event s o) = IsEventLine line s × IsObjection t s o
 IsFault t line (Letter l o) = IsLetterLine line l × IsMisfit t l o
 IsFault t line _ = ⊥
 
-abbrev pub HearsLine : Heard → List ℕ → Result Hearing Why → Type 0
-HearsLine t line (Ok h) = (u : Heard) × OneMore t line u × IsHeard u h
-HearsLine t line (Err why) = IsFault t line why
+abbrev pub AuditHearsLine : Heard → List ℕ → Result Hearing Why → Type 0
+AuditHearsLine t line (Ok h) = (u : Heard) × OneMore t line u × IsHeard u h
+AuditHearsLine t line (Err why) = IsFault t line why
 
 -- the text was read, and its lines tell what was heard; the last is not over
 pub record IsRead (text : List ℕ) (t : Heard) (h : Hearing) (line : List ℕ) (count : ℕ) : Type 0 where
   pub lines : List (List ℕ)
-  pub splits : text ≡ joined lines ++ line
+  pub splits : text ≡ joined_lines lines ++ line
   pub plain : ArePlain lines
   pub open_plain : IsPlain line
-  pub count_is : count ≡ capped (length lines)
+  pub count_is : count ≡ capped_count (length lines)
   pub tells : HistoryLines lines t.left t.events
   pub heard : IsHeard t h
 
 -- the line feed of the line stands there, or the text is over
-abbrev pub IsOver : List ℕ → Type 0
-IsOver [] = ⊤
-IsOver (b ∷ rest) = b ≡ 10
+abbrev pub LineIsOver : List ℕ → Type 0
+LineIsOver [] = ⊤
+LineIsOver (b ∷ rest) = b ≡ 10
 
 -- the line goes on
-abbrev pub GoesOn : List ℕ → Type 0
-GoesOn [] = ⊥
-GoesOn (b ∷ rest) = (b == 10) ≡ false
+abbrev pub LineGoesOn : List ℕ → Type 0
+LineGoesOn [] = ⊥
+LineGoesOn (b ∷ rest) = (b == 10) ≡ false
 
 -- why the line, behind which the rest of the text stands, is at fault
 abbrev pub IsWhy : Heard → List ℕ → List ℕ → Why → Type 0
-IsWhy t line rest Long = (length line ≡ MOST_LINE) × GoesOn rest
+IsWhy t line rest Long = (length line ≡ MOST_LINE) × LineGoesOn rest
 IsWhy t line rest Memory = ⊤
-IsWhy t line rest why = IsOver rest × IsFault t (bare line) why
+IsWhy t line rest why = LineIsOver rest × IsFault t (without_return line) why
 
 -- the first line at fault: the lines before it tell what may be as it is
 pub record IsFaulty (text : List ℕ) (f : Fault) : Type 0 where
@@ -115,34 +115,34 @@ pub record IsFaulty (text : List ℕ) (f : Fault) : Type 0 where
   pub lines : List (List ℕ)
   pub line : List ℕ
   pub rest : List ℕ
-  pub splits : text ≡ joined lines ++ line ++ rest
+  pub splits : text ≡ joined_lines lines ++ line ++ rest
   pub plain : ArePlain lines
   pub open_plain : IsPlain line
-  pub number : f.line ≡ capped (length lines + 1)
+  pub number : f.line ≡ capped_count (length lines + 1)
   pub tells : HistoryLines lines heard.left heard.events
   pub stands : IsStanding heard
   pub why : IsWhy heard line rest f.why
 
-abbrev pub Reads : List ℕ → List ℕ → Result Audit Fault → Type 0
-Reads text bytes (Ok a) = (u : Heard) × IsRead (text ++ bytes) u a.hearing a.line.items a.lines
-Reads text bytes (Err f) = IsFaulty (text ++ bytes) f
+abbrev pub AuditReads : List ℕ → List ℕ → Result Audit Fault → Type 0
+AuditReads text bytes (Ok a) = (u : Heard) × IsRead (text ++ bytes) u a.hearing a.line.items a.lines
+AuditReads text bytes (Err f) = IsFaulty (text ++ bytes) f
 
 -- the whole text are these lines, of which the last may be without its line feed, and they tell this
-pub record IsWhole (text : List ℕ) (t : Heard) : Type 0 where
+pub record IsWholeText (text : List ℕ) (t : Heard) : Type 0 where
   pub lines : List (List ℕ)
-  pub are : (text ≡ joined lines) ⊎ (text ++ 10 ∷ [] ≡ joined lines)
+  pub are : (text ≡ joined_lines lines) ⊎ (text ++ 10 ∷ [] ≡ joined_lines lines)
   pub plain : ArePlain lines
   pub tells : HistoryLines lines t.left t.events
   pub stands : IsStanding t
 
 -- a letter on its way was not told of, and the text is over behind that many lines
 abbrev pub IsUnfinished : Heard → ℕ → Fault → Type 0
-IsUnfinished t count f = ((o : Objection) × (f.why ≡ Over o) × IsUntold t o) × (f.line ≡ capped (count + 1))
+IsUnfinished t count f = ((o : Objection) × (f.why ≡ Over o) × IsUntold t o) × (f.line ≡ capped_count (count + 1))
 
 abbrev pub Concludes : List ℕ → Result Verdict Fault → Type 0
-Concludes text (Ok v) = (t : Heard) × IsWhole text t × AllTold t × IsVerdict t v
-Concludes text (Err f) = IsFaulty text f ⊎ ((t : Heard) × (w : IsWhole text t) × IsUnfinished t (length w.lines) f)
+Concludes text (Ok v) = (t : Heard) × IsWholeText text t × AllTold t × IsVerdict t v
+Concludes text (Err f) = IsFaulty text f ⊎ ((t : Heard) × (w : IsWholeText text t) × IsUnfinished t (length w.lines) f)
 
-abbrev pub Closes : Heard → ℕ → Result Verdict Fault → Type 0
-Closes t count (Ok v) = AllTold t × IsVerdict t v
-Closes t count (Err f) = ((o : Objection) × (f.why ≡ Over o) × IsUntold t o) × (f.line ≡ min (count + 1) (2 ^ 64 - 1))
+abbrev pub ClosesText : Heard → ℕ → Result Verdict Fault → Type 0
+ClosesText t count (Ok v) = AllTold t × IsVerdict t v
+ClosesText t count (Err f) = ((o : Objection) × (f.why ≡ Over o) × IsUntold t o) × (f.line ≡ min (count + 1) (2 ^ 64 - 1))

@@ -14,6 +14,6 @@ abbrev pub standing_of : Pid → Phase → Standing
 standing_of p f = record { pid = p; ended = reason_of f; waiting = waiting_of f }
 
 -- it is what the events that were heard make of its process
-abbrev pub IsTrueOf : Heard → Option Standing → Type 0
-IsTrueOf t None = ⊤
-IsTrueOf t (Some s) = s ≡ standing_of s.pid (life [] (events t.events) s.pid)
+abbrev pub StandingIsTrue : Heard → Option Standing → Type 0
+StandingIsTrue t None = ⊤
+StandingIsTrue t (Some s) = s ≡ standing_of s.pid (life [] (events t.events) s.pid)

@@ -80,13 +80,13 @@ objection_text (no.Untold a b x) =
     codes "no line tells of what is on its way: " ++ pid_text a ++ codes " -> " ++ pid_text b ++ codes " " ++ signal_text x
 objection_text no.Memory = codes "memory refused"
 
-unfoldable pub why_text : Why → List ℕ
-why_text (Unread column) = codes "column " ++ decimal column ++ codes ": no event and no letter left over"
-why_text (Event s o) = stamped_text s ++ codes ": " ++ objection_text o
-why_text (Letter l o) = letter_text l.letter ++ codes ": " ++ objection_text o
-why_text (Over o) = objection_text o
-why_text Long = codes "more than 1024 bytes"
-why_text why.Memory = codes "memory refused"
+unfoldable pub line_fault_text : Why → List ℕ
+line_fault_text (Unread column) = codes "column " ++ decimal column ++ codes ": no event and no letter left over"
+line_fault_text (Event s o) = stamped_text s ++ codes ": " ++ objection_text o
+line_fault_text (Letter l o) = letter_text l.letter ++ codes ": " ++ objection_text o
+line_fault_text (Over o) = objection_text o
+line_fault_text Long = codes "more than 1024 bytes"
+line_fault_text why.Memory = codes "memory refused"
 
 unfoldable pub fault_text : Fault → List ℕ
-fault_text f = codes "line " ++ decimal f.line ++ codes ": " ++ why_text f.why
+fault_text f = codes "line " ++ decimal f.line ++ codes ": " ++ line_fault_text f.why

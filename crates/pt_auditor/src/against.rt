@@ -1,8 +1,8 @@
 //! What an event contradicts.
 
 ghost use Rattle.std.specs.Prelude.{◌≡◌};
-ghost use Rattle.pt_judge.specs.Judging.{known};
-ghost use Rattle.pt_auditor.specs.Objecting.{author, contradiction, dead};
+ghost use Rattle.pt_judge.specs.Judging.{known_state};
+ghost use Rattle.pt_auditor.specs.Objecting.{actor_of_event, contradiction, dead};
 
 use crate::Contradiction;
 use pt_events::Event;
@@ -11,7 +11,7 @@ use pt_signal::Pid;
 
 /// Who has to be alive for the event, if anyone.
 fn author(event: Event) -> Option<Pid>
-    ensures { result ≡ author event }
+    ensures { result ≡ actor_of_event event }
 {
     match event {
         Event::Born(_, parent, _) => parent,
@@ -25,7 +25,7 @@ fn author(event: Event) -> Option<Pid>
 }
 
 fn dead(state: &State, pid: Option<Pid>) -> Contradiction
-    ensures { result ≡ dead (known state.now) pid }
+    ensures { result ≡ dead (known_state state.now) pid }
 {
     match pid {
         Some(pid) => Contradiction::Dead(pid, state.ended(pid)),
@@ -35,7 +35,7 @@ fn dead(state: &State, pid: Option<Pid>) -> Contradiction
 
 /// What the event contradicts, where it may not come for that cause.
 pub(crate) fn contradiction(state: &State, event: Event, cause: Cause) -> Contradiction
-    ensures { result ≡ contradiction (known state.now) event cause }
+    ensures { result ≡ contradiction (known_state state.now) event cause }
 {
     match (cause, event) {
         (Cause::NotFront, Event::Came(from, to, _)) => {

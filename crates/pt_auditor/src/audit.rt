@@ -2,7 +2,7 @@
 
 ghost use Rattle.std.specs.Prelude.{◌≡◌, ℕ, ◌+◌, ◌-◌, ◌^◌, [], List, min};
 ghost use Rattle.pt_auditor.specs.Hearings.{Heard, IsHeard};
-ghost use Rattle.pt_auditor.specs.Reading.{IsRead, Reads, Closes, Concludes};
+ghost use Rattle.pt_auditor.specs.Reading.{IsRead, AuditReads, ClosesText, Concludes};
 
 use crate::line::hear_line;
 use crate::{Fault, Hearing, MOST_LINE, Verdict, Why};
@@ -28,7 +28,7 @@ fn one_more(count: u64) -> u64
 
 /// The verdict, where the text is over behind as many lines.
 fn conclude(hearing: Hearing, lines: u64) -> Result<Verdict, Fault>
-    ensures { (heard : Heard) → IsHeard heard hearing → Closes heard lines result }
+    ensures { (heard : Heard) → IsHeard heard hearing → ClosesText heard lines result }
 {
     match hearing.end() {
         Ok(verdict) => Ok(verdict),
@@ -65,7 +65,7 @@ impl Audit {
     /// feed is read, or the byte by which it is too long; the audit goes with it.
     pub fn read(self, alloc: Global, bytes: &[u8]) -> Result<Audit, Fault>
         ensures { (text : List ℕ) (heard : Heard) → IsRead text heard self.hearing self.line.items self.lines
-            → Reads text bytes.now result }
+            → AuditReads text bytes.now result }
     {
         let Audit {
             mut hearing,

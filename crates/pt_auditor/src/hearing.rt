@@ -3,10 +3,10 @@
 ghost use Rattle.std.specs.Prelude.{◌≡◌, ◌+◌, ◌-◌, ◌^◌, [], ◌∷◌, None, min, max, slice_get};
 ghost use Rattle.std.specs.Map.{keys_of};
 ghost use Rattle.std.specs.Option.{option_map};
-ghost use Rattle.pt_judge.specs.Judging.{cause, known, now_is};
-ghost use Rattle.pt_auditor.specs.Hearings.{Heard, IsHeard, Hears, Tells, Ends, IsSunk, IsWithout, Objects, follows};
+ghost use Rattle.pt_judge.specs.Judging.{cause, known_state, now_is};
+ghost use Rattle.pt_auditor.specs.Hearings.{Heard, IsHeard, Hears, TellsLetter, EndsHearing, IsSunk, IsWithout, Objects, follows};
 ghost use Rattle.pt_auditor.specs.Foreigners.{IsOrigin};
-ghost use Rattle.pt_auditor.specs.Standings.{IsTrueOf, standing_of, waiting_of};
+ghost use Rattle.pt_auditor.specs.Standings.{StandingIsTrue, standing_of, waiting_of};
 
 use crate::against::contradiction;
 use crate::foreign::no_node;
@@ -87,7 +87,7 @@ fn sunk(last: Option<Stamped>, stamped: Stamped) -> Option<Stamped>
 /// Why the event may not come next, if it may not.
 fn objection(hearing: &Hearing, stamped: Stamped) -> Option<Objection>
     ensures objects { (heard : Heard) → IsHeard heard hearing.now → Objects heard stamped result }
-    ensures free { result ≡ None → cause (known hearing.now.state) stamped.event ≡ None }
+    ensures free { result ≡ None → cause (known_state hearing.now.state) stamped.event ≡ None }
 {
     if hearing.letters > 0 {
         return Some(Objection::Behind);
@@ -170,7 +170,7 @@ impl Hearing {
     /// ([`Objection::OtherDesks`]), and where it is not the oldest on its way between the two, of which was not told
     /// before ([`Objection::OtherLetter`]). Its stamp is not compared: a state keeps none.
     pub fn tell(self, left: LeftOver) -> Result<Hearing, Objection>
-        ensures { (heard : Heard) → IsHeard heard self → Tells heard left result }
+        ensures { (heard : Heard) → IsHeard heard self → TellsLetter heard left result }
     {
         let Letter {
             from,
@@ -212,7 +212,7 @@ impl Hearing {
     /// What became of the process that was born as the one with this number, counted from 0, by the events heard.
     pub fn standing(&self, number: usize) -> Option<Standing>
         ensures born { option_map (λ s. s.pid) result ≡ slice_get (keys_of self.now.state.lives) number }
-        ensures told { (heard : Heard) → IsHeard heard self.now → IsTrueOf heard result }
+        ensures told { (heard : Heard) → IsHeard heard self.now → StandingIsTrue heard result }
     {
         match self.state.born(number) {
             Some(pid) => Some(self.standing_of(pid)),
@@ -249,7 +249,7 @@ impl Hearing {
     /// The verdict, where nothing is on its way that was not told of; else the oldest that is
     /// ([`Objection::Untold`]).
     pub fn end(&self) -> Result<Verdict, Objection>
-        ensures { (heard : Heard) → IsHeard heard self.now → Ends heard result }
+        ensures { (heard : Heard) → IsHeard heard self.now → EndsHearing heard result }
     {
         match self.state.front() {
             Some((from, to, signal)) => Err(Objection::Untold(from, to, signal)),

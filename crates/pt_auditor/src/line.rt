@@ -2,7 +2,7 @@
 
 ghost use Rattle.std.specs.Prelude.{◌≡◌, max};
 ghost use Rattle.pt_auditor.specs.Hearings.{Heard, IsHeard};
-ghost use Rattle.pt_auditor.specs.Reading.{bare, HearsLine};
+ghost use Rattle.pt_auditor.specs.Reading.{without_return, AuditHearsLine};
 
 use crate::{Hearing, Why};
 use pt_texts::{parse_left_over, parse_stamped};
@@ -10,7 +10,7 @@ use std::alloc::Global;
 
 /// The line without the carriage return that it ends with, if it does.
 fn bare(line: &[u8]) -> &[u8]
-    ensures { result.now ≡ bare line.now }
+    ensures { result.now ≡ without_return line.now }
 {
     let len = line.len();
     if len > 0 && line[len - 1] == 13 {
@@ -29,7 +29,7 @@ fn further(one: usize, other: usize) -> usize
 
 /// Hears the event, or the letter left over, that the line is.
 pub(crate) fn hear_line(alloc: Global, hearing: Hearing, line: &[u8]) -> Result<Hearing, Why>
-    ensures { (heard : Heard) → IsHeard heard hearing → HearsLine heard (bare line.now) result }
+    ensures { (heard : Heard) → IsHeard heard hearing → AuditHearsLine heard (without_return line.now) result }
 {
     let line = bare(line);
     match parse_stamped(line) {

@@ -26,7 +26,7 @@ use Rattle.pt_node.specs.Resuming.{Resumes}
 use Rattle.pt_table.specs.declared.types.PtConfig.{PtConfig}
 use Rattle.pt_table.specs.Codes.{open_code, stop_code, empty, filled}
 use Rattle.pt_table.specs.Crossing.{config_in}
-use Rattle.pt_table.specs.Answers.{Place, value_in, values, full, HistoryState}
+use Rattle.pt_table.specs.Answers.{HandlePlace, value_behind, values, full, HistoryState}
 
 -- opening ------------------------------------------------------------------------------
 
@@ -40,7 +40,7 @@ OpensMany n c (Ok desks) = IsInRange (config_in n c) × AreFresh (config_in n c)
 OpensMany n c (Err e) = OpenRefused (config_in n c) e
 
 -- each handle has its desk
-pub record Opened (n : ℕ) (c : PtConfig) (code : ℕ) (new : List (Place DeskState)) : Type 0 where
+pub record Opened (n : ℕ) (c : PtConfig) (code : ℕ) (new : List (HandlePlace DeskState)) : Type 0 where
   pub done : code ≡ 0
   pub in_range : IsInRange (config_in n c)
   pub desks : List DeskState
@@ -48,7 +48,7 @@ pub record Opened (n : ℕ) (c : PtConfig) (code : ℕ) (new : List (Place DeskS
   pub are : new ≡ map full desks
 
 -- or the handles are as they were
-pub record NotOpened (n : ℕ) (c : PtConfig) (code : ℕ) (old new : List (Place DeskState)) : Type 0 where
+pub record NotOpened (n : ℕ) (c : PtConfig) (code : ℕ) (old new : List (HandlePlace DeskState)) : Type 0 where
   pub error : OpenError
   pub why : OpenRefused (config_in n c) error
   pub code_is : code ≡ open_code error
@@ -59,7 +59,7 @@ abbrev pub IfNone : {S : Type 0} → List S → Type 0 → Type 0 → Type 0
 IfNone [] P Q = P
 IfNone (s ∷ values) P Q = Q
 
-abbrev pub OpensAs : PtConfig → ℕ → List (Place DeskState) → List (Place DeskState) → Type 0
+abbrev pub OpensAs : PtConfig → ℕ → List (HandlePlace DeskState) → List (HandlePlace DeskState) → Type 0
 OpensAs c code old new =
     IfNone (values old) (Opened (length old) c code new ⊎ NotOpened (length old) c code old new)
     ((code ≡ filled) × (new ≡ old))
@@ -67,7 +67,7 @@ OpensAs c code old new =
 -- gathering ----------------------------------------------------------------------------
 
 -- there is a handle, and each has a desk
-abbrev pub AreAllFull : List (Place DeskState) → Type 0
+abbrev pub AreAllFull : List (HandlePlace DeskState) → Type 0
 AreAllFull places = (0 < length places) × (length (values places) ≡ length places)
 
 -- what holds of a node that was gathered of these desks
@@ -81,8 +81,8 @@ pub record IsGatheredOf (desks : List DeskState) (g : GatheredState) : Type 0 wh
   pub reads : ReadsAreTrue desks g
 
 -- the handles of the desks are empty, and out has the node
-pub record Joined (code : ℕ) (desks : List DeskState) (new : List (Place DeskState))
-    (out : Place GatheredState) : Type 0 where
+pub record Joined (code : ℕ) (desks : List DeskState) (new : List (HandlePlace DeskState))
+    (out : HandlePlace GatheredState) : Type 0 where
   pub done : code ≡ 0
   pub node : GatheredState
   pub is_of : IsGatheredOf desks node
@@ -90,26 +90,26 @@ pub record Joined (code : ℕ) (desks : List DeskState) (new : List (Place DeskS
   pub out_is : out ≡ full node
 
 -- there was no memory: the handles have all desks, as they were
-pub record NotJoined (code : ℕ) (desks : List DeskState) (new : List (Place DeskState))
-    (before after : Place GatheredState) : Type 0 where
+pub record NotJoined (code : ℕ) (desks : List DeskState) (new : List (HandlePlace DeskState))
+    (before after : HandlePlace GatheredState) : Type 0 where
   pub no_memory : code ≡ 2
   pub back : List DeskState
   pub kept : map desk_kept back ≡ map desk_kept desks
   pub are : new ≡ map full back
   pub out_same : after ≡ before
 
-abbrev pub Joins : ℕ → List DeskState → List (Place DeskState) → Place GatheredState → Place GatheredState → Type 0
+abbrev pub Joins : ℕ → List DeskState → List (HandlePlace DeskState) → HandlePlace GatheredState → HandlePlace GatheredState → Type 0
 Joins code desks new before after = Joined code desks new after ⊎ NotJoined code desks new before after
 
 -- a code, and nothing has changed
 abbrev pub Refused : ℕ → ℕ → {A B : Type 0} → A → A → B → B → Type 0
 Refused is code old new before after = (code ≡ is) × (new ≡ old) × (after ≡ before)
 
-abbrev pub IfEmpty : {S : Type 0} → Place S → Type 0 → Type 0 → Type 0
+abbrev pub IfEmpty : {S : Type 0} → HandlePlace S → Type 0 → Type 0 → Type 0
 IfEmpty (Some (Some s)) P Q = Q
 IfEmpty _ P Q = P
 
-pub record GathersAs (code : ℕ) (old new : List (Place DeskState)) (before after : Place GatheredState) : Type 0 where
+pub record GathersAs (code : ℕ) (old new : List (HandlePlace DeskState)) (before after : HandlePlace GatheredState) : Type 0 where
   pub all_full : AreAllFull old
       → IfEmpty before (Joins code (values old) new before after) (Refused filled code old new before after)
   pub not_all : ¬ AreAllFull old → Refused empty code old new before after
@@ -128,7 +128,7 @@ pub record IsSettledOf (g : GatheredState) (q : QuietState) : Type 0 where
   pub answers : AnswersHold q.gathered
   pub questions : QuestionsAnswered q.gathered
 
-pub record Settled (code : ℕ) (g : GatheredState) (new : Place GatheredState) (out : Place QuietState) : Type 0 where
+pub record Settled (code : ℕ) (g : GatheredState) (new : HandlePlace GatheredState) (out : HandlePlace QuietState) : Type 0 where
   pub done : code ≡ 0
   pub emptied : new ≡ None
   pub node : QuietState
@@ -136,8 +136,8 @@ pub record Settled (code : ℕ) (g : GatheredState) (new : Place GatheredState) 
   pub out_is : out ≡ full node
 
 -- a receipt was refused, or there was no memory after the last one: the handle has the node with what was handled
-pub record NotSettled (code : ℕ) (g : GatheredState) (new : Place GatheredState)
-    (before after : Place QuietState) : Type 0 where
+pub record NotSettled (code : ℕ) (g : GatheredState) (new : HandlePlace GatheredState)
+    (before after : HandlePlace QuietState) : Type 0 where
   pub fault : Stop
   pub code_is : code ≡ stop_code (Some fault)
   pub node : GatheredState
@@ -152,14 +152,14 @@ pub record NotSettled (code : ℕ) (g : GatheredState) (new : Place GatheredStat
   pub out_same : after ≡ before
 
 -- there was no memory for what settling leaves, before anything was handled
-abbrev pub NotBegun : ℕ → GatheredState → Place GatheredState → Place QuietState → Place QuietState → Type 0
+abbrev pub NotBegun : ℕ → GatheredState → HandlePlace GatheredState → HandlePlace QuietState → HandlePlace QuietState → Type 0
 NotBegun code g new before after = (code ≡ 2) × (new ≡ full g) × (after ≡ before)
 
-abbrev pub SettlesOne : ℕ → GatheredState → Place GatheredState → Place QuietState → Place QuietState → Type 0
+abbrev pub SettlesOne : ℕ → GatheredState → HandlePlace GatheredState → HandlePlace QuietState → HandlePlace QuietState → Type 0
 SettlesOne code g new before after =
     Settled code g new after ⊎ NotSettled code g new before after ⊎ NotBegun code g new before after
 
-abbrev pub SettlesAs : ℕ → Place GatheredState → Place GatheredState → Place QuietState → Place QuietState → Type 0
+abbrev pub SettlesAs : ℕ → HandlePlace GatheredState → HandlePlace GatheredState → HandlePlace QuietState → HandlePlace QuietState → Type 0
 SettlesAs code (Some (Some g)) new before after =
     IfEmpty before (SettlesOne code g new before after) (Refused filled code (full g) new before after)
 SettlesAs code old new before after = Refused empty code old new before after
@@ -167,7 +167,7 @@ SettlesAs code old new before after = Refused empty code old new before after
 -- going on -----------------------------------------------------------------------------
 
 -- each handle has its desk, and that of the settled node is empty
-pub record Resumed (q : QuietState) (code : ℕ) (new : List (Place DeskState)) (node : Place QuietState) : Type 0 where
+pub record Resumed (q : QuietState) (code : ℕ) (new : List (HandlePlace DeskState)) (node : HandlePlace QuietState) : Type 0 where
   pub done : code ≡ 0
   pub desks : List DeskState
   pub goes_on : Resumes q.gathered desks
@@ -175,17 +175,17 @@ pub record Resumed (q : QuietState) (code : ℕ) (new : List (Place DeskState)) 
   pub emptied : node ≡ None
 
 -- or there was no memory, and all handles are as they were
-abbrev pub NotResumed : QuietState → ℕ → List (Place DeskState) → List (Place DeskState) → Place QuietState → Type 0
+abbrev pub NotResumed : QuietState → ℕ → List (HandlePlace DeskState) → List (HandlePlace DeskState) → HandlePlace QuietState → Type 0
 NotResumed q code old new node = (code ≡ 2) × (new ≡ old) × (node ≡ full q)
 
 -- where there are as many handles as the node has desks; else the code says so
-pub record ResumesMany (q : QuietState) (code : ℕ) (old new : List (Place DeskState))
-    (node : Place QuietState) : Type 0 where
+pub record ResumesMany (q : QuietState) (code : ℕ) (old new : List (HandlePlace DeskState))
+    (node : HandlePlace QuietState) : Type 0 where
   pub as_many : length old ≡ length q.gathered.shards → Resumed q code new node ⊎ NotResumed q code old new node
   pub not_as_many : length old ≢ length q.gathered.shards
       → Refused (open_code (Bounds Desks)) code old new (full q) node
 
-abbrev pub ResumesAs : ℕ → Place QuietState → Place QuietState → List (Place DeskState) → List (Place DeskState)
+abbrev pub ResumesAs : ℕ → HandlePlace QuietState → HandlePlace QuietState → List (HandlePlace DeskState) → List (HandlePlace DeskState)
     → Type 0
 ResumesAs code (Some (Some q)) node old new =
     IfNone (values old) (ResumesMany q code old new node) (Refused filled code old new (full q) node)
@@ -194,8 +194,8 @@ ResumesAs code before after old new = Refused empty code old new before after
 -- giving up ----------------------------------------------------------------------------
 
 -- the handle is empty; the code says whether it was before
-abbrev pub GivesUp : {S : Type 0} → ℕ → Place S → Place S → Type 0
-GivesUp code old new = (code ≡ cond (is_some (value_in old)) 0 empty) × (new ≡ None)
+abbrev pub GivesUp : {S : Type 0} → ℕ → HandlePlace S → HandlePlace S → Type 0
+GivesUp code old new = (code ≡ cond (is_some (value_behind old)) 0 empty) × (new ≡ None)
 
 -- histories ----------------------------------------------------------------------------
 
@@ -213,12 +213,12 @@ pub record IsQuietHistoryOf (q : QuietState) (h : HistoryState) : Type 0 where
   pub left : h.left ≡ []
 
 -- out gets a history of which P holds; or there was no memory, or out had one already
-abbrev pub Writes : ℕ → (HistoryState → Type 0) → Place HistoryState → Place HistoryState → Type 0
+abbrev pub Writes : ℕ → (HistoryState → Type 0) → HandlePlace HistoryState → HandlePlace HistoryState → Type 0
 Writes code P before after =
     IfEmpty before (((code ≡ 0) × (h : HistoryState) × P h × (after ≡ full h)) ⊎ ((code ≡ 2) × (after ≡ before)))
     ((code ≡ filled) × (after ≡ before))
 
-abbrev pub Tells : {S : Type 0} → ℕ → Option S → (S → HistoryState → Type 0) → Place HistoryState → Place HistoryState
+abbrev pub HandleTells : {S : Type 0} → ℕ → Option S → (S → HistoryState → Type 0) → HandlePlace HistoryState → HandlePlace HistoryState
     → Type 0
-Tells code (Some s) P before after = Writes code (P s) before after
-Tells code None P before after = (code ≡ empty) × (after ≡ before)
+HandleTells code (Some s) P before after = Writes code (P s) before after
+HandleTells code None P before after = (code ≡ empty) × (after ≡ before)

@@ -3,9 +3,9 @@
 //! Each is the desk's call of that name, made on the desk that the handle has. 9 is answered where it has none.
 
 ghost use Rattle.std.specs.Prelude.{◌≡◌};
-ghost use Rattle.pt_table.specs.Answers.{Called, Spawns, SpawnsChild, Sends, SendsExit, Links, Unlinks, Watches, Unwatches};
-ghost use Rattle.pt_table.specs.Answers.{Asks, Traps, Takes, Exits, TurnsOnce};
-ghost use Rattle.pt_table.specs.Crossing.{pid_in, ref_in, reason_in, body_in, pick_in};
+ghost use Rattle.pt_table.specs.Answers.{CallsThrough, SpawnsOnDesk, SpawnsChild, SendsOnDesk, SendsExit, Links, Unlinks, WatchesOnDesk, UnwatchesOnDesk};
+ghost use Rattle.pt_table.specs.Answers.{AsksOnDesk, Traps, TakesOnDesk, Exits, TurnsOnce};
+ghost use Rattle.pt_table.specs.Crossing.{pid_crossed, ref_in, reason_in, body_in, pick_in};
 
 use pt_table::codes::{DONE, EMPTY};
 use pt_table::crossing::{body_in, pick_in, pid_in, reason_in, ref_in};
@@ -20,7 +20,7 @@ use std::alloc::Global;
 /// Makes a process that no other one bears, as `Desk::spawn` does. Its pid goes to `out` where 0 is answered.
 #[unsafe(no_mangle)]
 pub extern "C" fn pt_spawn(alloc: Global, h: &mut DeskHandle, out: &mut PtPid) -> u32
-    ensures { Called h.old.state h.new.state result (out.new ≡ out.old) (Spawns result out.old out.new) }
+    ensures { CallsThrough h.old.state h.new.state result (out.new ≡ out.old) (SpawnsOnDesk result out.old out.new) }
 {
     let Some(mut place) = claim(alloc, h) else {
         return EMPTY;
@@ -43,8 +43,8 @@ pub extern "C" fn pt_spawn_child(
     linked: bool,
     out: &mut PtPid,
 ) -> u32
-    ensures { Called h.old.state h.new.state result (out.new ≡ out.old)
-        (SpawnsChild (pid_in parent) linked result out.old out.new) }
+    ensures { CallsThrough h.old.state h.new.state result (out.new ≡ out.old)
+        (SpawnsChild (pid_crossed parent) linked result out.old out.new) }
 {
     let Some(mut place) = claim(alloc, h) else {
         return EMPTY;
@@ -66,7 +66,7 @@ pub extern "C" fn pt_send(
     to: PtPid,
     body: PtBody,
 ) -> u32
-    ensures { Called h.old.state h.new.state result (Unit {0}) (Sends (pid_in from) (pid_in to) (body_in body) result) }
+    ensures { CallsThrough h.old.state h.new.state result (Unit {0}) (SendsOnDesk (pid_crossed from) (pid_crossed to) (body_in body) result) }
 {
     let Some(mut place) = claim(alloc, h) else {
         return EMPTY;
@@ -88,8 +88,8 @@ pub extern "C" fn pt_exit_signal(
     to: PtPid,
     reason: PtReason,
 ) -> u32
-    ensures { Called h.old.state h.new.state result (Unit {0})
-        (SendsExit (pid_in from) (pid_in to) (reason_in reason) result) }
+    ensures { CallsThrough h.old.state h.new.state result (Unit {0})
+        (SendsExit (pid_crossed from) (pid_crossed to) (reason_in reason) result) }
 {
     let Some(mut place) = claim(alloc, h) else {
         return EMPTY;
@@ -105,7 +105,7 @@ pub extern "C" fn pt_exit_signal(
 /// Links p with another process, as `Desk::link` does.
 #[unsafe(no_mangle)]
 pub extern "C" fn pt_link(alloc: Global, h: &mut DeskHandle, p: PtPid, to: PtPid) -> u32
-    ensures { Called h.old.state h.new.state result (Unit {0}) (Links (pid_in p) (pid_in to) result) }
+    ensures { CallsThrough h.old.state h.new.state result (Unit {0}) (Links (pid_crossed p) (pid_crossed to) result) }
 {
     let Some(mut place) = claim(alloc, h) else {
         return EMPTY;
@@ -121,7 +121,7 @@ pub extern "C" fn pt_link(alloc: Global, h: &mut DeskHandle, p: PtPid, to: PtPid
 /// Takes the link of p with another process back, as `Desk::unlink` does.
 #[unsafe(no_mangle)]
 pub extern "C" fn pt_unlink(alloc: Global, h: &mut DeskHandle, p: PtPid, to: PtPid) -> u32
-    ensures { Called h.old.state h.new.state result (Unit {0}) (Unlinks (pid_in p) (pid_in to) result) }
+    ensures { CallsThrough h.old.state h.new.state result (Unit {0}) (Unlinks (pid_crossed p) (pid_crossed to) result) }
 {
     let Some(mut place) = claim(alloc, h) else {
         return EMPTY;
@@ -143,8 +143,8 @@ pub extern "C" fn pt_monitor(
     t: PtPid,
     out: &mut PtRef,
 ) -> u32
-    ensures { Called h.old.state h.new.state result (out.new ≡ out.old)
-        (Watches (pid_in w) (pid_in t) result out.old out.new) }
+    ensures { CallsThrough h.old.state h.new.state result (out.new ≡ out.old)
+        (WatchesOnDesk (pid_crossed w) (pid_crossed t) result out.old out.new) }
 {
     let Some(mut place) = claim(alloc, h) else {
         return EMPTY;
@@ -167,8 +167,8 @@ pub extern "C" fn pt_demonitor(
     flush: bool,
     wrote: &mut bool,
 ) -> u32
-    ensures { Called h.old.state h.new.state result (wrote.new ≡ wrote.old)
-        (Unwatches (pid_in w) (ref_in monitor) flush result wrote.old wrote.new) }
+    ensures { CallsThrough h.old.state h.new.state result (wrote.new ≡ wrote.old)
+        (UnwatchesOnDesk (pid_crossed w) (ref_in monitor) flush result wrote.old wrote.new) }
 {
     let Some(mut place) = claim(alloc, h) else {
         return EMPTY;
@@ -190,8 +190,8 @@ pub extern "C" fn pt_ask_alive(
     t: PtPid,
     out: &mut PtRef,
 ) -> u32
-    ensures { Called h.old.state h.new.state result (out.new ≡ out.old)
-        (Asks (pid_in p) (pid_in t) result out.old out.new) }
+    ensures { CallsThrough h.old.state h.new.state result (out.new ≡ out.old)
+        (AsksOnDesk (pid_crossed p) (pid_crossed t) result out.old out.new) }
 {
     let Some(mut place) = claim(alloc, h) else {
         return EMPTY;
@@ -213,7 +213,7 @@ pub extern "C" fn pt_trap(
     on: bool,
     was: &mut bool,
 ) -> u32
-    ensures { Called h.old.state h.new.state result (was.new ≡ was.old) (Traps (pid_in p) on result was.old was.new) }
+    ensures { CallsThrough h.old.state h.new.state result (was.new ≡ was.old) (Traps (pid_crossed p) on result was.old was.new) }
 {
     let Some(mut place) = claim(alloc, h) else {
         return EMPTY;
@@ -236,8 +236,8 @@ pub extern "C" fn pt_receive(
     pick: PtPick,
     out: &mut PtItem,
 ) -> u32
-    ensures { Called h.old.state h.new.state result (out.new ≡ out.old)
-        (Takes (pid_in p) (pick_in pick) result out.old out.new) }
+    ensures { CallsThrough h.old.state h.new.state result (out.new ≡ out.old)
+        (TakesOnDesk (pid_crossed p) (pick_in pick) result out.old out.new) }
 {
     let Some(mut place) = claim(alloc, h) else {
         return EMPTY;
@@ -253,7 +253,7 @@ pub extern "C" fn pt_receive(
 /// Ends p, as `Desk::exit` does.
 #[unsafe(no_mangle)]
 pub extern "C" fn pt_exit(alloc: Global, h: &mut DeskHandle, p: PtPid, reason: PtReason) -> u32
-    ensures { Called h.old.state h.new.state result (Unit {0}) (Exits (pid_in p) (reason_in reason) result) }
+    ensures { CallsThrough h.old.state h.new.state result (Unit {0}) (Exits (pid_crossed p) (reason_in reason) result) }
 {
     let Some(mut place) = claim(alloc, h) else {
         return EMPTY;
@@ -270,7 +270,7 @@ pub extern "C" fn pt_exit(alloc: Global, h: &mut DeskHandle, p: PtPid, reason: P
 /// answered, and then `stopped` says what stopped it.
 #[unsafe(no_mangle)]
 pub extern "C" fn pt_turn(alloc: Global, h: &mut DeskHandle, budget: u32, out: &mut PtTurned) -> u32
-    ensures { Called h.old.state h.new.state result (out.new ≡ out.old)
+    ensures { CallsThrough h.old.state h.new.state result (out.new ≡ out.old)
         (λ old new. (result ≡ 0) × TurnsOnce budget out.new old new) }
 {
     let Some(mut place) = claim(alloc, h) else {

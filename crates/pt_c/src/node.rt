@@ -3,8 +3,8 @@
 ghost use Rattle.std.specs.Prelude.{◌≡◌, ◌≤◌, [], map, length, IfOk, cond};
 ghost use Rattle.std.specs.Vec.{vec_capacity};
 ghost use Rattle.pt_node.specs.Desks.{AreDesks};
-ghost use Rattle.pt_table.specs.Answers.{value_in, values};
-ghost use Rattle.pt_c.specs.Nodes.{OpensAs, OpensMany, AreAllFull, GathersAs, Joins, SettlesAs, GivesUp, Tells, Writes};
+ghost use Rattle.pt_table.specs.Answers.{value_behind, values};
+ghost use Rattle.pt_c.specs.Nodes.{OpensAs, OpensMany, AreAllFull, GathersAs, Joins, SettlesAs, GivesUp, HandleTells, Writes};
 ghost use Rattle.pt_c.specs.Nodes.{IsHistoryOf, IsQuietHistoryOf};
 
 use pt_node::{Config, Desk, Gathered, OpenError, Quiet, Setting, abandon, gather, open};
@@ -226,7 +226,7 @@ pub extern "C" fn pt_gathered_history(
     g: &mut GatheredHandle,
     out: &mut HistoryHandle,
 ) -> u32
-    ensures tells { Tells result (value_in g.old.state) IsHistoryOf out.old.state out.new.state }
+    ensures tells { HandleTells result (value_behind g.old.state) IsHistoryOf out.old.state out.new.state }
     ensures same { g.new.state ≡ g.old.state }
 {
     let Some(place) = claim_gathered(alloc, g) else {
@@ -276,7 +276,7 @@ pub extern "C" fn pt_quiet_history(
     q: &mut QuietHandle,
     out: &mut HistoryHandle,
 ) -> u32
-    ensures tells { Tells result (value_in q.old.state) IsQuietHistoryOf out.old.state out.new.state }
+    ensures tells { HandleTells result (value_behind q.old.state) IsQuietHistoryOf out.old.state out.new.state }
     ensures same { q.new.state ≡ q.old.state }
 {
     let Some(place) = claim_quiet(alloc, q) else {

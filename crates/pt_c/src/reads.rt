@@ -5,11 +5,11 @@
 ghost use Rattle.std.specs.Prelude.{◌≡◌, length, reverse, slice_get};
 ghost use Rattle.pt_shard.specs.ShardState.{lives};
 ghost use Rattle.pt_shard.specs.Known.{knows};
-ghost use Rattle.pt_table.specs.Answers.{Read, Shows};
-ghost use Rattle.pt_table.specs.Reading.{event_of, item_of, linked_in, waits_in, pending_in, event_count_in};
+ghost use Rattle.pt_table.specs.Answers.{ReadsThrough, ShowsCode};
+ghost use Rattle.pt_table.specs.Reading.{event_numbered, item_numbered, linked_on_desk, waits_in, pending_in, event_count_in};
 ghost use Rattle.pt_table.specs.Waking.{Woken, NobodyIsMissed};
 ghost use Rattle.pt_table.specs.Reading.{TellsCount, TellsPid, TellsAccount, TellsLinked, TellsKept, TellsWatching};
-ghost use Rattle.pt_table.specs.Crossing.{pid_in, pid_out, ref_in, ids_out, item_out, event_out, left_out};
+ghost use Rattle.pt_table.specs.Crossing.{pid_crossed, pid_out, ref_in, ids_out, item_out, event_out, left_out};
 
 use pt_table::codes::{DONE, EMPTY};
 use pt_table::crossing::{pid_in, ref_in};
@@ -27,7 +27,7 @@ use std::alloc::Global;
 /// The stamp of the newest event, or the start of the clock.
 #[unsafe(no_mangle)]
 pub extern "C" fn pt_clock(alloc: Global, h: &mut DeskHandle, out: &mut u64) -> u32
-    ensures { Read h.old.state h.new.state result (out.new ≡ out.old) (λ d. (result ≡ 0) × (out.new ≡ d.shard.clock)) }
+    ensures { ReadsThrough h.old.state h.new.state result (out.new ≡ out.old) (λ d. (result ≡ 0) × (out.new ≡ d.shard.clock)) }
 {
     let Some(held) = claim_desk(alloc, h) else {
         return EMPTY;
@@ -46,7 +46,7 @@ pub extern "C" fn pt_clock(alloc: Global, h: &mut DeskHandle, out: &mut u64) -> 
 /// The number of the desk.
 #[unsafe(no_mangle)]
 pub extern "C" fn pt_number(alloc: Global, h: &mut DeskHandle, out: &mut u8) -> u32
-    ensures { Read h.old.state h.new.state result (out.new ≡ out.old) (λ d. (result ≡ 0) × (out.new ≡ d.shard.number)) }
+    ensures { ReadsThrough h.old.state h.new.state result (out.new ≡ out.old) (λ d. (result ≡ 0) × (out.new ≡ d.shard.number)) }
 {
     let Some(held) = claim_desk(alloc, h) else {
         return EMPTY;
@@ -65,8 +65,8 @@ pub extern "C" fn pt_number(alloc: Global, h: &mut DeskHandle, out: &mut u8) -> 
 /// Whether p lives on the desk.
 #[unsafe(no_mangle)]
 pub extern "C" fn pt_alive(alloc: Global, h: &mut DeskHandle, p: PtPid, out: &mut bool) -> u32
-    ensures { Read h.old.state h.new.state result (out.new ≡ out.old)
-        (λ d. (result ≡ 0) × (out.new ≡ lives d.shard (pid_in p))) }
+    ensures { ReadsThrough h.old.state h.new.state result (out.new ≡ out.old)
+        (λ d. (result ≡ 0) × (out.new ≡ lives d.shard (pid_crossed p))) }
 {
     let Some(held) = claim_desk(alloc, h) else {
         return EMPTY;
@@ -85,8 +85,8 @@ pub extern "C" fn pt_alive(alloc: Global, h: &mut DeskHandle, p: PtPid, out: &mu
 /// Whether p may be the target of a call: calls whose target it is not answer 7.
 #[unsafe(no_mangle)]
 pub extern "C" fn pt_knows(alloc: Global, h: &mut DeskHandle, p: PtPid, out: &mut bool) -> u32
-    ensures { Read h.old.state h.new.state result (out.new ≡ out.old)
-        (λ d. (result ≡ 0) × (out.new ≡ knows d.shard (pid_in p))) }
+    ensures { ReadsThrough h.old.state h.new.state result (out.new ≡ out.old)
+        (λ d. (result ≡ 0) × (out.new ≡ knows d.shard (pid_crossed p))) }
 {
     let Some(held) = claim_desk(alloc, h) else {
         return EMPTY;
@@ -105,7 +105,7 @@ pub extern "C" fn pt_knows(alloc: Global, h: &mut DeskHandle, p: PtPid, out: &mu
 /// How many letters wait in the outbox and the hold.
 #[unsafe(no_mangle)]
 pub extern "C" fn pt_pending(alloc: Global, h: &mut DeskHandle, out: &mut u64) -> u32
-    ensures { Read h.old.state h.new.state result (out.new ≡ out.old) (λ d. (result ≡ 0) × (out.new ≡ pending_in d)) }
+    ensures { ReadsThrough h.old.state h.new.state result (out.new ≡ out.old) (λ d. (result ≡ 0) × (out.new ≡ pending_in d)) }
 {
     let Some(held) = claim_desk(alloc, h) else {
         return EMPTY;
@@ -124,8 +124,8 @@ pub extern "C" fn pt_pending(alloc: Global, h: &mut DeskHandle, out: &mut u64) -
 /// The pid that the next birth has; 8 where no slot is free.
 #[unsafe(no_mangle)]
 pub extern "C" fn pt_vacant(alloc: Global, h: &mut DeskHandle, out: &mut PtPid) -> u32
-    ensures { Read h.old.state h.new.state result (out.new ≡ out.old)
-        (λ d. Shows result out.old out.new pid_out d.shard.vacant) }
+    ensures { ReadsThrough h.old.state h.new.state result (out.new ≡ out.old)
+        (λ d. ShowsCode result out.old out.new pid_out d.shard.vacant) }
 {
     let Some(held) = claim_desk(alloc, h) else {
         return EMPTY;
@@ -141,8 +141,8 @@ pub extern "C" fn pt_vacant(alloc: Global, h: &mut DeskHandle, out: &mut PtPid) 
 /// How many items wait in the mailbox of p; 8 where it does not live on the desk.
 #[unsafe(no_mangle)]
 pub extern "C" fn pt_waiting(alloc: Global, h: &mut DeskHandle, p: PtPid, out: &mut usize) -> u32
-    ensures { Read h.old.state h.new.state result (out.new ≡ out.old)
-        (λ d. Shows result out.old out.new length (waits_in d (pid_in p))) }
+    ensures { ReadsThrough h.old.state h.new.state result (out.new ≡ out.old)
+        (λ d. ShowsCode result out.old out.new length (waits_in d (pid_crossed p))) }
 {
     let Some(held) = claim_desk(alloc, h) else {
         return EMPTY;
@@ -164,8 +164,8 @@ pub extern "C" fn pt_peek(
     place: usize,
     out: &mut PtItem,
 ) -> u32
-    ensures { Read h.old.state h.new.state result (out.new ≡ out.old)
-        (λ d. Shows result out.old out.new item_out (item_of (waits_in d (pid_in p)) place)) }
+    ensures { ReadsThrough h.old.state h.new.state result (out.new ≡ out.old)
+        (λ d. ShowsCode result out.old out.new item_out (item_numbered (waits_in d (pid_crossed p)) place)) }
 {
     let Some(held) = claim_desk(alloc, h) else {
         return EMPTY;
@@ -187,8 +187,8 @@ pub extern "C" fn pt_linked(
     peer: PtPid,
     out: &mut PtIds,
 ) -> u32
-    ensures { Read h.old.state h.new.state result (out.new ≡ out.old)
-        (λ d. Shows result out.old out.new ids_out (linked_in d (pid_in p) (pid_in peer))) }
+    ensures { ReadsThrough h.old.state h.new.state result (out.new ≡ out.old)
+        (λ d. ShowsCode result out.old out.new ids_out (linked_on_desk d (pid_crossed p) (pid_crossed peer))) }
 {
     let Some(held) = claim_desk(alloc, h) else {
         return EMPTY;
@@ -204,7 +204,7 @@ pub extern "C" fn pt_linked(
 /// How many events the desk's journal has.
 #[unsafe(no_mangle)]
 pub extern "C" fn pt_event_count(alloc: Global, h: &mut DeskHandle, out: &mut usize) -> u32
-    ensures { Read h.old.state h.new.state result (out.new ≡ out.old)
+    ensures { ReadsThrough h.old.state h.new.state result (out.new ≡ out.old)
         (λ d. (result ≡ 0) × (out.new ≡ event_count_in d)) }
 {
     let Some(held) = claim_desk(alloc, h) else {
@@ -229,8 +229,8 @@ pub extern "C" fn pt_event_at(
     place: usize,
     out: &mut PtEvent,
 ) -> u32
-    ensures { Read h.old.state h.new.state result (out.new ≡ out.old)
-        (λ d. Shows result out.old out.new event_out (event_of d place)) }
+    ensures { ReadsThrough h.old.state h.new.state result (out.new ≡ out.old)
+        (λ d. ShowsCode result out.old out.new event_out (event_numbered d place)) }
 {
     let Some(held) = claim_desk(alloc, h) else {
         return EMPTY;
@@ -246,7 +246,7 @@ pub extern "C" fn pt_event_at(
 /// How many desks the node has.
 #[unsafe(no_mangle)]
 pub extern "C" fn pt_gathered_desks(alloc: Global, g: &mut GatheredHandle, out: &mut u8) -> u32
-    ensures { Read g.old.state g.new.state result (out.new ≡ out.old)
+    ensures { ReadsThrough g.old.state g.new.state result (out.new ≡ out.old)
         (λ d. (result ≡ 0) × (out.new ≡ length d.shards)) }
 {
     let Some(held) = claim_gathered(alloc, g) else {
@@ -266,7 +266,7 @@ pub extern "C" fn pt_gathered_desks(alloc: Global, g: &mut GatheredHandle, out: 
 /// How many desks the settled node has.
 #[unsafe(no_mangle)]
 pub extern "C" fn pt_quiet_desks(alloc: Global, q: &mut QuietHandle, out: &mut u8) -> u32
-    ensures { Read q.old.state q.new.state result (out.new ≡ out.old)
+    ensures { ReadsThrough q.old.state q.new.state result (out.new ≡ out.old)
         (λ d. (result ≡ 0) × (out.new ≡ length d.gathered.shards)) }
 {
     let Some(held) = claim_quiet(alloc, q) else {
@@ -286,7 +286,7 @@ pub extern "C" fn pt_quiet_desks(alloc: Global, q: &mut QuietHandle, out: &mut u
 /// How many letters settling handled.
 #[unsafe(no_mangle)]
 pub extern "C" fn pt_quiet_handled(alloc: Global, q: &mut QuietHandle, out: &mut u64) -> u32
-    ensures { Read q.old.state q.new.state result (out.new ≡ out.old) (λ d. (result ≡ 0) × (out.new ≡ d.handled)) }
+    ensures { ReadsThrough q.old.state q.new.state result (out.new ≡ out.old) (λ d. (result ≡ 0) × (out.new ≡ d.handled)) }
 {
     let Some(held) = claim_quiet(alloc, q) else {
         return EMPTY;
@@ -305,7 +305,7 @@ pub extern "C" fn pt_quiet_handled(alloc: Global, q: &mut QuietHandle, out: &mut
 /// How many processes were ever born.
 #[unsafe(no_mangle)]
 pub extern "C" fn pt_quiet_pid_count(alloc: Global, q: &mut QuietHandle, out: &mut usize) -> u32
-    ensures { Read q.old.state q.new.state result (out.new ≡ out.old) (λ d. TellsCount d result out.new) }
+    ensures { ReadsThrough q.old.state q.new.state result (out.new ≡ out.old) (λ d. TellsCount d result out.new) }
 {
     let Some(held) = claim_quiet(alloc, q) else {
         return EMPTY;
@@ -326,7 +326,7 @@ pub extern "C" fn pt_quiet_pid_at(
     place: usize,
     out: &mut PtPid,
 ) -> u32
-    ensures { Read q.old.state q.new.state result (out.new ≡ out.old) (λ d. TellsPid d place result out.old out.new) }
+    ensures { ReadsThrough q.old.state q.new.state result (out.new ≡ out.old) (λ d. TellsPid d place result out.old out.new) }
 {
     let Some(held) = claim_quiet(alloc, q) else {
         return EMPTY;
@@ -347,8 +347,8 @@ pub extern "C" fn pt_quiet_account(
     p: PtPid,
     out: &mut PtAccount,
 ) -> u32
-    ensures { Read q.old.state q.new.state result (out.new ≡ out.old)
-        (λ d. TellsAccount d (pid_in p) result out.old out.new) }
+    ensures { ReadsThrough q.old.state q.new.state result (out.new ≡ out.old)
+        (λ d. TellsAccount d (pid_crossed p) result out.old out.new) }
 {
     let Some(held) = claim_quiet(alloc, q) else {
         return EMPTY;
@@ -370,8 +370,8 @@ pub extern "C" fn pt_quiet_linked(
     peer: PtPid,
     out: &mut PtIds,
 ) -> u32
-    ensures { Read q.old.state q.new.state result (out.new ≡ out.old)
-        (λ d. TellsLinked d (pid_in p) (pid_in peer) result out.old out.new) }
+    ensures { ReadsThrough q.old.state q.new.state result (out.new ≡ out.old)
+        (λ d. TellsLinked d (pid_crossed p) (pid_crossed peer) result out.old out.new) }
 {
     let Some(held) = claim_quiet(alloc, q) else {
         return EMPTY;
@@ -393,8 +393,8 @@ pub extern "C" fn pt_quiet_kept(
     monitor: PtRef,
     out: &mut bool,
 ) -> u32
-    ensures { Read q.old.state q.new.state result (out.new ≡ out.old)
-        (λ d. TellsKept d (pid_in target) (ref_in monitor) result out.new) }
+    ensures { ReadsThrough q.old.state q.new.state result (out.new ≡ out.old)
+        (λ d. TellsKept d (pid_crossed target) (ref_in monitor) result out.new) }
 {
     let Some(held) = claim_quiet(alloc, q) else {
         return EMPTY;
@@ -416,8 +416,8 @@ pub extern "C" fn pt_quiet_watching(
     monitor: PtRef,
     out: &mut bool,
 ) -> u32
-    ensures { Read q.old.state q.new.state result (out.new ≡ out.old)
-        (λ d. TellsWatching d (pid_in watcher) (ref_in monitor) result out.new) }
+    ensures { ReadsThrough q.old.state q.new.state result (out.new ≡ out.old)
+        (λ d. TellsWatching d (pid_crossed watcher) (ref_in monitor) result out.new) }
 {
     let Some(held) = claim_quiet(alloc, q) else {
         return EMPTY;
@@ -433,7 +433,7 @@ pub extern "C" fn pt_quiet_watching(
 /// How many events the history has.
 #[unsafe(no_mangle)]
 pub extern "C" fn pt_history_count(alloc: Global, h: &mut HistoryHandle, out: &mut usize) -> u32
-    ensures { Read h.old.state h.new.state result (out.new ≡ out.old)
+    ensures { ReadsThrough h.old.state h.new.state result (out.new ≡ out.old)
         (λ d. (result ≡ 0) × (out.new ≡ length d.events)) }
 {
     let Some(held) = claim_history(alloc, h) else {
@@ -458,8 +458,8 @@ pub extern "C" fn pt_history_at(
     place: usize,
     out: &mut PtEvent,
 ) -> u32
-    ensures { Read h.old.state h.new.state result (out.new ≡ out.old)
-        (λ d. Shows result out.old out.new event_out (slice_get d.events place)) }
+    ensures { ReadsThrough h.old.state h.new.state result (out.new ≡ out.old)
+        (λ d. ShowsCode result out.old out.new event_out (slice_get d.events place)) }
 {
     let Some(held) = claim_history(alloc, h) else {
         return EMPTY;
@@ -479,7 +479,7 @@ pub extern "C" fn pt_history_left_count(
     h: &mut HistoryHandle,
     out: &mut usize,
 ) -> u32
-    ensures { Read h.old.state h.new.state result (out.new ≡ out.old) (λ d. (result ≡ 0) × (out.new ≡ length d.left)) }
+    ensures { ReadsThrough h.old.state h.new.state result (out.new ≡ out.old) (λ d. (result ≡ 0) × (out.new ≡ length d.left)) }
 {
     let Some(held) = claim_history(alloc, h) else {
         return EMPTY;
@@ -503,8 +503,8 @@ pub extern "C" fn pt_history_left_at(
     place: usize,
     out: &mut PtLeftOver,
 ) -> u32
-    ensures { Read h.old.state h.new.state result (out.new ≡ out.old)
-        (λ d. Shows result out.old out.new left_out (slice_get d.left place)) }
+    ensures { ReadsThrough h.old.state h.new.state result (out.new ≡ out.old)
+        (λ d. ShowsCode result out.old out.new left_out (slice_get d.left place)) }
 {
     let Some(held) = claim_history(alloc, h) else {
         return EMPTY;
@@ -533,7 +533,7 @@ pub extern "C" fn pt_next_woken(
     out: &mut PtPid,
 ) -> u32
     ensures all { NobodyIsMissed }
-    ensures next { Read h.old.state h.new.state result ((at.new ≡ at.old) × (out.new ≡ out.old))
+    ensures next { ReadsThrough h.old.state h.new.state result ((at.new ≡ at.old) × (out.new ≡ out.old))
         (λ d. Woken result at.old at.new out.old out.new (reverse d.shard.journal)) }
 {
     let Some(held) = claim_desk(alloc, h) else {

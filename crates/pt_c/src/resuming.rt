@@ -2,7 +2,7 @@
 
 ghost use Rattle.std.specs.Prelude.{◌≡◌, length, map};
 ghost use Rattle.std.specs.Option.{option_map};
-ghost use Rattle.pt_table.specs.Answers.{value_in};
+ghost use Rattle.pt_table.specs.Answers.{value_behind};
 ghost use Rattle.pt_c.specs.Nodes.{ResumesAs};
 
 use pt_node::{OpenError, Setting, resume};
@@ -50,7 +50,7 @@ pub extern "C" fn pt_resume(alloc: Global, q: &mut QuietHandle, desks: &mut [Des
 /// How many desks the settled node has, where there is one.
 fn desk_count(alloc: Global, q: &mut QuietHandle) -> Option<usize>
     ensures same { q.new.state ≡ q.old.state }
-    ensures count { result ≡ option_map (λ d. length d.gathered.shards) (value_in q.old.state) }
+    ensures count { result ≡ option_map (λ d. length d.gathered.shards) (value_behind q.old.state) }
 {
     let place = claim(alloc, q)?;
     let count = match &place.quiet {

@@ -42,8 +42,8 @@ abbrev pub answer : Request → ℕ → Body
 answer r n = record { kind = n; num = r.number; who = Some r.from }
 
 -- the calls of a crew: a message, a monitor, and a monitor that is given up
-abbrev pub Tells : Pid → Pid → Body → DeskState → Result (Unit {0}) Fault → DeskState → Type 0
-Tells me to body old result new =
+abbrev pub TellsServer : Pid → Pid → Body → DeskState → Result (Unit {0}) Fault → DeskState → Type 0
+TellsServer me to body old result new =
     IfKnown (knows old.shard to)
     (Reaches (lives old.shard me) me to
     (Calls me (Some (Said me to (Signal.Message body))) (tt {0}) old.shard result new.shard) old result new) old result
@@ -73,7 +73,7 @@ pub record IsUnsent (me server : Pid) (asks : ℕ) (old : DeskState) (f : Fault)
   pub watches : Watches me server old (Ok monitor) watching
   pub untold : DeskState
   pub told : Result (Unit {0}) Fault
-  pub tells : Tells me server (request_message me monitor asks) watching told untold
+  pub tells : TellsServer me server (request_message me monitor asks) watching told untold
   pub refused : refusal told ≡ Some f
   pub given_up : Result Bool Fault
   pub gives_up : Unwatches me monitor untold given_up new
@@ -83,7 +83,7 @@ pub record IsMade (me server : Pid) (asks : ℕ) (old : DeskState) (p : Pending)
   pub watching : DeskState
   pub watches : Watches me server old (Ok p.monitor) watching
   pub told : Result (Unit {0}) Fault
-  pub tells : Tells me server (request_message me p.monitor asks) watching told new
+  pub tells : TellsServer me server (request_message me p.monitor asks) watching told new
   pub asked : refusal told ≡ None
   pub pending : p ≡ record {
     client = me;

@@ -15,14 +15,14 @@ use Rattle.pt_calls.specs.declared.pending.Heard.{Heard}
 use Rattle.pt_calls.specs.Asking.{speaks_of, Unwatches}
 
 -- the message is an answer of the server, under the number of the call
-abbrev pub is_answer : Pending → Pid → Body → Bool
-is_answer p from body = same_pid from p.server && speaks_of body p.client && int_eq body.num p.number
+abbrev pub is_answer_to_call : Pending → Pid → Body → Bool
+is_answer_to_call p from body = same_pid from p.server && speaks_of body p.client && int_eq body.num p.number
 
 -- what the item says to the call while it is open: its answer, or the end of its server
-abbrev pub says : Pending → Item → Option Heard
-says p (User from body) = cond (is_answer p from body) (Some (Heard.Answer body.kind)) None
-says p (Down m q reason) = cond (same_ref m p.monitor) (Some (Heard.Down reason)) None
-says p _ = None
+abbrev pub says_to_call : Pending → Item → Option Heard
+says_to_call p (User from body) = cond (is_answer_to_call p from body) (Some (Heard.Answer body.kind)) None
+says_to_call p (Down m q reason) = cond (same_ref m p.monitor) (Some (Heard.Down reason)) None
+says_to_call p _ = None
 
 -- one that has ended does not end again
 abbrev pub heard_as : Bool → Option Heard → Heard
@@ -30,16 +30,16 @@ heard_as waits None = Heard.NotMine
 heard_as true (Some said) = said
 heard_as false (Some said) = Heard.Late
 
-abbrev pub heard : Pending → Item → Heard
-heard p item = heard_as p.waits (says p item)
+abbrev pub heard_by_call : Pending → Item → Heard
+heard_by_call p item = heard_as p.waits (says_to_call p item)
 
-abbrev pub after : Pending → Item → Pending
-after p item = record p { waits = p.waits && not (is_some (says p item)) }
+abbrev pub after_item : Pending → Item → Pending
+after_item p item = record p { waits = p.waits && not (is_some (says_to_call p item)) }
 
 -- as it ends its monitor is given up, if that is not refused; else nothing is done
 abbrev pub Closes : Pending → Item → DeskState → DeskState → Type 0
 Closes p item old new =
-    MatchBool (p.waits && is_some (says p item))
+    MatchBool (p.waits && is_some (says_to_call p item))
     ((result : Result Bool Fault) × Unwatches p.client p.monitor old result new) (new ≡ old)
 
 -- the call has ended by what was heard
@@ -50,15 +50,15 @@ is_end Heard.Late = false
 is_end Heard.NotMine = false
 
 -- how often a call ends, of items that it hears in this order
-abbrev pub ends : Pending → List Item → ℕ
-ends p [] = 0
-ends p (i ∷ items) = cond (is_end (heard p i)) 1 0 + ends (after p i) items
+abbrev pub ends_among : Pending → List Item → ℕ
+ends_among p [] = 0
+ends_among p (i ∷ items) = cond (is_end (heard_by_call p i)) 1 0 + ends_among (after_item p i) items
 
 -- the item is its answer, or the end of its server
 abbrev pub is_its : Pending → Item → Bool
-is_its p item = is_some (says p item)
+is_its p item = is_some (says_to_call p item)
 
 -- Whatever items come, an open call ends once where one of them is its answer or the end of its server, and else not;
 -- and one that has ended does not end again. So never by both.
 abbrev pub EndsOnce : Type 0
-EndsOnce = (p : Pending) (items : List Item) → ends p items ≡ cond (p.waits && list_any (is_its p) items) 1 0
+EndsOnce = (p : Pending) (items : List Item) → ends_among p items ≡ cond (p.waits && list_any (is_its p) items) 1 0

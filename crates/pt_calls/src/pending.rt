@@ -4,7 +4,7 @@ ghost use Rattle.std.specs.Prelude.{◌≡◌, ◌<◌, ◌^◌, pos};
 ghost use Rattle.pt_desk.specs.DeskState.{GoesOn};
 ghost use Rattle.pt_crew.specs.Visiting.{takes};
 ghost use Rattle.pt_calls.specs.Asking.{Asks, refusal};
-ghost use Rattle.pt_calls.specs.Ending.{Closes, EndsOnce, after, heard, is_answer, says};
+ghost use Rattle.pt_calls.specs.Ending.{Closes, EndsOnce, after_item, heard_by_call, is_answer_to_call, says_to_call};
 
 use crate::request::speaks_of;
 use pt_crew::{tell, unwatch, watch};
@@ -81,8 +81,8 @@ impl Pending {
     /// Once it has ended it never ends again: what else comes of it is `Late`. As it ends its monitor is given up; a
     /// refusal of that, for want of memory or stamps, is passed over, since a `DOWN` that comes then is `Late`.
     pub fn hear(&mut self, desk: &mut Desk, item: Item) -> Heard
-        ensures heard { result ≡ heard self.old item }
-        ensures after { self.new ≡ after self.old item }
+        ensures heard { result ≡ heard_by_call self.old item }
+        ensures after { self.new ≡ after_item self.old item }
         ensures closes { Closes self.old item desk.old desk.new }
         ensures takes { takes desk.new.shard.journal ≡ takes desk.old.shard.journal }
         ensures goes_on { GoesOn desk.old desk.new }
@@ -100,7 +100,7 @@ impl Pending {
 
     /// What the item says to this call, while it is open.
     fn says(&self, item: Item) -> Option<Heard>
-        ensures { result ≡ says self.now item }
+        ensures { result ≡ says_to_call self.now item }
     {
         match item {
             Item::User(from, body) => self
@@ -115,7 +115,7 @@ impl Pending {
 
     /// Whether the message is an answer of its server, under its number.
     fn is_answer(&self, from: Pid, body: Body) -> bool
-        ensures { result ≡ is_answer self.now from body }
+        ensures { result ≡ is_answer_to_call self.now from body }
     {
         from == self.server && speaks_of(body, self.client) && body.num == self.number
     }

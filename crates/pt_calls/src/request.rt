@@ -3,7 +3,7 @@
 ghost use Rattle.std.specs.Prelude.{◌≡◌};
 ghost use Rattle.pt_desk.specs.DeskState.{GoesOn};
 ghost use Rattle.pt_crew.specs.Visiting.{takes};
-ghost use Rattle.pt_calls.specs.Asking.{Tells, answer, request_of, speaks_of};
+ghost use Rattle.pt_calls.specs.Asking.{TellsServer, answer, request_of, speaks_of};
 
 use pt_crew::tell;
 use pt_node::{Body, Desk, Fault, Item, Pid};
@@ -50,7 +50,7 @@ pub(crate) fn speaks_of(body: Body, pid: Pid) -> bool
 /// It is refused as [`tell`] is, and the client has no answer then. Where the client has ended, that is `NoProc` or
 /// nothing, and either way there is nothing left to do.
 pub fn reply(desk: &mut Desk, me: Pid, request: Request, n: u32) -> Result<(), Fault>
-    ensures does { Tells me request.from (answer request n) desk.old result desk.new }
+    ensures does { TellsServer me request.from (answer request n) desk.old result desk.new }
     ensures takes { takes desk.new.shard.journal ≡ takes desk.old.shard.journal }
     ensures goes_on { GoesOn desk.old desk.new }
 {

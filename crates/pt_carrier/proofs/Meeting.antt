@@ -6,7 +6,7 @@ use Rattle.pt_signal.specs.declared.letter.Letter.{Letter}
 use Rattle.pt_carrier.specs.Lanes.{Sending, Receiving}
 use Rattle.pt_carrier.specs.Ends.{Place, OutEnds, InEnds, out_ends, in_ends, GoOutFrom, ComeInTo}
 use Rattle.pt_carrier.specs.Node.{places, IsNode, kept, entry}
-use Rattle.pt_carrier.specs.Meeting.{Meets, IsWhole, out_kept, in_kept}
+use Rattle.pt_carrier.specs.Meeting.{Meets, LaneIsWhole, out_kept, in_kept}
 use Rattle.pt_carrier.specs.Reunion.{MeetAt, WholeAt}
 use Rattle.pt_carrier.proofs.Places.{out_number, in_number, out_lanes, in_lanes, kept_posted, kept_collected}
 use Rattle.pt_carrier.proofs.Lists.{map-set_same, get_or-map_read, get_or-map_set_same, get_or-map_set_other}
@@ -40,7 +40,7 @@ module _ (a b cursor : ℕ) (xs : List Sending) (ys : List Receiving) (out : GoO
       pub ins_kept : in_kept (in_ends b cursor (set ys a w)) ≡ in_kept (in_ends b cursor ys)
       ins_kept = λ i. (record { number = b; rings = map-set_same (λ (s : Receiving). s.ring) ys a y w ys_within y_is w_ring i }, cursor, map-set_same (λ (s : Receiving). s.collected) ys a y w ys_within y_is w_collected i)
 
-      pub is_whole : IsWhole (out_ends a (set xs b v)) (in_ends b cursor (set ys a w))
+      pub is_whole : LaneIsWhole (out_ends a (set xs b v)) (in_ends b cursor (set ys a w))
       is_whole =
           get_or-map_set_same (λ (s : Sending). s.posted) xs b v [] xs_within
           ∙ whole
@@ -71,7 +71,7 @@ module _ (pairs : List (OutEnds × InEnds)) (d e : ℕ) (p q : OutEnds × InEnds
     (p_is : p ≡ get_or pairs d p) (q_is : q ≡ get_or (set pairs d (o, p.1)) e q)
     (p_number : p.0.place.number ≡ d) (q_number : q.1.place.number ≡ e)
     (outs : out_kept o ≡ out_kept p.0) (ins : in_kept i ≡ in_kept q.1)
-    (others : (k : ℕ) → k ≢ p.0.place.number → get_or i.known k [] ≡ get_or q.1.known k []) (whole : IsWhole o i) where
+    (others : (k : ℕ) → k ≢ p.0.place.number → get_or i.known k [] ≡ get_or q.1.known k []) (whole : LaneIsWhole o i) where
   between : List (OutEnds × InEnds)
   between = set pairs d (o, p.1)
 

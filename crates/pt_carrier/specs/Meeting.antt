@@ -18,8 +18,8 @@ pub record Meets (o : OutEnds) (i : InEnds) : Type 0 where
   pub ring : (r : Ring) → slice_index_or o.place.rings i.place.number r ≡ slice_index_or i.place.rings o.place.number r
 
 -- all that was posted in that lane was collected or is known to wait
-abbrev pub IsWhole : OutEnds → InEnds → Type 0
-IsWhole o i =
+abbrev pub LaneIsWhole : OutEnds → InEnds → Type 0
+LaneIsWhole o i =
     slice_index_or o.posted i.place.number []
     ≡ slice_index_or i.collected o.place.number [] ++ slice_index_or i.known o.place.number []
 
@@ -29,6 +29,6 @@ pub record HaveMet (o : OutEnds) (i : InEnds) (o' : OutEnds) (i' : InEnds) : Typ
   pub ins : in_kept i' ≡ in_kept i
   pub known : (k : ℕ) → k ≢ o.place.number → slice_index_or i'.known k [] ≡ slice_index_or i.known k []
   pub seen : (k : ℕ) → k ≢ i.place.number → slice_index_or o'.seen k 0 ≡ slice_index_or o.seen k 0
-  pub whole : IsWhole o' i'
+  pub whole : LaneIsWhole o' i'
   pub collected : length (slice_index_or i'.collected o.place.number []) ≤ slice_index_or o'.seen i.place.number 0
   pub places : 0 < slice_index_or o'.capacity i.place.number 0

@@ -27,7 +27,7 @@ abbrev pub room_at : {A : Type 0} → List (Vec Letter A) → ℕ → List Lette
 room_at vs k = slice_index_or (map room_of vs) k ([], 0)
 
 -- the vector at k is empty and has room for these letters
-pub record HasRoom {A : Type 0} (known : List Letter) (vs : List (Vec Letter A)) (k : ℕ) : Type 0 where
+pub record VectorHasRoom {A : Type 0} (known : List Letter) (vs : List (Vec Letter A)) (k : ℕ) : Type 0 where
   pub within : k < length vs
   pub empty : (room_at vs k).0 ≡ []
   pub room : length known ≤ (room_at vs k).1

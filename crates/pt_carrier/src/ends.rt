@@ -11,7 +11,7 @@ ghost use Rattle.pt_carrier.specs.Ends.{IsFirstFromCursor, IsFront};
 ghost use Rattle.pt_carrier.specs.Lanes.{AllGo};
 ghost use Rattle.pt_carrier.specs.Node.{lists};
 ghost use Rattle.pt_carrier.specs.Meeting.{HaveMet, Meets};
-ghost use Rattle.pt_carrier.specs.Reunion.{HasRoom, room_at};
+ghost use Rattle.pt_carrier.specs.Reunion.{VectorHasRoom, room_at};
 
 use crate::lane::{InLane, OutLane};
 use pt_signal::Letter;
@@ -358,7 +358,7 @@ impl Ins {
     pub(crate) fn empty_into(self, left: &mut [Vec<Letter>])
         requires here { self.place.number < length self.place.rings }
         requires room { (d : ℕ) → d < length self.place.rings
-            → HasRoom (slice_index_or self.known d []) left.old (d * length self.place.rings + self.place.number) }
+            → VectorHasRoom (slice_index_or self.known d []) left.old (d * length self.place.rings + self.place.number) }
         ensures known { (d : ℕ) → d < length self.place.rings
             → slice_index_or (lists left.new) (d * length self.place.rings + self.place.number) []
             ≡ slice_index_or self.known d [] }

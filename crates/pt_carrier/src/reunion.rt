@@ -3,7 +3,7 @@
 ghost use Rattle.std.specs.Prelude.{◌≡◌, ℕ, ◌+◌, ◌*◌, ◌<◌, length, map, [], IfOk, IfErr, slice_index_or, vec_len};
 ghost use Rattle.pt_carrier.specs.Ends.{OutEnds, InEnds};
 ghost use Rattle.pt_carrier.specs.Node.{places, IsNode, lists, kept, AreLeft, entry};
-ghost use Rattle.pt_carrier.specs.Reunion.{MeetAt, WholeAt, HasRoom, all_known};
+ghost use Rattle.pt_carrier.specs.Reunion.{MeetAt, WholeAt, VectorHasRoom, all_known};
 
 use crate::ends::{Ins, Outs};
 use pt_signal::Letter;
@@ -136,7 +136,7 @@ fn make_room(alloc: Global, pairs: &[(Outs, Ins)]) -> Result<Vec<Vec<Letter>>, A
     ensures count { IfOk result (λ v. vec_len v ≡ length pairs.now * length pairs.now) }
     ensures room { IfOk result
         (λ v. (d e : ℕ) → d < length pairs.now → e < length pairs.now
-        → HasRoom (entry (all_known pairs.now) e d) v.items (d * length pairs.now + e)) }
+        → VectorHasRoom (entry (all_known pairs.now) e d) v.items (d * length pairs.now + e)) }
 {
     let mut lanes = Vec::new(alloc);
     for d in 0..pairs.len() {
@@ -151,7 +151,7 @@ fn make_room(alloc: Global, pairs: &[(Outs, Ins)]) -> Result<Vec<Vec<Letter>>, A
 fn empty_all(pairs: Vec<(Outs, Ins)>, left: &mut [Vec<Letter>])
     requires node { IsNode (map places pairs.items) }
     requires room { (d e : ℕ) → d < vec_len pairs → e < vec_len pairs
-        → HasRoom (entry (all_known pairs.items) e d) left.old (d * vec_len pairs + e) }
+        → VectorHasRoom (entry (all_known pairs.items) e d) left.old (d * vec_len pairs + e) }
     ensures { (d e : ℕ) → d < vec_len pairs → e < vec_len pairs
         → slice_index_or (lists left.new) (d * vec_len pairs + e) [] ≡ entry (all_known pairs.items) e d }
 {

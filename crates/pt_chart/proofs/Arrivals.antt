@@ -11,7 +11,7 @@ use Rattle.pt_signal.proofs.Same.{same_pid_is, same_pid_refl}
 use Rattle.pt_events.specs.declared.event.Stamped.{Stamped}
 use Rattle.pt_chart.specs.declared.layout.Sending.{Sending}
 use Rattle.pt_chart.specs.Chart.{is_receipt, receipts, receipts_from, sent_to}
-use Rattle.pt_chart.specs.Receiving.{Queued, queue_of, IsQueued, IsQueuedBy, Awaits}
+use Rattle.pt_chart.specs.Receiving.{QueuedRows, rows_queued, RowIsQueued, IsQueuedBy, Awaits}
 
 at_event : (a b : Pid) (events : List Stamped) (at : ℕ) (d : Stamped) → at < length events
     → receipts_from at a b (drop at events)
@@ -21,23 +21,23 @@ at_event a b events at d h =
     ∙ ap (λ k. cond (is_receipt a b (get_or events at d).event) (at ∷ receipts_from (at + 1) a b (drop k events)) (receipts_from (at + 1) a b (drop k events))) (sym (add-one at))
 
 -- what is queued, and the receipts from an event on, are all receipts
-abbrev pub Queues : Pid → List Stamped → ℕ → Queued → Type 0
-Queues a events at queued = (q : Pid) → queue_of queued q ++ receipts_from at a q (drop at events) ≡ receipts a q events
+abbrev pub Queues : Pid → List Stamped → ℕ → QueuedRows → Type 0
+Queues a events at queued = (q : Pid) → rows_queued queued q ++ receipts_from at a q (drop at events) ≡ receipts a q events
 
-pub queues_next : (a : Pid) (events : List Stamped) (at : ℕ) (d : Stamped) (old new : Queued) → at < length events → Queues a events at old
+pub queues_next : (a : Pid) (events : List Stamped) (at : ℕ) (d : Stamped) (old new : QueuedRows) → at < length events → Queues a events at old
     → IsQueuedBy (λ q. cond (is_receipt a q (get_or events at d).event) (at ∷ []) []) old new → Queues a events (at + 1) new
 queues_next a events at d old new h before more q =
     ap (λ z. z ++ receipts_from (at + 1) a q (drop (at + 1) events)) (more q)
     ∙ by (is_receipt a q (get_or events at d).event) (receipts_from (at + 1) a q (drop (at + 1) events))
-    ∙ ap (λ z. queue_of old q ++ z) (sym (at_event a q events at d h)) ∙ before q
+    ∙ ap (λ z. rows_queued old q ++ z) (sym (at_event a q events at d h)) ∙ before q
   where
-    by : (t : Bool) (rest : List ℕ) → (queue_of old q ++ cond t (at ∷ []) []) ++ rest ≡ queue_of old q ++ cond t (at ∷ rest) rest
-    by true rest = append_assoc (queue_of old q) (at ∷ []) rest
-    by false rest = ap (λ z. z ++ rest) (append-nil (queue_of old q))
+    by : (t : Bool) (rest : List ℕ) → (rows_queued old q ++ cond t (at ∷ []) []) ++ rest ≡ rows_queued old q ++ cond t (at ∷ rest) rest
+    by true rest = append_assoc (rows_queued old q) (at ∷ []) rest
+    by false rest = ap (λ z. z ++ rest) (append-nil (rows_queued old q))
 
-pub queues_all : (a : Pid) (events : List Stamped) (at : ℕ) (queued : Queued) → length events ≤ at → Queues a events at queued → Awaits events a [] queued
+pub queues_all : (a : Pid) (events : List Stamped) (at : ℕ) (queued : QueuedRows) → length events ≤ at → Queues a events at queued → Awaits events a [] queued
 queues_all a events at queued h are q =
-    sym (append-nil (queue_of queued q)) ∙ ap (λ es. queue_of queued q ++ receipts_from at a q es) (sym (drop_all at events h)) ∙ are q
+    sym (append-nil (rows_queued queued q)) ∙ ap (λ es. rows_queued queued q ++ receipts_from at a q es) (sym (drop_all at events h)) ∙ are q
 
 same_pid_turned : (p q : Pid) → same_pid p q ≡ same_pid q p
 same_pid_turned p q = go (same_pid p q) refl (same_pid q p) refl
@@ -56,16 +56,16 @@ first_left (x ∷ xs) zero = refl
 first_left (x ∷ xs) (suc n) = first_left xs n
 
 -- a letter more has its event
-pub awaits_next : (events : List Stamped) (a : Pid) (sent : List Sending) (k : ℕ) (d : Sending) (old new : Queued) → k < length sent → Awaits events a (take k sent) old
-    → IsQueued (get_or sent k d).to (drop 1 (queue_of old (get_or sent k d).to)) old new → Awaits events a (take (k + 1) sent) new
+pub awaits_next : (events : List Stamped) (a : Pid) (sent : List Sending) (k : ℕ) (d : Sending) (old new : QueuedRows) → k < length sent → Awaits events a (take k sent) old
+    → RowIsQueued (get_or sent k d).to (drop 1 (rows_queued old (get_or sent k d).to)) old new → Awaits events a (take (k + 1) sent) new
 awaits_next events a sent k d old new h before popped q = popped q ∙ by (same_pid q (get_or sent k d).to) refl
   where
     by : (t : Bool) → same_pid q (get_or sent k d).to ≡ t
-        → cond (same_pid (get_or sent k d).to q) (drop 1 (queue_of old (get_or sent k d).to)) (queue_of old q) ≡ drop (sent_to q (take (k + 1) sent)) (receipts a q events)
+        → cond (same_pid (get_or sent k d).to q) (drop 1 (rows_queued old (get_or sent k d).to)) (rows_queued old q) ≡ drop (sent_to q (take (k + 1) sent)) (receipts a q events)
     by true e =
         let turned : same_pid (get_or sent k d).to q ≡ true = same_pid_turned (get_or sent k d).to q ∙ e in
         rw turned
-        (ap (λ z. drop 1 (queue_of old z)) (sym (same_pid_is q (get_or sent k d).to e))
+        (ap (λ z. drop 1 (rows_queued old z)) (sym (same_pid_is q (get_or sent k d).to e))
         ∙ ap (drop 1) (before q)
         ∙ drop-drop 1 (sent_to q (take k sent)) (receipts a q events)
         ∙ ap (λ n. drop n (receipts a q events)) (sym (count_by_more_yes (λ (l : Sending). same_pid q l.to) sent k d h e)))

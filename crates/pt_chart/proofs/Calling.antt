@@ -7,7 +7,7 @@ use Rattle.std.proofs.lemmas.List.{get_or_past}
 use Rattle.pt_signal.specs.declared.pid.Pid.{Pid}
 use Rattle.pt_signal.specs.Values.{same_pid}
 use Rattle.pt_chart.specs.declared.called.Called.{Called}
-use Rattle.pt_chart.specs.Drawing.{given, name_of}
+use Rattle.pt_chart.specs.Drawing.{called_given, column_name}
 
 abbrev pub nothing : Called
 nothing = record { pid = record { shard = 0; slot = 0; version = 0 }; name = record { ref_ptr = (0, 0); now = [] } }
@@ -21,9 +21,9 @@ module _ (p : Pid) where
   step true x xs n r h = refl
   step false x xs n r h = let e : suc n ≡ 1 + n = omega arith in h ∙ ap (λ k. (get_or (x ∷ xs) k nothing).name.now) e
 
-  first : (xs : List Called) → name_of (map given xs) p ≡ (get_or xs (position_or_len is_of xs) nothing).name.now
+  first : (xs : List Called) → column_name (map called_given xs) p ≡ (get_or xs (position_or_len is_of xs) nothing).name.now
   first [] = refl
-  first (x ∷ xs) = step (is_of x) x xs (position_or_len is_of xs) (lookup (same_pid p) (map given xs)) (first xs)
+  first (x ∷ xs) = step (is_of x) x xs (position_or_len is_of xs) (lookup (same_pid p) (map called_given xs)) (first xs)
 
   at : (b : Bool) (n k : ℕ) → Some k ≡ cond b (Some n) None → k ≡ n
   at true n k h = cc
@@ -36,10 +36,10 @@ module _ (p : Pid) where
       go true e k = absurd (cc)
       go false e k = ltb-false n len e
 
-  pub named_at : (xs : List Called) (k : ℕ) → Some k ≡ position is_of xs → (get_or xs k nothing).name.now ≡ name_of (map given xs) p
+  pub named_at : (xs : List Called) (k : ℕ) → Some k ≡ position is_of xs → (get_or xs k nothing).name.now ≡ column_name (map called_given xs) p
   named_at xs k h = ap (λ i. (get_or xs i nothing).name.now) (at _ (position_or_len is_of xs) k h) ∙ sym (first xs)
 
-  pub named_nowhere : (xs : List Called) → ◌≡◌ {A = Option ℕ} None (position is_of xs) → ◌≡◌ {A = List ℕ} [] (name_of (map given xs) p)
+  pub named_nowhere : (xs : List Called) → ◌≡◌ {A = Option ℕ} None (position is_of xs) → ◌≡◌ {A = List ℕ} [] (column_name (map called_given xs) p)
   named_nowhere xs h =
       let n = position_or_len is_of xs in
       sym (first xs ∙ ap (λ c. c.name.now) (get_or_past xs n nothing (none n (length xs) h)))

@@ -4,7 +4,7 @@ use Rattle.std.specs.List.{flat_map, enumerate_from}
 use Rattle.pt_events.specs.declared.event.Stamped.{Stamped}
 use Rattle.pt_events.specs.declared.event.Event.TheVariants.{Born}
 use Rattle.pt_chart.specs.declared.part.Part.{Part}
-use Rattle.pt_chart.specs.Drawing.{numbered}
+use Rattle.pt_chart.specs.Drawing.{each_numbered}
 
 module _ {X Y : Type 0} (f : ℕ → X → List Y) where
   abbrev from : ℕ → List X → List Y
@@ -18,24 +18,24 @@ module _ {X Y : Type 0} (f : ℕ → X → List Y) where
       ap (λ ps. f n x ++ ps) (from_more (n + 1) xs i d (omega arith) ∙ ap (λ k. from (n + 1) (take i xs) ++ f k (get_or xs i d)) e)
       ∙ sym (append_assoc (f n x) (from (n + 1) (take i xs)) (f (n + suc i) (get_or xs i d)))
 
-  next : (xs : List X) (i : ℕ) (x : X) → i < length xs → numbered f (take i xs) ++ f i (get_or xs i x) ≡ numbered f (take (i + 1) xs)
+  next : (xs : List X) (i : ℕ) (x : X) → i < length xs → each_numbered f (take i xs) ++ f i (get_or xs i x) ≡ each_numbered f (take (i + 1) xs)
   next xs i x h =
       let here : 0 + i ≡ i = omega arith in
       let there : suc i ≡ i + 1 = omega arith in
       ap (λ k. from 0 (take i xs) ++ f k (get_or xs i x)) (sym here) ∙ sym (from_more 0 xs i x h) ∙ ap (λ k. from 0 (take k xs)) there
 
   -- what the next one gives stands behind
-  pub one_more_at : (start before after : List Y) (xs : List X) (i : ℕ) (d : X) → i < length xs → before ≡ start ++ numbered f (take i xs) → after ≡ before ++ f i (get_or xs i d) → after ≡ start ++ numbered f (take (i + 1) xs)
+  pub one_more_at : (start before after : List Y) (xs : List X) (i : ℕ) (d : X) → i < length xs → before ≡ start ++ each_numbered f (take i xs) → after ≡ before ++ f i (get_or xs i d) → after ≡ start ++ each_numbered f (take (i + 1) xs)
   one_more_at start before after xs i d h b a =
-      a ∙ ap (λ ps. ps ++ f i (get_or xs i d)) b ∙ append_assoc start (numbered f (take i xs)) (f i (get_or xs i d)) ∙ ap (λ ps. start ++ ps) (next xs i d h)
+      a ∙ ap (λ ps. ps ++ f i (get_or xs i d)) b ∙ append_assoc start (each_numbered f (take i xs)) (f i (get_or xs i d)) ∙ ap (λ ps. start ++ ps) (next xs i d h)
 
-  pub one_more : (start before after : List Y) (xs : List X) (i : ℕ) (x : X) → i < length xs → get_or xs i x ≡ x → before ≡ start ++ numbered f (take i xs) → after ≡ before ++ f i x
-      → after ≡ start ++ numbered f (take (i + 1) xs)
+  pub one_more : (start before after : List Y) (xs : List X) (i : ℕ) (x : X) → i < length xs → get_or xs i x ≡ x → before ≡ start ++ each_numbered f (take i xs) → after ≡ before ++ f i x
+      → after ≡ start ++ each_numbered f (take (i + 1) xs)
   one_more start before after xs i x h is b a = one_more_at start before after xs i x h b (a ∙ ap (λ y. before ++ f i y) (sym is))
 
 abbrev pub nothing : Stamped
 nothing = record { stamp = 0; desk = 0; event = Born (record { shard = 0; slot = 0; version = 0 }) None None }
 
-pub one_more_event : (f : ℕ → Stamped → List Part) (start before after : List Part) (events : List Stamped) (i : ℕ) → i < length events → before ≡ start ++ numbered f (take i events)
-    → after ≡ before ++ f i (get_or events i nothing) → after ≡ start ++ numbered f (take (i + 1) events)
+pub one_more_event : (f : ℕ → Stamped → List Part) (start before after : List Part) (events : List Stamped) (i : ℕ) → i < length events → before ≡ start ++ each_numbered f (take i events)
+    → after ≡ before ++ f i (get_or events i nothing) → after ≡ start ++ each_numbered f (take (i + 1) events)
 one_more_event f start before after events i h b a = one_more_at f start before after events i nothing h b a

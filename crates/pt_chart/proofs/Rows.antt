@@ -13,7 +13,7 @@ use Rattle.pt_chart.specs.Rows.{count_of}
 use Rattle.pt_chart.specs.Drawing.{label_beside, longest_beside}
 use Rattle.pt_chart.specs.declared.layout.Column.{Column}
 use Rattle.pt_chart.specs.declared.layout.Sending.{Sending}
-use Rattle.pt_chart.specs.Chart.{everyone, joined, named, past_of, sent_at}
+use Rattle.pt_chart.specs.Chart.{everyone, joined_columns, named_columns, past_of, sent_at}
 
 -- what one more gives stands behind
 pub one_more_given : {X Y : Type 0} (f : X → Y) (start before after : List Y) (xs : List X) (i : ℕ) (d : X) → i < length xs → before ≡ start ++ map f (take i xs) → after ≡ before ++ f (get_or xs i d) ∷ []
@@ -32,8 +32,8 @@ paid row start before after owed i l b g a =
     ∙ map-append f (take i owed) (get_or owed i l ∷ [])
     ∙ ap (λ y. map f (take i owed) ++ f y ∷ []) (get_or_from_slice_get owed i l l g)))
 
-pub everyone_more : (events : List Stamped) (i : ℕ) (d : Stamped) → i < length events → everyone (take (i + 1) events) ≡ joined (everyone (take i events)) (named (get_or events i d).event)
-everyone_more events i d h = fold_more (λ ps s. joined ps (named s.event)) [] events i d h
+pub everyone_more : (events : List Stamped) (i : ℕ) (d : Stamped) → i < length events → everyone (take (i + 1) events) ≡ joined_columns (everyone (take i events)) (named_columns (get_or events i d).event)
+everyone_more events i d h = fold_more (λ ps s. joined_columns ps (named_columns s.event)) [] events i d h
 
 -- the longest label of one more event
 pub longest_beside_more : (events : List Stamped) (i n : ℕ) (d : Stamped) → i < length events → n ≡ longest_beside (take i events)

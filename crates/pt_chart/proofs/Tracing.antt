@@ -14,7 +14,7 @@ use Rattle.pt_events.specs.History as history
 use Rattle.pt_events.specs.History.{Past, Phase, unborn, living, ended, life, after, touches, sent_by, linked, is_the, newborn, while_living, live_or_end, leaves, got_sends, left_sends}
 use Rattle.pt_events.specs.declared.event.Stamped.{Stamped}
 use Rattle.pt_chart.specs.declared.layout.Sending.{Sending}
-use Rattle.pt_chart.specs.Following.{Followed, followed, live_state, lives_on, gets, begins, changes, seen, sends, ends, got_sent, left_sent, OpensAnew, noted}
+use Rattle.pt_chart.specs.Following.{Followed, followed, live_state, lives_on, gets_followed, begins_followed, changes, seen_followed, sends_followed, ends_followed, got_sent, left_sent, OpensAnew, noted}
 use Rattle.pt_chart.specs.Chart.{sent_of, end_of, end_between, sent_at, past_of, MonitorsAnew}
 use Rattle.pt_chart.proofs.Rows.{past_more}
 
@@ -27,7 +27,7 @@ stepped p step true (ended r s) = refl
 stepped p step false f = refl
 
 born : (p q : Pid) (parent : Option Pid) (link : Option LinkId) (t u : Bool) (f : Phase)
-    → followed p (cond (t || u) (cond t (newborn parent link f) (while_living (linked (Some q) link) f)) f) ≡ cond t (begins parent link (followed p f)) (cond u (changes (linked (Some q) link) (followed p f)) (followed p f))
+    → followed p (cond (t || u) (cond t (newborn parent link f) (while_living (linked (Some q) link) f)) f) ≡ cond t (begins_followed parent link (followed p f)) (cond u (changes (linked (Some q) link) (followed p f)) (followed p f))
 born p q parent link true u unborn = refl
 born p q parent link true u (living s) = refl
 born p q parent link true u (ended r s) = refl
@@ -40,7 +40,7 @@ lived : (p : Pid) (ending : Option Reason) (s : ProcessState) → followed p (li
 lived p None s = refl
 lived p (Some r) s = refl
 
-got : (p a : Pid) (x : Signal) (t : Bool) (f : Phase) → followed p (cond t (history.gets p a x f) f) ≡ cond t (record (followed p f) { state = gets p a x (live_state f) }) (followed p f)
+got : (p a : Pid) (x : Signal) (t : Bool) (f : Phase) → followed p (cond t (history.gets p a x f) f) ≡ cond t (record (followed p f) { state = gets_followed p a x (live_state f) }) (followed p f)
 got p a x true unborn = refl
 got p a x true (living s) = let h = handle p s a x in lived p h.ending h.state
 got p a x true (ended r s) = refl
@@ -52,7 +52,7 @@ left p r true (living s) = refl
 left p r true (ended q s) = refl
 left p r false f = refl
 
-seen_after : (p : Pid) (e : Event) (f : Phase) → followed p (after p e f) ≡ seen e (followed p f)
+seen_after : (p : Pid) (e : Event) (f : Phase) → followed p (after p e f) ≡ seen_followed e (followed p f)
 seen_after p (Born q parent link) f = born p q parent link (same_pid p q) (is_the p parent) f
 seen_after p (Said a b x) f = stepped p (λ s. say s b x) (same_pid p a) f
 seen_after p (Came a b x) f = got p a x (same_pid p b) f
@@ -82,7 +82,7 @@ left_phase p r unborn = refl
 left_phase p r (living s) = refl
 left_phase p r (ended q s) = refl
 
-pub sends_own : (past : Past) (p : Pid) (e : Event) → cond (touches p e) (sent_by [] past e) [] ≡ sends e (followed p (life [] past p))
+pub sends_own : (past : Past) (p : Pid) (e : Event) → cond (touches p e) (sent_by [] past e) [] ≡ sends_followed e (followed p (life [] past p))
 sends_own past p (Born q parent link) = either_way (touches p (Born q parent link)) []
 sends_own past p (Said a b x) = own p a (same_pid p a) refl (λ q. sent q b x ∷ [])
 sends_own past p (Came a b x) =
@@ -117,7 +117,7 @@ birth s t true u row before = refl
 birth s t false true row before = refl
 birth s t false false row before = refl
 
-ends_live : (p : Pid) (e : Event) (s : ProcessState) (row : ℕ) (before : Option (ℕ × Reason)) → end_between (living s) (after p e (living s)) row before ≡ noted row (ends e (followed p (living s))) before
+ends_live : (p : Pid) (e : Event) (s : ProcessState) (row : ℕ) (before : Option (ℕ × Reason)) → end_between (living s) (after p e (living s)) row before ≡ noted row (ends_followed e (followed p (living s))) before
 ends_live p (Born q parent link) s row before = birth s (linked (Some q) link s) (same_pid p q) (is_the p parent) row before
 ends_live p (Said a b x) s row before = still s (say s b x) (same_pid p a) row before
 ends_live p (Came a b x) s row before =
@@ -127,12 +127,12 @@ ends_live p (Flag q on) s row before = still s (record s { traps = on }) (same_p
 ends_live p (Left q r) s row before = by_test s (same_pid p q) (ended r s) (Some r) row before refl
 ends_live p _ s row before = refl
 
-not_live : (p : Pid) (e : Event) (row : ℕ) (before : Option (ℕ × Reason)) (b : Bool) → before ≡ noted row (ends e (record { me = p; born = b; state = None })) before
+not_live : (p : Pid) (e : Event) (row : ℕ) (before : Option (ℕ × Reason)) (b : Bool) → before ≡ noted row (ends_followed e (record { me = p; born = b; state = None })) before
 not_live p (Came a c x) row before b = none_noted (same_pid p c) row before
 not_live p (Left q r) row before b = none_noted (same_pid p q) row before
 not_live p _ row before b = refl
 
-pub ends_after : (p : Pid) (e : Event) (f : Phase) (row : ℕ) (before : Option (ℕ × Reason)) → end_between f (after p e f) row before ≡ noted row (ends e (followed p f)) before
+pub ends_after : (p : Pid) (e : Event) (f : Phase) (row : ℕ) (before : Option (ℕ × Reason)) → end_between f (after p e f) row before ≡ noted row (ends_followed e (followed p f)) before
 ends_after p e unborn row before = not_live p e row before false
 ends_after p e (living s) row before = ends_live p e s row before
 ends_after p e (ended r s) row before = not_live p e row before true
@@ -146,17 +146,17 @@ pub record Traces (past : Past) (p : Pid) (w : Followed) (start letters : List S
   pub end : over ≡ end_of past p
 
 pub trace_next : (past : Past) (p : Pid) (e : Event) (w w' : Followed) (start sent sent' : List Sending) (end end' : Option (ℕ × Reason)) (row : ℕ)
-    → length past ≡ row → Traces past p w start sent end → OpensAnew e (followed p (life [] past p)) → (OpensAnew e w → w' ≡ seen e w) → sent' ≡ sent ++ map (sent_at row) (sends e w) → end' ≡ noted row (ends e w) end
+    → length past ≡ row → Traces past p w start sent end → OpensAnew e (followed p (life [] past p)) → (OpensAnew e w → w' ≡ seen_followed e w) → sent' ≡ sent ++ map (sent_at row) (sends_followed e w) → end' ≡ noted row (ends_followed e w) end
     → Traces (e ∷ past) p w' start sent' end'
 trace_next past p e w w' start sent sent' end end' row n t anew saw said finished = record {
-  state = saw (subst (OpensAnew e) (sym t.state) anew) ∙ ap (seen e) t.state ∙ sym (seen_after p e (life [] past p));
+  state = saw (subst (OpensAnew e) (sym t.state) anew) ∙ ap (seen_followed e) t.state ∙ sym (seen_after p e (life [] past p));
   sent =
-      said ∙ ap (λ z. z ++ map (sent_at row) (sends e w)) t.sent
-      ∙ append_assoc start (sent_of past p) (map (sent_at row) (sends e w))
-      ∙ ap (λ z. start ++ (sent_of past p ++ map (sent_at row) z)) (ap (sends e) t.state ∙ sym (sends_own past p e))
+      said ∙ ap (λ z. z ++ map (sent_at row) (sends_followed e w)) t.sent
+      ∙ append_assoc start (sent_of past p) (map (sent_at row) (sends_followed e w))
+      ∙ ap (λ z. start ++ (sent_of past p ++ map (sent_at row) z)) (ap (sends_followed e) t.state ∙ sym (sends_own past p e))
       ∙ ap (λ k. start ++ (sent_of past p ++ map (sent_at k) (cond (touches p e) (sent_by [] past e) []))) (sym n);
   end =
-      finished ∙ ap (λ z. noted row (ends e z) end) t.state ∙ ap (noted row (ends e (followed p (life [] past p)))) t.end
+      finished ∙ ap (λ z. noted row (ends_followed e z) end) t.state ∙ ap (noted row (ends_followed e (followed p (life [] past p)))) t.end
       ∙ sym (ends_after p e (life [] past p) row (end_of past p))
       ∙ ap (λ k. end_between (life [] past p) (life [] (e ∷ past) p) k (end_of past p)) (sym n);
 }
@@ -164,8 +164,8 @@ trace_next past p e w w' start sent sent' end end' row n t anew saw said finishe
 -- the same from the events before a row to those before the next one
 pub trace_row : (events : List Stamped) (i : ℕ) (d : Stamped) (p : Pid) (w w' : Followed) (start letters letters' : List Sending) (over over' : Option (ℕ × Reason)) (reason : Option Reason)
     → i < length events → length (past_of (take i events)) ≡ i → (MonitorsAnew (past_of (take i events)) p → Traces (past_of (take i events)) p w start letters over)
-    → (OpensAnew (get_or events i d).event w → w' ≡ seen (get_or events i d).event w) → letters' ≡ letters ++ map (sent_at i) (sends (get_or events i d).event w)
-    → over' ≡ noted i reason over → reason ≡ ends (get_or events i d).event w
+    → (OpensAnew (get_or events i d).event w → w' ≡ seen_followed (get_or events i d).event w) → letters' ≡ letters ++ map (sent_at i) (sends_followed (get_or events i d).event w)
+    → over' ≡ noted i reason over → reason ≡ ends_followed (get_or events i d).event w
     → MonitorsAnew (past_of (take (i + 1) events)) p → Traces (past_of (take (i + 1) events)) p w' start letters' over'
 trace_row events i d p w w' start letters letters' over over' reason h rows before saw said finished why anew =
     let more = past_more events i d h in

@@ -22,15 +22,15 @@ use Rattle.pt_chart.specs.Rows.{AreRows, follows_sending, comes_next}
 -- columns -------------------------------------------------------------------------------------------
 
 -- who has a column for the event
-abbrev pub named : Event → List Pid
-named (Born p None link) = p ∷ []
-named (Born p (Some q) link) = q ∷ p ∷ []
-named (Said a b x) = a ∷ b ∷ []
-named (Came a b x) = a ∷ b ∷ []
-named (Took p k i) = p ∷ []
-named (Flag p on) = p ∷ []
-named (Left p r) = p ∷ []
-named (Refused a b) = a ∷ []
+abbrev pub named_columns : Event → List Pid
+named_columns (Born p None link) = p ∷ []
+named_columns (Born p (Some q) link) = q ∷ p ∷ []
+named_columns (Said a b x) = a ∷ b ∷ []
+named_columns (Came a b x) = a ∷ b ∷ []
+named_columns (Took p k i) = p ∷ []
+named_columns (Flag p on) = p ∷ []
+named_columns (Left p r) = p ∷ []
+named_columns (Refused a b) = a ∷ []
 
 -- behind all of its own desk and of the desks before it
 abbrev pub place_behind : List Pid → Pid → ℕ
@@ -40,16 +40,16 @@ place_behind ps p = unwrap_or (position (λ q. nat_lt p.shard q.shard) ps) (leng
 abbrev pub join : List Pid → Pid → List Pid
 join ps p = cond (list_any (same_pid p) ps) ps (insert ps (place_behind ps p) p)
 
-abbrev pub joined : List Pid → List Pid → List Pid
-joined ps qs = fold join ps qs
+abbrev pub joined_columns : List Pid → List Pid → List Pid
+joined_columns ps qs = fold join ps qs
 
 -- each that is named, once, by desk and then in order of first appearance
 abbrev pub everyone : List Stamped → List Pid
-everyone events = fold (λ ps s. joined ps (named s.event)) [] events
+everyone events = fold (λ ps s. joined_columns ps (named_columns s.event)) [] events
 
 -- the column of a process
-abbrev pub place : List Pid → Pid → ℕ
-place ps p = unwrap_or (position (same_pid p) ps) (length ps)
+abbrev pub column_place : List Pid → Pid → ℕ
+column_place ps p = unwrap_or (position (same_pid p) ps) (length ps)
 
 -- what a process sends, and its end -------------------------------------------------------------------
 
@@ -105,7 +105,7 @@ sent_to q sent = count_by (λ l. same_pid q l.to) sent
 -- the letter that a sends after the earlier ones: the nth to a process is the nth that comes there
 abbrev pub arrow : List Stamped → List Pid → Pid → List Sending → Sending → Arrow
 arrow events ps a earlier l = record {
-  to = place ps l.to;
+  to = column_place ps l.to;
   signal = l.signal;
   sent = l.event;
   came = slice_get (receipts a l.to events) (sent_to l.to earlier);

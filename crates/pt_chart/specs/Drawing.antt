@@ -18,13 +18,13 @@ use Rattle.pt_chart.specs.declared.page.Page.{Page}
 use Rattle.pt_chart.specs.declared.part.Part.{Part}
 use Rattle.pt_chart.specs.declared.part.Part.TheVariants as part
 use Rattle.pt_chart.specs.declared.part.Mark.TheVariants.{Bearing, Birth, Taking, Trapping, Refusal}
-use Rattle.pt_chart.specs.Chart.{IsLayout, IsLegalHistory, ShowsHistory, named}
+use Rattle.pt_chart.specs.Chart.{IsLayout, IsLegalHistory, ShowsHistory, named_columns}
 use Rattle.pt_chart.specs.Rows.{count_of, in_rows}
-use Rattle.pt_chart.specs.Text.{head_text, part_text}
+use Rattle.pt_chart.specs.Text.{page_head, part_text}
 
 -- what f gives for each of a list and its number, from 0, one after the other
-abbrev pub numbered : {X Y : Type 0} → (ℕ → X → List Y) → List X → List Y
-numbered {X} f xs = flat_map (λ (x : ℕ × X). f x.0 x.1) (enumerate_from 0 xs)
+abbrev pub each_numbered : {X Y : Type 0} → (ℕ → X → List Y) → List X → List Y
+each_numbered {X} f xs = flat_map (λ (x : ℕ × X). f x.0 x.1) (enumerate_from 0 xs)
 
 -- the desk has its first column here
 abbrev pub starts_desk : List Column → ℕ → ℕ → Bool
@@ -101,19 +101,19 @@ block rows events i =
 
 -- an event of the block names the process
 abbrev pub is_in_block : List Stamped → Pid → Bool
-is_in_block events p = list_any (λ s. list_any (same_pid p) (named s.event)) events
+is_in_block events p = list_any (λ s. list_any (same_pid p) (named_columns s.event)) events
 
 abbrev pub name_in : List Stamped → ℕ → ℕ → Column → List Part
 name_in events row k c = cond (is_in_block events c.pid) (name row k c) []
 
 -- the names of all processes above the first row, and again after each 40 of those that an event of the block names
-abbrev pub names : List Stamped → List Column → ℕ → List Part
-names events cs row =
-    cond (row == 0) (numbered (name row) cs) (numbered (name_in events row) cs)
+abbrev pub name_parts : List Stamped → List Column → ℕ → List Part
+name_parts events cs row =
+    cond (row == 0) (each_numbered (name row) cs) (each_numbered (name_in events row) cs)
 
 abbrev pub names_due : List ℕ → List Stamped → List Column → ℕ → List Part
 names_due rows events cs i =
-    cond (slice_index rows i % 40 == 0) (names (block rows events i) cs (slice_index rows i)) []
+    cond (slice_index rows i % 40 == 0) (name_parts (block rows events i) cs (slice_index rows i)) []
 
 -- the event stands in another row than the one before it, or is the first
 abbrev pub begins_row : List ℕ → ℕ → Bool
@@ -124,19 +124,19 @@ abbrev pub ends_row : List ℕ → ℕ → Bool
 ends_row rows i = (length rows == i + 1) || not (slice_index rows i == slice_index rows (i + 1))
 
 -- the line of an event, in its row
-abbrev pub line : List ℕ → ℕ → Stamped → Part
-line rows i s = part.Line (slice_index rows i) s (begins_row rows i) (ends_row rows i)
+abbrev pub line_part : List ℕ → ℕ → Stamped → Part
+line_part rows i s = part.Line (slice_index rows i) s (begins_row rows i) (ends_row rows i)
 
 -- the line of an event; before the first one of a row the names, where they are due
-abbrev pub lines : List ℕ → List Stamped → List Column → ℕ → Stamped → List Part
-lines rows events cs i s = cond (begins_row rows i) (names_due rows events cs i) [] ++ line rows i s ∷ []
+abbrev pub line_parts : List ℕ → List Stamped → List Column → ℕ → Stamped → List Part
+line_parts rows events cs i s = cond (begins_row rows i) (names_due rows events cs i) [] ++ line_part rows i s ∷ []
 
 -- what is drawn where the events stand in these rows
 abbrev pub drawn_in : List ℕ → List Stamped → List Column → List Part
 drawn_in rows events cs =
-    numbered (ground cs) cs ++ numbered (column rows) cs ++ numbered (letters rows) cs ++ numbered (sayings rows) cs
-    ++ numbered (bears rows cs) events ++ numbered (mark rows cs) events ++ numbered (end rows) cs
-    ++ numbered (lines rows events cs) events
+    each_numbered (ground cs) cs ++ each_numbered (column rows) cs ++ each_numbered (letters rows) cs ++ each_numbered (sayings rows) cs
+    ++ each_numbered (bears rows cs) events ++ each_numbered (mark rows cs) events ++ each_numbered (end rows) cs
+    ++ each_numbered (line_parts rows events cs) events
 
 -- each ground, each process, each letter, what it says, the stroke of each birth, each event's mark, each end and each
 -- event's line: each once, and nothing else but names
@@ -163,19 +163,19 @@ page_of events l = record {
 }
 
 -- what a process is called: the first name that is given to its pid, or an empty one
-abbrev pub name_of : List (Pid × List ℕ) → Pid → List ℕ
-name_of names p = unwrap_or (lookup (same_pid p) names) []
+abbrev pub column_name : List (Pid × List ℕ) → Pid → List ℕ
+column_name names p = unwrap_or (lookup (same_pid p) names) []
 
 -- the names of the columns' processes
-abbrev pub names_of : List (Pid × List ℕ) → List Column → List (List ℕ)
-names_of names cs = map (λ c. name_of names c.pid) cs
+abbrev pub column_names : List (Pid × List ℕ) → List Column → List (List ℕ)
+column_names names cs = map (λ c. column_name names c.pid) cs
 
-abbrev pub given : Called → Pid × List ℕ
-given c = (c.pid, c.name.now)
+abbrev pub called_given : Called → Pid × List ℕ
+called_given c = (c.pid, c.name.now)
 
 -- the head, the parts one after the other, and the end, where the processes of the columns have these names
 abbrev pub drawing_text : Page → List (List ℕ) → List Part → List ℕ
-drawing_text page names parts = head_text page ++ flat_map (part_text page names) parts ++ codes "</svg>\n"
+drawing_text page names parts = page_head page ++ flat_map (part_text page names) parts ++ codes "</svg>\n"
 
 -- the text is the drawing of a layout of the history, where these names are given to pids
 pub record IsChart (events : List Stamped) (names : List (Pid × List ℕ)) (text : List ℕ) : Type 0 where
@@ -183,4 +183,4 @@ pub record IsChart (events : List Stamped) (names : List (Pid × List ℕ)) (tex
   pub laid_out : IsLayout events layout
   pub legal : IsLegalHistory events → ShowsHistory events layout
   pub is : text
-      ≡ drawing_text (page_of events layout) (names_of names layout.columns.items) (drawn events layout)
+      ≡ drawing_text (page_of events layout) (column_names names layout.columns.items) (drawn events layout)

@@ -31,26 +31,26 @@ abbrev pub lives_on : Option Reason → ProcessState → Option ProcessState
 lives_on None s = Some s
 lives_on (Some r) s = None
 
-abbrev pub gets : Pid → Pid → Signal → Option ProcessState → Option ProcessState
-gets me from x None = None
-gets me from x (Some s) = let h = handle me s from x in lives_on h.ending h.state
+abbrev pub gets_followed : Pid → Pid → Signal → Option ProcessState → Option ProcessState
+gets_followed me from x None = None
+gets_followed me from x (Some s) = let h = handle me s from x in lives_on h.ending h.state
 
-abbrev pub begins : Option Pid → Option LinkId → Followed → Followed
-begins parent link w = cond w.born w (record w { born = true; state = Some (linked parent link fresh) })
+abbrev pub begins_followed : Option Pid → Option LinkId → Followed → Followed
+begins_followed parent link w = cond w.born w (record w { born = true; state = Some (linked parent link fresh) })
 
 abbrev pub changes : (ProcessState → ProcessState) → Followed → Followed
 changes step w = record w { state = option_map step w.state }
 
-abbrev pub seen : Event → Followed → Followed
-seen (Born q parent link) w =
-    cond (same_pid w.me q) (begins parent link w) (cond (is_the w.me parent) (changes (linked (Some q) link) w) w)
-seen (Said a b x) w = cond (same_pid w.me a) (changes (λ s. say s b x) w) w
-seen (Came a b x) w = cond (same_pid w.me b) (record w { state = gets w.me a x w.state }) w
-seen (Took q k i) w =
+abbrev pub seen_followed : Event → Followed → Followed
+seen_followed (Born q parent link) w =
+    cond (same_pid w.me q) (begins_followed parent link w) (cond (is_the w.me parent) (changes (linked (Some q) link) w) w)
+seen_followed (Said a b x) w = cond (same_pid w.me a) (changes (λ s. say s b x) w) w
+seen_followed (Came a b x) w = cond (same_pid w.me b) (record w { state = gets_followed w.me a x w.state }) w
+seen_followed (Took q k i) w =
     cond (same_pid w.me q) (changes (λ s. record s { waiting = without_first (fits k) s.waiting }) w) w
-seen (Flag q on) w = cond (same_pid w.me q) (changes (λ s. record s { traps = on }) w) w
-seen (Left q r) w = cond (same_pid w.me q) (record w { state = None }) w
-seen (Refused a b) w = w
+seen_followed (Flag q on) w = cond (same_pid w.me q) (changes (λ s. record s { traps = on }) w) w
+seen_followed (Left q r) w = cond (same_pid w.me q) (record w { state = None }) w
+seen_followed (Refused a b) w = w
 
 -- what it sends by the event ------------------------------------------------------------------------
 
@@ -62,11 +62,11 @@ abbrev pub left_sent : Pid → Reason → Option ProcessState → List Sent
 left_sent me r None = []
 left_sent me r (Some s) = estate me s r
 
-abbrev pub sends : Event → Followed → List Sent
-sends (Said a b x) w = cond (same_pid w.me a) (sent w.me b x ∷ []) []
-sends (Came a b x) w = cond (same_pid w.me b) (got_sent w.me a x w.state) []
-sends (Left q r) w = cond (same_pid w.me q) (left_sent w.me r w.state) []
-sends _ w = []
+abbrev pub sends_followed : Event → Followed → List Sent
+sends_followed (Said a b x) w = cond (same_pid w.me a) (sent w.me b x ∷ []) []
+sends_followed (Came a b x) w = cond (same_pid w.me b) (got_sent w.me a x w.state) []
+sends_followed (Left q r) w = cond (same_pid w.me q) (left_sent w.me r w.state) []
+sends_followed _ w = []
 
 -- the reason with which it ends by the event, if it does --------------------------------------------
 
@@ -78,10 +78,10 @@ abbrev pub left_end : Reason → Option ProcessState → Option Reason
 left_end r None = None
 left_end r (Some s) = Some r
 
-abbrev pub ends : Event → Followed → Option Reason
-ends (Came a b x) w = cond (same_pid w.me b) (got_end w.me a x w.state) None
-ends (Left q r) w = cond (same_pid w.me q) (left_end r w.state) None
-ends _ w = None
+abbrev pub ends_followed : Event → Followed → Option Reason
+ends_followed (Came a b x) w = cond (same_pid w.me b) (got_end w.me a x w.state) None
+ends_followed (Left q r) w = cond (same_pid w.me q) (left_end r w.state) None
+ends_followed _ w = None
 
 -- its end, where this is the reason with which it ends by an event, if it does
 abbrev pub noted : ℕ → Option Reason → Option (ℕ × Reason) → Option (ℕ × Reason)

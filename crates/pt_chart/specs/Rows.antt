@@ -19,13 +19,13 @@ is_born _ = false
 abbrev pub births_in_front : List Stamped → ℕ
 births_in_front events = unwrap_or (position (λ s. not (is_born s.event)) events) (length events)
 
-abbrev pub is_at : ℕ → Option ℕ → Bool
-is_at event None = false
-is_at event (Some place) = place == event
+abbrev pub is_at_row : ℕ → Option ℕ → Bool
+is_at_row event None = false
+is_at_row event (Some place) = place == event
 
 -- by this event the letter came, and by the very one before it it was sent
 abbrev pub comes_next : ℕ → Arrow → Bool
-comes_next event a = is_at event a.came && (a.sent + 1 == event)
+comes_next event a = is_at_row event a.came && (a.sent + 1 == event)
 
 -- the event is the receipt of a letter that the very one before it sent
 abbrev pub follows_sending : List Column → ℕ → Bool

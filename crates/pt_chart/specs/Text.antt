@@ -21,7 +21,7 @@ use Rattle.pt_chart.specs.declared.part.Mark.TheVariants.{Bearing, Birth, Taking
 use Rattle.pt_chart.specs.declared.strokes.Stroke.{Stroke}
 use Rattle.pt_chart.specs.declared.strokes.Stroke.TheVariants as stroke
 use Rattle.pt_chart.specs.declared.style.TheConstants.{STYLE}
-use Rattle.pt_chart.specs.Rows.{is_at}
+use Rattle.pt_chart.specs.Rows.{is_at_row}
 use Rattle.pt_chart.specs.Page.{capped, above, x_of, y_of, row_or_end, width_of, height_of}
 
 -- by which stroke the letter of a signal is drawn
@@ -69,8 +69,8 @@ strip_text y width =
     ++ codes "\" height=\"24\"/></g>\n"
 
 -- the stamp of the first event of a row, to the left of a point
-unfoldable pub number_text : Point → ℕ → List ℕ
-number_text at n =
+unfoldable pub row_number_text : Point → ℕ → List ℕ
+row_number_text at n =
     codes "<text class=\"number\" " ++ at_text at ++ codes " dy=\"4\" text-anchor=\"end\">" ++ decimal n
     ++ codes "</text>\n"
 
@@ -122,8 +122,8 @@ label_text stroke at side said =
 
 -- the parts --------------------------------------------------------------------------------------------
 
-abbrev pub head_text : Page → List ℕ
-head_text p = size_text (width_of p) (height_of p) p.events p.columns ++ STYLE.now
+abbrev pub page_head : Page → List ℕ
+page_head p = size_text (width_of p) (height_of p) p.events p.columns ++ STYLE.now
 
 -- where the numbers of a row meet
 abbrev pub number_spot : ℕ → Point
@@ -131,7 +131,7 @@ number_spot row = point 36 (y_of row)
 
 -- the begin of a row, whose title has the lines of its events; before a further one of these a line feed
 abbrev pub opening_text : ℕ → ℕ → Bool → List ℕ
-opening_text row n true = number_text (number_spot row) n ++ codes "<g class=\"row\"><title>"
+opening_text row n true = row_number_text (number_spot row) n ++ codes "<g class=\"row\"><title>"
 opening_text row n false = codes "\n"
 
 -- the stamp of the last event of a row, which its first one has already
@@ -174,9 +174,9 @@ abbrev pub life_text : Page → ℕ → ℕ → Option ℕ → List ℕ
 life_text p k born ended = alive_text (spot k born) (row_or_end p ended)
 
 -- a letter that came has a full head, one that did not an open one
-abbrev pub head_of : Option ℕ → List ℕ
-head_of None = codes "sent"
-head_of (Some row) = codes "came"
+abbrev pub arrow_head : Option ℕ → List ℕ
+arrow_head None = codes "sent"
+arrow_head (Some row) = codes "came"
 
 abbrev pub arrow_text : Stroke → Point → Point → List ℕ → List ℕ
 arrow_text stroke from to head = curve_text stroke from (bend from to) to ++ marker_text stroke head
@@ -185,8 +185,8 @@ arrow_text stroke from to head = curve_text stroke from (bend from to) to ++ mar
 abbrev pub tip : Page → Arrow → Point
 tip p a = point (x_of a.to) (row_or_end p a.came)
 
-abbrev pub letter_text : Page → ℕ → Arrow → List ℕ
-letter_text p k a = arrow_text (stroke_of a.signal) (spot k a.sent) (tip p a) (head_of a.came)
+abbrev pub arrow_letter_text : Page → ℕ → Arrow → List ℕ
+arrow_letter_text p k a = arrow_text (stroke_of a.signal) (spot k a.sent) (tip p a) (arrow_head a.came)
 
 -- what a process owes at its end or answers: several letters may go out in one row
 abbrev pub is_owed : Signal → Bool
@@ -210,7 +210,7 @@ side_text false false = codes " dx=\"8\" dy=\"-4\""
 
 -- the letter comes in the row in which it was sent
 abbrev pub is_level : Arrow → Bool
-is_level a = is_at a.sent a.came
+is_level a = is_at_row a.sent a.came
 
 -- The label of a letter from this column stands off the arrow: below one that comes from above, and above one that goes
 -- down. Within a row it stands above an arrow to the right and below one to the left, as another one may come back.
@@ -247,8 +247,8 @@ said_bearing_text row parent child linked said =
     level_text (bearing_class linked) (spot parent row) (x_of child)
     ++ label_text stroke.Link (spot child row) (codes " dy=\"-12\" text-anchor=\"middle\"") said
 
-abbrev pub bearing_text : ℕ → ℕ → ℕ → Pid → Bool → List ℕ
-bearing_text row parent child by linked =
+abbrev pub born_text : ℕ → ℕ → ℕ → Pid → Bool → List ℕ
+born_text row parent child by linked =
     said_bearing_text row parent child linked (escape (bearing_label by linked))
 
 abbrev pub named_birth_text : Point → List ℕ → List ℕ
@@ -280,7 +280,7 @@ abbrev pub end_text : ℕ → ℕ → Reason → List ℕ
 end_text row k r = said_end_text (spot k row) (escape (reason_text r))
 
 abbrev pub mark_text : ℕ → mark.Mark → List ℕ
-mark_text row (Bearing parent child by linked) = bearing_text row parent child by linked
+mark_text row (Bearing parent child by linked) = born_text row parent child by linked
 mark_text row (Birth k pid) = birth_text row k pid
 mark_text row (Taking k) = taking_text row k
 mark_text row (Trapping k on) = trapping_text row k on
@@ -292,7 +292,7 @@ part_text p names (Ground k desk) = ground_text p k desk
 part_text p names (Desk k desk) = desk_text (above (x_of k) 62) desk
 part_text p names (Column k) = before_text (x_of k) (y_of p.rows)
 part_text p names (Life k born ended) = life_text p k born ended
-part_text p names (Letter k a) = letter_text p k a
+part_text p names (Letter k a) = arrow_letter_text p k a
 part_text p names (Saying k a) = saying_text p k a
 part_text p names (Mark row m) = mark_text row m
 part_text p names (End row k r) = end_text row k r

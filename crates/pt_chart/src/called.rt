@@ -2,7 +2,7 @@
 
 ghost use Rattle.std.specs.Prelude.{◌≡◌, ◌<◌, IfOk, IfSome, length, map, position};
 ghost use Rattle.pt_signal.specs.Values.{same_pid};
-ghost use Rattle.pt_chart.specs.Drawing.{given, name_of, names_of};
+ghost use Rattle.pt_chart.specs.Drawing.{called_given, column_name, column_names};
 
 use crate::layout::Column;
 use pt_signal::Pid;
@@ -21,7 +21,7 @@ pub(crate) fn names_of<'a>(
     called: &[Called<'a>],
     columns: &[Column],
 ) -> Result<Vec<&'a str>, AllocError>
-    ensures { IfOk result (λ names. map (λ n. n.now) names.items ≡ names_of (map given called.now) columns.now) }
+    ensures { IfOk result (λ names. map (λ n. n.now) names.items ≡ column_names (map called_given called.now) columns.now) }
 {
     let mut names = Vec::with_capacity(alloc, columns.len())?;
     for column in columns {
@@ -32,7 +32,7 @@ pub(crate) fn names_of<'a>(
 
 /// The first name that is given to the pid, or an empty one.
 fn name_of<'a>(called: &[Called<'a>], pid: Pid) -> &'a str
-    ensures { result.now ≡ name_of (map given called.now) pid }
+    ensures { result.now ≡ column_name (map called_given called.now) pid }
 {
     match place_of(called, pid) {
         Some(place) => called[place].name,

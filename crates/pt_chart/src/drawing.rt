@@ -5,12 +5,12 @@ ghost use Rattle.std.specs.Prelude.{string_bytes, cond, slice_index_or};
 ghost use Rattle.std.specs.Option.{option_map};
 ghost use Rattle.pt_signal.specs.Values.{same_pid};
 ghost use Rattle.pt_chart.specs.declared.part.Part.TheVariants.{Mark as MarkPart, Name};
-ghost use Rattle.pt_chart.specs.Chart.{named};
+ghost use Rattle.pt_chart.specs.Chart.{named_columns};
 ghost use Rattle.std.specs.List.{list_any};
 ghost use Rattle.pt_chart.specs.Drawing.{IsChart, bears, begins_row, block, column, drawing_text, drawn, end, ends_row};
 ghost use Rattle.pt_chart.specs.Drawing.{is_in_block, name_in, names_due};
-ghost use Rattle.pt_chart.specs.Drawing.{event_bearing, event_mark, given, ground, label_beside, letters, lines};
-ghost use Rattle.pt_chart.specs.Drawing.{longest_beside, mark, name, names_of, numbered, page_of, place_in};
+ghost use Rattle.pt_chart.specs.Drawing.{event_bearing, event_mark, called_given, ground, label_beside, letters, line_parts};
+ghost use Rattle.pt_chart.specs.Drawing.{longest_beside, mark, name, column_names, each_numbered, page_of, place_in};
 ghost use Rattle.pt_chart.specs.Drawing.{sayings, starts_desk};
 ghost use Rattle.pt_chart.specs.Rows.{count_of, in_rows};
 
@@ -31,7 +31,7 @@ use std::alloc::{AllocError, Global};
 /// event in the next 40 rows names. Above a pid is the first name that is given to it, with XML's own characters escaped.
 /// A row has the stamp of its first event, and of its last one.
 pub fn chart(alloc: Global, events: &[Stamped], called: &[Called<'_>]) -> Result<String, AllocError>
-    ensures { IfOk result (λ text. IsChart events.now (map given called.now) (string_bytes text)) }
+    ensures { IfOk result (λ text. IsChart events.now (map called_given called.now) (string_bytes text)) }
 {
     let layout = lay_out(alloc, events)?;
     drawing_of(alloc, events, called, &layout)
@@ -46,7 +46,7 @@ fn drawing_of(
 ) -> Result<String, AllocError>
     requires { length layout.now.rows.items ≡ length events.now }
     ensures { IfOk result (λ text. string_bytes text ≡ drawing_text (page_of events.now layout.now)
-        (names_of (map given called.now) layout.now.columns.items) (drawn events.now layout.now)) }
+        (column_names (map called_given called.now) layout.now.columns.items) (drawn events.now layout.now)) }
 {
     let page = page_of(alloc, events, layout)?;
     let names = names_of(alloc, called, layout.columns.as_slice())?;
@@ -169,7 +169,7 @@ fn row_if(rows: &[usize], event: Option<usize>) -> Option<usize>
 
 /// The ground of each process.
 fn list_grounds(columns: &[Column], parts: &mut Vec<Part>) -> Result<(), AllocError>
-    ensures { OnOk result (parts.new.items ≡ parts.old.items ++ numbered (ground columns.now) columns.now) }
+    ensures { OnOk result (parts.new.items ≡ parts.old.items ++ each_numbered (ground columns.now) columns.now) }
 {
     for place in 0..columns.len() {
         list_ground(place, &columns[place], columns, parts)?;
@@ -215,7 +215,7 @@ fn first_of_desk(columns: &[Column], desk: u8) -> Option<usize>
 
 /// The line and the life of each process.
 fn list_columns(rows: &[usize], columns: &[Column], parts: &mut Vec<Part>) -> Result<(), AllocError>
-    ensures { OnOk result (parts.new.items ≡ parts.old.items ++ numbered (column rows.now) columns.now) }
+    ensures { OnOk result (parts.new.items ≡ parts.old.items ++ each_numbered (column rows.now) columns.now) }
 {
     for place in 0..columns.len() {
         list_column(rows, place, &columns[place], parts)?;
@@ -253,7 +253,7 @@ fn row_of_end(rows: &[usize], ended: Option<(usize, Reason)>) -> Option<usize>
 
 /// An arrow a letter.
 fn list_letters(rows: &[usize], columns: &[Column], parts: &mut Vec<Part>) -> Result<(), AllocError>
-    ensures { OnOk result (parts.new.items ≡ parts.old.items ++ numbered (letters rows.now) columns.now) }
+    ensures { OnOk result (parts.new.items ≡ parts.old.items ++ each_numbered (letters rows.now) columns.now) }
 {
     for place in 0..columns.len() {
         list_letters_from(rows, place, &columns[place], parts)?;
@@ -280,7 +280,7 @@ fn list_letters_from(
 
 /// What each letter says.
 fn list_sayings(rows: &[usize], columns: &[Column], parts: &mut Vec<Part>) -> Result<(), AllocError>
-    ensures { OnOk result (parts.new.items ≡ parts.old.items ++ numbered (sayings rows.now) columns.now) }
+    ensures { OnOk result (parts.new.items ≡ parts.old.items ++ each_numbered (sayings rows.now) columns.now) }
 {
     for place in 0..columns.len() {
         list_sayings_of(rows, place, &columns[place], parts)?;
@@ -312,7 +312,7 @@ fn list_bearings(
     columns: &[Column],
     parts: &mut Vec<Part>,
 ) -> Result<(), AllocError>
-    ensures { OnOk result (parts.new.items ≡ parts.old.items ++ numbered (bears rows.now columns.now) events.now) }
+    ensures { OnOk result (parts.new.items ≡ parts.old.items ++ each_numbered (bears rows.now columns.now) events.now) }
 {
     for at in 0..events.len() {
         list_bearing(row_of(rows, at), events[at].event, columns, parts)?;
@@ -347,7 +347,7 @@ fn list_marks(
     columns: &[Column],
     parts: &mut Vec<Part>,
 ) -> Result<(), AllocError>
-    ensures { OnOk result (parts.new.items ≡ parts.old.items ++ numbered (mark rows.now columns.now) events.now) }
+    ensures { OnOk result (parts.new.items ≡ parts.old.items ++ each_numbered (mark rows.now columns.now) events.now) }
 {
     for at in 0..events.len() {
         list_mark(row_of(rows, at), events[at].event, columns, parts)?;
@@ -406,7 +406,7 @@ fn position_of(columns: &[Column], pid: Pid) -> Option<usize>
 
 /// A cross where a process ends.
 fn list_ends(rows: &[usize], columns: &[Column], parts: &mut Vec<Part>) -> Result<(), AllocError>
-    ensures { OnOk result (parts.new.items ≡ parts.old.items ++ numbered (end rows.now) columns.now) }
+    ensures { OnOk result (parts.new.items ≡ parts.old.items ++ each_numbered (end rows.now) columns.now) }
 {
     for place in 0..columns.len() {
         list_end(rows, place, &columns[place], parts)?;
@@ -441,7 +441,7 @@ fn list_lines(
 ) -> Result<(), AllocError>
     requires { length rows.now ≡ length events.now }
     ensures { OnOk result
-        (parts.new.items ≡ parts.old.items ++ numbered (lines rows.now events.now columns.now) events.now) }
+        (parts.new.items ≡ parts.old.items ++ each_numbered (line_parts rows.now events.now columns.now) events.now) }
 {
     for at in 0..events.len() {
         list_line(rows, events, at, columns, parts)?;
@@ -461,7 +461,7 @@ fn list_line(
     requires within { at < length rows.now }
     ensures { (event : Stamped) → OnOk result
         (parts.new.items
-        ≡ parts.old.items ++ lines rows.now events.now columns.now at (slice_index_or events.now at event)) }
+        ≡ parts.old.items ++ line_parts rows.now events.now columns.now at (slice_index_or events.now at event)) }
 {
     let first = begins_row(rows, at);
     if first {
@@ -531,7 +531,7 @@ fn block_of<'a>(rows: &[usize], events: &'a [Stamped], at: usize) -> &'a [Stampe
 
 /// Whether an event names the process.
 fn is_named(pid: Pid, event: Event) -> bool
-    ensures { result ≡ list_any (same_pid pid) (named event) }
+    ensures { result ≡ list_any (same_pid pid) (named_columns event) }
 {
     match event {
         Event::Born(child, Some(parent), _) => pid == parent || pid == child,
@@ -557,7 +557,7 @@ fn list_names_in(
     columns: &[Column],
     parts: &mut Vec<Part>,
 ) -> Result<(), AllocError>
-    ensures { OnOk result (parts.new.items ≡ parts.old.items ++ numbered (name_in block.now row) columns.now) }
+    ensures { OnOk result (parts.new.items ≡ parts.old.items ++ each_numbered (name_in block.now row) columns.now) }
 {
     for place in 0..columns.len() {
         list_name_in(block, row, place, columns[place].pid, parts)?;
@@ -582,7 +582,7 @@ fn list_name_in(
 }
 
 fn list_all_names(row: usize, columns: &[Column], parts: &mut Vec<Part>) -> Result<(), AllocError>
-    ensures { OnOk result (parts.new.items ≡ parts.old.items ++ numbered (name row) columns.now) }
+    ensures { OnOk result (parts.new.items ≡ parts.old.items ++ each_numbered (name row) columns.now) }
 {
     for place in 0..columns.len() {
         parts.push(Part::Name {

@@ -2,7 +2,7 @@
 
 ghost use Rattle.std.specs.Prelude.{◌≡◌, ◌++◌, OnOk, string_bytes};
 ghost use Rattle.pt_chart.specs.Text.{alive_text, before_text, curve_text, desk_text, label_text, last_number_text};
-ghost use Rattle.pt_chart.specs.Text.{level_text, marker_text, name_text, number_text, shape_text, size_text, strip_text};
+ghost use Rattle.pt_chart.specs.Text.{level_text, marker_text, name_text, row_number_text, shape_text, size_text, strip_text};
 ghost use Rattle.pt_chart.specs.Text.{stripe_text};
 
 use crate::point::{At, Point};
@@ -40,7 +40,7 @@ pub(crate) fn write_strip(y: u64, width: u64, text: &mut String) -> Result<(), A
 
 /// The stamp of the first event of a row.
 pub(crate) fn write_number(at: Point, number: u64, text: &mut String) -> Result<(), AllocError>
-    ensures { OnOk result (string_bytes text.new ≡ string_bytes text.old ++ number_text at number) }
+    ensures { OnOk result (string_bytes text.new ≡ string_bytes text.old ++ row_number_text at number) }
 {
     let at = At(at);
     write!(

@@ -7,8 +7,8 @@ ghost use Rattle.pt_events.specs.declared.event.Event.TheVariants.{Born, Said, C
 ghost use Rattle.pt_events.specs.History.{unborn, linked};
 ghost use Rattle.pt_process.specs.Outcome.{IsAnew};
 ghost use Rattle.pt_chart.specs.Chart.{sent_at};
-ghost use Rattle.pt_chart.specs.Following.{followed, seen, sends, ends, OpensAnew, gets, got_sent, got_end, left_sent};
-ghost use Rattle.pt_chart.specs.Following.{left_end, begins, changes};
+ghost use Rattle.pt_chart.specs.Following.{followed, seen_followed, sends_followed, ends_followed, OpensAnew, gets_followed, got_sent, got_end, left_sent};
+ghost use Rattle.pt_chart.specs.Following.{left_end, begins_followed, changes};
 ghost use Rattle.pt_chart.specs.Replying.{Replies};
 
 use crate::layout::Sending;
@@ -60,9 +60,9 @@ impl Follower {
         event: Event,
         sent: &mut Vec<Sending>,
     ) -> Result<Option<Reason>, AllocError>
-        ensures state { OpensAnew event self.old → OnOk result (self.new ≡ seen event self.old) }
-        ensures sent { OnOk result (sent.new.items ≡ sent.old.items ++ map (sent_at at) (sends event self.old)) }
-        ensures ending { IfOk result (λ reason. reason ≡ ends event self.old) }
+        ensures state { OpensAnew event self.old → OnOk result (self.new ≡ seen_followed event self.old) }
+        ensures sent { OnOk result (sent.new.items ≡ sent.old.items ++ map (sent_at at) (sends_followed event self.old)) }
+        ensures ending { IfOk result (λ reason. reason ≡ ends_followed event self.old) }
     {
         match event {
             Event::Born(pid, parent, link) => {
@@ -94,7 +94,7 @@ impl Follower {
         parent: Option<Pid>,
         link: Option<LinkId>,
     ) -> Result<(), AllocError>
-        ensures { OnOk result (self.new ≡ seen (Born pid parent link) self.old) }
+        ensures { OnOk result (self.new ≡ seen_followed (Born pid parent link) self.old) }
     {
         if pid == self.me {
             return self.begin(alloc, parent, link);
@@ -114,9 +114,9 @@ impl Follower {
         sent: &mut Vec<Sending>,
     ) -> Result<(), AllocError>
         ensures state { OpensAnew (Said from to signal) self.old
-            → OnOk result (self.new ≡ seen (Said from to signal) self.old) }
+            → OnOk result (self.new ≡ seen_followed (Said from to signal) self.old) }
         ensures sent { OnOk result
-            (sent.new.items ≡ sent.old.items ++ map (sent_at at) (sends (Said from to signal) self.old)) }
+            (sent.new.items ≡ sent.old.items ++ map (sent_at at) (sends_followed (Said from to signal) self.old)) }
     {
         if from != self.me {
             return Ok(());
@@ -138,10 +138,10 @@ impl Follower {
         signal: Signal,
         sent: &mut Vec<Sending>,
     ) -> Result<Option<Reason>, AllocError>
-        ensures state { OnOk result (self.new ≡ seen (Came from to signal) self.old) }
+        ensures state { OnOk result (self.new ≡ seen_followed (Came from to signal) self.old) }
         ensures sent { OnOk result
-            (sent.new.items ≡ sent.old.items ++ map (sent_at at) (sends (Came from to signal) self.old)) }
-        ensures ending { IfOk result (λ reason. reason ≡ ends (Came from to signal) self.old) }
+            (sent.new.items ≡ sent.old.items ++ map (sent_at at) (sends_followed (Came from to signal) self.old)) }
+        ensures ending { IfOk result (λ reason. reason ≡ ends_followed (Came from to signal) self.old) }
     {
         if to != self.me {
             return Ok(None);
@@ -160,7 +160,7 @@ impl Follower {
     }
 
     fn see_flag(&mut self, pid: Pid, on: bool)
-        ensures { self.new ≡ seen (Flag pid on) self.old }
+        ensures { self.new ≡ seen_followed (Flag pid on) self.old }
     {
         if pid == self.me {
             self.trap(on);
@@ -174,10 +174,10 @@ impl Follower {
         reason: Reason,
         sent: &mut Vec<Sending>,
     ) -> Result<Option<Reason>, AllocError>
-        ensures state { OnOk result (self.new ≡ seen (Left pid reason) self.old) }
+        ensures state { OnOk result (self.new ≡ seen_followed (Left pid reason) self.old) }
         ensures sent { OnOk result
-            (sent.new.items ≡ sent.old.items ++ map (sent_at at) (sends (Left pid reason) self.old)) }
-        ensures ending { IfOk result (λ ending. ending ≡ ends (Left pid reason) self.old) }
+            (sent.new.items ≡ sent.old.items ++ map (sent_at at) (sends_followed (Left pid reason) self.old)) }
+        ensures ending { IfOk result (λ ending. ending ≡ ends_followed (Left pid reason) self.old) }
     {
         if pid != self.me {
             return Ok(None);
@@ -191,7 +191,7 @@ impl Follower {
         parent: Option<Pid>,
         link: Option<LinkId>,
     ) -> Result<(), AllocError>
-        ensures { OnOk result (self.new ≡ begins parent link self.old) }
+        ensures { OnOk result (self.new ≡ begins_followed parent link self.old) }
     {
         if self.born {
             return Ok(());
@@ -250,7 +250,7 @@ impl Follower {
         sent: &mut Vec<Sending>,
     ) -> Result<Option<Reason>, AllocError>
         ensures state { OnOk result
-            (self.new ≡ record self.old { state = gets self.old.me from signal self.old.state }) }
+            (self.new ≡ record self.old { state = gets_followed self.old.me from signal self.old.state }) }
         ensures sent { OnOk result
             (sent.new.items ≡ sent.old.items ++ map (sent_at at) (got_sent self.old.me from signal self.old.state)) }
         ensures ending { IfOk result (λ reason. reason ≡ got_end self.old.me from signal self.old.state) }

@@ -6,7 +6,7 @@ ghost use Rattle.std.specs.List.{list_any};
 ghost use Rattle.pt_signal.specs.Values.{same_pid};
 ghost use Rattle.pt_events.specs.History.{is_birth};
 ghost use Rattle.pt_chart.specs.Chart.{IsLayout, IsColumn, IsLegalHistory, ShowsHistory, MonitorsAnew, arrows};
-ghost use Rattle.pt_chart.specs.Chart.{end_of, everyone, join, joined, named, past_of, place, place_behind};
+ghost use Rattle.pt_chart.specs.Chart.{end_of, everyone, join, joined_columns, named_columns, past_of, column_place, place_behind};
 ghost use Rattle.pt_chart.specs.Chart.{sent_of};
 ghost use Rattle.pt_chart.specs.Following.{noted};
 
@@ -96,7 +96,7 @@ fn pids_of(alloc: Global, events: &[Stamped]) -> Result<Vec<Pid>, AllocError>
 
 /// Those whom an event names join the others.
 fn name(pids: &mut Vec<Pid>, event: Event) -> Result<(), AllocError>
-    ensures { OnOk result (pids.new.items ≡ joined pids.old.items (named event)) }
+    ensures { OnOk result (pids.new.items ≡ joined_columns pids.old.items (named_columns event)) }
 {
     match event {
         Event::Born(pid, Some(parent), _) => {
@@ -246,7 +246,7 @@ fn arrows_of(
 /// The arrow of a letter that came by this event, if it did.
 fn arrow_of(pids: &[Pid], sending: Sending, came: Option<usize>) -> Arrow
     ensures { result
-        ≡ record { to = place pids.now sending.to; signal = sending.signal; sent = sending.event; came = came } }
+        ≡ record { to = column_place pids.now sending.to; signal = sending.signal; sent = sending.event; came = came } }
 {
     Arrow {
         to: place(pids, sending.to),
@@ -258,7 +258,7 @@ fn arrow_of(pids: &[Pid], sending: Sending, came: Option<usize>) -> Arrow
 
 /// The column of a process; behind all if it has none.
 fn place(pids: &[Pid], pid: Pid) -> usize
-    ensures { result ≡ place pids.now pid }
+    ensures { result ≡ column_place pids.now pid }
 {
     position_of(pids, pid).unwrap_or(pids.len())
 }

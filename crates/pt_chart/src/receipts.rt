@@ -2,7 +2,7 @@
 
 ghost use Rattle.std.specs.Prelude.{◌≡◌, ◌++◌, ◌∷◌, [], cond, drop, slice_get, IfOk, OnOk};
 ghost use Rattle.pt_chart.specs.Chart.{is_receipt};
-ghost use Rattle.pt_chart.specs.Receiving.{Awaits, IsQueued, IsQueuedBy, queue_of};
+ghost use Rattle.pt_chart.specs.Receiving.{Awaits, RowIsQueued, IsQueuedBy, rows_queued};
 
 use indexmap::IndexMap;
 use pt_events::{Event, Stamped};
@@ -59,9 +59,9 @@ pub(crate) struct Receipts {
 }
 
 impl Model for Receipts {
-    ghost use Rattle.pt_chart.specs.Receiving.{Queued};
+    ghost use Rattle.pt_chart.specs.Receiving.{QueuedRows};
 
-    ghost Value = { Queued };
+    ghost Value = { QueuedRows };
 
     ghost view = { λ r. r.queues.entries };
 }
@@ -78,8 +78,8 @@ impl Receipts {
 
     /// The event by which the next letter came to a receiver, which is taken out.
     pub(crate) fn pop(&mut self, to: Pid) -> Option<usize>
-        ensures first { result ≡ slice_get (queue_of self.old to) 0 }
-        ensures rest { IsQueued to (drop 1 (queue_of self.old to)) self.old self.new }
+        ensures first { result ≡ slice_get (rows_queued self.old to) 0 }
+        ensures rest { RowIsQueued to (drop 1 (rows_queued self.old to)) self.old self.new }
     {
         match self.queues.get_mut(&to) {
             Some(queue) => queue.pop(),
@@ -89,7 +89,7 @@ impl Receipts {
 
     /// The event is behind those of the receiver.
     fn push(&mut self, to: Pid, at: usize) -> Result<(), AllocError>
-        ensures { OnOk result (IsQueued to (queue_of self.old to ++ at ∷ []) self.old self.new) }
+        ensures { OnOk result (RowIsQueued to (rows_queued self.old to ++ at ∷ []) self.old self.new) }
     {
         match self.queues.get_mut(&to) {
             Some(queue) => queue.push(at),
@@ -99,7 +99,7 @@ impl Receipts {
 
     /// A queue more, of one event.
     fn open(&mut self, to: Pid, at: usize) -> Result<(), AllocError>
-        ensures { OnOk result (IsQueued to (at ∷ []) self.old self.new) }
+        ensures { OnOk result (RowIsQueued to (at ∷ []) self.old self.new) }
     {
         let queue = Queue::of(self.alloc, at)?;
         self.queues.insert(to, queue)?;

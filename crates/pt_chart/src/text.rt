@@ -4,11 +4,11 @@ ghost use Rattle.std.specs.Prelude.{◌≡◌, [], ◌++◌, IfOk, OnOk, map, sl
 ghost use Rattle.std.specs.List.{flat_map};
 ghost use Rattle.pt_events.specs.Text.{stamped_text};
 ghost use Rattle.pt_chart.specs.Points.{bend, sag, spot};
-ghost use Rattle.pt_chart.specs.Text.{arrow_text, bearing_class, bearing_label, bearing_text, birth_text};
+ghost use Rattle.pt_chart.specs.Text.{arrow_text, bearing_class, bearing_label, born_text, birth_text};
 ghost use Rattle.pt_chart.specs.Text.{closing_text, end_text, escape, escape_one, fit_text, ground_text};
-ghost use Rattle.pt_chart.specs.Text.{head_above_text, head_text, is_below, is_level, is_owed, last_text};
+ghost use Rattle.pt_chart.specs.Text.{head_above_text, page_head, is_below, is_level, is_owed, last_text};
 ghost use Rattle.pt_chart.specs.Text.{letter_label_text};
-ghost use Rattle.pt_chart.specs.Text.{letter_side_text, letter_text, life_text, mark_text};
+ghost use Rattle.pt_chart.specs.Text.{letter_side_text, arrow_letter_text, life_text, mark_text};
 ghost use Rattle.pt_chart.specs.Text.{name_above_text, named_birth_text};
 ghost use Rattle.pt_chart.specs.Text.{number_spot, opening_text, part_text, pid_above_text, refusal_text};
 ghost use Rattle.pt_chart.specs.Text.{said_bearing_text, said_end_text, saying_text, side_text, tip, trapping_text};
@@ -30,7 +30,7 @@ use std::alloc::{AllocError, Global};
 
 /// What the drawing begins with: the size of the page, and how its parts look.
 pub(crate) fn write_head(page: &Page, text: &mut String) -> Result<(), AllocError>
-    ensures { OnOk result (string_bytes text.new ≡ string_bytes text.old ++ head_text page.now) }
+    ensures { OnOk result (string_bytes text.new ≡ string_bytes text.old ++ page_head page.now) }
 {
     write_size(page.width(), page.height(), page.events, page.columns, text)?;
     text.push_str(STYLE)
@@ -268,7 +268,7 @@ fn write_letter(
     arrow: Arrow,
     text: &mut String,
 ) -> Result<(), AllocError>
-    ensures { OnOk result (string_bytes text.new ≡ string_bytes text.old ++ letter_text page.now column arrow) }
+    ensures { OnOk result (string_bytes text.new ≡ string_bytes text.old ++ arrow_letter_text page.now column arrow) }
 {
     let head = match arrow.came {
         Some(_) => "came",
@@ -427,7 +427,7 @@ fn write_bearing(
     text: &mut String,
 ) -> Result<(), AllocError>
     ensures { OnOk result
-        (string_bytes text.new ≡ string_bytes text.old ++ bearing_text row parent child by linked) }
+        (string_bytes text.new ≡ string_bytes text.old ++ born_text row parent child by linked) }
 {
     let plain = bearing_label(alloc, by, linked)?;
     let said = escaped(alloc, plain.as_str())?;

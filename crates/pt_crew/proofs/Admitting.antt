@@ -6,14 +6,14 @@ use Rattle.pt_crew.specs.declared.crew.Crew.{Crew}
 use Rattle.pt_crew.specs.declared.births.Role.{Role}
 use Rattle.pt_crew.specs.Visiting.{AreSame, AreWith}
 use Rattle.pt_crew.specs.Crews.{roles, left, waiting, queue, IsSame, Aboard, EntersOne}
-use Rattle.pt_crew.specs.Parts.{aboard, AdmitsOf, AdmitsFirst, IsLonger}
+use Rattle.pt_crew.specs.Parts.{aboard, AdmitsOf, AdmitsFirst, QueueIsLonger}
 use Rattle.pt_crew.proofs.Visiting.{same_roles}
 
 module _ {B : Type 0} (lives : Pid → Bool) (old mid new : Crew B) (room : IsSame old mid) where
   same_aboard : aboard mid ≡ aboard old
   same_aboard i = ((λ q. same_roles old mid room q i), room.rest.left i)
 
-  longer_from : IsLonger (queue mid) (queue new) → IsLonger (queue old) (queue new)
+  longer_from : QueueIsLonger (queue mid) (queue new) → QueueIsLonger (queue old) (queue new)
   longer_from l = (l.0, l.1 ∙ ap (λ (ps : List Pid). ps ++ l.0) room.queue)
 
   pub denied : aboard new ≡ aboard mid → waiting new ≡ waiting mid → new.refused ≡ true → queue new ≡ queue mid → new.rounds ≡ mid.rounds → AdmitsFirst lives old new
@@ -30,7 +30,7 @@ module _ {B : Type 0} (lives : Pid → Bool) (old mid new : Crew B) (room : IsSa
     rounds = rounds ∙ room.rest.rounds;
   }
 
-  one_admitted : (r : Role B) → waiting mid ≡ r ∷ waiting new → EntersOne lives r (aboard mid) (aboard new) → new.refused ≡ mid.refused → IsLonger (queue mid) (queue new) → new.rounds ≡ mid.rounds → AdmitsFirst lives old new
+  one_admitted : (r : Role B) → waiting mid ≡ r ∷ waiting new → EntersOne lives r (aboard mid) (aboard new) → new.refused ≡ mid.refused → QueueIsLonger (queue mid) (queue new) → new.rounds ≡ mid.rounds → AdmitsFirst lives old new
   one_admitted r first enters quiet longer rounds = record {
     admits = inl (subst (λ (w : List (Role B)). AdmitsOf lives w old new) (sym (sym room.rest.waiting ∙ first))
         (subst (λ (x : Aboard B). EntersOne lives r x (aboard new)) same_aboard enters, refl, quiet ∙ room.rest.refused));
@@ -44,7 +44,7 @@ module _ {B : Type 0} (lives : Pid → Bool) (old mid new : Crew B) (room : IsSa
       (subst (λ (b : Bool). MatchBool b (AreWith r.pid (Some (r.behaviour, r.next)) (roles mid) (roles new) × (left new ≡ left mid)) (AreSame (roles mid) (roles new) × (left new ≡ left mid ++ r ∷ []))) dead (same, gone))
       quiet ([], stands ∙ sym (append-nil (queue mid))) rounds
 
-  pub enters_alive : (r : Role B) → waiting mid ≡ r ∷ waiting new → true ≡ lives r.pid → AreWith r.pid (Some (r.behaviour, r.next)) (roles mid) (roles new) → left new ≡ left mid → new.refused ≡ mid.refused → IsLonger (queue mid) (queue new) → new.rounds ≡ mid.rounds → AdmitsFirst lives old new
+  pub enters_alive : (r : Role B) → waiting mid ≡ r ∷ waiting new → true ≡ lives r.pid → AreWith r.pid (Some (r.behaviour, r.next)) (roles mid) (roles new) → left new ≡ left mid → new.refused ≡ mid.refused → QueueIsLonger (queue mid) (queue new) → new.rounds ≡ mid.rounds → AdmitsFirst lives old new
   enters_alive r first alive with_r stays quiet longer rounds =
       one_admitted r first
       (subst (λ (b : Bool). MatchBool b (AreWith r.pid (Some (r.behaviour, r.next)) (roles mid) (roles new) × (left new ≡ left mid)) (AreSame (roles mid) (roles new) × (left new ≡ left mid ++ r ∷ []))) alive (with_r, stays))

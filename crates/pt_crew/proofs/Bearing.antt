@@ -10,7 +10,7 @@ use Rattle.pt_events.specs.Journal.{IsLocal}
 use Rattle.pt_shard.specs.ShardState.{ShardState, phase_of}
 use Rattle.pt_shard.specs.Calls.{BearsChild, birth_link}
 use Rattle.pt_crew.proofs.Newborn.{newborn_is}
-use Rattle.pt_crew.specs.Births.{born, kept}
+use Rattle.pt_crew.specs.Births.{born, kept_roles}
 use Rattle.pt_crew.proofs.Takes.{bore_takes}
 
 taken_off : {X : Type 0} (xs : List X) (x : X) (n m : ℕ) → m ≡ n + 1 → take (length (xs ++ x ∷ []) - m) (xs ++ x ∷ []) ≡ take (length xs - n) xs
@@ -20,12 +20,12 @@ taken_off xs x n m is =
     ap (λ k. take k (xs ++ x ∷ [])) same ∙ take-append-le (length xs - n) xs (x ∷ []) (omega arith)
 
 -- one more is born
-pub kept_more : {B : Type 0} (old new : Births B) (r : Role B) → born new ≡ born old ++ r ∷ [] → new.fresh ≡ old.fresh + 1 → kept new ≡ kept old
+pub kept_more : {B : Type 0} (old new : Births B) (r : Role B) → born new ≡ born old ++ r ∷ [] → new.fresh ≡ old.fresh + 1 → kept_roles new ≡ kept_roles old
 kept_more old new r is fresh =
     ap (λ (xs : List (Role _)). take (length xs - new.fresh) xs) is ∙ taken_off (born old) r old.fresh new.fresh fresh
 
 -- so what a behaviour leaves begins with what was there
-pub grown : {B : Type 0} (old mid new : Births B) → kept mid ≡ born old → kept new ≡ kept mid → (bore : List (Role B)) × (born new ≡ born old ++ bore)
+pub grown : {B : Type 0} (old mid new : Births B) → kept_roles mid ≡ born old → kept_roles new ≡ kept_roles mid → (bore : List (Role B)) × (born new ≡ born old ++ bore)
 grown old mid new all same =
     (drop (length (born new) - new.fresh) (born new), sym (take-append-drop (length (born new) - new.fresh) (born new)) ∙ ap (λ xs. xs ++ drop (length (born new) - new.fresh) (born new)) (same ∙ all))
 

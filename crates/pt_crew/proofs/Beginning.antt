@@ -13,7 +13,7 @@ use Rattle.pt_crew.specs.declared.crew.Member.{Member}
 use Rattle.pt_crew.specs.declared.crew.Crew.{Crew}
 use Rattle.pt_crew.specs.Visiting.{AreSame}
 use Rattle.pt_crew.specs.Crews.{Attends, AreBorn, HasRoom, members, role, roles, queue}
-use Rattle.pt_crew.specs.Parts.{MarkedBut, Queued, Wakes, WakesAt}
+use Rattle.pt_crew.specs.Parts.{MarkedBut, QueueHolds, Wakes, WakesAt}
 use Rattle.pt_signal.proofs.Same.{same_pid_is}
 use Rattle.pt_crew.proofs.Places.{same_pid_sym}
 use Rattle.pt_crew.proofs.Waking.{by_cases, some_none}
@@ -99,7 +99,7 @@ pub all_marked : {B : Type 0} (old new : Crew B) (place : ℕ) → length old.me
 all_marked old new place past keys marked = subst (λ (ps : List Pid). MarkedBut ps new) (dropped new.members.entries place (let l = same_length new.members.entries old.members.entries keys in omega (arith, l, past))) marked
 
 -- all are marked, and nothing of the journal was read
-pub begun_again : {B : Type 0} (old new : Crew B) (d e : ShardState) → new.read ≡ 0 → MarkedBut [] new → AreSame (roles old) (roles new) → (Queued old → Queued new)
+pub begun_again : {B : Type 0} (old new : Crew B) (d e : ShardState) → new.read ≡ 0 → MarkedBut [] new → AreSame (roles old) (roles new) → (QueueHolds old → QueueHolds new)
     → (HasRoom old → HasRoom new) → Attends old d → AreBorn (roles old) e → Attends new e
 begun_again {B} old new d e unread marked same queued room a born = record {
   knows = record {

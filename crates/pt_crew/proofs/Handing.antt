@@ -18,8 +18,8 @@ use Rattle.pt_crew.specs.Births.{bore}
 use Rattle.pt_crew.specs.declared.crew.Tended.{Tended}
 use Rattle.pt_crew.specs.declared.crew.Tended.TheVariants.{Idle, Refused as Denied}
 use Rattle.pt_crew.specs.Visiting.{Answers, Roles, AreSame, AreWith, Scene, HandsTo, LeavesAs, StaysAs, ComesTo, SeesTo, EndsAs, TakesAs, VisitsOne, Visits, takes}
-use Rattle.pt_crew.specs.Crews.{Rounds}
-use Rattle.pt_crew.specs.Handing.{MayLeave, MayBeHanded, HandsAll, Handed, item_of, items_of}
+use Rattle.pt_crew.specs.Crews.{CrewRounds}
+use Rattle.pt_crew.specs.Handing.{MayLeave, MayBeHanded, HandsAll, Handed, item_handed, items_handed}
 use Rattle.std.specs.Prelude.{MatchBool}
 use Rattle.pt_crew.proofs.Waking.{by_cases, elsewhere}
 use Rattle.pt_crew.proofs.Takes.{left_takes, none_taken, one_taken, refused_taken}
@@ -43,9 +43,9 @@ module _ {B : Type 0} where
       (λ other. sym (elsewhere old new p (new p) with_p q other) ∙ is)
 
 -- the items of what was handed before and then
-items_then : (xs ys : List (Pid × Option Item)) → items_of (xs ++ ys) ≡ items_of xs ++ items_of ys
+items_then : (xs ys : List (Pid × Option Item)) → items_handed (xs ++ ys) ≡ items_handed xs ++ items_handed ys
 items_then [] ys = refl
-items_then (t ∷ xs) ys = ap (λ (l : List (Pid × Item)). item_of t.0 t.1 ++ l) (items_then xs ys) ∙ sym (append_assoc (item_of t.0 t.1) (items_of xs) (items_of ys))
+items_then (t ∷ xs) ys = ap (λ (l : List (Pid × Item)). item_handed t.0 t.1 ++ l) (items_then xs ys) ∙ sym (append_assoc (item_handed t.0 t.1) (items_handed xs) (items_handed ys))
 
 module _ {B : Type 0} (answers : Answers B) where
   absorb : (handed : List (Pid × Option Item)) (old mid new : Roles B) → HandsAll answers handed old mid → MayLeave mid new → HandsAll answers handed old new
@@ -63,7 +63,7 @@ module _ {B : Type 0} (answers : Answers B) where
   handed_then old mid new d f e a b = record {
     handed = b.handed ++ a.handed;
     hands = all_then a.handed b.handed old mid new a.hands b.hands;
-    takes = b.takes ∙ ap (λ (l : List (Pid × Item)). items_of b.handed ++ l) a.takes ∙ sym (append_assoc (items_of b.handed) (items_of a.handed) (takes d.journal))
+    takes = b.takes ∙ ap (λ (l : List (Pid × Item)). items_handed b.handed ++ l) a.takes ∙ sym (append_assoc (items_handed b.handed) (items_handed a.handed) (takes d.journal))
         ∙ ap (λ (l : List (Pid × Item)). l ++ takes d.journal) (sym (items_then b.handed a.handed));
   }
 
@@ -80,7 +80,7 @@ module _ {B : Type 0} (answers : Answers B) where
     stood : (mid : ShardState) (as_is t : Tended) (role : B × Next) → old p ≡ Some role → takes mid.journal ≡ takes d.journal → StaysAs as_is role mid t (new p) e → Handed answers old d new e
     stood mid as_is t role was same h = stays role was h.1 (ap (λ (x : ShardState). takes x.journal) h.2 ∙ same)
 
-    one : (b : B) (before : Next) (item : Option Item) (mid : ShardState) (t : Tended) → old p ≡ Some (b, before) → MayBeHanded before item → takes mid.journal ≡ items_of ((p, item) ∷ []) ++ takes d.journal
+    one : (b : B) (before : Next) (item : Option Item) (mid : ShardState) (t : Tended) → old p ≡ Some (b, before) → MayBeHanded before item → takes mid.journal ≡ items_handed ((p, item) ∷ []) ++ takes d.journal
         → HandsTo answers p b item mid t (new p) e births → Handed answers old d new e
     one b before item mid t was may same h = record {
       handed = (p, item) ∷ [];
@@ -156,7 +156,7 @@ module _ {B : Type 0} (answers : Answers B) where
       handed_then old.roles h.0.roles new.roles old.desk h.0.desk new.desk (one_hands p old h.0 h.1) (visits_hand ps h.0 new h.2)
 
   -- so in all rounds of a step
-  pub rounds_hand : (queues : List (List Pid)) (old new : Scene B) → Rounds answers queues old new → Handed answers old.roles old.desk new.roles new.desk
+  pub rounds_hand : (queues : List (List Pid)) (old new : Scene B) → CrewRounds answers queues old new → Handed answers old.roles old.desk new.roles new.desk
   rounds_hand [] old new h = same_hands old new h
   rounds_hand (queue ∷ queues) old new h =
       handed_then old.roles h.0.roles new.roles old.desk h.0.desk new.desk (rounds_hand queues old h.0 h.1) (visits_hand queue (record h.0 { again = [] }) new h.3)

@@ -18,7 +18,7 @@ use Rattle.pt_events.specs.Journal.{events}
 use Rattle.pt_events.proofs.Phases.{after_born}
 use Rattle.pt_shard.specs.declared.fault.Fault.{Fault}
 use Rattle.pt_shard.specs.declared.fault.Fault.TheVariants.{Full, Memory, Worn, Gone, Myself, NoProc}
-use Rattle.pt_shard.specs.ShardState.{ShardState, phase_of, lives, after, handled}
+use Rattle.pt_shard.specs.ShardState.{ShardState, phase_of, lives, shard_after, handled}
 use Rattle.pt_shard.specs.Calls.{Calls, Bears, after_if, take_event, first_match}
 use Rattle.pt_shard.specs.Extends.{Extends}
 use Rattle.pt_shard.specs.Outbox.{holding}
@@ -36,8 +36,8 @@ use Rattle.pt_crew.specs.declared.crew.Tended.TheVariants.{Idle, Again, Done, Re
 use Rattle.pt_crew.specs.Births.{bore}
 use Rattle.pt_crew.specs.Visiting.{Answers, Roles, AreSame, AreWith, Scene, HandsTo, LeavesAs, StaysAs, ComesTo, SeesTo, EndsAs, TakesAs, VisitsOne, Visits}
 use Rattle.pt_crew.specs.Visiting.{Bears as BearsAs, handed_by, handed_as, left_as}
-use Rattle.pt_crew.specs.Crews.{Rounds, Aboard, EntersAll, StepsOn, CrewDoes, Enters, Works, roles, left, waiting}
-use Rattle.pt_crew.specs.Upholding.{Relation, IsLater, IsLeftAlone, ActsFor, IsTaken, StandsFirst, AllFirst, IsUpheld, AllStand, StandsStill, AllStill, Upholds, child_by, children_by}
+use Rattle.pt_crew.specs.Crews.{CrewRounds, Aboard, EntersAll, StepsOn, CrewDoes, Enters, CrewWorks, roles, left, waiting}
+use Rattle.pt_crew.specs.Upholding.{Relation, IsLater, IsLeftAlone, ActsFor, ItemIsTaken, StandsFirst, AllFirst, IsUpheld, AllStand, StandsStill, AllStill, Upholds, child_by, children_by}
 use Rattle.pt_crew.proofs.Waking.{by_cases, elsewhere, there, same_some}
 
 -- desks that go on --------------------------------------------------------------------------
@@ -90,10 +90,10 @@ pub acts_then : (p : Pid) (d f e : ShardState) → IsLater d f → ActsFor p d f
 acts_then p d f e x a b q other born = alone_then q d f e (a q other born) (b q other (born_then d f x q born))
 
 -- an event that does not touch a process leaves it as it is
-pub untouched : (e : Event) (d : ShardState) (q : Pid) → touches q e ≡ false → phase_of (after e d) q ≡ phase_of d q
+pub untouched : (e : Event) (d : ShardState) (q : Pid) → touches q e ≡ false → phase_of (shard_after e d) q ≡ phase_of d q
 untouched e d q none i = cond (none i) (change q e (phase_of d q)) (phase_of d q)
 
-pub alone_event : (e : Event) (d : ShardState) (q : Pid) → touches q e ≡ false → child_by q e ≡ [] → IsLeftAlone q d (after e d)
+pub alone_event : (e : Event) (d : ShardState) (q : Pid) → touches q e ≡ false → child_by q e ≡ [] → IsLeftAlone q d (shard_after e d)
 alone_event e d q none bare = (untouched e d q none, ap (λ (qs : List Pid). qs ++ children_by q d.journal) bare)
 
 pub same_pid_sym : (p q : Pid) → same_pid p q ≡ false → same_pid q p ≡ false
@@ -102,7 +102,7 @@ same_pid_sym p q other = by_cases (same_pid q p) (λ same. let is = same_pid_is 
 later_event : (e : Event) (n : ℕ) (d f : ShardState) → f.start ≡ d.start → (s : Stamped) → f.journal ≡ s ∷ d.journal → IsLater d f
 later_event e n d f start s journal = record { start = start; more = s ∷ []; journal = journal }
 
-pub later_after : (e : Event) (d : ShardState) → IsLater d (after e d)
+pub later_after : (e : Event) (d : ShardState) → IsLater d (shard_after e d)
 later_after e d = record { start = refl; more = _ ∷ []; journal = refl }
 
 pub later_handled : (l : Letter) (d : ShardState) → IsLater d (handled l d)
@@ -205,7 +205,7 @@ module _ {B : Type 0} (answers : Answers B) (stands : Relation B) (k : IsUpheld 
 
     -- it was handed an item, or none
     handed : (item : Option Item) (was d e : ShardState) (t : Tended) (now : Option (B × Next)) → is_unborn (phase_of was p) ≡ false → stands role.0 role.1 p was
-        → IsLater was d → ActsFor p was d → IsTaken p role.1 item was d → BearsAs t waited waits → HandsTo answers p role.0 item d t now e (bore waited waits) → Comes p (Some role) t was e now waited waits
+        → IsLater was d → ActsFor p was d → ItemIsTaken p role.1 item was d → BearsAs t waited waits → HandsTo answers p role.0 item d t now e (bore waited waits) → Comes p (Some role) t was e now waited waits
     handed item was d e t now born here later acts taken bears h = record {
       out = λ r r_is ended. absurd (not_handed h.next (phase_of e p) (sym h.tended ∙ ended));
       none = λ bad. absurd (cc);
@@ -228,7 +228,7 @@ module _ {B : Type 0} (answers : Answers B) (stands : Relation B) (k : IsUpheld 
     asked : (d e : ShardState) (r : Reason) (t : Tended) (now : Option (B × Next)) (result : Result (Unit {0}) Fault) → role.1 ≡ Stopping r → is_unborn (phase_of d p) ≡ false → stands role.0 role.1 p d
         → BearsAs t waited waits → Calls p (Some (Left p r)) (tt {0}) d result e → EndsAs role result t now → Comes p (Some role) t d e now waited waits
     asked d e r t now (Ok x) stops born here bears calls ends = gone t d e now onward
-        (λ q other b. alone_then q d (after (Left p r) d) e (alone_event (Left p r) d q (same_pid_sym p q other) refl) (alone_is (after (Left p r) d) e calls.3 q))
+        (λ q other b. alone_then q d (shard_after (Left p r) d) e (alone_event (Left p r) d q (same_pid_sym p q other) refl) (alone_is (shard_after (Left p r) d) e calls.3 q))
         (born_then d e onward p born)
         (subst (λ (n : Next). stands role.0 n p e) (sym stops) (subst (λ (f : ShardState). stands role.0 (Stopping r) p f) (sym calls.3)
         (k.ends role.0 r p d (subst (λ (n : Next). stands role.0 n p d) stops here) born)))
@@ -249,10 +249,10 @@ module _ {B : Type 0} (answers : Answers B) (stands : Relation B) (k : IsUpheld 
     took pick d mid e t now (Ok None) waits_for born here bears calls h = stayed Idle t d e now (λ is. absurd (cc)) h.0 born here (subst (λ (x : Tended). BearsAs x waited waits) h.0 bears) h.1 (h.2 ∙ calls.3 ∙ ap (λ (o : Option Item). after_if (option_map (Took p pick) o) d) (sym calls.2))
     took pick d mid e t now (Ok (Some i)) waits_for born here bears calls h =
         let fits_it : first_match d p pick ≡ Some i = sym calls.2 in
-        let mid_is : mid ≡ after (Took p pick i) d = calls.3 ∙ ap (λ (o : Option Item). after_if (option_map (Took p pick) o) d) fits_it in
+        let mid_is : mid ≡ shard_after (Took p pick i) d = calls.3 ∙ ap (λ (o : Option Item). after_if (option_map (Took p pick) o) d) fits_it in
         handed (Some i) d mid e t now born here
         (subst (λ (f : ShardState). IsLater d f) (sym mid_is) (later_after (Took p pick i) d))
-        (λ q other b. alone_then q d (after (Took p pick i) d) mid (alone_event (Took p pick i) d q (same_pid_sym p q other) refl) (alone_is (after (Took p pick i) d) mid mid_is q))
+        (λ q other b. alone_then q d (shard_after (Took p pick i) d) mid (alone_event (Took p pick i) d q (same_pid_sym p q other) refl) (alone_is (shard_after (Took p pick i) d) mid mid_is q))
         (pick, waits_for, calls.0, fits_it, mid_is) bears h
     took pick d mid e t now (Err Gone) waits_for born here bears calls h = gone_as d e t now born here (h.2 ∙ calls.1) (subst (λ (x : Tended). BearsAs x waited waits) h.0 bears) h.1
     took pick d mid e t now (Err Memory) waits_for born here bears calls h = stayed Denied t d e now (λ is. absurd (cc)) h.0 born here (subst (λ (x : Tended). BearsAs x waited waits) h.0 bears) h.1 (h.2 ∙ calls.3)
@@ -359,7 +359,7 @@ module _ {B : Type 0} (answers : Answers B) (stands : Relation B) (k : IsUpheld 
   visits_uphold [] old new h a = subst Fine (sym h) a
   visits_uphold (p ∷ ps) old new h a = visits_uphold ps h.0 new h.2 (one_upholds p old h.0 h.1 a)
 
-  rounds_uphold : (queues : List (List Pid)) (old new : Scene B) → Rounds answers queues old new → Fine old → Fine new
+  rounds_uphold : (queues : List (List Pid)) (old new : Scene B) → CrewRounds answers queues old new → Fine old → Fine new
   rounds_uphold [] old new h a = subst Fine (sym h) a
   rounds_uphold (queue ∷ queues) old new h a =
       let b = rounds_uphold queues old h.0 h.1 a in
@@ -483,7 +483,7 @@ module _ {B : Type 0} (answers : Answers B) (stands : Relation B) (k : IsUpheld 
       (all_handled r h.letters h.posted_desk h.last h.handles
       (stand_same r old.shard posted (ap (λ (x : ShardState). x.start) same) (ap (λ (x : ShardState). x.journal) same) a))
 
-  pub work_upholds : (old new : Crew B) (budget : ℕ) (d e : DeskState) (turned : Turned) → Works answers budget old d turned new e → Upholds stands old d.shard → Upholds stands new e.shard
+  pub work_upholds : (old new : Crew B) (budget : ℕ) (d e : DeskState) (turned : Turned) → CrewWorks answers budget old d turned new e → Upholds stands old d.shard → Upholds stands new e.shard
   work_upholds old new budget d e turned h a =
       let b = step_upholds old new d.shard h.0.shard h.1 a in
       record { members = turn_upholds (roles new) budget h.0 turned e h.2 b.members; waiting = b.waiting }
@@ -515,7 +515,7 @@ module _ {B : Type 0} (answers : Answers B) (stands : Relation B) (k : IsUpheld 
   pub receipt_left : (rs : List (Role B)) (d : ShardState) (l : Letter) → AllStill stands rs d → AllStill stands rs (handled l d)
   receipt_left rs d l a = still_then d (handled l d) (λ r. receipt_upholds r d l) rs a
 
-  pub work_left : (old new : Crew B) (budget : ℕ) (d e : DeskState) (turned : Turned) → Works answers budget old d turned new e → Upholds stands old d.shard → AllStill stands (left new) e.shard
+  pub work_left : (old new : Crew B) (budget : ℕ) (d e : DeskState) (turned : Turned) → CrewWorks answers budget old d turned new e → Upholds stands old d.shard → AllStill stands (left new) e.shard
   work_left old new budget d e turned h a =
       still_then h.0.shard e.shard (λ r. turn_upholds r budget h.0 turned e h.2) (left new) (step_left old new d.shard h.0.shard h.1 a)
 
@@ -537,7 +537,7 @@ module _ {B : Type 0} (answers : Answers B) (stands : Relation B) (k : IsUpheld 
   }
     where
       g : ShardState
-      g = after (Born p None None) d
+      g = shard_after (Born p None None) d
 
       away : (q : Pid) → same_pid p q ≡ false → phase_of g q ≡ phase_of d q
       away q other i = cond ((same_pid_sym p q other i) || false) (cond (same_pid_sym p q other i) (newborn None None (phase_of d q)) (while_living (linked (Some p) None) (phase_of d q))) (phase_of d q)

@@ -13,11 +13,11 @@ use Rattle.pt_crew.specs.declared.crew.Member.{Member}
 use Rattle.pt_crew.specs.declared.crew.Crew.{Crew}
 use Rattle.pt_crew.specs.declared.crew.Tended.{Tended}
 use Rattle.pt_crew.specs.declared.crew.Tended.TheVariants.{Idle, Done, Refused as Denied}
-use Rattle.pt_crew.specs.Visiting.{Answers, Roles, AreSame, AreWith, Scene, StaysAs, Bears, ComesTo, SeesTo, VisitsOne, Visits, again_as, left_as, is_refused}
-use Rattle.pt_crew.specs.Crews.{members, role, roles, queue, waiting, left, scene, IsSame, KeepsRest, Attends, Rounds, AreOnce, Aboard, EntersAll, StepsOn}
+use Rattle.pt_crew.specs.Visiting.{Answers, Roles, AreSame, AreWith, Scene, StaysAs, BearsChildren, ComesTo, SeesTo, VisitsOne, Visits, again_as, left_as, is_refused}
+use Rattle.pt_crew.specs.Crews.{members, role, roles, queue, waiting, left, scene, IsSame, KeepsRest, Attends, CrewRounds, AreOnce, Aboard, EntersAll, StepsOn}
 use Rattle.pt_crew.specs.declared.births.Role.{Role}
 use Rattle.pt_crew.specs.Births.{bore}
-use Rattle.pt_crew.specs.Parts.{IsLonger, WakesBy, Serves, Admits, AdmitsFirst, AdmitsOf, aboard, kept_as}
+use Rattle.pt_crew.specs.Parts.{QueueIsLonger, WakesBy, Serves, Admits, AdmitsFirst, AdmitsOf, aboard, kept_as}
 use Rattle.pt_crew.proofs.Waking.{by_cases, elsewhere, there, same_back}
 
 -- who reads what is new changes nobody ------------------------------------------------
@@ -25,10 +25,10 @@ use Rattle.pt_crew.proofs.Waking.{by_cases, elsewhere, there, same_back}
 pub same_roles : {B : Type 0} (old new : Crew B) → IsSame old new → AreSame (roles old) (roles new)
 same_roles old new same q = ap (option_map role) (same.members q)
 
-pub same_longer : {B : Type 0} (old new : Crew B) → IsSame old new → IsLonger (queue old) (queue new)
+pub same_longer : {B : Type 0} (old new : Crew B) → IsSame old new → QueueIsLonger (queue old) (queue new)
 same_longer old new same = ([], same.queue ∙ sym (append-nil (queue old)))
 
-pub longer_then : (old mid new : List Pid) → IsLonger old mid → IsLonger mid new → IsLonger old new
+pub longer_then : (old mid new : List Pid) → QueueIsLonger old mid → QueueIsLonger mid new → QueueIsLonger old new
 longer_then old mid new a b = (a.0 ++ b.0, b.1 ∙ ap (λ (l : List Pid). l ++ b.0) a.1 ∙ append_assoc old a.0 b.0)
 
 pub woke_roles : {B : Type 0} (e : Event) (old new : Crew B) → WakesBy e old new → AreSame (roles old) (roles new)
@@ -40,7 +40,7 @@ woke_roles (Flag p on) old new h = same_roles old new h
 woke_roles (Left p r) old new h = h.roles
 woke_roles (Refused a b) old new h = same_roles old new h
 
-pub woke_longer : {B : Type 0} (e : Event) (old new : Crew B) → WakesBy e old new → IsLonger (queue old) (queue new)
+pub woke_longer : {B : Type 0} (e : Event) (old new : Crew B) → WakesBy e old new → QueueIsLonger (queue old) (queue new)
 woke_longer (Born p parent link) old new h = same_longer old new h
 woke_longer (Said a b x) old new h = same_longer old new h
 woke_longer (Came a b x) old new h = h.longer
@@ -103,7 +103,7 @@ module _ {B : Type 0} (answers : Answers B) where
   pub visited : (old new : Crew B) (p : Pid) (v : Member B) (w : Option (Member B)) (t : Tended) (d e : ShardState) → members old p ≡ Some v
       → ((q : Pid) → members new q ≡ cond (same_pid p q) w (members old q))
       → StaysAs Denied (role v) d t (option_map role w) e ⊎ SeesTo answers p v.behaviour v.next d t (option_map role w) e (bore (waiting old) (waiting new))
-      → Bears t (waiting old) (waiting new) → left new ≡ left old ++ left_as p (Some (role v)) t → new.refused ≡ (old.refused || is_refused t)
+      → BearsChildren t (waiting old) (waiting new) → left new ≡ left old ++ left_as p (Some (role v)) t → new.refused ≡ (old.refused || is_refused t)
       → VisitsOne answers p (scene [] old d) (scene (again_as p t) new e)
   visited old new p v w t d e held at sees bears gone says = record {
     tended = t;
@@ -142,7 +142,7 @@ module _ {B : Type 0} (answers : Answers B) where
   pub serves_first : (start rest : List Pid) (old new : Crew B) (p : Pid) (v : Member B) (w : Option (Member B)) (t : Tended) (d e : ShardState) → start ≡ p ∷ rest → queue new ≡ rest ++ again_as p t → members old p ≡ Some v
       → ((q : Pid) → members new q ≡ cond (same_pid p q) w (members old q))
       → StaysAs Denied (role v) d t (option_map role w) e ⊎ SeesTo answers p v.behaviour v.next d t (option_map role w) e (bore (waiting old) (waiting new))
-      → Bears t (waiting old) (waiting new) → left new ≡ left old ++ left_as p (Some (role v)) t → new.refused ≡ (old.refused || is_refused t)
+      → BearsChildren t (waiting old) (waiting new) → left new ≡ left old ++ left_as p (Some (role v)) t → new.refused ≡ (old.refused || is_refused t)
       → Serves answers start old d new e
   serves_first start rest old new p v w t d e is later held at sees bears gone says =
       subst (λ (ps : List Pid). Serves answers ps old d new e) (sym is) (again_as p t, visited old new p v w t d e held at sees bears gone says, later)
@@ -154,18 +154,18 @@ module _ {B : Type 0} (answers : Answers B) where
   -- who has nothing to do for now leaves the queue
   leaves_first : (start rest : List Pid) (old new : Crew B) (p : Pid) (v m : Member B) (t s : Tended) (d e : ShardState) → again_as p t ≡ [] → left_as p (Some (role v)) t ≡ [] → is_refused t ≡ false → kept_as t m ≡ Some (role m)
       → s ≡ t → start ≡ p ∷ rest → queue new ≡ rest → members old p ≡ Some v → (w : Member B) → role m ≡ role w → ((q : Pid) → members new q ≡ cond (same_pid p q) (Some w) (members old q))
-      → SeesTo answers p v.behaviour v.next d s (kept_as s m) e (bore (waiting old) (waiting new)) → Bears s (waiting old) (waiting new) → left new ≡ left old → new.refused ≡ old.refused → Serves answers start old d new e
+      → SeesTo answers p v.behaviour v.next d s (kept_as s m) e (bore (waiting old) (waiting new)) → BearsChildren s (waiting old) (waiting new) → left new ≡ left old → new.refused ≡ old.refused → Serves answers start old d new e
   leaves_first start rest old new p v m t s d e none nobody quiet kept at_t is later held w same at sees bears gone says =
       serves_first start rest old new p v (Some w) t d e is (later ∙ sym (append-nil rest) ∙ ap (λ (l : List Pid). rest ++ l) (sym none)) held at
       (inr (subst (λ (o : Option _). SeesTo answers p v.behaviour v.next d t o e (bore (waiting old) (waiting new))) (kept ∙ ap (λ (r : _). Some r) same)
       (subst (λ (x : Tended). SeesTo answers p v.behaviour v.next d x (kept_as x m) e (bore (waiting old) (waiting new))) at_t sees)))
-      (subst (λ (x : Tended). Bears x (waiting old) (waiting new)) at_t bears)
+      (subst (λ (x : Tended). BearsChildren x (waiting old) (waiting new)) at_t bears)
       (gone ∙ sym (append-nil (left old)) ∙ ap (λ (l : List (Role B)). left old ++ l) (sym nobody))
       (says ∙ or_none old.refused ∙ ap (λ (b : Bool). old.refused || b) (sym quiet))
 
   pub idles_first : (start rest : List Pid) (old new : Crew B) (p : Pid) (v m : Member B) (t : Tended) (d e : ShardState) → (t ≡ Idle) ⊎ (t ≡ Done)
       → start ≡ p ∷ rest → queue new ≡ rest → members old p ≡ Some v → (w : Member B) → role m ≡ role w → ((q : Pid) → members new q ≡ cond (same_pid p q) (Some w) (members old q))
-      → SeesTo answers p v.behaviour v.next d t (kept_as t m) e (bore (waiting old) (waiting new)) → Bears t (waiting old) (waiting new) → left new ≡ left old → new.refused ≡ old.refused → Serves answers start old d new e
+      → SeesTo answers p v.behaviour v.next d t (kept_as t m) e (bore (waiting old) (waiting new)) → BearsChildren t (waiting old) (waiting new) → left new ≡ left old → new.refused ≡ old.refused → Serves answers start old d new e
   idles_first start rest old new p v m t d e (inl idle) = leaves_first start rest old new p v m Idle t d e refl refl refl refl idle
   idles_first start rest old new p v m t d e (inr done) = leaves_first start rest old new p v m Done t d e refl refl refl refl done
 
@@ -251,12 +251,12 @@ module _ {B : Type 0} (answers : Answers B) where
   pub record Stepping (n : ℕ) (old : Crew B) (d : ShardState) (now : Crew B) (e : ShardState) : Type 0 where
     pub woken : List Pid
     pub queues : List (List Pid)
-    pub rounds : Rounds answers queues (begun old woken d) (scene (queue now) now e)
+    pub rounds : CrewRounds answers queues (begun old woken d) (scene (queue now) now e)
     pub count : length queues ≡ n
     pub once : Attends old d → AreOnce queues
     pub same : now.rounds ≡ old.rounds
 
-  pub none_yet : (old now : Crew B) (d : ShardState) → AreSame (roles old) (roles now) → IsLonger (queue old) (queue now) → waiting now ≡ waiting old → left now ≡ [] → now.refused ≡ false → now.rounds ≡ old.rounds → Stepping 0 old d now d
+  pub none_yet : (old now : Crew B) (d : ShardState) → AreSame (roles old) (roles now) → QueueIsLonger (queue old) (queue now) → waiting now ≡ waiting old → left now ≡ [] → now.refused ≡ false → now.rounds ≡ old.rounds → Stepping 0 old d now d
   none_yet old now d kept longer waits bare quiet same = record {
     woken = longer.0;
     queues = [];
@@ -278,7 +278,7 @@ module _ {B : Type 0} (answers : Answers B) where
   }
 
   pub last_look : (n : ℕ) (old mid late new : Crew B) (d e : ShardState) → Stepping n old d mid e → n ≡ max 1 old.rounds → Admits (lives e) mid late
-      → AreSame (roles late) (roles new) → IsLonger (queue late) (queue new) → KeepsRest late new → StepsOn answers old d new e
+      → AreSame (roles late) (roles new) → QueueIsLonger (queue late) (queue new) → KeepsRest late new → StepsOn answers old d new e
   last_look n old mid late new d e so count admits kept longer rest = record {
     woken = so.woken;
     queues = so.queues;
@@ -311,7 +311,7 @@ module _ {B : Type 0} (lives : Pid → Bool) where
     pub born : waiting old ≡ entered ++ waiting now
     pub enters : EntersAll lives entered (aboard old) (aboard now)
     pub told : ((n + length (waiting now) ≡ length (waiting old)) × (now.refused ≡ old.refused)) ⊎ (now.refused ≡ true)
-    pub longer : IsLonger (queue old) (queue now)
+    pub longer : QueueIsLonger (queue old) (queue now)
     pub rounds : now.rounds ≡ old.rounds
 
   pub none_entered : (old : Crew B) → Entering 0 old old

@@ -16,7 +16,7 @@ use Rattle.pt_crew.specs.declared.crew.Member.{Member}
 use Rattle.pt_crew.specs.Waking.{Members, IsQueue, Knows, has_work, in_queue}
 use Rattle.pt_crew.specs.declared.crew.Crew.{Crew}
 use Rattle.pt_crew.specs.Crews.{members, role, queue, IsSame, KeepsRest, KnowsDesk}
-use Rattle.pt_crew.specs.Parts.{Queued, IsLonger, Wakes, is_marked}
+use Rattle.pt_crew.specs.Parts.{QueueHolds, QueueIsLonger, Wakes, is_marked}
 use Rattle.std.specs.Option.{option_map}
 use Rattle.pt_signal.proofs.Same.{same_pid_refl, same_pid_is}
 use Rattle.pt_node.specs.Waking.{came_in, came_to}
@@ -244,7 +244,7 @@ changed {B} mem new p w before queue read d later e at stays here marked known =
 
 -- p is put into the queue, or stands there
 pub woken : {B : Type 0} (p : Pid) (old new : Crew B) (v w : Member B) → members old p ≡ Some v → ((q : Pid) → members new q ≡ cond (same_pid p q) (Some w) (members old q))
-    → w.queued ≡ true → w.next ≡ v.next → w.behaviour ≡ v.behaviour → (Queued old → Queued new) → IsLonger (queue old) (queue new)
+    → w.queued ≡ true → w.next ≡ v.next → w.behaviour ≡ v.behaviour → (QueueHolds old → QueueHolds new) → QueueIsLonger (queue old) (queue new)
     → new.read ≡ old.read → KeepsRest old new → Wakes p old new
 woken {B} p old new v w held at on same_next same_behaviour queued longer read rest = record {
   others = elsewhere (members old) (members new) p (Some w) at;

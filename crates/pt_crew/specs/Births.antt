@@ -15,8 +15,8 @@ abbrev pub born : {B : Type 0} → Births B → List (Role B)
 born b = b.list.items
 
 -- those of them that waited before a behaviour was handed its item
-abbrev pub kept : {B : Type 0} → Births B → List (Role B)
-kept b = take (length b.list.items - b.fresh) b.list.items
+abbrev pub kept_roles : {B : Type 0} → Births B → List (Role B)
+kept_roles b = take (length b.list.items - b.fresh) b.list.items
 
 -- who was born meanwhile: those that wait now behind those who waited before
 abbrev pub bore : {B : Type 0} → List (Role B) → List (Role B) → List (Role B)

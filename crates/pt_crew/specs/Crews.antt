@@ -102,10 +102,10 @@ scene again c d = record {
 
 -- Rounds, the last in front, each with the queue as it began: whoever stands in it is come to, in its order, and those
 -- that go behind it are the queue of the next.
-abbrev pub Rounds : {B : Type 0} → Answers B → List (List Pid) → Scene B → Scene B → Type 0
-Rounds answers [] old new = new ≡ old
-Rounds {B} answers (queue ∷ queues) old new =
-    (mid : Scene B) × Rounds answers queues old mid × (mid.again ≡ queue)
+abbrev pub CrewRounds : {B : Type 0} → Answers B → List (List Pid) → Scene B → Scene B → Type 0
+CrewRounds answers [] old new = new ≡ old
+CrewRounds {B} answers (queue ∷ queues) old new =
+    (mid : Scene B) × CrewRounds answers queues old mid × (mid.again ≡ queue)
     × Visits answers queue (record mid { again = [] }) new
 
 -- in none of the queues somebody stands twice
@@ -136,7 +136,7 @@ pub record StepsOn {B : Type 0} (answers : Answers B) (old : Crew B) (d : ShardS
   pub woken : List Pid
   pub queues : List (List Pid)
   pub last : Scene B
-  pub rounds : Rounds answers queues
+  pub rounds : CrewRounds answers queues
       (record {
         roles = roles old;
         again = queue old ++ woken;
@@ -167,6 +167,6 @@ pub record CrewDoes {B : Type 0} (answers : Answers B) (old : Crew B) (d : Shard
   pub awake : Attends old d → IsAwake (members new) (queue new) e
 
 -- a step, and then a turn of the desk
-abbrev pub Works : {B : Type 0} → Answers B → ℕ → Crew B → DeskState → Turned → Crew B → DeskState → Type 0
-Works answers budget old d turned new e =
+abbrev pub CrewWorks : {B : Type 0} → Answers B → ℕ → Crew B → DeskState → Turned → Crew B → DeskState → Type 0
+CrewWorks answers budget old d turned new e =
     (stepped : DeskState) × CrewDoes answers old d.shard new stepped.shard × Turns budget stepped turned e

@@ -42,17 +42,17 @@ HandsAll {B} answers (t ∷ handed) old new =
     × MayLeave after new
 
 -- the items among what was handed over
-abbrev pub item_of : Pid → Option Item → List (Pid × Item)
-item_of p None = []
-item_of p (Some item) = (p, item) ∷ []
+abbrev pub item_handed : Pid → Option Item → List (Pid × Item)
+item_handed p None = []
+item_handed p (Some item) = (p, item) ∷ []
 
-abbrev pub items_of : List (Pid × Option Item) → List (Pid × Item)
-items_of [] = []
-items_of (t ∷ handed) = item_of t.0 t.1 ++ items_of handed
+abbrev pub items_handed : List (Pid × Option Item) → List (Pid × Item)
+items_handed [] = []
+items_handed (t ∷ handed) = item_handed t.0 t.1 ++ items_handed handed
 
 -- what was taken out of the mailboxes was handed, each item once and in order, to the behaviour of whoever took it
 pub record Handed {B : Type 0} (answers : Answers B) (old : Roles B) (d : ShardState) (new : Roles B)
     (e : ShardState) : Type 0 where
   pub handed : List (Pid × Option Item)
   pub hands : HandsAll answers handed old new
-  pub takes : takes e.journal ≡ items_of handed ++ takes d.journal
+  pub takes : takes e.journal ≡ items_handed handed ++ takes d.journal

@@ -21,20 +21,20 @@ use Rattle.pt_crew.specs.Crews.{IsSame, KeepsRest, Aboard, EntersOne, EntersAll,
 use Rattle.pt_crew.specs.Crews.{waiting, scene}
 
 -- what the queue of a crew is
-abbrev pub Queued : {B : Type 0} → Crew B → Type 0
-Queued c = IsQueue (members c) (queue c)
+abbrev pub QueueHolds : {B : Type 0} → Crew B → Type 0
+QueueHolds c = IsQueue (members c) (queue c)
 
 -- others stand behind the queue
-abbrev pub IsLonger : List Pid → List Pid → Type 0
-IsLonger old new = (more : List Pid) × (new ≡ old ++ more)
+abbrev pub QueueIsLonger : List Pid → List Pid → Type 0
+QueueIsLonger old new = (more : List Pid) × (new ≡ old ++ more)
 
 -- p is marked, if it is of the crew; all else stays
 pub record Wakes {B : Type 0} (p : Pid) (old new : Crew B) : Type 0 where
   pub others : (q : Pid) → same_pid p q ≡ false → members new q ≡ members old q
   pub marked : (m : Member B) → members new p ≡ Some m → m.queued ≡ true
   pub roles : AreSame (roles old) (roles new)
-  pub queued : Queued old → Queued new
-  pub longer : IsLonger (queue old) (queue new)
+  pub queued : QueueHolds old → QueueHolds new
+  pub longer : QueueIsLonger (queue old) (queue new)
   pub read : new.read ≡ old.read
   pub rest : KeepsRest old new
 
@@ -49,8 +49,8 @@ pub record WakesAt {B : Type 0} (place : ℕ) (old new : Crew B) : Type 0 where
   pub marked : MarkedBut (drop place (keys_of old.members.entries)) old
       → MarkedBut (drop (place + 1) (keys_of old.members.entries)) new
   pub roles : AreSame (roles old) (roles new)
-  pub queued : Queued old → Queued new
-  pub longer : IsLonger (queue old) (queue new)
+  pub queued : QueueHolds old → QueueHolds new
+  pub longer : QueueIsLonger (queue old) (queue new)
   pub rest : KeepsRest old new
 
 -- who is woken by the event
@@ -60,12 +60,12 @@ WakesBy (Left p r) old new = Wakes p old new
 WakesBy _ old new = IsSame old new
 
 -- a process that is idle has nothing to do
-abbrev pub Tends : {B : Type 0} → Pid → Tended → Member B → ShardState → Type 0
-Tends p Idle new d = has_work new.next (phase_of d p) ≡ false
-Tends p Again new d = Unit {0}
-Tends p Done new d = has_work new.next (phase_of d p) ≡ false
-Tends p Refused new d = Unit {0}
-Tends p Gone new d = Unit {0}
+abbrev pub MemberTends : {B : Type 0} → Pid → Tended → Member B → ShardState → Type 0
+MemberTends p Idle new d = has_work new.next (phase_of d p) ≡ false
+MemberTends p Again new d = Unit {0}
+MemberTends p Done new d = has_work new.next (phase_of d p) ≡ false
+MemberTends p Refused new d = Unit {0}
+MemberTends p Gone new d = Unit {0}
 
 -- what a process that was seen to is then
 abbrev pub kept_as : {B : Type 0} → Tended → Member B → Option (B × Next)
@@ -99,7 +99,7 @@ AdmitsOf lives (r ∷ rs) old new =
 pub record AdmitsFirst {B : Type 0} (lives : Pid → Bool) (old new : Crew B) : Type 0 where
   pub admits : AdmitsOf lives (waiting old) old new
       ⊎ ((aboard new ≡ aboard old) × (waiting new ≡ waiting old) × (new.refused ≡ true))
-  pub longer : IsLonger (queue old) (queue new)
+  pub longer : QueueIsLonger (queue old) (queue new)
   pub rounds : new.rounds ≡ old.rounds
 
 -- those that were born enter, the first ones, and all unless it was refused
@@ -108,7 +108,7 @@ pub record Admits {B : Type 0} (lives : Pid → Bool) (old new : Crew B) : Type 
   pub born : waiting old ≡ entered ++ waiting new
   pub enters : EntersAll lives entered (aboard old) (aboard new)
   pub told : ((waiting new ≡ []) × (new.refused ≡ old.refused)) ⊎ (new.refused ≡ true)
-  pub longer : IsLonger (queue old) (queue new)
+  pub longer : QueueIsLonger (queue old) (queue new)
   pub rounds : new.rounds ≡ old.rounds
 
 -- the first of the queue is come to, and stands behind it then or nowhere

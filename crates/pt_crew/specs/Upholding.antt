@@ -10,7 +10,7 @@ use Rattle.pt_events.specs.declared.event.Event.{Event}
 use Rattle.pt_events.specs.declared.event.Event.TheVariants.{Born, Took, Left}
 use Rattle.pt_events.specs.declared.event.Stamped.{Stamped}
 use Rattle.pt_events.specs.History.{is_unborn}
-use Rattle.pt_shard.specs.ShardState.{ShardState, phase_of, lives, after, handled}
+use Rattle.pt_shard.specs.ShardState.{ShardState, phase_of, lives, shard_after, handled}
 use Rattle.pt_shard.specs.Calls.{first_match}
 use Rattle.pt_crew.specs.declared.behaviour.Next.{Next}
 use Rattle.pt_crew.specs.declared.behaviour.Next.TheVariants.{Wait, Proceed, Stop}
@@ -48,11 +48,11 @@ abbrev pub ActsFor : Pid → ShardState → ShardState → Type 0
 ActsFor p d e = (q : Pid) → same_pid p q ≡ false → is_unborn (phase_of d q) ≡ false → IsLeftAlone q d e
 
 -- p, which lives, was to proceed, or waited and the first item that its pick fits was taken
-abbrev pub IsTaken : Pid → Next → Option Item → ShardState → ShardState → Type 0
-IsTaken p before None d mid = (before ≡ Proceed) × (lives d p ≡ true) × (mid ≡ d)
-IsTaken p before (Some item) d mid =
+abbrev pub ItemIsTaken : Pid → Next → Option Item → ShardState → ShardState → Type 0
+ItemIsTaken p before None d mid = (before ≡ Proceed) × (lives d p ≡ true) × (mid ≡ d)
+ItemIsTaken p before (Some item) d mid =
     (pick : Pick) × (before ≡ Wait pick) × (lives d p ≡ true) × (first_match d p pick ≡ Some item)
-    × (mid ≡ after (Took p pick item) d)
+    × (mid ≡ shard_after (Took p pick item) d)
 
 -- one that is born, or enters, stands so on every desk
 abbrev pub StandsFirst : {B : Type 0} → Relation B → B → Next → Pid → Type 0
@@ -70,7 +70,7 @@ pub record IsUpheld {B : Type 0} (answers : Answers B) (stands : Relation B) : T
   -- it stands so then, if it did before the item was taken
   pub hands : (b : B) (before : Next) (p : Pid) (item : Option Item) (was d : ShardState) (next : Next) (now : B)
       (e : ShardState) (births : List (Role B)) → stands b before p was → is_unborn (phase_of was p) ≡ false
-      → IsTaken p before item was d → answers b d p item next now e births → IsLater d e → stands now next p e
+      → ItemIsTaken p before item was d → answers b d p item next now e births → IsLater d e → stands now next p e
   -- so do those whom it bears
   pub bears : (b : B) (d : ShardState) (p : Pid) (item : Option Item) (next : Next) (now : B) (e : ShardState)
       (births : List (Role B)) → answers b d p item next now e births → AllFirst stands births
@@ -79,7 +79,7 @@ pub record IsUpheld {B : Type 0} (answers : Answers B) (stands : Relation B) : T
       → is_unborn (phase_of d p) ≡ false → IsLater d e → IsLeftAlone p d e → stands b next p e
   -- so does its own end
   pub ends : (b : B) (r : Reason) (p : Pid) (d : ShardState) → stands b (Stop r) p d
-      → is_unborn (phase_of d p) ≡ false → stands b (Stop r) p (after (Left p r) d)
+      → is_unborn (phase_of d p) ≡ false → stands b (Stop r) p (shard_after (Left p r) d)
   -- and so does what comes to it
   pub receives : (b : B) (next : Next) (p : Pid) (d : ShardState) (l : Letter) → stands b next p d
       → is_unborn (phase_of d p) ≡ false → stands b next p (handled l d)

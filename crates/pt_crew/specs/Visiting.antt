@@ -147,12 +147,12 @@ is_refused Refused = true
 is_refused Ended = false
 
 -- only who is handed an item, or proceeds, bears children, which wait behind those who wait
-abbrev pub Bears : {B : Type 0} → Tended → List (Role B) → List (Role B) → Type 0
-Bears {B} Again old new = (bore : List (Role B)) × (new ≡ old ++ bore)
-Bears {B} Done old new = (bore : List (Role B)) × (new ≡ old ++ bore)
-Bears Idle old new = new ≡ old
-Bears Refused old new = new ≡ old
-Bears Ended old new = new ≡ old
+abbrev pub BearsChildren : {B : Type 0} → Tended → List (Role B) → List (Role B) → Type 0
+BearsChildren {B} Again old new = (bore : List (Role B)) × (new ≡ old ++ bore)
+BearsChildren {B} Done old new = (bore : List (Role B)) × (new ≡ old ++ bore)
+BearsChildren Idle old new = new ≡ old
+BearsChildren Refused old new = new ≡ old
+BearsChildren Ended old new = new ≡ old
 
 -- p is come to, and all others stay
 pub record VisitsOne {B : Type 0} (answers : Answers B) (p : Pid) (old new : Scene B) : Type 0 where
@@ -160,7 +160,7 @@ pub record VisitsOne {B : Type 0} (answers : Answers B) (p : Pid) (old new : Sce
   pub comes : ComesTo answers p (old.roles p) old.desk tended (new.roles p) new.desk (bore old.born new.born)
   pub others : AreWith p (new.roles p) old.roles new.roles
   pub again : new.again ≡ old.again ++ again_as p tended
-  pub born : Bears tended old.born new.born
+  pub born : BearsChildren tended old.born new.born
   pub left : new.left ≡ old.left ++ left_as p (old.roles p) tended
   pub refused : new.refused ≡ (old.refused || is_refused tended)
 

@@ -7,7 +7,7 @@ ghost use Rattle.pt_signal.specs.declared.item.Item.{Item};
 ghost use Rattle.pt_shard.specs.ShardState.{ShardState};
 ghost use Rattle.pt_crew.specs.declared.behaviour.Next.{Next};
 ghost use Rattle.pt_crew.specs.declared.births.Role.{Role};
-ghost use Rattle.pt_crew.specs.Births.{bore, born, kept};
+ghost use Rattle.pt_crew.specs.Births.{bore, born, kept_roles};
 ghost use Rattle.pt_crew.specs.Visiting.{takes};
 
 use crate::births::Births;
@@ -48,6 +48,6 @@ pub trait Behaviour {
         ensures answers { answers self.old desk.old.shard me item result self.new desk.new.shard
             (bore (born births.old) (born births.new)) }
         ensures takes { takes desk.new.shard.journal ≡ takes desk.old.shard.journal }
-        ensures kept { kept births.new ≡ kept births.old }
+        ensures kept { kept_roles births.new ≡ kept_roles births.old }
         ensures goes_on { GoesOn desk.old desk.new };
 }

@@ -2,7 +2,7 @@
 
 ghost use Rattle.std.specs.Prelude.{◌≡◌, [], ◌∷◌, length, MatchOption};
 ghost use Rattle.pt_desk.specs.DeskState.{GoesOn};
-ghost use Rattle.pt_crew.specs.Births.{Bore, born, kept};
+ghost use Rattle.pt_crew.specs.Births.{Bore, born, kept_roles};
 ghost use Rattle.pt_crew.specs.Visiting.{takes};
 
 use crate::behaviour::Next;
@@ -47,7 +47,7 @@ impl<B: Drop> Births<B> {
     /// Those who wait now are not of the behaviour that is handed an item next.
     pub(crate) fn begin(&mut self)
         ensures same { born self.new ≡ born self.old }
-        ensures all { kept self.new ≡ born self.old }
+        ensures all { kept_roles self.new ≡ born self.old }
     {
         self.fresh = 0;
     }
@@ -78,7 +78,7 @@ pub fn bear<B: Drop>(
     ensures does { Bore me linked behaviour first desk.old.shard (born births.old) result desk.new.shard
         (born births.new) }
     ensures takes { takes desk.new.shard.journal ≡ takes desk.old.shard.journal }
-    ensures kept { kept births.new ≡ kept births.old }
+    ensures kept { kept_roles births.new ≡ kept_roles births.old }
     ensures goes_on { GoesOn desk.old desk.new }
 {
     let Some(fresh) = births.fresh.checked_add(1) else {

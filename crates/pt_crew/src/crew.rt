@@ -8,10 +8,10 @@ ghost use Rattle.pt_events.specs.History.{is_unborn};
 ghost use Rattle.pt_shard.specs.ShardState.{ShardState, lives, phase_of};
 ghost use Rattle.pt_desk.specs.DeskState.{GoesOn};
 ghost use Rattle.pt_crew.specs.Births.{bore, born};
-ghost use Rattle.pt_crew.specs.Visiting.{AreSame, AreWith, Bears, SeesTo, Visits, handed_as, takes};
-ghost use Rattle.pt_crew.specs.Crews.{AreBorn, Attends, Enters, HasRoom, IsSame, KeepsRest, KnowsDesk, Works, left};
+ghost use Rattle.pt_crew.specs.Visiting.{AreSame, AreWith, BearsChildren, SeesTo, Visits, handed_as, takes};
+ghost use Rattle.pt_crew.specs.Crews.{AreBorn, Attends, Enters, HasRoom, IsSame, KeepsRest, KnowsDesk, CrewWorks, left};
 ghost use Rattle.pt_crew.specs.Crews.{members, queue, roles, scene, waiting};
-ghost use Rattle.pt_crew.specs.Parts.{Admits, AdmitsFirst, CanEnter, IsLonger, Serves, Tends, Wakes, WakesAt};
+ghost use Rattle.pt_crew.specs.Parts.{Admits, AdmitsFirst, CanEnter, QueueIsLonger, Serves, MemberTends, Wakes, WakesAt};
 ghost use Rattle.pt_crew.specs.Parts.{WakesBy};
 ghost use Rattle.pt_crew.specs.Parts.{is_marked, kept_as};
 ghost use Rattle.pt_crew.specs.Waking.{IsAwake};
@@ -183,7 +183,7 @@ impl<B: Behaviour + Drop> Crew<B> {
     /// A step, and then a turn of the desk, as a run takes them; what the turn did.
     #[tactic(auto, using(pt_desk::proofs::Turning::goes_on_then))]
     pub fn work(&mut self, desk: &mut Desk, budget: u32) -> Turned
-        ensures does { Works B.answers budget self.old desk.old result self.new desk.new }
+        ensures does { CrewWorks B.answers budget self.old desk.old result self.new desk.new }
         ensures attends { Attends self.old desk.old.shard → Attends self.new desk.new.shard }
         ensures goes_on { GoesOn desk.old desk.new }
     {
@@ -235,7 +235,7 @@ impl<B: Behaviour + Drop> Crew<B> {
         ensures all { OnOk result ((p : Pid) (m : Member B) → members self.new p ≡ Some m → m.queued ≡ true) }
         ensures ok { HasRoom self.old → IsOk result }
         ensures roles { AreSame (roles self.old) (roles self.new) }
-        ensures longer { IsLonger (queue self.old) (queue self.new) }
+        ensures longer { QueueIsLonger (queue self.old) (queue self.new) }
         ensures rest { KeepsRest self.old self.new }
     {
         for place in 0..self.members.len() {
@@ -297,7 +297,7 @@ impl<B: Behaviour + Drop> Crew<B> {
     fn look(&mut self, desk: &Desk)
         ensures knows { KnowsDesk self.old desk.now.shard → KnowsDesk self.new desk.now.shard }
         ensures kept { AreSame (roles self.old) (roles self.new) }
-        ensures longer { IsLonger (queue self.old) (queue self.new) }
+        ensures longer { QueueIsLonger (queue self.old) (queue self.new) }
         ensures rest { KeepsRest self.old self.new }
         ensures room { HasRoom self.old → (length desk.now.shard.journal ≤ self.new.read) × HasRoom self.new }
     {
@@ -350,7 +350,7 @@ impl<B: Behaviour + Drop> Crew<B> {
         requires { CanEnter self.old }
         ensures does { AreWith newborn.pid (Some (newborn.behaviour, newborn.next)) (roles self.old)
             (roles self.new) }
-        ensures longer { IsLonger (queue self.old) (queue self.new) }
+        ensures longer { QueueIsLonger (queue self.old) (queue self.new) }
         ensures rest { KeepsRest self.old self.new }
         ensures knows { (d : ShardState) → is_unborn (phase_of d newborn.pid) ≡ false → KnowsDesk self.old d
             → KnowsDesk self.new d }
@@ -470,8 +470,8 @@ fn tend<B: Behaviour + Drop>(
     ensures sees { SeesTo B.answers p member.old.behaviour member.old.next desk.old.shard result
         (kept_as result member.new) desk.new.shard (bore (born births.old) (born births.new)) }
     ensures role { result ≡ Tended.Gone → member.new ≡ member.old }
-    ensures bears { Bears result (born births.old) (born births.new) }
-    ensures tends { Tends p result member.new desk.new.shard }
+    ensures bears { BearsChildren result (born births.old) (born births.new) }
+    ensures tends { MemberTends p result member.new desk.new.shard }
     ensures goes_on { GoesOn desk.old desk.new }
 {
     match member.next {
@@ -519,7 +519,7 @@ fn hand<B: Behaviour + Drop>(
 )
     ensures answers { B.answers member.old.behaviour desk.old.shard p item member.new.next member.new.behaviour
         desk.new.shard (bore (born births.old) (born births.new)) }
-    ensures bears { Bears Tended.Again (born births.old) (born births.new) }
+    ensures bears { BearsChildren Tended.Again (born births.old) (born births.new) }
     ensures takes { takes desk.new.shard.journal ≡ takes desk.old.shard.journal }
     ensures goes_on { GoesOn desk.old desk.new }
 {

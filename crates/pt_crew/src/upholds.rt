@@ -10,7 +10,7 @@ ghost use Rattle.pt_desk.specs.declared.turned.Turned.{Turned};
 ghost use Rattle.pt_crew.specs.declared.behaviour.Next.{Next};
 ghost use Rattle.pt_crew.specs.declared.crew.Crew.{Crew};
 ghost use Rattle.pt_crew.specs.Visiting.{Roles};
-ghost use Rattle.pt_crew.specs.Crews.{CrewDoes, Enters, Works, left};
+ghost use Rattle.pt_crew.specs.Crews.{CrewDoes, Enters, CrewWorks, left};
 ghost use Rattle.pt_crew.specs.declared.births.Role.{Role};
 ghost use Rattle.pt_crew.specs.Upholding.{AllStand, AllStill, IsUpheld, StandsFirst, Upholds};
 
@@ -35,7 +35,7 @@ pub fn crew_upholds<B: Upheld + Drop>()
     ensures step { (old new : Crew B) (d e : ShardState) → CrewDoes B.answers old d new e → Upholds B.stands old d
         → Upholds B.stands new e }
     ensures work { (old new : Crew B) (budget : ℕ) (d e : DeskState) (turned : Turned)
-        → Works B.answers budget old d turned new e → Upholds B.stands old d.shard → Upholds B.stands new e.shard }
+        → CrewWorks B.answers budget old d turned new e → Upholds B.stands old d.shard → Upholds B.stands new e.shard }
     ensures receipt { (roles : Roles B) (d : ShardState) (l : Letter) → AllStand B.stands roles d
         → AllStand B.stands roles (handled l d) }
     ensures enter { (b : B) (first : Next) (old new : Crew B) (d e : ShardState) (result : Result Pid Fault)
@@ -44,7 +44,7 @@ pub fn crew_upholds<B: Upheld + Drop>()
     ensures left { (old new : Crew B) (d e : ShardState) → CrewDoes B.answers old d new e → Upholds B.stands old d
         → AllStill B.stands (left new) e }
     ensures left_work { (old new : Crew B) (budget : ℕ) (d e : DeskState) (turned : Turned)
-        → Works B.answers budget old d turned new e → Upholds B.stands old d.shard
+        → CrewWorks B.answers budget old d turned new e → Upholds B.stands old d.shard
         → AllStill B.stands (left new) e.shard }
     ensures left_receipt { (roles : List (Role B)) (d : ShardState) (l : Letter) → AllStill B.stands roles d
         → AllStill B.stands roles (handled l d) }

@@ -11,7 +11,7 @@ use Rattle.pt_events.specs.History.{sent_by}
 use Rattle.pt_events.specs.Journal.{letter, letters, posts, gots, Agrees}
 use Rattle.pt_carrier.specs.Ends.{Place, OutEnds, InEnds, more_of, Collects}
 use Rattle.pt_carrier.specs.Meeting.{out_kept, in_kept}
-use Rattle.pt_shard.specs.ShardState.{ShardState, box, past, written, handled, came}
+use Rattle.pt_shard.specs.ShardState.{ShardState, box, past, written, handled, came_event}
 use Rattle.pt_shard.specs.Outbox.{sent_on_some, holding, held_from}
 use Rattle.pt_shard.specs.Fit.{IsFit}
 use Rattle.pt_desk.specs.DeskState.{IsAccounted}
@@ -47,7 +47,7 @@ module _ (s : ShardState) (o : OutEnds) (i : InEnds) (boxes : length s.outbox â‰
       in_desks = acc.in_desks;
       posted_desks = acc.posted_desks;
       collected_desks = acc.collected_desks;
-      posted = posts_written (max s.clock l.stamp + 1) (came l);
+      posted = posts_written (max s.clock l.stamp + 1) (came_event l);
       collected = collected_handled;
     }
 

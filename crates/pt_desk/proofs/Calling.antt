@@ -18,7 +18,7 @@ use Rattle.pt_directory.specs.Seats.{SeatState}
 use Rattle.pt_carrier.specs.Ends.{OutEnds, InEnds}
 use Rattle.pt_shard.specs.declared.fault.Fault.{Fault}
 use Rattle.pt_shard.specs.declared.fault.Fault.TheVariants.{Full, Memory, Worn, Gone, Myself, NoProc}
-use Rattle.pt_shard.specs.ShardState.{ShardState, past, written, after, ended_in}
+use Rattle.pt_shard.specs.ShardState.{ShardState, past, written, shard_after, ended_in}
 use Rattle.pt_shard.specs.Fit.{IsFit, IsNextBirth}
 use Rattle.pt_shard.specs.Calls.{Calls, Monitors, Bears, BearsChild, link_event, unlink_event, take_event, demonitor_at, held_by, first_match, new_link}
 use Rattle.pt_desk.specs.Sight.{Sight, IsSeen, IsSeated, HasWordsAt, seat_of}
@@ -85,7 +85,7 @@ step_whole s s' o i v seat step whole fit =
 
 pub calls_step : {A : Type 0} (p : Pid) (event : Option Event) (answer : A) (old : ShardState) (r : Result A Fault) (new : ShardState) → IsOwnIf event → Calls p event answer old r new → IsStep old new
 calls_step p None answer old (Ok a) new own h = inl h.3
-calls_step p (Some e) answer old (Ok a) new own h = inr (e, record { own = own.0; words = own.1 old.config.slots; stamp = old.clock + 1; new_is = h.3 ∙ ap (λ v. record (after e old) { vacant = v }) (sym (ap (λ (s : ShardState). s.vacant) h.3)) })
+calls_step p (Some e) answer old (Ok a) new own h = inr (e, record { own = own.0; words = own.1 old.config.slots; stamp = old.clock + 1; new_is = h.3 ∙ ap (λ v. record (shard_after e old) { vacant = v }) (sym (ap (λ (s : ShardState). s.vacant) h.3)) })
 calls_step p event answer old (Err Gone) new own h = inl h.1
 calls_step p event answer old (Err Worn) new own h = inl h.3
 calls_step p event answer old (Err Memory) new own h = inl h.3

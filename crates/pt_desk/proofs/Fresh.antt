@@ -3,14 +3,14 @@ use Rattle.std.proofs.Common.{◌≡◌, ℕ, zero, suc, ◌<◌, ◌==◌, Bool
 use Rattle.std.specs.Prelude.{replicate}
 use Rattle.pt_signal.specs.declared.letter.Letter.{Letter}
 use Rattle.pt_signal.specs.declared.pid.Pid.{Pid}
-use Rattle.pt_accounts.specs.Table.{Tells, found, of_version}
+use Rattle.pt_accounts.specs.Table.{TableTells, found, of_version}
 use Rattle.pt_directory.specs.Seats.{DirectoryState}
 use Rattle.pt_directory.proofs.Lists.{at_nothing}
 use Rattle.pt_carrier.specs.Ends.{OutEnds, InEnds}
 use Rattle.pt_carrier.specs.Node.{places, IsNode, IsNew}
 use Rattle.pt_carrier.proofs.Places.{out_number, in_number, out_lanes, in_lanes}
 use Rattle.pt_shard.specs.declared.config.Config.{Config}
-use Rattle.pt_shard.specs.Opening.{fresh}
+use Rattle.pt_shard.specs.Opening.{fresh_shard}
 use Rattle.pt_desk.specs.Sight.{IsSeated}
 use Rattle.pt_desk.specs.DeskState.{IsAccounted}
 
@@ -21,7 +21,7 @@ empty_box (suc n) (suc e) = empty_box n e
 
 -- a new shard, and the ends of its number in a node that was just opened
 pub fresh_accounted : (c : Config) (pairs : List (OutEnds × InEnds)) (capacity d : ℕ) (x : OutEnds × InEnds) → IsNode (map places pairs) → length pairs ≡ c.desks → IsNew c.desks capacity x
-    → d < c.desks → x ≡ get_or pairs d x → IsAccounted (fresh c d) x.0 x.1
+    → d < c.desks → x ≡ get_or pairs d x → IsAccounted (fresh_shard c d) x.0 x.1
 fresh_accounted c pairs capacity d x node count new d_in is =
     let within : d < length pairs = omega arith in
     record {
@@ -36,8 +36,8 @@ fresh_accounted c pairs capacity d x node count new d_in is =
     }
 
 -- of nobody there is nothing to tell
-none_told : (d : ℕ) (p : Pid) → Tells [] [] p (found d [] p)
-none_told d p = subst (Tells [] [] p) (sym (go (p.shard == d) p.version)) (refl, refl)
+none_told : (d : ℕ) (p : Pid) → TableTells [] [] p (found d [] p)
+none_told d p = subst (TableTells [] [] p) (sym (go (p.shard == d) p.version)) (refl, refl)
   where
     go : (b : Bool) (v : ℕ) → cond b (of_version [] v) None ≡ None
     go true zero = refl
@@ -46,7 +46,7 @@ none_told d p = subst (Tells [] [] p) (sym (go (p.shard == d) p.version)) (refl,
 
 -- it has looked nowhere, and nobody was before its journal
 pub fresh_seated : (c : Config) (d : ℕ) (directory : DirectoryState) → directory.desks ≡ c.desks → directory.slots ≡ c.slots
-    → IsSeated (fresh c d) (record { directory = directory; reads = []; before = record { desk = d; slots = []; read = 0 } })
+    → IsSeated (fresh_shard c d) (record { directory = directory; reads = []; before = record { desk = d; slots = []; read = 0 } })
 fresh_seated c d directory desks slots = record {
   desks = desks;
   slots = slots;

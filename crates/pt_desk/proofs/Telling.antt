@@ -14,11 +14,11 @@ use Rattle.pt_accounts.specs.DeskLives.{DeskTable}
 use Rattle.pt_directory.specs.Views.{deaths_at, last_version, last_stamp}
 use Rattle.pt_directory.specs.Seats.{DirectoryState, SeatState}
 use Rattle.pt_carrier.specs.Ends.{OutEnds, InEnds}
-use Rattle.pt_shard.specs.ShardState.{ShardState, past, lives, written, came, handled, is_ended_by, ended_in, ended_by}
+use Rattle.pt_shard.specs.ShardState.{ShardState, past, lives, written, came_event, handled, is_ended_by, ended_in, ended_by}
 use Rattle.pt_desk.specs.Sight.{Sight, IsSeen, IsSeated, HasWordsAt, AllHaveWords, deaths_before, seat_of}
 use Rattle.pt_shard.specs.Fit.{IsFit}
 use Rattle.pt_desk.specs.DeskState.{IsAccounted}
-use Rattle.pt_desk.specs.InPlace.{CanTell, told}
+use Rattle.pt_desk.specs.InPlace.{CanTell, seat_told}
 use Rattle.pt_desk.proofs.Seating.{IsWhole, SameJournal, deaths_of, sight_of, seated_written, seat_written, seat_ended, same_seated, same_seat}
 use Rattle.pt_desk.proofs.Ending.{no_birth}
 use Rattle.pt_desk.proofs.Deaths.{AreOldEnds, deaths_rise}
@@ -45,7 +45,7 @@ slot_of_born known start slots low d old p (s ∷ journal) words h = go (is_birt
 
 module _ (s : ShardState) (o : OutEnds) (i : InEnds) (directory : DirectoryState) (seat : SeatState) (before : DeskTable) (whole : IsWhole s o i (sight_of directory seat before) seat) where
   module _ (p : Pid) (alive : lives s p ≡ true) (home : p.shard ≡ s.number) (n : ℕ) (later : s.clock < n) where
-    -- the seat told of none of p's slot that is not earlier
+    -- the seat seat_told of none of p's slot that is not earlier
     rises : (last_version (deaths_at p.shard p.slot (deaths_of s (sight_of directory seat before))) < p.version)
         × (last_stamp (deaths_at p.shard p.slot (deaths_of s (sight_of directory seat before))) ≤ clock s.config.start s.journal)
     rises = deaths_rise (deaths_before before s.config.start) s.start s.config.slots s.config.start s.config.top_version s.number (old_ends s (sight_of directory seat before) whole.0.fit whole.0.seated) s.journal whole.0.fit.local p alive
@@ -56,7 +56,7 @@ module _ (s : ShardState) (o : OutEnds) (i : InEnds) (directory : DirectoryState
     stamp_rises : last_stamp (deaths_at p.shard p.slot seat.deaths) < n
     stamp_rises = subst (λ (z : SeatState). last_stamp (deaths_at p.shard p.slot z.deaths) < n) (sym whole.1) (omega (arith, rises.1, later, whole.0.fit.clock_is))
 
-    -- so the end of a process that lives here may be told
+    -- so the end of a process that lives here may be seat_told
     pub may_tell : CanTell directory seat n p
     may_tell = record {
       name = ap (λ (z : SeatState). z.name) whole.1;
@@ -69,7 +69,7 @@ module _ (s : ShardState) (o : OutEnds) (i : InEnds) (directory : DirectoryState
     }
 
   -- and that of a process which a letter to this desk ends
-  pub may_tell_ended : (l : Letter) → l.to.shard ≡ s.number → (n : ℕ) → s.clock < n → (who : Option Pid) → who ≡ ended_in s.start (past s) (came l) → IfSome who (CanTell directory seat n)
+  pub may_tell_ended : (l : Letter) → l.to.shard ≡ s.number → (n : ℕ) → s.clock < n → (who : Option Pid) → who ≡ ended_in s.start (past s) (came_event l) → IfSome who (CanTell directory seat n)
   may_tell_ended l home n later who is = subst (λ o. IfSome o (CanTell directory seat n)) (sym is) (go (life s.start (past s) l.to) refl)
     where
       letter_ends : (b : Bool) → lives s l.to ≡ true → IfSome (cond b (Some l.to) None) (CanTell directory seat n)
@@ -81,7 +81,7 @@ module _ (s : ShardState) (o : OutEnds) (i : InEnds) (directory : DirectoryState
       go (living t) e = letter_ends (is_ended_by (living t) l.to l.from l.signal) (ap is_living e)
       go (ended r t) e = tt
 
-  -- the sight and the seat after one more event, whose end was told if it is one; the letters that wait may move too
+  -- the sight and the seat after one more event, whose end was seat_told if it is one; the letters that wait may move too
   module _ (n : ℕ) (e : Event) (s' : ShardState) (same : SameJournal (written n e s) s') (seen : IsSeen seat.reads n e) (words : HasWordsAt s.config.slots e) where
     abbrev pub Sits : SeatState → Type 0
     Sits seat' = IsSeated s' (sight_of directory seat' before) × (seat' ≡ seat_of s' (sight_of directory seat' before))
@@ -89,30 +89,30 @@ module _ (s : ShardState) (o : OutEnds) (i : InEnds) (directory : DirectoryState
     abbrev v : Sight
     v = sight_of directory seat before
 
-    seat_told : (o : Option Pid) → ended_in s.start (past s) e ≡ o → seat_of (written n e s) v ≡ told o n (seat_of s v)
+    seat_told : (o : Option Pid) → ended_in s.start (past s) e ≡ o → seat_of (written n e s) v ≡ seat_told o n (seat_of s v)
     seat_told None is = seat_written s v n e (written n e s).vacant is
     seat_told (Some p) is = seat_ended s v n e p (written n e s).vacant is
 
-    same_reads : (o : Option Pid) → sight_of directory (told o n seat) before ≡ v
+    same_reads : (o : Option Pid) → sight_of directory (seat_told o n seat) before ≡ v
     same_reads None = refl
     same_reads (Some p) = refl
 
-    pub sits : (who : Option Pid) (seat' : SeatState) → who ≡ ended_in s.start (past s) e → seat' ≡ told who n seat → Sits seat'
+    pub sits : (who : Option Pid) (seat' : SeatState) → who ≡ ended_in s.start (past s) e → seat' ≡ seat_told who n seat → Sits seat'
     sits who seat' ends is =
         subst Sits (sym is)
-        (subst (λ w. IsSeated s' w × (told who n seat ≡ seat_of s' w)) (sym (same_reads who)) (
+        (subst (λ w. IsSeated s' w × (seat_told who n seat ≡ seat_of s' w)) (sym (same_reads who)) (
           same_seated (written n e s) s' v same (seated_written s v n e (written n e s).vacant whole.0.seated seen words),
-          ap (told who n) whole.1 ∙ sym (same_seat (written n e s) s' v same ∙ seat_told who (sym ends)),
+          ap (seat_told who n) whole.1 ∙ sym (same_seat (written n e s) s' v same ∙ seat_told who (sym ends)),
         ))
 
   -- so after a letter was handled
-  pub handled_whole : (l : Letter) (s' : ShardState) (o' : OutEnds) (i' : InEnds) (who : Option Pid) (seat' : SeatState) → SameJournal (handled l s) s' → who ≡ ended_by s (came l)
-      → seat' ≡ told who (max s.clock l.stamp + 1) seat → IsFit s' → IsAccounted s' o' i' → IsWhole s' o' i' (sight_of directory seat' before) seat'
+  pub handled_whole : (l : Letter) (s' : ShardState) (o' : OutEnds) (i' : InEnds) (who : Option Pid) (seat' : SeatState) → SameJournal (handled l s) s' → who ≡ ended_by s (came_event l)
+      → seat' ≡ seat_told who (max s.clock l.stamp + 1) seat → IsFit s' → IsAccounted s' o' i' → IsWhole s' o' i' (sight_of directory seat' before) seat'
   handled_whole l s' o' i' who seat' same ends is fit accounts =
-      let seats = sits (max s.clock l.stamp + 1) (came l) s' same tt tt who seat' ends is in
+      let seats = sits (max s.clock l.stamp + 1) (came_event l) s' same tt tt who seat' ends is in
       (record { fit = fit; accounts = accounts; seated = seats.0 }, seats.1)
 
 -- what it sees does not change by it
-pub told_sight : (directory : DirectoryState) (before : DeskTable) (who : Option Pid) (n : ℕ) (seat seat' : SeatState) → seat' ≡ told who n seat → sight_of directory seat' before ≡ sight_of directory seat before
+pub told_sight : (directory : DirectoryState) (before : DeskTable) (who : Option Pid) (n : ℕ) (seat seat' : SeatState) → seat' ≡ seat_told who n seat → sight_of directory seat' before ≡ sight_of directory seat before
 told_sight directory before None n seat seat' is = ap (λ z. sight_of directory z before) is
 told_sight directory before (Some p) n seat seat' is = ap (λ z. sight_of directory z before) is

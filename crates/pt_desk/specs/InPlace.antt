@@ -30,6 +30,6 @@ pub record CanTell (directory : DirectoryState) (seat : SeatState) (n : ℕ) (p 
   pub stamp : last_stamp (deaths_at p.shard p.slot seat.deaths) < n
 
 -- the seat after whoever has ended was told
-abbrev pub told : Option Pid → ℕ → SeatState → SeatState
-told None n seat = seat
-told (Some p) n seat = add_death (death_of p n) seat
+abbrev pub seat_told : Option Pid → ℕ → SeatState → SeatState
+seat_told None n seat = seat
+seat_told (Some p) n seat = add_death (death_of p n) seat

@@ -24,7 +24,7 @@ ghost use Rattle.pt_desk.specs.Meeting.{DesksMeet, MeetsItself};
 ghost use Rattle.pt_desk.specs.Sight.{IsSeated, seat_of};
 ghost use Rattle.pt_desk.specs.Reaching.{LooksFirst, Reaches, has_link_to_make, has_monitor_to_make};
 ghost use Rattle.pt_desk.specs.Posting.{PostsTo, PostsSome, Posts, total};
-ghost use Rattle.pt_desk.specs.InPlace.{HandlesFront, HoldsFront, CanTell, told};
+ghost use Rattle.pt_desk.specs.InPlace.{HandlesFront, HoldsFront, CanTell, seat_told};
 ghost use Rattle.pt_desk.specs.Turns.{HandlesAtMostOne, Turns};
 
 use crate::turned::Turned;
@@ -713,7 +713,7 @@ fn hold_front(shard: &mut Shard, ins: &mut Ins, from: u8)
 #[inline(always)]
 fn tell_ended(shard: &Shard, directory: &Directory, seat: &mut Seat, ended: Option<Pid>)
     requires { IfSome ended (CanTell directory.now seat.old shard.now.clock) }
-    ensures { seat.new ≡ told ended shard.now.clock seat.old }
+    ensures { seat.new ≡ seat_told ended shard.now.clock seat.old }
 {
     if let Some(p) = ended {
         tell_end(shard, directory, seat, p);

@@ -6,7 +6,7 @@ use Rattle.atomic_table.proofs.Lists.{at_longer, set_else}
 use Rattle.pt_directory.specs.declared.view.Read.{Read}
 use Rattle.pt_directory.specs.declared.view.Death.{Death}
 use Rattle.pt_directory.specs.declared.view.View.{View}
-use Rattle.pt_directory.specs.Views.{new_read, is_at, deaths_at, last_version, last_stamp, Rises, HasDeath, up_from, stamp_last, times, homes_of, fresh_view}
+use Rattle.pt_directory.specs.Views.{new_read, is_at, deaths_at, last_version, last_stamp, Rises, HasDeath, up_from, stamp_last, times_among, homes_of, fresh_view}
 
 module _ {A : Type 0} where
   pub at_append : (xs ys : List A) (k : ℕ) (a : A) → get_elem? (xs ++ ys) k ≡ some a → (get_elem? xs k ≡ some a) ⊎ ((j : ℕ) × (get_elem? ys j ≡ some a) × (k ≡ length xs + j))
@@ -166,16 +166,16 @@ true-is_at e d s h = let t = and_parts (eqb e.shard d) (eqb e.slot s) h in (eqb-
 
 -- the homes of a desk
 
-pub times-append : (x : ℕ) (xs ys : List ℕ) → times x (xs ++ ys) ≡ times x xs + times x ys
+pub times-append : (x : ℕ) (xs ys : List ℕ) → times_among x (xs ++ ys) ≡ times_among x xs + times_among x ys
 times-append x [] ys = omega arith
 times-append x (y ∷ xs) ys = let h = times-append x xs ys in omega arith
 
-pub times_there : (x : ℕ) (xs : List ℕ) (k : ℕ) → get_elem? xs k ≡ some x → 1 ≤ times x xs
+pub times_there : (x : ℕ) (xs : List ℕ) (k : ℕ) → get_elem? xs k ≡ some x → 1 ≤ times_among x xs
 times_there x [] k at = absurd (some-ne-none x (sym at))
 times_there x (y ∷ xs) zero at = let is : eqb y x ≡ true = eq-eqb y x (some-injective y x at) in let one : cond {A = ℕ} (eqb y x) 1 0 ≡ 1 = ap (λ (b : Bool). cond {A = ℕ} b 1 0) is in omega arith
 times_there x (y ∷ xs) (suc k) at = let h = times_there x xs k at in omega arith
 
-times_below : (x a n : ℕ) → x < a → times x (up_from a n) ≡ 0
+times_below : (x a n : ℕ) → x < a → times_among x (up_from a n) ≡ 0
 times_below x a zero h = refl
 times_below x a (suc n) h = let r = times_below x (suc a) n (omega arith) in let off : eqb a x ≡ false = ne_eqb a x (λ e. let is : a ≡ x = e in absurd (omega arith)) in let none : cond {A = ℕ} (eqb a x) 1 0 ≡ 0 = ap (λ (b : Bool). cond {A = ℕ} b 1 0) off in omega arith
 
@@ -183,25 +183,25 @@ times_cond : (b : Bool) (m : ℕ) → m ≤ 1 → (b ≡ true → m ≡ 0) → c
 times_cond true m h g = let z = g refl in omega arith
 times_cond false m h g = omega arith
 
-pub times-up_from : (x a n : ℕ) → times x (up_from a n) ≤ 1
+pub times-up_from : (x a n : ℕ) → times_among x (up_from a n) ≤ 1
 times-up_from x a zero = omega arith
-times-up_from x a (suc n) = times_cond (eqb a x) (times x (up_from (suc a) n)) (times-up_from x (suc a) n) (λ is. let same : a ≡ x = eqb-true a x is in times_below x (suc a) n (omega arith))
+times-up_from x a (suc n) = times_cond (eqb a x) (times_among x (up_from (suc a) n)) (times-up_from x (suc a) n) (λ is. let same : a ≡ x = eqb-true a x is in times_below x (suc a) n (omega arith))
 
-pub homes_of-set : (x : ℕ) (l : List View) (i : ℕ) (v w : View) → get_elem? l i ≡ some v → homes_of x (set l i w) + times x v.homes ≡ homes_of x l + times x w.homes
+pub homes_of-set : (x : ℕ) (l : List View) (i : ℕ) (v w : View) → get_elem? l i ≡ some v → homes_of x (set l i w) + times_among x v.homes ≡ homes_of x l + times_among x w.homes
 homes_of-set x [] i v w e = absurd (some-ne-none v (sym e))
-homes_of-set x (u ∷ us) zero v w e = let is : times x u.homes ≡ times x v.homes = ap (λ (m : View). times x m.homes) (some-injective u v e) in omega arith
+homes_of-set x (u ∷ us) zero v w e = let is : times_among x u.homes ≡ times_among x v.homes = ap (λ (m : View). times_among x m.homes) (some-injective u v e) in omega arith
 homes_of-set x (u ∷ us) (suc i) v w e = let r = homes_of-set x us i v w e in omega arith
 
-pub homes_of-push : (x : ℕ) (l : List View) (w : View) → homes_of x (l ++ w ∷ []) ≡ homes_of x l + times x w.homes
+pub homes_of-push : (x : ℕ) (l : List View) (w : View) → homes_of x (l ++ w ∷ []) ≡ homes_of x l + times_among x w.homes
 homes_of-push x [] w = omega arith
 homes_of-push x (u ∷ us) w = let r = homes_of-push x us w in omega arith
 
-seats_there : (x : ℕ) (l : List View) (i : ℕ) (v : View) → get_elem? l i ≡ some v → times x v.homes ≤ homes_of x l
+seats_there : (x : ℕ) (l : List View) (i : ℕ) (v : View) → get_elem? l i ≡ some v → times_among x v.homes ≤ homes_of x l
 seats_there x [] i v e = absurd (some-ne-none v (sym e))
-seats_there x (u ∷ us) zero v e = let is : times x u.homes ≡ times x v.homes = ap (λ (m : View). times x m.homes) (some-injective u v e) in omega arith
+seats_there x (u ∷ us) zero v e = let is : times_among x u.homes ≡ times_among x v.homes = ap (λ (m : View). times_among x m.homes) (some-injective u v e) in omega arith
 seats_there x (u ∷ us) (suc i) v e = let r = seats_there x us i v e in omega arith
 
-pub two_seats : (x : ℕ) (l : List View) (i j : ℕ) (v w : View) → get_elem? l i ≡ some v → get_elem? l j ≡ some w → j ≢ i → times x v.homes + times x w.homes ≤ homes_of x l
+pub two_seats : (x : ℕ) (l : List View) (i j : ℕ) (v w : View) → get_elem? l i ≡ some v → get_elem? l j ≡ some w → j ≢ i → times_among x v.homes + times_among x w.homes ≤ homes_of x l
 two_seats x l i j v w at there apart =
     let a = homes_of-set x l i v (fresh_view []) at in
     let b = seats_there x (set l i (fresh_view [])) j w (set_else l i j (fresh_view []) apart ∙ there) in

@@ -10,7 +10,7 @@ use Rattle.pt_directory.specs.declared.view.Shape.{Shape}
 use Rattle.pt_directory.specs.declared.view.Read.{Read}
 use Rattle.pt_directory.specs.declared.view.Death.{Death}
 use Rattle.pt_directory.specs.declared.view.View.{View}
-use Rattle.pt_directory.specs.Views.{new_death, new_read, is_at, deaths_at, Rises, HasDeath, Covers, IsHomeOf, times, with_read, with_stamp, stamp_last}
+use Rattle.pt_directory.specs.Views.{new_death, new_read, is_at, deaths_at, Rises, HasDeath, Covers, IsHomeOf, times_among, with_read, with_stamp, stamp_last}
 use Rattle.pt_directory.specs.Rule.{version_word, death_word, IsReadKept, IsViewKept, Once, IsKept, Ruled, SeatKnows, VersionLoaded, DeathLoaded, Audited}
 use Rattle.pt_directory.proofs.Lists.{at_append, at_single, up_to_last, rises_both, Rises-front, has_last, among, stamp_last-push, is_at-true, times_there, homes_of-set, two_seats}
 
@@ -50,7 +50,7 @@ set_each P views id w others mine j u e =
     (at_set views id j w u e)
 
 pub once_set : (views : List View) (id : ℕ) (v w : View) → get_elem? views id ≡ some v → w.homes ≡ v.homes → Once views → Once (set views id w)
-once_set views id v w at same once x = let a = homes_of-set x views id v w at in let b : times x w.homes ≡ times x v.homes = ap (times x) same in let c = once x in omega arith
+once_set views id v w at same once x = let a = homes_of-set x views id v w at in let b : times_among x w.homes ≡ times_among x v.homes = ap (times_among x) same in let c = once x in omega arith
 
 -- two seats are not the home of one desk
 pub two_homes : (views : List View) (i j x : ℕ) (v w : View) → Once views → get_elem? views i ≡ some v → get_elem? views j ≡ some w → j ≢ i → IsHomeOf x v → IsHomeOf x w → ⊥

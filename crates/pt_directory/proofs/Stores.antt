@@ -7,7 +7,7 @@ use Rattle.atomic_table.specs.Table.{step, keeps, Allows}
 use Rattle.pt_directory.specs.declared.view.Shape.{Shape}
 use Rattle.pt_directory.specs.declared.view.Death.{Death}
 use Rattle.pt_directory.specs.declared.view.View.{View}
-use Rattle.pt_directory.specs.Views.{new_death, is_at, deaths_at, last_version, last_stamp, Rises, IsHomeOf, with_begun, finished}
+use Rattle.pt_directory.specs.Views.{new_death, is_at, deaths_at, last_version, last_stamp, Rises, IsHomeOf, with_begun, finished_view}
 use Rattle.pt_directory.specs.Rule.{version_word, death_word, IsSlotKept, IsViewKept, Ruled, SeatKnows, DeathStored, VersionStored}
 use Rattle.pt_directory.proofs.Lists.{at_append, at_single, at_nothing, set_grows, last_version-push, last_stamp-push, Rises-push, last_version-front, Rises-front, HasDeath-longer, none_at, is_at-true, true-is_at}
 use Rattle.pt_directory.proofs.Loads.{version_in, death_in, odd_even, even_odd, apart_version, apart_death, set_each, once_set, two_homes, read_grows}
@@ -102,7 +102,7 @@ module _ (shape : Shape) (slots id : ℕ) (me : SeatKnows) (d s ver t : ℕ) (p 
   stores_version begun st k len at small =
       let v = me.0 in
       let i : ℕ = version_word shape.slots d s in
-      let w : View = finished v in
+      let w : View = finished_view v in
       let vok = k.each id v at in
       let so = k.slots d s p q in
       let us : List ℕ = set st.words i ver in

@@ -9,7 +9,7 @@ use Rattle.pt_directory.specs.declared.view.Death.{Death}
 use Rattle.pt_directory.specs.Views.{new_death, new_read, deaths_at, last_version, last_stamp, IsHomeOf, LastRead, with_read, with_stamp, up_from}
 use Rattle.pt_directory.specs.Rule.{version_word, death_word, Ruled, SeatKnows, LoadsVersion, DeathLoaded, DeathStored, VersionStored}
 use Rattle.atomic_table.specs.Seated.{TableId}
-use Rattle.pt_directory.specs.Seats.{SeatState, IsBegun, death_of, seat_state, add_read, new_seat}
+use Rattle.pt_directory.specs.Seats.{SeatState, DeathIsBegun, death_of, seat_state, add_read, new_seat}
 use mathlib.Core.List.{map-append}
 use Rattle.pt_directory.proofs.Lists.{stamp_last-push, up_from-push}
 use Rattle.pt_directory.proofs.Loads.{loads_version, loads_death}
@@ -45,7 +45,7 @@ module _ (shape : Shape) (slots id : ℕ) (me : SeatKnows) (d s n m i : ℕ) (en
   stores_version_as ver t begun = subst (λ (j : ℕ). Allows (Ruled shape) slots id me j (λ _. ver) (λ _. VersionStored (step slots j ver 0 none) me ver)) (sym is') (stores_version shape slots id me d s ver t p' q' begun)
 
 -- the death that is begun, with its stamp
-pub begun_death : (pid : Pid) (ds : List Death) → IsBegun pid ds → (t : ℕ) × (ds ≡ death_of pid t ∷ [])
+pub begun_death : (pid : Pid) (ds : List Death) → DeathIsBegun pid ds → (t : ℕ) × (ds ≡ death_of pid t ∷ [])
 begun_death pid [] h = absurd h
 begun_death pid (d ∷ []) h = (d.stamp, λ i. record { shard = h.0 i; slot = h.1 i; version = h.2 i; stamp = d.stamp } ∷ [])
 begun_death pid (d ∷ e ∷ ds) h = absurd h

@@ -10,7 +10,7 @@ use Rattle.pt_directory.specs.declared.view.Death.{Death}
 use Rattle.pt_directory.specs.declared.view.View.{View}
 use Rattle.pt_directory.specs.Views.{new_death, new_read, deaths_at, last_version, last_stamp, Rises, HasDeath, Covers}
 use Rattle.pt_directory.specs.Views.{IsHomeOf, homes_of, fresh_view, up_from, with_read, with_stamp, with_begun}
-use Rattle.pt_directory.specs.Views.{finished}
+use Rattle.pt_directory.specs.Views.{finished_view}
 
 -- where a slot's version word stands: the greatest version of its pids that has ended
 abbrev pub version_word : ℕ → ℕ → ℕ → ℕ
@@ -92,7 +92,7 @@ DeathStored shard slot version st me n me' = me' ≡ (with_begun (new_death shar
 
 -- a version word was stored: the death is told whole
 abbrev pub VersionStored : Step (Unit {0}) → SeatKnows → ℕ → SeatKnows → Type 0
-VersionStored st me n me' = me' ≡ (finished me.0, me.1)
+VersionStored st me n me' = me' ≡ (finished_view me.0, me.1)
 
 -- what a seat is made with: the first home of the view that it is split off from
 abbrev pub one_home : View → View

@@ -56,10 +56,10 @@ abbrev pub death_of : Pid → ℕ → Death
 death_of pid stamp = new_death pid.shard pid.slot pid.version stamp
 
 -- one death is begun, that of this pid
-abbrev pub IsBegun : Pid → List Death → Type 0
-IsBegun pid [] = ⊥
-IsBegun pid (d ∷ []) = (d.shard ≡ pid.shard) × (d.slot ≡ pid.slot) × (d.version ≡ pid.version)
-IsBegun pid (d ∷ e ∷ ds) = ⊥
+abbrev pub DeathIsBegun : Pid → List Death → Type 0
+DeathIsBegun pid [] = ⊥
+DeathIsBegun pid (d ∷ []) = (d.shard ≡ pid.shard) × (d.slot ≡ pid.slot) × (d.version ≡ pid.version)
+DeathIsBegun pid (d ∷ e ∷ ds) = ⊥
 
 -- one read of the pid's slot is added, and the answer is its stamp; it has one exactly where the version that was
 -- found is not below the pid's

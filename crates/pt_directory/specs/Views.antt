@@ -56,14 +56,14 @@ abbrev pub IsHomeOf : ℕ → View → Type 0
 IsHomeOf shard v = (k : ℕ) × (get_elem? v.homes k ≡ some shard)
 
 -- how often a number stands in a list
-abbrev pub times : ℕ → List ℕ → ℕ
-times x [] = 0
-times x (y ∷ ys) = cond (eqb y x) 1 0 + times x ys
+abbrev pub times_among : ℕ → List ℕ → ℕ
+times_among x [] = 0
+times_among x (y ∷ ys) = cond (eqb y x) 1 0 + times_among x ys
 
 -- how many views are a desk's home
 abbrev pub homes_of : ℕ → List View → ℕ
 homes_of shard [] = 0
-homes_of shard (v ∷ vs) = times shard v.homes + homes_of shard vs
+homes_of shard (v ∷ vs) = times_among shard v.homes + homes_of shard vs
 
 -- a view that knows no more than whose home it is
 abbrev pub fresh_view : List ℕ → View
@@ -93,8 +93,8 @@ abbrev pub with_begun : Death → View → View
 with_begun d v = record { homes = v.homes; reads = v.reads; deaths = v.deaths; begun = d ∷ [] }
 
 -- with the death that was begun told whole
-abbrev pub finished : View → View
-finished v = record { homes = v.homes; reads = v.reads; deaths = v.deaths ++ v.begun; begun = [] }
+abbrev pub finished_view : View → View
+finished_view v = record { homes = v.homes; reads = v.reads; deaths = v.deaths ++ v.begun; begun = [] }
 
 -- what two views know together
 abbrev pub joined_views : View → View → View

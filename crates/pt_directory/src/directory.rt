@@ -2,9 +2,9 @@
 
 ghost use Rattle.std.specs.Prelude.{◌≡◌, ◌*◌, ◌<◌, [], ◌∷◌, map, replicate, None, IfOk, IsSome};
 ghost use Rattle.pt_directory.specs.Views.{new_read, deaths_at, last_version, last_stamp, IsHomeOf, with_stamp};
-ghost use Rattle.pt_directory.specs.Views.{with_begun, finished, LastRead, up_from, fresh_view};
+ghost use Rattle.pt_directory.specs.Views.{with_begun, finished_view, LastRead, up_from, fresh_view};
 ghost use Rattle.pt_directory.specs.Rule.{version_word, LoadsVersion};
-ghost use Rattle.pt_directory.specs.Seats.{HasWordsFor, IsBegun, add_death, death_of, Probes, HasReadOf, HasToldOf};
+ghost use Rattle.pt_directory.specs.Seats.{HasWordsFor, DeathIsBegun, add_death, death_of, Probes, HasReadOf, HasToldOf};
 ghost use Rattle.pt_directory.specs.Seats.{join_seats, IsAudited, new_seat, reopened_seat, AreEnded};
 
 use crate::rule::{
@@ -203,9 +203,9 @@ impl Directory {
     fn store_version(&self, seat: &mut TableSeat, pid: Pid)
         requires seat { seat.old.table_id ≡ self.now.name }
         requires pid { HasWordsFor self.now pid }
-        requires begun { IsBegun pid seat.old.me.0.begun }
+        requires begun { DeathIsBegun pid seat.old.me.0.begun }
         ensures same { (seat.new.table_id ≡ seat.old.table_id) × (seat.new.id ≡ seat.old.id) }
-        ensures finished { seat.new.me ≡ (finished seat.old.me.0, seat.old.me.1) }
+        ensures finished { seat.new.me ≡ (finished_view seat.old.me.0, seat.old.me.1) }
     {
         self.table
             .shared

@@ -11,16 +11,16 @@ use Rattle.pt_explain.specs.declared.why.Wrong.TheVariants as wrong
 use Rattle.pt_script.specs.declared.limits.TheConstants.{MAX_BYTES, MAX_DEPTH, MAX_OPERATIONS, MAX_PROCESSES}
 
 -- a name, or an index where there is none
-abbrev pub label_text : Label → List ℕ
-label_text (Name name) = name.now
-label_text (Index index) = decimal index
+abbrev pub member_text : Label → List ℕ
+member_text (Name name) = name.now
+member_text (Index index) = decimal index
 
-unfoldable pub scene_text : Scene → List ℕ
-scene_text scene.Script = codes "script"
-scene_text (scene.Text line column) = codes "script, line " ++ decimal line ++ codes ", column " ++ decimal column
-scene_text (scene.Process process) = codes "process " ++ label_text process
-scene_text (scene.Operation process operation) =
-    codes "process " ++ label_text process ++ codes ", operation " ++ label_text operation
+unfoldable pub where_text : Scene → List ℕ
+where_text scene.Script = codes "script"
+where_text (scene.Text line column) = codes "script, line " ++ decimal line ++ codes ", column " ++ decimal column
+where_text (scene.Process process) = codes "process " ++ member_text process
+where_text (scene.Operation process operation) =
+    codes "process " ++ member_text process ++ codes ", operation " ++ member_text operation
 
 unfoldable pub wrong_text : Wrong → List ℕ
 wrong_text wrong.NoUtf8 = codes "is no UTF-8"
@@ -57,4 +57,4 @@ subject_text (Some member) = codes ": member " ++ member.now ++ codes " "
 
 -- one line, without its line feed
 unfoldable pub why_text : Why → List ℕ
-why_text w = scene_text w.scene ++ subject_text w.member ++ wrong_text w.wrong
+why_text w = where_text w.scene ++ subject_text w.member ++ wrong_text w.wrong

@@ -11,7 +11,7 @@
 //!
 //! The texts are those of `docs/SCRIPTS.md`. Of what a script says no text is repeated but names of at most 32 letters,
 //! digits and `_`, so the line is one line whatever the script holds.
-#![tactic(auto, unfolding(crate::specs::Texts::scene_text, crate::specs::Texts::wrong_text, crate::specs::Texts::why_text))]
+#![tactic(auto, unfolding(crate::specs::Texts::where_text, crate::specs::Texts::wrong_text, crate::specs::Texts::why_text))]
 
 mod explaining;
 mod finding;

@@ -12,9 +12,9 @@ pub(crate) enum Label<'a> {
 
 impl fmt::Display for Label<'_> {
     ghost use Rattle.std.specs.Prelude.{Some};
-    ghost use Rattle.pt_explain.specs.Texts.{label_text};
+    ghost use Rattle.pt_explain.specs.Texts.{member_text};
 
-    ghost output = { λ l. Some (label_text l) };
+    ghost output = { λ l. Some (member_text l) };
 
     fn fmt<W: fmt::Write>(&self, f: &mut fmt::Formatter<W>) -> fmt::Result {
         match self {
@@ -43,9 +43,9 @@ pub(crate) enum Scene<'a> {
 
 impl fmt::Display for Scene<'_> {
     ghost use Rattle.std.specs.Prelude.{Some};
-    ghost use Rattle.pt_explain.specs.Texts.{scene_text};
+    ghost use Rattle.pt_explain.specs.Texts.{where_text};
 
-    ghost output = { λ s. Some (scene_text s) };
+    ghost output = { λ s. Some (where_text s) };
 
     fn fmt<W: fmt::Write>(&self, f: &mut fmt::Formatter<W>) -> fmt::Result {
         match self {

@@ -12,7 +12,7 @@ use Rattle.pt_events.specs.Journal.{events, letter, letters, posts, gots, Agrees
 use Rattle.pt_events.proofs.Homes.{AllFrom, from_home}
 use Rattle.pt_events.proofs.Agreeing.{Agrees-posted, Agrees-got}
 use Rattle.pt_shard.specs.declared.config.Config.{Config}
-use Rattle.pt_shard.specs.ShardState.{ShardState, came}
+use Rattle.pt_shard.specs.ShardState.{ShardState, came_event}
 use Rattle.pt_gathered.specs.Gathered.{GatheredState, IsGathered, IsShardOf, begins, journals, over_in}
 use Rattle.pt_gathered.proofs.Starts.{start_same}
 use Rattle.pt_gathered.proofs.Owned.{local_same}
@@ -95,8 +95,8 @@ module _ (old new : GatheredState) (whole : IsGathered old) (d e : ℕ) (l : Let
           let is : i ≡ e = eqb-true i e q in
           let j1 : journals new i ≡ receipt old.config.start e l (journals old e) ∷ journals old i = rw q at j in
           rw q (ap (λ z. posts (begins old) z k) j1
-          ∙ filter-append (λ x. x.to.shard == k) (letters (begins old) (journals old i)) (map (letter (receipt old.config.start e l (journals old e)).stamp) (sent_by (begins old) (events (journals old i)) (came l)))
-          ∙ ap (λ z. posts (begins old) (journals old i) k ++ filter (λ x. x.to.shard == k) (map (letter (receipt old.config.start e l (journals old e)).stamp) (sent_by (begins old) (events (journals old z)) (came l)))) is)
+          ∙ filter-append (λ x. x.to.shard == k) (letters (begins old) (journals old i)) (map (letter (receipt old.config.start e l (journals old e)).stamp) (sent_by (begins old) (events (journals old i)) (came_event l)))
+          ∙ ap (λ z. posts (begins old) (journals old i) k ++ filter (λ x. x.to.shard == k) (map (letter (receipt old.config.start e l (journals old e)).stamp) (sent_by (begins old) (events (journals old z)) (came_event l)))) is)
       go false q j =
           let j1 : journals new i ≡ journals old i = rw q at j in
           rw q (ap (λ z. posts (begins old) z k) j1 ∙ sym (append-nil (posts (begins old) (journals old i) k)))

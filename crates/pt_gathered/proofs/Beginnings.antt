@@ -23,7 +23,7 @@ use Rattle.pt_laws.specs.ResumedLaws.{LeftAgain, StampsNumber, BothNumber, Stamp
 use Rattle.pt_laws.proofs.lanes.Load.{born_once}
 use Rattle.pt_shard.specs.ShardState.{ShardState, past}
 use Rattle.pt_shard.specs.Begun.{Every}
-use Rattle.pt_shard.specs.Opening.{fresh}
+use Rattle.pt_shard.specs.Opening.{fresh_shard}
 use Rattle.pt_shard.specs.Restart.{restarted}
 use Rattle.pt_gathered.specs.Gathered.{GatheredState, IsGathered, begins, journals, start_of}
 use Rattle.pt_gathered.specs.Lawful.{IsQuietNode, BeginsAgain}
@@ -190,4 +190,4 @@ module _ (g : GatheredState) (whole : IsGathered g) (quiet : IsQuietNode g) (say
   pub begins_again : MergeIsThere → BeginsAgain g
   begins_again there n above =
       let m = there (begins g) g.config.start g.config.top_version (length g.shards) (journals g) (locals g whole) (past_end g whole) in
-      (from_merge n above (fresh g.config 0) m.0 m.1).begun
+      (from_merge n above (fresh_shard g.config 0) m.0 m.1).begun

@@ -12,7 +12,7 @@ use Rattle.pt_laws.specs.Resumed.{AllNewTo}
 use Rattle.pt_laws.specs.ResumedLaws.{LeftAgain, StampsNumber, BothNumber, StampsAreNew, OldRefsResumed}
 use Rattle.pt_laws.proofs.living.Resumed.{over_legal, over_flying}
 use Rattle.pt_shard.specs.declared.config.Config.{Config}
-use Rattle.pt_shard.specs.Opening.{fresh}
+use Rattle.pt_shard.specs.Opening.{fresh_shard}
 use Rattle.pt_shard.specs.Restart.{restarted}
 use Rattle.pt_gathered.specs.Beginning.{IsBeginning}
 use Rattle.pt_gathered.specs.Gathered.{GatheredState, IsGathered, begins, journals, over, start_of}
@@ -69,4 +69,4 @@ module _ (g : GatheredState) (whole : IsGathered g) where
   pub begins_after : IsQuietNode g → JournalsSay → StampsAreNew → LeftAgain → MergeKnown → KnownAgain → StampsNumber → BothNumber → OldRefsResumed → BeginsAgainAfter g
   begins_after quiet say new again known known_again stamps both refs past merged n from m above =
       subst (λ (p : Past). IsBeginningOf (events merged ++ p) n (start_of (map (restarted n) g.shards))) from.past_is
-      (from_merge g (record whole { begun = from.begun }) quiet say new again known known_again stamps both refs n above (fresh g.config 0) merged m)
+      (from_merge g (record whole { begun = from.begun }) quiet say new again known known_again stamps both refs n above (fresh_shard g.config 0) merged m)

@@ -6,7 +6,7 @@ use Rattle.std.proofs.lemmas.List.{length-append}
 use Rattle.pt_signal.specs.declared.letter.Letter.{Letter}
 use Rattle.pt_gathered.specs.declared.left_over.LeftOver.{LeftOver}
 use Rattle.pt_shard.specs.Outbox.{held_from}
-use Rattle.pt_gathered.specs.LeftOvers.{joined}
+use Rattle.pt_gathered.specs.LeftOvers.{joined_letters}
 
 pub get_front : (xs ys : List Letter) (k : ℕ) → k < length xs → slice_get (xs ++ ys) k ≡ slice_get xs k
 get_front [] ys k h = absurd (omega arith)
@@ -61,8 +61,8 @@ module _ (held lane box : List Letter) (place after : ℕ) (within : length held
       sym (get_back (held ++ lane) box place (omega arith) ∙ ap (slice_get box) e)
 
 -- lists of all that is left over
-pub joined_more : (f : ℕ → List LeftOver) (n : ℕ) → joined f (n + 1) ≡ joined f n ++ f n
-joined_more f n = let e : n + 1 ≡ suc n = omega arith in ap (joined f) e
+pub joined_more : (f : ℕ → List LeftOver) (n : ℕ) → joined_letters f (n + 1) ≡ joined_letters f n ++ f n
+joined_more f n = let e : n + 1 ≡ suc n = omega arith in ap (joined_letters f) e
 
 pub listed_more : (xs : List LeftOver) (f : Letter → LeftOver) (over : List Letter) (k : ℕ) (l : Letter) → slice_get over k ≡ Some l
     → (xs ++ f l ∷ []) ++ map f (drop (k + 1) over) ≡ xs ++ map f (drop k over)

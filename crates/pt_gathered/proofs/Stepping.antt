@@ -16,7 +16,7 @@ use Rattle.pt_carrier.proofs.Rooms.{place_before}
 use Rattle.pt_shard.specs.declared.config.Config.{Config}
 use Rattle.pt_shard.specs.declared.stop.Stop.{Stop}
 use Rattle.pt_shard.specs.declared.stop.Stop.TheVariants.{Memory, Worn}
-use Rattle.pt_shard.specs.ShardState.{ShardState, came, put_out, handled, Handles}
+use Rattle.pt_shard.specs.ShardState.{ShardState, came_event, put_out, handled, Handles}
 use Rattle.pt_shard.specs.Outbox.{held_from}
 use Rattle.pt_shard.specs.Fit.{IsFit}
 use Rattle.pt_gathered.proofs.Starts.{start_same, same_starts}
@@ -24,7 +24,7 @@ use Rattle.pt_gathered.proofs.Owned.{sent_same}
 use Rattle.pt_gathered.specs.Beginning.{IsBeginning}
 use Rattle.pt_gathered.specs.Gathered.{GatheredState, start_of, IsGathered, IsShardOf, journal_at, box_at, hold_at, over_in}
 use Rattle.pt_gathered.specs.Settling.{receipt, replies, replies_to, Receives, Steps}
-use Rattle.pt_gathered.specs.Taking.{bare, AreShards, TakesOut}
+use Rattle.pt_gathered.specs.Taking.{without_letters, AreShards, TakesOut}
 use Rattle.pt_gathered.specs.Waits.{posted_in, StepsPosted}
 use Rattle.pt_gathered.proofs.Posted.{steps_posted}
 use Rattle.pt_gathered.proofs.Agreeing.{AllBetween, between_ends, agree_step}
@@ -130,7 +130,7 @@ module _ (shards : List ShardState) (lanes : List (List Letter)) (d e : ℕ) (d_
 
     pub takes_hold : TakesOut d e shards (set shards e (record s { hold = None })) lanes lanes
     takes_hold = record {
-      bare_same = map-set_same bare shards e s (record s { hold = None }) e_in is refl;
+      bare_same = map-set_same without_letters shards e s (record s { hold = None }) e_in is refl;
       lane_count = refl;
       over = λ i k hi hk.
           rw (length-set shards e (record s { hold = None }), boxes_same, read_set (λ (s : ShardState). s.hold) shards e (record s { hold = None }) k None e_in) (held_drop i k);
@@ -196,7 +196,7 @@ module _ (shards : List ShardState) (lanes : List (List Letter)) (d e : ℕ) (d_
     pub takes_box : (s : ShardState) → s ≡ get_or shards d s → get_or lanes (d * length shards + e) [] ≡ [] → e < length s.outbox
         → TakesOut d e shards (set shards d (record s { outbox = set s.outbox e (drop 1 (get_or s.outbox e [])) })) lanes lanes
     takes_box s is empty room = record {
-      bare_same = map-set_same bare shards d s (record s { outbox = set s.outbox e (drop 1 (get_or s.outbox e [])) }) d_in is refl;
+      bare_same = map-set_same without_letters shards d s (record s { outbox = set s.outbox e (drop 1 (get_or s.outbox e [])) }) d_in is refl;
       lane_count = refl;
       over = λ i k hi hk.
           rw (length-set shards d (record s { outbox = set s.outbox e (drop 1 (get_or s.outbox e [])) }), holds, read_set (λ (s : ShardState). s.outbox) shards d (record s { outbox = set s.outbox e (drop 1 (get_or s.outbox e [])) }) i [] d_in)
@@ -263,17 +263,17 @@ module _ (config : Config) (shards : List ShardState) (lanes : List (List Letter
     count1 = length-set shards e s'
 
     count2 : length shards2 ≡ length shards
-    count2 = length-map_same bare shards2 (set shards e s') took.bare_same ∙ count1
+    count2 = length-map_same without_letters shards2 (set shards e s') took.bare_same ∙ count1
 
     same_begins : start_of shards2 ≡ start_of shards
     same_begins =
-        same_starts shards shards2 (map-through bare (λ (z : ShardState). z.start) shards2 (set shards e s') took.bare_same ∙ map-set_same (λ (z : ShardState). z.start) shards e s s' e_in is (ap (λ (z : ShardState). z.start) after))
+        same_starts shards shards2 (map-through without_letters (λ (z : ShardState). z.start) shards2 (set shards e s') took.bare_same ∙ map-set_same (λ (z : ShardState). z.start) shards e s s' e_in is (ap (λ (z : ShardState). z.start) after))
 
     -- what the receipt sends, by the start of its desk and by that of all
-    same_sent : sent_by s.start (events s.journal) (came l) ≡ sent_by (start_of shards) (events s.journal) (came l)
+    same_sent : sent_by s.start (events s.journal) (came_event l) ≡ sent_by (start_of shards) (events s.journal) (came_event l)
     same_sent =
         sent_same s.start (start_of shards) e (subst (λ (z : ShardState). (p : Pid) → p.shard ≡ e → at_start z.start p ≡ at_start (start_of shards) p) (sym is) (start_same config shards whole.shards e s e_in))
-        (events s.journal) (came l) ends_are.1
+        (events s.journal) (came_event l) ends_are.1
 
     stamp_is : (receipt config.start e l (journal_at shards e)).stamp ≡ max s.clock l.stamp + 1
     stamp_is = ap (λ n. n + 1) (sym worn_at)
@@ -283,7 +283,7 @@ module _ (config : Config) (shards : List ShardState) (lanes : List (List Letter
 
     journal_two : (k : ℕ) → journal_at shards2 k ≡ cond (k == e) (receipt config.start e l (journal_at shards e) ∷ journal_at shards k) (journal_at shards k)
     journal_two k =
-        ap (λ js. get_or js k []) (map-through bare (λ (z : ShardState). z.journal) shards2 (set shards e s') took.bare_same)
+        ap (λ js. get_or js k []) (map-through without_letters (λ (z : ShardState). z.journal) shards2 (set shards e s') took.bare_same)
         ∙ read_set (λ (z : ShardState). z.journal) shards e s' k [] e_in ∙ go (k == e) refl
       where
         go : (b : Bool) → (k == e) ≡ b → cond (k == e) s'.journal (journal_at shards k) ≡ cond (k == e) (receipt config.start e l (journal_at shards e) ∷ journal_at shards k) (journal_at shards k)

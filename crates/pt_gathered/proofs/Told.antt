@@ -9,7 +9,7 @@ use Rattle.pt_events.specs.Journal.{events, IsLocal}
 use Rattle.pt_events.specs.JournalState.{JournalState}
 use Rattle.pt_laws.specs.Taken.{taken}
 use Rattle.pt_accounts.specs.LifeState.{LifeState}
-use Rattle.pt_accounts.specs.Table.{Slots, Tells, AreTold, found}
+use Rattle.pt_accounts.specs.Table.{Slots, TableTells, AreTold, found}
 use Rattle.pt_accounts.specs.DeskLives.{DeskTable, IsReadUpTo, IsTableOf, IsJournalOver, MayRead, ReadsOn, oldest}
 use Rattle.pt_accounts.specs.LivesState.{Lives, AreLivesOf}
 use Rattle.pt_shard.specs.ShardState.{ShardState, past}
@@ -24,7 +24,7 @@ use Rattle.pt_gathered.proofs.Lawful.{locals, past_end}
 -- starts that agree on the processes of the desk ------------------------------------------------
 
 module _ (one two : Start) (d : ℕ) (same : (p : Pid) → p.shard ≡ d → at_start one p ≡ at_start two p) where
-  tells_same : (before : Past) (p : Pid) → p.shard ≡ d → (o : Option LifeState) → Tells one before p o → Tells two before p o
+  tells_same : (before : Past) (p : Pid) → p.shard ≡ d → (o : Option LifeState) → TableTells one before p o → TableTells two before p o
   tells_same before p h None t = (sym (life_same one two d same before p h) ∙ t.0, t.1)
   tells_same before p h (Some l) t = subst (λ f. (l ≡ record { pid = p; phase = f; taken = length (taken before p) }) × (is_unborn f ≡ false)) (life_same one two d same before p h) t
 
@@ -177,7 +177,7 @@ one_more_read g k all t room told is d o h = ⊎_elim below here (cases_lt d k)
         subst (λ i. IsTableOf (begins g) i (events (journals g i)) (get_or (set all k t) i o)) e (subst (IsTableOf (begins g) k (events (journals g k))) (sym (get_or-set_same all k t o room)) is)
 
 -- all tables
-pub are_lives : (g : GatheredState) → IsGathered g → (lives : Lives) → length lives ≡ length g.shards → tables.AreTold g lives → AreLivesOf (begins g) (journals g) lives
+pub are_lives : (g : GatheredState) → IsGathered g → (lives : Lives) → length lives ≡ length g.shards → tables.TablesAreTold g lives → AreLivesOf (begins g) (journals g) lives
 are_lives g whole lives n told = record {
   desks = record { low = g.config.start; top = g.config.top_version; local = locals g whole };
   told = told;

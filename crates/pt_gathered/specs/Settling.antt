@@ -10,7 +10,7 @@ use Rattle.pt_laws.specs.Load.{below, load_by_desk}
 use Rattle.pt_laws.specs.LoadLaws.{AllCame}
 use Rattle.pt_shard.specs.declared.stop.Stop.{Stop}
 use Rattle.pt_shard.specs.declared.stop.Stop.TheVariants.{Memory, Worn}
-use Rattle.pt_shard.specs.ShardState.{came}
+use Rattle.pt_shard.specs.ShardState.{came_event}
 use Rattle.pt_gathered.specs.Gathered.{GatheredState, begins, journals, over, over_in}
 
 -- the load, desk by desk
@@ -19,11 +19,11 @@ load_of g = load_by_desk (begins g) (journals g) (over g) (length g.shards)
 
 -- the receipt of the letter at desk e
 abbrev pub receipt : ℕ → ℕ → Letter → List Stamped → Stamped
-receipt low e l journal = record { stamp = max (clock low journal) l.stamp + 1; desk = e; event = came l }
+receipt low e l journal = record { stamp = max (clock low journal) l.stamp + 1; desk = e; event = came_event l }
 
 -- what the receipt sends
 abbrev pub replies : Start → ℕ → ℕ → Letter → List Stamped → List Letter
-replies start low e l journal = map (letter (receipt low e l journal).stamp) (sent_by start (events journal) (came l))
+replies start low e l journal = map (letter (receipt low e l journal).stamp) (sent_by start (events journal) (came_event l))
 
 abbrev pub replies_to : Start → ℕ → ℕ → Letter → List Stamped → ℕ → List Letter
 replies_to start low e l journal k = filter (λ r. r.to.shard == k) (replies start low e l journal)

@@ -21,7 +21,7 @@ abbrev pub IsTold : ShardState → DeskTable → Type 0
 IsTold s t = IsTableOf s.start s.number (past s) t
 
 -- so has each of these, over what was before all desks together
-abbrev pub AreTold : GatheredState → List DeskTable → Type 0
-AreTold g tables =
+abbrev pub TablesAreTold : GatheredState → List DeskTable → Type 0
+TablesAreTold g tables =
     (d : ℕ) (t : DeskTable) → d < length tables
     → IsTableOf (begins g) d (events (journals g d)) (slice_index_or tables d t)

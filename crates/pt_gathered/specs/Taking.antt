@@ -7,15 +7,15 @@ use Rattle.pt_gathered.specs.Gathered.{over_in, IsShardOf}
 use Rattle.pt_gathered.specs.Waits.{posted_in}
 
 -- all of a desk but its letters
-abbrev pub bare : ShardState → ShardState
-bare s = record s { outbox = []; hold = None }
+abbrev pub without_letters : ShardState → ShardState
+without_letters s = record s { outbox = []; hold = None }
 
 -- each desk is that of its number
 abbrev pub AreShards : Config → List ShardState → Type 0
 AreShards config shards = (d : ℕ) (x : ShardState) → d < length shards → IsShardOf config d (slice_index_or shards d x)
 
 pub record TakesOut (d e : ℕ) (old new : List ShardState) (lanes lanes' : List (List Letter)) : Type 0 where
-  pub bare_same : map bare new ≡ map bare old
+  pub bare_same : map without_letters new ≡ map without_letters old
   pub lane_count : length lanes' ≡ length lanes
   pub over : (i k : ℕ) → i < length old → k < length old
       → over_in new lanes' i k ≡ cond ((i == d) && (k == e)) (drop 1 (over_in old lanes i k)) (over_in old lanes i k)

@@ -10,7 +10,7 @@ ghost use Rattle.pt_gathered.specs.Waits.{Waits, Marks, AreLeast, IsLeast, Keeps
 ghost use Rattle.pt_gathered.specs.Lawful.{LanesKeep, KeepsHeadline, IsLegalNode, IsQuietNode, IsBounded, LinksStand};
 ghost use Rattle.pt_gathered.specs.Lawful.{WatchesStand, AnswersHold, QuestionsAnswered};
 ghost use Rattle.pt_gathered.specs.Pasts.{KeepsPast};
-ghost use Rattle.pt_gathered.specs.Tables.{AreTables, AreTold};
+ghost use Rattle.pt_gathered.specs.Tables.{AreTables, TablesAreTold};
 ghost use Rattle.pt_accounts.specs.LivesState.{AreLivesOf};
 
 use crate::gathered::Gathered;
@@ -168,7 +168,7 @@ fn told(node: &Node, lives: Vec<DeskLives>) -> Result<Lives, Vec<DeskLives>>
 fn read_journals(node: &Node, lives: &mut Vec<DeskLives>) -> Result<(), AllocError>
     requires { AreTables node.now.shards lives.old.items }
     ensures tables { AreTables node.now.shards lives.new.items }
-    ensures told { OnOk result (AreTold node.now lives.new.items) }
+    ensures told { OnOk result (TablesAreTold node.now lives.new.items) }
 {
     // read for the proof alone: it says what holds of every gathered node
     let _desks = node.desks();

@@ -19,7 +19,7 @@ use Rattle.pt_events.specs.declared.event.Event.TheVariants.{Born, Said, Came, T
 use Rattle.pt_signal.specs.Values.{same_pid, same_ref, fits}
 use Rattle.pt_signal.specs.Process.{held, Sent, sent}
 use Rattle.pt_events.specs.History.{Past, Start, Phase, unborn, living, ended, is_unborn, is_the, is_between, life, alive, state, flying, MaySay, MayBear, is_ended, reason_of}
-use Rattle.pt_judge.specs.Judge.{number, Refuses, DeadParent, BadLink, IsJudged}
+use Rattle.pt_judge.specs.Judge.{cause_number, Refuses, DeadParent, BadLink, IsJudged}
 use Rattle.pt_judge.specs.Judging.{Known, known_after, is_item, is_ids, is_signal, may_say, lacks, unlawful_link, cause}
 use Rattle.pt_signal.proofs.Same.{same_pid_is, same_pid_refl}
 use Rattle.pt_judge.proofs.SameValues.{item_is, item_refl, ids_is, ids_refl, signal_is, signal_refl}
@@ -140,7 +140,7 @@ module _ (start : Start) (past : Past) where
   link_true (Some q) (Some i) h = h
 
   -- no cause is below the first
-  below_none : (lower : Cause) → number lower < 1 → ⊥
+  below_none : (lower : Cause) → cause_number lower < 1 → ⊥
   below_none BornTwice h = omega arith
   below_none NotAlive h = omega arith
   below_none NotFront h = omega arith
@@ -156,7 +156,7 @@ module _ (start : Start) (past : Past) where
       go false e c f d g = (phase_not_unborn _ e, λ lower h. absurd (below_none lower h))
       go true e true f d g = (lacks_true parent f, below_alive)
         where
-          below_alive : (lower : Cause) → number lower < 2 → ¬ Refuses start past (Born p parent link) lower
+          below_alive : (lower : Cause) → cause_number lower < 2 → ¬ Refuses start past (Born p parent link) lower
           below_alive BornTwice h k = k (phase_unborn _ e)
           below_alive NotAlive h k = absurd (omega arith)
           below_alive NotFront h k = k
@@ -165,7 +165,7 @@ module _ (start : Start) (past : Past) where
           below_alive Memory h k = k
       go true e false f true g = (link_true parent link g, below_lawful)
         where
-          below_lawful : (lower : Cause) → number lower < 5 → ¬ Refuses start past (Born p parent link) lower
+          below_lawful : (lower : Cause) → cause_number lower < 5 → ¬ Refuses start past (Born p parent link) lower
           below_lawful BornTwice h k = k (phase_unborn _ e)
           below_lawful NotAlive h k = lacks_false parent f k
           below_lawful NotFront h k = k
@@ -180,7 +180,7 @@ module _ (start : Start) (past : Past) where
       go : (c : Bool) → alive start past a ≡ c → (d : Bool) → may_say K a b x ≡ d → IsJudged start past (Said a b x) (cond c (cond d None (Some Unlawful)) (Some NotAlive))
       go false e d f = (e, below_alive)
         where
-          below_alive : (lower : Cause) → number lower < 2 → ¬ Refuses start past (Said a b x) lower
+          below_alive : (lower : Cause) → cause_number lower < 2 → ¬ Refuses start past (Said a b x) lower
           below_alive BornTwice h k = k
           below_alive NotAlive h k = absurd (omega arith)
           below_alive NotFront h k = k
@@ -190,7 +190,7 @@ module _ (start : Start) (past : Past) where
       go true e true f = (e, say_true a b x f)
       go true e false f = (say_false a b x f, below_lawful)
         where
-          below_lawful : (lower : Cause) → number lower < 5 → ¬ Refuses start past (Said a b x) lower
+          below_lawful : (lower : Cause) → cause_number lower < 5 → ¬ Refuses start past (Said a b x) lower
           below_lawful BornTwice h k = k
           below_lawful NotAlive h k = both_ways _ k e
           below_lawful NotFront h k = k
@@ -205,7 +205,7 @@ module _ (start : Start) (past : Past) where
       go true e = front_found a b x (flying start past) e
       go false e = (front_not_found a b x (flying start past) e, below_front)
         where
-          below_front : (lower : Cause) → number lower < 3 → ¬ Refuses start past (Came a b x) lower
+          below_front : (lower : Cause) → cause_number lower < 3 → ¬ Refuses start past (Came a b x) lower
           below_front BornTwice h k = k
           below_front NotAlive h k = k
           below_front NotFront h k = absurd (omega arith)
@@ -219,7 +219,7 @@ module _ (start : Start) (past : Past) where
       go : (c : Bool) → alive start past p ≡ c → (d : Bool) → is_item (find (fits k) (state start past p).waiting) i ≡ d → IsJudged start past (Took p k i) (cond c (cond d None (Some NotFirstMatch)) (Some NotAlive))
       go false e d f = (e, below_alive)
         where
-          below_alive : (lower : Cause) → number lower < 2 → ¬ Refuses start past (Took p k i) lower
+          below_alive : (lower : Cause) → cause_number lower < 2 → ¬ Refuses start past (Took p k i) lower
           below_alive BornTwice h l = l
           below_alive NotAlive h l = absurd (omega arith)
           below_alive NotFront h l = l
@@ -229,7 +229,7 @@ module _ (start : Start) (past : Past) where
       go true e true f = (e, item_found _ i f)
       go true e false f = (item_not_found _ i f, below_match)
         where
-          below_match : (lower : Cause) → number lower < 4 → ¬ Refuses start past (Took p k i) lower
+          below_match : (lower : Cause) → cause_number lower < 4 → ¬ Refuses start past (Took p k i) lower
           below_match BornTwice h l = l
           below_match NotAlive h l = both_ways _ l e
           below_match NotFront h l = l
@@ -244,7 +244,7 @@ module _ (start : Start) (past : Past) where
       go true e = e
       go false e = (e, below_alive)
         where
-          below_alive : (lower : Cause) → number lower < 2 → ¬ Refuses start past (Flag p on) lower
+          below_alive : (lower : Cause) → cause_number lower < 2 → ¬ Refuses start past (Flag p on) lower
           below_alive BornTwice h k = k
           below_alive NotAlive h k = absurd (omega arith)
           below_alive NotFront h k = k
@@ -259,7 +259,7 @@ module _ (start : Start) (past : Past) where
       go true e = e
       go false e = (e, below_alive)
         where
-          below_alive : (lower : Cause) → number lower < 2 → ¬ Refuses start past (Left p r) lower
+          below_alive : (lower : Cause) → cause_number lower < 2 → ¬ Refuses start past (Left p r) lower
           below_alive BornTwice h k = k
           below_alive NotAlive h k = absurd (omega arith)
           below_alive NotFront h k = k
@@ -279,14 +279,14 @@ module _ (start : Start) (past : Past) where
           → IsJudged start past (Refused a b) (cond c (cond d None (Some Unlawful)) (Some NotAlive))
       go false e d f = (e, below_alive)
         where
-          below_alive : (lower : Cause) → number lower < 2 → ¬ Refuses start past (Refused a b) lower
+          below_alive : (lower : Cause) → cause_number lower < 2 → ¬ Refuses start past (Refused a b) lower
           below_alive NotAlive h k = absurd (omega arith)
           below_alive Unlawful h k = absurd (omega arith)
           below_alive _ h k = k
       go true e true f = (e, sym (reason_ended (life start past b)) ∙ f)
       go true e false f = (sym (reason_ended (life start past b)) ∙ f, below_lawful)
         where
-          below_lawful : (lower : Cause) → number lower < 5 → ¬ Refuses start past (Refused a b) lower
+          below_lawful : (lower : Cause) → cause_number lower < 5 → ¬ Refuses start past (Refused a b) lower
           below_lawful NotAlive h k = both_ways _ k e
           below_lawful Unlawful h k = absurd (omega arith)
           below_lawful _ h k = k

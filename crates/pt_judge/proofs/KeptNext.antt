@@ -12,7 +12,7 @@ use Rattle.pt_events.specs.History.{Past, Start, Phase, unborn, living, ended, i
 use Rattle.pt_judge.specs.declared.cause.Cause.{Cause}
 use Rattle.pt_judge.specs.declared.cause.Cause.TheVariants.{BornTwice}
 use Rattle.pt_judge.specs.Judge.{IsAfter}
-use Rattle.pt_judge.specs.Judging.{JudgeState, now_is, known, cause, ListsBorn, MayBeBorn, answered, lived, sends, IsObserved, IsStep}
+use Rattle.pt_judge.specs.Judging.{JudgeState, now_is, known_state, cause, ListsBorn, MayBeBorn, answered, lived, judge_sends, IsObserved, IsStep}
 use Rattle.pt_signal.proofs.Same.{same_pid_refl}
 use Rattle.pt_signal.proofs.Handling.{living_answer, handle_answer}
 use Rattle.pt_events.proofs.Phases.{after_born}
@@ -59,12 +59,12 @@ unborn_first true o h = refl
 unborn_first false o h = absurd (cc)
 
 -- an event that no cause refuses gives birth to none that is listed
-pub may_be_born : (s : JudgeState) (e : Event) → ListsBorn s.lives → cause (known s) e ≡ None → MayBeBorn s.lives e
+pub may_be_born : (s : JudgeState) (e : Event) → ListsBorn s.lives → cause (known_state s) e ≡ None → MayBeBorn s.lives e
 may_be_born s (Born p parent link) k h = k p ∙ ap not (unborn_first (is_unborn (now_is s p)) _ h)
 may_be_born s _ k h = tt
 
 module _ (start : Start) (past : Past) (old new : JudgeState) (k : IsAfter start past old) where
-  sent_next : (e : Event) → IsStep old e new → sends new.lives (lived old.lives e) e ≡ sent_by start past e
+  sent_next : (e : Event) → IsStep old e new → judge_sends new.lives (lived old.lives e) e ≡ sent_by start past e
   sent_next (Came a b x) t =
       subst₂ (λ f g. cond (is_living f) (answered b a x ++ end_sends b (reason_of g) (state_of g)) (bounce b a x) ≡ got_sends (life start past b) b a x)
       (sym (k.alike b)) (sym (t.lives b ∙ ap (after b (Came a b x)) (k.alike b)))
@@ -80,5 +80,5 @@ module _ (start : Start) (past : Past) (old new : JudgeState) (k : IsAfter start
     links_made = λ i. t.links i ∙ ap (λ b. makes_link i e || b) (k.links_made i);
     refs_made = λ m. t.refs m ∙ ap (λ b. makes_ref m e || b) (k.refs_made m);
     alike = λ p. t.lives p ∙ ap (after p e) (k.alike p);
-    flies = t.flights ∙ ap (λ z. landed e z ++ sends new.lives (lived old.lives e) e) k.flies ∙ ap (λ z. landed e (flying start past) ++ z) (sent_next e t);
+    flies = t.flights ∙ ap (λ z. landed e z ++ judge_sends new.lives (lived old.lives e) e) k.flies ∙ ap (λ z. landed e (flying start past) ++ z) (sent_next e t);
   }

@@ -9,7 +9,7 @@ use Rattle.pt_events.specs.declared.event.Event.{Event}
 use Rattle.pt_events.specs.declared.event.Event.TheVariants.{Born}
 use Rattle.pt_events.specs.History.{Past, Start, May, IsLegal}
 use Rattle.pt_judge.specs.Judge.{Refuses, IsCause, IsJudged, IsAfter, Judges, FailsAt, Replays, FailsAfter, ReplaysAfter}
-use Rattle.pt_judge.specs.Judging.{JudgeState, now_is, known, known_after, cause}
+use Rattle.pt_judge.specs.Judging.{JudgeState, now_is, known_state, known_after, cause}
 use Rattle.pt_judge.proofs.Judge.{no_cause}
 use Rattle.pt_judge.proofs.Judged.{judged}
 use Rattle.pt_events.proofs.InOrder.{reverse_take}
@@ -19,7 +19,7 @@ pub begins : (s : JudgeState) → s ≡ record { links = []; refs = []; lives = 
 begins s h = record { links_made = λ i. ap (λ z. list_any (same_link i) z.links) h; refs_made = λ m. ap (λ z. list_any (same_ref m) z.refs) h; alike = λ p. ap (λ z. now_is z p) h; flies = ap (λ z. z.flights) h }
 
 module _ (start : Start) where
-  pub same_known : (past : Past) (s : JudgeState) → IsAfter start past s → known s ≡ known_after start past
+  pub same_known : (past : Past) (s : JudgeState) → IsAfter start past s → known_state s ≡ known_after start past
   same_known past s k = λ i. record { links = λ j. k.links_made j i; refs = λ m. k.refs_made m i; is = λ p. k.alike p i; flights = k.flies i }
 
   no_memory : (past : Past) (e : Event) → ¬ Refuses start past e Memory
@@ -34,17 +34,17 @@ module _ (start : Start) where
   refused past e NotFirstMatch h = h
   refused past e Unlawful h = h
 
-  told : (past : Past) (s : JudgeState) (e : Event) → IsAfter start past s → IsJudged start past e (cause (known s) e)
+  told : (past : Past) (s : JudgeState) (e : Event) → IsAfter start past s → IsJudged start past e (cause (known_state s) e)
   told past s e k = subst (λ v. IsJudged start past e (cause v e)) (sym (same_known past s k)) (judged start past e)
 
   -- so is what the judge finds for an event of that kind
-  pub judged_by : (past : Past) (s : JudgeState) (e v : Event) (o : Option Cause) → IsAfter start past s → e ≡ v → o ≡ cause (known s) v → IsJudged start past e o
+  pub judged_by : (past : Past) (s : JudgeState) (e v : Event) (o : Option Cause) → IsAfter start past s → e ≡ v → o ≡ cause (known_state s) v → IsJudged start past e o
   judged_by past s e v o k h f = subst (λ z. IsJudged start past z o) (sym h) (subst (IsJudged start past v) (sym f) (told past s v k))
 
-  pub judged_some : (past : Past) (s : JudgeState) (e : Event) (o : Option Cause) (c : Cause) → IsAfter start past s → o ≡ cause (known s) e → o ≡ Some c → Judges start past e (Err c)
+  pub judged_some : (past : Past) (s : JudgeState) (e : Event) (o : Option Cause) (c : Cause) → IsAfter start past s → o ≡ cause (known_state s) e → o ≡ Some c → Judges start past e (Err c)
   judged_some past s e o c k h f = refused past e c (subst (IsJudged start past e) (sym h ∙ f) (told past s e k))
 
-  pub judged_none : (past : Past) (s : JudgeState) (e : Event) (o : Option Cause) → IsAfter start past s → o ≡ cause (known s) e → o ≡ None → May start past e
+  pub judged_none : (past : Past) (s : JudgeState) (e : Event) (o : Option Cause) → IsAfter start past s → o ≡ cause (known_state s) e → o ≡ None → May start past e
   judged_none past s e o k h f = subst (IsJudged start past e) (sym h ∙ f) (told past s e k)
 
   -- an event that is refused for a cause may not come

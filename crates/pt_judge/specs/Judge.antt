@@ -16,13 +16,13 @@ use Rattle.pt_judge.specs.Judging.{JudgeState, now_is, ListsLinks, ListsRefs}
 use Rattle.pt_events.specs.History.{Past, Start, unborn, is_ended, life, alive, state, flying, is_between, made_link}
 use Rattle.pt_events.specs.History.{MaySay, May, IsLegal}
 
-abbrev pub number : Cause → ℕ
-number BornTwice = 1
-number NotAlive = 2
-number NotFront = 3
-number NotFirstMatch = 4
-number Unlawful = 5
-number Memory = 6
+abbrev pub cause_number : Cause → ℕ
+cause_number BornTwice = 1
+cause_number NotAlive = 2
+cause_number NotFront = 3
+cause_number NotFirstMatch = 4
+cause_number Unlawful = 5
+cause_number Memory = 6
 
 module _ (start : Start) where
   abbrev pub DeadParent : Past → Option Pid → Type 0
@@ -52,7 +52,7 @@ module _ (start : Start) where
 
   -- the cause that is given: the lowest that fits
   abbrev pub IsCause : Past → Event → Cause → Type 0
-  IsCause past e c = Refuses past e c × ((lower : Cause) → number lower < number c → ¬ Refuses past e lower)
+  IsCause past e c = Refuses past e c × ((lower : Cause) → cause_number lower < cause_number c → ¬ Refuses past e lower)
 
   -- the event may come next, or the cause is the one that is given
   abbrev pub IsJudged : Past → Event → Option Cause → Type 0

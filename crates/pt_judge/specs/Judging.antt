@@ -47,8 +47,8 @@ pub record Known : Type 0 where
   pub is : Pid → Phase
   pub flights : List Sent
 
-abbrev pub known : JudgeState → Known
-known s = record {
+abbrev pub known_state : JudgeState → Known
+known_state s = record {
   links = λ i. list_any (same_link i) s.links;
   refs = λ m. list_any (same_ref m) s.refs;
   is = now_is s;
@@ -141,18 +141,18 @@ answered p a (AliveAsk m) = sent p a (AliveSay m true) ∷ []
 answered p a _ = []
 
 -- what the event sends, told from the table after it, and from whether its process lived before it
-abbrev pub sends : Start → Bool → Event → List Sent
-sends start lived (Said a b x) = sent a b x ∷ []
-sends start lived (Came a b x) = cond lived (answered b a x ++ owed start b) (bounce b a x)
-sends start lived (Left p r) = cond lived (owed start p) []
-sends start lived _ = []
+abbrev pub judge_sends : Start → Bool → Event → List Sent
+judge_sends start lived (Said a b x) = sent a b x ∷ []
+judge_sends start lived (Came a b x) = cond lived (answered b a x ++ owed start b) (bounce b a x)
+judge_sends start lived (Left p r) = cond lived (owed start p) []
+judge_sends start lived _ = []
 
 -- what the judge knows after the event
 pub record IsStep (old : JudgeState) (e : Event) (new : JudgeState) : Type 0 where
   pub links : (i : LinkId) → list_any (same_link i) new.links ≡ makes_link i e || list_any (same_link i) old.links
   pub refs : (m : Ref) → list_any (same_ref m) new.refs ≡ makes_ref m e || list_any (same_ref m) old.refs
   pub lives : (p : Pid) → now_is new p ≡ after p e (now_is old p)
-  pub flights : new.flights ≡ landed e old.flights ++ sends new.lives (lived old.lives e) e
+  pub flights : new.flights ≡ landed e old.flights ++ judge_sends new.lives (lived old.lives e) e
 
 -- what the process holds, or held just after its end; None for a pid that is unborn
 abbrev pub IsHeldBy : JudgeState → Pid → Option ProcessState → Type 0

@@ -11,7 +11,7 @@ use Rattle.pt_events.specs.declared.event.Stamped.{Stamped}
 use Rattle.pt_events.specs.History.{Past, Start, life, is_unborn, flying, sent_by}
 use Rattle.pt_events.specs.Journal.{Journals, LanesAgree, IsMerge, IsLocal, IsHome, Agrees, events, of_desk, letter, content, posts, gots, in_lane}
 use Rattle.pt_events.specs.Locality.{AllHome}
-use Rattle.pt_laws.specs.Load.{weight, weights, size, total, pids, IsStart, load, desk_sizes, below, left_weight, load_by_desk}
+use Rattle.pt_laws.specs.Load.{weight, weights, size, total_of, pids, IsStart, load, desk_sizes, below, left_weight, load_by_desk}
 use Rattle.pt_laws.specs.Laws.{LanesFly}
 use Rattle.pt_laws.specs.LoadLaws.{OldestComes, HasDesks, LoadByDesk}
 use Rattle.pt_events.proofs.Local.{life_local}
@@ -131,24 +131,24 @@ cell x w n h = ⊎_elim within beyond (cases_lt x n)
         none true = h l
         none false = refl
 
-total_filter : (F G : Pid → ℕ) (P : Pid → Bool) → ((p : Pid) → P p ≡ true → G p ≡ F p) → (ps : List Pid) → total G (filter P ps) ≡ total F (filter P ps)
+total_filter : (F G : Pid → ℕ) (P : Pid → Bool) → ((p : Pid) → P p ≡ true → G p ≡ F p) → (ps : List Pid) → total_of G (filter P ps) ≡ total_of F (filter P ps)
 total_filter F G P h [] = refl
 total_filter F G P h (p ∷ ps) = go (P p) refl (total_filter F G P h ps)
   where
-    go : (b : Bool) → P p ≡ b → total G (filter P ps) ≡ total F (filter P ps) → total G (cond (P p) (p ∷ filter P ps) (filter P ps)) ≡ total F (cond (P p) (p ∷ filter P ps) (filter P ps))
+    go : (b : Bool) → P p ≡ b → total_of G (filter P ps) ≡ total_of F (filter P ps) → total_of G (cond (P p) (p ∷ filter P ps) (filter P ps)) ≡ total_of F (cond (P p) (p ∷ filter P ps) (filter P ps))
     go true q ih = let a = h p q in rw q (omega arith)
     go false q ih = rw q ih
 
-total_apart : (F : Pid → ℕ) (n : ℕ) → ((p : Pid) → n ≤ p.shard → F p ≡ 0) → (ps : List Pid) → below (λ e. total F (filter (λ p. p.shard == e) ps)) n ≡ total F ps
+total_apart : (F : Pid → ℕ) (n : ℕ) → ((p : Pid) → n ≤ p.shard → F p ≡ 0) → (ps : List Pid) → below (λ e. total_of F (filter (λ p. p.shard == e) ps)) n ≡ total_of F ps
 total_apart F n h [] = below_zero n
 total_apart F n h (p ∷ ps) =
     let one = cell p.shard (F p) n (h p) in
     let ih = total_apart F n h ps in
-    let shift = below_shift (λ e. total F (filter (λ p. p.shard == e) ps)) (λ e. total F (filter (λ p. p.shard == e) (p ∷ ps))) (λ e. 0) (λ e. cond (p.shard == e) (F p) 0) n (λ k h. step k (p.shard == k) refl) in
+    let shift = below_shift (λ e. total_of F (filter (λ p. p.shard == e) ps)) (λ e. total_of F (filter (λ p. p.shard == e) (p ∷ ps))) (λ e. 0) (λ e. cond (p.shard == e) (F p) 0) n (λ k h. step k (p.shard == k) refl) in
     let z = below_zero n in
     omega arith
   where
-    step : (k : ℕ) (b : Bool) → (p.shard == k) ≡ b → total F (filter (λ p. p.shard == k) (p ∷ ps)) + 0 ≡ total F (filter (λ p. p.shard == k) ps) + cond (p.shard == k) (F p) 0
+    step : (k : ℕ) (b : Bool) → (p.shard == k) ≡ b → total_of F (filter (λ p. p.shard == k) (p ∷ ps)) + 0 ≡ total_of F (filter (λ p. p.shard == k) ps) + cond (p.shard == k) (F p) 0
     step k true q = rw q (omega arith)
     step k false q = rw q (omega arith)
 
@@ -234,9 +234,9 @@ module _ (start : Start) (e : ℕ) where
       go false k ih same = rw k (there s.event h.0 k ih)
 
   sizes_home : (merged : List Stamped) → AllHome merged
-      → desk_sizes start e (events (of_desk e merged)) ≡ total (λ p. size (life start (events merged) p)) (filter (λ p. p.shard == e) (pids start (events merged)))
+      → desk_sizes start e (events (of_desk e merged)) ≡ total_of (λ p. size (life start (events merged) p)) (filter (λ p. p.shard == e) (pids start (events merged)))
   sizes_home merged h =
-      ap (total (λ p. size (life start (events (of_desk e merged)) p))) (pids_home merged h)
+      ap (total_of (λ p. size (life start (events (of_desk e merged)) p))) (pids_home merged h)
       ∙ total_filter (λ p. size (life start (events merged) p)) (λ p. size (life start (events (of_desk e merged)) p)) (λ p. p.shard == e)
       (λ p q. ap size (life_home start p e merged (eqb-true p.shard e q) h)) (pids start (events merged))
 
@@ -261,7 +261,7 @@ module _ (start : Start) (n : ℕ) (journal : Journals) (over : ℕ → ℕ → 
 
   pub merged_load : load_by_desk start journal over n ≡ load start (events merged)
   merged_load =
-      let a = below_same (λ e. total (λ p. size (life start (events merged) p)) (filter (λ p. p.shard == e) (pids start (events merged)))) (λ e. desk_sizes start e (events (journal e))) n
+      let a = below_same (λ e. total_of (λ p. size (life start (events merged) p)) (filter (λ p. p.shard == e) (pids start (events merged)))) (λ e. desk_sizes start e (events (journal e))) n
       (λ e h. ap (λ j. desk_sizes start e (events j)) (sym (m.1 e)) ∙ sizes_home start e merged homes) in
       let b = total_apart (λ p. size (life start (events merged) p)) n size_beyond (pids start (events merged)) in
       let c = below_same (λ d. below (λ e. weights (filter (in_lane d e) (flying start (events merged)))) n) (λ d. below (λ e. left_weight (over d e)) n) n

@@ -15,16 +15,16 @@ use Rattle.pt_events.specs.History.{is_unborn, is_ended, reason_of}
 use Rattle.pt_laws.specs.Acts.{ActsMayCome}
 use Rattle.pt_laws.specs.Load.{one_if}
 
-abbrev pub ended_by : Verdict → Option Reason
-ended_by (ends r) = Some r
-ended_by _ = None
+abbrev pub ended_by_verdict : Verdict → Option Reason
+ended_by_verdict (ends r) = Some r
+ended_by_verdict _ = None
 
 -- the reason with which the signal of a ends a live p: an exit signal by the verdict, one of a link only where the link
 -- is still held
 abbrev pub signal_ends : Pid → ProcessState → Pid → Signal → Option Reason
-signal_ends p s a (Signal.Exit r) = ended_by (verdict false s.traps (same_pid a p) a r)
+signal_ends p s a (Signal.Exit r) = ended_by_verdict (verdict false s.traps (same_pid a p) a r)
 signal_ends p s a (LinkExit ids r) =
-    cond (holds_any (held s.links a) ids) (ended_by (verdict true s.traps (same_pid a p) a r)) None
+    cond (holds_any (held s.links a) ids) (ended_by_verdict (verdict true s.traps (same_pid a p) a r)) None
 signal_ends p s a _ = None
 
 -- the reason with which the event ends p: its own exit, or a signal that comes while it lives

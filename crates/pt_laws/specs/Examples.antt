@@ -19,8 +19,8 @@ pid n = record { shard = 0; slot = n; version = 1 }
 abbrev pub body : ℕ → ℕ → Body
 body k n = record { kind = k; num = pos n; who = None }
 
-abbrev pub at : ℕ → LinkId
-at n = record { desk = 0; number = n }
+abbrev pub link_numbered : ℕ → LinkId
+link_numbered n = record { desk = 0; number = n }
 
 -- two processes send each other a message, take it and exit
 abbrev pub ten_lines : Past
@@ -43,18 +43,18 @@ TenLines = IsLegal [] ten_lines × IsQuiet [] ten_lines
 -- a chain of five links; the first process ends, the second with it, and the third traps the exit
 abbrev pub cascade : Past
 cascade =
-    Came (pid 1) (pid 2) (LinkExit (one_id (at 7)) (Other 7))
-    ∷ Came (pid 0) (pid 1) (LinkExit (one_id (at 6)) (Other 7))
+    Came (pid 1) (pid 2) (LinkExit (one_id (link_numbered 7)) (Other 7))
+    ∷ Came (pid 0) (pid 1) (LinkExit (one_id (link_numbered 6)) (Other 7))
     ∷ Left (pid 0) (Other 7)
-    ∷ Came (pid 3) (pid 4) (Link (at 9))
-    ∷ Came (pid 2) (pid 3) (Link (at 8))
-    ∷ Came (pid 1) (pid 2) (Link (at 7))
-    ∷ Came (pid 0) (pid 1) (Link (at 6))
+    ∷ Came (pid 3) (pid 4) (Link (link_numbered 9))
+    ∷ Came (pid 2) (pid 3) (Link (link_numbered 8))
+    ∷ Came (pid 1) (pid 2) (Link (link_numbered 7))
+    ∷ Came (pid 0) (pid 1) (Link (link_numbered 6))
     ∷ Flag (pid 2) true
-    ∷ Said (pid 3) (pid 4) (Link (at 9))
-    ∷ Said (pid 2) (pid 3) (Link (at 8))
-    ∷ Said (pid 1) (pid 2) (Link (at 7))
-    ∷ Said (pid 0) (pid 1) (Link (at 6))
+    ∷ Said (pid 3) (pid 4) (Link (link_numbered 9))
+    ∷ Said (pid 2) (pid 3) (Link (link_numbered 8))
+    ∷ Said (pid 1) (pid 2) (Link (link_numbered 7))
+    ∷ Said (pid 0) (pid 1) (Link (link_numbered 6))
     ∷ Born (pid 4) None None
     ∷ Born (pid 3) None None
     ∷ Born (pid 2) None None
@@ -70,10 +70,10 @@ Cascade = IsLegal [] cascade × IsQuiet [] cascade
 -- history is quiet, and the two hold different ids
 abbrev pub early : Past
 early =
-    Came (pid 1) (pid 0) (LinkExit (one_id (at 3)) Noproc)
-    ∷ Born (pid 1) (Some (pid 0)) (Some (at 5))
-    ∷ Came (pid 0) (pid 1) (Link (at 3))
-    ∷ Said (pid 0) (pid 1) (Link (at 3))
+    Came (pid 1) (pid 0) (LinkExit (one_id (link_numbered 3)) Noproc)
+    ∷ Born (pid 1) (Some (pid 0)) (Some (link_numbered 5))
+    ∷ Came (pid 0) (pid 1) (Link (link_numbered 3))
+    ∷ Said (pid 0) (pid 1) (Link (link_numbered 3))
     ∷ Flag (pid 0) true
     ∷ Born (pid 0) None None
     ∷ []
@@ -82,5 +82,5 @@ abbrev pub EarlyLink : Type 0
 EarlyLink =
     IsLegal [] early × IsQuiet [] early
     × (alive [] early (pid 0) ≡ true) × (alive [] early (pid 1) ≡ true)
-    × (held (state [] early (pid 1)).links (pid 0) ≡ Some (one_id (at 5)))
+    × (held (state [] early (pid 1)).links (pid 0) ≡ Some (one_id (link_numbered 5)))
     × (held (state [] early (pid 0)).links (pid 1) ≡ None)

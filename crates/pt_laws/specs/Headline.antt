@@ -12,7 +12,7 @@ use Rattle.pt_laws.specs.Load.{one_if}
 use Rattle.pt_laws.specs.BirthsAndEnds.{births}
 use Rattle.pt_laws.specs.Sender.{IsSenderFront}
 use Rattle.pt_laws.specs.MonitorLaws.{demonitors_and_downs, HasOldRefs}
-use Rattle.pt_laws.specs.Taken.{taken, places, AllArrivals, AllDistinct, free_of}
+use Rattle.pt_laws.specs.Taken.{taken, take_places, AllArrivals, AllDistinct, free_of}
 
 module _ (start : Start) (journal : Journals) (over : ℕ → ℕ → List Letter) where
   -- the history of p's own desk
@@ -30,12 +30,12 @@ module _ (start : Start) (journal : Journals) (over : ℕ → ℕ → List Lette
         → life start past p ≡ ended r s → arrived start (at_home p) p ≡ arrived start past p
     -- taken and waiting together are the arrivals: each take took the arrival at one position, no two at the same; the
     -- others wait, in order
-    pub took : (p : Pid) → taken (at_home p) p ≡ map (λ e. e.1) (places start p (at_home p))
-    pub took_arrivals : (p : Pid) → AllArrivals (arrived start (at_home p) p) (places start p (at_home p))
-    pub took_once : (p : Pid) → AllDistinct (places start p (at_home p))
+    pub took : (p : Pid) → taken (at_home p) p ≡ map (λ e. e.1) (take_places start p (at_home p))
+    pub took_arrivals : (p : Pid) → AllArrivals (arrived start (at_home p) p) (take_places start p (at_home p))
+    pub took_once : (p : Pid) → AllDistinct (take_places start p (at_home p))
     pub waits : (p : Pid)
         → (state start (at_home p) p).waiting
-        ≡ map (λ e. e.1) (free_of (places start p (at_home p)) (arrived start (at_home p) p))
+        ≡ map (λ e. e.1) (free_of (take_places start p (at_home p)) (arrived start (at_home p) p))
     -- at most one DOWN of a monitor, and none where it was demonitored
     pub one_down : (w : Pid) (m : Ref) → demonitors_and_downs start (at_home w) w m ≤ 1
 

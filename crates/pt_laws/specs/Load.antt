@@ -31,9 +31,9 @@ abbrev pub size : Phase → ℕ
 size (living s) = length s.links + length s.kept + length s.watching
 size _ = 0
 
-abbrev pub total : (Pid → ℕ) → List Pid → ℕ
-total f [] = 0
-total f (p ∷ ps) = f p + total f ps
+abbrev pub total_of : (Pid → ℕ) → List Pid → ℕ
+total_of f [] = 0
+total_of f (p ∷ ps) = f p + total_of f ps
 
 abbrev pub one_if : Bool → ℕ
 one_if true = 1
@@ -50,11 +50,11 @@ IsStart start = (p : Pid) → times p (keys_of start) ≡ cond (is_unborn (at_st
 
 module _ (start : Start) where
   abbrev pub load : Past → ℕ
-  load past = weights (flying start past) + total (λ p. size (life start past p)) (pids start past)
+  load past = weights (flying start past) + total_of (λ p. size (life start past p)) (pids start past)
 
   -- of the live processes of desk d: the link entries, kept watches and open references
   abbrev pub desk_sizes : ℕ → Past → ℕ
-  desk_sizes d past = total (λ p. size (life start past p)) (filter (λ p. p.shard == d) (pids start past))
+  desk_sizes d past = total_of (λ p. size (life start past p)) (filter (λ p. p.shard == d) (pids start past))
 
 -- the load, desk by desk ---------------------------------------------------------------
 

@@ -21,33 +21,33 @@ taken [] p = []
 taken (e ∷ past) p = taken past p ++ taken_by p e
 
 -- a position and the item there
-abbrev pub Place : Type 0
-Place = ℕ × Item
+abbrev pub TakePlace : Type 0
+TakePlace = ℕ × Item
 
-abbrev pub is_among : ℕ → List Place → Bool
-is_among n places = list_any (λ e. n == e.0) places
+abbrev pub is_among_places : ℕ → List TakePlace → Bool
+is_among_places n places = list_any (λ e. n == e.0) places
 
 -- the items with their positions, but for those at the places
-abbrev pub free_of : List Place → List Item → List Place
-free_of places items = filter (λ e. not (is_among e.0 places)) (enumerate_from 0 items)
+abbrev pub free_of : List TakePlace → List Item → List TakePlace
+free_of places items = filter (λ e. not (is_among_places e.0 places)) (enumerate_from 0 items)
 
 -- the first whose item the pick takes
-abbrev pub first_fit : Pick → List Place → List Place
+abbrev pub first_fit : Pick → List TakePlace → List TakePlace
 first_fit k free = option_to_list (find (λ e. fits k e.1) free)
 
 -- where the takes of p took, in order: each at the first position that no earlier one took and whose item its pick
 -- takes
-abbrev pub places : Start → Pid → Past → List Place
-places start p [] = []
-places start p (Took q k i ∷ past) =
-    places start p past ++ cond (same_pid p q) (first_fit k (free_of (places start p past) (arrived start past p))) []
-places start p (e ∷ past) = places start p past
+abbrev pub take_places : Start → Pid → Past → List TakePlace
+take_places start p [] = []
+take_places start p (Took q k i ∷ past) =
+    take_places start p past ++ cond (same_pid p q) (first_fit k (free_of (take_places start p past) (arrived start past p))) []
+take_places start p (e ∷ past) = take_places start p past
 
-abbrev pub AllDistinct : List Place → Type 0
+abbrev pub AllDistinct : List TakePlace → Type 0
 AllDistinct [] = ⊤
-AllDistinct (e ∷ es) = (is_among e.0 es ≡ false) × AllDistinct es
+AllDistinct (e ∷ es) = (is_among_places e.0 es ≡ false) × AllDistinct es
 
-abbrev pub AllArrivals : List Item → List Place → Type 0
+abbrev pub AllArrivals : List Item → List TakePlace → Type 0
 AllArrivals items [] = ⊤
 AllArrivals items (e ∷ es) = Contains (enumerate_from 0 items) e × AllArrivals items es
 
@@ -56,7 +56,7 @@ AllArrivals items (e ∷ es) = Contains (enumerate_from 0 items) e × AllArrival
 abbrev pub TakenByPosition : Type 0
 TakenByPosition =
     (start : Start) (past : Past) (p : Pid) → ActsMayCome start past
-    → (taken past p ≡ map (λ e. e.1) (places start p past))
-    × AllArrivals (arrived start past p) (places start p past)
-    × AllDistinct (places start p past)
-    × ((state start past p).waiting ≡ map (λ e. e.1) (free_of (places start p past) (arrived start past p)))
+    → (taken past p ≡ map (λ e. e.1) (take_places start p past))
+    × AllArrivals (arrived start past p) (take_places start p past)
+    × AllDistinct (take_places start p past)
+    × ((state start past p).waiting ≡ map (λ e. e.1) (free_of (take_places start p past) (arrived start past p)))

@@ -9,7 +9,7 @@ use Rattle.pt_lines.specs.declared.mistake.Mistake.{Mistake}
 use Rattle.pt_lines.specs.declared.mistake.Why.TheVariants.{TooMany, Missing, NoPick}
 use Rattle.pt_lines.specs.Words.{Told}
 use Rattle.pt_lines.specs.Names.{Named}
-use Rattle.pt_lines.specs.Values.{◌>>=◌, mistake, pid_of, ref_of, u32_of, i64_of}
+use Rattle.pt_lines.specs.Values.{◌>>=◌, mistake, pid_read, ref_of, u32_of, i64_of}
 
 -- the first word behind those that are wanted is too many; where there is none, one is missing behind the line
 abbrev pub too_many_or_few : {A : Type 0} → ℕ → Option Told → Result A Mistake
@@ -39,29 +39,29 @@ of_three (u ∷ v ∷ w ∷ []) end f g h = f u >>= λ x. g v >>= λ y. h w >>= 
 of_three words end f g h = miscount 3 words end
 
 -- `KIND NUM`, and who is spoken of
-abbrev pub body_of : Told → Told → Option Pid → Result Body Mistake
-body_of kind num who = u32_of kind >>= λ k. i64_of num >>= λ n. Ok (record { kind = k; num = n; who = who })
+abbrev pub body_read : Told → Told → Option Pid → Result Body Mistake
+body_read kind num who = u32_of kind >>= λ k. i64_of num >>= λ n. Ok (record { kind = k; num = n; who = who })
 
 -- `FROM TO KIND NUM`, and `who PID` where the message speaks of a process
-abbrev pub message : Named → List Told → ℕ → Result (Pid × Pid × Body) Mistake
-message names (f ∷ t ∷ k ∷ n ∷ []) end =
-    pid_of names f >>= λ from. pid_of names t >>= λ to. body_of k n None >>= λ body. Ok (from, to, body)
-message names (f ∷ t ∷ k ∷ n ∷ w ∷ p ∷ []) end =
-    pid_of names f >>= λ from. pid_of names t >>= λ to.
+abbrev pub message_read : Named → List Told → ℕ → Result (Pid × Pid × Body) Mistake
+message_read names (f ∷ t ∷ k ∷ n ∷ []) end =
+    pid_read names f >>= λ from. pid_read names t >>= λ to. body_read k n None >>= λ body. Ok (from, to, body)
+message_read names (f ∷ t ∷ k ∷ n ∷ w ∷ p ∷ []) end =
+    pid_read names f >>= λ from. pid_read names t >>= λ to.
     (if bytes_eq w.1 (codes "who")
-    then (pid_of names p >>= λ who. body_of k n (Some who) >>= λ body. Ok (from, to, body))
+    then (pid_read names p >>= λ who. body_read k n (Some who) >>= λ body. Ok (from, to, body))
     else mistake w.0 TooMany)
-message names words end = miscount 6 words end
+message_read names words end = miscount 6 words end
 
 -- a pick, by its first word and the one behind it
-abbrev pub pick_of : Named → Told → Told → Result Pick Mistake
-pick_of names w what =
+abbrev pub pick_read : Named → Told → Told → Result Pick Mistake
+pick_read names w what =
     if bytes_eq w.1 (codes "kind")
     then (u32_of what >>= λ k. Ok (Pick.Kind k))
     else (if bytes_eq w.1 (codes "from")
-    then (pid_of names what >>= λ p. Ok (Pick.From p))
+    then (pid_read names what >>= λ p. Ok (Pick.From p))
     else (if bytes_eq w.1 (codes "exit-of")
-    then (pid_of names what >>= λ p. Ok (Pick.ExitOf p))
+    then (pid_read names what >>= λ p. Ok (Pick.ExitOf p))
     else (if bytes_eq w.1 (codes "down-of")
     then (ref_of names what >>= λ m. Ok (Pick.DownOf m))
     else (if bytes_eq w.1 (codes "alive-of")
@@ -70,8 +70,8 @@ pick_of names w what =
 
 -- `PID`, and what it is to take: anything, where nothing else is said
 abbrev pub pid_and_pick : Named → List Told → ℕ → Result (Pid × Pick) Mistake
-pid_and_pick names (p ∷ []) end = pid_of names p >>= λ pid. Ok (pid, Pick.Any)
+pid_and_pick names (p ∷ []) end = pid_read names p >>= λ pid. Ok (pid, Pick.Any)
 pid_and_pick names (p ∷ w ∷ []) end =
-    pid_of names p >>= λ pid. (if bytes_eq w.1 (codes "any") then Ok (pid, Pick.Any) else mistake end Missing)
-pid_and_pick names (p ∷ w ∷ what ∷ []) end = pid_of names p >>= λ pid. pick_of names w what >>= λ pick. Ok (pid, pick)
+    pid_read names p >>= λ pid. (if bytes_eq w.1 (codes "any") then Ok (pid, Pick.Any) else mistake end Missing)
+pid_and_pick names (p ∷ w ∷ what ∷ []) end = pid_read names p >>= λ pid. pick_read names w what >>= λ pick. Ok (pid, pick)
 pid_and_pick names words end = miscount 3 words end

@@ -14,9 +14,9 @@ use Rattle.pt_lines.specs.declared.verb.Usage.{Usage}
 use Rattle.pt_lines.specs.declared.mistake.Mistake.{Mistake}
 use Rattle.pt_lines.specs.Words.{Told}
 use Rattle.pt_lines.specs.Names.{Named}
-use Rattle.pt_lines.specs.Values.{◌>>=◌, pid_of, ref_of, reason_of, truth_of, u8_of, u32_of, u64_of}
+use Rattle.pt_lines.specs.Values.{◌>>=◌, pid_read, ref_of, reason_read, truth_of, u8_of, u32_of, u64_of}
 use Rattle.pt_lines.specs.Settings.{with_settings}
-use Rattle.pt_lines.specs.Arguments.{of_none, of_one, of_two, of_three, message, pid_and_pick}
+use Rattle.pt_lines.specs.Arguments.{of_none, of_one, of_two, of_three, message_read, pid_and_pick}
 
 -- the names of the calls
 unfoldable pub verbs : List (List ℕ × Verb)
@@ -69,8 +69,8 @@ unfoldable pub verb_of : List ℕ → Option Verb
 verb_of word = first_named verbs word
 
 -- a row of the table
-abbrev pub named : Usage → List ℕ × Verb
-named u = (u.name.now, u.verb)
+abbrev pub named_row : Usage → List ℕ × Verb
+named_row u = (u.name.now, u.verb)
 
 abbrev pub call_of_desk : Named → DeskVerb → List Told → ℕ → Result Call Mistake
 call_of_desk names DeskVerb.Spawn words end = of_one words end u8_of >>= λ d. Ok (Call.Act (Act.Spawn d))
@@ -86,42 +86,42 @@ call_of_desk names DeskVerb.Event words end =
     of_two words end u8_of u64_of >>= λ x. Ok (Call.Look (Look.Event x.0 x.1))
 call_of_desk names DeskVerb.Vacant words end = of_one words end u8_of >>= λ d. Ok (Call.Look (Look.Vacant d))
 call_of_desk names DeskVerb.Knows words end =
-    of_two words end u8_of (pid_of names) >>= λ x. Ok (Call.Look (Look.Knows x.0 x.1))
+    of_two words end u8_of (pid_read names) >>= λ x. Ok (Call.Look (Look.Knows x.0 x.1))
 
 abbrev pub act_of_process : Named → ProcessVerb → List Told → ℕ → Result Act Mistake
 act_of_process names ProcessVerb.SpawnChild words end =
-    of_two words end (pid_of names) truth_of >>= λ x. Ok (Act.SpawnChild x.0 x.1)
-act_of_process names ProcessVerb.Send words end = message names words end >>= λ x. Ok (Act.Send x.0 x.1 x.2)
+    of_two words end (pid_read names) truth_of >>= λ x. Ok (Act.SpawnChild x.0 x.1)
+act_of_process names ProcessVerb.Send words end = message_read names words end >>= λ x. Ok (Act.Send x.0 x.1 x.2)
 act_of_process names ProcessVerb.ExitSignal words end =
-    of_three words end (pid_of names) (pid_of names) reason_of >>= λ x. Ok (Act.ExitSignal x.0 x.1 x.2)
+    of_three words end (pid_read names) (pid_read names) reason_read >>= λ x. Ok (Act.ExitSignal x.0 x.1 x.2)
 act_of_process names ProcessVerb.Link words end =
-    of_two words end (pid_of names) (pid_of names) >>= λ x. Ok (Act.Link x.0 x.1)
+    of_two words end (pid_read names) (pid_read names) >>= λ x. Ok (Act.Link x.0 x.1)
 act_of_process names ProcessVerb.Unlink words end =
-    of_two words end (pid_of names) (pid_of names) >>= λ x. Ok (Act.Unlink x.0 x.1)
+    of_two words end (pid_read names) (pid_read names) >>= λ x. Ok (Act.Unlink x.0 x.1)
 act_of_process names ProcessVerb.Trap words end =
-    of_two words end (pid_of names) truth_of >>= λ x. Ok (Act.Trap x.0 x.1)
+    of_two words end (pid_read names) truth_of >>= λ x. Ok (Act.Trap x.0 x.1)
 act_of_process names ProcessVerb.Exit words end =
-    of_two words end (pid_of names) reason_of >>= λ x. Ok (Act.Exit x.0 x.1)
+    of_two words end (pid_read names) reason_read >>= λ x. Ok (Act.Exit x.0 x.1)
 act_of_process names ProcessVerb.Monitor words end =
-    of_two words end (pid_of names) (pid_of names) >>= λ x. Ok (Act.Monitor x.0 x.1)
+    of_two words end (pid_read names) (pid_read names) >>= λ x. Ok (Act.Monitor x.0 x.1)
 act_of_process names ProcessVerb.Demonitor words end =
-    of_three words end (pid_of names) (ref_of names) truth_of >>= λ x. Ok (Act.Demonitor x.0 x.1 x.2)
+    of_three words end (pid_read names) (ref_of names) truth_of >>= λ x. Ok (Act.Demonitor x.0 x.1 x.2)
 act_of_process names ProcessVerb.AskAlive words end =
-    of_two words end (pid_of names) (pid_of names) >>= λ x. Ok (Act.AskAlive x.0 x.1)
+    of_two words end (pid_read names) (pid_read names) >>= λ x. Ok (Act.AskAlive x.0 x.1)
 act_of_process names ProcessVerb.Receive words end =
     pid_and_pick names words end >>= λ x. Ok (Act.Receive x.0 x.1)
 
 abbrev pub look_at_process : Named → LookVerb → List Told → ℕ → Result Look Mistake
-look_at_process names LookVerb.Alive words end = of_one words end (pid_of names) >>= λ p. Ok (Look.Alive p)
-look_at_process names LookVerb.Waiting words end = of_one words end (pid_of names) >>= λ p. Ok (Look.Waiting p)
+look_at_process names LookVerb.Alive words end = of_one words end (pid_read names) >>= λ p. Ok (Look.Alive p)
+look_at_process names LookVerb.Waiting words end = of_one words end (pid_read names) >>= λ p. Ok (Look.Waiting p)
 look_at_process names LookVerb.Linked words end =
-    of_two words end (pid_of names) (pid_of names) >>= λ x. Ok (Look.Linked x.0 x.1)
+    of_two words end (pid_read names) (pid_read names) >>= λ x. Ok (Look.Linked x.0 x.1)
 look_at_process names LookVerb.Watching words end =
-    of_two words end (pid_of names) (ref_of names) >>= λ x. Ok (Look.Watching x.0 x.1)
+    of_two words end (pid_read names) (ref_of names) >>= λ x. Ok (Look.Watching x.0 x.1)
 look_at_process names LookVerb.Kept words end =
-    of_two words end (pid_of names) (ref_of names) >>= λ x. Ok (Look.Kept x.0 x.1)
-look_at_process names LookVerb.Account words end = of_one words end (pid_of names) >>= λ p. Ok (Look.Account p)
-look_at_process names LookVerb.Ended words end = of_one words end (pid_of names) >>= λ p. Ok (Look.Ended p)
+    of_two words end (pid_read names) (ref_of names) >>= λ x. Ok (Look.Kept x.0 x.1)
+look_at_process names LookVerb.Account words end = of_one words end (pid_read names) >>= λ p. Ok (Look.Account p)
+look_at_process names LookVerb.Ended words end = of_one words end (pid_read names) >>= λ p. Ok (Look.Ended p)
 
 -- the call, where the words are those that it takes; the settings that are not named are the defaults
 abbrev pub call_of : Config → Named → Verb → List Told → ℕ → Result Call Mistake

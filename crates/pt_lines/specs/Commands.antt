@@ -10,7 +10,7 @@ use Rattle.pt_lines.specs.declared.command.Command.TheVariants as code
 use Rattle.pt_lines.specs.declared.verb.Verb.{Verb}
 use Rattle.pt_lines.specs.declared.mistake.Mistake.{Mistake}
 use Rattle.pt_lines.specs.declared.mistake.Why.TheVariants.{NoCall, NoName, Missing}
-use Rattle.pt_lines.specs.Words.{Told, told, words_in}
+use Rattle.pt_lines.specs.Words.{Told, told_word, words_in}
 use Rattle.pt_lines.specs.Names.{Named, is_name}
 use Rattle.pt_lines.specs.Values.{◌>>=◌, mistake}
 use Rattle.pt_lines.specs.Arguments.{of_none}
@@ -28,13 +28,13 @@ pub data Asked : Type 0 where
 abbrev pub asked_by : Command → Asked
 asked_by code.Nothing = Nothing
 asked_by code.Help = Help
-asked_by (code.Expect words) = Expect (map told words.now)
+asked_by (code.Expect words) = Expect (map told_word words.now)
 asked_by (code.Call name column call) = Makes (option_map (λ n. n.now) name) column call
 
 -- what reading a line gave is this
-abbrev pub Asks : Result Command Mistake → Result Asked Mistake → Type 0
-Asks (Ok command) read = read ≡ Ok (asked_by command)
-Asks (Err mistake) read = read ≡ Err mistake
+abbrev pub LineAsks : Result Command Mistake → Result Asked Mistake → Type 0
+LineAsks (Ok command) read = read ≡ Ok (asked_by command)
+LineAsks (Err mistake) read = read ≡ Err mistake
 
 abbrev pub call_of_verb : Config → Named → Option Verb → Told → List Told → ℕ → Result Call Mistake
 call_of_verb defaults names (Some verb) w words end = call_of defaults names verb words end
@@ -49,8 +49,8 @@ abbrev pub is_taken : List ℕ → Bool
 is_taken word = bytes_eq word (codes "expect") || bytes_eq word (codes "help") || is_some (verb_of word)
 
 -- a call whose answer has no name
-abbrev pub bare : Config → Named → Told → List Told → ℕ → Result Asked Mistake
-bare defaults names w words end = call_in defaults names w words end >>= λ call. Ok (Makes None w.0 call)
+abbrev pub unnamed_call : Config → Named → Told → List Told → ℕ → Result Asked Mistake
+unnamed_call defaults names w words end = call_in defaults names w words end >>= λ call. Ok (Makes None w.0 call)
 
 -- a call whose answer has this name
 abbrev pub called : Config → Named → List ℕ → List Told → ℕ → Result Asked Mistake
@@ -58,17 +58,17 @@ called defaults names name [] end = mistake end Missing
 called defaults names name (w ∷ words) end =
     call_in defaults names w words end >>= λ call. Ok (Makes (Some name) w.0 call)
 
-abbrev pub named : Config → Named → Told → List Told → ℕ → Result Asked Mistake
-named defaults names w words end =
+abbrev pub named_row : Config → Named → Told → List Told → ℕ → Result Asked Mistake
+named_row defaults names w words end =
     if is_name w.1
     then (if is_taken w.1 then mistake w.0 NoName else called defaults names w.1 words end)
     else mistake w.0 NoName
 
 -- by the word behind the first
 abbrev pub call_asked : Config → Named → Told → List Told → ℕ → Result Asked Mistake
-call_asked defaults names w [] end = bare defaults names w [] end
+call_asked defaults names w [] end = unnamed_call defaults names w [] end
 call_asked defaults names w (v ∷ words) end =
-    if bytes_eq v.1 (codes "=") then named defaults names w words end else bare defaults names w (v ∷ words) end
+    if bytes_eq v.1 (codes "=") then named_row defaults names w words end else unnamed_call defaults names w (v ∷ words) end
 
 abbrev pub expectation : List Told → ℕ → Result Asked Mistake
 expectation [] end = mistake end Missing

@@ -4,27 +4,27 @@ use Rattle.std.specs.Prelude.{Option, Some, None, if◌then◌else◌}
 use Rattle.std.specs.Option.{option_map}
 
 -- `0` to `9`
-abbrev pub is_digit : ℕ → Bool
-is_digit c = nat_le 48 c && nat_le c 57
+abbrev pub is_line_digit : ℕ → Bool
+is_line_digit c = nat_le 48 c && nat_le c 57
 
 -- the number that the digits write behind those of n, where nothing else stands there and it is not above the most
-abbrev pub number_behind : ℕ → ℕ → List ℕ → Option ℕ
-number_behind most n [] = Some n
-number_behind most n (c ∷ text) =
-    if is_digit c
-    then (if nat_le (n * 10 + (c - 48)) most then number_behind most (n * 10 + (c - 48)) text else None)
+abbrev pub number_after_digits : ℕ → ℕ → List ℕ → Option ℕ
+number_after_digits most n [] = Some n
+number_after_digits most n (c ∷ text) =
+    if is_line_digit c
+    then (if nat_le (n * 10 + (c - 48)) most then number_after_digits most (n * 10 + (c - 48)) text else None)
     else None
 
 abbrev pub number_in : ℕ → List ℕ → Option ℕ
 number_in most [] = None
-number_in most (c ∷ text) = number_behind most 0 (c ∷ text)
+number_in most (c ∷ text) = number_after_digits most 0 (c ∷ text)
 
-abbrev pub negated : ℕ → ℤ
-negated zero = pos 0
-negated (suc n) = negsuc n
+abbrev pub minus_number : ℕ → ℤ
+minus_number zero = pos 0
+minus_number (suc n) = negsuc n
 
 -- a number of 64 bits with its sign
 abbrev pub i64_in : List ℕ → Option ℤ
 i64_in [] = None
 i64_in (c ∷ text) =
-    if c == 45 then option_map negated (number_in (2 ^ 63) text) else option_map pos (number_in (2 ^ 63 - 1) (c ∷ text))
+    if c == 45 then option_map minus_number (number_in (2 ^ 63) text) else option_map pos (number_in (2 ^ 63 - 1) (c ∷ text))

@@ -4,15 +4,15 @@ use Rattle.pt_lines.specs.declared.mistake.Why.{Why}
 use Rattle.pt_lines.specs.declared.mistake.Why.TheVariants.{NoCall, NoName, NoPid, NoRef, NoReason, NoPick, NoTruth}
 use Rattle.pt_lines.specs.declared.mistake.Why.TheVariants.{NoNumber, NoSetting, TooMany, Missing}
 
-unfoldable pub why_text : Why → List ℕ
-why_text NoCall = codes "no call"
-why_text NoName = codes "no name"
-why_text NoPid = codes "no pid"
-why_text NoRef = codes "no reference"
-why_text NoReason = codes "no reason"
-why_text NoPick = codes "no pick"
-why_text NoTruth = codes "neither true nor false"
-why_text NoNumber = codes "no number in range"
-why_text NoSetting = codes "no setting"
-why_text TooMany = codes "a word too many"
-why_text Missing = codes "a word is missing"
+unfoldable pub mistake_text : Why → List ℕ
+mistake_text NoCall = codes "no call"
+mistake_text NoName = codes "no name"
+mistake_text NoPid = codes "no pid"
+mistake_text NoRef = codes "no reference"
+mistake_text NoReason = codes "no reason"
+mistake_text NoPick = codes "no pick"
+mistake_text NoTruth = codes "neither true nor false"
+mistake_text NoNumber = codes "no number in range"
+mistake_text NoSetting = codes "no setting"
+mistake_text TooMany = codes "a word too many"
+mistake_text Missing = codes "a word is missing"

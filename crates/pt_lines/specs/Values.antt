@@ -40,8 +40,8 @@ pid_or_named (Ok p) names w = Ok p
 pid_or_named (Err e) names w = pid_named (value_of names w.1) w
 
 -- a pid, by its text or by a name
-abbrev pub pid_of : Named → Told → Result Pid Mistake
-pid_of names w = pid_or_named (finished w.1 (pid_at w.1)) names w
+abbrev pub pid_read : Named → Told → Result Pid Mistake
+pid_read names w = pid_or_named (finished w.1 (pid_at w.1)) names w
 
 abbrev pub ref_named : Option Value → Told → Result Ref Mistake
 ref_named (Some (Value.Pid p)) w = mistake w.0 NoRef
@@ -60,8 +60,8 @@ abbrev pub reason_or_mistake : Result Reason Refused → Told → Result Reason 
 reason_or_mistake (Ok r) w = Ok r
 reason_or_mistake (Err e) w = mistake w.0 NoReason
 
-abbrev pub reason_of : Told → Result Reason Mistake
-reason_of w = reason_or_mistake (finished w.1 (reason_at w.1)) w
+abbrev pub reason_read : Told → Result Reason Mistake
+reason_read w = reason_or_mistake (finished w.1 (reason_at w.1)) w
 
 abbrev pub truth_of : Told → Result Bool Mistake
 truth_of w =

@@ -6,8 +6,8 @@ use Rattle.pt_lines.specs.declared.word.Word.{Word}
 abbrev pub Told : Type 0
 Told = ℕ × List ℕ
 
-abbrev pub told : Word → Told
-told w = (w.column, w.text.now)
+abbrev pub told_word : Word → Told
+told_word w = (w.column, w.text.now)
 
 -- a tab, a carriage return or a space
 abbrev pub is_blank : ℕ → Bool
@@ -36,6 +36,6 @@ spaced [] = []
 spaced (w ∷ words) = 32 ∷ (w.1 ++ spaced words)
 
 -- the words with one space between each two
-abbrev pub joined : List Told → List ℕ
-joined [] = []
-joined (w ∷ words) = w.1 ++ spaced words
+abbrev pub joined_words : List Told → List ℕ
+joined_words [] = []
+joined_words (w ∷ words) = w.1 ++ spaced words

@@ -3,8 +3,8 @@
 ghost use Rattle.std.specs.Prelude.{◌≡◌, ℕ, map, None, Ok, option_map};
 ghost use Rattle.std.specs.Option.{option_copied};
 ghost use Rattle.pt_lines.specs.Arguments as spec;
-ghost use Rattle.pt_lines.specs.Values.{pid_of, ref_of, reason_of, truth_of, u8_of, u32_of, u64_of};
-ghost use Rattle.pt_lines.specs.Words.{told};
+ghost use Rattle.pt_lines.specs.Values.{pid_read, ref_of, reason_read, truth_of, u8_of, u32_of, u64_of};
+ghost use Rattle.pt_lines.specs.Words.{told_word};
 
 use crate::mistake::{Mistake, Why};
 use crate::names::Names;
@@ -14,7 +14,7 @@ use pt_signal::{Body, Pick, Pid, Reason, Ref};
 
 /// That there are too many words, or too few: so many are wanted.
 fn miscount<T>(wanted: usize, words: &[Word<'_>], end: usize) -> Result<T, Mistake>
-    ensures { result ≡ spec.miscount wanted (map told words.now) end }
+    ensures { result ≡ spec.miscount wanted (map told_word words.now) end }
 {
     match words.get(wanted) {
         Some(word) => Err(Mistake::at(word.column, Why::TooMany)),
@@ -24,7 +24,7 @@ fn miscount<T>(wanted: usize, words: &[Word<'_>], end: usize) -> Result<T, Mista
 
 /// There is no word.
 pub(crate) fn nothing(words: &[Word<'_>], end: usize) -> Result<(), Mistake>
-    ensures { result ≡ spec.of_none (map told words.now) end (Ok tt) }
+    ensures { result ≡ spec.of_none (map told_word words.now) end (Ok tt) }
 {
     match words {
         [] => Ok(()),
@@ -33,7 +33,7 @@ pub(crate) fn nothing(words: &[Word<'_>], end: usize) -> Result<(), Mistake>
 }
 
 pub(crate) fn desk(words: &[Word<'_>], end: usize) -> Result<u8, Mistake>
-    ensures { result ≡ spec.of_one (map told words.now) end u8_of }
+    ensures { result ≡ spec.of_one (map told_word words.now) end u8_of }
 {
     match words {
         [one] => u8_of(*one),
@@ -42,7 +42,7 @@ pub(crate) fn desk(words: &[Word<'_>], end: usize) -> Result<u8, Mistake>
 }
 
 pub(crate) fn number(words: &[Word<'_>], end: usize) -> Result<u32, Mistake>
-    ensures { result ≡ spec.of_one (map told words.now) end u32_of }
+    ensures { result ≡ spec.of_one (map told_word words.now) end u32_of }
 {
     match words {
         [one] => u32_of(*one),
@@ -51,7 +51,7 @@ pub(crate) fn number(words: &[Word<'_>], end: usize) -> Result<u32, Mistake>
 }
 
 pub(crate) fn desk_and_number(words: &[Word<'_>], end: usize) -> Result<(u8, u32), Mistake>
-    ensures { result ≡ spec.of_two (map told words.now) end u8_of u32_of }
+    ensures { result ≡ spec.of_two (map told_word words.now) end u8_of u32_of }
 {
     match words {
         [one, two] => Ok((u8_of(*one)?, u32_of(*two)?)),
@@ -60,7 +60,7 @@ pub(crate) fn desk_and_number(words: &[Word<'_>], end: usize) -> Result<(u8, u32
 }
 
 pub(crate) fn desk_and_stamp(words: &[Word<'_>], end: usize) -> Result<(u8, u64), Mistake>
-    ensures { result ≡ spec.of_two (map told words.now) end u8_of u64_of }
+    ensures { result ≡ spec.of_two (map told_word words.now) end u8_of u64_of }
 {
     match words {
         [one, two] => Ok((u8_of(*one)?, u64_of(*two)?)),
@@ -73,7 +73,7 @@ pub(crate) fn desk_and_pid(
     words: &[Word<'_>],
     end: usize,
 ) -> Result<(u8, Pid), Mistake>
-    ensures { result ≡ spec.of_two (map told words.now) end u8_of (pid_of names.now) }
+    ensures { result ≡ spec.of_two (map told_word words.now) end u8_of (pid_read names.now) }
 {
     match words {
         [one, two] => Ok((u8_of(*one)?, pid_of(names, *two)?)),
@@ -82,7 +82,7 @@ pub(crate) fn desk_and_pid(
 }
 
 pub(crate) fn one_pid(names: &Names, words: &[Word<'_>], end: usize) -> Result<Pid, Mistake>
-    ensures { result ≡ spec.of_one (map told words.now) end (pid_of names.now) }
+    ensures { result ≡ spec.of_one (map told_word words.now) end (pid_read names.now) }
 {
     match words {
         [one] => pid_of(names, *one),
@@ -91,7 +91,7 @@ pub(crate) fn one_pid(names: &Names, words: &[Word<'_>], end: usize) -> Result<P
 }
 
 pub(crate) fn two_pids(names: &Names, words: &[Word<'_>], end: usize) -> Result<(Pid, Pid), Mistake>
-    ensures { result ≡ spec.of_two (map told words.now) end (pid_of names.now) (pid_of names.now) }
+    ensures { result ≡ spec.of_two (map told_word words.now) end (pid_read names.now) (pid_read names.now) }
 {
     match words {
         [one, two] => Ok((pid_of(names, *one)?, pid_of(names, *two)?)),
@@ -104,7 +104,7 @@ pub(crate) fn pid_and_ref(
     words: &[Word<'_>],
     end: usize,
 ) -> Result<(Pid, Ref), Mistake>
-    ensures { result ≡ spec.of_two (map told words.now) end (pid_of names.now) (ref_of names.now) }
+    ensures { result ≡ spec.of_two (map told_word words.now) end (pid_read names.now) (ref_of names.now) }
 {
     match words {
         [one, two] => Ok((pid_of(names, *one)?, ref_of(names, *two)?)),
@@ -117,7 +117,7 @@ pub(crate) fn pid_and_truth(
     words: &[Word<'_>],
     end: usize,
 ) -> Result<(Pid, bool), Mistake>
-    ensures { result ≡ spec.of_two (map told words.now) end (pid_of names.now) truth_of }
+    ensures { result ≡ spec.of_two (map told_word words.now) end (pid_read names.now) truth_of }
 {
     match words {
         [one, two] => Ok((pid_of(names, *one)?, truth_of(*two)?)),
@@ -130,7 +130,7 @@ pub(crate) fn pid_and_reason(
     words: &[Word<'_>],
     end: usize,
 ) -> Result<(Pid, Reason), Mistake>
-    ensures { result ≡ spec.of_two (map told words.now) end (pid_of names.now) reason_of }
+    ensures { result ≡ spec.of_two (map told_word words.now) end (pid_read names.now) reason_read }
 {
     match words {
         [one, two] => Ok((pid_of(names, *one)?, reason_of(*two)?)),
@@ -143,7 +143,7 @@ pub(crate) fn pids_and_reason(
     words: &[Word<'_>],
     end: usize,
 ) -> Result<(Pid, Pid, Reason), Mistake>
-    ensures { result ≡ spec.of_three (map told words.now) end (pid_of names.now) (pid_of names.now) reason_of }
+    ensures { result ≡ spec.of_three (map told_word words.now) end (pid_read names.now) (pid_read names.now) reason_read }
 {
     match words {
         [one, two, three] => Ok((
@@ -160,7 +160,7 @@ pub(crate) fn watch(
     words: &[Word<'_>],
     end: usize,
 ) -> Result<(Pid, Ref, bool), Mistake>
-    ensures { result ≡ spec.of_three (map told words.now) end (pid_of names.now) (ref_of names.now) truth_of }
+    ensures { result ≡ spec.of_three (map told_word words.now) end (pid_read names.now) (ref_of names.now) truth_of }
 {
     match words {
         [one, two, three] => Ok((
@@ -173,7 +173,7 @@ pub(crate) fn watch(
 }
 
 fn body_of(kind: Word<'_>, num: Word<'_>, who: Option<Pid>) -> Result<Body, Mistake>
-    ensures { result ≡ spec.body_of (told kind.entry) (told num.entry) who }
+    ensures { result ≡ spec.body_read (told_word kind.entry) (told_word num.entry) who }
 {
     let kind = u32_of(kind)?;
     let num = i64_of(num)?;
@@ -186,7 +186,7 @@ pub(crate) fn message(
     words: &[Word<'_>],
     end: usize,
 ) -> Result<(Pid, Pid, Body), Mistake>
-    ensures { result ≡ spec.message names.now (map told words.now) end }
+    ensures { result ≡ spec.message_read names.now (map told_word words.now) end }
 {
     match words {
         [from, to, kind, num] => {
@@ -209,7 +209,7 @@ pub(crate) fn message(
 
 /// A pick, by its first word and the one behind it.
 fn pick_of(names: &Names, word: Word<'_>, what: Word<'_>) -> Result<Pick, Mistake>
-    ensures { result ≡ spec.pick_of names.now (told word.entry) (told what.entry) }
+    ensures { result ≡ spec.pick_read names.now (told_word word.entry) (told_word what.entry) }
 {
     if word.text == b"kind".as_slice() {
         Ok(Pick::Kind(u32_of(what)?))
@@ -232,7 +232,7 @@ pub(crate) fn pid_and_pick(
     words: &[Word<'_>],
     end: usize,
 ) -> Result<(Pid, Pick), Mistake>
-    ensures { result ≡ spec.pid_and_pick names.now (map told words.now) end }
+    ensures { result ≡ spec.pid_and_pick names.now (map told_word words.now) end }
 {
     match words {
         [pid] => Ok((pid_of(names, *pid)?, Pick::Any)),

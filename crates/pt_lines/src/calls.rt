@@ -2,7 +2,7 @@
 
 ghost use Rattle.std.specs.Prelude.{◌≡◌, map};
 ghost use Rattle.pt_lines.specs.Calls as spec;
-ghost use Rattle.pt_lines.specs.Words.{told};
+ghost use Rattle.pt_lines.specs.Words.{told_word};
 
 use crate::arguments::{
     desk, desk_and_number, desk_and_pid, desk_and_stamp, message, nothing, number, one_pid,
@@ -23,7 +23,7 @@ pub(crate) fn call_of(
     words: &[Word<'_>],
     end: usize,
 ) -> Result<Call, Mistake>
-    ensures { result ≡ spec.call_of Config.DEFAULT names.now verb (map told words.now) end }
+    ensures { result ≡ spec.call_of Config.DEFAULT names.now verb (map told_word words.now) end }
 {
     match verb {
         Verb::Open => Ok(Call::Open(config_of(words)?)),
@@ -43,7 +43,7 @@ fn call_of_desk(
     words: &[Word<'_>],
     end: usize,
 ) -> Result<Call, Mistake>
-    ensures { result ≡ spec.call_of_desk names.now verb (map told words.now) end }
+    ensures { result ≡ spec.call_of_desk names.now verb (map told_word words.now) end }
 {
     match verb {
         DeskVerb::Spawn => Ok(Call::Act(Act::Spawn(desk(words, end)?))),
@@ -74,7 +74,7 @@ fn act_of_process(
     words: &[Word<'_>],
     end: usize,
 ) -> Result<Act, Mistake>
-    ensures { result ≡ spec.act_of_process names.now verb (map told words.now) end }
+    ensures { result ≡ spec.act_of_process names.now verb (map told_word words.now) end }
 {
     match verb {
         ProcessVerb::SpawnChild => {
@@ -130,7 +130,7 @@ fn look_at_process(
     words: &[Word<'_>],
     end: usize,
 ) -> Result<Look, Mistake>
-    ensures { result ≡ spec.look_at_process names.now verb (map told words.now) end }
+    ensures { result ≡ spec.look_at_process names.now verb (map told_word words.now) end }
 {
     match verb {
         LookVerb::Alive => Ok(Look::Alive(one_pid(names, words, end)?)),

@@ -3,7 +3,7 @@
 ghost use Rattle.std.specs.Prelude.{◌≡◌, map};
 ghost use Rattle.pt_lines.specs.Calls.{verb_of};
 ghost use Rattle.pt_lines.specs.Commands as spec;
-ghost use Rattle.pt_lines.specs.Words.{told};
+ghost use Rattle.pt_lines.specs.Words.{told_word};
 
 use crate::arguments::nothing;
 use crate::call::Call;
@@ -32,7 +32,7 @@ pub fn command_of<'a>(
     words: &'a [Word<'a>],
     end: usize,
 ) -> Result<Command<'a>, Mistake>
-    ensures { spec.Asks result (spec.asked Config.DEFAULT names.now (map told words.now) end) }
+    ensures { spec.LineAsks result (spec.asked Config.DEFAULT names.now (map told_word words.now) end) }
 {
     let [first, rest @ ..] = words else {
         return Ok(Command::Nothing);
@@ -60,7 +60,7 @@ fn is_comment(word: &[u8]) -> bool
 }
 
 fn expectation<'a>(words: &'a [Word<'a>], end: usize) -> Result<Command<'a>, Mistake>
-    ensures { spec.Asks result (spec.expectation (map told words.now) end) }
+    ensures { spec.LineAsks result (spec.expectation (map told_word words.now) end) }
 {
     match words {
         [] => Err(Mistake::at(end, Why::Missing)),
@@ -75,7 +75,7 @@ fn call_asked<'a>(
     words: &'a [Word<'a>],
     end: usize,
 ) -> Result<Command<'a>, Mistake>
-    ensures { spec.Asks result (spec.call_asked Config.DEFAULT names.now (told word.entry) (map told words.now) end) }
+    ensures { spec.LineAsks result (spec.call_asked Config.DEFAULT names.now (told_word word.entry) (map told_word words.now) end) }
 {
     match words {
         [sign, rest @ ..] if sign.text == b"=".as_slice() => named(names, word, rest, end),
@@ -90,7 +90,7 @@ fn bare<'a>(
     words: &'a [Word<'a>],
     end: usize,
 ) -> Result<Command<'a>, Mistake>
-    ensures { spec.Asks result (spec.bare Config.DEFAULT names.now (told word.entry) (map told words.now) end) }
+    ensures { spec.LineAsks result (spec.unnamed_call Config.DEFAULT names.now (told_word word.entry) (map told_word words.now) end) }
 {
     let call = call_in(names, word, words, end)?;
     Ok(Command::Call(None, word.column, call))
@@ -103,7 +103,7 @@ fn named<'a>(
     words: &'a [Word<'a>],
     end: usize,
 ) -> Result<Command<'a>, Mistake>
-    ensures { spec.Asks result (spec.named Config.DEFAULT names.now (told name.entry) (map told words.now) end) }
+    ensures { spec.LineAsks result (spec.named_row Config.DEFAULT names.now (told_word name.entry) (map told_word words.now) end) }
 {
     if !is_name(name.text) || is_taken(name.text) {
         return Err(Mistake::at(name.column, Why::NoName));
@@ -118,7 +118,7 @@ fn called<'a>(
     words: &'a [Word<'a>],
     end: usize,
 ) -> Result<Command<'a>, Mistake>
-    ensures { spec.Asks result (spec.called Config.DEFAULT names.now name.now (map told words.now) end) }
+    ensures { spec.LineAsks result (spec.called Config.DEFAULT names.now name.now (map told_word words.now) end) }
 {
     match words {
         [] => Err(Mistake::at(end, Why::Missing)),
@@ -138,7 +138,7 @@ fn is_taken(word: &[u8]) -> bool
 
 /// The call of this name with the words behind it.
 fn call_in(names: &Names, word: Word<'_>, words: &[Word<'_>], end: usize) -> Result<Call, Mistake>
-    ensures { result ≡ spec.call_in Config.DEFAULT names.now (told word.entry) (map told words.now) end }
+    ensures { result ≡ spec.call_in Config.DEFAULT names.now (told_word word.entry) (map told_word words.now) end }
 {
     match verb_of(word.text) {
         Some(verb) => call_of(names, verb, words, end),

@@ -10,7 +10,7 @@
 //!
 //! A line is split into words at blanks. A word stands for a value by the value's printed text, or by a name that was
 //! given to a pid or a reference before. What the words of each call are, [`CALLS`] says.
-#![tactic(auto, unfolding(crate::specs::Text::why_text))]
+#![tactic(auto, unfolding(crate::specs::Text::mistake_text))]
 
 mod arguments;
 mod call;

@@ -44,9 +44,9 @@ impl Mistake {
 
 impl fmt::Display for Why {
     ghost use Rattle.std.specs.Prelude.{Some};
-    ghost use Rattle.pt_lines.specs.Text.{why_text};
+    ghost use Rattle.pt_lines.specs.Text.{mistake_text};
 
-    ghost output = { λ w. Some (why_text w) };
+    ghost output = { λ w. Some (mistake_text w) };
 
     fn fmt<W: fmt::Write>(&self, f: &mut fmt::Formatter<W>) -> fmt::Result {
         f.write_str(match *self {

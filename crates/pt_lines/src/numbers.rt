@@ -4,7 +4,7 @@ ghost use Rattle.std.specs.Prelude.{◌≡◌, ◌-◌, ◌^◌, ◌≤◌, IfSo
 ghost use Rattle.pt_lines.specs.Numbers as spec;
 
 fn is_digit(byte: u8) -> bool
-    ensures { result ≡ spec.is_digit byte }
+    ensures { result ≡ spec.is_line_digit byte }
 {
     b'0' <= byte && byte <= b'9'
 }
@@ -26,7 +26,7 @@ fn number_in(most: u64, text: &[u8]) -> Option<u64>
 fn number_behind(most: u64, text: &[u8]) -> Option<u64>
     requires { 9 ≤ most }
     ensures range { IfSome result (λ n. n ≤ most) }
-    ensures value { result ≡ spec.number_behind most 0 text.now }
+    ensures value { result ≡ spec.number_after_digits most 0 text.now }
 {
     let mut number: u64 = 0;
     for place in 0..text.len() {
@@ -87,7 +87,7 @@ pub(crate) fn i64_in(text: &[u8]) -> Option<i64>
 
 fn negated(number: u64) -> i64
     requires { number ≤ 2 ^ 63 }
-    ensures { result ≡ spec.negated number }
+    ensures { result ≡ spec.minus_number number }
 {
     if number == 0 {
         0

@@ -2,7 +2,7 @@
 
 ghost use Rattle.std.specs.Prelude.{◌≡◌, ◌==◌, ◌<◌, map, length, position, IfSome};
 ghost use Rattle.pt_lines.specs.Settings as spec;
-ghost use Rattle.pt_lines.specs.Words.{told};
+ghost use Rattle.pt_lines.specs.Words.{told_word};
 
 use crate::mistake::{Mistake, Why};
 use crate::values::{u8_of, u32_of, u64_of};
@@ -11,7 +11,7 @@ use pt_shard::Config;
 
 /// The settings with the one of this name, by the word of its number.
 fn with_named(config: Config, name: &[u8], number: Word<'_>) -> Result<Config, Mistake>
-    ensures { result ≡ spec.with_named config name.now (told number.entry) }
+    ensures { result ≡ spec.with_named config name.now (told_word number.entry) }
 {
     if name == b"desks".as_slice() {
         Ok(config.with_desks(u8_of(number)?))
@@ -30,7 +30,7 @@ fn with_named(config: Config, name: &[u8], number: Word<'_>) -> Result<Config, M
 
 /// The settings with the one that the word names.
 fn with_setting(config: Config, word: Word<'_>) -> Result<Config, Mistake>
-    ensures { result ≡ spec.with_setting config (told word.entry) }
+    ensures { result ≡ spec.with_setting config (told_word word.entry) }
 {
     match sign_in(word.text) {
         Some(sign) => {
@@ -54,7 +54,7 @@ fn sign_in(text: &[u8]) -> Option<usize>
 
 /// The settings that the words name, and of the others the defaults. Of one that is named twice the last counts.
 pub(crate) fn config_of(words: &[Word<'_>]) -> Result<Config, Mistake>
-    ensures { result ≡ spec.with_settings Config.DEFAULT (map told words.now) }
+    ensures { result ≡ spec.with_settings Config.DEFAULT (map told_word words.now) }
 {
     let mut config = Config::DEFAULT;
     for place in 0..words.len() {

@@ -2,7 +2,7 @@
 
 ghost use Rattle.std.specs.Prelude.{◌≡◌};
 ghost use Rattle.pt_lines.specs.Values as spec;
-ghost use Rattle.pt_lines.specs.Words.{told};
+ghost use Rattle.pt_lines.specs.Words.{told_word};
 
 use crate::mistake::{Mistake, Why};
 use crate::names::{Names, Value};
@@ -13,7 +13,7 @@ use pt_texts::{parse_pid, parse_reason, parse_ref};
 
 /// A pid, by its text or by a name.
 pub(crate) fn pid_of(names: &Names, word: Word<'_>) -> Result<Pid, Mistake>
-    ensures { result ≡ spec.pid_of names.now (told word.entry) }
+    ensures { result ≡ spec.pid_read names.now (told_word word.entry) }
 {
     match parse_pid(word.text) {
         Ok(pid) => Ok(pid),
@@ -26,7 +26,7 @@ pub(crate) fn pid_of(names: &Names, word: Word<'_>) -> Result<Pid, Mistake>
 
 /// A reference, by its text or by a name.
 pub(crate) fn ref_of(names: &Names, word: Word<'_>) -> Result<Ref, Mistake>
-    ensures { result ≡ spec.ref_of names.now (told word.entry) }
+    ensures { result ≡ spec.ref_of names.now (told_word word.entry) }
 {
     match parse_ref(word.text) {
         Ok(made) => Ok(made),
@@ -38,7 +38,7 @@ pub(crate) fn ref_of(names: &Names, word: Word<'_>) -> Result<Ref, Mistake>
 }
 
 pub(crate) fn reason_of(word: Word<'_>) -> Result<Reason, Mistake>
-    ensures { result ≡ spec.reason_of (told word.entry) }
+    ensures { result ≡ spec.reason_read (told_word word.entry) }
 {
     match parse_reason(word.text) {
         Ok(reason) => Ok(reason),
@@ -47,7 +47,7 @@ pub(crate) fn reason_of(word: Word<'_>) -> Result<Reason, Mistake>
 }
 
 pub(crate) fn truth_of(word: Word<'_>) -> Result<bool, Mistake>
-    ensures { result ≡ spec.truth_of (told word.entry) }
+    ensures { result ≡ spec.truth_of (told_word word.entry) }
 {
     if word.text == b"true".as_slice() {
         return Ok(true);
@@ -59,7 +59,7 @@ pub(crate) fn truth_of(word: Word<'_>) -> Result<bool, Mistake>
 }
 
 pub(crate) fn u8_of(word: Word<'_>) -> Result<u8, Mistake>
-    ensures { result ≡ spec.u8_of (told word.entry) }
+    ensures { result ≡ spec.u8_of (told_word word.entry) }
 {
     match u8_in(word.text) {
         Some(number) => Ok(number),
@@ -68,7 +68,7 @@ pub(crate) fn u8_of(word: Word<'_>) -> Result<u8, Mistake>
 }
 
 pub(crate) fn u32_of(word: Word<'_>) -> Result<u32, Mistake>
-    ensures { result ≡ spec.u32_of (told word.entry) }
+    ensures { result ≡ spec.u32_of (told_word word.entry) }
 {
     match u32_in(word.text) {
         Some(number) => Ok(number),
@@ -77,7 +77,7 @@ pub(crate) fn u32_of(word: Word<'_>) -> Result<u32, Mistake>
 }
 
 pub(crate) fn u64_of(word: Word<'_>) -> Result<u64, Mistake>
-    ensures { result ≡ spec.u64_of (told word.entry) }
+    ensures { result ≡ spec.u64_of (told_word word.entry) }
 {
     match u64_in(word.text) {
         Some(number) => Ok(number),
@@ -86,7 +86,7 @@ pub(crate) fn u64_of(word: Word<'_>) -> Result<u64, Mistake>
 }
 
 pub(crate) fn i64_of(word: Word<'_>) -> Result<i64, Mistake>
-    ensures { result ≡ spec.i64_of (told word.entry) }
+    ensures { result ≡ spec.i64_of (told_word word.entry) }
 {
     match i64_in(word.text) {
         Some(number) => Ok(number),

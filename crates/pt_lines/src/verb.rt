@@ -266,7 +266,7 @@ pub fn verb_of(word: &[u8]) -> Option<Verb>
 
 /// The call of this name among those of a table.
 fn verb_in(table: &[Usage], word: &[u8]) -> Option<Verb>
-    ensures { result ≡ spec.first_named (map spec.named table.now) word.now }
+    ensures { result ≡ spec.first_named (map spec.named_row table.now) word.now }
 {
     for place in 0..table.len() {
         if table[place].name.as_bytes() == word {

@@ -21,7 +21,7 @@ fn is_blank(byte: u8) -> bool
 
 /// The words of a line, in order: what stands between blanks. A blank is a space, a tab or a carriage return.
 pub fn words_of(alloc: Global, line: &[u8]) -> Result<Vec<Word<'_>>, AllocError>
-    ensures { IfOk result (λ words. map spec.told words.items ≡ spec.words_in line.now) }
+    ensures { IfOk result (λ words. map spec.told_word words.items ≡ spec.words_in line.now) }
 {
     let mut words = Vec::new(alloc);
     let mut start: usize = 0;
@@ -44,9 +44,9 @@ fn pass<'a>(
     requires within { place < length line.now }
     ensures order { IfOk result (λ next. next ≤ place + 1) }
     ensures words { IfOk result (λ next.
-        map spec.told words.new.items
+        map spec.told_word words.new.items
         ++ spec.words_behind (next + 1) (slice_range line.now next (place + 1)) (drop (place + 1) line.now)
-        ≡ map spec.told words.old.items
+        ≡ map spec.told_word words.old.items
         ++ spec.words_behind (start + 1) (slice_range line.now start place) (drop place line.now)) }
 {
     if is_blank(line[place]) {
@@ -65,8 +65,8 @@ fn push_word<'a>(
 ) -> Result<(), AllocError>
     requires order { start ≤ end }
     requires within { end ≤ length line.now }
-    ensures { OnOk result (map spec.told words.new.items
-        ≡ map spec.told words.old.items ++ spec.one_word (start + 1) (slice_range line.now start end)) }
+    ensures { OnOk result (map spec.told_word words.new.items
+        ≡ map spec.told_word words.old.items ++ spec.one_word (start + 1) (slice_range line.now start end)) }
 {
     if start < end {
         words.push(Word {
@@ -79,7 +79,7 @@ fn push_word<'a>(
 
 /// The words with one space between each two.
 pub fn joined(alloc: Global, words: &[Word<'_>]) -> Result<Vec<u8>, AllocError>
-    ensures { IfOk result (λ text. text.items ≡ spec.joined (map spec.told words.now)) }
+    ensures { IfOk result (λ text. text.items ≡ spec.joined_words (map spec.told_word words.now)) }
 {
     let mut text = Vec::new(alloc);
     let [first, rest @ ..] = words else {
@@ -92,7 +92,7 @@ pub fn joined(alloc: Global, words: &[Word<'_>]) -> Result<Vec<u8>, AllocError>
 
 /// Adds each word behind a space.
 fn push_spaced(text: &mut Vec<u8>, words: &[Word<'_>]) -> Result<(), AllocError>
-    ensures { OnOk result (text.new.items ≡ text.old.items ++ spec.spaced (map spec.told words.now)) }
+    ensures { OnOk result (text.new.items ≡ text.old.items ++ spec.spaced (map spec.told_word words.now)) }
 {
     for place in 0..words.len() {
         text.push(b' ')?;

@@ -7,7 +7,7 @@ use Rattle.pt_events.specs.declared.event.Stamped.{Stamped}
 use Rattle.pt_merge.specs.declared.merging.Seat.{Seat}
 use Rattle.pt_events.specs.JournalState.{JournalState}
 use Rattle.pt_merge.specs.Merging.{Given}
-use Rattle.pt_merge.specs.Race.{head_of, desk_at, past_at, events_at, seat_at, winner_at, taken_at, left_at, key_of, key_at, leads, middle, IsBest, IsPlayed, alone, matched, winner_in, OnlyWinners, IsTaken, TakesFrom, TakesFirst}
+use Rattle.pt_merge.specs.Race.{head_of, desk_at, past_at, events_at, seat_at, winner_at, taken_at, left_at, key_of, next_key, leads, middle, IsBest, IsPlayed, alone, matched, winner_in, OnlyWinners, IsTaken, TakesFrom, TakesFirst}
 use Rattle.std.proofs.lemmas.Bool.Decides.{nat_tests}
 
 pub past_read : (js : Given) (j : ℕ) (x : Bor JournalState) → j < length js → x ≡ get_or js j x → x.now.past ≡ past_at js j
@@ -84,33 +84,33 @@ played_kept key key' winner winner' low high h k (matched l g some one other bes
 -- writes of seats -----------------------------------------------------------------------------
 
 module _ (js : Given) where
-  key_same : (old new : List Seat) (j : ℕ) → taken_at new j ≡ taken_at old j → key_at js new j ≡ key_at js old j
+  key_same : (old new : List Seat) (j : ℕ) → taken_at new j ≡ taken_at old j → next_key js new j ≡ next_key js old j
   key_same old new j h = ap (λ n. key_of (drop n (events_at js j))) h
 
-  best_same : (old new : List Seat) (low high w : ℕ) → ((j : ℕ) → taken_at new j ≡ taken_at old j) → IsBest (key_at js old) low high w → IsBest (key_at js new) low high w
+  best_same : (old new : List Seat) (low high w : ℕ) → ((j : ℕ) → taken_at new j ≡ taken_at old j) → IsBest (next_key js old) low high w → IsBest (next_key js new) low high w
   best_same old new low high w h b = record {
     from = b.from;
     below = b.below;
     leads_all = λ j k m.
-        subst (λ z. leads (key_at js new w) z ≡ true) (sym (key_same old new j (h j)))
-        (subst (λ z. leads z (key_at js old j) ≡ true) (sym (key_same old new w (h w))) (b.leads_all j k m));
+        subst (λ z. leads (next_key js new w) z ≡ true) (sym (key_same old new j (h j)))
+        (subst (λ z. leads z (next_key js old j) ≡ true) (sym (key_same old new w (h w))) (b.leads_all j k m));
   }
 
   -- the half keeps its matches where the rest is written
   pub half_kept : (old new : List Seat) (low high : ℕ) → ((j : ℕ) → low ≤ j → j < high → taken_at new j ≡ taken_at old j)
       → ((i : ℕ) → low < i → i < high → winner_at new i ≡ winner_at old i)
-      → IsPlayed (key_at js old) (winner_at old) low high → IsPlayed (key_at js new) (winner_at new) low high
+      → IsPlayed (next_key js old) (winner_at old) low high → IsPlayed (next_key js new) (winner_at new) low high
   half_kept old new low high h k p =
-      played_kept (key_at js old) (key_at js new) (winner_at old) (winner_at new) low high (λ j a b. key_same old new j (h j a b)) k p
+      played_kept (next_key js old) (next_key js new) (winner_at old) (winner_at new) low high (λ j a b. key_same old new j (h j a b)) k p
 
   pub match_played : (seats : List Seat) (low high w t : ℕ) → low + 1 < high → high ≤ length seats → t ≡ taken_at seats (middle low high)
-      → IsPlayed (key_at js seats) (winner_at seats) low (middle low high) → IsPlayed (key_at js seats) (winner_at seats) (middle low high) high
-      → IsBest (key_at js seats) low high w
-      → IsPlayed (key_at js (set seats (middle low high) (record { winner = w; taken = t }))) (winner_at (set seats (middle low high) (record { winner = w; taken = t }))) low high
+      → IsPlayed (next_key js seats) (winner_at seats) low (middle low high) → IsPlayed (next_key js seats) (winner_at seats) (middle low high) high
+      → IsBest (next_key js seats) low high w
+      → IsPlayed (next_key js (set seats (middle low high) (record { winner = w; taken = t }))) (winner_at (set seats (middle low high) (record { winner = w; taken = t }))) low high
   match_played seats low high w t some within e one other best =
       matched low high some (half_kept seats new low m (λ j a b. taken j) (λ i a b. winners i (omega arith)) one)
       (half_kept seats new m high (λ j a b. taken j) (λ i a b. winners i (omega arith)) other)
-      (subst (IsBest (key_at js new) low high) (sym (ap (λ (s : Seat). s.winner) here)) (best_same seats new low high w taken best))
+      (subst (IsBest (next_key js new) low high) (sym (ap (λ (s : Seat). s.winner) here)) (best_same seats new low high w taken best))
     where
       m : ℕ
       m = middle low high
@@ -134,13 +134,13 @@ module _ (js : Given) where
 
   -- what taking one more event, or the matches of one half, leaves of the other half
   pub apart_taken : (old new : List Seat) (low high from to which : ℕ) → IsTaken from to which old new → (which < low) ⊎ (high ≤ which) → (to ≤ low) ⊎ (high ≤ from)
-      → low < high → IsPlayed (key_at js old) (winner_at old) low high → IsPlayed (key_at js new) (winner_at new) low high
+      → low < high → IsPlayed (next_key js old) (winner_at old) low high → IsPlayed (next_key js new) (winner_at new) low high
   apart_taken old new low high from to which t w d some p =
       half_kept old new low high (λ j a b. t.same_taken j (λ e. ⊎_elim (λ (k : which < low). omega arith) (λ (k : high ≤ which). omega arith) w))
       (λ i a b. t.same_outside i (⊎_elim (λ (k : to ≤ low). inr (omega arith)) (λ (k : high ≤ from). inl (omega arith)) d)) p
 
   pub apart_written : (old new : List Seat) (low high from to : ℕ) → OnlyWinners from to old new → high ≤ from
-      → IsPlayed (key_at js old) (winner_at old) low high → IsPlayed (key_at js new) (winner_at new) low high
+      → IsPlayed (next_key js old) (winner_at old) low high → IsPlayed (next_key js new) (winner_at new) low high
   apart_written old new low high from to t d p = half_kept old new low high (λ j a b. t.same_taken j) (λ i a b. t.same_outside i (inl (omega arith))) p
 
 pub one_half : (key : ℕ → Option (ℕ × ℕ)) (winner : ℕ → ℕ) (low high : ℕ) → low + 1 < high → IsPlayed key winner low high → IsPlayed key winner low (middle low high)
@@ -174,25 +174,25 @@ key_of_head : (xs : List Stamped) (s : Stamped) → head_of xs ≡ Some s → ke
 key_of_head [] s h = absurd (cc)
 key_of_head (x ∷ xs) s h = let e : x ≡ s = cc in ap (λ (y : Stamped). Some (y.stamp, y.desk)) e
 
-module _ (js : Given) (old : List Seat) (which : ℕ) (best : IsBest (key_at js old) 0 (length js) which) where
+module _ (js : Given) (old : List Seat) (which : ℕ) (best : IsBest (next_key js old) 0 (length js) which) where
   pub nothing_left : None ≡ head_of (left_at js old which) → TakesFirst js old None old
   nothing_left h j k =
       let e : left_at js old which ≡ [] = no_head (left_at js old which) (sym h) in
-      led_by_none (left_at js old j) (subst (λ xs. leads (key_of xs) (key_at js old j) ≡ true) e (best.leads_all j (omega arith) k))
+      led_by_none (left_at js old j) (subst (λ xs. leads (key_of xs) (next_key js old j) ≡ true) e (best.leads_all j (omega arith) k))
 
   pub first_taken : (new : List Seat) (s : Stamped) → Some s ≡ head_of (left_at js old which) → IsTaken 0 (length js) which old new → TakesFrom js old new s which
   first_taken new s h t = record {
     within = best.below;
     takes = head_taken (events_at js which) (taken_at old which) s (sym h) ∙ ap (λ n. s ∷ drop n (events_at js which)) (sym t.one_more);
     keeps = λ j k. ap (λ n. drop n (events_at js j)) (t.same_taken j k);
-    leads_all = λ j k. subst (λ z. leads z (key_at js old j) ≡ true) (key_of_head (left_at js old which) s (sym h)) (best.leads_all j (omega arith) k);
+    leads_all = λ j k. subst (λ z. leads z (next_key js old j) ≡ true) (key_of_head (left_at js old which) s (sym h)) (best.leads_all j (omega arith) k);
   }
 
 pub best_now : (js : Given) (old now : List Seat) (which : ℕ) → now ≡ old → which ≡ winner_in (winner_at now) 0 (length js)
-    → IsPlayed (key_at js old) (winner_at old) 0 (length js) → IsBest (key_at js old) 0 (length js) which
+    → IsPlayed (next_key js old) (winner_at old) 0 (length js) → IsBest (next_key js old) 0 (length js) which
 best_now js old now which e w p =
-    subst (IsBest (key_at js old) 0 (length js)) (sym (w ∙ ap (λ (seats : List Seat). winner_in (winner_at seats) 0 (length js)) e))
-    (best_played (key_at js old) (winner_at old) 0 (length js) p)
+    subst (IsBest (next_key js old) 0 (length js)) (sym (w ∙ ap (λ (seats : List Seat). winner_in (winner_at seats) 0 (length js)) e))
+    (best_played (next_key js old) (winner_at old) 0 (length js) p)
 
 pub some_given : (n : ℕ) (b : Bool) → b ≡ (n == 0) → b ≡ false → 0 < n
 some_given n b e f = grind (arith, nat_tests)

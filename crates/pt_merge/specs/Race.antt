@@ -52,8 +52,8 @@ key_of [] = None
 key_of (s ∷ rest) = Some (s.stamp, s.desk)
 
 -- the stamp and the desk of the next event of one journal
-abbrev pub key_at : Given → List Seat → ℕ → Option (ℕ × ℕ)
-key_at js seats j = key_of (left_at js seats j)
+abbrev pub next_key : Given → List Seat → ℕ → Option (ℕ × ℕ)
+next_key js seats j = key_of (left_at js seats j)
 
 -- the one comes no later than the other; None comes last
 abbrev pub leads : Option (ℕ × ℕ) → Option (ℕ × ℕ) → Bool
@@ -101,7 +101,7 @@ pub record TakesFrom (js : Given) (old new : List Seat) (s : Stamped) (which : �
   pub within : which < length js
   pub takes : left_at js old which ≡ s ∷ left_at js new which
   pub keeps : (j : ℕ) → (j ≡ which → ⊥) → left_at js new j ≡ left_at js old j
-  pub leads_all : (j : ℕ) → j < length js → leads (Some (s.stamp, s.desk)) (key_at js old j) ≡ true
+  pub leads_all : (j : ℕ) → j < length js → leads (Some (s.stamp, s.desk)) (next_key js old j) ≡ true
 
 -- the first of all next events is taken, where any is left
 abbrev pub TakesFirst : Given → List Seat → Option Stamped → List Seat → Type 0

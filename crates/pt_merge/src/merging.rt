@@ -4,7 +4,7 @@ ghost use Rattle.std.specs.Prelude.{◌≡◌, ℕ, ◌+◌, ◌<◌, ◌≤◌,
 ghost use Rattle.pt_events.specs.Journal.{IsMerge};
 ghost use Rattle.pt_events.specs.JournalState.{IsInOrder};
 ghost use Rattle.pt_merge.specs.Merging.{AreApart, journal_of};
-ghost use Rattle.pt_merge.specs.Race.{AreInOrder, desk_at, past_at, events_at, left_at, head_of, key_at, taken_at};
+ghost use Rattle.pt_merge.specs.Race.{AreInOrder, desk_at, past_at, events_at, left_at, head_of, next_key, taken_at};
 ghost use Rattle.pt_merge.specs.Race.{winner_at, winner_in, middle, leads, IsBest, IsPlayed, IsTaken, OnlyWinners};
 ghost use Rattle.pt_merge.specs.Race.{TakesFirst};
 
@@ -65,7 +65,7 @@ fn seats(alloc: Global, journals: &[&Journal]) -> Result<Vec<Seat>, AllocError>
     ensures untaken { IfOk result (λ seats. (j : ℕ) → taken_at seats.items j ≡ 0) }
     ensures played { IfOk result
         (λ seats. 0 < length journals.now
-        → IsPlayed (key_at journals.now seats.items) (winner_at seats.items) 0 (length journals.now)) }
+        → IsPlayed (next_key journals.now seats.items) (winner_at seats.items) 0 (length journals.now)) }
 {
     let start = Seat {
         winner: 0,
@@ -92,7 +92,7 @@ fn head(journals: &[&Journal], seats: &[Seat], which: usize) -> Option<Stamped>
 fn key(journals: &[&Journal], seats: &[Seat], which: usize) -> Option<(u64, u8)>
     requires same { length seats.now ≡ length journals.now }
     requires within { which < length journals.now }
-    ensures { result ≡ key_at journals.now seats.now which }
+    ensures { result ≡ next_key journals.now seats.now which }
 {
     let next = events_of(journals, which).get(seats[which].taken)?;
     Some((next.stamp, next.desk))
@@ -126,9 +126,9 @@ fn best_of_halves(journals: &[&Journal], seats: &[Seat], low: usize, high: usize
     requires same { length seats.now ≡ length journals.now }
     requires some { low + 1 < high }
     requires within { high ≤ length journals.now }
-    requires one_half { IsPlayed (key_at journals.now seats.now) (winner_at seats.now) low (middle low high) }
-    requires other_half { IsPlayed (key_at journals.now seats.now) (winner_at seats.now) (middle low high) high }
-    ensures { IsBest (key_at journals.now seats.now) low high result }
+    requires one_half { IsPlayed (next_key journals.now seats.now) (winner_at seats.now) low (middle low high) }
+    requires other_half { IsPlayed (next_key journals.now seats.now) (winner_at seats.now) (middle low high) high }
+    ensures { IsBest (next_key journals.now seats.now) low high result }
 {
     let middle = low + (high - low) / 2;
     let one = winner(seats, low, middle);
@@ -145,12 +145,12 @@ fn play(journals: &[&Journal], seats: &mut Vec<Seat>, low: usize, high: usize)
     requires same { length seats.old.items ≡ length journals.now }
     requires some { low + 1 < high }
     requires within { high ≤ length journals.now }
-    requires one_half { IsPlayed (key_at journals.now seats.old.items) (winner_at seats.old.items) low
+    requires one_half { IsPlayed (next_key journals.now seats.old.items) (winner_at seats.old.items) low
         (middle low high) }
-    requires other_half { IsPlayed (key_at journals.now seats.old.items) (winner_at seats.old.items)
+    requires other_half { IsPlayed (next_key journals.now seats.old.items) (winner_at seats.old.items)
         (middle low high) high }
     ensures written { OnlyWinners low high seats.old.items seats.new.items }
-    ensures played { IsPlayed (key_at journals.now seats.new.items) (winner_at seats.new.items) low high }
+    ensures played { IsPlayed (next_key journals.now seats.new.items) (winner_at seats.new.items) low high }
 {
     let best = best_of_halves(journals, seats.as_slice(), low, high);
     seats[low + (high - low) / 2].winner = best;
@@ -162,7 +162,7 @@ fn play_all(journals: &[&Journal], seats: &mut Vec<Seat>, low: usize, high: usiz
     requires some { low < high }
     requires within { high ≤ length journals.now }
     ensures written { OnlyWinners low high seats.old.items seats.new.items }
-    ensures played { IsPlayed (key_at journals.now seats.new.items) (winner_at seats.new.items) low high }
+    ensures played { IsPlayed (next_key journals.now seats.new.items) (winner_at seats.new.items) low high }
 {
     if high - low == 1 {
         return;
@@ -180,9 +180,9 @@ fn advance(journals: &[&Journal], seats: &mut Vec<Seat>, low: usize, high: usize
     requires from { low ≤ which }
     requires below { which < high }
     requires left { taken_at seats.old.items which + 1 < 2 ^ 64 }
-    requires played { IsPlayed (key_at journals.now seats.old.items) (winner_at seats.old.items) low high }
+    requires played { IsPlayed (next_key journals.now seats.old.items) (winner_at seats.old.items) low high }
     ensures taken { IsTaken low high which seats.old.items seats.new.items }
-    ensures played { IsPlayed (key_at journals.now seats.new.items) (winner_at seats.new.items) low high }
+    ensures played { IsPlayed (next_key journals.now seats.new.items) (winner_at seats.new.items) low high }
 {
     if high - low == 1 {
         seats[low].taken += 1;
@@ -201,10 +201,10 @@ fn advance(journals: &[&Journal], seats: &mut Vec<Seat>, low: usize, high: usize
 fn next(journals: &[&Journal], seats: &mut Vec<Seat>) -> Option<Stamped>
     requires same { length seats.old.items ≡ length journals.now }
     requires played { 0 < length journals.now
-        → IsPlayed (key_at journals.now seats.old.items) (winner_at seats.old.items) 0 (length journals.now) }
+        → IsPlayed (next_key journals.now seats.old.items) (winner_at seats.old.items) 0 (length journals.now) }
     ensures same { length seats.new.items ≡ length seats.old.items }
     ensures played { 0 < length journals.now
-        → IsPlayed (key_at journals.now seats.new.items) (winner_at seats.new.items) 0 (length journals.now) }
+        → IsPlayed (next_key journals.now seats.new.items) (winner_at seats.new.items) 0 (length journals.now) }
     ensures takes { TakesFirst journals.now seats.old.items result seats.new.items }
 {
     if journals.is_empty() {

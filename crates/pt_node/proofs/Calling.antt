@@ -11,7 +11,7 @@ use Rattle.pt_desk.specs.declared.turned.Turned.{Turned}
 use Rattle.pt_desk.specs.Turns.{Turns}
 use Rattle.pt_node.specs.Desks.{AreDesks}
 use Rattle.pt_node.specs.declared.node_fault.NodeFault.{NodeFault}
-use Rattle.pt_node.specs.Node.{CallsTo, OnDesk, TurnsAll, answered, both_turned}
+use Rattle.pt_node.specs.Node.{CallsTo, OnDesk, TurnsAll, node_answered, both_turned}
 use Rattle.pt_node.proofs.StillDesks.{still_desks}
 
 -- the desk `old` was read at place d
@@ -41,17 +41,17 @@ module _ (desks : List DeskState) (d : ℕ) (old : DeskState) (within : d < leng
   pub calls_to :
       {A : Type 0} (to : Pid) (Does : DeskState → Result A Fault → DeskState → Type 0) (r : Result A Fault) (new : DeskState)
       → knows old.shard to ≡ true → Does old r new → HasSameEnds old new → GoesOn old new
-      → (k : ℕ) → d ≡ k → (start : List DeskState) → start ≡ desks → (answer : Result A NodeFault) → answer ≡ answered r
+      → (k : ℕ) → d ≡ k → (start : List DeskState) → start ≡ desks → (answer : Result A NodeFault) → answer ≡ node_answered r
       → CallsTo k to Does start answer (set desks d new)
   calls_to to Does r new known does ends goes k at start begins answer gives =
       subst (λ n. CallsTo n to Does start answer (set desks d new)) at
       (subst (λ s. CallsTo d to Does s answer (set desks d new)) (sym begins)
       (subst (λ a. CallsTo d to Does desks a (set desks d new)) (sym gives) (by_answer r does)))
     where
-      by_answer : (a : Result _ Fault) → Does old a new → CallsTo d to Does desks (answered a) (set desks d new)
+      by_answer : (a : Result _ Fault) → Does old a new → CallsTo d to Does desks (node_answered a) (set desks d new)
       by_answer (Ok a) h = record { within = within; desk = new; does = rw (was new) (known, h, ends); goes_on = rw (was new) goes; others = refl }
       by_answer (Err f) h = record { within = within; desk = new; does = rw (was new) (known, h, ends); goes_on = rw (was new) goes; others = refl }
 
-pub answered_if : {A : Type 0} (P Q : A → Type 0) (r : Result A Fault) → ((a : A) → P a → Q a) → IfOk r P → IfOk (answered r) Q
+pub answered_if : {A : Type 0} (P Q : A → Type 0) (r : Result A Fault) → ((a : A) → P a → Q a) → IfOk r P → IfOk (node_answered r) Q
 answered_if P Q (Ok a) f h = f a h
 answered_if P Q (Err e) f h = h

@@ -8,7 +8,7 @@ use Rattle.pt_carrier.specs.Ends.{Place, OutEnds, InEnds}
 use Rattle.pt_carrier.specs.Node.{places, IsNode, IsNew}
 use Rattle.pt_shard.specs.declared.config.Config.{Config}
 use Rattle.pt_shard.specs.ShardState.{ShardState}
-use Rattle.pt_shard.specs.Opening.{IsInRange, fresh}
+use Rattle.pt_shard.specs.Opening.{IsInRange, fresh_shard}
 use Rattle.pt_gathered.specs.Gathered.{start_of}
 use Rattle.pt_gathered.specs.Pasts.{IsBeginningOf}
 use Rattle.pt_gathered.proofs.Starts.{all_empty}
@@ -58,7 +58,7 @@ module _ (config : Config) (shards : List ShardState) (pairs : List (OutEnds × 
     desk_count : length desks ≡ config.desks
     desk_count = sym (length-map desks (λ (d : DeskState). d.shard)) ∙ ap length shards_are ∙ are.count
 
-    shard_is : (d : ℕ) (x : DeskState) → d < length desks → (get_or desks d x).shard ≡ fresh config d
+    shard_is : (d : ℕ) (x : DeskState) → d < length desks → (get_or desks d x).shard ≡ fresh_shard config d
     shard_is d x h =
         sym (get_or-map (λ (d : DeskState). d.shard) desks d x x.shard h) ∙ ap (λ z. get_or z d x.shard) shards_are ∙ are.fresh_each d x.shard (omega (arith, h, desk_count, are.count))
 

@@ -4,7 +4,7 @@ use Rattle.std.proofs.lemmas.Bool.{cases_eq}
 use Rattle.pt_signal.specs.declared.letter.Letter.{Letter}
 use Rattle.pt_shard.specs.declared.stop.Stop.{Stop}
 use Rattle.pt_shard.specs.declared.stop.Stop.TheVariants.{Memory, Worn}
-use Rattle.pt_shard.specs.ShardState.{ShardState, came, stamped}
+use Rattle.pt_shard.specs.ShardState.{ShardState, came_event, stamped}
 use Rattle.pt_gathered.specs.Settling.{Follows}
 use Rattle.pt_gathered.proofs.Settled.{follows_along, follows_same}
 use Rattle.pt_desk.specs.DeskState.{DeskState}
@@ -33,10 +33,10 @@ fetched_same l old new f = ⊎_elim (λ h. ap (λ (d : DeskState). d.shard.journ
 next_receives : (l : Letter) (old new : DeskState) → HandlesNext l old new → Receives old new
 next_receives l old new h =
     receives_then old h.fetched new (same_receives old h.fetched (fetched_same l old h.fetched h.fetches))
-    (record { more = stamped new.shard.clock (came l) h.fetched.shard ∷ []; is = journal_is; receipts = tt })
+    (record { more = stamped new.shard.clock (came_event l) h.fetched.shard ∷ []; is = journal_is; receipts = tt })
   where
-    journal_is : new.shard.journal ≡ stamped new.shard.clock (came l) h.fetched.shard ∷ h.fetched.shard.journal
-    journal_is = ap (λ (d : DeskState). d.shard.journal) h.after ∙ ap (λ n. stamped n (came l) h.fetched.shard ∷ h.fetched.shard.journal) (sym (ap (λ (d : DeskState). d.shard.clock) h.after))
+    journal_is : new.shard.journal ≡ stamped new.shard.clock (came_event l) h.fetched.shard ∷ h.fetched.shard.journal
+    journal_is = ap (λ (d : DeskState). d.shard.journal) h.after ∙ ap (λ n. stamped n (came_event l) h.fetched.shard ∷ h.fetched.shard.journal) (sym (ap (λ (d : DeskState). d.shard.clock) h.after))
 
 all_receive : (ls : List Letter) (old new : DeskState) → HandlesAll ls old new → Receives old new
 all_receive [] old new h = same_receives old new (ap (λ (d : DeskState). d.shard.journal) h)

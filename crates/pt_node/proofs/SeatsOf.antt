@@ -8,7 +8,7 @@ use Rattle.pt_directory.specs.Seats.{DirectoryState, SeatState, reopened_seat}
 use Rattle.pt_accounts.specs.DeskLives.{DeskTable}
 use Rattle.pt_shard.specs.declared.config.Config.{Config}
 use Rattle.pt_shard.specs.ShardState.{ShardState}
-use Rattle.pt_shard.specs.Opening.{fresh}
+use Rattle.pt_shard.specs.Opening.{fresh_shard}
 use Rattle.pt_desk.specs.DeskState.{DeskState}
 use Rattle.pt_desk.proofs.Fresh.{fresh_seated as fresh_seated_desk}
 use Rattle.pt_node.specs.Desks.{AreWhole, all_shards}
@@ -76,6 +76,6 @@ module _ (config : Config) (seats : List Seated) (are : AreFreshSeats config [] 
   fresh_seated shards tables new empty =
       seated_each shards seats tables (new.count ∙ sym (seat_count config [] seats are)) (new.count ∙ sym empty.count) (λ k s p t h.
       subst (λ z. IsSeatOf z (get_or seats k p) (get_or tables k t)) (sym (new.fresh_each k s h))
-      (subst (λ z. IsSeatOf (fresh config k) z (get_or tables k t)) (sym (fresh_seat config [] seats are k p (omega (arith, h, new.count))))
-      (subst (IsSeatOf (fresh config k) (are.directory, reopened_seat are.directory.name [] k)) (sym (empty.fresh_each k t (omega (arith, h, new.count, empty.count))))
+      (subst (λ z. IsSeatOf (fresh_shard config k) z (get_or tables k t)) (sym (fresh_seat config [] seats are k p (omega (arith, h, new.count))))
+      (subst (IsSeatOf (fresh_shard config k) (are.directory, reopened_seat are.directory.name [] k)) (sym (empty.fresh_each k t (omega (arith, h, new.count, empty.count))))
       (fresh_seated_desk config k are.directory are.desks are.slots, refl))))

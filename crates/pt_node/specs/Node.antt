@@ -38,9 +38,9 @@ abbrev pub Inside : {A : Type 0} → (ShardState → Result A Fault → ShardSta
 Inside Does old result new = Does old.shard result new.shard × (new.sight ≡ old.sight)
 
 -- the answer of a desk, as the node gives it
-abbrev pub answered : {A : Type 0} → Result A Fault → Result A NodeFault
-answered (Ok a) = Ok a
-answered (Err f) = Err (Refused f)
+abbrev pub node_answered : {A : Type 0} → Result A Fault → Result A NodeFault
+node_answered (Ok a) = Ok a
+node_answered (Err f) = Err (Refused f)
 
 -- a call of desk d, which does what the desk's own call does
 abbrev pub CallsAt : {A : Type 0} → ℕ → (DeskState → Result A Fault → DeskState → Type 0) → List DeskState

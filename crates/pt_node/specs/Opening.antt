@@ -6,7 +6,7 @@ use Rattle.pt_shard.specs.declared.config.Config.{Config}
 use Rattle.pt_shard.specs.declared.config.OpenError.{OpenError}
 use Rattle.pt_shard.specs.declared.config.OpenError.TheVariants.{Bounds, Memory}
 use Rattle.pt_shard.specs.ShardState.{ShardState}
-use Rattle.pt_shard.specs.Opening.{IsInRange, fresh}
+use Rattle.pt_shard.specs.Opening.{IsInRange, fresh_shard}
 use Rattle.pt_shard.specs.Settings.{IsFirstOut}
 use Rattle.pt_desk.specs.DeskState.{DeskState}
 use Rattle.pt_node.specs.Desks.{AreDesksOf}
@@ -14,7 +14,7 @@ use Rattle.pt_node.specs.Pasts.{GoOnFrom}
 
 pub record AreFreshShards (config : Config) (shards : List ShardState) : Type 0 where
   pub count : length shards ≡ config.desks
-  pub fresh_each : (d : ℕ) (x : ShardState) → d < length shards → slice_index_or shards d x ≡ fresh config d
+  pub fresh_each : (d : ℕ) (x : ShardState) → d < length shards → slice_index_or shards d x ≡ fresh_shard config d
 
 -- the table of a desk before whose journal nobody was
 abbrev pub fresh_table : ℕ → DeskTable
@@ -28,7 +28,7 @@ pub record AreFreshTables (config : Config) (tables : List DeskTable) : Type 0 w
 -- which nothing went, and a directory in which nobody has looked
 pub record AreFresh (config : Config) (desks : List DeskState) : Type 0 where
   pub node : AreDesksOf config desks
-  pub shards : (d : ℕ) (x : DeskState) → d < length desks → (slice_index_or desks d x).shard ≡ fresh config d
+  pub shards : (d : ℕ) (x : DeskState) → d < length desks → (slice_index_or desks d x).shard ≡ fresh_shard config d
   pub ends : (d : ℕ) (x : DeskState) → d < length desks
       → IsNew config.desks config.lane ((slice_index_or desks d x).outs, (slice_index_or desks d x).ins)
   pub unread : (d : ℕ) (x : DeskState) → d < length desks → (slice_index_or desks d x).sight.reads ≡ []

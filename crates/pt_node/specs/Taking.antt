@@ -12,8 +12,8 @@ abbrev pub TakeRelation : Type 0 → Type 1
 TakeRelation T = T → DeskState → Item → T → DeskState → Type 0
 
 -- the first item that fits is asked for, with that answer
-abbrev pub Asks : Pid → Pick → DeskState → Result (Option Item) Fault → DeskState → Type 0
-Asks p pick old answer new =
+abbrev pub AsksForItem : Pid → Pick → DeskState → Result (Option Item) Fault → DeskState → Type 0
+AsksForItem p pick old answer new =
     Calls p (take_event old.shard p pick) (first_match old.shard p pick) old.shard answer new.shard
     × HasSameEnds old new × (new.sight ≡ old.sight)
 
@@ -23,7 +23,7 @@ pub record TakesOne {T : Type 0} (takes : TakeRelation T) (p : Pid) (pick : Pick
   pub item : Item
   -- the desk between the two
   pub taken : DeskState
-  pub asks : Asks p pick old.0 (Ok (Some item)) taken
+  pub asks : AsksForItem p pick old.0 (Ok (Some item)) taken
   pub hands : takes old.1 taken item new.1 new.0
 
 -- so many are, one after the other
@@ -37,7 +37,7 @@ pub record TakesUntil {T : Type 0} (takes : TakeRelation T) (p : Pid) (pick : Pi
     (answer : Result (Option Item) Fault) (old new : DeskState × T) : Type 0 where
   pub mid : DeskState × T
   pub took : TakesMany takes p pick count old mid
-  pub asks : Asks p pick mid.0 answer new.0
+  pub asks : AsksForItem p pick mid.0 answer new.0
   pub same : new.1 ≡ mid.1
 
 -- all that fit, at most so many

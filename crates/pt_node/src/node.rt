@@ -18,7 +18,7 @@ ghost use Rattle.pt_node.specs.Gathering.{Gathers, HasJournalsOf, ReadsAreTrue};
 ghost use Rattle.pt_node.specs.Pasts.{GathersPast};
 ghost use Rattle.pt_node.specs.NodeRunning.{RunsNode};
 ghost use Rattle.pt_node.specs.Running.{AllWork, InRounds, begins_by};
-ghost use Rattle.pt_node.specs.Node.{CallsAt, CallsTo, Inside, OpensNode, ReadsAt, TurnsAll, TurnsAt, answered};
+ghost use Rattle.pt_node.specs.Node.{CallsAt, CallsTo, Inside, OpensNode, ReadsAt, TurnsAll, TurnsAt, node_answered};
 ghost use Rattle.pt_node.specs.Node.{both_turned};
 ghost use Rattle.pt_node.specs.Load.{IsWithinLoad};
 ghost use Rattle.pt_node.specs.Resuming.{Resumes};
@@ -679,7 +679,7 @@ fn both(before: Turned, next: Turned) -> Turned
 
 /// The answer of a desk, as the node gives it.
 fn called<A>(answer: Result<A, Fault>) -> Result<A, NodeFault>
-    ensures { result ≡ answered answer }
+    ensures { result ≡ node_answered answer }
 {
     match answer {
         Ok(value) => Ok(value),

@@ -18,7 +18,7 @@ use Rattle.clap.specs.declared.builder.value_parser.ValueParser.TheVariants.{Uns
 use Rattle.clap.specs.declared.error.kind.ErrorKind.TheVariants.{DisplayHelp, DisplayVersion, InvalidValue, TooManyValues, ValueValidation}
 use Rattle.clap.proofs.OnLiterals.{clap_on_literals}
 use Rattle.clap.proofs.ValueTestLemmas.{accepts-Accepts, Accepts-accepts}
-use Rattle.pt_options.specs.Choosing.{Words, IsCommand, chosen_of, command_with, epochs_of, file_of, number_of, turns_of}
+use Rattle.pt_options.specs.Choosing.{Words, IsCommand, chosen_of, command_with, epochs_of, file_of, number_written, turns_of}
 use Rattle.pt_options.specs.Laws.{AskFor, DefaultsStand, FilesAreNamed, TurnsAreTold, WrongTurnsAreRefused, EpochsAreTold, WrongEpochsAreRefused, ModesAreTold, WrongModesAreRefused, PrintsAreTold, WrongPrintsAreRefused, HelpIsAsked, VersionIsAsked, ExplainingIsTold, ExplainingTakesNoValue, defaults}
 use Rattle.pt_options.proofs.Reading.{false_unless}
 use Rattle.pt_choices.specs.declared.Mode.TheVariants.{Many}
@@ -122,7 +122,7 @@ file_named = (
 )
 
 -- a number in its range is the number that is taken
-taken : (t : Text) → is_unsigned_in 0 MOST_TURNS t ≡ true → turns_of (number_of t) ≡ digits_value 10 (without_leading_plus t)
+taken : (t : Text) → is_unsigned_in 0 MOST_TURNS t ≡ true → turns_of (number_written t) ≡ digits_value 10 (without_leading_plus t)
 taken t ok =
     let h = accepts-Accepts false (Unsigned 0 MOST_TURNS) t ok in
     let is : is_unsigned_in 0 (2 ^ 64) t ≡ true = Accepts-accepts false (Unsigned 0 (2 ^ 64)) t (h.0, h.1, omega arith, omega (arith, h.1)) in
@@ -137,7 +137,7 @@ unfolding clap_on_literals
 turns_refused t bad = of_command (λ x. (name : Text) → fault_of x (name ∷ (codes "--turns=" ++ t) ∷ []) ≡ ValueValidation ∷ []) (λ a b c d e f g i j name. rw bad refl)
 
 -- and so is one of epochs
-taken_epochs : (t : Text) → is_unsigned_in 1 MOST_EPOCHS t ≡ true → epochs_of (number_of t) ≡ digits_value 10 (without_leading_plus t)
+taken_epochs : (t : Text) → is_unsigned_in 1 MOST_EPOCHS t ≡ true → epochs_of (number_written t) ≡ digits_value 10 (without_leading_plus t)
 taken_epochs t ok =
     let h = accepts-Accepts false (Unsigned 1 MOST_EPOCHS) t ok in
     let is : is_unsigned_in 0 (2 ^ 64) t ≡ true = Accepts-accepts false (Unsigned 0 (2 ^ 64)) t (h.0, h.1, omega arith, omega (arith, h.1)) in

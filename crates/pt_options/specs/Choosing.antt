@@ -104,8 +104,8 @@ is_told None = false
 is_told (Some t) = bytes_eq t (codes "true")
 
 -- the number that a text of decimal digits writes, where 64 bits have it
-abbrev pub number_of : Text → Option ℕ
-number_of t = if is_unsigned_in 0 (2 ^ 64) t then Some (digits_value 10 (without_leading_plus t)) else None
+abbrev pub number_written : Text → Option ℕ
+number_written t = if is_unsigned_in 0 (2 ^ 64) t then Some (digits_value 10 (without_leading_plus t)) else None
 
 abbrev pub turns_of : Option ℕ → ℕ
 turns_of number = option_map_or (λ n. min n MOST_TURNS) number 100
@@ -117,8 +117,8 @@ epochs_of number = option_map_or (λ n. max (min n MOST_EPOCHS) 1) number 1
 abbrev pub chosen_of : List Row → Options
 chosen_of rows = record {
   threads = mode_of (first_of (codes "threads") rows);
-  turns = turns_of (option_and_then number_of (one_of (codes "turns") rows));
-  epochs = epochs_of (option_and_then number_of (one_of (codes "epochs") rows));
+  turns = turns_of (option_and_then number_written (one_of (codes "turns") rows));
+  epochs = epochs_of (option_and_then number_written (one_of (codes "epochs") rows));
   print = show_of (first_of (codes "print") rows);
   explain = is_told (first_of (codes "explain") rows);
 }
@@ -129,8 +129,8 @@ file_of rows = first_of (codes "FILE") rows
 
 -- The answer to the words: they are no fault of the command and ask for this, or the error is of the kind of their
 -- first fault, or of want of memory.
-abbrev pub Answers : List Text → Result (Option (String Global) × Options) Error → Type 0
-Answers words (Ok r) =
+abbrev pub WordsGive : List Text → Result (Option (String Global) × Options) Error → Type 0
+WordsGive words (Ok r) =
     (a : App) × IsCommand a × (fault_of a words ≡ []) × (option_map string_bytes r.0 ≡ file_of (matches_of a words))
     × (r.1 ≡ chosen_of (matches_of a words))
-Answers words (Err e) = (kind_of e ≡ OutOfMemory) ⊎ ((a : App) × IsCommand a × IsAmong (kind_of e) (fault_of a words))
+WordsGive words (Err e) = (kind_of e ≡ OutOfMemory) ⊎ ((a : App) × IsCommand a × IsAmong (kind_of e) (fault_of a words))

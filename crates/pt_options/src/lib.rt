@@ -31,7 +31,7 @@ static SHOWS: [&str; 5] = ["summary", "history", "chart", "mermaid", "json"];
 /// [kind](clap::Error::kind) of the error is that of their fault, or tells that there was no memory. What is not named
 /// has its default: one thread, 100 turns, one epoch, the history, and refusals that are not explained.
 pub fn options(alloc: Global, words: Vec<String>) -> Result<(Option<String>, Options), clap::Error>
-    ensures words { spec.Answers (map string_bytes words.items) result }
+    ensures words { spec.WordsGive (map string_bytes words.items) result }
     ensures turns { IfOk result (λ r. r.1.turns ≤ MOST_TURNS) }
     ensures epochs { IfOk result (λ r. (1 ≤ r.1.epochs) × (r.1.epochs ≤ MOST_EPOCHS)) }
 {
@@ -42,7 +42,7 @@ fn options_of<'a>(
     alloc: Global,
     words: &'a [String],
 ) -> Result<(Option<String>, Options), clap::Error>
-    ensures words { spec.Answers (map string_bytes words.now) result }
+    ensures words { spec.WordsGive (map string_bytes words.now) result }
     ensures turns { IfOk result (λ r. r.1.turns ≤ MOST_TURNS) }
     ensures epochs { IfOk result (λ r. (1 ≤ r.1.epochs) × (r.1.epochs ≤ MOST_EPOCHS)) }
 {

@@ -5,5 +5,5 @@ use Rattle.pt_signal.specs.Process.{ProcessState}
 
 -- to whom a process owes something at its end, in the order of what it owes: each linked process, each watcher, each
 -- process that it watches
-abbrev pub peers : ProcessState → List Pid
-peers s = map (λ e. e.0) s.links ++ map (λ k. k.1) s.kept ++ map (λ m. m.1) s.watching
+abbrev pub peers_held : ProcessState → List Pid
+peers_held s = map (λ e. e.0) s.links ++ map (λ k. k.1) s.kept ++ map (λ m. m.1) s.watching

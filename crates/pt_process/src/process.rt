@@ -9,7 +9,7 @@ ghost use Rattle.pt_signal.specs.Process.{fresh, held, holds_any, same_watch, cu
 ghost use Rattle.pt_signal.specs.Process.{estate};
 ghost use Rattle.pt_process.specs.Outcome.{Accepts, IsAnew, has_two, ruled};
 ghost use Rattle.pt_process.specs.Places.{IsFirst, IsFirstPlace};
-ghost use Rattle.pt_process.specs.Peers.{peers};
+ghost use Rattle.pt_process.specs.Peers.{peers_held};
 
 use crate::{Entries, Estate, ExitSignal, Mailbox, Outcome, Verdict};
 use pt_signal::{Ids, Item, LinkId, Pick, Pid, Reason, Ref, Signal};
@@ -167,15 +167,15 @@ impl Process {
     /// How many signals it would owe at its end.
     pub fn owed_len(&self) -> usize
         ensures signals { (reason : Reason) → result ≡ length (estate self.now.me self.now.state reason) }
-        ensures peers { result ≡ length (peers self.now.state) }
+        ensures peers { result ≡ length (peers_held self.now.state) }
     {
         self.links.len() + self.kept.len() + self.watching.len()
     }
 
     /// To whom the signal with this number would go that it would owe at its end. Nothing that can be read changes.
     pub fn owed_to(&mut self, i: usize) -> Pid
-        requires { i < length (peers self.old.state) }
-        ensures to { slice_get (peers self.old.state) i ≡ Some result }
+        requires { i < length (peers_held self.old.state) }
+        ensures to { slice_get (peers_held self.old.state) i ≡ Some result }
         ensures me { self.new.me ≡ self.old.me }
         ensures state { self.new.state ≡ self.old.state }
     {

@@ -64,13 +64,13 @@ item_members (Item.Alive m from x) =
     codes "\"item\":\"alive\",\"ref\":\"" ++ ref_text m ++ codes "\",\"from\":\"" ++ pid_text from
     ++ codes "\",\"alive\":" ++ truth x
 
-unfoldable pub pick_members : Pick → List ℕ
-pick_members Pick.Any = codes "\"pick\":\"any\""
-pick_members (Pick.Kind k) = codes "\"pick\":\"kind\",\"of\":" ++ decimal k
-pick_members (Pick.From p) = codes "\"pick\":\"from\",\"of\":\"" ++ pid_text p ++ codes "\""
-pick_members (Pick.ExitOf p) = codes "\"pick\":\"exit-of\",\"of\":\"" ++ pid_text p ++ codes "\""
-pick_members (Pick.DownOf m) = codes "\"pick\":\"down-of\",\"of\":\"" ++ ref_text m ++ codes "\""
-pick_members (Pick.AliveOf m) = codes "\"pick\":\"alive-of\",\"of\":\"" ++ ref_text m ++ codes "\""
+unfoldable pub pick_json : Pick → List ℕ
+pick_json Pick.Any = codes "\"pick\":\"any\""
+pick_json (Pick.Kind k) = codes "\"pick\":\"kind\",\"of\":" ++ decimal k
+pick_json (Pick.From p) = codes "\"pick\":\"from\",\"of\":\"" ++ pid_text p ++ codes "\""
+pick_json (Pick.ExitOf p) = codes "\"pick\":\"exit-of\",\"of\":\"" ++ pid_text p ++ codes "\""
+pick_json (Pick.DownOf m) = codes "\"pick\":\"down-of\",\"of\":\"" ++ ref_text m ++ codes "\""
+pick_json (Pick.AliveOf m) = codes "\"pick\":\"alive-of\",\"of\":\"" ++ ref_text m ++ codes "\""
 
 abbrev pub parent_member : Option Pid → List ℕ
 parent_member None = codes ""
@@ -89,7 +89,7 @@ event_members (Born p parent link) =
 event_members (Said a b x) = codes "\"event\":\"said\"," ++ route_members a b ++ codes "," ++ signal_members x
 event_members (Came a b x) = codes "\"event\":\"came\"," ++ route_members a b ++ codes "," ++ signal_members x
 event_members (Took p k i) =
-    codes "\"event\":\"took\",\"pid\":\"" ++ pid_text p ++ codes "\"," ++ pick_members k ++ codes "," ++ item_members i
+    codes "\"event\":\"took\",\"pid\":\"" ++ pid_text p ++ codes "\"," ++ pick_json k ++ codes "," ++ item_members i
 event_members (Flag p on) = codes "\"event\":\"flag\",\"pid\":\"" ++ pid_text p ++ codes "\",\"on\":" ++ truth on
 event_members (Left p r) =
     codes "\"event\":\"left\",\"pid\":\"" ++ pid_text p ++ codes "\",\"reason\":\"" ++ reason_text r ++ codes "\""

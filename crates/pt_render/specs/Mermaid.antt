@@ -19,8 +19,8 @@ use Rattle.pt_events.specs.declared.event.Event.TheVariants.{Born, Said, Came, T
 use Rattle.pt_events.specs.declared.event.Stamped.{Stamped}
 
 -- the name of a process's column, `p0_1_1`
-unfoldable pub place_text : Pid → List ℕ
-place_text p = codes "p" ++ decimal p.shard ++ codes "_" ++ decimal p.slot ++ codes "_" ++ decimal p.version
+unfoldable pub column_name_text : Pid → List ℕ
+column_name_text p = codes "p" ++ decimal p.shard ++ codes "_" ++ decimal p.slot ++ codes "_" ++ decimal p.version
 
 -- values as they are shown ----------------------------------------------------------------------
 
@@ -81,22 +81,22 @@ switch_label false = codes "off"
 
 -- where a birth shows: as a note, or as an arrow from the process that made it
 abbrev pub bearing_text : Pid → Option Pid → List ℕ
-bearing_text p None = codes "Note over " ++ place_text p
-bearing_text p (Some parent) = place_text parent ++ codes "->>" ++ place_text p
+bearing_text p None = codes "Note over " ++ column_name_text p
+bearing_text p (Some parent) = column_name_text parent ++ codes "->>" ++ column_name_text p
 
 abbrev pub note_text : Pid → List ℕ
-note_text p = codes "    Note over " ++ place_text p
+note_text p = codes "    Note over " ++ column_name_text p
 
 -- what stands before the time of an event; a birth names the column of its process in a line of its own
 unfoldable pub scene_text : Event → List ℕ
 scene_text (Born p parent link) =
-    codes "    participant " ++ place_text p ++ codes " as " ++ pid_label p ++ codes "\n    " ++ bearing_text p parent
-scene_text (Said a b x) = codes "    " ++ place_text a ++ codes "--)" ++ place_text b
-scene_text (Came a b x) = codes "    " ++ place_text a ++ codes "-)" ++ place_text b
+    codes "    participant " ++ column_name_text p ++ codes " as " ++ pid_label p ++ codes "\n    " ++ bearing_text p parent
+scene_text (Said a b x) = codes "    " ++ column_name_text a ++ codes "--)" ++ column_name_text b
+scene_text (Came a b x) = codes "    " ++ column_name_text a ++ codes "-)" ++ column_name_text b
 scene_text (Took p k i) = note_text p
 scene_text (Flag p on) = note_text p
 scene_text (Left p r) = note_text p
-scene_text (Refused a b) = codes "    " ++ place_text a ++ codes "--x" ++ place_text b
+scene_text (Refused a b) = codes "    " ++ column_name_text a ++ codes "--x" ++ column_name_text b
 
 -- what stands behind it
 unfoldable pub deed_text : Event → List ℕ
@@ -115,5 +115,5 @@ mermaid_text s =
 -- a letter that did not come, with the stamp of its sending
 unfoldable pub mermaid_left_over_text : Letter → List ℕ
 mermaid_left_over_text l =
-    codes "    " ++ place_text l.from ++ codes "-x" ++ place_text l.to ++ codes ": left-over " ++ signal_label l.signal
+    codes "    " ++ column_name_text l.from ++ codes "-x" ++ column_name_text l.to ++ codes ": left-over " ++ signal_label l.signal
     ++ codes " @" ++ decimal l.stamp

@@ -11,7 +11,7 @@
 //!
 //! Each value is a `Display`, and what it prints is its contract: `specs/Json` and `specs/Mermaid` have the texts. None
 //! ends with a line feed, and none needs memory.
-#![tactic(auto, unfolding(crate::specs::Json::body_members, crate::specs::Json::links_member, crate::specs::Json::signal_members, crate::specs::Json::item_members, crate::specs::Json::pick_members, crate::specs::Json::event_members, crate::specs::Json::letter_members, crate::specs::Json::left_over_members, crate::specs::Json::json_text, crate::specs::Json::json_left_over_text, crate::specs::Mermaid::place_text, crate::specs::Mermaid::pid_label, crate::specs::Mermaid::ref_label, crate::specs::Mermaid::body_label, crate::specs::Mermaid::signal_label, crate::specs::Mermaid::item_label, crate::specs::Mermaid::pick_label, crate::specs::Mermaid::scene_text, crate::specs::Mermaid::deed_text, crate::specs::Mermaid::mermaid_text, crate::specs::Mermaid::mermaid_left_over_text))]
+#![tactic(auto, unfolding(crate::specs::Json::body_members, crate::specs::Json::links_member, crate::specs::Json::signal_members, crate::specs::Json::item_members, crate::specs::Json::pick_json, crate::specs::Json::event_members, crate::specs::Json::letter_members, crate::specs::Json::left_over_members, crate::specs::Json::json_text, crate::specs::Json::json_left_over_text, crate::specs::Mermaid::column_name_text, crate::specs::Mermaid::pid_label, crate::specs::Mermaid::ref_label, crate::specs::Mermaid::body_label, crate::specs::Mermaid::signal_label, crate::specs::Mermaid::item_label, crate::specs::Mermaid::pick_label, crate::specs::Mermaid::scene_text, crate::specs::Mermaid::deed_text, crate::specs::Mermaid::mermaid_text, crate::specs::Mermaid::mermaid_left_over_text))]
 
 mod json;
 mod labels;

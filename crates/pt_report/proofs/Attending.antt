@@ -17,16 +17,16 @@ use Rattle.pt_script.specs.Plans.{Whole}
 use Rattle.pt_choices.specs.declared.Options.{Options}
 use Rattle.pt_runner.specs.declared.runner.Runner.{Runner}
 use Rattle.pt_runner.specs.Acting.{RunnerDoes}
-use Rattle.pt_runner.specs.Waiting.{Attends, RunnerSteps}
+use Rattle.pt_runner.specs.Waiting.{RunnerAttends, RunnerSteps}
 use Rattle.pt_runner.proofs.Waiting.{knows_later}
 use Rattle.pt_report.specs.Epochs.{CanBegin, PassEpochs, Staffed}
-use Rattle.pt_report.specs.Reports.{IsBegun}
+use Rattle.pt_report.specs.Reports.{RunIsBegun}
 
 abbrev Pair : Type 0
 Pair = DeskState × Runner
 
 abbrev IsAttended : Pair → Type 0
-IsAttended p = Attends p.1 p.0.shard
+IsAttended p = RunnerAttends p.1 p.0.shard
 
 abbrev pub AllAttended : List Pair → Type 0
 AllAttended pairs = (d : ℕ) (x : Pair) → d < length pairs → IsAttended (get_or pairs d x)
@@ -40,7 +40,7 @@ turn_does budget old new attended h =
     let on = turn_goes_on h.stepped t.posted_desk t.last new.0 t.letters h.turned.stopped h.turned.handled budget t.posts t.handles t.ends in
     let r = h.worked in (
       record { stepped = h.stepped; worked = r; step = so.0; goes_on = h.goes_on; turned = h.turned; turn = t; hears = h.hears },
-      subst (λ (x : Runner). Attends x new.0.shard) (sym {A = Runner} h.hears)
+      subst (λ (x : Runner). RunnerAttends x new.0.shard) (sym {A = Runner} h.hears)
           (inr (inr (knows_later r.script.now.processes r.pids.items r.actors.items r.came.items r.read h.stepped.shard new.0.shard on.shard so.1))),
     )
 
@@ -131,7 +131,7 @@ attended desks runners pairs (inr bare) paired = λ d x lt.
     elim (none_read (get_or pairs d x).0.shard.journal (get_or pairs d x).1.read none) [ inl e ↦ inl e | inr l ↦ inr (inl l) ]
 
 -- the node that the script begins with
-pub begun_begins : (script : Whole) (first : Staffed) → IsBegun script first → CanBegin first.0 first.1
+pub begun_begins : (script : Whole) (first : Staffed) → RunIsBegun script first → CanBegin first.0 first.1
 begun_begins script first begun = inl (λ d r lt. (begun.runners.each d r (omega (arith, lt, begun.runners.counted))).unread)
 
 -- a desk that goes on has an empty journal

@@ -14,10 +14,10 @@ use Rattle.pt_choices.specs.declared.Options.{Options}
 use Rattle.pt_choices.specs.declared.Show.TheVariants.{Summary}
 use Rattle.pt_report.specs.declared.fault.ReportFault.{ReportFault}
 use Rattle.pt_report.specs.declared.fault.ReportFault.TheVariants.{Script, Memory, Desk, File}
-use Rattle.pt_report.specs.Status.{told, stopped, IsOfPrint}
+use Rattle.pt_report.specs.Status.{told_fault, stopped_fault, IsOfPrint}
 use Rattle.pt_report.specs.Reports.{BirthRefused, IsNodeOf, IsOfRun, IsOfStart, IsOfSummary, IsRefusedAs}
 
-pub told_of_start : (script : Whole) (fault : Fault) → BirthRefused script fault → IsOfStart script (told fault)
+pub told_of_start : (script : Whole) (fault : Fault) → BirthRefused script fault → IsOfStart script (told_fault fault)
 told_of_start script DeskMemory b = tt
 told_of_start script Full b = b
 told_of_start script Worn b = b
@@ -25,7 +25,7 @@ told_of_start script Gone b = absurd b.2.3
 told_of_start script Myself b = absurd b.2.3
 told_of_start script NoProc b = absurd b.2.3
 
-pub stopped_of_summary : (g last : GatheredState) (stop : Stop) → SettlingStops (length g.shards) stop g last → IsOfSummary g (stopped stop)
+pub stopped_of_summary : (g last : GatheredState) (stop : Stop) → SettlingStops (length g.shards) stop g last → IsOfSummary g (stopped_fault stop)
 stopped_of_summary g last StopMemory s = tt
 stopped_of_summary g last StopWorn s = (last, s)
 

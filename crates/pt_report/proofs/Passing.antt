@@ -26,14 +26,14 @@ use Rattle.pt_script.specs.Scripts.{reading}
 use Rattle.pt_choices.specs.declared.Options.{Options}
 use Rattle.pt_choices.specs.declared.Show.{Show}
 use Rattle.pt_choices.specs.declared.Show.TheVariants.{Summary, History, Chart, Mermaid, Json}
-use Rattle.pt_report.specs.Lines.{line, lines, left_lines, head_text, history_text}
+use Rattle.pt_report.specs.Lines.{line, lines, left_lines, form_head, history_text}
 use Rattle.pt_report.specs.declared.form.Form.{Form}
 use Rattle.pt_report.specs.declared.form.Form.TheVariants.{Lines, Diagram, Objects}
 use Rattle.pt_report.specs.Epochs.{Staffed, RunsOn, PassEpochs, AreAt, IsWrittenAs, HasWritten, IsOfEnd, IsOfEpoch, IsOfEpochs}
 use Rattle.pt_runner.specs.declared.runner.Runner.{Runner}
 use Rattle.pt_report.specs.Called.{called_by}
-use Rattle.pt_report.specs.Reports.{HasWrittenOf, IsBegun, IsNodeOf, IsOfRun, IsOfStart, IsRun, Reports, Shows, Tells}
-use Rattle.pt_report.specs.Status.{IsOfPrint, stopped}
+use Rattle.pt_report.specs.Reports.{HasWrittenOf, RunIsBegun, IsNodeOf, IsOfRun, IsOfStart, IsRun, Reports, ReportShows, ReportTells}
+use Rattle.pt_report.specs.Status.{IsOfPrint, stopped_fault}
 use Rattle.pt_report.specs.Summaries.{SummarizesAs}
 use Rattle.pt_report.specs.declared.fault.ReportFault.{ReportFault}
 use Rattle.pt_report.specs.declared.fault.ReportFault.TheVariants.{Script, Memory, Desk, File}
@@ -59,7 +59,7 @@ settings_after options budget config (suc n) first histories now node (mid, befo
     (record epoch.ends.settled.config { start = latest_stamp epoch.ends.settled }, epoch.ends.goes_on.node, ap (λ (c : Config). record c { start = 0 }) settled ∙ at.2)
 
 -- the node that a script was run on
-pub node_of : (options : Options) (script : Whole) (n : ℕ) (first : Staffed) (histories : List Stamped) (last ran : Staffed) (g : GatheredState) → IsBegun script first → PassEpochs options script.settings.budget n first histories last → RunsOn options script.settings.budget last ran → Gathers ran.0 g → IsRun n options script histories g ran.1
+pub node_of : (options : Options) (script : Whole) (n : ℕ) (first : Staffed) (histories : List Stamped) (last ran : Staffed) (g : GatheredState) → RunIsBegun script first → PassEpochs options script.settings.budget n first histories last → RunsOn options script.settings.budget last ran → Gathers ran.0 g → IsRun n options script histories g ran.1
 node_of options script n first histories last ran g begun passed runs gathers =
     let budget = script.settings.budget in
     let at = settings_after options budget (config_of script.settings) n first histories last (config_of script.settings, begun.node, refl) passed in (
@@ -121,7 +121,7 @@ module _ {W : Type 0} (contents : W → Option (List ℕ)) where
   written options budget n first hs now old new kept same within passed at = behind options budget n first hs now old new kept options.print refl same within passed at
 
 -- what is printed of the last epoch stands behind the histories
-history_joined : (form : Form) → head_text form ≡ [] → (old mid new : Option (List ℕ)) (hs h : List Stamped) (left : List LeftOver) → Appends old mid (lines form hs) → Appends mid new (history_text form h left) → Appends old new (history_text form (hs ++ h) left)
+history_joined : (form : Form) → form_head form ≡ [] → (old mid new : Option (List ℕ)) (hs h : List Stamped) (left : List LeftOver) → Appends old mid (lines form hs) → Appends mid new (history_text form h left) → Appends old new (history_text form (hs ++ h) left)
 history_joined form none old mid new hs h left before last =
     let plain : (es : List Stamped) → history_text form es left ≡ lines form es ++ left_lines form left = λ es. ap (λ z. z ++ (lines form es ++ left_lines form left)) none in
     let joined : lines form hs ++ (lines form h ++ left_lines form left) ≡ lines form (hs ++ h) ++ left_lines form left = sym (append_assoc (lines form hs) (lines form h) (left_lines form left)) ∙ ap (λ z. z ++ left_lines form left) (sym (lines_joined form hs h)) in
@@ -133,37 +133,37 @@ module _ {W : Type 0} (contents : W → Option (List ℕ)) where
   Printed form kept g mid new = (h : List Stamped) × IsMerge (journals g) (reverse h) × Appends (contents mid) (contents new) (history_text form (kept ++ h) (all_left g))
 
   -- the lines of this form stand behind those of the epochs before
-  tells_lines : (form : Form) → head_text form ≡ [] → (hs : List Stamped) (g : GatheredState) (first mid new : W) (kept : List Stamped) → Appends (contents first) (contents mid) (lines form hs) → kept ≡ [] → Printed form kept g mid new → Tells form hs g (contents first) (contents new)
+  tells_lines : (form : Form) → form_head form ≡ [] → (hs : List Stamped) (g : GatheredState) (first mid new : W) (kept : List Stamped) → Appends (contents first) (contents mid) (lines form hs) → kept ≡ [] → Printed form kept g mid new → ReportTells form hs g (contents first) (contents new)
   tells_lines form none hs g first mid new kept before empty x =
       (x.0, x.1, history_joined form none (contents first) (contents mid) (contents new) hs x.0 (all_left g) before (subst (λ k. Appends (contents mid) (contents new) (history_text form (k ++ x.0) (all_left g))) empty x.2))
 
-  pub shows_history : (explain : Bool) (print : Show) → print ≡ History → (hs : List Stamped) (called : List (Pid × List ℕ)) (g : GatheredState) (first mid new : W) (kept : List Stamped) → AreAt contents print hs first kept mid → Printed Lines kept g mid new → Shows explain print hs called g (contents first) (contents new)
+  pub shows_history : (explain : Bool) (print : Show) → print ≡ History → (hs : List Stamped) (called : List (Pid × List ℕ)) (g : GatheredState) (first mid new : W) (kept : List Stamped) → AreAt contents print hs first kept mid → Printed Lines kept g mid new → ReportShows explain print hs called g (contents first) (contents new)
   shows_history explain print is hs called g first mid new kept at x =
       let a = subst (λ p. AreAt contents p hs first kept mid) is at in
-      subst (λ p. Shows explain p hs called g (contents first) (contents new)) (sym is) (tells_lines Lines refl hs g first mid new kept a.0 a.1 x)
+      subst (λ p. ReportShows explain p hs called g (contents first) (contents new)) (sym is) (tells_lines Lines refl hs g first mid new kept a.0 a.1 x)
 
-  pub shows_json : (explain : Bool) (print : Show) → print ≡ Json → (hs : List Stamped) (called : List (Pid × List ℕ)) (g : GatheredState) (first mid new : W) (kept : List Stamped) → AreAt contents print hs first kept mid → Printed Objects kept g mid new → Shows explain print hs called g (contents first) (contents new)
+  pub shows_json : (explain : Bool) (print : Show) → print ≡ Json → (hs : List Stamped) (called : List (Pid × List ℕ)) (g : GatheredState) (first mid new : W) (kept : List Stamped) → AreAt contents print hs first kept mid → Printed Objects kept g mid new → ReportShows explain print hs called g (contents first) (contents new)
   shows_json explain print is hs called g first mid new kept at x =
       let a = subst (λ p. AreAt contents p hs first kept mid) is at in
-      subst (λ p. Shows explain p hs called g (contents first) (contents new)) (sym is) (tells_lines Objects refl hs g first mid new kept a.0 a.1 x)
+      subst (λ p. ReportShows explain p hs called g (contents first) (contents new)) (sym is) (tells_lines Objects refl hs g first mid new kept a.0 a.1 x)
 
-  pub shows_mermaid : (explain : Bool) (print : Show) → print ≡ Mermaid → (hs : List Stamped) (called : List (Pid × List ℕ)) (g : GatheredState) (first mid new : W) (kept : List Stamped) → AreAt contents print hs first kept mid → Printed Diagram kept g mid new → Shows explain print hs called g (contents first) (contents new)
+  pub shows_mermaid : (explain : Bool) (print : Show) → print ≡ Mermaid → (hs : List Stamped) (called : List (Pid × List ℕ)) (g : GatheredState) (first mid new : W) (kept : List Stamped) → AreAt contents print hs first kept mid → Printed Diagram kept g mid new → ReportShows explain print hs called g (contents first) (contents new)
   shows_mermaid explain print is hs called g first mid new kept at x =
       let a = subst (λ p. AreAt contents p hs first kept mid) is at in
       let text = history_text Diagram (hs ++ x.0) (all_left g) in
-      subst (λ p. Shows explain p hs called g (contents first) (contents new)) (sym is) (x.0, x.1, subst (λ m. Appends (contents m) (contents new) text) a.0 (subst (λ k. Appends (contents mid) (contents new) (history_text Diagram (k ++ x.0) (all_left g))) a.1 x.2))
+      subst (λ p. ReportShows explain p hs called g (contents first) (contents new)) (sym is) (x.0, x.1, subst (λ m. Appends (contents m) (contents new) text) a.0 (subst (λ k. Appends (contents mid) (contents new) (history_text Diagram (k ++ x.0) (all_left g))) a.1 x.2))
 
   pub shows_chart : (explain : Bool) (print : Show) → print ≡ Chart → (hs : List Stamped) (called : List (Pid × List ℕ)) (g : GatheredState) (first mid new : W) (kept : List Stamped) → AreAt contents print hs first kept mid
-      → ((h : List Stamped) × IsMerge (journals g) (reverse h) × (text : List ℕ) × IsChart (kept ++ h) called text × Appends (contents mid) (contents new) text) → Shows explain print hs called g (contents first) (contents new)
+      → ((h : List Stamped) × IsMerge (journals g) (reverse h) × (text : List ℕ) × IsChart (kept ++ h) called text × Appends (contents mid) (contents new) text) → ReportShows explain print hs called g (contents first) (contents new)
   shows_chart explain print is hs called g first mid new kept at x =
       let a = subst (λ p. AreAt contents p hs first kept mid) is at in
-      subst (λ p. Shows explain p hs called g (contents first) (contents new)) (sym is) (x.0, x.1, x.2, subst (λ z. IsChart (z ++ x.0) called x.2) a.1 x.3, subst (λ m. Appends (contents m) (contents new) x.2) a.0 x.4)
+      subst (λ p. ReportShows explain p hs called g (contents first) (contents new)) (sym is) (x.0, x.1, x.2, subst (λ z. IsChart (z ++ x.0) called x.2) a.1 x.3, subst (λ m. Appends (contents m) (contents new) x.2) a.0 x.4)
 
   pub shows_summary : (explain : Bool) (print : Show) → print ≡ Summary → (hs : List Stamped) (called : List (Pid × List ℕ)) (g : GatheredState) (first mid new : W) (kept : List Stamped) → AreAt contents print hs first kept mid
-      → SummarizesAs explain g (contents mid) (contents new) → Shows explain print hs called g (contents first) (contents new)
+      → SummarizesAs explain g (contents mid) (contents new) → ReportShows explain print hs called g (contents first) (contents new)
   shows_summary explain print is hs called g first mid new kept at x =
       let a = subst (λ p. AreAt contents p hs first kept mid) is at in
-      subst (λ p. Shows explain p hs called g (contents first) (contents new)) (sym is) (subst (λ m. SummarizesAs explain g (contents m) (contents new)) a.0 x)
+      subst (λ p. ReportShows explain p hs called g (contents first) (contents new)) (sym is) (subst (λ m. SummarizesAs explain g (contents m) (contents new)) a.0 x)
 
   pub history_reported : (r : Result (Unit {0}) ReportFault) (bytes : List ℕ) (options : Options) (script : Whole) (hs : List Stamped) (g : GatheredState) (first mid new : W) (kept : List Stamped) → reading bytes ≡ Ok script → IsNodeOf (options.epochs - 1) options script hs g
       → AreAt contents options.print hs first kept mid → options.print ≡ History → OnOk r (Printed Lines kept g mid new) → OnOk r (Reports bytes options (contents first) (contents new))
@@ -201,7 +201,7 @@ module _ {W : Type 0} (contents : W → Option (List ℕ)) where
 
   -- what was written before stays, where a later fault leaves the writer as it was
   pub untouched : (r : Result (Unit {0}) ReportFault) (bytes : List ℕ) (options : Options) (script : Whole) (first mid new : W) → reading bytes ≡ Ok script
-      → (mid ≡ first) ⊎ ((begun : Staffed) × IsBegun script begun × HasWritten options script.settings.budget begun (contents first) (contents mid)) → IfErr r (λ f. f ≢ File → new ≡ mid)
+      → (mid ≡ first) ⊎ ((begun : Staffed) × RunIsBegun script begun × HasWritten options script.settings.budget begun (contents first) (contents mid)) → IfErr r (λ f. f ≢ File → new ≡ mid)
       → IfErr r (λ f. f ≢ File → (new ≡ first) ⊎ HasWrittenOf bytes options (contents first) (contents new))
   untouched (Ok u) bytes options script first mid new read told h = tt
   untouched (Err e) bytes options script first mid new read (inl same) h = λ other. inl (h other ∙ same)
@@ -210,7 +210,7 @@ module _ {W : Type 0} (contents : W → Option (List ℕ)) where
 
 -- faults ----------------------------------------------------------------------------------
 
-pub stopped_of_end : (ran : List DeskState) (g last : GatheredState) (stop : Stop) → Gathers ran g → SettlingStops (length g.shards) stop g last → IsOfEnd ran (stopped stop)
+pub stopped_of_end : (ran : List DeskState) (g last : GatheredState) (stop : Stop) → Gathers ran g → SettlingStops (length g.shards) stop g last → IsOfEnd ran (stopped_fault stop)
 stopped_of_end ran g last StopMemory gathers stops = tt
 stopped_of_end ran g last StopWorn gathers stops = (g, gathers, last, stops)
 
@@ -245,7 +245,7 @@ of_put options budget first File is = tt
 of_put options budget first (Desk f) is = absurd is
 of_put options budget first (Script e) is = absurd is
 
-pub run_of_epochs : (options : Options) (script : Whole) (first : Staffed) (f : ReportFault) → IsBegun script first → IsOfEpochs options script.settings.budget first f → IsOfRun options script f
+pub run_of_epochs : (options : Options) (script : Whole) (first : Staffed) (f : ReportFault) → RunIsBegun script first → IsOfEpochs options script.settings.budget first f → IsOfRun options script f
 run_of_epochs options script first Memory begun is = tt
 run_of_epochs options script first File begun is = tt
 run_of_epochs options script first (Desk Worn) begun (n, within, hs, now, passed, (ran, runs, (g, gathers, last, stops))) =

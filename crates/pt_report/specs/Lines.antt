@@ -16,10 +16,10 @@ use Rattle.pt_report.specs.declared.form.Form.TheVariants.{Lines, Diagram, Objec
 use Rattle.pt_report.specs.declared.totals.Totals.{Totals}
 
 -- the first line of a diagram; the other forms have none
-abbrev pub head_text : Form → List ℕ
-head_text Lines = []
-head_text Diagram = codes "sequenceDiagram\n"
-head_text Objects = []
+abbrev pub form_head : Form → List ℕ
+form_head Lines = []
+form_head Diagram = codes "sequenceDiagram\n"
+form_head Objects = []
 
 -- one event, and a line feed
 abbrev pub line : Form → Stamped → List ℕ
@@ -42,16 +42,16 @@ left_lines form letters = flat_map (left_line form) letters
 
 -- a history: the events, then the letters left over
 abbrev pub history_text : Form → List Stamped → List LeftOver → List ℕ
-history_text form events letters = head_text form ++ (lines form events ++ left_lines form letters)
+history_text form events letters = form_head form ++ (lines form events ++ left_lines form letters)
 
-unfoldable pub fate_text : Option Reason → List ℕ
-fate_text None = codes "alive"
-fate_text (Some r) = codes "ended " ++ reason_text r
+unfoldable pub ending_text : Option Reason → List ℕ
+ending_text None = codes "alive"
+ending_text (Some r) = codes "ended " ++ reason_text r
 
 -- what became of a process: PID alive arrived A taken T waiting W
 unfoldable pub account_text : Pid → Account → List ℕ
 account_text p a =
-    pid_text p ++ codes " " ++ fate_text a.ended ++ codes " arrived " ++ decimal a.arrived ++ codes " taken "
+    pid_text p ++ codes " " ++ ending_text a.ended ++ codes " arrived " ++ decimal a.arrived ++ codes " taken "
     ++ decimal a.taken ++ codes " waiting " ++ decimal a.waiting
 
 -- the last line of a summary

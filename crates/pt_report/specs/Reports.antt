@@ -17,13 +17,13 @@ use Rattle.pt_node.specs.Gathering.{Gathers}
 use Rattle.pt_script.specs.Called.{names_in}
 use Rattle.pt_script.specs.Plans.{Whole}
 use Rattle.pt_script.specs.Scripts.{reading}
-use Rattle.pt_script.specs.Lists.{Refuses}
+use Rattle.pt_script.specs.Lists.{ScriptRefuses}
 use Rattle.pt_choices.specs.declared.Options.{Options}
 use Rattle.pt_choices.specs.declared.Show.{Show}
 use Rattle.pt_choices.specs.declared.Show.TheVariants.{Summary, History, Chart, Mermaid, Json}
 use Rattle.pt_script.specs.Nodes.{config_of}
 use Rattle.pt_runner.specs.declared.runner.Runner.{Runner}
-use Rattle.pt_runner.specs.Starting.{Begins, AreRunners, BornUntil}
+use Rattle.pt_runner.specs.Starting.{StartBegins, AreRunners, BornUntil}
 use Rattle.pt_chart.specs.Drawing.{IsChart}
 use Rattle.pt_report.specs.Called.{called_by}
 use Rattle.pt_report.specs.Epochs.{Staffed, RunsOn, PassEpochs, HasWritten}
@@ -36,10 +36,10 @@ use Rattle.pt_report.specs.declared.fault.ReportFault.TheVariants.{Script, Memor
 
 -- the node that a script is run on: desks with its settings, on which its processes were born in order, and nothing
 -- else had happened, each with its runner
-pub record IsBegun (script : Whole) (first : Staffed) : Type 0 where
+pub record RunIsBegun (script : Whole) (first : Staffed) : Type 0 where
   pub node : AreDesksOf (config_of script.settings) first.0
   pub born : List Pid
-  pub begins : Begins script.tops (length script.tops) born first.0
+  pub begins : StartBegins script.tops (length script.tops) born first.0
   pub runners : AreRunners script born (length first.0) first.1
 
 -- The node is one that the script was run on: so many epochs had passed, with these histories; then its desks were run
@@ -49,7 +49,7 @@ pub record IsNodeOf (epochs : ℕ) (options : Options) (script : Whole) (histori
   -- it has the script's settings, and its clocks began where the epoch did
   pub config : record g.config { start = 0 } ≡ config_of script.settings
   pub first : Staffed
-  pub begun : IsBegun script first
+  pub begun : RunIsBegun script first
   pub last : Staffed
   pub passed : PassEpochs options script.settings.budget epochs first histories last
   pub ran : Staffed
@@ -62,20 +62,20 @@ IsRun epochs options script histories g runners =
     (node : IsNodeOf epochs options script histories g) × (node.ran.1 ≡ runners)
 
 -- the histories of epochs and that of the node were written in this form, and then the letters left over
-abbrev pub Tells : Form → List Stamped → GatheredState → Option (List ℕ) → Option (List ℕ) → Type 0
-Tells form histories g old new =
+abbrev pub ReportTells : Form → List Stamped → GatheredState → Option (List ℕ) → Option (List ℕ) → Type 0
+ReportTells form histories g old new =
     (h : List Stamped) × IsMerge (journals g) (reverse h)
     × Appends old new (history_text form (histories ++ h) (all_left g))
 
 -- What stands in the writer now, beyond what stood there before, is what is asked for of the node, and of the histories
 -- of the epochs before its own; in a chart processes are called so, and a summary is explained where that is asked for.
-abbrev pub Shows : Bool → Show → List Stamped → List (Pid × List ℕ) → GatheredState → Option (List ℕ)
+abbrev pub ReportShows : Bool → Show → List Stamped → List (Pid × List ℕ) → GatheredState → Option (List ℕ)
     → Option (List ℕ) → Type 0
-Shows explain Summary histories called g old new = SummarizesAs explain g old new
-Shows explain History histories called g old new = Tells Lines histories g old new
-Shows explain Mermaid histories called g old new = Tells Diagram histories g old new
-Shows explain Json histories called g old new = Tells Objects histories g old new
-Shows explain Chart histories called g old new =
+ReportShows explain Summary histories called g old new = SummarizesAs explain g old new
+ReportShows explain History histories called g old new = ReportTells Lines histories g old new
+ReportShows explain Mermaid histories called g old new = ReportTells Diagram histories g old new
+ReportShows explain Json histories called g old new = ReportTells Objects histories g old new
+ReportShows explain Chart histories called g old new =
     (h : List Stamped) × IsMerge (journals g) (reverse h) × (text : List ℕ) × IsChart (histories ++ h) called text
     × Appends old new text
 
@@ -87,7 +87,7 @@ pub record Reports (bytes : List ℕ) (options : Options) (old new : Option (Lis
   pub histories : List Stamped
   pub node : GatheredState
   pub is_node : IsNodeOf (options.epochs - 1) options script histories node
-  pub shows : Shows options.explain options.print histories (called_by (names_in bytes) is_node.ran.1) node old new
+  pub shows : ReportShows options.explain options.print histories (called_by (names_in bytes) is_node.ran.1) node old new
 
 -- refusals ------------------------------------------------------------------------------
 
@@ -114,7 +114,7 @@ IsRefusedBy options script _ = ⊥
 
 -- the bytes are refused with this error; any other fault comes only where they are a script
 abbrev pub IsRefusedAs : List ℕ → Options → ReportFault → Type 0
-IsRefusedAs bytes options (Script error) = Refuses error (reading bytes)
+IsRefusedAs bytes options (Script error) = ScriptRefuses error (reading bytes)
 IsRefusedAs bytes options (Desk fault) =
     (script : Whole) × (reading bytes ≡ Ok script) × IsRefusedBy options script fault
 IsRefusedAs bytes options _ = (script : Whole) × (reading bytes ≡ Ok script)
@@ -122,7 +122,7 @@ IsRefusedAs bytes options _ = (script : Whole) × (reading bytes ≡ Ok script)
 -- the bytes are a script, and the histories of one epoch and more of a node that it was run on are written
 abbrev pub HasWrittenOf : List ℕ → Options → Option (List ℕ) → Option (List ℕ) → Type 0
 HasWrittenOf bytes options old new =
-    (script : Whole) × (reading bytes ≡ Ok script) × (first : Staffed) × IsBegun script first
+    (script : Whole) × (reading bytes ≡ Ok script) × (first : Staffed) × RunIsBegun script first
     × HasWritten options script.settings.budget first old new
 
 -- a fault of a script that is run: also of writing the histories of epochs

@@ -15,14 +15,14 @@ status_of (Script (Refused fault place)) = 1
 status_of _ = 3
 
 -- what a desk's refusal is told as
-abbrev pub told : Fault → ReportFault
-told DeskMemory = Memory
-told fault = Desk fault
+abbrev pub told_fault : Fault → ReportFault
+told_fault DeskMemory = Memory
+told_fault fault = Desk fault
 
 -- what is told where settling stops
-abbrev pub stopped : Stop → ReportFault
-stopped StopMemory = Memory
-stopped StopWorn = Desk DeskWorn
+abbrev pub stopped_fault : Stop → ReportFault
+stopped_fault StopMemory = Memory
+stopped_fault StopWorn = Desk DeskWorn
 
 -- a fault of printing what stands in a node: of memory, or of the writer
 abbrev pub IsOfPrint : ReportFault → Type 0

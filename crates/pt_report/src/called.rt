@@ -1,7 +1,7 @@
 //! What the processes of a script are called.
 
 ghost use Rattle.std.specs.Prelude.{◌≡◌, [], ◌++◌, IfOk, OnOk, map, slice_index_or, string_bytes};
-ghost use Rattle.pt_chart.specs.Drawing.{given};
+ghost use Rattle.pt_chart.specs.Drawing.{called_given};
 ghost use Rattle.pt_report.specs.Called as spec;
 
 use pt_chart::Called;
@@ -16,7 +16,7 @@ pub(crate) fn called_by<'a>(
     runners: &[Runner<'_>],
 ) -> Result<Vec<Called<'a>>, AllocError>
     ensures { IfOk result
-        (λ called. map given called.items ≡ spec.called_by (map string_bytes names.now) runners.now) }
+        (λ called. map called_given called.items ≡ spec.called_by (map string_bytes names.now) runners.now) }
 {
     let mut called = Vec::new(alloc);
     for desk in 0..runners.len() {
@@ -32,8 +32,8 @@ fn call_those_on<'a>(
     runner: &Runner<'_>,
     called: &mut Vec<Called<'a>>,
 ) -> Result<(), AllocError>
-    ensures { OnOk result (map given called.new.items
-        ≡ map given called.old.items ++ spec.called_on (map string_bytes names.now) desk runner.now) }
+    ensures { OnOk result (map called_given called.new.items
+        ≡ map called_given called.old.items ++ spec.called_on (map string_bytes names.now) desk runner.now) }
 {
     let pids = runner.pids();
     for process in 0..pids.len() {
@@ -50,8 +50,8 @@ fn call<'a>(
     pid: Option<Pid>,
     called: &mut Vec<Called<'a>>,
 ) -> Result<(), AllocError>
-    ensures { OnOk result (map given called.new.items
-        ≡ map given called.old.items ++ spec.called_one (map string_bytes names.now) desk process pid) }
+    ensures { OnOk result (map called_given called.new.items
+        ≡ map called_given called.old.items ++ spec.called_one (map string_bytes names.now) desk process pid) }
 {
     let Some(pid) = pid else {
         return Ok(());

@@ -78,9 +78,9 @@ impl From<AllocError> for ReportFault {
 
 impl From<Fault> for ReportFault {
     ghost use Rattle.std.specs.Prelude.{◌≡◌};
-    ghost use Rattle.pt_report.specs.Status.{told};
+    ghost use Rattle.pt_report.specs.Status.{told_fault};
 
-    ghost from_gives = { λ fault f. f ≡ told fault };
+    ghost from_gives = { λ fault f. f ≡ told_fault fault };
 
     fn from(fault: Fault) -> ReportFault {
         match fault {
@@ -92,9 +92,9 @@ impl From<Fault> for ReportFault {
 
 impl From<Stop> for ReportFault {
     ghost use Rattle.std.specs.Prelude.{◌≡◌};
-    ghost use Rattle.pt_report.specs.Status.{stopped};
+    ghost use Rattle.pt_report.specs.Status.{stopped_fault};
 
-    ghost from_gives = { λ stop f. f ≡ stopped stop };
+    ghost from_gives = { λ stop f. f ≡ stopped_fault stop };
 
     fn from(stop: Stop) -> ReportFault {
         match stop {

@@ -2,7 +2,7 @@
 
 ghost use Rattle.std.specs.Prelude.{◌≡◌, OnOk};
 ghost use Rattle.std.specs.Io.KnownBytes.{Appends};
-ghost use Rattle.pt_report.specs.Lines.{head_text, left_line, line};
+ghost use Rattle.pt_report.specs.Lines.{form_head, left_line, line};
 
 use pt_node::{LeftOver, Stamped};
 use pt_render::{JsonEvent, JsonLeftOver, MERMAID_HEAD, MermaidEvent, MermaidLeftOver};
@@ -23,7 +23,7 @@ pub(crate) enum Form {
 /// Writes what stands before all events.
 #[tactic(auto, using(crate::proofs::Writing::appends_nothing))]
 pub(crate) fn write_head<W: Write>(out: &mut W, form: Form) -> io::Result<()>
-    ensures { OnOk result (Appends (W.contents out.old) (W.contents out.new) (head_text form)) }
+    ensures { OnOk result (Appends (W.contents out.old) (W.contents out.new) (form_head form)) }
 {
     match form {
         Form::Diagram => writeln!(out, "{MERMAID_HEAD}"),

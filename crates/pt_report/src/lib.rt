@@ -32,7 +32,7 @@
 //! # Writers
 //!
 //! Each line is a few writes, so the writer should be a buffered one. It is flushed before [`report`] answers `Ok`.
-#![tactic(auto, unfolding(crate::specs::Lines::fate_text, crate::specs::Lines::account_text, crate::specs::Lines::totals_text))]
+#![tactic(auto, unfolding(crate::specs::Lines::ending_text, crate::specs::Lines::account_text, crate::specs::Lines::totals_text))]
 
 mod called;
 mod chart;

@@ -4,7 +4,7 @@ ghost use Rattle.std.specs.Prelude.{◌≡◌, ◌≢◌, ◌⊎◌, ◌-◌, []
 ghost use Rattle.pt_events.specs.declared.event.Stamped.{Stamped};
 ghost use Rattle.pt_report.specs.Epochs as spec;
 ghost use Rattle.pt_report.specs.Epochs.{CanBegin, HasWritten, RunsOn, Staffed};
-ghost use Rattle.pt_report.specs.Reports.{IsBegun, IsOfRun, IsRun};
+ghost use Rattle.pt_report.specs.Reports.{RunIsBegun, IsOfRun, IsRun};
 ghost use Rattle.pt_report.specs.declared.fault.ReportFault.TheVariants.{File, Memory};
 
 use crate::epochs::pass_epochs;
@@ -33,10 +33,10 @@ pub(crate) fn run_script<'a, R: Threads + Sync, W: Write>(
         × IsRun (options.now.epochs - 1) options.now script.now histories r.0 r.1.items
         × spec.AreAt W.contents options.now.print histories out.old kept.new.items out.new) }
     ensures fault { IfErr result (IsOfRun options.now script.now) }
-    ensures told { OnOk result ((out.new ≡ out.old) ⊎ ((first : Staffed) × IsBegun script.now first
+    ensures told { OnOk result ((out.new ≡ out.old) ⊎ ((first : Staffed) × RunIsBegun script.now first
         × HasWritten options.now script.now.settings.budget first (W.contents out.old) (W.contents out.new))) }
     ensures untouched { IfErr result (λ f. f ≢ File → (out.new ≡ out.old) ⊎ ((first : Staffed)
-        × IsBegun script.now first
+        × RunIsBegun script.now first
         × HasWritten options.now script.now.settings.budget first (W.contents out.old) (W.contents out.new))) }
 {
     // the settings of a script are in their ranges, so memory is all that can be wanting
@@ -66,16 +66,16 @@ fn run_epochs<'a, R: Threads + Sync, W: Write>(
     kept: &mut Vec<Stamped>,
     out: &mut W,
 ) -> Result<(Gathered, Vec<Runner<'a>>), ReportFault>
-    requires begun { IsBegun script.now (node, runners.items) }
+    requires begun { RunIsBegun script.now (node, runners.items) }
     requires empty { kept.old.items ≡ [] }
     ensures node { IfOk result (λ r. (histories : List Stamped)
         × IsRun (options.now.epochs - 1) options.now script.now histories r.0 r.1.items
         × spec.AreAt W.contents options.now.print histories out.old kept.new.items out.new) }
     ensures fault { IfErr result (IsOfRun options.now script.now) }
-    ensures told { OnOk result ((out.new ≡ out.old) ⊎ ((first : Staffed) × IsBegun script.now first
+    ensures told { OnOk result ((out.new ≡ out.old) ⊎ ((first : Staffed) × RunIsBegun script.now first
         × HasWritten options.now script.now.settings.budget first (W.contents out.old) (W.contents out.new))) }
     ensures untouched { IfErr result (λ f. f ≢ File → (out.new ≡ out.old) ⊎ ((first : Staffed)
-        × IsBegun script.now first
+        × RunIsBegun script.now first
         × HasWritten options.now script.now.settings.budget first (W.contents out.old) (W.contents out.new))) }
 {
     let mut runners = runners;

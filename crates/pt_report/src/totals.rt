@@ -28,9 +28,9 @@ struct Fate(Option<Reason>);
 
 impl fmt::Display for Fate {
     ghost use Rattle.std.specs.Prelude.{Some};
-    ghost use Rattle.pt_report.specs.Lines.{fate_text};
+    ghost use Rattle.pt_report.specs.Lines.{ending_text};
 
-    ghost output = { λ f. Some (fate_text f.0) };
+    ghost output = { λ f. Some (ending_text f.0) };
 
     fn fmt<W: fmt::Write>(&self, f: &mut fmt::Formatter<W>) -> fmt::Result {
         match self.0 {

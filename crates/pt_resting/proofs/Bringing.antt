@@ -3,7 +3,7 @@ use Rattle.std.proofs.Common.{◌≡◌, inl, true, false, List, [], ◌∷◌, 
 use Rattle.pt_signal.specs.declared.pid.Pid.{Pid}
 use Rattle.pt_desk.specs.DeskState.{DeskState}
 use Rattle.pt_resting.specs.declared.door.Post.{Post}
-use Rattle.pt_resting.specs.Bringing.{Tells, IsDone, SendsOn, Keeps, BringsFirst, Brings}
+use Rattle.pt_resting.specs.Bringing.{PorterTells, IsDone, SendsOn, KeepsFront, BringsFirst, Brings}
 
 pub sends_then : (me : Pid) (first second : List Post) (d mid e : DeskState) → SendsOn me first d mid → SendsOn me second mid e → SendsOn me (first ++ second) d e
 sends_then me [] second d mid e a b = subst (λ (x : DeskState). SendsOn me second x e) a b
@@ -35,5 +35,5 @@ until me us before mid after d m e same (taken, keeps) s = record {
   taken = taken ∙ s.taken;
   mid = m;
   sends = s.sends;
-  keeps = subst (λ (x : Pid). Keeps x m e) (sym same) keeps;
+  keeps = subst (λ (x : Pid). KeepsFront x m e) (sym same) keeps;
 }

@@ -14,8 +14,8 @@ use Rattle.pt_crew.specs.Telling.{IfKnown}
 use Rattle.pt_resting.specs.declared.door.Post.{Post}
 
 -- the desk was asked to send the message of `me`, and answered so
-abbrev pub Tells : Pid → Post → DeskState → Result ⊤ Fault → DeskState → Type 0
-Tells me post d answer e =
+abbrev pub PorterTells : Pid → Post → DeskState → Result ⊤ Fault → DeskState → Type 0
+PorterTells me post d answer e =
     IfKnown (knows d.shard post.to)
     (Reaches (lives d.shard me) me post.to
     (Calls me (Some (Said me post.to (Message post.body))) tt d.shard answer e.shard) d answer e)
@@ -29,18 +29,18 @@ IsDone answer = (answer ≡ Ok tt) ⊎ (answer ≡ Err NoProc)
 abbrev pub SendsOn : Pid → List Post → DeskState → DeskState → Type 0
 SendsOn me [] d e = e ≡ d
 SendsOn me (post ∷ posts) d e =
-    (mid : DeskState) × (answer : Result ⊤ Fault) × Tells me post d answer mid × IsDone answer × SendsOn me posts mid e
+    (mid : DeskState) × (answer : Result ⊤ Fault) × PorterTells me post d answer mid × IsDone answer × SendsOn me posts mid e
 
 -- nothing was sent on: none waited, or the desk refused it for another cause, and it stays
-abbrev pub Keeps : Pid → DeskState → DeskState → Type 0
-Keeps me d e =
-    (e ≡ d) ⊎ ((post : Post) × (answer : Result ⊤ Fault) × Tells me post d answer e × (IsDone answer → ⊥))
+abbrev pub KeepsFront : Pid → DeskState → DeskState → Type 0
+KeepsFront me d e =
+    (e ≡ d) ⊎ ((post : Post) × (answer : Result ⊤ Fault) × PorterTells me post d answer e × (IsDone answer → ⊥))
 
 -- the first that waits is taken out and sent on, or stays; of what was taken out before and after
 abbrev pub BringsFirst : Pid → List Post → DeskState → Bool → List Post → DeskState → Type 0
 BringsFirst me before d true after e =
     (post : Post) × (after ≡ before ++ post ∷ []) × SendsOn me (post ∷ []) d e
-BringsFirst me before d false after e = (after ≡ before) × Keeps me d e
+BringsFirst me before d false after e = (after ≡ before) × KeepsFront me d e
 
 -- What was taken out of the way in, in its order, was sent on, each once, and nothing else was; what is refused for
 -- want of memory or stamps, or since `me` has ended, stays in front of what waits.
@@ -49,4 +49,4 @@ pub record Brings (me : Pid) (before : List Post) (d : DeskState) (after : List 
   pub taken : after ≡ before ++ posts
   pub mid : DeskState
   pub sends : SendsOn me posts d mid
-  pub keeps : Keeps me mid e
+  pub keeps : KeepsFront me mid e

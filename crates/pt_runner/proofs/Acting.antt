@@ -22,16 +22,16 @@ use Rattle.pt_runner.specs.declared.calls.Progress.TheVariants.{Done, Stays}
 use Rattle.pt_shard.specs.ShardState.{ShardState}
 use Rattle.pt_runner.specs.declared.calls.Progress.{Progress}
 use Rattle.pt_runner.specs.declared.runner.Actor.{Actor}
-use Rattle.pt_runner.specs.Acting.{came_of, CallsAt, ReachesAt, Takes, taken_of, Demonitors, MonitorsAt, AsksAt, got, Performs, Acting, Table, acting, set_acting, with_child, newborn, Plays, DoesOperation, ActsAt, EachActs}
+use Rattle.pt_runner.specs.Acting.{came_of, CallsTarget, ReachesAt, Takes, taken_of, Demonitors, MonitorsAt, AsksAt, ref_got, Performs, Acting, PidTable, acting, set_acting, with_born, newborn_actor, Plays, DoesOperation, ActsAt, EachActs}
 
 -- calls on a target ------------------------------------------------------------------------
 
-pub passed_at : (at : Option Pid) (p : Pid) (event : Pid → Option Event) (old : ShardState) → at ≡ None → CallsAt at p event old Done old
-passed_at at p event old is = subst (λ (o : Option Pid). CallsAt o p event old Done old) (sym is) (refl, refl)
+pub passed_at : (at : Option Pid) (p : Pid) (event : Pid → Option Event) (old : ShardState) → at ≡ None → CallsTarget at p event old Done old
+passed_at at p event old is = subst (λ (o : Option Pid). CallsTarget o p event old Done old) (sym is) (refl, refl)
 
-pub call_at : (at : Option Pid) (t p : Pid) (event : Pid → Option Event) (e : Option Event) (old new : ShardState) (answer : Result (Unit {0}) Fault) (progress : Progress) → at ≡ Some t → e ≡ event t → Calls p e (tt {0}) old answer new → progress ≡ came_of answer → CallsAt at p event old progress new
+pub call_at : (at : Option Pid) (t p : Pid) (event : Pid → Option Event) (e : Option Event) (old new : ShardState) (answer : Result (Unit {0}) Fault) (progress : Progress) → at ≡ Some t → e ≡ event t → Calls p e (tt {0}) old answer new → progress ≡ came_of answer → CallsTarget at p event old progress new
 call_at at t p event e old new answer progress is same calls came =
-    subst (λ (o : Option Pid). CallsAt o p event old progress new) (sym is) (answer, subst (λ (f : Option Event). Calls p f (tt {0}) old answer new) same calls, came)
+    subst (λ (o : Option Pid). CallsTarget o p event old progress new) (sym is) (answer, subst (λ (f : Option Event). Calls p f (tt {0}) old answer new) same calls, came)
 
 -- calls that reach for a target: what the desk says of one is what the runner says
 
@@ -77,7 +77,7 @@ pub no_target : (p : Pid) (at : Option Pid) (old : ShardState) (references after
 no_target p at old references after is e = subst (λ (o : Option Pid). MonitorsAt p o old references Done old after) (sym is) (inr ((refl, refl), e))
 
 pub monitor_at : (p : Pid) (at : Option Pid) (t : Pid) (old new : DeskState) (references after : List (Option Ref)) (answer : Result Ref Fault) (progress : Progress) → at ≡ Some t
-    → Reaches (has_monitor_to_make old.shard p t) p t (Monitors p t old.shard answer new.shard) old answer new → progress ≡ came_of answer → after ≡ references ++ got answer → MonitorsAt p at old.shard references progress new.shard after
+    → Reaches (has_monitor_to_make old.shard p t) p t (Monitors p t old.shard answer new.shard) old answer new → progress ≡ came_of answer → after ≡ references ++ ref_got answer → MonitorsAt p at old.shard references progress new.shard after
 monitor_at p at t old new references after answer progress is reaches came noted =
     subst (λ (o : Option Pid). MonitorsAt p o old.shard references progress new.shard after) (sym is)
     (inr (answer, reached (has_monitor_to_make old.shard p t) p t (Monitors p t old.shard answer new.shard) old answer new reaches, came, noted))
@@ -89,7 +89,7 @@ ask_no_room p (Some t) old references after e = inl (refl, refl, e)
 pub ask_no_target : (p : Pid) (at : Option Pid) (old : ShardState) (references after : List (Option Ref)) → at ≡ None → after ≡ references ++ None ∷ [] → AsksAt p at old references Done old after
 ask_no_target p at old references after is e = subst (λ (o : Option Pid). AsksAt p o old references Done old after) (sym is) (inr ((refl, refl), e))
 
-pub ask_at : (p : Pid) (at : Option Pid) (t : Pid) (old new : ShardState) (references after : List (Option Ref)) (answer : Result Ref Fault) (progress : Progress) → at ≡ Some t → Calls p (Some (Said p t (AliveAsk (new_ref old)))) (new_ref old) old answer new → progress ≡ came_of answer → after ≡ references ++ got answer → AsksAt p at old references progress new after
+pub ask_at : (p : Pid) (at : Option Pid) (t : Pid) (old new : ShardState) (references after : List (Option Ref)) (answer : Result Ref Fault) (progress : Progress) → at ≡ Some t → Calls p (Some (Said p t (AliveAsk (new_ref old)))) (new_ref old) old answer new → progress ≡ came_of answer → after ≡ references ++ ref_got answer → AsksAt p at old references progress new after
 ask_at p at t old new references after answer progress is calls came noted =
     subst (λ (o : Option Pid). AsksAt p o old references progress new after) (sym is) (inr (answer, calls, came, noted))
 
@@ -99,7 +99,7 @@ pub performs_as : (pids : List (Option Pid)) (p : Pid) (o named : Operation) (ol
 performs_as pids p o named old references progress new after is h = subst (λ (x : Operation). Performs pids p x old references progress new after) (sym is) h
 
 -- an operation that is no spawn
-pub acts_plain : (o : Operation) (i : ℕ) (a b : Acting) (t u : Table) (old new : ShardState) → ((process : ℕ) (linked : Bool) → o ≢ Spawn process linked) → Plays t.pids o a old b new → u ≡ set_acting i b t → DoesOperation o i a t old u new
+pub acts_plain : (o : Operation) (i : ℕ) (a b : Acting) (t u : PidTable) (old new : ShardState) → ((process : ℕ) (linked : Bool) → o ≢ Spawn process linked) → Plays t.pids o a old b new → u ≡ set_acting i b t → DoesOperation o i a t old u new
 acts_plain (Send to kind num who) i a b t u old new plain plays is = (b, plays, is)
 acts_plain (Receive pattern) i a b t u old new plain plays is = (b, plays, is)
 acts_plain (Check pattern) i a b t u old new plain plays is = (b, plays, is)
@@ -116,7 +116,7 @@ acts_plain Pass i a b t u old new plain plays is = (b, plays, is)
 
 -- tables ------------------------------------------------------------------------------------
 
-abbrev pub table_of : List Plan → List (Option Pid) → List Actor → Table
+abbrev pub table_of : List Plan → List (Option Pid) → List Actor → PidTable
 table_of plans pids actors = record { plans = plans; pids = pids; actors = map acting actors }
 
 pub set_actor : (plans : List Plan) (pids : List (Option Pid)) (actors : List Actor) (i : ℕ) (a : Actor) → table_of plans pids (set actors i a) ≡ set_acting i (acting a) (table_of plans pids actors)
@@ -133,8 +133,8 @@ pub same_at : {X : Type 0} (xs : List X) (i : ℕ) (x y : X) → i < length xs �
 same_at xs i x y lt ex ey = ex ∙ get_or_default xs i x y lt ∙ sym ey
 
 -- a child is listed beside the same processes
-pub with_child_same : (process : ℕ) (answer : Result Pid Fault) (plans : List Plan) (pids : List (Option Pid)) (xs ys : List Actor) → xs ≡ ys → with_child process answer (table_of plans pids xs) ≡ with_child process answer (table_of plans pids ys)
-with_child_same process answer plans pids xs ys e = ap (λ (zs : List Actor). with_child process answer (table_of plans pids zs)) e
+pub with_child_same : (process : ℕ) (answer : Result Pid Fault) (plans : List Plan) (pids : List (Option Pid)) (xs ys : List Actor) → xs ≡ ys → with_born process answer (table_of plans pids xs) ≡ with_born process answer (table_of plans pids ys)
+with_child_same process answer plans pids xs ys e = ap (λ (zs : List Actor). with_born process answer (table_of plans pids zs)) e
 
 pub some_at : (xs : List Acting) (i : ℕ) → i < length xs → (a : Acting) × (get_or xs i a ≡ a)
 some_at [] i lt = absurd (omega (arith, lt))
@@ -142,13 +142,13 @@ some_at (x ∷ xs) zero lt = (x, refl)
 some_at (x ∷ xs) (suc i) lt = some_at xs i (omega (arith, lt))
 
 -- those that stood there before a child was listed
-pub child_behind : (process : ℕ) (answer : Result Pid Fault) (t : Table) (i : ℕ) (d : Acting) → i < length t.actors → get_or (with_child process answer t).actors i d ≡ get_or t.actors i d
-child_behind process (Ok p) t i d lt = get_or_append_left t.actors (newborn t.plans process p ∷ []) d i lt
+pub child_behind : (process : ℕ) (answer : Result Pid Fault) (t : PidTable) (i : ℕ) (d : Acting) → i < length t.actors → get_or (with_born process answer t).actors i d ≡ get_or t.actors i d
+child_behind process (Ok p) t i d lt = get_or_append_left t.actors (newborn_actor t.plans process p ∷ []) d i lt
 child_behind process (Err fault) t i d lt = refl
 
 -- a step --------------------------------------------------------------------------------------
 
-pub each_acts_then : (i : ℕ) (t between u : Table) (old mid new : ShardState) → EachActs i t old between mid → ActsAt i between mid u new → EachActs (i + 1) t old u new
+pub each_acts_then : (i : ℕ) (t between u : PidTable) (old mid new : ShardState) → EachActs i t old between mid → ActsAt i between mid u new → EachActs (i + 1) t old u new
 each_acts_then i t between u old mid new each one = subst (λ n. EachActs n t old u new) (sym (add-one i)) (between, mid, each, one)
 
 living_case : (test : Pid → Bool) (a : Actor) (actors : List Actor) (b : Bool) → test a.pid ≡ b → map acting (filter (λ (x : Actor). test x.pid) actors) ≡ filter (λ (x : Acting). test x.pid) (map acting actors) → map acting (filter (λ (x : Actor). test x.pid) (a ∷ actors)) ≡ filter (λ (x : Acting). test x.pid) (map acting (a ∷ actors))

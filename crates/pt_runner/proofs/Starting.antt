@@ -1,7 +1,7 @@
 -- Births one after the other.
 use Rattle.std.proofs.Common.{◌≡◌, ◌≢◌, ⊎_elim, ℕ, zero, suc, ◌+◌, ◌<◌, List, [], ◌∷◌, ◌++◌, Bool, true, false, cond, length, length-append, map, get_or, set, take, Option, Some, None, Result, Ok, Err, refl, ap, sym, subst, ◌∙◌, append-nil, arith, lit<}
 use Rattle.std.specs.Prelude.{◌==◌, ◌≤◌, filter, fold, reverse, IsSome, IsErrAnd, Vec}
-use Rattle.pt_script.specs.Sound.{IsSound, TopFits}
+use Rattle.pt_script.specs.Sound.{IsSoundScript, TopFits}
 use Rattle.pt_script.specs.Plans.{Plan, Whole}
 use Rattle.pt_script.specs.Nodes.{config_of}
 use Rattle.std.specs.List.{All}
@@ -17,7 +17,7 @@ use Rattle.pt_shard.specs.declared.fault.Fault.{Fault}
 use Rattle.pt_shard.specs.declared.fault.Fault.TheVariants.{Full, Memory, Worn, Gone, Myself, NoProc}
 use Rattle.pt_shard.specs.ShardState.{ShardState, past}
 use Rattle.pt_shard.specs.Calls.{Bears, CanWrite, IsWorn}
-use Rattle.pt_shard.specs.Opening.{fresh}
+use Rattle.pt_shard.specs.Opening.{fresh_shard}
 use Rattle.pt_desk.specs.DeskState.{DeskState, IsDesk, GoesOn}
 use Rattle.pt_node.specs.Desks.{AreDesksOf}
 use Rattle.pt_node.proofs.StillDesks.{still_node}
@@ -25,8 +25,8 @@ use Rattle.pt_node.specs.Opening.{AreFresh}
 use Rattle.pt_script.specs.declared.values.Top.{Top}
 use Rattle.pt_runner.specs.declared.runner.Actor.{Actor}
 use Rattle.pt_runner.specs.declared.runner.Runner.{Runner}
-use Rattle.pt_runner.specs.Acting.{Acting, acting, table, newborn}
-use Rattle.pt_runner.specs.Starting.{on, birth, Begins, IsRunnerOf, named, put_pid, numbered, starter, starters, is_on, AtNext, BirthsStop, BornUntil, BearsList, Starts}
+use Rattle.pt_runner.specs.Acting.{Acting, acting, table, newborn_actor}
+use Rattle.pt_runner.specs.Starting.{on, birth, StartBegins, IsRunnerOf, named_tops, put_pid, numbered_pids, starter, starters, is_on, AtNext, BirthsStop, BornUntil, BearsList, Starts}
 
 -- the desks of a node -----------------------------------------------------------------
 
@@ -63,7 +63,7 @@ births_other e born p h =
 -- births on the desks ------------------------------------------------------------------------
 
 pub record Begun (config : Config) (tops : List Top) (count : ℕ) (born : List Pid) (desks : List DeskState) : Type 0 where
-  pub begins : Begins tops count born desks
+  pub begins : StartBegins tops count born desks
   pub node : AreDesksOf config desks
   pub numbers : (d : ℕ) (x : DeskState) → d < length desks → (get_or desks d x).shard.number ≡ d
 
@@ -119,8 +119,8 @@ module _ (config : Config) (tops : List Top) (count : ℕ) (born : List Pid) (de
 
   -- a process is born there
   pub begun_more : (t : Top) (p : Pid) → count < length tops → get_or tops count t ≡ t → t.desk ≡ d → p.shard ≡ y.shard.number → Bears None None old.shard (Ok p) y.shard → Begun config tops (count + 1) (born ++ p ∷ []) (set desks d y)
-  begun_more t p some top_is desk_is numbered bears =
-      let mine : p.shard ≡ d = numbered ∙ went.shard.number ∙ ap (λ (z : DeskState). z.shard.number) (sym (read old)) ∙ begun.numbers d old within in
+  begun_more t p some top_is desk_is numbered_pids bears =
+      let mine : p.shard ≡ d = numbered_pids ∙ went.shard.number ∙ ap (λ (z : DeskState). z.shard.number) (sym (read old)) ∙ begun.numbers d old within in
       let first : past y.shard ≡ birth p ∷ past old.shard = ap past bears.2 in
       record {
         begins = record {
@@ -170,21 +170,21 @@ are_at w born tops i none nobody same enough within =
     }
 
 -- one more of the list, with its pid
-named_more : (w : Whole) (born : List Pid) (i : ℕ) (t : Top) (p : Pid) → AreAt w born i t p → take (i + 1) (named w born) ≡ take i (named w born) ++ (t, p) ∷ []
+named_more : (w : Whole) (born : List Pid) (i : ℕ) (t : Top) (p : Pid) → AreAt w born i t p → take (i + 1) (named_tops w born) ≡ take i (named_tops w born) ++ (t, p) ∷ []
 named_more w born i t p here =
-    take_more (named w born) i (t, p) (omega (arith, length-zip w.tops born, here.few, here.within))
-    ∙ ap (λ (one : Top × Pid). take i (named w born) ++ one ∷ [])
+    take_more (named_tops w born) i (t, p) (omega (arith, length-zip w.tops born, here.few, here.within))
+    ∙ ap (λ (one : Top × Pid). take i (named_tops w born) ++ one ∷ [])
     (get_or-zip w.tops born i (t, p) here.few here.within ∙ ap (λ (u : Top). (u, get_or born i p)) (sym here.top) ∙ ap (λ (q : Pid). (t, q)) (sym here.pid))
 
-pub named_all : (w : Whole) (born : List Pid) (i : ℕ) → length born ≤ i → take i (named w born) ≡ named w born
-named_all w born i all = take_all i (named w born) (omega (arith, length-zip w.tops born, all))
+pub named_all : (w : Whole) (born : List Pid) (i : ℕ) → length born ≤ i → take i (named_tops w born) ≡ named_tops w born
+named_all w born i all = take_all i (named_tops w born) (omega (arith, length-zip w.tops born, all))
 
 -- its number gets its pid
 pub numbered_more : (w : Whole) (born : List Pid) (i : ℕ) (t : Top) (p : Pid) (start pids : List (Option Pid)) → AreAt w born i t p
-    → pids ≡ fold put_pid start (take i (named w born)) → set pids t.process (Some p) ≡ fold put_pid start (take (i + 1) (named w born))
+    → pids ≡ fold put_pid start (take i (named_tops w born)) → set pids t.process (Some p) ≡ fold put_pid start (take (i + 1) (named_tops w born))
 numbered_more w born i t p start pids here so_far =
     ap (λ (all : List (Option Pid)). set all t.process (Some p)) so_far
-    ∙ sym (fold-append put_pid start (take i (named w born)) ((t, p) ∷ []))
+    ∙ sym (fold-append put_pid start (take i (named_tops w born)) ((t, p) ∷ []))
     ∙ ap (fold put_pid start) (sym (named_more w born i t p here))
 
 -- where it is of the desk, it is a starter there
@@ -197,33 +197,33 @@ starters_more plans d ones one = ap (map (starter plans)) (filter-append (is_on 
 
 -- the actors are those of the first i of the list that are of desk d
 abbrev pub Listed : Whole → List Pid → ℕ → ℕ → List Actor → Type 0
-Listed w born d i actors = map acting actors ≡ starters w.processes d (take i (named w born))
+Listed w born d i actors = map acting actors ≡ starters w.processes d (take i (named_tops w born))
 
 module _ (w : Whole) (born : List Pid) (d i : ℕ) (t : Top) (p : Pid) (actors : List Actor) (here : AreAt w born i t p) (listed : Listed w born d i actors) where
-  lists : (b : Bool) → (p.shard == d) ≡ b → starters w.processes d (take (i + 1) (named w born)) ≡ starters w.processes d (take i (named w born)) ++ cond b (starter w.processes (t, p) ∷ []) []
+  lists : (b : Bool) → (p.shard == d) ≡ b → starters w.processes d (take (i + 1) (named_tops w born)) ≡ starters w.processes d (take i (named_tops w born)) ++ cond b (starter w.processes (t, p) ∷ []) []
   lists b h =
-      ap (starters w.processes d) (named_more w born i t p here) ∙ starters_more w.processes d (take i (named w born)) (t, p)
-      ∙ ap (λ (xs : List Acting). starters w.processes d (take i (named w born)) ++ xs) (one_starter w.processes d (t, p) b h)
+      ap (starters w.processes d) (named_more w born i t p here) ∙ starters_more w.processes d (take i (named_tops w born)) (t, p)
+      ∙ ap (λ (xs : List Acting). starters w.processes d (take i (named_tops w born)) ++ xs) (one_starter w.processes d (t, p) b h)
 
-  pub listed_here : (a : Actor) → p.shard ≡ d → acting a ≡ newborn w.processes t.process p → Listed w born d (i + 1) (actors ++ a ∷ [])
+  pub listed_here : (a : Actor) → p.shard ≡ d → acting a ≡ newborn_actor w.processes t.process p → Listed w born d (i + 1) (actors ++ a ∷ [])
   listed_here a same new =
       map-append acting actors (a ∷ []) ∙ ap (λ (xs : List Acting). xs ++ acting a ∷ []) listed
-      ∙ ap (λ (x : Acting). starters w.processes d (take i (named w born)) ++ x ∷ []) new ∙ sym (lists true (eq-eqb p.shard d same))
+      ∙ ap (λ (x : Acting). starters w.processes d (take i (named_tops w born)) ++ x ∷ []) new ∙ sym (lists true (eq-eqb p.shard d same))
 
   pub listed_beside : p.shard ≢ d → Listed w born d (i + 1) actors
   listed_beside apart =
       let no : (p.shard == d) ≡ false = unequal p.shard d apart (p.shard == d) refl in
-      listed ∙ sym (lists false no ∙ append-nil (starters w.processes d (take i (named w born))))
+      listed ∙ sym (lists false no ∙ append-nil (starters w.processes d (take i (named_tops w born))))
 
 -- the runner that has all that were listed
-pub runner_made : (w : Whole) (born : List Pid) (d i : ℕ) (actors : List Actor) (pids : List (Option Pid)) (r : Runner) → length born ≤ i → Listed w born d i actors → pids ≡ numbered w born
+pub runner_made : (w : Whole) (born : List Pid) (d i : ℕ) (actors : List Actor) (pids : List (Option Pid)) (r : Runner) → length born ≤ i → Listed w born d i actors → pids ≡ numbered_pids w born
     → r.script.now ≡ w → r.read ≡ 0 → table r ≡ record { plans = w.processes; pids = pids; actors = map acting actors } → IsRunnerOf w born d r
 runner_made w born d i actors pids r all listed numbers script unread made = record {
   script = script;
   unread = unread;
   table =
       made ∙ ap (λ (ps : List (Option Pid)). record { plans = w.processes; pids = ps; actors = map acting actors }) numbers
-      ∙ ap (λ (xs : List Acting). record { plans = w.processes; pids = numbered w born; actors = xs }) (listed ∙ ap (starters w.processes d) (named_all w born i all));
+      ∙ ap (λ (xs : List Acting). record { plans = w.processes; pids = numbered_pids w born; actors = xs }) (listed ∙ ap (starters w.processes d) (named_all w born i all));
 }
 
 all_at : {X : Type 0} (P : X → Type 0) (xs : List X) (i : ℕ) (d : X) → All P xs → i < length xs → P (get_or xs i d)
@@ -232,7 +232,7 @@ all_at P (x ∷ xs) zero d all lt = All-head P x xs all
 all_at P (x ∷ xs) (suc i) d all lt = all_at P xs i d (All-tail P x xs all) (omega (arith, lt))
 
 -- the desk of a process of the script's list is one of the node
-pub desk_within : (w : Whole) (desks : List DeskState) (i : ℕ) (d : Top) → IsSound w → AreDesksOf (config_of w.settings) desks → i < length w.tops → (get_or w.tops i d).desk < length desks
+pub desk_within : (w : Whole) (desks : List DeskState) (i : ℕ) (d : Top) → IsSoundScript w → AreDesksOf (config_of w.settings) desks → i < length w.tops → (get_or w.tops i d).desk < length desks
 desk_within w desks i d sound node lt =
     let fits = all_at (TopFits (length w.processes) w.settings.desks) w.tops i d sound.tops lt in
     omega (arith, fits.1, node.count)
@@ -264,11 +264,11 @@ births_stop tops count desks t old y Myself few within whole b = absurd b
 births_stop tops count desks t old y NoProc few within whole b = absurd b
 
 -- there was no memory for the list of pids: nothing has happened on the desks
-pub none_born : (w : Whole) (desks : List DeskState) → IsSound w → AreFresh (config_of w.settings) desks → BirthsStop w.tops 0 desks Memory
+pub none_born : (w : Whole) (desks : List DeskState) → IsSoundScript w → AreFresh (config_of w.settings) desks → BirthsStop w.tops 0 desks Memory
 none_born w desks sound are few t x =
     let within : (get_or w.tops 0 t).desk < length desks = desk_within w desks 0 t sound are.node few in
     let H : ShardState → Type 0 = λ s. CanWrite s × IsSome s.vacant in
-    let can : CanWrite (fresh (config_of w.settings) (get_or w.tops 0 t).desk) = lit< tt in
+    let can : CanWrite (fresh_shard (config_of w.settings) (get_or w.tops 0 t).desk) = lit< tt in
     subst H (sym (are.shards (get_or w.tops 0 t).desk x within)) (can, refl)
 
 -- nor for the runners: all are born
@@ -284,5 +284,5 @@ pub refused_as : {A : Type 0} (w : Whole) (desks : List DeskState) (fault : Faul
 refused_as w desks fault (Ok x) b h = absurd h
 refused_as w desks fault (Err f) b h = subst (BornUntil w.tops desks) (sym h) b
 
-pub no_runners : {A : Type 0} (w : Whole) (desks : List DeskState) (born : List Pid) (r : Result (Vec Runner A) Fault) → Begins w.tops (length w.tops) born desks → IsErrAnd r (λ f. f ≡ Memory) → Starts w desks r
+pub no_runners : {A : Type 0} (w : Whole) (desks : List DeskState) (born : List Pid) (r : Result (Vec Runner A) Fault) → StartBegins w.tops (length w.tops) born desks → IsErrAnd r (λ f. f ≡ Memory) → Starts w desks r
 no_runners w desks born r b h = refused_as w desks Memory r (length w.tops, born, b, all_born w.tops desks) h

@@ -18,7 +18,7 @@ use Rattle.pt_events.specs.declared.event.Event.{Event}
 use Rattle.pt_events.specs.declared.event.Event.TheVariants.{Born, Said, Took, Flag, Left, Refused}
 use Rattle.pt_shard.specs.declared.fault.Fault.{Fault}
 use Rattle.pt_shard.specs.declared.fault.Fault.TheVariants.{Full, Memory, Worn, Gone, Myself, NoProc}
-use Rattle.pt_shard.specs.ShardState.{ShardState, lives, state_in, after, written}
+use Rattle.pt_shard.specs.ShardState.{ShardState, lives, state_in, shard_after, written}
 use Rattle.pt_shard.specs.Calls.{Calls, Monitors, Refuses, BearsChild, link_event, unlink_event, take_event, first_match, demonitor_event, demonitor_at, held_by, new_link, new_ref, birth_link, if_asked}
 use Rattle.pt_desk.specs.Reaching.{IsReached, has_link_to_make, has_monitor_to_make}
 use Rattle.pt_script.specs.declared.values.Operation.{Operation}
@@ -27,8 +27,8 @@ use Rattle.pt_runner.specs.declared.calls.Progress.{Progress}
 use Rattle.pt_runner.specs.declared.calls.Progress.TheVariants.{Done, Stays, Ends}
 use Rattle.pt_runner.specs.declared.runner.Actor.{Actor}
 use Rattle.pt_runner.specs.declared.runner.Runner.{Runner}
-use Rattle.pt_runner.specs.Acting.{came_of, IsCall, CallsAt, ReachesAt, Takes, taken_of, Demonitors, HasNoRoom, MonitorsAt, AsksAt, Performs, GoesBehind, Acting, Table, acting, table, advanced, set_acting, with_child, newborn, next_of, Plays, Spawns, TriesSpawn, DoesOperation, ActsAt, EachActs, living, EachDoesNext, target_of, pid_if, pick_of, reference_of}
-use Rattle.pt_runner.specs.Stepping.{author, child_of, IsStampOf, DoesOne, EachDoesOne, processes_of, Steps}
+use Rattle.pt_runner.specs.Acting.{came_of, IsCall, CallsTarget, ReachesAt, Takes, taken_of, Demonitors, HasNoRoom, MonitorsAt, AsksAt, Performs, GoesBehind, Acting, PidTable, acting, table, advanced, set_acting, with_born, newborn_actor, next_of, Plays, Spawns, TriesSpawn, DoesOperation, ActsAt, EachActs, living, EachDoesNext, target_of, pid_if, pick_meant, reference_of}
+use Rattle.pt_runner.specs.Stepping.{actor_of, child_of, IsStampOf, DoesOne, EachDoesOne, processes_here, ProcessesStep}
 
 -- one event ---------------------------------------------------------------------------------
 
@@ -42,14 +42,14 @@ abbrev born_by : Result Pid Fault → List Pid
 born_by (Ok child) = child ∷ []
 born_by (Err _) = []
 
-one_event : (p : Pid) (e : Event) (old new : ShardState) → author e ≡ Some p → lives old p ≡ true → IsStampOf old e (old.clock + 1) → new ≡ after e old → DoesOne p old new (child_of e)
+one_event : (p : Pid) (e : Event) (old new : ShardState) → actor_of e ≡ Some p → lives old p ≡ true → IsStampOf old e (old.clock + 1) → new ≡ shard_after e old → DoesOne p old new (child_of e)
 one_event p e old new by alive stamped is =
-    inr (e, record { author_is = by; alive = alive; stamp = old.clock + 1; stamped = stamped; after = subst (λ (s : ShardState). s ≡ record (after e old) { vacant = s.vacant }) (sym is) refl }, refl)
+    inr (e, record { author_is = by; alive = alive; stamp = old.clock + 1; stamped = stamped; after = subst (λ (s : ShardState). s ≡ record (shard_after e old) { vacant = s.vacant }) (sym is) refl }, refl)
 
 -- an event of p that bears nobody
 abbrev IsOwn : Pid → Option Event → Type 0
 IsOwn p None = Unit {0}
-IsOwn p (Some e) = (author e ≡ Some p) × (child_of e ≡ []) × ((d : ShardState) → IsStampOf d e (d.clock + 1))
+IsOwn p (Some e) = (actor_of e ≡ Some p) × (child_of e ≡ []) × ((d : ShardState) → IsStampOf d e (d.clock + 1))
 
 wrote : {A : Type 0} (p : Pid) (event : Option Event) (a x : A) (old new : ShardState) → IsOwn p event → Calls p event a old (Ok x) new → DoesOne p old new []
 wrote p None a x old new own c = inl (c.3, refl)
@@ -128,7 +128,7 @@ passed p progress old new is same = leaves_as p progress Done old new is (inl (s
 call_leaves : {A : Type 0} (p : Pid) (event : Option Event) (a : A) (old : ShardState) (progress : Progress) (new : ShardState) → IsOwn p event → IsCall p event a old progress new → Leaves p progress old new
 call_leaves p event a old progress new own (answer, calls, is) = leaves_as p progress (came_of answer) old new is (leaves p event a old new answer own calls)
 
-at_leaves : (at : Option Pid) (p : Pid) (event : Pid → Option Event) (old : ShardState) (progress : Progress) (new : ShardState) → ((t : Pid) → IsOwn p (event t)) → CallsAt at p event old progress new → Leaves p progress old new
+at_leaves : (at : Option Pid) (p : Pid) (event : Pid → Option Event) (old : ShardState) (progress : Progress) (new : ShardState) → ((t : Pid) → IsOwn p (event t)) → CallsTarget at p event old progress new → Leaves p progress old new
 at_leaves None p event old progress new own (is, same) = passed p progress old new is same
 at_leaves (Some t) p event old progress new own h = call_leaves p (event t) (tt {0}) old progress new (own t) h
 
@@ -215,8 +215,8 @@ asks_leaves p (Some t) old references progress new after (inr (answer, calls, is
 performs_leaves : (pids : List (Option Pid)) (p : Pid) (o : Operation) (old : ShardState) (references : List (Option Ref)) (progress : Progress) (new : ShardState) (after : List (Option Ref)) → Performs pids p o old references progress new after → Leaves p progress old new
 performs_leaves pids p (Send to kind num who) old references progress new after h =
     reach_leaves (target_of old pids to) p (λ t. lives old p) (λ t. Some (Said p t (Message (record { kind = kind; num = num; who = pid_if pids who })))) old progress new (λ t h. h) (λ t. (refl, refl, λ d. refl)) h.0
-performs_leaves pids p (Receive pattern) old references progress new after h = takes_leaves (pick_of pids references pattern) p Stays old progress new (inr refl) h.0
-performs_leaves pids p (Check pattern) old references progress new after h = takes_leaves (pick_of pids references pattern) p Done old progress new (inl refl) h.0
+performs_leaves pids p (Receive pattern) old references progress new after h = takes_leaves (pick_meant pids references pattern) p Stays old progress new (inr refl) h.0
+performs_leaves pids p (Check pattern) old references progress new after h = takes_leaves (pick_meant pids references pattern) p Done old progress new (inl refl) h.0
 performs_leaves pids p (Link to) old references progress new after h =
     reach_leaves (target_of old pids to) p (has_link_to_make old p) (link_event old p) old progress new (λ t. first_of (lives old p) _) (link_own old p) h.0
 performs_leaves pids p (Unlink to) old references progress new after h = at_leaves (target_of old pids to) p (unlink_event old p) old progress new (unlink_own old p) h.0
@@ -275,47 +275,47 @@ spawned a linked (Err NoProc) old between b new c h = absurd c
 abbrev pub pid_of : Acting → Pid
 pid_of a = a.pid
 
-abbrev pub pids_in : Table → List Pid
+abbrev pub pids_in : PidTable → List Pid
 pids_in t = map pid_of t.actors
 
-abbrev ActsOnce : Pid → Table → ShardState → Table → ShardState → Type 0
+abbrev ActsOnce : Pid → PidTable → ShardState → PidTable → ShardState → Type 0
 ActsOnce p t old u new = (born : List Pid) × DoesOne p old new born × (pids_in u ≡ pids_in t ++ born)
 
 -- a process that goes on is still that process
-set_pids : (i : ℕ) (a b : Acting) (t : Table) → i < length t.actors → get_or t.actors i a ≡ a → b.pid ≡ a.pid → pids_in (set_acting i b t) ≡ pids_in t
+set_pids : (i : ℕ) (a b : Acting) (t : PidTable) → i < length t.actors → get_or t.actors i a ≡ a → b.pid ≡ a.pid → pids_in (set_acting i b t) ≡ pids_in t
 set_pids i a b t lt is same = map-set_same pid_of t.actors i a b lt (sym is) same
 
-child_pids : (process : ℕ) (r : Result Pid Fault) (t : Table) → pids_in (with_child process r t) ≡ pids_in t ++ born_by r
-child_pids process (Ok p) t = map-append pid_of t.actors (newborn t.plans process p ∷ [])
+child_pids : (process : ℕ) (r : Result Pid Fault) (t : PidTable) → pids_in (with_born process r t) ≡ pids_in t ++ born_by r
+child_pids process (Ok p) t = map-append pid_of t.actors (newborn_actor t.plans process p ∷ [])
 child_pids process (Err fault) t = sym (append-nil (pids_in t))
 
-child_within : (process : ℕ) (r : Result Pid Fault) (t : Table) (i : ℕ) → i < length t.actors → i < length (with_child process r t).actors
-child_within process (Ok p) t i lt = omega (arith, lt, length-append t.actors (newborn t.plans process p ∷ []))
+child_within : (process : ℕ) (r : Result Pid Fault) (t : PidTable) (i : ℕ) → i < length t.actors → i < length (with_born process r t).actors
+child_within process (Ok p) t i lt = omega (arith, lt, length-append t.actors (newborn_actor t.plans process p ∷ []))
 child_within process (Err fault) t i lt = lt
 
-child_at : (process : ℕ) (r : Result Pid Fault) (t : Table) (i : ℕ) (d : Acting) → i < length t.actors → get_or (with_child process r t).actors i d ≡ get_or t.actors i d
-child_at process (Ok p) t i d lt = get_or_append_left t.actors (newborn t.plans process p ∷ []) d i lt
+child_at : (process : ℕ) (r : Result Pid Fault) (t : PidTable) (i : ℕ) (d : Acting) → i < length t.actors → get_or (with_born process r t).actors i d ≡ get_or t.actors i d
+child_at process (Ok p) t i d lt = get_or_append_left t.actors (newborn_actor t.plans process p ∷ []) d i lt
 child_at process (Err fault) t i d lt = refl
 
-plays_once : (o : Operation) (i : ℕ) (a b : Acting) (t u : Table) (old new : ShardState) → i < length t.actors → get_or t.actors i a ≡ a → Plays t.pids o a old b new → u ≡ set_acting i b t → ActsOnce a.pid t old u new
+plays_once : (o : Operation) (i : ℕ) (a b : Acting) (t u : PidTable) (old new : ShardState) → i < length t.actors → get_or t.actors i a ≡ a → Plays t.pids o a old b new → u ≡ set_acting i b t → ActsOnce a.pid t old u new
 plays_once o i a b t u old new lt at plays is =
     let noted : Acting = record a { references = plays.references } in
     let left : Leaves a.pid plays.progress old plays.between = performs_leaves t.pids a.pid o old a.references plays.progress plays.between plays.references plays.performs in
     let same : b.pid ≡ a.pid = behind_pid plays.progress noted plays.between b new plays.behind in
     ([], then_behind plays.progress noted old plays.between b new left plays.behind, ap pids_in is ∙ set_pids i a b t lt at same ∙ sym (append-nil (pids_in t)))
 
-spawns_once : (process : ℕ) (linked : Bool) (i : ℕ) (a : Acting) (t u : Table) (old new : ShardState) → i < length t.actors → get_or t.actors i a ≡ a → Spawns process linked i a t old u new → ActsOnce a.pid t old u new
+spawns_once : (process : ℕ) (linked : Bool) (i : ℕ) (a : Acting) (t u : PidTable) (old new : ShardState) → i < length t.actors → get_or t.actors i a ≡ a → Spawns process linked i a t old u new → ActsOnce a.pid t old u new
 spawns_once process linked i a t u old new lt at h =
-    let more : Table = with_child process h.answer t in
+    let more : PidTable = with_born process h.answer t in
     let same : h.b.pid ≡ a.pid = behind_pid (came_of h.answer) a h.between h.b new h.behind in
     let kept : pids_in (set_acting i h.b more) ≡ pids_in more = set_pids i a h.b more (child_within process h.answer t i lt) (child_at process h.answer t i a lt ∙ at) same in
     (born_by h.answer, spawned a linked h.answer old h.between h.b new h.bears h.behind, ap pids_in h.table ∙ kept ∙ child_pids process h.answer t)
 
-tries_once : (process : ℕ) (linked : Bool) (i : ℕ) (a : Acting) (t u : Table) (old new : ShardState) → i < length t.actors → get_or t.actors i a ≡ a → TriesSpawn process linked i a t old u new → ActsOnce a.pid t old u new
+tries_once : (process : ℕ) (linked : Bool) (i : ℕ) (a : Acting) (t u : PidTable) (old new : ShardState) → i < length t.actors → get_or t.actors i a ≡ a → TriesSpawn process linked i a t old u new → ActsOnce a.pid t old u new
 tries_once process linked i a t u old new lt at (inl (same, still)) = ([], inl (still, refl), ap pids_in same ∙ sym (append-nil (pids_in t)))
 tries_once process linked i a t u old new lt at (inr h) = spawns_once process linked i a t u old new lt at h
 
-operation_once : (o : Operation) (i : ℕ) (a : Acting) (t u : Table) (old new : ShardState) → i < length t.actors → get_or t.actors i a ≡ a → DoesOperation o i a t old u new → ActsOnce a.pid t old u new
+operation_once : (o : Operation) (i : ℕ) (a : Acting) (t u : PidTable) (old new : ShardState) → i < length t.actors → get_or t.actors i a ≡ a → DoesOperation o i a t old u new → ActsOnce a.pid t old u new
 operation_once (Spawn process linked) i a t u old new lt at h = tries_once process linked i a t u old new lt at h
 operation_once (Send to kind num who) i a t u old new lt at (b, plays, is) = plays_once (Send to kind num who) i a b t u old new lt at plays is
 operation_once (Receive pattern) i a t u old new lt at (b, plays, is) = plays_once (Receive pattern) i a b t u old new lt at plays is
@@ -345,17 +345,17 @@ each_more ps i p old between new born more lt is each one =
     let e : take (i + 1) ps ≡ take i ps ++ p ∷ [] = take_more ps i p lt ∙ ap (λ q. take i ps ++ q ∷ []) is in
     subst (λ (qs : List Pid). EachDoesOne qs old new (born ++ more)) (sym e) (each_then (take i ps) p old between new born more each one)
 
-abbrev EachOnce : ℕ → Table → ShardState → Table → ShardState → Type 0
+abbrev EachOnce : ℕ → PidTable → ShardState → PidTable → ShardState → Type 0
 EachOnce count t old u new = (born : List Pid) × EachDoesOne (take count (pids_in t)) old new born × (pids_in u ≡ pids_in t ++ born)
 
 -- the process at the index is the one that the step began with there
-is_that : (t before : Table) (born : List Pid) (i : ℕ) (a : Acting) → i < length t.actors → i < length before.actors → pids_in before ≡ pids_in t ++ born → get_or before.actors i a ≡ a → get_or (pids_in t) i a.pid ≡ a.pid
+is_that : (t before : PidTable) (born : List Pid) (i : ℕ) (a : Acting) → i < length t.actors → i < length before.actors → pids_in before ≡ pids_in t ++ born → get_or before.actors i a ≡ a → get_or (pids_in t) i a.pid ≡ a.pid
 is_that t before born i a lt within listed at =
     let short : i < length (pids_in t) = omega (arith, length-map t.actors pid_of, lt) in
     let found : get_or (pids_in before) i a.pid ≡ a.pid = get_or-map pid_of before.actors i a a.pid within ∙ ap pid_of at in
     sym (get_or_append_left (pids_in t) born a.pid i short) ∙ ap (λ (ps : List Pid). get_or ps i a.pid) (sym listed) ∙ found
 
-once_more : (i : ℕ) (t before u : Table) (old between new : ShardState) → i < length t.actors → EachOnce i t old before between → ActsAt i before between u new → EachOnce (i + 1) t old u new
+once_more : (i : ℕ) (t before u : PidTable) (old between new : ShardState) → i < length t.actors → EachOnce i t old before between → ActsAt i before between u new → EachOnce (i + 1) t old u new
 once_more i t before u old between new lt (born, each, listed) one =
     let acts : ActsOnce one.a.pid before between u new = operation_once (next_of before.plans one.a) i one.a before u between new one.within one.is one.acts in
     let short : i < length (pids_in t) = omega (arith, length-map t.actors pid_of, lt) in
@@ -365,7 +365,7 @@ once_more i t before u old between new lt (born, each, listed) one =
       acts.2 ∙ ap (λ (ps : List Pid). ps ++ acts.0) listed ∙ append_assoc (pids_in t) born acts.0,
     )
 
-each_once : (count : ℕ) (t u : Table) (old new : ShardState) → count ≤ length t.actors → EachActs count t old u new → EachOnce count t old u new
+each_once : (count : ℕ) (t u : PidTable) (old new : ShardState) → count ≤ length t.actors → EachActs count t old u new → EachOnce count t old u new
 each_once zero t u old new le (is, same) = ([], (same, refl), ap pids_in is ∙ sym (append-nil (pids_in t)))
 each_once (suc count) t u old new le (before, between, each, one) =
     let lt : count < length t.actors = omega (arith, le) in
@@ -386,15 +386,15 @@ actor_pids : (actors : List Actor) → map pid_of (map acting actors) ≡ map (�
 actor_pids [] = refl
 actor_pids (a ∷ actors) = ap (λ (ps : List Pid). a.pid ∷ ps) (actor_pids actors)
 
-living_pids : (d : ShardState) (r : Runner) → pids_in (living d (table r)) ≡ filter (lives d) (processes_of r)
+living_pids : (d : ShardState) (r : Runner) → pids_in (living d (table r)) ≡ filter (lives d) (processes_here r)
 living_pids d r = kept_pids (lives d) (map acting r.actors.items) ∙ ap (filter (lives d)) (actor_pids r.actors.items)
 
 -- each live process of the script has one event at most in a step
-pub steps : (r s : Runner) (old new : ShardState) → EachDoesNext (table r) old (table s) new → Steps (processes_of r) old (processes_of s) new
+pub steps : (r s : Runner) (old new : ShardState) → EachDoesNext (table r) old (table s) new → ProcessesStep (processes_here r) old (processes_here s) new
 steps r s old new does =
-    let start : Table = living old (table r) in
+    let start : PidTable = living old (table r) in
     let once : EachOnce (length start.actors) start old (table s) new = each_once (length start.actors) start (table s) old new (omega arith) does in
-    let all : take (length start.actors) (pids_in start) ≡ filter (lives old) (processes_of r) = take_all (length start.actors) (pids_in start) (omega (arith, length-map start.actors pid_of)) ∙ living_pids old r in
+    let all : take (length start.actors) (pids_in start) ≡ filter (lives old) (processes_here r) = take_all (length start.actors) (pids_in start) (omega (arith, length-map start.actors pid_of)) ∙ living_pids old r in
     record {
       born = once.0;
       each = subst (λ (ps : List Pid). EachDoesOne ps old new once.0) all once.1;
@@ -410,5 +410,5 @@ none_kept test [] h = refl
 none_kept test (p ∷ ps) h = kept_none test p ps (test p) refl (All-head (λ q. test q ≡ false) p ps h) (none_kept test ps (All-tail (λ q. test q ≡ false) p ps h))
 
 -- where none lives, nothing happens
-pub idle : (processes now : List Pid) (old new : ShardState) → Steps processes old now new → All (λ p. lives old p ≡ false) processes → new ≡ old
+pub idle : (processes now : List Pid) (old new : ShardState) → ProcessesStep processes old now new → All (λ p. lives old p ≡ false) processes → new ≡ old
 idle processes now old new h none = (subst (λ (ps : List Pid). EachDoesOne ps old new h.born) (none_kept (lives old) processes none) h.each).0

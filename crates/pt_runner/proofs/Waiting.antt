@@ -30,7 +30,7 @@ use Rattle.pt_script.specs.declared.values.Pattern.{Pattern}
 use Rattle.pt_script.specs.declared.values.Pattern.TheVariants.{Any, Kind, From, ExitOf, DownOf, AliveOf}
 use Rattle.pt_runner.specs.declared.calls.Progress.TheVariants.{Stays}
 use Rattle.pt_runner.specs.declared.runner.Actor.{Actor}
-use Rattle.pt_runner.specs.Acting.{Acting, ActsAt, DoesOperation, Plays, acting, pick_of, set_acting}
+use Rattle.pt_runner.specs.Acting.{Acting, ActsAt, DoesOperation, Plays, acting, pick_meant, set_acting}
 use Rattle.pt_runner.specs.Waiting.{FindsNothing, IsNoted, IsTrueOf, IsUnmarked, KnowsOf, WaitsSince, is_before, marked, since, sleeps}
 use Rattle.pt_runner.proofs.Acting.{table_of, acting_at, acting_within, set_actor, take_at}
 
@@ -100,7 +100,7 @@ picked f xs i q p k free h =
       | inr none ↦ absurd (let e : None ≡ Some k = sym (ap (option_map f) none) ∙ h in cc)
     ]
 
-pick_kept : (xs : List (Option Pid)) (i : ℕ) (p : Pid) → get_or xs i None ≡ None → (references : List (Option Ref)) (pattern : Pattern) (k : Pick) → pick_of xs references pattern ≡ Some k → pick_of (set xs i (Some p)) references pattern ≡ Some k
+pick_kept : (xs : List (Option Pid)) (i : ℕ) (p : Pid) → get_or xs i None ≡ None → (references : List (Option Ref)) (pattern : Pattern) (k : Pick) → pick_meant xs references pattern ≡ Some k → pick_meant (set xs i (Some p)) references pattern ≡ Some k
 pick_kept xs i p free references Any k h = h
 pick_kept xs i p free references (Kind kind) k h = h
 pick_kept xs i p free references (From q) k h = picked Pick.From xs i q p k free h
@@ -221,7 +221,7 @@ skipped plans pids actors i a d lt is f =
       progress = Stays;
       references = (acting a).references;
       between = d;
-      performs = (take_at (pick_of pids a.references.items f.pattern) f.pick a.pid Stays d d (Ok None) Stays f.picks (nothing_taken a.pid f.pick d f.alive f.nothing) refl, refl);
+      performs = (take_at (pick_meant pids a.references.items f.pattern) f.pick a.pid Stays d d (Ok None) Stays f.picks (nothing_taken a.pid f.pick d f.alive f.nothing) refl, refl);
       behind = (refl, refl);
     } in
     let same : t ≡ set_acting i (acting a) t = sym (ap (λ (xs : List Acting). record { plans = plans; pids = pids; actors = xs }) (set_back (map acting actors) i (acting a) at)) in

@@ -45,10 +45,10 @@ pub record Acting : Type 0 where
   pub begins : Bool
   -- how many operations of its list are behind it
   pub done : ℕ
-  -- what its monitors and asks got, by tag
+  -- what its monitors and asks ref_got, by tag
   pub references : List (Option Ref)
 
-pub record Table : Type 0 where
+pub record PidTable : Type 0 where
   -- what the processes of the script do, by number
   pub plans : List Plan
   -- their pids, as far as operations here may name them
@@ -65,7 +65,7 @@ acting a = record {
   references = a.references.items;
 }
 
-abbrev pub table : Runner → Table
+abbrev pub table : Runner → PidTable
 table r = record { plans = r.script.now.processes; pids = r.pids.items; actors = map acting r.actors.items }
 
 -- where it is in its list
@@ -76,8 +76,8 @@ abbrev pub plan_at : List Plan → ℕ → Plan
 plan_at plans process = slice_index_or plans process (record { trap = false; operations = [] })
 
 -- a process that is born now: with `trap` it begins by trapping exits
-abbrev pub newborn : List Plan → ℕ → Pid → Acting
-newborn plans process p = record {
+abbrev pub newborn_actor : List Plan → ℕ → Pid → Acting
+newborn_actor plans process p = record {
   pid = p;
   process = process;
   begins = (plan_at plans process).trap;
@@ -96,8 +96,8 @@ advanced a = cond a.begins (record a { begins = false }) (record a { done = min 
 -- what an operation names -----------------------------------------------------------------
 
 -- the pid of the process of this number
-abbrev pub pid_of : List (Option Pid) → ℕ → Option Pid
-pid_of pids process = slice_index_or pids process None
+abbrev pub pid_numbered : List (Option Pid) → ℕ → Option Pid
+pid_numbered pids process = slice_index_or pids process None
 
 abbrev pub if_known : ShardState → Option Pid → Option Pid
 if_known d None = None
@@ -105,23 +105,23 @@ if_known d (Some p) = then_some (knows d p) p
 
 -- that of a target: none where the desk does not know it
 abbrev pub target_of : ShardState → List (Option Pid) → ℕ → Option Pid
-target_of d pids process = if_known d (pid_of pids process)
+target_of d pids process = if_known d (pid_numbered pids process)
 
 abbrev pub pid_if : List (Option Pid) → Option ℕ → Option Pid
 pid_if pids None = None
-pid_if pids (Some process) = pid_of pids process
+pid_if pids (Some process) = pid_numbered pids process
 
 -- the reference of this tag
 abbrev pub reference_of : List (Option Ref) → ℕ → Option Ref
 reference_of references tag = slice_index_or references tag None
 
-abbrev pub pick_of : List (Option Pid) → List (Option Ref) → Pattern → Option Pick
-pick_of pids references Any = Some Pick.Any
-pick_of pids references (Kind kind) = Some (Pick.Kind kind)
-pick_of pids references (From process) = option_map Pick.From (pid_of pids process)
-pick_of pids references (ExitOf process) = option_map Pick.ExitOf (pid_of pids process)
-pick_of pids references (DownOf tag) = option_map Pick.DownOf (reference_of references tag)
-pick_of pids references (AliveOf tag) = option_map Pick.AliveOf (reference_of references tag)
+abbrev pub pick_meant : List (Option Pid) → List (Option Ref) → Pattern → Option Pick
+pick_meant pids references Any = Some Pick.Any
+pick_meant pids references (Kind kind) = Some (Pick.Kind kind)
+pick_meant pids references (From process) = option_map Pick.From (pid_numbered pids process)
+pick_meant pids references (ExitOf process) = option_map Pick.ExitOf (pid_numbered pids process)
+pick_meant pids references (DownOf tag) = option_map Pick.DownOf (reference_of references tag)
+pick_meant pids references (AliveOf tag) = option_map Pick.AliveOf (reference_of references tag)
 
 -- what an operation does ------------------------------------------------------------------
 
@@ -143,9 +143,9 @@ IsCall {A} p event a old progress new =
     (answer : Result A Fault) × Calls p event a old answer new × (progress ≡ came_of answer)
 
 -- a call on a target, passed over without one
-abbrev pub CallsAt : Option Pid → Pid → (Pid → Option Event) → ShardState → Progress → ShardState → Type 0
-CallsAt None p event old progress new = IsPassed old progress new
-CallsAt (Some t) p event old progress new = IsCall p (event t) (tt {0}) old progress new
+abbrev pub CallsTarget : Option Pid → Pid → (Pid → Option Event) → ShardState → Progress → ShardState → Type 0
+CallsTarget None p event old progress new = IsPassed old progress new
+CallsTarget (Some t) p event old progress new = IsCall p (event t) (tt {0}) old progress new
 
 -- a call that reaches for a target, passed over without one
 abbrev pub ReachesAt : Option Pid → Pid → (Pid → Bool) → (Pid → Option Event) → ShardState → Progress → ShardState
@@ -178,10 +178,10 @@ Demonitors (Some m) p flush old progress new =
     IsCall p (demonitor_event old p m flush) (is_some (demonitor_event old p m flush)) old progress new
 
 -- what the tag of an operation stands for by the answer: a reference, or none where it is passed over
-abbrev pub got : Result Ref Fault → List (Option Ref)
-got (Ok reference) = Some reference ∷ []
-got (Err NoProc) = None ∷ []
-got (Err _) = []
+abbrev pub ref_got : Result Ref Fault → List (Option Ref)
+ref_got (Ok reference) = Some reference ∷ []
+ref_got (Err NoProc) = None ∷ []
+ref_got (Err _) = []
 
 abbrev pub HasNoRoom : ShardState → List (Option Ref) → Progress → ShardState → List (Option Ref) → Type 0
 HasNoRoom old references progress new after = (progress ≡ Stays) × (new ≡ old) × (after ≡ references)
@@ -199,7 +199,7 @@ MonitorsAt p (Some t) old references progress new after =
     HasNoRoom old references progress new after
     ⊎ ((answer : Result Ref Fault)
     × IsReached (has_monitor_to_make old p t) p t (Monitors p t old answer new) old answer new
-    × (progress ≡ came_of answer) × (after ≡ references ++ got answer))
+    × (progress ≡ came_of answer) × (after ≡ references ++ ref_got answer))
 
 -- an ask, likewise
 abbrev pub AsksAt : Pid → Option Pid → ShardState → List (Option Ref) → Progress → ShardState → List (Option Ref)
@@ -210,7 +210,7 @@ AsksAt p (Some t) old references progress new after =
     HasNoRoom old references progress new after
     ⊎ ((answer : Result Ref Fault)
     × Calls p (Some (Said p t (Signal.AliveAsk (new_ref old)))) (new_ref old) old answer new
-    × (progress ≡ came_of answer) × (after ≡ references ++ got answer))
+    × (progress ≡ came_of answer) × (after ≡ references ++ ref_got answer))
 
 -- An operation of p that bears nobody: what it does to the desk, what comes of it, and the references of p behind it.
 abbrev pub Performs : List (Option Pid) → Pid → Operation → ShardState → List (Option Ref) → Progress → ShardState
@@ -218,14 +218,14 @@ abbrev pub Performs : List (Option Pid) → Pid → Operation → ShardState →
 Performs pids p (Send to kind num who) old references progress new after =
     Sends pids p to kind num who old progress new × (after ≡ references)
 Performs pids p (Receive pattern) old references progress new after =
-    Takes (pick_of pids references pattern) p Stays old progress new × (after ≡ references)
+    Takes (pick_meant pids references pattern) p Stays old progress new × (after ≡ references)
 Performs pids p (Check pattern) old references progress new after =
-    Takes (pick_of pids references pattern) p Done old progress new × (after ≡ references)
+    Takes (pick_meant pids references pattern) p Done old progress new × (after ≡ references)
 Performs pids p (Link to) old references progress new after =
     ReachesAt (target_of old pids to) p (has_link_to_make old p) (link_event old p) old progress new
     × (after ≡ references)
 Performs pids p (Unlink to) old references progress new after =
-    CallsAt (target_of old pids to) p (unlink_event old p) old progress new × (after ≡ references)
+    CallsTarget (target_of old pids to) p (unlink_event old p) old progress new × (after ≡ references)
 Performs pids p (Monitor to tag) old references progress new after =
     MonitorsAt p (target_of old pids to) old references progress new after
 Performs pids p (Demonitor tag flush) old references progress new after =
@@ -237,7 +237,7 @@ Performs pids p (Trap on) old references progress new after =
 Performs pids p (Exit reason) old references progress new after =
     IsCall p (Some (Left p reason)) (tt {0}) old progress new × (after ≡ references)
 Performs pids p (SendExit to reason) old references progress new after =
-    CallsAt (target_of old pids to) p (λ t. Some (Said p t (Signal.Exit reason))) old progress new
+    CallsTarget (target_of old pids to) p (λ t. Some (Said p t (Signal.Exit reason))) old progress new
     × (after ≡ references)
 Performs pids p (Spawn process linked) old references progress new after = ⊥
 Performs pids p Pass old references progress new after = IsPassed old progress new × (after ≡ references)
@@ -261,42 +261,42 @@ pub record Plays (pids : List (Option Pid)) (operation : Operation) (a : Acting)
 
 -- what an operation does to the table ----------------------------------------------------------
 
-abbrev pub set_acting : ℕ → Acting → Table → Table
+abbrev pub set_acting : ℕ → Acting → PidTable → PidTable
 set_acting i b t = record t { actors = slice_set t.actors i b }
 
 -- the child that was born stands last, and its number has its pid
-abbrev pub with_child : ℕ → Result Pid Fault → Table → Table
-with_child process (Ok p) t = record t {
+abbrev pub with_born : ℕ → Result Pid Fault → PidTable → PidTable
+with_born process (Ok p) t = record t {
   pids = slice_set t.pids process (Some p);
-  actors = t.actors ++ newborn t.plans process p ∷ [];
+  actors = t.actors ++ newborn_actor t.plans process p ∷ [];
 }
-with_child process (Err _) t = t
+with_born process (Err _) t = t
 
 -- the process a, at place i, bears a child
-pub record Spawns (process : ℕ) (linked : Bool) (i : ℕ) (a : Acting) (t : Table) (old : ShardState) (u : Table)
+pub record Spawns (process : ℕ) (linked : Bool) (i : ℕ) (a : Acting) (t : PidTable) (old : ShardState) (u : PidTable)
     (new : ShardState) : Type 0 where
   pub answer : Result Pid Fault
   pub between : ShardState
   pub b : Acting
   pub bears : BearsChild a.pid linked old answer between
   pub behind : GoesBehind (came_of answer) a between b new
-  pub table : u ≡ set_acting i b (with_child process answer t)
+  pub table : u ≡ set_acting i b (with_born process answer t)
 
 -- without memory to list the child, nothing is done
-abbrev pub TriesSpawn : ℕ → Bool → ℕ → Acting → Table → ShardState → Table → ShardState → Type 0
+abbrev pub TriesSpawn : ℕ → Bool → ℕ → Acting → PidTable → ShardState → PidTable → ShardState → Type 0
 TriesSpawn process linked i a t old u new = ((u ≡ t) × (new ≡ old)) ⊎ Spawns process linked i a t old u new
 
-abbrev pub SpawnsAt : ℕ → Bool → ℕ → Table → ShardState → Table → ShardState → Type 0
-SpawnsAt process linked i t old u new =
+abbrev pub RunnerSpawns : ℕ → Bool → ℕ → PidTable → ShardState → PidTable → ShardState → Type 0
+RunnerSpawns process linked i t old u new =
     (a : Acting) × (slice_index_or t.actors i a ≡ a) × TriesSpawn process linked i a t old u new
 
 -- the process a, at place i, does the operation
-abbrev pub DoesOperation : Operation → ℕ → Acting → Table → ShardState → Table → ShardState → Type 0
+abbrev pub DoesOperation : Operation → ℕ → Acting → PidTable → ShardState → PidTable → ShardState → Type 0
 DoesOperation (Spawn process linked) i a t old u new = TriesSpawn process linked i a t old u new
 DoesOperation operation i a t old u new = (b : Acting) × Plays t.pids operation a old b new × (u ≡ set_acting i b t)
 
 -- the process at place i does its next operation
-pub record ActsAt (i : ℕ) (t : Table) (old : ShardState) (u : Table) (new : ShardState) : Type 0 where
+pub record ActsAt (i : ℕ) (t : PidTable) (old : ShardState) (u : PidTable) (new : ShardState) : Type 0 where
   pub within : i < length t.actors
   pub a : Acting
   pub is : slice_index_or t.actors i a ≡ a
@@ -305,18 +305,18 @@ pub record ActsAt (i : ℕ) (t : Table) (old : ShardState) (u : Table) (new : Sh
 -- a step --------------------------------------------------------------------------------------
 
 -- so do the first of the table, one after the other
-abbrev pub EachActs : ℕ → Table → ShardState → Table → ShardState → Type 0
+abbrev pub EachActs : ℕ → PidTable → ShardState → PidTable → ShardState → Type 0
 EachActs zero t old u new = (u ≡ t) × (new ≡ old)
 EachActs (suc count) t old u new =
-    (before : Table) × (between : ShardState) × EachActs count t old before between × ActsAt count before between u new
+    (before : PidTable) × (between : ShardState) × EachActs count t old before between × ActsAt count before between u new
 
 -- without those that have ended
-abbrev pub living : ShardState → Table → Table
+abbrev pub living : ShardState → PidTable → PidTable
 living d t = record t { actors = filter (λ (a : Acting). lives d a.pid) t.actors }
 
 -- Those that have ended are struck off. Then each of the others does its next operation, in order of birth; one that is
 -- born by that stands behind them, and has its first operation in the next step.
-abbrev pub EachDoesNext : Table → ShardState → Table → ShardState → Type 0
+abbrev pub EachDoesNext : PidTable → ShardState → PidTable → ShardState → Type 0
 EachDoesNext t old u new = EachActs (length (living old t).actors) (living old t) old u new
 
 -- A step of a runner with its desk: so does each of the runner's processes, and nothing is posted or collected.

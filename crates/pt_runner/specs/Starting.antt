@@ -13,7 +13,7 @@ use Rattle.pt_desk.specs.DeskState.{DeskState, IsDesk}
 use Rattle.pt_script.specs.Plans.{Plan, Whole}
 use Rattle.pt_script.specs.declared.values.Top.{Top}
 use Rattle.pt_runner.specs.declared.runner.Runner.{Runner}
-use Rattle.pt_runner.specs.Acting.{Acting, table, newborn}
+use Rattle.pt_runner.specs.Acting.{Acting, table, newborn_actor}
 
 -- those of the processes that are of desk d
 abbrev pub on : ℕ → List Pid → List Pid
@@ -24,7 +24,7 @@ birth p = Born p None None
 
 -- The first count of the processes of a script's list are born, each on its desk and in this order, and that is all
 -- that happened on the desks.
-pub record Begins (tops : List Top) (count : ℕ) (born : List Pid) (desks : List DeskState) : Type 0 where
+pub record StartBegins (tops : List Top) (count : ℕ) (born : List Pid) (desks : List DeskState) : Type 0 where
   pub counted : length born ≡ count
   pub within : count ≤ length tops
   pub placed : map (λ (p : Pid). p.shard) born ≡ map (λ (t : Top). t.desk) (take count tops)
@@ -32,19 +32,19 @@ pub record Begins (tops : List Top) (count : ℕ) (born : List Pid) (desks : Lis
       → past (slice_index_or desks d x).shard ≡ reverse (map birth (on d born))
 
 -- the processes of the script's list, each with its pid
-abbrev pub named : Whole → List Pid → List (Top × Pid)
-named w born = zip w.tops born
+abbrev pub named_tops : Whole → List Pid → List (Top × Pid)
+named_tops w born = zip w.tops born
 
 -- the pids by the numbers of their processes: those of the list have one, and no other process has
 abbrev pub put_pid : List (Option Pid) → Top × Pid → List (Option Pid)
 put_pid pids one = slice_set pids one.0.process (Some one.1)
 
-abbrev pub numbered : Whole → List Pid → List (Option Pid)
-numbered w born = fold put_pid (replicate (length w.processes) None) (named w born)
+abbrev pub numbered_pids : Whole → List Pid → List (Option Pid)
+numbered_pids w born = fold put_pid (replicate (length w.processes) None) (named_tops w born)
 
 -- those of desk d, in order of birth: each is at its first operation and has no reference
 abbrev pub starter : List Plan → Top × Pid → Acting
-starter plans one = newborn plans one.0.process one.1
+starter plans one = newborn_actor plans one.0.process one.1
 
 abbrev pub is_on : ℕ → Top × Pid → Bool
 is_on d one = one.1.shard == d
@@ -57,8 +57,8 @@ pub record IsRunnerOf (w : Whole) (born : List Pid) (d : ℕ) (r : Runner) : Typ
   pub script : r.script.now ≡ w
   pub table : table r ≡ record {
     plans = w.processes;
-    pids = numbered w born;
-    actors = starters w.processes d (named w born);
+    pids = numbered_pids w born;
+    actors = starters w.processes d (named_tops w born);
   }
   -- it has read nothing of its desk's journal
   pub unread : r.read ≡ 0
@@ -88,15 +88,15 @@ BirthsStop tops count desks NoProc = ⊥
 -- the first of the list are born, and for this reason no more
 abbrev pub BornUntil : List Top → List DeskState → Fault → Type 0
 BornUntil tops desks fault =
-    (count : ℕ) × (born : List Pid) × Begins tops count born desks × BirthsStop tops count desks fault
+    (count : ℕ) × (born : List Pid) × StartBegins tops count born desks × BirthsStop tops count desks fault
 
 -- all of them are born, and each desk has its runner; or those before a refusal are born
 abbrev pub Starts : {A : Type 0} → Whole → List DeskState → Result (Vec Runner A) Fault → Type 0
 Starts w desks (Ok runners) =
-    (born : List Pid) × Begins w.tops (length w.tops) born desks × AreRunners w born (length desks) runners.items
+    (born : List Pid) × StartBegins w.tops (length w.tops) born desks × AreRunners w born (length desks) runners.items
 Starts w desks (Err fault) = BornUntil w.tops desks fault
 
 -- the births alone
 abbrev pub BearsList : {A : Type 0} → List Top → List DeskState → Result (Vec Pid A) Fault → Type 0
-BearsList tops desks (Ok born) = Begins tops (length tops) born.items desks
+BearsList tops desks (Ok born) = StartBegins tops (length tops) born.items desks
 BearsList tops desks (Err fault) = BornUntil tops desks fault

@@ -9,14 +9,14 @@ use Rattle.pt_runner.specs.declared.runner.Actor.{Actor}
 use Rattle.pt_runner.specs.declared.runner.Runner.{Runner}
 
 -- the process that an event is an operation of: none of a receipt, or of a birth from outside
-abbrev pub author : Event → Option Pid
-author (Born p parent link) = parent
-author (Said a b x) = Some a
-author (Came a b x) = None
-author (Took p pick item) = Some p
-author (Flag p on) = Some p
-author (Left p reason) = Some p
-author (Refused a b) = Some a
+abbrev pub actor_of : Event → Option Pid
+actor_of (Born p parent link) = parent
+actor_of (Said a b x) = Some a
+actor_of (Came a b x) = None
+actor_of (Took p pick item) = Some p
+actor_of (Flag p on) = Some p
+actor_of (Left p reason) = Some p
+actor_of (Refused a b) = Some a
 
 -- the process that is born by it
 abbrev pub child_of : Event → List Pid
@@ -30,7 +30,7 @@ IsStampOf old _ n = n ≡ old.clock + 1
 
 -- the live process p has this event; which slot is vacant afterwards is left open
 pub record Does (p : Pid) (e : Event) (old new : ShardState) : Type 0 where
-  pub author_is : author e ≡ Some p
+  pub author_is : actor_of e ≡ Some p
   pub alive : lives old p ≡ true
   pub stamp : ℕ
   pub stamped : IsStampOf old e stamp
@@ -48,12 +48,12 @@ EachDoesOne (p ∷ ps) old new born =
     × DoesOne p old between here × EachDoesOne ps between new later × (born ≡ here ++ later)
 
 -- the processes of the script that were born on the runner's desk and are not known to have ended, in order of birth
-abbrev pub processes_of : Runner → List Pid
-processes_of r = map (λ (a : Actor). a.pid) r.actors.items
+abbrev pub processes_here : Runner → List Pid
+processes_here r = map (λ (a : Actor). a.pid) r.actors.items
 
 -- Each process of the list that was alive has one event at most, in order. Those are then of the list, and those that
 -- they bore stand behind them.
-pub record Steps (processes : List Pid) (old : ShardState) (now : List Pid) (new : ShardState) : Type 0 where
+pub record ProcessesStep (processes : List Pid) (old : ShardState) (now : List Pid) (new : ShardState) : Type 0 where
   pub born : List Pid
   pub each : EachDoesOne (filter (lives old) processes) old new born
   pub listed : now ≡ filter (lives old) processes ++ born

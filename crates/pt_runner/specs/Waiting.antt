@@ -14,7 +14,7 @@ use Rattle.pt_node.specs.Waking.{came_in}
 use Rattle.pt_script.specs.Plans.{Plan}
 use Rattle.pt_script.specs.declared.values.Operation.TheVariants.{Receive}
 use Rattle.pt_script.specs.declared.values.Pattern.{Pattern}
-use Rattle.pt_runner.specs.Acting.{Acting, RunnerDoes, acting, next_of, pick_of}
+use Rattle.pt_runner.specs.Acting.{Acting, RunnerDoes, acting, next_of, pick_meant}
 use Rattle.pt_runner.specs.declared.runner.Actor.{Actor}
 use Rattle.pt_runner.specs.declared.runner.Runner.{Runner}
 
@@ -27,7 +27,7 @@ pub record FindsNothing (plans : List Plan) (pids : List (Option Pid)) (a : Acti
   pub pattern : Pattern
   pub pick : Pick
   pub next : next_of plans a ≡ Receive pattern
-  pub picks : pick_of pids a.references pattern ≡ Some pick
+  pub picks : pick_meant pids a.references pattern ≡ Some pick
   pub alive : lives d a.pid ≡ true
   pub nothing : first_match d a.pid pick ≡ None
 
@@ -60,22 +60,22 @@ pub record KnowsOf (plans : List Plan) (pids : List (Option Pid)) (actors : List
   pub waits : All (IsTrueOf plans pids d) actors
 
 -- what a runner has in its notes is true of the desk
-abbrev pub Knows : Runner → ShardState → Type 0
-Knows r d = KnowsOf r.script.now.processes r.pids.items r.actors.items r.came.items r.read d
+abbrev pub RunnerKnows : Runner → ShardState → Type 0
+RunnerKnows r d = KnowsOf r.script.now.processes r.pids.items r.actors.items r.came.items r.read d
 
 -- and it has read the whole journal
 abbrev pub IsAbreast : Runner → ShardState → Type 0
-IsAbreast r d = Knows r d × (r.read ≡ length d.journal)
+IsAbreast r d = RunnerKnows r d × (r.read ≡ length d.journal)
 
 -- What a step begins with: what the runner knows is true, or it has read nothing, or more than the journal has, as that
 -- of a desk which goes on with an empty one. Then it forgets what it knows.
-abbrev pub Attends : Runner → ShardState → Type 0
-Attends r d = (r.read ≡ 0) ⊎ (length d.journal < r.read) ⊎ Knows r d
+abbrev pub RunnerAttends : Runner → ShardState → Type 0
+RunnerAttends r d = (r.read ≡ 0) ⊎ (length d.journal < r.read) ⊎ RunnerKnows r d
 
 -- A step of a runner that attends its desk: each of its processes does its next operation, and what the runner then
 -- knows is true, and stays so however the desk goes on.
 abbrev pub RunnerSteps : Runner → DeskState → Runner → DeskState → Type 0
-RunnerSteps r old s new = Attends r old.shard → RunnerDoes r old s new × Knows s new.shard
+RunnerSteps r old s new = RunnerAttends r old.shard → RunnerDoes r old s new × RunnerKnows s new.shard
 
 -- the steps of the code ----------------------------------------------------------------------
 

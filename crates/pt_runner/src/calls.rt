@@ -46,7 +46,7 @@ pub(crate) fn progress_of<T: Drop>(answer: Result<T, Fault>) -> Progress
 
 /// The pid of a process of the script, by its number.
 fn pid_of(pids: &[Option<Pid>], process: u32) -> Option<Pid>
-    ensures { result ≡ spec.pid_of pids.now process }
+    ensures { result ≡ spec.pid_numbered pids.now process }
 {
     match pids.get(process as usize) {
         Some(pid) => *pid,
@@ -89,7 +89,7 @@ pub(crate) fn pick_of(
     references: &References,
     pattern: Pattern,
 ) -> Option<Pick>
-    ensures { result ≡ spec.pick_of pids.now references.now.items pattern }
+    ensures { result ≡ spec.pick_meant pids.now references.now.items pattern }
 {
     match pattern {
         Pattern::Any => Some(Pick::Any),
@@ -164,7 +164,7 @@ fn check(
     p: Pid,
     pattern: Pattern,
 ) -> Progress
-    ensures does { spec.Takes (spec.pick_of pids.now references.now.items pattern) p Progress.Done desk.old.shard result
+    ensures does { spec.Takes (spec.pick_meant pids.now references.now.items pattern) p Progress.Done desk.old.shard result
         desk.new.shard }
     ensures ends { HasSameEnds desk.old desk.new }
     ensures goes_on { GoesOn desk.old desk.new }
@@ -188,7 +188,7 @@ fn link(desk: &mut Desk, pids: &[Option<Pid>], p: Pid, to: u32) -> Progress
 }
 
 fn unlink(desk: &mut Desk, pids: &[Option<Pid>], p: Pid, to: u32) -> Progress
-    ensures does { spec.CallsAt (spec.target_of desk.old.shard pids.now to) p
+    ensures does { spec.CallsTarget (spec.target_of desk.old.shard pids.now to) p
         (unlink_event desk.old.shard p) desk.old.shard result desk.new.shard }
     ensures ends { HasSameEnds desk.old desk.new }
     ensures goes_on { GoesOn desk.old desk.new }
@@ -200,7 +200,7 @@ fn unlink(desk: &mut Desk, pids: &[Option<Pid>], p: Pid, to: u32) -> Progress
 }
 
 fn exit_signal(desk: &mut Desk, pids: &[Option<Pid>], p: Pid, to: u32, reason: Reason) -> Progress
-    ensures does { spec.CallsAt (spec.target_of desk.old.shard pids.now to) p
+    ensures does { spec.CallsTarget (spec.target_of desk.old.shard pids.now to) p
         (λ t. Some (Event.Said p t (Signal.Exit reason))) desk.old.shard result desk.new.shard }
     ensures ends { HasSameEnds desk.old desk.new }
     ensures goes_on { GoesOn desk.old desk.new }
@@ -214,7 +214,7 @@ fn exit_signal(desk: &mut Desk, pids: &[Option<Pid>], p: Pid, to: u32, reason: R
 /// Notes what the next tag stands for by the answer: a reference, or nothing where the operation is passed over.
 fn note(references: &mut References, answer: Result<Ref, Fault>)
     requires { vec_len references.old < vec_capacity references.old }
-    ensures { references.new.items ≡ references.old.items ++ spec.got answer }
+    ensures { references.new.items ≡ references.old.items ++ spec.ref_got answer }
 {
     match answer {
         Ok(reference) => references.push_reserved(Some(reference)),

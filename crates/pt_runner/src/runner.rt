@@ -11,10 +11,10 @@ ghost use Rattle.pt_script.specs.Plans.{Plan};
 ghost use Rattle.pt_script.specs.declared.values.Operation.{Operation};
 ghost use Rattle.pt_script.specs.declared.values.Pattern.{Pattern};
 ghost use Rattle.pt_runner.specs.declared.runner.Actor.{Actor};
-ghost use Rattle.pt_runner.specs.Acting.{Plays, GoesBehind, ActsAt, RunnerDoes, acting, table, newborn, next_of};
-ghost use Rattle.pt_runner.specs.Acting.{advanced, living, place_of, with_child, SpawnsAt};
-ghost use Rattle.pt_runner.specs.Stepping.{Steps, processes_of};
-ghost use Rattle.pt_runner.specs.Waiting.{Attends, HasSameRest, IsAbreast, IsTrueOf, IsUnmarked, Knows, RunnerSteps};
+ghost use Rattle.pt_runner.specs.Acting.{Plays, GoesBehind, ActsAt, RunnerDoes, acting, table, newborn_actor, next_of};
+ghost use Rattle.pt_runner.specs.Acting.{advanced, living, place_of, with_born, RunnerSpawns};
+ghost use Rattle.pt_runner.specs.Stepping.{ProcessesStep, processes_here};
+ghost use Rattle.pt_runner.specs.Waiting.{RunnerAttends, HasSameRest, IsAbreast, IsTrueOf, IsUnmarked, RunnerKnows, RunnerSteps};
 ghost use Rattle.pt_runner.specs.Waiting.{marked, sleeps};
 
 use crate::calls::{Progress, References, call, pick_of, progress_of};
@@ -40,7 +40,7 @@ pub(crate) struct Actor {
 impl Actor {
     /// A process that was born just now.
     pub(crate) fn new(alloc: Global, script: &Script, pid: Pid, process: u32) -> Actor
-        ensures acting { acting result ≡ newborn script.now.processes process pid }
+        ensures acting { acting result ≡ newborn_actor script.now.processes process pid }
         ensures waits { result.waits ≡ None }
     {
         let begins = match script.processes().get(process as usize) {
@@ -250,8 +250,8 @@ impl<'a> Runner<'a> {
     /// slots of the desk; nothing is refused.
     pub fn begin_again(&mut self)
         ensures table { table self.new ≡ table self.old }
-        ensures attends { (d : ShardState) → Attends self.new d }
-        ensures knows { (d : ShardState) → Knows self.new d }
+        ensures attends { (d : ShardState) → RunnerAttends self.new d }
+        ensures knows { (d : ShardState) → RunnerKnows self.new d }
         ensures waits { All IsUnmarked self.new.actors.items }
     {
         self.wake_all();
@@ -275,7 +275,7 @@ impl<'a> Runner<'a> {
     /// Forgets what it read where the desk has a new journal, as over a node that was resumed, or none was read.
     fn begin(&mut self, desk: &Desk)
         ensures table { table self.new ≡ table self.old }
-        ensures knows { Attends self.old desk.now.shard → Knows self.new desk.now.shard }
+        ensures knows { RunnerAttends self.old desk.now.shard → RunnerKnows self.new desk.now.shard }
     {
         let events = desk.journal().events().len();
         if 0 < self.read && self.read <= events {
@@ -286,7 +286,7 @@ impl<'a> Runner<'a> {
 
     /// Reads what is new in the desk's journal.
     fn look(&mut self, desk: &Desk)
-        ensures knows { Knows self.old desk.now.shard → IsAbreast self.new desk.now.shard }
+        ensures knows { RunnerKnows self.old desk.now.shard → IsAbreast self.new desk.now.shard }
         ensures table { table self.new ≡ table self.old }
         ensures len { vec_len self.new.actors ≡ vec_len self.old.actors }
     {
@@ -328,7 +328,7 @@ impl<'a> Runner<'a> {
     fn do_next(&mut self, index: usize, desk: &mut Desk)
         requires { index < vec_len self.old.actors }
         ensures acts { ActsAt index (table self.old) desk.old.shard (table self.new) desk.new.shard }
-        ensures knows { Knows self.old desk.old.shard → Knows self.new desk.new.shard }
+        ensures knows { RunnerKnows self.old desk.old.shard → RunnerKnows self.new desk.new.shard }
         ensures len { vec_len self.old.actors ≤ vec_len self.new.actors }
         ensures ends { HasSameEnds desk.old desk.new }
         ensures goes_on { GoesOn desk.old desk.new }
@@ -346,8 +346,8 @@ impl<'a> Runner<'a> {
     /// Spawns a process, whose first operation comes in the next step.
     fn spawn(&mut self, index: usize, process: u32, linked: bool, desk: &mut Desk)
         requires { index < vec_len self.old.actors }
-        ensures spawns { SpawnsAt process linked index (table self.old) desk.old.shard (table self.new) desk.new.shard }
-        ensures knows { Knows self.old desk.old.shard → Knows self.new desk.new.shard }
+        ensures spawns { RunnerSpawns process linked index (table self.old) desk.old.shard (table self.new) desk.new.shard }
+        ensures knows { RunnerKnows self.old desk.old.shard → RunnerKnows self.new desk.new.shard }
         ensures len { vec_len self.old.actors ≤ vec_len self.new.actors }
         ensures ends { HasSameEnds desk.old desk.new }
         ensures goes_on { GoesOn desk.old desk.new }
@@ -364,8 +364,8 @@ impl<'a> Runner<'a> {
     /// Lists the process that was born, if one was.
     fn enter(&mut self, process: u32, answer: Result<Pid, Fault>)
         requires { vec_len self.old.actors < vec_capacity self.old.actors }
-        ensures table { table self.new ≡ with_child process answer (table self.old) }
-        ensures knows { (d : ShardState) → Knows self.old d → Knows self.new d }
+        ensures table { table self.new ≡ with_born process answer (table self.old) }
+        ensures knows { (d : ShardState) → RunnerKnows self.old d → RunnerKnows self.new d }
         ensures len { vec_len self.old.actors ≤ vec_len self.new.actors }
     {
         match answer {
@@ -394,7 +394,7 @@ impl<'a> Runner<'a> {
     /// Lists a process, and its pid.
     fn list(&mut self, process: u32, child: Pid)
         requires { vec_len self.old.actors < vec_capacity self.old.actors }
-        ensures table { table self.new ≡ with_child process (Ok child) (table self.old) }
+        ensures table { table self.new ≡ with_born process (Ok child) (table self.old) }
         ensures len { vec_len self.new.actors ≡ vec_len self.old.actors + 1 }
         ensures actors { (a : Actor) × (a.waits ≡ None)
             × (self.new.actors.items ≡ self.old.actors.items ++ a ∷ []) }
@@ -433,10 +433,10 @@ impl Work for Runner<'_> {
 
     fn step(&mut self, desk: &mut Desk)
         ensures does { RunnerSteps self.old desk.old self.new desk.new }
-        ensures steps { Attends self.old desk.old.shard
-            → Steps (processes_of self.old) desk.old.shard (processes_of self.new) desk.new.shard }
-        ensures idle { Attends self.old desk.old.shard
-            → All (λ p. lives desk.old.shard p ≡ false) (processes_of self.old)
+        ensures steps { RunnerAttends self.old desk.old.shard
+            → ProcessesStep (processes_here self.old) desk.old.shard (processes_here self.new) desk.new.shard }
+        ensures idle { RunnerAttends self.old desk.old.shard
+            → All (λ p. lives desk.old.shard p ≡ false) (processes_here self.old)
             → desk.new.shard ≡ desk.old.shard }
         ensures ends { HasSameEnds desk.old desk.new }
         ensures goes_on { GoesOn desk.old desk.new }

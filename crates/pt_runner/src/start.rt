@@ -6,7 +6,7 @@ ghost use Rattle.pt_script.specs.Nodes.{config_of};
 ghost use Rattle.pt_desk.specs.DeskState.{GoesOn, IsDesk};
 ghost use Rattle.pt_node.specs.Desks.{AreDesksOf};
 ghost use Rattle.pt_node.specs.Opening.{AreFresh};
-ghost use Rattle.pt_runner.specs.Starting.{Starts, BearsList, AreRunners, IsRunnerOf, numbered};
+ghost use Rattle.pt_runner.specs.Starting.{Starts, BearsList, AreRunners, IsRunnerOf, numbered_pids};
 
 use crate::runner::{Actor, Runner, put_pid};
 use pt_node::{Desk, Fault, Pid};
@@ -90,7 +90,7 @@ fn runners_of<'a>(
 /// The pids by the numbers of their processes.
 fn pids_of(alloc: Global, script: &Script, born: &[Pid]) -> Result<Vec<Option<Pid>>, AllocError>
     requires { length born.now ≤ length script.now.tops }
-    ensures { IfOk result (λ pids. pids.items ≡ numbered script.now born.now) }
+    ensures { IfOk result (λ pids. pids.items ≡ numbered_pids script.now born.now) }
 {
     let tops = script.tops();
     let mut pids = vec![in alloc; None; script.processes().len()]?;
@@ -109,7 +109,7 @@ fn runner_of<'a>(
     pids: &[Option<Pid>],
 ) -> Result<Runner<'a>, AllocError>
     requires born { length born.now ≤ length script.now.tops }
-    requires pids { pids.now ≡ numbered script.now born.now }
+    requires pids { pids.now ≡ numbered_pids script.now born.now }
     ensures { IfOk result (λ r. IsRunnerOf script.now born.now desk r) }
 {
     let tops = script.tops();

@@ -2,7 +2,7 @@
 
 ghost use Rattle.std.specs.Prelude.{◌≡◌};
 ghost use Rattle.pt_desk.specs.DeskState.{GoesOn};
-ghost use Rattle.pt_crew.specs.Births.{kept};
+ghost use Rattle.pt_crew.specs.Births.{kept_roles};
 ghost use Rattle.pt_crew.specs.Visiting.{takes};
 
 use crate::stage;
@@ -63,7 +63,7 @@ impl Runner {
     #[tactic(auto, using(pt_node::proofs::GoingOn::stays))]
     fn proceed(&mut self, desk: &mut Desk, births: &mut Births<Runner>, me: Pid) -> Next
         ensures takes { takes desk.new.shard.journal ≡ takes desk.old.shard.journal }
-        ensures kept { kept births.new ≡ kept births.old }
+        ensures kept { kept_roles births.new ≡ kept_roles births.old }
         ensures goes_on { GoesOn desk.old desk.new }
     {
         if self.to_bear > 0 {

@@ -9,7 +9,7 @@ ghost use Rattle.pt_gathered.specs.Lawful.{LinksStand};
 ghost use Rattle.pt_node.specs.Desks.{AreDesks, all_shards};
 ghost use Rattle.pt_node.specs.Stillness.{AreStill};
 ghost use Rattle.pt_crew.specs.Running.{AreIdle, UpholdsOn};
-ghost use Rattle.pt_supervisor.specs.Keeping.{AnswerAs, BeginsAs, Keeps};
+ghost use Rattle.pt_supervisor.specs.Keeping.{AnswerAs, SupervisorBegins, Keeps};
 ghost use Rattle.pt_supervisor.specs.Gathering.{AllChildrenLive};
 ghost use Rattle.pt_scenes.specs.declared.team.Member.{Member};
 ghost use Rattle.pt_scenes.specs.Team.{AreTeams, boss_of};
@@ -38,7 +38,7 @@ struct Workers {
 
 impl Start<Member> for Workers {
     ghost starts = { λ old boss place result new. (b : Member) (first : Next) → result ≡ Ok (b, first)
-        → BeginsAs (boss_of b) first };
+        → SupervisorBegins (boss_of b) first };
 
     fn start(&mut self, _supervisor: Pid, _place: usize) -> Result<(Member, Next), Fault> {
         let worker = Member { boss: None };
@@ -82,7 +82,7 @@ impl Supervised for Member {
 
 /// A supervisor of three permanent children, which starts each again by itself, a hundred times at most.
 fn team(alloc: Global) -> Result<Member, AllocError>
-    ensures { IfOk result (λ b. BeginsAs (boss_of b) Next.Proceed) }
+    ensures { IfOk result (λ b. SupervisorBegins (boss_of b) Next.Proceed) }
 {
     let child = Child::new(Restart::Permanent);
     let children = vec![in alloc; child, child, child]?;

@@ -4,7 +4,7 @@ use Rattle.std.proofs.lemmas.List.{drop_more, drop_all}
 use Rattle.pt_script.specs.declared.fault.ScriptError.{ScriptError}
 use Rattle.pt_script.specs.declared.fault.ScriptError.TheVariants.{Refused, Memory}
 use Rattle.pt_script.specs.Steps.{◌>>=◌, each}
-use Rattle.pt_script.specs.Lists.{Refuses}
+use Rattle.pt_script.specs.Lists.{ScriptRefuses}
 
 pub each_at : {A B E : Type 0} (f : B → A → Result B E) (b : B) (xs : List A) (i : ℕ) (x : A) → i < length xs → get_or xs i x ≡ x → each f b (drop i xs) ≡ (f b x >>= λ a. each f a (drop (i + 1) xs))
 each_at f b xs i x lt here = ap (each f b) (drop_more xs i x lt ∙ ap (λ y. y ∷ drop (i + 1) xs) here)
@@ -15,7 +15,7 @@ each_next f b after xs i x all lt here step before =
     ap (λ r. r >>= λ a. each f a (drop (i + 1) xs)) (sym step) ∙ sym (each_at f b xs i x lt here) ∙ before
 
 -- the fault of an item is that of the list
-pub each_refuses : {A B : Type 0} (f : B → A → Result B ScriptError) (b : B) (xs : List A) (i : ℕ) (x : A) (e : ScriptError) (all : Result B ScriptError) → i < length xs → get_or xs i x ≡ x → Refuses e (f b x) → each f b (drop i xs) ≡ all → Refuses e all
+pub each_refuses : {A B : Type 0} (f : B → A → Result B ScriptError) (b : B) (xs : List A) (i : ℕ) (x : A) (e : ScriptError) (all : Result B ScriptError) → i < length xs → get_or xs i x ≡ x → ScriptRefuses e (f b x) → each f b (drop i xs) ≡ all → ScriptRefuses e all
 each_refuses f b xs i x Memory all lt here step before = tt
 each_refuses f b xs i x (Refused fault place) all lt here step before =
     sym before ∙ each_at f b xs i x lt here ∙ ap (λ r. r >>= λ a. each f a (drop (i + 1) xs)) step

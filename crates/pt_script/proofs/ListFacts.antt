@@ -11,7 +11,7 @@ use Rattle.pt_script.specs.declared.fault.Place.{Place}
 use Rattle.pt_script.specs.declared.fault.ScriptError.TheVariants.{Refused, Memory}
 use Rattle.pt_script.specs.Operations.{is_spawn}
 use Rattle.pt_script.specs.Plans.{Plan}
-use Rattle.pt_script.specs.Lists.{Part, Step, list_from, list_with, step_at, one_at, limits, placed, at_operation, simple, spawned, Refuses, ReadsSimple, ReadsStep}
+use Rattle.pt_script.specs.Lists.{Part, Step, list_from, list_with, step_at, one_at, limits, placed, at_operation, simple, spawned, ScriptRefuses, ReadsSimple, ReadsStep}
 
 -- what was read before, and then what read gives
 abbrev pub behind : List Operation → List Plan → Result Part ScriptError → Result Part ScriptError
@@ -81,7 +81,7 @@ behind_next levels index s next seen xs d os inside one all lt here step before 
     behind_step levels index s next seen d (drop (index + 1) xs) os inside one all step
     (ap (λ ds. behind os inside (list_from levels index s next seen ds)) (sym (drop_more xs index d lt ∙ ap (λ e. e ∷ drop (index + 1) xs) here)) ∙ before)
 
-pub refuses_behind : (levels index : ℕ) (s : Scope) (next seen : ℕ) (xs : List Data) (d : Data) (os : List Operation) (inside : List Plan) (e : ScriptError) (all : Result Part ScriptError) → index < length xs → get_or xs index d ≡ d → Refuses e (step_at levels index s next seen d) → behind os inside (list_from levels index s next seen (drop index xs)) ≡ all → Refuses e all
+pub refuses_behind : (levels index : ℕ) (s : Scope) (next seen : ℕ) (xs : List Data) (d : Data) (os : List Operation) (inside : List Plan) (e : ScriptError) (all : Result Part ScriptError) → index < length xs → get_or xs index d ≡ d → ScriptRefuses e (step_at levels index s next seen d) → behind os inside (list_from levels index s next seen (drop index xs)) ≡ all → ScriptRefuses e all
 refuses_behind levels index s next seen xs d os inside Memory all lt here step before = tt
 refuses_behind levels index s next seen xs d os inside (Refused f p) all lt here step before =
     behind_fault levels index s next seen d (drop (index + 1) xs) os inside (Refused f p) all step
@@ -96,12 +96,12 @@ behind_end levels index s next seen xs os inside all past before =
     ∙ ap (λ xs. Ok (record { operations = os; inside = xs; seen = seen })) (append-nil inside)
 
 -- what was refused, or nothing where memory ran out
-pub refuses_from : {A : Type 0} (e : ScriptError) (read : Result A ScriptError) → read ≡ Err e → Refuses e read
+pub refuses_from : {A : Type 0} (e : ScriptError) (read : Result A ScriptError) → read ≡ Err e → ScriptRefuses e read
 refuses_from Memory read h = tt
 refuses_from (Refused f p) read h = h
 
 -- a refusal stays one, whatever comes after it
-pub refuses_after : {A B : Type 0} (e : ScriptError) (read : Result A ScriptError) (f : A → Result B ScriptError) → Refuses e read → Refuses e (read >>= f)
+pub refuses_after : {A B : Type 0} (e : ScriptError) (read : Result A ScriptError) (f : A → Result B ScriptError) → ScriptRefuses e read → ScriptRefuses e (read >>= f)
 refuses_after Memory read f h = tt
 refuses_after (Refused fault place) read f h = ap (λ r. r >>= f) h
 

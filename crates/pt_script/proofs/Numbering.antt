@@ -15,12 +15,12 @@ use Rattle.pt_script.specs.declared.values.Settings.{Settings}
 use Rattle.pt_script.specs.declared.values.Top.{Top}
 use Rattle.pt_script.specs.Plans.{Plan, Whole}
 use Rattle.pt_script.specs.Steps.{◌>>=◌, each}
-use Rattle.pt_script.specs.Members.{known, whole, required, optional, list, flag}
+use Rattle.pt_script.specs.Members.{known_members, whole_number, required, optional_member, list, flag}
 use Rattle.pt_script.specs.Operations.{is_spawn, new_name}
 use Rattle.pt_script.specs.Scopes.{Naming, Scope, is_own_name}
-use Rattle.pt_script.specs.Lists.{Part, placed, at_script, at_process, fresh, list_from}
+use Rattle.pt_script.specs.Lists.{Part, placed, at_script, at_process, fresh_scope, list_from}
 use Rattle.pt_script.specs.Scripts.{Heads, Head, Pending, Lists, settings, head, with_head, next_head, no_heads, next_list, no_lists, few, room, begun_in, spawned_by, loose, script, script_of, reading}
-use Rattle.pt_script.specs.Standing.{ops_of, spawns_in, processes_in, processes_of, all_processes, Stands, HasPlace, AreOperationsOf, ArePlansOf, AreTopsOf, AreNamesOf, IsNumbered}
+use Rattle.pt_script.specs.Standing.{ops_of, spawns_in, processes_in, processes_of, all_processes, OperationStands, HasPlaceIn, AreOperationsOf, ArePlansOf, AreTopsOf, AreNamesOf, IsNumbered}
 use Rattle.pt_script.proofs.SoundSteps.{bind, skip, where_ok, either}
 use Rattle.pt_script.proofs.SoundLists.{sum_cons}
 use Rattle.pt_script.proofs.Standing.{Told, told, told_placed, In, StandFrom, front, behind, own_all, plans_append, plans_length, PartOf, list_from_of}
@@ -74,7 +74,7 @@ pub all_stand : (all : List Data) → StandFrom all 0 all
 all_stand all = stand_behind [] all
 
 -- the first of what stands from a number on
-first_stands : (all : List Data) (n : ℕ) (d : Data) (ds : List Data) → StandFrom all n (processes_of (d ∷ ds)) → Stands all n d
+first_stands : (all : List Data) (n : ℕ) (d : Data) (ds : List Data) → StandFrom all n (processes_of (d ∷ ds)) → OperationStands all n d
 first_stands all n d ds h =
     let f = first_inside 63 d in
     (subst (λ (xs : List Data). StandFrom all n xs) f.1 (front all n (processes_in 63 d) (processes_of ds) h)).0
@@ -105,11 +105,11 @@ NameIs d h = get (codes "name") d ≡ Some (string h.name)
 head_name : (s : Settings) (before : Heads) (d : Data) → IfOk (head s before d) (NameIs d)
 unfolding head
 head_name s before d =
-    skip (NameIs d) (known (codes "name" ∷ codes "desk" ∷ codes "trap" ∷ codes "ops" ∷ []) d) (λ u. (required (new_name before.names) (get (codes "name") d) >>= λ name. (required (whole 0 (s.desks - 1)) (get (codes "desk") d) >>= λ desk. (room s before.tops desk >>= λ r. (optional false flag (get (codes "trap") d) >>= λ trap. Ok (record { name = name; desk = desk; trap = trap })))))) (λ u.
-    bind (λ q. get (codes "name") d ≡ Some (string q)) (NameIs d) (required (new_name before.names) (get (codes "name") d)) (λ name. (required (whole 0 (s.desks - 1)) (get (codes "desk") d) >>= λ desk. (room s before.tops desk >>= λ r. (optional false flag (get (codes "trap") d) >>= λ trap. Ok (record { name = name; desk = desk; trap = trap }))))) (needed_name before.names (get (codes "name") d)) (λ name is.
-    skip (NameIs d) (required (whole 0 (s.desks - 1)) (get (codes "desk") d)) (λ desk. (room s before.tops desk >>= λ r. (optional false flag (get (codes "trap") d) >>= λ trap. Ok (record { name = name; desk = desk; trap = trap })))) (λ desk.
-    skip (NameIs d) (room s before.tops desk) (λ r. (optional false flag (get (codes "trap") d) >>= λ trap. Ok (record { name = name; desk = desk; trap = trap }))) (λ r.
-    skip (NameIs d) (optional false flag (get (codes "trap") d)) (λ trap. Ok (record { name = name; desk = desk; trap = trap })) (λ trap. is)))))
+    skip (NameIs d) (known_members (codes "name" ∷ codes "desk" ∷ codes "trap" ∷ codes "ops" ∷ []) d) (λ u. (required (new_name before.names) (get (codes "name") d) >>= λ name. (required (whole_number 0 (s.desks - 1)) (get (codes "desk") d) >>= λ desk. (room s before.tops desk >>= λ r. (optional_member false flag (get (codes "trap") d) >>= λ trap. Ok (record { name = name; desk = desk; trap = trap })))))) (λ u.
+    bind (λ q. get (codes "name") d ≡ Some (string q)) (NameIs d) (required (new_name before.names) (get (codes "name") d)) (λ name. (required (whole_number 0 (s.desks - 1)) (get (codes "desk") d) >>= λ desk. (room s before.tops desk >>= λ r. (optional_member false flag (get (codes "trap") d) >>= λ trap. Ok (record { name = name; desk = desk; trap = trap }))))) (needed_name before.names (get (codes "name") d)) (λ name is.
+    skip (NameIs d) (required (whole_number 0 (s.desks - 1)) (get (codes "desk") d)) (λ desk. (room s before.tops desk >>= λ r. (optional_member false flag (get (codes "trap") d) >>= λ trap. Ok (record { name = name; desk = desk; trap = trap })))) (λ desk.
+    skip (NameIs d) (room s before.tops desk) (λ r. (optional_member false flag (get (codes "trap") d) >>= λ trap. Ok (record { name = name; desk = desk; trap = trap }))) (λ r.
+    skip (NameIs d) (optional_member false flag (get (codes "trap") d)) (λ trap. Ok (record { name = name; desk = desk; trap = trap })) (λ trap. is)))))
 
 abbrev value_of : Pending → Data
 value_of p = p.value
@@ -120,7 +120,7 @@ pub record HeadsOf (all done : List Data) (h : Heads) : Type 0 where
   pub names : AreNamesOf all h.names
   pub next : h.next ≡ min (length (processes_of done)) 4294967295
 
-tops_more : (all : List Data) (ts : List Top) (ds : List Data) (t : Top) (d : Data) → AreTopsOf all ts ds → Stands all t.process d → AreTopsOf all (ts ++ t ∷ []) (ds ++ d ∷ [])
+tops_more : (all : List Data) (ts : List Top) (ds : List Data) (t : Top) (d : Data) → AreTopsOf all ts ds → OperationStands all t.process d → AreTopsOf all (ts ++ t ∷ []) (ds ++ d ∷ [])
 tops_more all [] [] t d h g = (g, tt)
 tops_more all [] (e ∷ ds) t d h g = absurd h
 tops_more all (u ∷ ts) [] t d h g = absurd h
@@ -130,7 +130,7 @@ map_more : (ps : List Pending) (p : Pending) → map value_of (ps ++ p ∷ []) �
 map_more [] p = refl
 map_more (q ∷ ps) p = ap (λ xs. q.value ∷ xs) (map_more ps p)
 
-name_of : (all : List Data) (names : Naming) (name : List ℕ) (place : ℕ) (d : Data) → Stands all place d → get (codes "name") d ≡ Some (string name) → AreNamesOf all names → (b : Bool) (q : List ℕ) (n : ℕ) → (b ≡ true → name ≡ q) → (if b then Some place else names q) ≡ Some n → (n < length all) × (get (codes "name") (get_or all n null) ≡ Some (string q))
+name_of : (all : List Data) (names : Naming) (name : List ℕ) (place : ℕ) (d : Data) → OperationStands all place d → get (codes "name") d ≡ Some (string name) → AreNamesOf all names → (b : Bool) (q : List ℕ) (n : ℕ) → (b ≡ true → name ≡ q) → (if b then Some place else names q) ≡ Some n → (n < length all) × (get (codes "name") (get_or all n null) ≡ Some (string q))
 name_of all names name place d stands is before true q n same e =
     let k : place ≡ n = cc in
     subst (λ m. (m < length all) × (get (codes "name") (get_or all m null) ≡ Some (string q))) k (stands.0, ap (get (codes "name")) stands.1 ∙ is ∙ ap (λ t. Some (string t)) (same refl))
@@ -143,10 +143,10 @@ behind_done : (done : List Data) (d : Data) → length (processes_of (done ++ d 
 behind_done done d =
     ap length (processes_more done (d ∷ [])) ∙ length-append (processes_of done) (processes_of (d ∷ [])) ∙ ap (λ n. length (processes_of done) + n) (ap length (append-nil (processes_in 63 d)) ∙ inside_length 63 d)
 
-head_more : (all done : List Data) (before : Heads) (h : Head) (d : Data) → HeadsOf all done before → Stands all (length (processes_of done)) d → before.next < 4096 → NameIs d h → HeadsOf all (done ++ d ∷ []) (with_head before h d)
+head_more : (all done : List Data) (before : Heads) (h : Head) (d : Data) → HeadsOf all done before → OperationStands all (length (processes_of done)) d → before.next < 4096 → NameIs d h → HeadsOf all (done ++ d ∷ []) (with_head before h d)
 head_more all done before h d of stands low is =
     let exact : length (processes_of done) ≡ before.next = omega (arith, of.next, low) in
-    let here : Stands all before.next d = subst (λ n. Stands all n d) exact stands in
+    let here : OperationStands all before.next d = subst (λ n. OperationStands all n d) exact stands in
     record {
       values = map_more before.unread (record { trap = h.trap; value = d }) ∙ ap (λ xs. xs ++ d ∷ []) of.values;
       tops = tops_more all before.tops done (record { process = before.next; desk = h.desk }) d of.tops here;
@@ -161,7 +161,7 @@ by_few all n false h = refl
 few_told : (all : List Data) (n : ℕ) → In all (at_process n) → Told (In all) (λ u. few n ≡ Ok u) (few n)
 few_told all n h = by_few all n (nat_le 4096 n) h
 
-next_head_of : (all done : List Data) (s : Settings) (before : Heads) (d : Data) → HeadsOf all done before → Stands all (length (processes_of done)) d → Told (In all) (HeadsOf all (done ++ d ∷ [])) (next_head s before d)
+next_head_of : (all done : List Data) (s : Settings) (before : Heads) (d : Data) → HeadsOf all done before → OperationStands all (length (processes_of done)) d → Told (In all) (HeadsOf all (done ++ d ∷ [])) (next_head s before d)
 unfolding next_head
 next_head_of all done s before d of stands =
     let place : In all (at_process before.next) = omega (arith, of.next, stands.0) in
@@ -203,7 +203,7 @@ next_list_of all done format names before p of stand =
     let Q : Lists → Type 0 = ListsOf all (done ++ d ∷ []) in
     let Is : List Data → Type 0 = λ ops. required list (get (codes "ops") d) ≡ Ok ops in
     let given : Result (List Data) Fault = required list (get (codes "ops") d) in
-    let s : Scope = fresh format size None names in
+    let s : Scope = fresh_scope format size None names in
     let of_part : Part → Result Lists ScriptError = λ part. Ok (record { processes = before.processes ++ record { trap = p.trap; operations = part.operations } ∷ part.inside; seen = part.seen }) in
     let of_ops : List Data → Result Lists ScriptError = λ ops. list_from 8 0 s (size + 1) before.seen ops >>= of_part in
     told (In all) (λ u. few size ≡ Ok u) Q (few size) (λ u. placed (at_process size) given >>= of_ops) (few_told all size here.0.0) (λ u e.
@@ -213,8 +213,8 @@ next_list_of all done format names before p of stand =
     told (In all) (PartOf all ops (spawns_in (λ op. processes_in 62 op) ops)) Q (list_from 8 0 s (size + 1) before.seen ops) of_part (list_from_of all 8 62 (omega arith) 0 s (size + 1) before.seen ops (own_all all size d ops here.0 same) below) (λ part h.
     let plan : Plan = record { trap = p.trap; operations = part.operations } in
     let more : ArePlansOf all (plan ∷ part.inside) (d ∷ inside) = (subst (λ (es : List Data). AreOperationsOf all part.operations es) (sym same) h.operations, subst (λ (es : List Data). ArePlansOf all part.inside (spawns_in (λ op. processes_in 62 op) es)) (sym same) h.inside_is) in
-    let whole : processes_of done ++ d ∷ inside ≡ processes_of (done ++ d ∷ []) = ap (λ xs. processes_of done ++ xs) (sym (inside_is d) ∙ sym (append-nil (processes_in 63 d))) ∙ sym (processes_more done (d ∷ [])) in
-    subst (λ (xs : List Data). ArePlansOf all (before.processes ++ plan ∷ part.inside) xs) whole (plans_append all before.processes (plan ∷ part.inside) (processes_of done) (d ∷ inside) of more))))
+    let whole_number : processes_of done ++ d ∷ inside ≡ processes_of (done ++ d ∷ []) = ap (λ xs. processes_of done ++ xs) (sym (inside_is d) ∙ sym (append-nil (processes_in 63 d))) ∙ sym (processes_more done (d ∷ [])) in
+    subst (λ (xs : List Data). ArePlansOf all (before.processes ++ plan ∷ part.inside) xs) whole_number (plans_append all before.processes (plan ∷ part.inside) (processes_of done) (d ∷ inside) of more))))
 
 lists_of : (all done : List Data) (format : ℕ) (names : Naming) (before : Lists) (ps : List Pending) → ListsOf all done before → StandFrom all (length (processes_of done)) (processes_of (map value_of ps)) → Told (In all) (ListsOf all (done ++ map value_of ps)) (each (next_list format names) before ps)
 lists_of all done format names before [] of stand = subst (λ (xs : List Data). ListsOf all xs before) (sym (append-nil done)) of
@@ -255,30 +255,30 @@ script_told d =
 
 -- the laws ----------------------------------------------------------------------------------
 
-as_a_whole : (o : Option Data) → HasPlace o at_script
+as_a_whole : (o : Option Data) → HasPlaceIn o at_script
 as_a_whole None = refl
 as_a_whole (Some d) = tt
 
 abbrev Read : Option Data → Whole → Type 0
 Read o w = (d : Data) × (o ≡ Some d) × IsNumbered d w
 
-lifted : (d : Data) (r : Result Whole ScriptError) → Told (In (all_processes d)) (IsNumbered d) r → Told (HasPlace (Some d)) (Read (Some d)) r
+lifted : (d : Data) (r : Result Whole ScriptError) → Told (In (all_processes d)) (IsNumbered d) r → Told (HasPlaceIn (Some d)) (Read (Some d)) r
 lifted d (Ok w) h = (d, refl, h)
 lifted d (Err (Refused fault place)) h = h
 lifted d (Err Memory) h = tt
 
-script_of_told : (o : Option Data) → Told (HasPlace o) (Read o) (script_of o)
+script_of_told : (o : Option Data) → Told (HasPlaceIn o) (Read o) (script_of o)
 script_of_told None = refl
 script_of_told (Some d) = lifted d (script d) (script_told d)
 
-reading_told : (bytes : List ℕ) → Told (HasPlace (read bytes)) (Read (read bytes)) (reading bytes)
+reading_told : (bytes : List ℕ) → Told (HasPlaceIn (read bytes)) (Read (read bytes)) (reading bytes)
 unfolding reading
 reading_told bytes =
-    let P : Result Whole ScriptError → Type 0 = Told (HasPlace (read bytes)) (Read (read bytes)) in
+    let P : Result Whole ScriptError → Type 0 = Told (HasPlaceIn (read bytes)) (Read (read bytes)) in
     let of_text : Result Whole ScriptError = if is_utf8 bytes then script_of (read bytes) else Err (Refused Syntax at_script) in
     either P (nat_lt 1048576 (length bytes)) (Err (Refused Bounds at_script)) of_text (as_a_whole (read bytes)) (either P (is_utf8 bytes) (script_of (read bytes)) (Err (Refused Syntax at_script)) (script_of_told (read bytes)) (as_a_whole (read bytes)))
 
-pub faults_have_places : (bytes : List ℕ) (fault : Fault) (place : Place) → reading bytes ≡ Err (Refused fault place) → HasPlace (read bytes) place
+pub faults_have_places : (bytes : List ℕ) (fault : Fault) (place : Place) → reading bytes ≡ Err (Refused fault place) → HasPlaceIn (read bytes) place
 faults_have_places bytes fault place e = rw e at (reading_told bytes)
 
 pub numbers_are_places : (bytes : List ℕ) (w : Whole) → reading bytes ≡ Ok w → (d : Data) × (read bytes ≡ Some d) × IsNumbered d w

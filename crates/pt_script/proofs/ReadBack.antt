@@ -10,10 +10,10 @@ use Rattle.pt_script.specs.Plans.{Plan}
 use Rattle.pt_script.specs.Steps.{◌>>=◌}
 use Rattle.pt_script.specs.Operations.{is_spawn, spawn}
 use Rattle.pt_script.specs.Scopes.{Scope, process_in}
-use Rattle.pt_script.specs.Lists.{Part, Step, placed, at_operation, fresh, with_child, limits, list_from, step_at}
+use Rattle.pt_script.specs.Lists.{Part, Step, placed, at_operation, fresh_scope, with_child, limits, list_from, step_at}
 use Rattle.pt_script.specs.Sound.{operations_of}
-use Rattle.pt_script.specs.Sights.{Sight, CanDo, sight_behind, first_sight, Begins, StepBegins, ListBegins, NoneBegins, BeginsIn}
-use Rattle.pt_script.specs.Writing.{Called, written, CanSay, scope_behind}
+use Rattle.pt_script.specs.Sights.{NameSight, CanDo, sight_behind, first_sight, Begins, StepBegins, ListBegins, NoneBegins, BeginsIn}
+use Rattle.pt_script.specs.Writing.{Called, written_operation, CanSay, scope_behind}
 use Rattle.pt_script.specs.WritingScripts.{process_name, calls, plan_of, spawn_written, operation_written, list_written}
 use Rattle.pt_script.proofs.ObjectFacts.{data_of-items_of}
 use Rattle.pt_script.proofs.ListFacts.{list_from-cons, list_from-nil, step_at-simple, step_at-spawn, with_first}
@@ -53,16 +53,16 @@ limits_spawn place less next seen low few =
     let c : nat_le (suc less) 0 ≡ false = grind arith in
     rw (a, b, c) refl
 
-simple_back : (levels index : ℕ) (s : Scope) (next seen : ℕ) (c : Called) (o : Operation) → is_spawn (written c o) ≡ false → CanSay s c o → seen < 65536 → step_at levels index s next seen (written c o) ≡ Ok (record { operation = o; inside = []; seen = seen + 1; scope = scope_behind s c o })
+simple_back : (levels index : ℕ) (s : Scope) (next seen : ℕ) (c : Called) (o : Operation) → is_spawn (written_operation c o) ≡ false → CanSay s c o → seen < 65536 → step_at levels index s next seen (written_operation c o) ≡ Ok (record { operation = o; inside = []; seen = seen + 1; scope = scope_behind s c o })
 simple_back levels index s next seen c o calm say few =
-    let free : limits (is_spawn (written c o)) (at_operation s.own index) levels next seen ≡ Ok tt = ap (λ b. limits b (at_operation s.own index) levels next seen) calm ∙ limits_calm (at_operation s.own index) levels next seen few in
-    step_at-simple levels index s next seen (written c o) free calm ∙ ap (λ r. placed (at_operation s.own index) r >>= λ m. Ok (record { operation = m.0; inside = []; seen = seen + 1; scope = m.1 })) (back s c o say)
+    let free : limits (is_spawn (written_operation c o)) (at_operation s.own index) levels next seen ≡ Ok tt = ap (λ b. limits b (at_operation s.own index) levels next seen) calm ∙ limits_calm (at_operation s.own index) levels next seen few in
+    step_at-simple levels index s next seen (written_operation c o) free calm ∙ ap (λ r. placed (at_operation s.own index) r >>= λ m. Ok (record { operation = m.0; inside = []; seen = seen + 1; scope = m.1 })) (back s c o say)
 
 -- how many operations have been read behind a spawn
 abbrev read_behind : ℕ → Plan → List Plan → ℕ
 read_behind seen child inside = seen + 1 + (length child.operations + operations_of inside)
 
-spawn_step : (less index next seen : ℕ) (s : Scope) (linked : Bool) (child : Plan) (inside : List Plan) (ops : List Data) → next < 4096 → seen < 65536 → process_in s (process_name next) ≡ None → list_from less 0 (fresh s.format next (Some s.own) s.tops) (next + 1) (seen + 1) ops ≡ Ok (record { operations = child.operations; inside = inside; seen = read_behind seen child inside }) → step_at (suc less) index s next seen (spawn_written next linked child.trap ops) ≡ Ok (record { operation = operation.Spawn next linked; inside = child ∷ inside; seen = read_behind seen child inside; scope = with_child s (process_name next) next })
+spawn_step : (less index next seen : ℕ) (s : Scope) (linked : Bool) (child : Plan) (inside : List Plan) (ops : List Data) → next < 4096 → seen < 65536 → process_in s (process_name next) ≡ None → list_from less 0 (fresh_scope s.format next (Some s.own) s.tops) (next + 1) (seen + 1) ops ≡ Ok (record { operations = child.operations; inside = inside; seen = read_behind seen child inside }) → step_at (suc less) index s next seen (spawn_written next linked child.trap ops) ≡ Ok (record { operation = operation.Spawn next linked; inside = child ∷ inside; seen = read_behind seen child inside; scope = with_child s (process_name next) next })
 spawn_step less index next seen s linked child inside ops low few new got =
     let d : Data = spawn_written next linked child.trap ops in
     let place : Place = at_operation s.own index in
@@ -76,13 +76,13 @@ abbrev pub Inner : ℕ → Begins
 Inner zero = NoneBegins
 Inner (suc levels) = λ u n qs ps. BeginsIn levels u n qs ps
 
-opened : (levels : ℕ) (v : Sight) (next : ℕ) (os : List Operation) (plans : List Plan) → BeginsIn levels v next os plans → ListBegins (Inner levels) v next os plans
+opened : (levels : ℕ) (v : NameSight) (next : ℕ) (os : List Operation) (plans : List Plan) → BeginsIn levels v next os plans → ListBegins (Inner levels) v next os plans
 unfolding BeginsIn
 opened zero v next os plans h = h
 opened (suc levels) v next os plans h = h
 
 -- the operations of a list, written
-abbrev pub ops_written : ℕ → List Plan → Sight → List Operation → List Data
+abbrev pub ops_written : ℕ → List Plan → NameSight → List Operation → List Data
 ops_written levels all v os = map (operation_written (λ n. list_written levels all (Some v.own) n) all (calls v.own v.parent)) os
 
 abbrev whole_part : ℕ → List Operation → List Plan → Part
@@ -91,7 +91,7 @@ whole_part seen os plans = record { operations = os; inside = plans; seen = seen
 -- in lists of so many levels, what was written is read back
 abbrev pub ReadsBack : List Plan → ℕ → Type 0
 ReadsBack all levels =
-    (from to next seen index : ℕ) (s : Scope) (v : Sight) (os : List Operation) (plans : List Plan) → Agrees from to next seen s v → BeginsIn levels v next os plans → to ≤ 4096
+    (from to next seen index : ℕ) (s : Scope) (v : NameSight) (os : List Operation) (plans : List Plan) → Agrees from to next seen s v → BeginsIn levels v next os plans → to ≤ 4096
     → StandAll all next plans → next + length plans ≤ to → seen + (length os + operations_of plans) ≤ 65536
     → list_from levels index s next seen (ops_written levels all v os) ≡ Ok (whole_part seen os plans)
 
@@ -100,12 +100,12 @@ InnerBack all zero = Unit {0}
 InnerBack all (suc levels) = ReadsBack all levels
 
 -- an operation is read back, with what it begins, and what is behind it agrees
-abbrev StepBack : (levels from to next seen index : ℕ) → Scope → Sight → Operation → List Plan → Data → Type 0
+abbrev StepBack : (levels from to next seen index : ℕ) → Scope → NameSight → Operation → List Plan → Data → Type 0
 StepBack levels from to next seen index s v o mine d =
     (t : Scope) × (step_at levels index s next seen d ≡ Ok (record { operation = o; inside = mine; seen = seen + (1 + operations_of mine); scope = t }))
     × Agrees from to (next + length mine) (seen + (1 + operations_of mine)) t (sight_behind v o)
 
-simple_case : (levels from to next seen index : ℕ) (s : Scope) (v : Sight) (o : Operation) (mine : List Plan) (d : Data) → Agrees from to next seen s v → next ≤ 4096 → seen < 65536 → is_spawn (written (calls v.own v.parent) o) ≡ false → d ≡ written (calls v.own v.parent) o → CanDo v o → mine ≡ [] → StepBack levels from to next seen index s v o mine d
+simple_case : (levels from to next seen index : ℕ) (s : Scope) (v : NameSight) (o : Operation) (mine : List Plan) (d : Data) → Agrees from to next seen s v → next ≤ 4096 → seen < 65536 → is_spawn (written_operation (calls v.own v.parent) o) ≡ false → d ≡ written_operation (calls v.own v.parent) o → CanDo v o → mine ≡ [] → StepBack levels from to next seen index s v o mine d
 simple_case levels from to next seen index s v o mine d h low few calm same can none =
     let c : Called = calls v.own v.parent in
     let a : seen + 1 ≡ seen + (1 + operations_of []) = omega arith in
@@ -120,13 +120,13 @@ list_is : (less : ℕ) (all : List Plan) (format own n : ℕ) (tops : List ℕ) 
 unfolding list_written
 list_is less all format own n tops child e = rw e refl
 
-spawn_case : (all : List Plan) (levels from to next seen index : ℕ) (s : Scope) (v : Sight) (n : ℕ) (linked : Bool) (mine : List Plan) → InnerBack all levels → Agrees from to next seen s v → to ≤ 4096 → StandAll all next mine → next + length mine ≤ to → seen + (1 + operations_of mine) ≤ 65536 → StepBegins (Inner levels) v next (operation.Spawn n linked) mine → StepBack levels from to next seen index s v (operation.Spawn n linked) mine (spawn_written n linked (plan_of all n).trap (list_written levels all (Some v.own) n))
+spawn_case : (all : List Plan) (levels from to next seen index : ℕ) (s : Scope) (v : NameSight) (n : ℕ) (linked : Bool) (mine : List Plan) → InnerBack all levels → Agrees from to next seen s v → to ≤ 4096 → StandAll all next mine → next + length mine ≤ to → seen + (1 + operations_of mine) ≤ 65536 → StepBegins (Inner levels) v next (operation.Spawn n linked) mine → StepBack levels from to next seen index s v (operation.Spawn n linked) mine (spawn_written n linked (plan_of all n).trap (list_written levels all (Some v.own) n))
 spawn_case all levels from to next seen index s v n linked [] inner h low stand fits few begins = absurd begins
 spawn_case all zero from to next seen index s v n linked (child ∷ inside) inner h low stand fits few begins = absurd begins.1
 spawn_case all (suc less) from to next seen index s v n linked (child ∷ inside) inner h low stand fits few begins =
     let sum : operations_of (child ∷ inside) ≡ length child.operations + operations_of inside = sum_cons (λ (p : Plan). length p.operations) child inside in
-    let u : Sight = first_sight v.format next (Some v.own) v.tops in
-    let t : Scope = fresh s.format next (Some s.own) s.tops in
+    let u : NameSight = first_sight v.format next (Some v.own) v.tops in
+    let t : Scope = fresh_scope s.format next (Some s.own) s.tops in
     let ops : List Data = list_written (suc less) all (Some v.own) next in
     let small : next < 4096 = omega (arith, fits, low) in
     let ahead : next < to = omega (arith, fits) in
@@ -143,11 +143,11 @@ spawn_case all (suc less) from to next seen index s v n linked (child ∷ inside
     let plain : StepBack (suc less) from to next seen index s v (operation.Spawn next linked) (child ∷ inside) (spawn_written next linked (plan_of all next).trap ops) = subst (λ (p : Plan). StepBack (suc less) from to next seen index s v (operation.Spawn next linked) (child ∷ inside) (spawn_written next linked p.trap ops)) (sym stand.0) here in
     subst (λ m. StepBack (suc less) from to next seen index s v (operation.Spawn m linked) (child ∷ inside) (spawn_written m linked (plan_of all m).trap (list_written (suc less) all (Some v.own) m))) (sym begins.0) plain
 
-step_back : (all : List Plan) (levels from to next seen index : ℕ) (s : Scope) (v : Sight) (o : Operation) (mine : List Plan) → InnerBack all levels → Agrees from to next seen s v → to ≤ 4096 → StandAll all next mine → next + length mine ≤ to → seen + (1 + operations_of mine) ≤ 65536 → StepBegins (Inner levels) v next o mine → StepBack levels from to next seen index s v o mine (operation_written (λ n. list_written levels all (Some v.own) n) all (calls v.own v.parent) o)
+step_back : (all : List Plan) (levels from to next seen index : ℕ) (s : Scope) (v : NameSight) (o : Operation) (mine : List Plan) → InnerBack all levels → Agrees from to next seen s v → to ≤ 4096 → StandAll all next mine → next + length mine ≤ to → seen + (1 + operations_of mine) ≤ 65536 → StepBegins (Inner levels) v next o mine → StepBack levels from to next seen index s v o mine (operation_written (λ n. list_written levels all (Some v.own) n) all (calls v.own v.parent) o)
 step_back all levels from to next seen index s v (operation.Spawn n linked) mine inner h low stand fits few begins = spawn_case all levels from to next seen index s v n linked mine inner h low stand fits few begins
-step_back all levels from to next seen index s v o mine inner h low stand fits few begins = simple_case levels from to next seen index s v o mine (written (calls v.own v.parent) o) h (omega (arith, fits, low)) (omega (arith, few)) refl refl begins.0 begins.1
+step_back all levels from to next seen index s v o mine inner h low stand fits few begins = simple_case levels from to next seen index s v o mine (written_operation (calls v.own v.parent) o) h (omega (arith, fits, low)) (omega (arith, few)) refl refl begins.0 begins.1
 
-then_list : (all : List Plan) (levels next seen index : ℕ) (s t : Scope) (v : Sight) (o : Operation) (os : List Operation) (mine others : List Plan) (d : Data) (ds : List Data) → step_at levels index s next seen d ≡ Ok (record { operation = o; inside = mine; seen = seen + (1 + operations_of mine); scope = t }) → list_from levels (index + 1) t (next + length mine) (seen + (1 + operations_of mine)) ds ≡ Ok (whole_part (seen + (1 + operations_of mine)) os others) → list_from levels index s next seen (d ∷ ds) ≡ Ok (whole_part seen (o ∷ os) (mine ++ others))
+then_list : (all : List Plan) (levels next seen index : ℕ) (s t : Scope) (v : NameSight) (o : Operation) (os : List Operation) (mine others : List Plan) (d : Data) (ds : List Data) → step_at levels index s next seen d ≡ Ok (record { operation = o; inside = mine; seen = seen + (1 + operations_of mine); scope = t }) → list_from levels (index + 1) t (next + length mine) (seen + (1 + operations_of mine)) ds ≡ Ok (whole_part (seen + (1 + operations_of mine)) os others) → list_from levels index s next seen (d ∷ ds) ≡ Ok (whole_part seen (o ∷ os) (mine ++ others))
 then_list all levels next seen index s t v o os mine others d ds step rest =
     let sum : seen + (1 + operations_of mine) + (length os + operations_of others) ≡ seen + (length (o ∷ os) + operations_of (mine ++ others)) = omega (arith, sum_by-append (λ (p : Plan). length p.operations) mine others) in
     let one : Step = record { operation = o; inside = mine; seen = seen + (1 + operations_of mine); scope = t } in
@@ -159,7 +159,7 @@ then_list all levels next seen index s t v o os mine others d ds step rest =
 -- in lists of so many levels, these operations are read back
 abbrev ListBack : List Plan → ℕ → List Operation → Type 0
 ListBack all levels os =
-    (from to next seen index : ℕ) (s : Scope) (v : Sight) (plans : List Plan) → Agrees from to next seen s v → to ≤ 4096 → ListBegins (Inner levels) v next os plans
+    (from to next seen index : ℕ) (s : Scope) (v : NameSight) (plans : List Plan) → Agrees from to next seen s v → to ≤ 4096 → ListBegins (Inner levels) v next os plans
     → StandAll all next plans → next + length plans ≤ to → seen + (length os + operations_of plans) ≤ 65536
     → list_from levels index s next seen (ops_written levels all v os) ≡ Ok (whole_part seen os plans)
 
@@ -170,11 +170,11 @@ nil_back all levels from to next seen index s v plans h low begins stand fits fe
     subst (λ (ps : List Plan). list_from levels index s next seen [] ≡ Ok (whole_part seen [] ps)) (sym begins) read
 
 -- the names are the same behind an operation
-same_names : (levels : ℕ) (all : List Plan) (v : Sight) (o : Operation) (os : List Operation) → ops_written levels all (sight_behind v o) os ≡ ops_written levels all v os
+same_names : (levels : ℕ) (all : List Plan) (v : NameSight) (o : Operation) (os : List Operation) → ops_written levels all (sight_behind v o) os ≡ ops_written levels all v os
 same_names levels all v (operation.Monitor n tag) os = refl
 same_names levels all v _ os = refl
 
-parts_back : (all : List Plan) (levels : ℕ) → InnerBack all levels → (o : Operation) (os : List Operation) → ListBack all levels os → (from to next seen index : ℕ) (s : Scope) (v : Sight) (mine others : List Plan) → Agrees from to next seen s v → to ≤ 4096 → StepBegins (Inner levels) v next o mine → ListBegins (Inner levels) (sight_behind v o) (next + length mine) os others → StandAll all next (mine ++ others) → next + length (mine ++ others) ≤ to → seen + (length (o ∷ os) + operations_of (mine ++ others)) ≤ 65536 → list_from levels index s next seen (ops_written levels all v (o ∷ os)) ≡ Ok (whole_part seen (o ∷ os) (mine ++ others))
+parts_back : (all : List Plan) (levels : ℕ) → InnerBack all levels → (o : Operation) (os : List Operation) → ListBack all levels os → (from to next seen index : ℕ) (s : Scope) (v : NameSight) (mine others : List Plan) → Agrees from to next seen s v → to ≤ 4096 → StepBegins (Inner levels) v next o mine → ListBegins (Inner levels) (sight_behind v o) (next + length mine) os others → StandAll all next (mine ++ others) → next + length (mine ++ others) ≤ to → seen + (length (o ∷ os) + operations_of (mine ++ others)) ≤ 65536 → list_from levels index s next seen (ops_written levels all v (o ∷ os)) ≡ Ok (whole_part seen (o ∷ os) (mine ++ others))
 parts_back all levels inner o os back_rest from to next seen index s v mine others h low step rest stand fits few =
     let len : length (mine ++ others) ≡ length mine + length others = length-append mine others in
     let sum : operations_of (mine ++ others) ≡ operations_of mine + operations_of others = sum_by-append (λ (p : Plan). length p.operations) mine others in

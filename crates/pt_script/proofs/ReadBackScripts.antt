@@ -15,7 +15,7 @@ use Rattle.pt_script.specs.Plans.{Plan, Whole}
 use Rattle.pt_script.specs.Steps.{◌>>=◌, each}
 use Rattle.pt_script.specs.Members.{required, list}
 use Rattle.pt_script.specs.Scopes.{Naming, Scope}
-use Rattle.pt_script.specs.Lists.{Part, fresh, list_from}
+use Rattle.pt_script.specs.Lists.{Part, fresh_scope, list_from}
 use Rattle.pt_script.specs.Scripts.{Heads, Head, Pending, Lists, settings, head, with_head, next_head, no_heads, next_list, no_lists, few, begun_in, spawned_by, script, reading}
 use Rattle.pt_script.specs.Sound.{InRange, operations_of}
 use Rattle.pt_script.specs.Sights.{among, first_sight, BeginsIn, TopsBegin, number_of, IsWellFormed}
@@ -115,7 +115,7 @@ record At (all : List Plan) (s : Settings) (tops : List ℕ) (next : ℕ) (t : T
   few : next + (1 + (length inside + length others)) ≤ 4096
   left : Left tops next (t ∷ ts)
 
-sight_of : (all : List Plan) (s : Settings) (tops : List ℕ) (next seen : ℕ) (t : Top) (ts : List Top) (first : Plan) (inside others : List Plan) (names : Naming) → Fixed s tops → At all s tops next t ts first inside others → Named 110 names tops → Agrees (next + 1) (next + 1 + length inside) (next + 1) seen (fresh s.format next None names) (first_sight s.format next None tops)
+sight_of : (all : List Plan) (s : Settings) (tops : List ℕ) (next seen : ℕ) (t : Top) (ts : List Top) (first : Plan) (inside others : List Plan) (names : Naming) → Fixed s tops → At all s tops next t ts first inside others → Named 110 names tops → Agrees (next + 1) (next + 1 + length inside) (next + 1) seen (fresh_scope s.format next None names) (first_sight s.format next None tops)
 sight_of all s tops next seen t ts first inside others names fixed at named = record {
   format = refl;
   own = refl;
@@ -140,10 +140,10 @@ unfolding list_written
 top_list_is all format next tops first e = rw e refl
 
 -- the list of such a process is read back
-top_list : (all : List Plan) (s : Settings) (tops : List ℕ) (next seen : ℕ) (t : Top) (ts : List Top) (first : Plan) (inside others : List Plan) (names : Naming) → Fixed s tops → At all s tops next t ts first inside others → Named 110 names tops → seen + (length first.operations + operations_of inside) ≤ 65536 → list_from 8 0 (fresh s.format next None names) (next + 1) seen (list_written 9 all None next) ≡ Ok (record { operations = first.operations; inside = inside; seen = seen + (length first.operations + operations_of inside) })
+top_list : (all : List Plan) (s : Settings) (tops : List ℕ) (next seen : ℕ) (t : Top) (ts : List Top) (first : Plan) (inside others : List Plan) (names : Naming) → Fixed s tops → At all s tops next t ts first inside others → Named 110 names tops → seen + (length first.operations + operations_of inside) ≤ 65536 → list_from 8 0 (fresh_scope s.format next None names) (next + 1) seen (list_written 9 all None next) ≡ Ok (record { operations = first.operations; inside = inside; seen = seen + (length first.operations + operations_of inside) })
 top_list all s tops next seen t ts first inside others names fixed at named short =
-    let read = lists_back all 8 (next + 1) (next + 1 + length inside) (next + 1) seen 0 (fresh s.format next None names) (first_sight s.format next None tops) first.operations inside (sight_of all s tops next seen t ts first inside others names fixed at named) at.begins (omega (arith, at.few)) (stand_first all (next + 1) inside others at.stand.1) (omega arith) short in
-    ap (λ (es : List Data). list_from 8 0 (fresh s.format next None names) (next + 1) seen es) (top_list_is all s.format next tops first at.stand.0) ∙ read
+    let read = lists_back all 8 (next + 1) (next + 1 + length inside) (next + 1) seen 0 (fresh_scope s.format next None names) (first_sight s.format next None tops) first.operations inside (sight_of all s tops next seen t ts first inside others names fixed at named) at.begins (omega (arith, at.few)) (stand_first all (next + 1) inside others at.stand.1) (omega arith) short in
+    ap (λ (es : List Data). list_from 8 0 (fresh_scope s.format next None names) (next + 1) seen es) (top_list_is all s.format next tops first at.stand.0) ∙ read
 
 ops_are : (all : List Plan) (t : Top) → required list (get (codes "ops") (top_written all t)) ≡ Ok (list_written 9 all None t.process)
 ops_are all t = ap Ok (data_of-items_of (list_written 9 all None t.process))
@@ -157,7 +157,7 @@ begun_top : (all : List Plan) (s : Settings) (tops : List ℕ) (next : ℕ) (t :
 begun_top all s tops next t ts first inside others fixed at short =
     let names : Naming = names_of tops in
     let read = top_list all s tops next 0 t ts first inside others names fixed at (names_named tops fixed.low) (omega (arith, short)) in
-    let len : length inside ≡ spawned_by (begun_in 62) (list_written 9 all None next) = counted 0 (fresh s.format next None names) (next + 1) 0 (list_written 9 all None next) (record { operations = first.operations; inside = inside; seen = 0 + (length first.operations + operations_of inside) }) read in
+    let len : length inside ≡ spawned_by (begun_in 62) (list_written 9 all None next) = counted 0 (fresh_scope s.format next None names) (next + 1) 0 (list_written 9 all None next) (record { operations = first.operations; inside = inside; seen = 0 + (length first.operations + operations_of inside) }) read in
     begun_of (top_written all t) (list_written 9 all None t.process) (ops_are all t) ∙ ap (λ n. 1 + spawned_by (begun_in 62) (list_written 9 all None n)) at.number_is ∙ ap (λ n. 1 + n) (sym len)
 
 -- heads ------------------------------------------------------------------------------
@@ -267,7 +267,7 @@ heads_back all s tops next done (t ∷ ts) plans before fixed h stand few short 
 
 -- lists --------------------------------------------------------------------------------
 
-next_list_is : (format : ℕ) (names : Naming) (before : Lists) (p : Pending) (ops : List Data) (part : Part) → length before.processes < 4096 → required list (get (codes "ops") p.value) ≡ Ok ops → list_from 8 0 (fresh format (length before.processes) None names) (length before.processes + 1) before.seen ops ≡ Ok part → next_list format names before p ≡ Ok (record { processes = before.processes ++ record { trap = p.trap; operations = part.operations } ∷ part.inside; seen = part.seen })
+next_list_is : (format : ℕ) (names : Naming) (before : Lists) (p : Pending) (ops : List Data) (part : Part) → length before.processes < 4096 → required list (get (codes "ops") p.value) ≡ Ok ops → list_from 8 0 (fresh_scope format (length before.processes) None names) (length before.processes + 1) before.seen ops ≡ Ok part → next_list format names before p ≡ Ok (record { processes = before.processes ++ record { trap = p.trap; operations = part.operations } ∷ part.inside; seen = part.seen })
 unfolding next_list
 next_list_is format names before p ops part low given read =
     let a : nat_le 4096 (length before.processes) ≡ false = grind (arith, low) in
@@ -276,8 +276,8 @@ next_list_is format names before p ops part low given read =
 list_step : (all : List Plan) (s : Settings) (tops : List ℕ) (next : ℕ) (t : Top) (ts : List Top) (first : Plan) (inside others : List Plan) (names : Naming) (before : Lists) → Fixed s tops → At all s tops next t ts first inside others → Named 110 names tops → length before.processes ≡ next → before.seen + (length first.operations + operations_of inside) ≤ 65536 → next_list s.format names before (pending_of all t) ≡ Ok (record { processes = before.processes ++ first ∷ inside; seen = before.seen + (length first.operations + operations_of inside) })
 list_step all s tops next t ts first inside others names before fixed at named len short =
     let part : Part = record { operations = first.operations; inside = inside; seen = before.seen + (length first.operations + operations_of inside) } in
-    let read : list_from 8 0 (fresh s.format next None names) (next + 1) before.seen (list_written 9 all None next) ≡ Ok part = top_list all s tops next before.seen t ts first inside others names fixed at named short in
-    let here : list_from 8 0 (fresh s.format (length before.processes) None names) (length before.processes + 1) before.seen (list_written 9 all None next) ≡ Ok part = subst (λ n. list_from 8 0 (fresh s.format n None names) (n + 1) before.seen (list_written 9 all None next) ≡ Ok part) (sym len) read in
+    let read : list_from 8 0 (fresh_scope s.format next None names) (next + 1) before.seen (list_written 9 all None next) ≡ Ok part = top_list all s tops next before.seen t ts first inside others names fixed at named short in
+    let here : list_from 8 0 (fresh_scope s.format (length before.processes) None names) (length before.processes + 1) before.seen (list_written 9 all None next) ≡ Ok part = subst (λ n. list_from 8 0 (fresh_scope s.format n None names) (n + 1) before.seen (list_written 9 all None next) ≡ Ok part) (sym len) read in
     let given : required list (get (codes "ops") (top_written all t)) ≡ Ok (list_written 9 all None next) = ops_are all t ∙ ap (λ n. Ok (list_written 9 all None n)) at.number_is in
     let trap : (plan_of all t.process).trap ≡ first.trap = ap (λ n. (plan_of all n).trap) at.number_is ∙ ap (λ (p : Plan). p.trap) at.stand.0 in
     next_list_is s.format names before (pending_of all t) (list_written 9 all None next) part (omega (arith, len, at.few)) given here ∙ ap (λ b. Ok (record { processes = before.processes ++ record { trap = b; operations = first.operations } ∷ inside; seen = part.seen })) trap

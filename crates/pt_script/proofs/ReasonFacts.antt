@@ -12,7 +12,7 @@ use Rattle.pt_signal.specs.Text.{reason_text}
 use Rattle.pt_script.specs.declared.fault.Fault.{Fault}
 use Rattle.pt_script.specs.declared.fault.Fault.TheVariants.{Field, Bounds}
 use Rattle.pt_script.specs.Steps.{◌>>=◌}
-use Rattle.pt_script.specs.Operations.{is_decimal, number, other_reason, reason_of}
+use Rattle.pt_script.specs.Operations.{is_decimal, number_read, other_reason, reason_written}
 use Rattle.pt_script.proofs.NumberFacts.{own, all_digits, not_empty}
 use Rattle.pt_script.proofs.SoundSteps.{bind}
 
@@ -24,7 +24,7 @@ one_zero : (bs : List ℕ) → is_decimal bs ≡ true → get_or bs 0 0 ≡ 48 �
 unfolding is_decimal
 one_zero bs h z = grind arith
 
-number_text : (bs : List ℕ) → IfOk (number bs) (λ n. decimal n ≡ bs)
+number_text : (bs : List ℕ) → IfOk (number_read bs) (λ n. decimal n ≡ bs)
 number_text bs =
     let P : Result ℕ Fault → Type 0 = λ r. IfOk r (λ n. decimal n ≡ bs) in
     by_test P (is_decimal bs) (if nat_lt (digits_value 10 bs) (2 ^ 32) then Ok (digits_value 10 bs) else Err Bounds) (Err Field) (λ is.
@@ -42,11 +42,11 @@ other_text : (t : List ℕ) → IfOk (other_reason t) (Printed t)
 unfolding reason_text
 other_text t =
     let P : Result Reason Fault → Type 0 = λ r. IfOk r (Printed t) in
-    by_test P (bytes_eq (take 6 t) (codes "other:")) (number (drop 6 t) >>= λ n. Ok (Other n)) (Err Field) (λ e.
-    bind (λ n. decimal n ≡ drop 6 t) (Printed t) (number (drop 6 t)) (λ n. Ok (Other n)) (number_text (drop 6 t)) (λ n d.
+    by_test P (bytes_eq (take 6 t) (codes "other:")) (number_read (drop 6 t) >>= λ n. Ok (Other n)) (Err Field) (λ e.
+    bind (λ n. decimal n ≡ drop 6 t) (Printed t) (number_read (drop 6 t)) (λ n. Ok (Other n)) (number_text (drop 6 t)) (λ n d.
     sym (take-append-drop 6 t) ∙ ap (λ f. f ++ drop 6 t) (same (take 6 t) (codes "other:") e) ∙ ap (λ r. codes "other:" ++ r) (sym d))) (λ e. tt)
 
-printed : (t : List ℕ) → IfOk (reason_of t) (Printed t)
+printed : (t : List ℕ) → IfOk (reason_written t) (Printed t)
 unfolding reason_text
 printed t =
     let P : Result Reason Fault → Type 0 = λ r. IfOk r (Printed t) in
@@ -64,5 +64,5 @@ printed t =
 if_ok : {A E : Type 0} (P : A → Type 0) (r : Result A E) (x : A) → IfOk r P → r ≡ Ok x → P x
 if_ok P r x h e = rw e at h
 
-pub reasons_as_printed : (text : List ℕ) (r : Reason) → reason_of text ≡ Ok r → text ≡ reason_text r
-reasons_as_printed text r e = if_ok (Printed text) (reason_of text) r (printed text) e
+pub reasons_as_printed : (text : List ℕ) (r : Reason) → reason_written text ≡ Ok r → text ≡ reason_text r
+reasons_as_printed text r e = if_ok (Printed text) (reason_written text) r (printed text) e

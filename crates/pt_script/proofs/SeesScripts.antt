@@ -15,13 +15,13 @@ use Rattle.pt_script.specs.declared.values.Settings.{Settings}
 use Rattle.pt_script.specs.declared.values.Top.{Top}
 use Rattle.pt_script.specs.Plans.{Plan, Whole}
 use Rattle.pt_script.specs.Steps.{◌>>=◌, each}
-use Rattle.pt_script.specs.Members.{known, whole, required, optional, list, flag}
+use Rattle.pt_script.specs.Members.{known_members, whole_number, required, optional_member, list, flag}
 use Rattle.pt_script.specs.Operations.{new_name}
 use Rattle.pt_script.specs.Scopes.{Naming, Scope}
-use Rattle.pt_script.specs.Lists.{Part, placed, at_script, at_process, fresh, list_from}
+use Rattle.pt_script.specs.Lists.{Part, placed, at_script, at_process, fresh_scope, list_from}
 use Rattle.pt_script.specs.Scripts.{Heads, Head, Pending, Lists, settings, head, with_head, next_head, no_heads, next_list, no_lists, few, room, number_behind, begun_in, script, script_of, reading}
-use Rattle.pt_script.specs.Sound.{InRange, IsSound}
-use Rattle.pt_script.specs.Sights.{Sight, first_sight, BeginsIn, TopsBegin, number_of, IsWellFormed}
+use Rattle.pt_script.specs.Sound.{InRange, IsSoundScript}
+use Rattle.pt_script.specs.Sights.{NameSight, first_sight, BeginsIn, TopsBegin, number_of, IsWellFormed}
 use Rattle.pt_script.specs.WritingScripts.{script_written}
 use Rattle.pt_script.proofs.SoundSteps.{bind, skip, either, placed_ok}
 use Rattle.pt_script.proofs.SoundLists.{sum_cons}
@@ -70,14 +70,14 @@ unfolding head
 head_in s before d some =
     let Q : Head → Type 0 = HeadIn s before in
     let of_trap : List ℕ → ℕ → Bool → Result Head Fault = λ name desk trap. Ok (record { name = name; desk = desk; trap = trap }) in
-    let of_room : List ℕ → ℕ → Unit {0} → Result Head Fault = λ name desk r. optional false flag (get (codes "trap") d) >>= of_trap name desk in
+    let of_room : List ℕ → ℕ → Unit {0} → Result Head Fault = λ name desk r. optional_member false flag (get (codes "trap") d) >>= of_trap name desk in
     let of_desk : List ℕ → ℕ → Result Head Fault = λ name desk. room s before.tops desk >>= of_room name desk in
-    let of_name : List ℕ → Result Head Fault = λ name. required (whole 0 (s.desks - 1)) (get (codes "desk") d) >>= of_desk name in
-    skip Q (known (codes "name" ∷ codes "desk" ∷ codes "trap" ∷ codes "ops" ∷ []) d) (λ u. required (new_name before.names) (get (codes "name") d) >>= of_name) (λ u.
+    let of_name : List ℕ → Result Head Fault = λ name. required (whole_number 0 (s.desks - 1)) (get (codes "desk") d) >>= of_desk name in
+    skip Q (known_members (codes "name" ∷ codes "desk" ∷ codes "trap" ∷ codes "ops" ∷ []) d) (λ u. required (new_name before.names) (get (codes "name") d) >>= of_name) (λ u.
     skip Q (required (new_name before.names) (get (codes "name") d)) of_name (λ name.
-    bind (Between 0 (s.desks - 1)) Q (required (whole 0 (s.desks - 1)) (get (codes "desk") d)) (of_desk name) (needed_in 0 (s.desks - 1) (get (codes "desk") d)) (λ desk desk_in.
+    bind (Between 0 (s.desks - 1)) Q (required (whole_number 0 (s.desks - 1)) (get (codes "desk") d)) (of_desk name) (needed_in 0 (s.desks - 1) (get (codes "desk") d)) (λ desk desk_in.
     bind (λ u. HasRoom s before.tops desk) Q (room s before.tops desk) (of_room name desk) (room_in s before.tops desk) (λ r room_is.
-    skip Q (optional false flag (get (codes "trap") d)) (of_trap name desk) (λ trap.
+    skip Q (optional_member false flag (get (codes "trap") d)) (of_trap name desk) (λ trap.
     (omega (arith, desk_in.1, some), room_is))))))
 
 in_end : (ks : List ℕ) (k : ℕ) (o : Option ℕ) → IsIn (k ∷ ks) o → IsIn (ks ++ k ∷ []) o
@@ -131,8 +131,8 @@ next_list_sees format names tops names_in before p is =
     let size : ℕ = length before.processes in
     let Q : Lists → Type 0 = ListSees format tops before in
     let given : Result (List Data) Fault = required list (get (codes "ops") p.value) in
-    let s : Scope = fresh format size None names in
-    let v : Sight = first_sight format size None tops in
+    let s : Scope = fresh_scope format size None names in
+    let v : NameSight = first_sight format size None tops in
     let sees : ScopeSees v s = record { format = refl; own = refl; parent = refl; made = refl; tops = names_in; children = λ q. tt; monitors = λ q. tt; asks = λ q. tt } in
     let of_part : Part → Result Lists ScriptError = λ part. Ok (record { processes = before.processes ++ record { trap = p.trap; operations = part.operations } ∷ part.inside; seen = part.seen }) in
     let of_ops : List Data → Result Lists ScriptError = λ ops. list_from 8 0 s (size + 1) before.seen ops >>= of_part in
@@ -206,11 +206,11 @@ script_built d is =
     bind (HeadsSee s) Built (each (next_head s) no_heads ds) (of_all s) (heads_see s range.desks.0 no_heads ds (none_sees s) are) (λ all heads.
     bind (AllSee s (map number_of all.tops) 0 all.tops no_lists) Built (each (next_list s.format all.names) no_lists all.unread) (of_rest s all) (lists_see s all.names (map number_of all.tops) heads.names no_lists all.tops all.unread 0 all.next heads.matched refl) (λ rest lists. built s all rest heads lists))))
 
-well_formed : (w : Whole) → IsSound w → Built w → IsWellFormed w
+well_formed : (w : Whole) → IsSoundScript w → Built w → IsWellFormed w
 well_formed w sound b = record { settings = sound.settings; begins = b.begins; room = b.rooms; processes = sound.processes; operations = sound.operations }
 
 script_accepted : (d : Data) → IsRead d → IfOk (script d) IsWellFormed
-script_accepted d is = imply (λ w. IsSound w × Built w) IsWellFormed (script d) (both_ok IsSound Built (script d) (script_sound d) (script_built d is)) (λ w h. well_formed w h.0 h.1)
+script_accepted d is = imply (λ w. IsSoundScript w × Built w) IsWellFormed (script d) (both_ok IsSoundScript Built (script d) (script_sound d) (script_built d is)) (λ w h. well_formed w h.0 h.1)
 
 script_of_accepted : (o : Option Data) → IfAny IsRead o → IfOk (script_of o) IsWellFormed
 script_of_accepted None is = tt

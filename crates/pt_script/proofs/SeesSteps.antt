@@ -14,12 +14,12 @@ use Rattle.pt_script.specs.declared.values.Operation.{Operation}
 use Rattle.pt_script.specs.declared.values.Operation.TheVariants as operation
 use Rattle.pt_script.specs.declared.values.Pattern.TheVariants as pattern
 use Rattle.pt_script.specs.Steps.{◌>>=◌}
-use Rattle.pt_script.specs.Members.{known, required, optional, text, signed, flag}
-use Rattle.pt_script.specs.Operations.{process, maybe_process, monitor_tag, ask_tag, new_tag, is_decimal, number, other_reason, reason_of, reason, kind, one_pick, pick, pick_members, send, receive, check, link, unlink, demonitor, trap, exit, signal, pass, tagged, plain}
-use Rattle.pt_script.specs.Scopes.{Scope, can_ask, process_in, or_else}
-use Rattle.pt_script.specs.Lists.{simple, named, with_monitor, with_ask}
-use Rattle.pt_script.specs.Sights.{Sight, among, is_parent, sees, SeesIfAny, SeesAllOf, CanDo, sight_behind}
-use Rattle.pt_script.specs.Writing.{FitsReason, FitsSigned}
+use Rattle.pt_script.specs.Members.{known_members, required, optional_member, text, signed, flag}
+use Rattle.pt_script.specs.Operations.{process, maybe_process, monitor_tag, ask_tag, new_tag, is_decimal, number_read, other_reason, reason_written, reason, kind, one_pick, pick, pick_members, send, receive, check, link, unlink, demonitor, trap, exit, signal, pass, tagged, plain}
+use Rattle.pt_script.specs.Scopes.{Scope, can_ask, process_in, or_number}
+use Rattle.pt_script.specs.Lists.{simple, named_operation, with_monitor, with_ask}
+use Rattle.pt_script.specs.Sights.{NameSight, among, is_parent, sees, SeesIfAny, SeesAllOf, CanDo, sight_behind}
+use Rattle.pt_script.specs.Writing.{WritesReason, FitsSigned}
 use Rattle.pt_script.proofs.ReadValues.{IsRead, signed_at_fits, whether}
 use Rattle.pt_script.proofs.SoundSteps.{bind, skip, either, required_ok, optional_ok}
 use Rattle.pt_script.proofs.SoundScripts.{Between, whole_in, imply}
@@ -32,14 +32,14 @@ IsSmall n = n < 2 ^ 32
 kind_low : (d : Data) → IfOk (kind d) IsSmall
 kind_low d = imply (Between 0 4294967295) IsSmall (kind d) (whole_in 0 4294967295 d) (λ n h. omega (arith, h.1))
 
-number_low : (bs : List ℕ) → IfOk (number bs) IsSmall
+number_low : (bs : List ℕ) → IfOk (number_read bs) IsSmall
 number_low bs =
     let P : Result ℕ Fault → Type 0 = λ r. IfOk r IsSmall in
     either P (is_decimal bs) (if nat_lt (digits_value 10 bs) (2 ^ 32) then Ok (digits_value 10 bs) else Err Bounds) (Err Field) (whether P (nat_lt (digits_value 10 bs) (2 ^ 32)) (Ok (digits_value 10 bs)) (Err Bounds) (λ small. grind (arith, small)) (λ big. tt)) tt
 
-reason_low : (t : List ℕ) → IfOk (reason_of t) FitsReason
+reason_low : (t : List ℕ) → IfOk (reason_written t) WritesReason
 reason_low t =
-    let P : Result Reason Fault → Type 0 = λ r. IfOk r FitsReason in
+    let P : Result Reason Fault → Type 0 = λ r. IfOk r WritesReason in
     let last : Result Reason Fault = other_reason t in
     let e4 : Result Reason Fault = if bytes_eq t (codes "shutdown") then Ok Shutdown else last in
     let e3 : Result Reason Fault = if bytes_eq t (codes "noproc") then Ok Noproc else e4 in
@@ -50,10 +50,10 @@ reason_low t =
     (either P (bytes_eq t (codes "killed")) (Ok Killed) e3 tt
     (either P (bytes_eq t (codes "noproc")) (Ok Noproc) e4 tt
     (either P (bytes_eq t (codes "shutdown")) (Ok Shutdown) last tt
-    (either P (bytes_eq (take 6 t) (codes "other:")) (number (drop 6 t) >>= λ n. Ok (Other n)) (Err Field) (bind IsSmall FitsReason (number (drop 6 t)) (λ n. Ok (Other n)) (number_low (drop 6 t)) (λ n h. h)) tt)))))
+    (either P (bytes_eq (take 6 t) (codes "other:")) (number_read (drop 6 t) >>= λ n. Ok (Other n)) (Err Field) (bind IsSmall WritesReason (number_read (drop 6 t)) (λ n. Ok (Other n)) (number_low (drop 6 t)) (λ n h. h)) tt)))))
 
-reason_fits : (d : Data) → IfOk (reason d) FitsReason
-reason_fits d = skip FitsReason (text d) (λ t. reason_of t) reason_low
+reason_fits : (d : Data) → IfOk (reason d) WritesReason
+reason_fits d = skip WritesReason (text d) (λ t. reason_written t) reason_low
 
 -- scopes ------------------------------------------------------------------------------
 
@@ -63,7 +63,7 @@ IsIn ks None = Unit {0}
 IsIn ks (Some n) = among n ks ≡ true
 
 -- all that has a name in the scope is in sight
-pub record ScopeSees (v : Sight) (s : Scope) : Type 0 where
+pub record ScopeSees (v : NameSight) (s : Scope) : Type 0 where
   pub format : s.format ≡ v.format
   pub own : s.own ≡ v.own
   pub parent : s.parent ≡ v.parent
@@ -99,40 +99,40 @@ second : (a c d : Bool) → (a || true || c || d) ≡ true
 second true c d = refl
 second false c d = refl
 
-sees_own : (v : Sight) (n : ℕ) → n ≡ v.own → sees v n ≡ true
+sees_own : (v : NameSight) (n : ℕ) → n ≡ v.own → sees v n ≡ true
 sees_own v n e = rw ((Decides-eqb v.own n).1 (sym e)) refl
 
-sees_parent : (v : Sight) (p : Option ℕ) → p ≡ v.parent → SeesIfAny v p
+sees_parent : (v : NameSight) (p : Option ℕ) → p ≡ v.parent → SeesIfAny v p
 sees_parent v None e = tt
 sees_parent v (Some n) e =
     let is : is_parent n v.parent ≡ true = ap (is_parent n) (sym e) ∙ (Decides-eqb n n).1 refl in
     rw is (second (v.own == n) (among n v.children) (among n v.tops))
 
-sees_children : (v : Sight) (o : Option ℕ) → IsIn v.children o → SeesIfAny v o
+sees_children : (v : NameSight) (o : Option ℕ) → IsIn v.children o → SeesIfAny v o
 sees_children v None h = tt
 sees_children v (Some n) h = rw h (third (v.own == n) (is_parent n v.parent) (among n v.tops))
 
-sees_tops : (v : Sight) (o : Option ℕ) → IsIn v.tops o → SeesIfAny v o
+sees_tops : (v : NameSight) (o : Option ℕ) → IsIn v.tops o → SeesIfAny v o
 sees_tops v None h = tt
 sees_tops v (Some n) h = rw h (fourth (v.own == n) (is_parent n v.parent) (among n v.children))
 
-one_of : (v : Sight) (a b : Option ℕ) → SeesIfAny v a → SeesIfAny v b → SeesIfAny v (or_else a b)
+one_of : (v : NameSight) (a b : Option ℕ) → SeesIfAny v a → SeesIfAny v b → SeesIfAny v (or_number a b)
 one_of v (Some k) b h g = h
 one_of v None b h g = g
 
-named_seen : (v : Sight) (s : Scope) → ScopeSees v s → (q : List ℕ) → SeesIfAny v (process_in s q)
-named_seen v s h q = either (SeesIfAny v) (bytes_eq q (codes "self")) (Some s.own) (if bytes_eq q (codes "parent") then s.parent else or_else (s.children q) (s.tops q)) (sees_own v s.own h.own) (either (SeesIfAny v) (bytes_eq q (codes "parent")) s.parent (or_else (s.children q) (s.tops q)) (sees_parent v s.parent h.parent) (one_of v (s.children q) (s.tops q) (sees_children v (s.children q) (h.children q)) (sees_tops v (s.tops q) (h.tops q))))
+named_seen : (v : NameSight) (s : Scope) → ScopeSees v s → (q : List ℕ) → SeesIfAny v (process_in s q)
+named_seen v s h q = either (SeesIfAny v) (bytes_eq q (codes "self")) (Some s.own) (if bytes_eq q (codes "parent") then s.parent else or_number (s.children q) (s.tops q)) (sees_own v s.own h.own) (either (SeesIfAny v) (bytes_eq q (codes "parent")) s.parent (or_number (s.children q) (s.tops q)) (sees_parent v s.parent h.parent) (one_of v (s.children q) (s.tops q) (sees_children v (s.children q) (h.children q)) (sees_tops v (s.tops q) (h.tops q))))
 
-abbrev Seen : Sight → ℕ → Type 0
+abbrev Seen : NameSight → ℕ → Type 0
 Seen v n = sees v n ≡ true
 
-abbrev IsMonitor : Sight → ℕ → Type 0
+abbrev IsMonitor : NameSight → ℕ → Type 0
 IsMonitor v n = among n v.monitors ≡ true
 
-abbrev IsAsk : Sight → ℕ → Type 0
+abbrev IsAsk : NameSight → ℕ → Type 0
 IsAsk v n = among n v.asks ≡ true
 
-seen_found : (v : Sight) (o : Option ℕ) (e : Fault) → SeesIfAny v o → IfOk (ok_or o e) (Seen v)
+seen_found : (v : NameSight) (o : Option ℕ) (e : Fault) → SeesIfAny v o → IfOk (ok_or o e) (Seen v)
 seen_found v (Some k) e h = h
 seen_found v None e h = tt
 
@@ -140,31 +140,31 @@ in_found : (ks : List ℕ) (o : Option ℕ) (e : Fault) → IsIn ks o → IfOk (
 in_found ks (Some k) e h = h
 in_found ks None e h = tt
 
-process_seen : (v : Sight) (s : Scope) → ScopeSees v s → (d : Data) → IfOk (process s d) (Seen v)
+process_seen : (v : NameSight) (s : Scope) → ScopeSees v s → (d : Data) → IfOk (process s d) (Seen v)
 process_seen v s h d = skip (Seen v) (text d) (λ q. ok_or (process_in s q) Name) (λ q. seen_found v (process_in s q) Name (named_seen v s h q))
 
-maybe_seen : (v : Sight) (s : Scope) → ScopeSees v s → (d : Data) → IfOk (maybe_process s d) (SeesIfAny v)
+maybe_seen : (v : NameSight) (s : Scope) → ScopeSees v s → (d : Data) → IfOk (maybe_process s d) (SeesIfAny v)
 maybe_seen v s h d = bind (Seen v) (SeesIfAny v) (process s d) (λ k. Ok (Some k)) (process_seen v s h d) (λ k i. i)
 
-monitor_seen : (v : Sight) (s : Scope) → ScopeSees v s → (d : Data) → IfOk (monitor_tag s d) (IsMonitor v)
+monitor_seen : (v : NameSight) (s : Scope) → ScopeSees v s → (d : Data) → IfOk (monitor_tag s d) (IsMonitor v)
 monitor_seen v s h d = skip (IsMonitor v) (text d) (λ q. ok_or (s.monitors q) Name) (λ q. in_found v.monitors (s.monitors q) Name (h.monitors q))
 
-ask_seen : (v : Sight) (s : Scope) → ScopeSees v s → (d : Data) → IfOk (ask_tag s d) (IsAsk v)
+ask_seen : (v : NameSight) (s : Scope) → ScopeSees v s → (d : Data) → IfOk (ask_tag s d) (IsAsk v)
 ask_seen v s h d = skip (IsAsk v) (text d) (λ q. ok_or (s.asks q) Name) (λ q. in_found v.asks (s.asks q) Name (h.asks q))
 
 -- operations --------------------------------------------------------------------------
 
 -- it can be done, and what is in sight stays
-abbrev Plain : Sight → Operation → Type 0
+abbrev Plain : NameSight → Operation → Type 0
 Plain v o = CanDo v o × (sight_behind v o ≡ v)
 
-abbrev ToSeen : Sight → ℕ × List ℕ → Type 0
+abbrev ToSeen : NameSight → ℕ × List ℕ → Type 0
 ToSeen v m = sees v m.0 ≡ true
 
-to_ok : (v : Sight) (s : Scope) → ScopeSees v s → (m : Option Data) → IfOk (required (process s) m) (Seen v)
+to_ok : (v : NameSight) (s : Scope) → ScopeSees v s → (m : Option Data) → IfOk (required (process s) m) (Seen v)
 to_ok v s h m = required_ok (Seen v) (process s) m (process_seen v s h)
 
-one_pick_sees : (v : Sight) (s : Scope) → ScopeSees v s → (a b c d e : Option Data) → IfOk (one_pick s a b c d e) (SeesAllOf v)
+one_pick_sees : (v : NameSight) (s : Scope) → ScopeSees v s → (a b c d e : Option Data) → IfOk (one_pick s a b c d e) (SeesAllOf v)
 one_pick_sees v s h (Some a) None None None None = bind IsSmall (SeesAllOf v) (kind a) (λ k. Ok (pattern.Kind k)) (kind_low a) (λ k i. i)
 one_pick_sees v s h None (Some b) None None None = bind (Seen v) (SeesAllOf v) (process s b) (λ k. Ok (pattern.From k)) (process_seen v s h b) (λ k i. i)
 one_pick_sees v s h None None (Some c) None None = bind (Seen v) (SeesAllOf v) (process s c) (λ k. Ok (pattern.ExitOf k)) (process_seen v s h c) (λ k i. i)
@@ -172,82 +172,82 @@ one_pick_sees v s h None None None (Some d) None = bind (IsMonitor v) (SeesAllOf
 one_pick_sees v s h None None None None (Some e) = bind (IsAsk v) (SeesAllOf v) (ask_tag s e) (λ k. Ok (pattern.AliveOf k)) (ask_seen v s h e) (λ k i. i)
 one_pick_sees v s h _ _ _ _ _ = tt
 
-pick_sees : (v : Sight) (s : Scope) → ScopeSees v s → (d : Data) → IfOk (pick s d) (SeesAllOf v)
+pick_sees : (v : NameSight) (s : Scope) → ScopeSees v s → (d : Data) → IfOk (pick s d) (SeesAllOf v)
 unfolding pick
-pick_sees v s h d = skip (SeesAllOf v) (known (pick_members (can_ask s)) d) (λ u. one_pick s (get (codes "kind") d) (get (codes "from") d) (get (codes "exit") d) (get (codes "down") d) (get (codes "alive") d)) (λ _. one_pick_sees v s h (get (codes "kind") d) (get (codes "from") d) (get (codes "exit") d) (get (codes "down") d) (get (codes "alive") d))
+pick_sees v s h d = skip (SeesAllOf v) (known_members (pick_members (can_ask s)) d) (λ u. one_pick s (get (codes "kind") d) (get (codes "from") d) (get (codes "exit") d) (get (codes "down") d) (get (codes "alive") d)) (λ _. one_pick_sees v s h (get (codes "kind") d) (get (codes "from") d) (get (codes "exit") d) (get (codes "down") d) (get (codes "alive") d))
 
-send_sees : (v : Sight) (s : Scope) → ScopeSees v s → (d : Data) → IsRead d → IfOk (send s d) (Plain v)
+send_sees : (v : NameSight) (s : Scope) → ScopeSees v s → (d : Data) → IsRead d → IfOk (send s d) (Plain v)
 unfolding send
-send_sees v s h d is = skip (Plain v) (known (codes "op" ∷ codes "to" ∷ codes "kind" ∷ codes "num" ∷ codes "who" ∷ []) d) (λ u. (required (process s) (get (codes "to") d) >>= λ to. (required kind (get (codes "kind") d) >>= λ k. (required signed (get (codes "num") d) >>= λ num. (optional None (maybe_process s) (get (codes "who") d) >>= λ who. Ok (operation.Send to k num who))))))
-    (λ u. bind (Seen v) (Plain v) (required (process s) (get (codes "to") d)) (λ to. (required kind (get (codes "kind") d) >>= λ k. (required signed (get (codes "num") d) >>= λ num. (optional None (maybe_process s) (get (codes "who") d) >>= λ who. Ok (operation.Send to k num who))))) (to_ok v s h (get (codes "to") d))
-    (λ to to_in. bind IsSmall (Plain v) (required kind (get (codes "kind") d)) (λ k. (required signed (get (codes "num") d) >>= λ num. (optional None (maybe_process s) (get (codes "who") d) >>= λ who. Ok (operation.Send to k num who)))) (required_ok IsSmall kind (get (codes "kind") d) kind_low)
-    (λ k k_in. bind FitsSigned (Plain v) (required signed (get (codes "num") d)) (λ num. (optional None (maybe_process s) (get (codes "who") d) >>= λ who. Ok (operation.Send to k num who))) (signed_at_fits (codes "num") d is)
-    (λ num num_in. bind (SeesIfAny v) (Plain v) (optional None (maybe_process s) (get (codes "who") d)) (λ who. Ok (operation.Send to k num who)) (optional_ok (SeesIfAny v) None (maybe_process s) (get (codes "who") d) tt (maybe_seen v s h))
+send_sees v s h d is = skip (Plain v) (known_members (codes "op" ∷ codes "to" ∷ codes "kind" ∷ codes "num" ∷ codes "who" ∷ []) d) (λ u. (required (process s) (get (codes "to") d) >>= λ to. (required kind (get (codes "kind") d) >>= λ k. (required signed (get (codes "num") d) >>= λ num. (optional_member None (maybe_process s) (get (codes "who") d) >>= λ who. Ok (operation.Send to k num who))))))
+    (λ u. bind (Seen v) (Plain v) (required (process s) (get (codes "to") d)) (λ to. (required kind (get (codes "kind") d) >>= λ k. (required signed (get (codes "num") d) >>= λ num. (optional_member None (maybe_process s) (get (codes "who") d) >>= λ who. Ok (operation.Send to k num who))))) (to_ok v s h (get (codes "to") d))
+    (λ to to_in. bind IsSmall (Plain v) (required kind (get (codes "kind") d)) (λ k. (required signed (get (codes "num") d) >>= λ num. (optional_member None (maybe_process s) (get (codes "who") d) >>= λ who. Ok (operation.Send to k num who)))) (required_ok IsSmall kind (get (codes "kind") d) kind_low)
+    (λ k k_in. bind FitsSigned (Plain v) (required signed (get (codes "num") d)) (λ num. (optional_member None (maybe_process s) (get (codes "who") d) >>= λ who. Ok (operation.Send to k num who))) (signed_at_fits (codes "num") d is)
+    (λ num num_in. bind (SeesIfAny v) (Plain v) (optional_member None (maybe_process s) (get (codes "who") d)) (λ who. Ok (operation.Send to k num who)) (optional_ok (SeesIfAny v) None (maybe_process s) (get (codes "who") d) tt (maybe_seen v s h))
     (λ who who_in. ((to_in, k_in, num_in, who_in), refl))))))
 
-receive_sees : (v : Sight) (s : Scope) → ScopeSees v s → (d : Data) → IfOk (receive s d) (Plain v)
+receive_sees : (v : NameSight) (s : Scope) → ScopeSees v s → (d : Data) → IfOk (receive s d) (Plain v)
 unfolding receive
-receive_sees v s h d = skip (Plain v) (known (codes "op" ∷ codes "pick" ∷ []) d) (λ u. (optional pattern.Any (pick s) (get (codes "pick") d) >>= λ p. Ok (operation.Receive p)))
-    (λ u. bind (SeesAllOf v) (Plain v) (optional pattern.Any (pick s) (get (codes "pick") d)) (λ p. Ok (operation.Receive p)) (optional_ok (SeesAllOf v) pattern.Any (pick s) (get (codes "pick") d) tt (pick_sees v s h))
+receive_sees v s h d = skip (Plain v) (known_members (codes "op" ∷ codes "pick" ∷ []) d) (λ u. (optional_member pattern.Any (pick s) (get (codes "pick") d) >>= λ p. Ok (operation.Receive p)))
+    (λ u. bind (SeesAllOf v) (Plain v) (optional_member pattern.Any (pick s) (get (codes "pick") d)) (λ p. Ok (operation.Receive p)) (optional_ok (SeesAllOf v) pattern.Any (pick s) (get (codes "pick") d) tt (pick_sees v s h))
     (λ p p_in. (p_in, refl)))
 
-check_sees : (v : Sight) (s : Scope) → ScopeSees v s → (d : Data) → IfOk (check s d) (Plain v)
+check_sees : (v : NameSight) (s : Scope) → ScopeSees v s → (d : Data) → IfOk (check s d) (Plain v)
 unfolding check
-check_sees v s h d = skip (Plain v) (known (codes "op" ∷ codes "pick" ∷ []) d) (λ u. (optional pattern.Any (pick s) (get (codes "pick") d) >>= λ p. Ok (operation.Check p)))
-    (λ u. bind (SeesAllOf v) (Plain v) (optional pattern.Any (pick s) (get (codes "pick") d)) (λ p. Ok (operation.Check p)) (optional_ok (SeesAllOf v) pattern.Any (pick s) (get (codes "pick") d) tt (pick_sees v s h))
+check_sees v s h d = skip (Plain v) (known_members (codes "op" ∷ codes "pick" ∷ []) d) (λ u. (optional_member pattern.Any (pick s) (get (codes "pick") d) >>= λ p. Ok (operation.Check p)))
+    (λ u. bind (SeesAllOf v) (Plain v) (optional_member pattern.Any (pick s) (get (codes "pick") d)) (λ p. Ok (operation.Check p)) (optional_ok (SeesAllOf v) pattern.Any (pick s) (get (codes "pick") d) tt (pick_sees v s h))
     (λ p p_in. (p_in, refl)))
 
-link_sees : (v : Sight) (s : Scope) → ScopeSees v s → (d : Data) → IfOk (link s d) (Plain v)
+link_sees : (v : NameSight) (s : Scope) → ScopeSees v s → (d : Data) → IfOk (link s d) (Plain v)
 unfolding link
-link_sees v s h d = skip (Plain v) (known (codes "op" ∷ codes "to" ∷ []) d) (λ u. (required (process s) (get (codes "to") d) >>= λ to. Ok (operation.Link to)))
+link_sees v s h d = skip (Plain v) (known_members (codes "op" ∷ codes "to" ∷ []) d) (λ u. (required (process s) (get (codes "to") d) >>= λ to. Ok (operation.Link to)))
     (λ u. bind (Seen v) (Plain v) (required (process s) (get (codes "to") d)) (λ to. Ok (operation.Link to)) (to_ok v s h (get (codes "to") d))
     (λ to to_in. (to_in, refl)))
 
-unlink_sees : (v : Sight) (s : Scope) → ScopeSees v s → (d : Data) → IfOk (unlink s d) (Plain v)
+unlink_sees : (v : NameSight) (s : Scope) → ScopeSees v s → (d : Data) → IfOk (unlink s d) (Plain v)
 unfolding unlink
-unlink_sees v s h d = skip (Plain v) (known (codes "op" ∷ codes "to" ∷ []) d) (λ u. (required (process s) (get (codes "to") d) >>= λ to. Ok (operation.Unlink to)))
+unlink_sees v s h d = skip (Plain v) (known_members (codes "op" ∷ codes "to" ∷ []) d) (λ u. (required (process s) (get (codes "to") d) >>= λ to. Ok (operation.Unlink to)))
     (λ u. bind (Seen v) (Plain v) (required (process s) (get (codes "to") d)) (λ to. Ok (operation.Unlink to)) (to_ok v s h (get (codes "to") d))
     (λ to to_in. (to_in, refl)))
 
-demonitor_sees : (v : Sight) (s : Scope) → ScopeSees v s → (d : Data) → IfOk (demonitor s d) (Plain v)
+demonitor_sees : (v : NameSight) (s : Scope) → ScopeSees v s → (d : Data) → IfOk (demonitor s d) (Plain v)
 unfolding demonitor
-demonitor_sees v s h d = skip (Plain v) (known (codes "op" ∷ codes "tag" ∷ codes "flush" ∷ []) d) (λ u. (required (monitor_tag s) (get (codes "tag") d) >>= λ tag. (optional false flag (get (codes "flush") d) >>= λ flush. Ok (operation.Demonitor tag flush))))
-    (λ u. bind (IsMonitor v) (Plain v) (required (monitor_tag s) (get (codes "tag") d)) (λ tag. (optional false flag (get (codes "flush") d) >>= λ flush. Ok (operation.Demonitor tag flush))) (required_ok (IsMonitor v) (monitor_tag s) (get (codes "tag") d) (monitor_seen v s h))
-    (λ tag tag_in. skip (Plain v) (optional false flag (get (codes "flush") d)) (λ flush. Ok (operation.Demonitor tag flush))
+demonitor_sees v s h d = skip (Plain v) (known_members (codes "op" ∷ codes "tag" ∷ codes "flush" ∷ []) d) (λ u. (required (monitor_tag s) (get (codes "tag") d) >>= λ tag. (optional_member false flag (get (codes "flush") d) >>= λ flush. Ok (operation.Demonitor tag flush))))
+    (λ u. bind (IsMonitor v) (Plain v) (required (monitor_tag s) (get (codes "tag") d)) (λ tag. (optional_member false flag (get (codes "flush") d) >>= λ flush. Ok (operation.Demonitor tag flush))) (required_ok (IsMonitor v) (monitor_tag s) (get (codes "tag") d) (monitor_seen v s h))
+    (λ tag tag_in. skip (Plain v) (optional_member false flag (get (codes "flush") d)) (λ flush. Ok (operation.Demonitor tag flush))
     (λ flush. (tag_in, refl))))
 
-trap_sees : (v : Sight) (s : Scope) → (d : Data) → IfOk (trap d) (Plain v)
+trap_sees : (v : NameSight) (s : Scope) → (d : Data) → IfOk (trap d) (Plain v)
 unfolding trap
-trap_sees v s d = skip (Plain v) (known (codes "op" ∷ codes "on" ∷ []) d) (λ u. (required flag (get (codes "on") d) >>= λ on. Ok (operation.Trap on)))
+trap_sees v s d = skip (Plain v) (known_members (codes "op" ∷ codes "on" ∷ []) d) (λ u. (required flag (get (codes "on") d) >>= λ on. Ok (operation.Trap on)))
     (λ u. skip (Plain v) (required flag (get (codes "on") d)) (λ on. Ok (operation.Trap on))
     (λ on. (tt, refl)))
 
-exit_sees : (v : Sight) (s : Scope) → (d : Data) → IfOk (exit d) (Plain v)
+exit_sees : (v : NameSight) (s : Scope) → (d : Data) → IfOk (exit d) (Plain v)
 unfolding exit
-exit_sees v s d = skip (Plain v) (known (codes "op" ∷ codes "reason" ∷ []) d) (λ u. (required reason (get (codes "reason") d) >>= λ r. Ok (operation.Exit r)))
-    (λ u. bind FitsReason (Plain v) (required reason (get (codes "reason") d)) (λ r. Ok (operation.Exit r)) (required_ok FitsReason reason (get (codes "reason") d) reason_fits)
+exit_sees v s d = skip (Plain v) (known_members (codes "op" ∷ codes "reason" ∷ []) d) (λ u. (required reason (get (codes "reason") d) >>= λ r. Ok (operation.Exit r)))
+    (λ u. bind WritesReason (Plain v) (required reason (get (codes "reason") d)) (λ r. Ok (operation.Exit r)) (required_ok WritesReason reason (get (codes "reason") d) reason_fits)
     (λ r r_in. (r_in, refl)))
 
-signal_sees : (v : Sight) (s : Scope) → ScopeSees v s → (d : Data) → IfOk (signal s d) (Plain v)
+signal_sees : (v : NameSight) (s : Scope) → ScopeSees v s → (d : Data) → IfOk (signal s d) (Plain v)
 unfolding signal
-signal_sees v s h d = skip (Plain v) (known (codes "op" ∷ codes "to" ∷ codes "reason" ∷ []) d) (λ u. (required (process s) (get (codes "to") d) >>= λ to. (required reason (get (codes "reason") d) >>= λ r. Ok (operation.Signal to r))))
+signal_sees v s h d = skip (Plain v) (known_members (codes "op" ∷ codes "to" ∷ codes "reason" ∷ []) d) (λ u. (required (process s) (get (codes "to") d) >>= λ to. (required reason (get (codes "reason") d) >>= λ r. Ok (operation.Signal to r))))
     (λ u. bind (Seen v) (Plain v) (required (process s) (get (codes "to") d)) (λ to. (required reason (get (codes "reason") d) >>= λ r. Ok (operation.Signal to r))) (to_ok v s h (get (codes "to") d))
-    (λ to to_in. bind FitsReason (Plain v) (required reason (get (codes "reason") d)) (λ r. Ok (operation.Signal to r)) (required_ok FitsReason reason (get (codes "reason") d) reason_fits)
+    (λ to to_in. bind WritesReason (Plain v) (required reason (get (codes "reason") d)) (λ r. Ok (operation.Signal to r)) (required_ok WritesReason reason (get (codes "reason") d) reason_fits)
     (λ r r_in. ((to_in, r_in), refl))))
 
-pass_sees : (v : Sight) (s : Scope) → (d : Data) → IfOk (pass d) (Plain v)
+pass_sees : (v : NameSight) (s : Scope) → (d : Data) → IfOk (pass d) (Plain v)
 unfolding pass
-pass_sees v s d = skip (Plain v) (known (codes "op" ∷ []) d) (λ u. Ok (operation.Pass))
+pass_sees v s d = skip (Plain v) (known_members (codes "op" ∷ []) d) (λ u. Ok (operation.Pass))
     (λ u. (tt, refl))
 
-tagged_sees : (v : Sight) (s : Scope) → ScopeSees v s → (d : Data) → IfOk (tagged s d) (ToSeen v)
+tagged_sees : (v : NameSight) (s : Scope) → ScopeSees v s → (d : Data) → IfOk (tagged s d) (ToSeen v)
 unfolding tagged
-tagged_sees v s h d = skip (ToSeen v) (known (codes "op" ∷ codes "to" ∷ codes "tag" ∷ []) d) (λ u. (required (process s) (get (codes "to") d) >>= λ to. (required (new_tag s) (get (codes "tag") d) >>= λ name. Ok (to, name))))
+tagged_sees v s h d = skip (ToSeen v) (known_members (codes "op" ∷ codes "to" ∷ codes "tag" ∷ []) d) (λ u. (required (process s) (get (codes "to") d) >>= λ to. (required (new_tag s) (get (codes "tag") d) >>= λ name. Ok (to, name))))
     (λ u. bind (Seen v) (ToSeen v) (required (process s) (get (codes "to") d)) (λ to. (required (new_tag s) (get (codes "tag") d) >>= λ name. Ok (to, name))) (to_ok v s h (get (codes "to") d))
     (λ to to_in. skip (ToSeen v) (required (new_tag s) (get (codes "tag") d)) (λ name. Ok (to, name))
     (λ name. to_in)))
 
-plain_sees : (v : Sight) (s : Scope) → ScopeSees v s → (op : List ℕ) (d : Data) → IsRead d → IfOk (plain s op d) (Plain v)
+plain_sees : (v : NameSight) (s : Scope) → ScopeSees v s → (op : List ℕ) (d : Data) → IsRead d → IfOk (plain s op d) (Plain v)
 unfolding plain
 plain_sees v s h op d is =
     let P : Result Operation Fault → Type 0 = λ r. IfOk r (Plain v) in
@@ -265,11 +265,11 @@ plain_sees v s h op d is =
 -- behind an operation ---------------------------------------------------------------------
 
 -- it can be done where it stands, and what has a name behind it is in sight there
-pub record Goes (v : Sight) (o : Operation) (after : Scope) : Type 0 where
+pub record Goes (v : NameSight) (o : Operation) (after : Scope) : Type 0 where
   pub can : CanDo v o
   pub scope : ScopeSees (sight_behind v o) after
 
-monitor_goes : (v : Sight) (s : Scope) → ScopeSees v s → (to : ℕ) (name : List ℕ) → sees v to ≡ true → Goes v (operation.Monitor to s.made) (with_monitor s name)
+monitor_goes : (v : NameSight) (s : Scope) → ScopeSees v s → (to : ℕ) (name : List ℕ) → sees v to ≡ true → Goes v (operation.Monitor to s.made) (with_monitor s name)
 monitor_goes v s h to name to_in = record {
   can = (to_in, h.made);
   scope = record {
@@ -284,7 +284,7 @@ monitor_goes v s h to name to_in = record {
   };
 }
 
-ask_goes : (v : Sight) (s : Scope) → ScopeSees v s → (to : ℕ) (name : List ℕ) → 2 ≤ v.format → sees v to ≡ true → Goes v (operation.Alive to s.made) (with_ask s name)
+ask_goes : (v : NameSight) (s : Scope) → ScopeSees v s → (to : ℕ) (name : List ℕ) → 2 ≤ v.format → sees v to ≡ true → Goes v (operation.Alive to s.made) (with_ask s name)
 ask_goes v s h to name asks to_in = record {
   can = (asks, to_in, h.made);
   scope = record {
@@ -299,14 +299,14 @@ ask_goes v s h to name asks to_in = record {
   };
 }
 
-plain_goes : (v : Sight) (s : Scope) → ScopeSees v s → (o : Operation) → Plain v o → Goes v o s
+plain_goes : (v : NameSight) (s : Scope) → ScopeSees v s → (o : Operation) → Plain v o → Goes v o s
 plain_goes v s h o p = record { can = p.0; scope = subst (λ u. ScopeSees u s) (sym p.1) h }
 
-format_two : (v : Sight) (s : Scope) (b : Bool) → s.format ≡ v.format → (b && can_ask s) ≡ true → 2 ≤ v.format
+format_two : (v : NameSight) (s : Scope) (b : Bool) → s.format ≡ v.format → (b && can_ask s) ≡ true → 2 ≤ v.format
 format_two v s true e h = subst (λ n. 2 ≤ n) e (grind (arith, h))
 format_two v s false e h = absurd (let f : false ≡ true = h in cc)
 
-named_goes : (v : Sight) (s : Scope) → ScopeSees v s → (op : List ℕ) (d : Data) → IsRead d → IfOk (named s op d) (λ o. Goes v o.0 o.1)
+named_goes : (v : NameSight) (s : Scope) → ScopeSees v s → (op : List ℕ) (d : Data) → IsRead d → IfOk (named_operation s op d) (λ o. Goes v o.0 o.1)
 named_goes v s h op d is =
     let Q : Operation × Scope → Type 0 = λ o. Goes v o.0 o.1 in
     let P : Result (Operation × Scope) Fault → Type 0 = λ r. IfOk r Q in
@@ -314,5 +314,5 @@ named_goes v s h op d is =
     (whether P (bytes_eq op (codes "alive") && can_ask s) (tagged s d >>= λ m. Ok (operation.Alive m.0 s.made, with_ask s m.1)) (plain s op d >>= λ o. Ok (o, s)) (λ asks. bind (ToSeen v) Q (tagged s d) (λ m. Ok (operation.Alive m.0 s.made, with_ask s m.1)) (tagged_sees v s h d) (λ m to_in. ask_goes v s h m.0 m.1 (format_two v s (bytes_eq op (codes "alive")) h.format asks) to_in))
     (λ no. bind (Plain v) Q (plain s op d) (λ o. Ok (o, s)) (plain_sees v s h op d is) (λ o p. plain_goes v s h o p)))
 
-pub simple_goes : (v : Sight) (s : Scope) → ScopeSees v s → (d : Data) → IsRead d → IfOk (simple s d) (λ o. Goes v o.0 o.1)
-simple_goes v s h d is = skip (λ o. Goes v o.0 o.1) (required text (get (codes "op") d)) (λ op. named s op d) (λ op. named_goes v s h op d is)
+pub simple_goes : (v : NameSight) (s : Scope) → ScopeSees v s → (d : Data) → IsRead d → IfOk (simple s d) (λ o. Goes v o.0 o.1)
+simple_goes v s h d is = skip (λ o. Goes v o.0 o.1) (required text (get (codes "op") d)) (λ op. named_operation s op d) (λ op. named_goes v s h op d is)

@@ -12,9 +12,9 @@ use Rattle.pt_script.specs.declared.values.Pattern.{Pattern}
 use Rattle.pt_script.specs.declared.values.Pattern.TheVariants as pattern
 use Rattle.pt_script.specs.declared.values.Operation.{Operation}
 use Rattle.pt_script.specs.declared.values.Operation.TheVariants as operation
-use Rattle.pt_script.specs.Scopes.{Naming, Scope, can_ask, process_in, or_else, is_name, is_own_name, begins_well, is_letter, is_digit, is_name_byte}
-use Rattle.pt_script.specs.Lists.{fresh, with_child, with_monitor, with_ask}
-use Rattle.pt_script.specs.Sights.{Sight, among, is_parent, sees, SeesIfAny, SeesAllOf, CanDo, sight_behind, first_sight}
+use Rattle.pt_script.specs.Scopes.{Naming, Scope, can_ask, process_in, or_number, is_script_name, is_own_name, begins_well, is_script_letter, is_script_digit, is_name_byte}
+use Rattle.pt_script.specs.Lists.{fresh_scope, with_child, with_monitor, with_ask}
+use Rattle.pt_script.specs.Sights.{NameSight, among, is_parent, sees, SeesIfAny, SeesAllOf, CanDo, sight_behind, first_sight}
 use Rattle.pt_script.specs.Writing.{IsCalled, IsCalledIfAny, CanPick, IsNewTag, CanSay, scope_behind}
 use Rattle.pt_script.specs.WritingScripts.{process_name, tag_name, calls}
 use Rattle.pt_script.proofs.NumberFacts.{own}
@@ -50,11 +50,11 @@ found_not n ks h = by_test (among n ks) h
     by_test true g = absurd (g refl)
     by_test false g = refl
 
-byte_of : (b : ℕ) → is_digit b ≡ true → is_name_byte b ≡ true
+byte_of : (b : ℕ) → is_script_digit b ≡ true → is_name_byte b ≡ true
 unfolding is_name_byte
-byte_of b h = by_letter (is_letter b) (b == 95)
+byte_of b h = by_letter (is_script_letter b) (b == 95)
   where
-    by_letter : (x y : Bool) → (x || is_digit b || y) ≡ true
+    by_letter : (x y : Bool) → (x || is_script_digit b || y) ≡ true
     by_letter true y = refl
     by_letter false y = rw h refl
 
@@ -62,11 +62,11 @@ both : (a b c d : Bool) → (a ≡ true → c ≡ true) → (b ≡ true → d �
 both true b c d f g h = rw (f refl) (g h)
 both false b c d f g h = absurd (let e : false ≡ true = h in cc)
 
-bytes_of : (bs : List ℕ) → list_all is_digit bs ≡ true → list_all is_name_byte bs ≡ true
+bytes_of : (bs : List ℕ) → list_all is_script_digit bs ≡ true → list_all is_name_byte bs ≡ true
 bytes_of [] h = refl
-bytes_of (b ∷ bs) h = both (is_digit b) (list_all is_digit bs) (is_name_byte b) (list_all is_name_byte bs) (byte_of b) (bytes_of bs) h
+bytes_of (b ∷ bs) h = both (is_script_digit b) (list_all is_script_digit bs) (is_name_byte b) (list_all is_name_byte bs) (byte_of b) (bytes_of bs) h
 
-pub has_form : (letter : ℕ) → is_letter letter ≡ true → (n : ℕ) → n < 2 ^ 64 → is_name (letter ∷ decimal n) ≡ true
+pub has_form : (letter : ℕ) → is_script_letter letter ≡ true → (n : ℕ) → n < 2 ^ 64 → is_script_name (letter ∷ decimal n) ≡ true
 unfolding begins_well is_name_byte
 has_form letter is n small =
     let len : length (decimal n) ≤ 20 = length-decimal-le 20 n (omega arith) (omega (arith, small)) small in
@@ -75,12 +75,12 @@ has_form letter is n small =
     let bytes : list_all is_name_byte (decimal n) ≡ true = bytes_of (decimal n) (digits_decimal own n small) in
     rw (some, short, is, bytes) refl
 
-is_process_letter : is_letter 110 ≡ true
-unfolding is_letter
+is_process_letter : is_script_letter 110 ≡ true
+unfolding is_script_letter
 is_process_letter = refl
 
-is_tag_letter : is_letter 116 ≡ true
-unfolding is_letter
+is_tag_letter : is_script_letter 116 ≡ true
+unfolding is_script_letter
 is_tag_letter = refl
 
 pub own_name : (n : ℕ) → n < 2 ^ 64 → is_own_name (process_name n) ≡ true
@@ -90,7 +90,7 @@ own_name n small = rw (has_form 110 is_process_letter n small) refl
 
 -- In a list, the next process has the number next, and seen operations have been read; the processes that begin in the
 -- list have numbers from from on, below to.
-pub record Agrees (from to next seen : ℕ) (s : Scope) (v : Sight) : Type 0 where
+pub record Agrees (from to next seen : ℕ) (s : Scope) (v : NameSight) : Type 0 where
   pub format : s.format ≡ v.format
   pub own : s.own ≡ v.own
   pub parent : s.parent ≡ v.parent
@@ -108,7 +108,7 @@ pub record Agrees (from to next seen : ℕ) (s : Scope) (v : Sight) : Type 0 whe
   pub apart : (n : ℕ) → from ≤ n → n < to → among n v.tops ≡ true → ⊥
   pub start : from ≤ next
 
-or_found : (n : ℕ) (c d : Bool) → (c || d) ≡ true → or_else (if c then Some n else None) (if d then Some n else None) ≡ Some n
+or_found : (n : ℕ) (c d : Bool) → (c || d) ≡ true → or_number (if c then Some n else None) (if d then Some n else None) ≡ Some n
 or_found n true d e = refl
 or_found n false true e = refl
 or_found n false false e = absurd (let f : false ≡ true = e in cc)
@@ -117,7 +117,7 @@ one_holds : (P : Type 0) (c d : Bool) → (c || d) ≡ true → (c ≡ true → 
 one_holds P true d e f g = f refl
 one_holds P false d e f g = g e
 
-name_in : (s : Scope) (v : Sight) (n : ℕ) → s.own ≡ v.own → s.parent ≡ v.parent → (a b c d : Bool) → (a ≡ true → v.own ≡ n) → (b ≡ true → v.parent ≡ Some n) → ((c || d) ≡ true → s.children (process_name n) ≡ (if c then Some n else None)) → ((c || d) ≡ true → s.tops (process_name n) ≡ (if d then Some n else None)) → (a || b || c || d) ≡ true → process_in s (if a then codes "self" else (if b then codes "parent" else process_name n)) ≡ Some n
+name_in : (s : Scope) (v : NameSight) (n : ℕ) → s.own ≡ v.own → s.parent ≡ v.parent → (a b c d : Bool) → (a ≡ true → v.own ≡ n) → (b ≡ true → v.parent ≡ Some n) → ((c || d) ≡ true → s.children (process_name n) ≡ (if c then Some n else None)) → ((c || d) ≡ true → s.tops (process_name n) ≡ (if d then Some n else None)) → (a || b || c || d) ≡ true → process_in s (if a then codes "self" else (if b then codes "parent" else process_name n)) ≡ Some n
 name_in s v n own parent true b c d f g h k e = ap Some (own ∙ f refl)
 name_in s v n own parent false true c d f g h k e = parent ∙ g refl
 name_in s v n own parent false false c d f g h k e = rw (h e, k e) (or_found n c d e)
@@ -126,25 +126,25 @@ parent_is : (n : ℕ) (p : Option ℕ) → is_parent n p ≡ true → p ≡ Some
 parent_is n None e = absurd (let f : false ≡ true = e in cc)
 parent_is n (Some k) e = ap Some ((Decides-eqb k n).0 e)
 
-pub name_of : (from to next seen : ℕ) (s : Scope) (v : Sight) → Agrees from to next seen s v → next ≤ 4096 → (n : ℕ) → sees v n ≡ true → IsCalled s (calls v.own v.parent) n
+pub name_of : (from to next seen : ℕ) (s : Scope) (v : NameSight) → Agrees from to next seen s v → next ≤ 4096 → (n : ℕ) → sees v n ≡ true → IsCalled s (calls v.own v.parent) n
 name_of from to next seen s v h low n e =
     let small : (among n v.children || among n v.tops) ≡ true → n < 2 ^ 64 = λ some. one_holds (n < 2 ^ 64) (among n v.children) (among n v.tops) some (λ i. omega (arith, h.children_low n i, low)) (λ i. omega (arith, h.tops_low n i)) in
     name_in s v n h.own h.parent (v.own == n) (is_parent n v.parent) (among n v.children) (among n v.tops) (Decides-eqb v.own n).0 (parent_is n v.parent) (λ some. h.children n (small some)) (λ some. h.tops n (small some)) e
 
-name_if_any : (from to next seen : ℕ) (s : Scope) (v : Sight) → Agrees from to next seen s v → next ≤ 4096 → (o : Option ℕ) → SeesIfAny v o → IsCalledIfAny s (calls v.own v.parent) o
+name_if_any : (from to next seen : ℕ) (s : Scope) (v : NameSight) → Agrees from to next seen s v → next ≤ 4096 → (o : Option ℕ) → SeesIfAny v o → IsCalledIfAny s (calls v.own v.parent) o
 name_if_any from to next seen s v h low None e = tt
 name_if_any from to next seen s v h low (Some n) e = name_of from to next seen s v h low n e
 
-monitor_of : (from to next seen : ℕ) (s : Scope) (v : Sight) → Agrees from to next seen s v → seen ≤ 65536 → (tag : ℕ) → among tag v.monitors ≡ true → s.monitors (tag_name tag) ≡ Some tag
+monitor_of : (from to next seen : ℕ) (s : Scope) (v : NameSight) → Agrees from to next seen s v → seen ≤ 65536 → (tag : ℕ) → among tag v.monitors ≡ true → s.monitors (tag_name tag) ≡ Some tag
 monitor_of from to next seen s v h low tag e = h.monitors tag (omega (arith, h.monitors_low tag e, h.few, low)) ∙ found_is tag v.monitors e
 
-ask_of : (from to next seen : ℕ) (s : Scope) (v : Sight) → Agrees from to next seen s v → seen ≤ 65536 → (tag : ℕ) → among tag v.asks ≡ true → s.asks (tag_name tag) ≡ Some tag
+ask_of : (from to next seen : ℕ) (s : Scope) (v : NameSight) → Agrees from to next seen s v → seen ≤ 65536 → (tag : ℕ) → among tag v.asks ≡ true → s.asks (tag_name tag) ≡ Some tag
 ask_of from to next seen s v h low tag e = h.asks tag (omega (arith, h.asks_low tag e, h.few, low)) ∙ found_is tag v.asks e
 
-asking : (from to next seen : ℕ) (s : Scope) (v : Sight) → Agrees from to next seen s v → 2 ≤ v.format → can_ask s ≡ true
+asking : (from to next seen : ℕ) (s : Scope) (v : NameSight) → Agrees from to next seen s v → 2 ≤ v.format → can_ask s ≡ true
 asking from to next seen s v h e = rw h.format (grind (arith, e))
 
-pick_of : (from to next seen : ℕ) (s : Scope) (v : Sight) → Agrees from to next seen s v → next ≤ 4096 → seen ≤ 65536 → (p : Pattern) → SeesAllOf v p → CanPick s (calls v.own v.parent) p
+pick_of : (from to next seen : ℕ) (s : Scope) (v : NameSight) → Agrees from to next seen s v → next ≤ 4096 → seen ≤ 65536 → (p : Pattern) → SeesAllOf v p → CanPick s (calls v.own v.parent) p
 pick_of from to next seen s v h low few pattern.Any e = tt
 pick_of from to next seen s v h low few (pattern.Kind kind) e = e
 pick_of from to next seen s v h low few (pattern.From n) e = name_of from to next seen s v h low n e
@@ -152,14 +152,14 @@ pick_of from to next seen s v h low few (pattern.ExitOf n) e = name_of from to n
 pick_of from to next seen s v h low few (pattern.DownOf tag) e = monitor_of from to next seen s v h few tag e
 pick_of from to next seen s v h low few (pattern.AliveOf tag) e = (asking from to next seen s v h (h.asks_known tag e), ask_of from to next seen s v h few tag e)
 
-new_tag_of : (from to next seen : ℕ) (s : Scope) (v : Sight) → Agrees from to next seen s v → seen ≤ 65536 → (tag : ℕ) → tag ≡ v.made → IsNewTag s (calls v.own v.parent) tag
+new_tag_of : (from to next seen : ℕ) (s : Scope) (v : NameSight) → Agrees from to next seen s v → seen ≤ 65536 → (tag : ℕ) → tag ≡ v.made → IsNewTag s (calls v.own v.parent) tag
 new_tag_of from to next seen s v h low tag e =
     let small : tag < 2 ^ 64 = omega (arith, e, h.few, low) in
     let no_monitor : s.monitors (tag_name tag) ≡ None = h.monitors tag small ∙ found_not tag v.monitors (λ i. omega (arith, h.monitors_low tag i, e)) in
     let no_ask : s.asks (tag_name tag) ≡ None = h.asks tag small ∙ found_not tag v.asks (λ i. omega (arith, h.asks_low tag i, e)) in
     (e ∙ sym h.made, has_form 116 is_tag_letter tag small, rw (no_monitor, no_ask) refl)
 
-pub can_say : (from to next seen : ℕ) (s : Scope) (v : Sight) → Agrees from to next seen s v → next ≤ 4096 → seen ≤ 65536 → (o : Operation) → CanDo v o → CanSay s (calls v.own v.parent) o
+pub can_say : (from to next seen : ℕ) (s : Scope) (v : NameSight) → Agrees from to next seen s v → next ≤ 4096 → seen ≤ 65536 → (o : Operation) → CanDo v o → CanSay s (calls v.own v.parent) o
 can_say from to next seen s v h low few (operation.Send n kind num who) e = (name_of from to next seen s v h low n e.0, e.1, e.2, name_if_any from to next seen s v h low who e.3)
 can_say from to next seen s v h low few (operation.Receive p) e = pick_of from to next seen s v h low few p e
 can_say from to next seen s v h low few (operation.Check p) e = pick_of from to next seen s v h low few p e
@@ -179,7 +179,7 @@ can_say from to next seen s v h low few operation.Pass e = tt
 low_more : (made : ℕ) (ks : List ℕ) → ((n : ℕ) → among n ks ≡ true → n < made) → (n : ℕ) → among n (made ∷ ks) ≡ true → n < made + 1
 low_more made ks h n e = one_holds (n < made + 1) (made == n) (among n ks) e (λ i. omega (arith, (Decides-eqb made n).0 i)) (λ i. omega (arith, h n i))
 
-pub later : (from to next seen more : ℕ) (s : Scope) (v : Sight) → Agrees from to next seen s v → seen ≤ more → Agrees from to next more s v
+pub later : (from to next seen more : ℕ) (s : Scope) (v : NameSight) → Agrees from to next seen s v → seen ≤ more → Agrees from to next more s v
 later from to next seen more s v h le = record {
   format = h.format;
   own = h.own;
@@ -199,7 +199,7 @@ later from to next seen more s v h le = record {
   start = h.start;
 }
 
-pub monitored : (from to next seen : ℕ) (s : Scope) (v : Sight) → Agrees from to next seen s v → seen ≤ 65536 → (n tag : ℕ) → tag ≡ v.made → Agrees from to next (seen + 1) (with_monitor s (tag_name tag)) (sight_behind v (operation.Monitor n tag))
+pub monitored : (from to next seen : ℕ) (s : Scope) (v : NameSight) → Agrees from to next seen s v → seen ≤ 65536 → (n tag : ℕ) → tag ≡ v.made → Agrees from to next (seen + 1) (with_monitor s (tag_name tag)) (sight_behind v (operation.Monitor n tag))
 monitored from to next seen s v h low n tag e = record {
   format = h.format;
   own = h.own;
@@ -219,7 +219,7 @@ monitored from to next seen s v h low n tag e = record {
   start = h.start;
 }
 
-pub asked : (from to next seen : ℕ) (s : Scope) (v : Sight) → Agrees from to next seen s v → seen ≤ 65536 → (n tag : ℕ) → 2 ≤ v.format → tag ≡ v.made → Agrees from to next (seen + 1) (with_ask s (tag_name tag)) (sight_behind v (operation.Alive n tag))
+pub asked : (from to next seen : ℕ) (s : Scope) (v : NameSight) → Agrees from to next seen s v → seen ≤ 65536 → (n tag : ℕ) → 2 ≤ v.format → tag ≡ v.made → Agrees from to next (seen + 1) (with_ask s (tag_name tag)) (sight_behind v (operation.Alive n tag))
 asked from to next seen s v h low n tag some e = record {
   format = h.format;
   own = h.own;
@@ -240,14 +240,14 @@ asked from to next seen s v h low n tag some e = record {
 }
 
 -- an operation that spawns nothing
-pub agrees_behind : (from to next seen : ℕ) (s : Scope) (v : Sight) → Agrees from to next seen s v → seen ≤ 65536 → (o : Operation) → CanDo v o → Agrees from to next (seen + 1) (scope_behind s (calls v.own v.parent) o) (sight_behind v o)
+pub agrees_behind : (from to next seen : ℕ) (s : Scope) (v : NameSight) → Agrees from to next seen s v → seen ≤ 65536 → (o : Operation) → CanDo v o → Agrees from to next (seen + 1) (scope_behind s (calls v.own v.parent) o) (sight_behind v o)
 agrees_behind from to next seen s v h low (operation.Monitor n tag) e = monitored from to next seen s v h low n tag e.1
 agrees_behind from to next seen s v h low (operation.Alive n tag) e = asked from to next seen s v h low n tag e.0 e.2
 agrees_behind from to next seen s v h low (operation.Spawn process linked) e = absurd e
 agrees_behind from to next seen s v h low _ e = later from to next seen (seen + 1) s v h (omega arith)
 
 -- a spawn
-pub spawned_in : (from to next seen more size : ℕ) (s : Scope) (v : Sight) → Agrees from to next seen s v → next < 4096 → seen ≤ more → (linked : Bool) → Agrees from to (next + (size + 1)) more (with_child s (process_name next) next) (sight_behind v (operation.Spawn next linked))
+pub spawned_in : (from to next seen more size : ℕ) (s : Scope) (v : NameSight) → Agrees from to next seen s v → next < 4096 → seen ≤ more → (linked : Bool) → Agrees from to (next + (size + 1)) more (with_child s (process_name next) next) (sight_behind v (operation.Spawn next linked))
 spawned_in from to next seen more size s v h low le linked = record {
   format = h.format;
   own = h.own;
@@ -268,7 +268,7 @@ spawned_in from to next seen more size s v h low le linked = record {
 }
 
 -- the list of a spawned process
-pub begun_in_sight : (from to next seen : ℕ) (s : Scope) (v : Sight) → Agrees from to next seen s v → Agrees from to (next + 1) (seen + 1) (fresh s.format next (Some s.own) s.tops) (first_sight v.format next (Some v.own) v.tops)
+pub begun_in_sight : (from to next seen : ℕ) (s : Scope) (v : NameSight) → Agrees from to next seen s v → Agrees from to (next + 1) (seen + 1) (fresh_scope s.format next (Some s.own) s.tops) (first_sight v.format next (Some v.own) v.tops)
 begun_in_sight from to next seen s v h = record {
   format = h.format;
   own = refl;
@@ -289,7 +289,7 @@ begun_in_sight from to next seen s v h = record {
 }
 
 -- the name of a process that is spawned next is new
-pub new_name_of : (from to next seen : ℕ) (s : Scope) (v : Sight) → Agrees from to next seen s v → next < to → next < 4096 → process_in s (process_name next) ≡ None
+pub new_name_of : (from to next seen : ℕ) (s : Scope) (v : NameSight) → Agrees from to next seen s v → next < to → next < 4096 → process_in s (process_name next) ≡ None
 new_name_of from to next seen s v h inside low =
     let small : next < 2 ^ 64 = omega (arith, low) in
     let no_child : s.children (process_name next) ≡ None = h.children next small ∙ found_not next v.children (λ i. omega (arith, h.children_low next i)) in

@@ -11,11 +11,11 @@ use Rattle.pt_script.specs.declared.values.Operation.{Operation}
 use Rattle.pt_script.specs.declared.values.Operation.TheVariants as operation
 use Rattle.pt_script.specs.Plans.{Plan}
 use Rattle.pt_script.specs.Steps.{◌>>=◌}
-use Rattle.pt_script.specs.Members.{known, required, optional, list, flag}
+use Rattle.pt_script.specs.Members.{known_members, required, optional_member, list, flag}
 use Rattle.pt_script.specs.Operations.{Spawning, is_spawn, spawn, new_name}
 use Rattle.pt_script.specs.Scopes.{Scope, process_in}
 use Rattle.pt_script.specs.Scripts.{begun_in, spawned_by, loose}
-use Rattle.pt_script.specs.Lists.{Part, Step, Reader, placed, at_operation, fresh, with_child, limits, spawned, simple, one_at, list_with, no_list, list_from}
+use Rattle.pt_script.specs.Lists.{Part, Step, ListReader, placed, at_operation, fresh_scope, with_child, limits, spawned, simple, one_at, list_with, no_list, list_from}
 use Rattle.pt_script.specs.Sound.{IsBelow, ListFits, PlansFit, tags_made, operations_of}
 use Rattle.pt_script.proofs.ListFacts.{limits_levels}
 use Rattle.pt_script.proofs.SoundSteps.{bind, skip, where_ok, under, either, placed_ok, ScopeFits, Goes, simple_goes}
@@ -37,7 +37,7 @@ pub record StepFits (n : ℕ) (s : Scope) (next seen more : ℕ) (one : Step) : 
   pub short : seen ≤ 65536 → one.seen ≤ 65536
 
 -- a reader of lists whose parts fit, where a spawn inside begins as many processes as begins says
-abbrev ReaderFits : ℕ → Reader → (Data → ℕ) → Type 0
+abbrev ReaderFits : ℕ → ListReader → (Data → ℕ) → Type 0
 ReaderFits n read begins = (s : Scope) (next seen : ℕ) (ds : List Data) → IfOk (read s next seen ds) (PartFits n s next seen (spawned_by begins ds))
 
 empty_fits : (n : ℕ) (s : Scope) (next seen : ℕ) → PartFits n s next seen 0 (record { operations = []; inside = []; seen = seen })
@@ -62,7 +62,7 @@ small_next place levels next seen h = grind arith
 
 -- spawns --------------------------------------------------------------------------------
 
-child_scope : (n : ℕ) (s : Scope) (next : ℕ) → next < n → ScopeFits n s → ScopeFits n (fresh s.format next (Some s.own) s.tops)
+child_scope : (n : ℕ) (s : Scope) (next : ℕ) → next < n → ScopeFits n s → ScopeFits n (fresh_scope s.format next (Some s.own) s.tops)
 child_scope n s next lt h = record { own = lt; parent = h.own; tops = h.tops; children = λ q. tt; monitors = λ q. tt; asks = λ q. tt }
 
 behind_child : (n : ℕ) (s : Scope) (name : List ℕ) (next : ℕ) → next < n → ScopeFits n s → ScopeFits n (with_child s name next)
@@ -83,13 +83,13 @@ pub spawn_list : (s : Scope) (d : Data) → IfOk (spawn s d) (ListIs d)
 unfolding spawn
 spawn_list s d =
     let P : List Data → Type 0 = λ ops. required list (get (codes "ops") d) ≡ Ok ops in
-    skip (ListIs d) (known (codes "op" ∷ codes "name" ∷ codes "linked" ∷ codes "trap" ∷ codes "ops" ∷ []) d) (λ u. (required (new_name (process_in s)) (get (codes "name") d) >>= λ name. (optional false flag (get (codes "linked") d) >>= λ linked. (optional false flag (get (codes "trap") d) >>= λ trap. (required list (get (codes "ops") d) >>= λ ops. Ok (record { name = name; linked = linked; trap = trap; ops = ops })))))) (λ u.
-    skip (ListIs d) (required (new_name (process_in s)) (get (codes "name") d)) (λ name. (optional false flag (get (codes "linked") d) >>= λ linked. (optional false flag (get (codes "trap") d) >>= λ trap. (required list (get (codes "ops") d) >>= λ ops. Ok (record { name = name; linked = linked; trap = trap; ops = ops }))))) (λ name.
-    skip (ListIs d) (optional false flag (get (codes "linked") d)) (λ linked. (optional false flag (get (codes "trap") d) >>= λ trap. (required list (get (codes "ops") d) >>= λ ops. Ok (record { name = name; linked = linked; trap = trap; ops = ops })))) (λ linked.
-    skip (ListIs d) (optional false flag (get (codes "trap") d)) (λ trap. (required list (get (codes "ops") d) >>= λ ops. Ok (record { name = name; linked = linked; trap = trap; ops = ops }))) (λ trap.
+    skip (ListIs d) (known_members (codes "op" ∷ codes "name" ∷ codes "linked" ∷ codes "trap" ∷ codes "ops" ∷ []) d) (λ u. (required (new_name (process_in s)) (get (codes "name") d) >>= λ name. (optional_member false flag (get (codes "linked") d) >>= λ linked. (optional_member false flag (get (codes "trap") d) >>= λ trap. (required list (get (codes "ops") d) >>= λ ops. Ok (record { name = name; linked = linked; trap = trap; ops = ops })))))) (λ u.
+    skip (ListIs d) (required (new_name (process_in s)) (get (codes "name") d)) (λ name. (optional_member false flag (get (codes "linked") d) >>= λ linked. (optional_member false flag (get (codes "trap") d) >>= λ trap. (required list (get (codes "ops") d) >>= λ ops. Ok (record { name = name; linked = linked; trap = trap; ops = ops }))))) (λ name.
+    skip (ListIs d) (optional_member false flag (get (codes "linked") d)) (λ linked. (optional_member false flag (get (codes "trap") d) >>= λ trap. (required list (get (codes "ops") d) >>= λ ops. Ok (record { name = name; linked = linked; trap = trap; ops = ops })))) (λ linked.
+    skip (ListIs d) (optional_member false flag (get (codes "trap") d)) (λ trap. (required list (get (codes "ops") d) >>= λ ops. Ok (record { name = name; linked = linked; trap = trap; ops = ops }))) (λ trap.
     bind P (ListIs d) (required list (get (codes "ops") d)) (λ ops. Ok (record { name = name; linked = linked; trap = trap; ops = ops })) (where_ok P (required list (get (codes "ops") d)) (λ ops e. e)) (λ ops e. e)))))
 
-spawned_fits : (n : ℕ) (s : Scope) (next seen : ℕ) (d : Data) (begins : Data → ℕ) (child : Spawning) (part : Part) → ListIs d child → next < 4096 → seen < 65536 → PartFits n (fresh s.format next (Some s.own) s.tops) (next + 1) (seen + 1) (spawned_by begins child.ops) part → StepFits n s next seen (1 + spawned_by begins (loose (required list (get (codes "ops") d)))) (record { operation = operation.Spawn next child.linked; inside = record { trap = child.trap; operations = part.operations } ∷ part.inside; seen = part.seen; scope = with_child s child.name next })
+spawned_fits : (n : ℕ) (s : Scope) (next seen : ℕ) (d : Data) (begins : Data → ℕ) (child : Spawning) (part : Part) → ListIs d child → next < 4096 → seen < 65536 → PartFits n (fresh_scope s.format next (Some s.own) s.tops) (next + 1) (seen + 1) (spawned_by begins child.ops) part → StepFits n s next seen (1 + spawned_by begins (loose (required list (get (codes "ops") d)))) (record { operation = operation.Spawn next child.linked; inside = record { trap = child.trap; operations = part.operations } ∷ part.inside; seen = part.seen; scope = with_child s child.name next })
 spawned_fits n s next seen d begins child part is low short h = record {
   goes = λ sound fits.
       let lt : next < n = omega (arith, fits) in
@@ -103,10 +103,10 @@ spawned_fits n s next seen d begins child part is low short h = record {
   short = λ small. h.short (omega arith);
 }
 
-spawn_step : (n : ℕ) (read : Reader) (begins : Data → ℕ) → ReaderFits n read begins → (place : Place) (s : Scope) (next seen : ℕ) (d : Data) → next < 4096 → seen < 65536 → IfOk (spawned read place s next (seen + 1) d) (StepFits n s next seen (1 + spawned_by begins (loose (required list (get (codes "ops") d)))))
+spawn_step : (n : ℕ) (read : ListReader) (begins : Data → ℕ) → ReaderFits n read begins → (place : Place) (s : Scope) (next seen : ℕ) (d : Data) → next < 4096 → seen < 65536 → IfOk (spawned read place s next (seen + 1) d) (StepFits n s next seen (1 + spawned_by begins (loose (required list (get (codes "ops") d)))))
 spawn_step n read begins reads place s next seen d low short =
     let Q : Step → Type 0 = StepFits n s next seen (1 + spawned_by begins (loose (required list (get (codes "ops") d)))) in
-    let inner : Scope = fresh s.format next (Some s.own) s.tops in
+    let inner : Scope = fresh_scope s.format next (Some s.own) s.tops in
     bind (ListIs d) Q (placed place (spawn s d)) (λ child. read inner (next + 1) (seen + 1) child.ops >>= λ part. Ok (record { operation = operation.Spawn next child.linked; inside = record { trap = child.trap; operations = part.operations } ∷ part.inside; seen = part.seen; scope = with_child s child.name next })) (placed_ok (ListIs d) place (spawn s d) (spawn_list s d)) (λ child is.
     bind (PartFits n inner (next + 1) (seen + 1) (spawned_by begins child.ops)) Q (read inner (next + 1) (seen + 1) child.ops) (λ part. Ok (record { operation = operation.Spawn next child.linked; inside = record { trap = child.trap; operations = part.operations } ∷ part.inside; seen = part.seen; scope = with_child s child.name next })) (reads inner (next + 1) (seen + 1) child.ops) (λ part h. spawned_fits n s next seen d begins child part is low short h))
 
@@ -133,11 +133,11 @@ simple_step n place s next seen d short =
 abbrev begun_by : (Data → ℕ) → Data → ℕ
 begun_by begins d = 1 + spawned_by begins (loose (required list (get (codes "ops") d)))
 
-chosen : (n : ℕ) (read : Reader) (begins : Data → ℕ) (levels : ℕ) → (0 < levels → ReaderFits n read begins) → (place : Place) (s : Scope) (next seen : ℕ) (d : Data) (b : Bool) → limits b place levels next seen ≡ Ok tt → IfOk (if b then spawned read place s next (seen + 1) d else (placed place (simple s d) >>= λ o. Ok (record { operation = o.0; inside = []; seen = seen + 1; scope = o.1 }))) (StepFits n s next seen (if b then begun_by begins d else 0))
+chosen : (n : ℕ) (read : ListReader) (begins : Data → ℕ) (levels : ℕ) → (0 < levels → ReaderFits n read begins) → (place : Place) (s : Scope) (next seen : ℕ) (d : Data) (b : Bool) → limits b place levels next seen ≡ Ok tt → IfOk (if b then spawned read place s next (seen + 1) d else (placed place (simple s d) >>= λ o. Ok (record { operation = o.0; inside = []; seen = seen + 1; scope = o.1 }))) (StepFits n s next seen (if b then begun_by begins d else 0))
 chosen n read begins levels reads place s next seen d true e = spawn_step n read begins (reads (limits_levels place levels next seen e)) place s next seen d (small_next place levels next seen e) (small_seen true place levels next seen e)
 chosen n read begins levels reads place s next seen d false e = simple_step n place s next seen d (small_seen false place levels next seen e)
 
-one_fits : (n : ℕ) (read : Reader) (begins : Data → ℕ) (levels : ℕ) → (0 < levels → ReaderFits n read begins) → (index : ℕ) (s : Scope) (next seen : ℕ) (d : Data) → IfOk (one_at read levels index s next seen d) (StepFits n s next seen (if is_spawn d then begun_by begins d else 0))
+one_fits : (n : ℕ) (read : ListReader) (begins : Data → ℕ) (levels : ℕ) → (0 < levels → ReaderFits n read begins) → (index : ℕ) (s : Scope) (next seen : ℕ) (d : Data) → IfOk (one_at read levels index s next seen d) (StepFits n s next seen (if is_spawn d then begun_by begins d else 0))
 unfolding one_at
 one_fits n read begins levels reads index s next seen d =
     let place : Place = at_operation s.own index in
@@ -162,7 +162,7 @@ joined n s next seen x y all sum one rest h g =
       short = λ small. g.short (h.short small);
     }
 
-list_with_fits : (n : ℕ) (read : Reader) (begins : Data → ℕ) (levels : ℕ) → (0 < levels → ReaderFits n read begins) → (index : ℕ) (s : Scope) (next seen : ℕ) (ds : List Data) → IfOk (list_with read levels index s next seen ds) (PartFits n s next seen (spawned_by (begun_by begins) ds))
+list_with_fits : (n : ℕ) (read : ListReader) (begins : Data → ℕ) (levels : ℕ) → (0 < levels → ReaderFits n read begins) → (index : ℕ) (s : Scope) (next seen : ℕ) (ds : List Data) → IfOk (list_with read levels index s next seen ds) (PartFits n s next seen (spawned_by (begun_by begins) ds))
 unfolding list_with
 list_with_fits n read begins levels reads index s next seen [] = empty_fits n s next seen
 list_with_fits n read begins levels reads index s next seen (d ∷ ds) =

@@ -15,12 +15,12 @@ use Rattle.serde_json.specs.Read.{read}
 use Rattle.pt_script.specs.declared.values.Settings.{Settings}
 use Rattle.pt_script.specs.Plans.{Plan, Whole}
 use Rattle.pt_script.specs.Steps.{◌>>=◌, each}
-use Rattle.pt_script.specs.Members.{known, whole, required, optional, list, flag}
+use Rattle.pt_script.specs.Members.{known_members, whole_number, required, optional_member, list, flag}
 use Rattle.pt_script.specs.Operations.{new_name}
 use Rattle.pt_script.specs.Scopes.{Naming, Scope}
-use Rattle.pt_script.specs.Lists.{Part, placed, at_script, at_process, fresh, list_from}
+use Rattle.pt_script.specs.Lists.{Part, placed, at_script, at_process, fresh_scope, list_from}
 use Rattle.pt_script.specs.Scripts.{Heads, Head, Pending, Lists, settings, head, with_head, next_head, no_heads, next_list, no_lists, few, room, number_behind, begun_in, spawned_by, script, script_of, reading}
-use Rattle.pt_script.specs.Sound.{IsBelow, TopFits, ListFits, PlansFit, InRange, IsSound, operations_of}
+use Rattle.pt_script.specs.Sound.{IsBelow, TopFits, ListFits, PlansFit, InRange, IsSoundScript, operations_of}
 use Rattle.pt_script.proofs.SoundSteps.{bind, skip, where_ok, either, placed_ok, required_ok, optional_ok}
 use Rattle.pt_script.proofs.SoundLists.{PartFits, list_from_fits, sum_cons}
 
@@ -35,7 +35,7 @@ checked least most n = if nat_le least n && nat_le n most then Ok n else Err Bou
 in_range : (least most n : ℕ) → IfOk (checked least most n) (Between least most)
 in_range least most n = grind arith
 
-pub whole_in : (least most : ℕ) (d : Data) → IfOk (whole least most d) (Between least most)
+pub whole_in : (least most : ℕ) (d : Data) → IfOk (whole_number least most d) (Between least most)
 whole_in least most (number (unsigned n)) = in_range least most n
 whole_in least most (number (negative z)) = tt
 whole_in least most (number (float x)) = tt
@@ -45,11 +45,11 @@ whole_in least most (string s) = tt
 whole_in least most (array ds) = tt
 whole_in least most (object ms) = tt
 
-pub needed_in : (least most : ℕ) (m : Option Data) → IfOk (required (whole least most) m) (Between least most)
-needed_in least most m = required_ok (Between least most) (whole least most) m (whole_in least most)
+pub needed_in : (least most : ℕ) (m : Option Data) → IfOk (required (whole_number least most) m) (Between least most)
+needed_in least most m = required_ok (Between least most) (whole_number least most) m (whole_in least most)
 
-given_in : (missing least most : ℕ) (m : Option Data) → Between least most missing → IfOk (optional missing (whole least most) m) (Between least most)
-given_in missing least most m h = optional_ok (Between least most) missing (whole least most) m h (whole_in least most)
+given_in : (missing least most : ℕ) (m : Option Data) → Between least most missing → IfOk (optional_member missing (whole_number least most) m) (Between least most)
+given_in missing least most m h = optional_ok (Between least most) missing (whole_number least most) m h (whole_in least most)
 
 ranges : (format desks slots top lane budget : ℕ) → Between 1 2 format → Between 1 64 desks → Between 1 65536 slots → Between 1 4294967295 top → Between 1 65536 lane → Between 1 65536 budget → InRange (record { format = format; desks = desks; slots = slots; top_version = top; lane = lane; budget = budget })
 ranges format desks slots top lane budget a b c d e f = record { format = a; desks = b; slots = c; top_version = d; lane = e; budget = f }
@@ -57,13 +57,13 @@ ranges format desks slots top lane budget a b c d e f = record { format = a; des
 pub settings_in : (d : Data) → IfOk (settings d) InRange
 unfolding settings
 settings_in d =
-    skip InRange (known (codes "format" ∷ codes "desks" ∷ codes "slots" ∷ codes "top" ∷ codes "lane" ∷ codes "budget" ∷ codes "processes" ∷ []) d) (λ u. (required (whole 1 2) (get (codes "format") d) >>= λ format. (required (whole 1 64) (get (codes "desks") d) >>= λ desks. (optional 1024 (whole 1 65536) (get (codes "slots") d) >>= λ slots. (optional 4294967295 (whole 1 4294967295) (get (codes "top") d) >>= λ top. (optional 64 (whole 1 65536) (get (codes "lane") d) >>= λ lane. (optional 16 (whole 1 65536) (get (codes "budget") d) >>= λ budget. Ok (record { format = format; desks = desks; slots = slots; top_version = top; lane = lane; budget = budget })))))))) (λ u.
-    bind (Between 1 2) InRange (required (whole 1 2) (get (codes "format") d)) (λ format. (required (whole 1 64) (get (codes "desks") d) >>= λ desks. (optional 1024 (whole 1 65536) (get (codes "slots") d) >>= λ slots. (optional 4294967295 (whole 1 4294967295) (get (codes "top") d) >>= λ top. (optional 64 (whole 1 65536) (get (codes "lane") d) >>= λ lane. (optional 16 (whole 1 65536) (get (codes "budget") d) >>= λ budget. Ok (record { format = format; desks = desks; slots = slots; top_version = top; lane = lane; budget = budget }))))))) (needed_in 1 2 (get (codes "format") d)) (λ format format_in.
-    bind (Between 1 64) InRange (required (whole 1 64) (get (codes "desks") d)) (λ desks. (optional 1024 (whole 1 65536) (get (codes "slots") d) >>= λ slots. (optional 4294967295 (whole 1 4294967295) (get (codes "top") d) >>= λ top. (optional 64 (whole 1 65536) (get (codes "lane") d) >>= λ lane. (optional 16 (whole 1 65536) (get (codes "budget") d) >>= λ budget. Ok (record { format = format; desks = desks; slots = slots; top_version = top; lane = lane; budget = budget })))))) (needed_in 1 64 (get (codes "desks") d)) (λ desks desks_in.
-    bind (Between 1 65536) InRange (optional 1024 (whole 1 65536) (get (codes "slots") d)) (λ slots. (optional 4294967295 (whole 1 4294967295) (get (codes "top") d) >>= λ top. (optional 64 (whole 1 65536) (get (codes "lane") d) >>= λ lane. (optional 16 (whole 1 65536) (get (codes "budget") d) >>= λ budget. Ok (record { format = format; desks = desks; slots = slots; top_version = top; lane = lane; budget = budget }))))) (given_in 1024 1 65536 (get (codes "slots") d) (omega arith, omega arith)) (λ slots slots_in.
-    bind (Between 1 4294967295) InRange (optional 4294967295 (whole 1 4294967295) (get (codes "top") d)) (λ top. (optional 64 (whole 1 65536) (get (codes "lane") d) >>= λ lane. (optional 16 (whole 1 65536) (get (codes "budget") d) >>= λ budget. Ok (record { format = format; desks = desks; slots = slots; top_version = top; lane = lane; budget = budget })))) (given_in 4294967295 1 4294967295 (get (codes "top") d) (omega arith, omega arith)) (λ top top_in.
-    bind (Between 1 65536) InRange (optional 64 (whole 1 65536) (get (codes "lane") d)) (λ lane. (optional 16 (whole 1 65536) (get (codes "budget") d) >>= λ budget. Ok (record { format = format; desks = desks; slots = slots; top_version = top; lane = lane; budget = budget }))) (given_in 64 1 65536 (get (codes "lane") d) (omega arith, omega arith)) (λ lane lane_in.
-    bind (Between 1 65536) InRange (optional 16 (whole 1 65536) (get (codes "budget") d)) (λ budget. Ok (record { format = format; desks = desks; slots = slots; top_version = top; lane = lane; budget = budget })) (given_in 16 1 65536 (get (codes "budget") d) (omega arith, omega arith)) (λ budget budget_in.
+    skip InRange (known_members (codes "format" ∷ codes "desks" ∷ codes "slots" ∷ codes "top" ∷ codes "lane" ∷ codes "budget" ∷ codes "processes" ∷ []) d) (λ u. (required (whole_number 1 2) (get (codes "format") d) >>= λ format. (required (whole_number 1 64) (get (codes "desks") d) >>= λ desks. (optional_member 1024 (whole_number 1 65536) (get (codes "slots") d) >>= λ slots. (optional_member 4294967295 (whole_number 1 4294967295) (get (codes "top") d) >>= λ top. (optional_member 64 (whole_number 1 65536) (get (codes "lane") d) >>= λ lane. (optional_member 16 (whole_number 1 65536) (get (codes "budget") d) >>= λ budget. Ok (record { format = format; desks = desks; slots = slots; top_version = top; lane = lane; budget = budget })))))))) (λ u.
+    bind (Between 1 2) InRange (required (whole_number 1 2) (get (codes "format") d)) (λ format. (required (whole_number 1 64) (get (codes "desks") d) >>= λ desks. (optional_member 1024 (whole_number 1 65536) (get (codes "slots") d) >>= λ slots. (optional_member 4294967295 (whole_number 1 4294967295) (get (codes "top") d) >>= λ top. (optional_member 64 (whole_number 1 65536) (get (codes "lane") d) >>= λ lane. (optional_member 16 (whole_number 1 65536) (get (codes "budget") d) >>= λ budget. Ok (record { format = format; desks = desks; slots = slots; top_version = top; lane = lane; budget = budget }))))))) (needed_in 1 2 (get (codes "format") d)) (λ format format_in.
+    bind (Between 1 64) InRange (required (whole_number 1 64) (get (codes "desks") d)) (λ desks. (optional_member 1024 (whole_number 1 65536) (get (codes "slots") d) >>= λ slots. (optional_member 4294967295 (whole_number 1 4294967295) (get (codes "top") d) >>= λ top. (optional_member 64 (whole_number 1 65536) (get (codes "lane") d) >>= λ lane. (optional_member 16 (whole_number 1 65536) (get (codes "budget") d) >>= λ budget. Ok (record { format = format; desks = desks; slots = slots; top_version = top; lane = lane; budget = budget })))))) (needed_in 1 64 (get (codes "desks") d)) (λ desks desks_in.
+    bind (Between 1 65536) InRange (optional_member 1024 (whole_number 1 65536) (get (codes "slots") d)) (λ slots. (optional_member 4294967295 (whole_number 1 4294967295) (get (codes "top") d) >>= λ top. (optional_member 64 (whole_number 1 65536) (get (codes "lane") d) >>= λ lane. (optional_member 16 (whole_number 1 65536) (get (codes "budget") d) >>= λ budget. Ok (record { format = format; desks = desks; slots = slots; top_version = top; lane = lane; budget = budget }))))) (given_in 1024 1 65536 (get (codes "slots") d) (omega arith, omega arith)) (λ slots slots_in.
+    bind (Between 1 4294967295) InRange (optional_member 4294967295 (whole_number 1 4294967295) (get (codes "top") d)) (λ top. (optional_member 64 (whole_number 1 65536) (get (codes "lane") d) >>= λ lane. (optional_member 16 (whole_number 1 65536) (get (codes "budget") d) >>= λ budget. Ok (record { format = format; desks = desks; slots = slots; top_version = top; lane = lane; budget = budget })))) (given_in 4294967295 1 4294967295 (get (codes "top") d) (omega arith, omega arith)) (λ top top_in.
+    bind (Between 1 65536) InRange (optional_member 64 (whole_number 1 65536) (get (codes "lane") d)) (λ lane. (optional_member 16 (whole_number 1 65536) (get (codes "budget") d) >>= λ budget. Ok (record { format = format; desks = desks; slots = slots; top_version = top; lane = lane; budget = budget }))) (given_in 64 1 65536 (get (codes "lane") d) (omega arith, omega arith)) (λ lane lane_in.
+    bind (Between 1 65536) InRange (optional_member 16 (whole_number 1 65536) (get (codes "budget") d)) (λ budget. Ok (record { format = format; desks = desks; slots = slots; top_version = top; lane = lane; budget = budget })) (given_in 16 1 65536 (get (codes "budget") d) (omega arith, omega arith)) (λ budget budget_in.
     ranges format desks slots top lane budget format_in desks_in slots_in top_in lane_in budget_in)))))))
 
 -- numbers ------------------------------------------------------------------------
@@ -126,11 +126,11 @@ DeskIn s h = h.desk < s.desks
 head_desk : (s : Settings) (before : Heads) (d : Data) → 1 ≤ s.desks → IfOk (head s before d) (DeskIn s)
 unfolding head
 head_desk s before d some =
-    skip (DeskIn s) (known (codes "name" ∷ codes "desk" ∷ codes "trap" ∷ codes "ops" ∷ []) d) (λ u. (required (new_name before.names) (get (codes "name") d) >>= λ name. (required (whole 0 (s.desks - 1)) (get (codes "desk") d) >>= λ desk. (room s before.tops desk >>= λ r. (optional false flag (get (codes "trap") d) >>= λ trap. Ok (record { name = name; desk = desk; trap = trap })))))) (λ u.
-    skip (DeskIn s) (required (new_name before.names) (get (codes "name") d)) (λ name. (required (whole 0 (s.desks - 1)) (get (codes "desk") d) >>= λ desk. (room s before.tops desk >>= λ r. (optional false flag (get (codes "trap") d) >>= λ trap. Ok (record { name = name; desk = desk; trap = trap }))))) (λ name.
-    bind (Between 0 (s.desks - 1)) (DeskIn s) (required (whole 0 (s.desks - 1)) (get (codes "desk") d)) (λ desk. (room s before.tops desk >>= λ r. (optional false flag (get (codes "trap") d) >>= λ trap. Ok (record { name = name; desk = desk; trap = trap })))) (needed_in 0 (s.desks - 1) (get (codes "desk") d)) (λ desk desk_in.
-    skip (DeskIn s) (room s before.tops desk) (λ r. (optional false flag (get (codes "trap") d) >>= λ trap. Ok (record { name = name; desk = desk; trap = trap }))) (λ r.
-    skip (DeskIn s) (optional false flag (get (codes "trap") d)) (λ trap. Ok (record { name = name; desk = desk; trap = trap })) (λ trap.
+    skip (DeskIn s) (known_members (codes "name" ∷ codes "desk" ∷ codes "trap" ∷ codes "ops" ∷ []) d) (λ u. (required (new_name before.names) (get (codes "name") d) >>= λ name. (required (whole_number 0 (s.desks - 1)) (get (codes "desk") d) >>= λ desk. (room s before.tops desk >>= λ r. (optional_member false flag (get (codes "trap") d) >>= λ trap. Ok (record { name = name; desk = desk; trap = trap })))))) (λ u.
+    skip (DeskIn s) (required (new_name before.names) (get (codes "name") d)) (λ name. (required (whole_number 0 (s.desks - 1)) (get (codes "desk") d) >>= λ desk. (room s before.tops desk >>= λ r. (optional_member false flag (get (codes "trap") d) >>= λ trap. Ok (record { name = name; desk = desk; trap = trap }))))) (λ name.
+    bind (Between 0 (s.desks - 1)) (DeskIn s) (required (whole_number 0 (s.desks - 1)) (get (codes "desk") d)) (λ desk. (room s before.tops desk >>= λ r. (optional_member false flag (get (codes "trap") d) >>= λ trap. Ok (record { name = name; desk = desk; trap = trap })))) (needed_in 0 (s.desks - 1) (get (codes "desk") d)) (λ desk desk_in.
+    skip (DeskIn s) (room s before.tops desk) (λ r. (optional_member false flag (get (codes "trap") d) >>= λ trap. Ok (record { name = name; desk = desk; trap = trap }))) (λ r.
+    skip (DeskIn s) (optional_member false flag (get (codes "trap") d)) (λ trap. Ok (record { name = name; desk = desk; trap = trap })) (λ trap.
     omega (arith, desk_in.1, some))))))
 
 next_head_fits : (s : Settings) (before : Heads) (d : Data) → 1 ≤ s.desks → HeadsFit s before → IfOk (next_head s before d) (HeadsFit s)
@@ -174,7 +174,7 @@ unfolding begun_in
 begun_of d ops h = rw h refl
 
 abbrev scope_of : ℕ → Naming → Lists → Scope
-scope_of format names before = fresh format (length before.processes) None names
+scope_of format names before = fresh_scope format (length before.processes) None names
 
 added : (format : ℕ) (names : Naming) (before : Lists) (p : Pending) (ops : List Data) (part : Part) → length before.processes < 4096 → required list (get (codes "ops") p.value) ≡ Ok ops → ((n : ℕ) → PartFits n (scope_of format names before) (length before.processes + 1) before.seen (spawned_by (begun_in 62) ops) part) → AddFits names before p (record { processes = before.processes ++ record { trap = p.trap; operations = part.operations } ∷ part.inside; seen = part.seen })
 added format names before p ops part low is h =
@@ -238,7 +238,7 @@ lists_fit format names before (p ∷ ps) =
 
 -- scripts ------------------------------------------------------------------------
 
-whole_sound : (s : Settings) (all : Heads) (rest : Lists) → InRange s → HeadsFit s all → AllFit all.names no_lists all.unread rest → IsSound (record { settings = s; tops = all.tops; processes = rest.processes })
+whole_sound : (s : Settings) (all : Heads) (rest : Lists) → InRange s → HeadsFit s all → AllFit all.names no_lists all.unread rest → IsSoundScript (record { settings = s; tops = all.tops; processes = rest.processes })
 whole_sound s all rest range heads lists = record {
   settings = range;
   tops = heads.tops (length rest.processes) lists.numbers;
@@ -247,7 +247,7 @@ whole_sound s all rest range heads lists = record {
   operations = omega (arith, lists.seen refl, lists.short (omega arith));
 }
 
-pub script_sound : (d : Data) → IfOk (script d) IsSound
+pub script_sound : (d : Data) → IfOk (script d) IsSoundScript
 unfolding script
 script_sound d =
     let given : Result (List Data) Fault = required list (get (codes "processes") d) in
@@ -255,32 +255,32 @@ script_sound d =
     let of_all : Settings → Heads → Result Whole ScriptError = λ s all. each (next_list s.format all.names) no_lists all.unread >>= of_rest s all in
     let of_list : Settings → List Data → Result Whole ScriptError = λ s ds. each (next_head s) no_heads ds >>= of_all s in
     let of_settings : Settings → Result Whole ScriptError = λ s. placed at_script given >>= of_list s in
-    bind InRange IsSound (placed at_script (settings d)) of_settings (placed_ok InRange at_script (settings d) (settings_in d)) (λ s range.
-    skip IsSound (placed at_script given) (of_list s) (λ ds.
-    bind (HeadsFit s) IsSound (each (next_head s) no_heads ds) (of_all s) (heads_fit s range.desks.0 no_heads ds (none_fits s)) (λ all heads.
-    bind (AllFit all.names no_lists all.unread) IsSound (each (next_list s.format all.names) no_lists all.unread) (of_rest s all) (lists_fit s.format all.names no_lists all.unread) (λ rest lists. whole_sound s all rest range heads lists))))
+    bind InRange IsSoundScript (placed at_script (settings d)) of_settings (placed_ok InRange at_script (settings d) (settings_in d)) (λ s range.
+    skip IsSoundScript (placed at_script given) (of_list s) (λ ds.
+    bind (HeadsFit s) IsSoundScript (each (next_head s) no_heads ds) (of_all s) (heads_fit s range.desks.0 no_heads ds (none_fits s)) (λ all heads.
+    bind (AllFit all.names no_lists all.unread) IsSoundScript (each (next_list s.format all.names) no_lists all.unread) (of_rest s all) (lists_fit s.format all.names no_lists all.unread) (λ rest lists. whole_sound s all rest range heads lists))))
 
 pub script_ok : (d : Data) (s : Settings) (ds : List Data) (all : Heads) (rest : Lists) → settings d ≡ Ok s → required list (get (codes "processes") d) ≡ Ok ds → each (next_head s) no_heads ds ≡ Ok all → each (next_list s.format all.names) no_lists all.unread ≡ Ok rest → script d ≡ Ok (record { settings = s; tops = all.tops; processes = rest.processes })
 unfolding script
 script_ok d s ds all rest said given heads lists = rw (said, given, heads, lists) refl
 
 -- what was read in its parts is sound
-pub parts_sound : (d : Data) (s : Settings) (ds : List Data) (all : Heads) (rest : Lists) → settings d ≡ Ok s → required list (get (codes "processes") d) ≡ Ok ds → each (next_head s) no_heads ds ≡ Ok all → each (next_list s.format all.names) no_lists all.unread ≡ Ok rest → IsSound (record { settings = s; tops = all.tops; processes = rest.processes })
+pub parts_sound : (d : Data) (s : Settings) (ds : List Data) (all : Heads) (rest : Lists) → settings d ≡ Ok s → required list (get (codes "processes") d) ≡ Ok ds → each (next_head s) no_heads ds ≡ Ok all → each (next_list s.format all.names) no_lists all.unread ≡ Ok rest → IsSoundScript (record { settings = s; tops = all.tops; processes = rest.processes })
 parts_sound d s ds all rest said given heads lists = rw (script_ok d s ds all rest said given heads lists) at (script_sound d)
 
-script_of_sound : (read : Option Data) → IfOk (script_of read) IsSound
+script_of_sound : (read : Option Data) → IfOk (script_of read) IsSoundScript
 script_of_sound None = tt
 script_of_sound (Some d) = script_sound d
 
-reading_sound : (bytes : List ℕ) → IfOk (reading bytes) IsSound
+reading_sound : (bytes : List ℕ) → IfOk (reading bytes) IsSoundScript
 unfolding reading
 reading_sound bytes =
-    let P : Result Whole ScriptError → Type 0 = λ r. IfOk r IsSound in
+    let P : Result Whole ScriptError → Type 0 = λ r. IfOk r IsSoundScript in
     let of_text : Result Whole ScriptError = if is_utf8 bytes then script_of (read bytes) else Err (Refused Syntax at_script) in
     either P (nat_lt 1048576 (length bytes)) (Err (Refused Bounds at_script)) of_text tt (either P (is_utf8 bytes) (script_of (read bytes)) (Err (Refused Syntax at_script)) (script_of_sound (read bytes)) tt)
 
 if_ok : {A E : Type 0} (P : A → Type 0) (r : Result A E) (x : A) → IfOk r P → r ≡ Ok x → P x
 if_ok P r x h e = rw e at h
 
-pub accepted_sound : (bytes : List ℕ) (w : Whole) → reading bytes ≡ Ok w → IsSound w
-accepted_sound bytes w e = if_ok IsSound (reading bytes) w (reading_sound bytes) e
+pub accepted_sound : (bytes : List ℕ) (w : Whole) → reading bytes ≡ Ok w → IsSoundScript w
+accepted_sound bytes w e = if_ok IsSoundScript (reading bytes) w (reading_sound bytes) e

@@ -11,10 +11,10 @@ use Rattle.pt_script.specs.declared.values.Operation.{Operation}
 use Rattle.pt_script.specs.declared.values.Operation.TheVariants as operation
 use Rattle.pt_script.specs.declared.values.Pattern.TheVariants as pattern
 use Rattle.pt_script.specs.Steps.{◌>>=◌}
-use Rattle.pt_script.specs.Members.{known, required, optional, text, signed, flag}
+use Rattle.pt_script.specs.Members.{known_members, required, optional_member, text, signed, flag}
 use Rattle.pt_script.specs.Operations.{process, maybe_process, monitor_tag, ask_tag, new_tag, reason, kind, one_pick, pick, pick_members, send, receive, check, link, unlink, demonitor, trap, exit, signal, pass, tagged, plain}
-use Rattle.pt_script.specs.Scopes.{Scope, can_ask, process_in, or_else}
-use Rattle.pt_script.specs.Lists.{placed, simple, named, with_monitor, with_ask}
+use Rattle.pt_script.specs.Scopes.{Scope, can_ask, process_in, or_number}
+use Rattle.pt_script.specs.Lists.{placed, simple, named_operation, with_monitor, with_ask}
 use Rattle.pt_script.specs.Sound.{IsBelow, PatternFits, Fits, tags_made}
 
 -- reading step by step -----------------------------------------------------------
@@ -48,7 +48,7 @@ pub required_ok : {A : Type 0} (P : A → Type 0) (of : Data → Result A Fault)
 required_ok P of None h = tt
 required_ok P of (Some d) h = h d
 
-pub optional_ok : {A : Type 0} (P : A → Type 0) (missing : A) (of : Data → Result A Fault) (m : Option Data) → P missing → ((d : Data) → IfOk (of d) P) → IfOk (optional missing of m) P
+pub optional_ok : {A : Type 0} (P : A → Type 0) (missing : A) (of : Data → Result A Fault) (m : Option Data) → P missing → ((d : Data) → IfOk (of d) P) → IfOk (optional_member missing of m) P
 optional_ok P missing of None h g = h
 optional_ok P missing of (Some d) h g = g d
 
@@ -67,12 +67,12 @@ pub record ScopeFits (n : ℕ) (s : Scope) : Type 0 where
   pub monitors : (q : List ℕ) → IsBelow s.made (s.monitors q)
   pub asks : (q : List ℕ) → IsBelow s.made (s.asks q)
 
-one_of : (n : ℕ) (a b : Option ℕ) → IsBelow n a → IsBelow n b → IsBelow n (or_else a b)
+one_of : (n : ℕ) (a b : Option ℕ) → IsBelow n a → IsBelow n b → IsBelow n (or_number a b)
 one_of n (Some k) b h g = h
 one_of n None b h g = g
 
 named_below : (n : ℕ) (s : Scope) → ScopeFits n s → (q : List ℕ) → IsBelow n (process_in s q)
-named_below n s h q = either (IsBelow n) (bytes_eq q (codes "self")) (Some s.own) (if bytes_eq q (codes "parent") then s.parent else or_else (s.children q) (s.tops q)) h.own (either (IsBelow n) (bytes_eq q (codes "parent")) s.parent (or_else (s.children q) (s.tops q)) h.parent (one_of n (s.children q) (s.tops q) (h.children q) (h.tops q)))
+named_below n s h q = either (IsBelow n) (bytes_eq q (codes "self")) (Some s.own) (if bytes_eq q (codes "parent") then s.parent else or_number (s.children q) (s.tops q)) h.own (either (IsBelow n) (bytes_eq q (codes "parent")) s.parent (or_number (s.children q) (s.tops q)) h.parent (one_of n (s.children q) (s.tops q) (h.children q) (h.tops q)))
 
 process_below : (n : ℕ) (s : Scope) → ScopeFits n s → (d : Data) → IfOk (process s d) (λ k. k < n)
 process_below n s h d = skip (λ k. k < n) (text d) (λ q. ok_or (process_in s q) Name) (λ q. found n (process_in s q) Name (named_below n s h q))
@@ -111,75 +111,75 @@ one_pick_fits n s h _ _ _ _ _ = tt
 
 pick_fits : (n : ℕ) (s : Scope) → ScopeFits n s → (d : Data) → IfOk (pick s d) (PatternFits n s.made)
 unfolding pick
-pick_fits n s h d = skip (PatternFits n s.made) (known (pick_members (can_ask s)) d) (λ u. one_pick s (get (codes "kind") d) (get (codes "from") d) (get (codes "exit") d) (get (codes "down") d) (get (codes "alive") d)) (λ _. one_pick_fits n s h (get (codes "kind") d) (get (codes "from") d) (get (codes "exit") d) (get (codes "down") d) (get (codes "alive") d))
+pick_fits n s h d = skip (PatternFits n s.made) (known_members (pick_members (can_ask s)) d) (λ u. one_pick s (get (codes "kind") d) (get (codes "from") d) (get (codes "exit") d) (get (codes "down") d) (get (codes "alive") d)) (λ _. one_pick_fits n s h (get (codes "kind") d) (get (codes "from") d) (get (codes "exit") d) (get (codes "down") d) (get (codes "alive") d))
 
 send_fits : (n : ℕ) (s : Scope) → ScopeFits n s → (d : Data) → IfOk (send s d) (Plain n s)
 unfolding send
-send_fits n s h d = skip (Plain n s) (known (codes "op" ∷ codes "to" ∷ codes "kind" ∷ codes "num" ∷ codes "who" ∷ []) d) (λ u. (required (process s) (get (codes "to") d) >>= λ to. (required kind (get (codes "kind") d) >>= λ k. (required signed (get (codes "num") d) >>= λ num. (optional None (maybe_process s) (get (codes "who") d) >>= λ who. Ok (operation.Send to k num who))))))
-    (λ u. bind (λ k. k < n) (Plain n s) (required (process s) (get (codes "to") d)) (λ to. (required kind (get (codes "kind") d) >>= λ k. (required signed (get (codes "num") d) >>= λ num. (optional None (maybe_process s) (get (codes "who") d) >>= λ who. Ok (operation.Send to k num who))))) (to_ok n s h (get (codes "to") d))
-    (λ to to_in. skip (Plain n s) (required kind (get (codes "kind") d)) (λ k. (required signed (get (codes "num") d) >>= λ num. (optional None (maybe_process s) (get (codes "who") d) >>= λ who. Ok (operation.Send to k num who))))
-    (λ k. skip (Plain n s) (required signed (get (codes "num") d)) (λ num. (optional None (maybe_process s) (get (codes "who") d) >>= λ who. Ok (operation.Send to k num who)))
-    (λ num. bind (IsBelow n) (Plain n s) (optional None (maybe_process s) (get (codes "who") d)) (λ who. Ok (operation.Send to k num who)) (optional_ok (IsBelow n) None (maybe_process s) (get (codes "who") d) tt (maybe_below n s h))
+send_fits n s h d = skip (Plain n s) (known_members (codes "op" ∷ codes "to" ∷ codes "kind" ∷ codes "num" ∷ codes "who" ∷ []) d) (λ u. (required (process s) (get (codes "to") d) >>= λ to. (required kind (get (codes "kind") d) >>= λ k. (required signed (get (codes "num") d) >>= λ num. (optional_member None (maybe_process s) (get (codes "who") d) >>= λ who. Ok (operation.Send to k num who))))))
+    (λ u. bind (λ k. k < n) (Plain n s) (required (process s) (get (codes "to") d)) (λ to. (required kind (get (codes "kind") d) >>= λ k. (required signed (get (codes "num") d) >>= λ num. (optional_member None (maybe_process s) (get (codes "who") d) >>= λ who. Ok (operation.Send to k num who))))) (to_ok n s h (get (codes "to") d))
+    (λ to to_in. skip (Plain n s) (required kind (get (codes "kind") d)) (λ k. (required signed (get (codes "num") d) >>= λ num. (optional_member None (maybe_process s) (get (codes "who") d) >>= λ who. Ok (operation.Send to k num who))))
+    (λ k. skip (Plain n s) (required signed (get (codes "num") d)) (λ num. (optional_member None (maybe_process s) (get (codes "who") d) >>= λ who. Ok (operation.Send to k num who)))
+    (λ num. bind (IsBelow n) (Plain n s) (optional_member None (maybe_process s) (get (codes "who") d)) (λ who. Ok (operation.Send to k num who)) (optional_ok (IsBelow n) None (maybe_process s) (get (codes "who") d) tt (maybe_below n s h))
     (λ who who_in. done n s (operation.Send to k num who) (to_in, who_in) refl)))))
 
 receive_fits : (n : ℕ) (s : Scope) → ScopeFits n s → (d : Data) → IfOk (receive s d) (Plain n s)
 unfolding receive
-receive_fits n s h d = skip (Plain n s) (known (codes "op" ∷ codes "pick" ∷ []) d) (λ u. (optional pattern.Any (pick s) (get (codes "pick") d) >>= λ p. Ok (operation.Receive p)))
-    (λ u. bind (PatternFits n s.made) (Plain n s) (optional pattern.Any (pick s) (get (codes "pick") d)) (λ p. Ok (operation.Receive p)) (optional_ok (PatternFits n s.made) pattern.Any (pick s) (get (codes "pick") d) tt (pick_fits n s h))
+receive_fits n s h d = skip (Plain n s) (known_members (codes "op" ∷ codes "pick" ∷ []) d) (λ u. (optional_member pattern.Any (pick s) (get (codes "pick") d) >>= λ p. Ok (operation.Receive p)))
+    (λ u. bind (PatternFits n s.made) (Plain n s) (optional_member pattern.Any (pick s) (get (codes "pick") d)) (λ p. Ok (operation.Receive p)) (optional_ok (PatternFits n s.made) pattern.Any (pick s) (get (codes "pick") d) tt (pick_fits n s h))
     (λ p p_in. done n s (operation.Receive p) p_in refl))
 
 check_fits : (n : ℕ) (s : Scope) → ScopeFits n s → (d : Data) → IfOk (check s d) (Plain n s)
 unfolding check
-check_fits n s h d = skip (Plain n s) (known (codes "op" ∷ codes "pick" ∷ []) d) (λ u. (optional pattern.Any (pick s) (get (codes "pick") d) >>= λ p. Ok (operation.Check p)))
-    (λ u. bind (PatternFits n s.made) (Plain n s) (optional pattern.Any (pick s) (get (codes "pick") d)) (λ p. Ok (operation.Check p)) (optional_ok (PatternFits n s.made) pattern.Any (pick s) (get (codes "pick") d) tt (pick_fits n s h))
+check_fits n s h d = skip (Plain n s) (known_members (codes "op" ∷ codes "pick" ∷ []) d) (λ u. (optional_member pattern.Any (pick s) (get (codes "pick") d) >>= λ p. Ok (operation.Check p)))
+    (λ u. bind (PatternFits n s.made) (Plain n s) (optional_member pattern.Any (pick s) (get (codes "pick") d)) (λ p. Ok (operation.Check p)) (optional_ok (PatternFits n s.made) pattern.Any (pick s) (get (codes "pick") d) tt (pick_fits n s h))
     (λ p p_in. done n s (operation.Check p) p_in refl))
 
 link_fits : (n : ℕ) (s : Scope) → ScopeFits n s → (d : Data) → IfOk (link s d) (Plain n s)
 unfolding link
-link_fits n s h d = skip (Plain n s) (known (codes "op" ∷ codes "to" ∷ []) d) (λ u. (required (process s) (get (codes "to") d) >>= λ to. Ok (operation.Link to)))
+link_fits n s h d = skip (Plain n s) (known_members (codes "op" ∷ codes "to" ∷ []) d) (λ u. (required (process s) (get (codes "to") d) >>= λ to. Ok (operation.Link to)))
     (λ u. bind (λ k. k < n) (Plain n s) (required (process s) (get (codes "to") d)) (λ to. Ok (operation.Link to)) (to_ok n s h (get (codes "to") d))
     (λ to to_in. done n s (operation.Link to) to_in refl))
 
 unlink_fits : (n : ℕ) (s : Scope) → ScopeFits n s → (d : Data) → IfOk (unlink s d) (Plain n s)
 unfolding unlink
-unlink_fits n s h d = skip (Plain n s) (known (codes "op" ∷ codes "to" ∷ []) d) (λ u. (required (process s) (get (codes "to") d) >>= λ to. Ok (operation.Unlink to)))
+unlink_fits n s h d = skip (Plain n s) (known_members (codes "op" ∷ codes "to" ∷ []) d) (λ u. (required (process s) (get (codes "to") d) >>= λ to. Ok (operation.Unlink to)))
     (λ u. bind (λ k. k < n) (Plain n s) (required (process s) (get (codes "to") d)) (λ to. Ok (operation.Unlink to)) (to_ok n s h (get (codes "to") d))
     (λ to to_in. done n s (operation.Unlink to) to_in refl))
 
 demonitor_fits : (n : ℕ) (s : Scope) → ScopeFits n s → (d : Data) → IfOk (demonitor s d) (Plain n s)
 unfolding demonitor
-demonitor_fits n s h d = skip (Plain n s) (known (codes "op" ∷ codes "tag" ∷ codes "flush" ∷ []) d) (λ u. (required (monitor_tag s) (get (codes "tag") d) >>= λ tag. (optional false flag (get (codes "flush") d) >>= λ flush. Ok (operation.Demonitor tag flush))))
-    (λ u. bind (λ k. k < s.made) (Plain n s) (required (monitor_tag s) (get (codes "tag") d)) (λ tag. (optional false flag (get (codes "flush") d) >>= λ flush. Ok (operation.Demonitor tag flush))) (required_ok (λ k. k < s.made) (monitor_tag s) (get (codes "tag") d) (monitor_below n s h))
-    (λ tag tag_in. skip (Plain n s) (optional false flag (get (codes "flush") d)) (λ flush. Ok (operation.Demonitor tag flush))
+demonitor_fits n s h d = skip (Plain n s) (known_members (codes "op" ∷ codes "tag" ∷ codes "flush" ∷ []) d) (λ u. (required (monitor_tag s) (get (codes "tag") d) >>= λ tag. (optional_member false flag (get (codes "flush") d) >>= λ flush. Ok (operation.Demonitor tag flush))))
+    (λ u. bind (λ k. k < s.made) (Plain n s) (required (monitor_tag s) (get (codes "tag") d)) (λ tag. (optional_member false flag (get (codes "flush") d) >>= λ flush. Ok (operation.Demonitor tag flush))) (required_ok (λ k. k < s.made) (monitor_tag s) (get (codes "tag") d) (monitor_below n s h))
+    (λ tag tag_in. skip (Plain n s) (optional_member false flag (get (codes "flush") d)) (λ flush. Ok (operation.Demonitor tag flush))
     (λ flush. done n s (operation.Demonitor tag flush) tag_in refl)))
 
 trap_fits : (n : ℕ) (s : Scope) → (d : Data) → IfOk (trap d) (Plain n s)
 unfolding trap
-trap_fits n s d = skip (Plain n s) (known (codes "op" ∷ codes "on" ∷ []) d) (λ u. (required flag (get (codes "on") d) >>= λ on. Ok (operation.Trap on)))
+trap_fits n s d = skip (Plain n s) (known_members (codes "op" ∷ codes "on" ∷ []) d) (λ u. (required flag (get (codes "on") d) >>= λ on. Ok (operation.Trap on)))
     (λ u. skip (Plain n s) (required flag (get (codes "on") d)) (λ on. Ok (operation.Trap on))
     (λ on. done n s (operation.Trap on) tt refl))
 
 exit_fits : (n : ℕ) (s : Scope) → (d : Data) → IfOk (exit d) (Plain n s)
 unfolding exit
-exit_fits n s d = skip (Plain n s) (known (codes "op" ∷ codes "reason" ∷ []) d) (λ u. (required reason (get (codes "reason") d) >>= λ r. Ok (operation.Exit r)))
+exit_fits n s d = skip (Plain n s) (known_members (codes "op" ∷ codes "reason" ∷ []) d) (λ u. (required reason (get (codes "reason") d) >>= λ r. Ok (operation.Exit r)))
     (λ u. skip (Plain n s) (required reason (get (codes "reason") d)) (λ r. Ok (operation.Exit r))
     (λ r. done n s (operation.Exit r) tt refl))
 
 signal_fits : (n : ℕ) (s : Scope) → ScopeFits n s → (d : Data) → IfOk (signal s d) (Plain n s)
 unfolding signal
-signal_fits n s h d = skip (Plain n s) (known (codes "op" ∷ codes "to" ∷ codes "reason" ∷ []) d) (λ u. (required (process s) (get (codes "to") d) >>= λ to. (required reason (get (codes "reason") d) >>= λ r. Ok (operation.Signal to r))))
+signal_fits n s h d = skip (Plain n s) (known_members (codes "op" ∷ codes "to" ∷ codes "reason" ∷ []) d) (λ u. (required (process s) (get (codes "to") d) >>= λ to. (required reason (get (codes "reason") d) >>= λ r. Ok (operation.Signal to r))))
     (λ u. bind (λ k. k < n) (Plain n s) (required (process s) (get (codes "to") d)) (λ to. (required reason (get (codes "reason") d) >>= λ r. Ok (operation.Signal to r))) (to_ok n s h (get (codes "to") d))
     (λ to to_in. skip (Plain n s) (required reason (get (codes "reason") d)) (λ r. Ok (operation.Signal to r))
     (λ r. done n s (operation.Signal to r) to_in refl)))
 
 pass_fits : (n : ℕ) (s : Scope) → (d : Data) → IfOk (pass d) (Plain n s)
 unfolding pass
-pass_fits n s d = skip (Plain n s) (known (codes "op" ∷ []) d) (λ u. Ok (operation.Pass))
+pass_fits n s d = skip (Plain n s) (known_members (codes "op" ∷ []) d) (λ u. Ok (operation.Pass))
     (λ u. done n s (operation.Pass) tt refl)
 
 tagged_fits : (n : ℕ) (s : Scope) → ScopeFits n s → (d : Data) → IfOk (tagged s d) (ToBelow n)
 unfolding tagged
-tagged_fits n s h d = skip (ToBelow n) (known (codes "op" ∷ codes "to" ∷ codes "tag" ∷ []) d) (λ u. (required (process s) (get (codes "to") d) >>= λ to. (required (new_tag s) (get (codes "tag") d) >>= λ name. Ok (to, name))))
+tagged_fits n s h d = skip (ToBelow n) (known_members (codes "op" ∷ codes "to" ∷ codes "tag" ∷ []) d) (λ u. (required (process s) (get (codes "to") d) >>= λ to. (required (new_tag s) (get (codes "tag") d) >>= λ name. Ok (to, name))))
     (λ u. bind (λ k. k < n) (ToBelow n) (required (process s) (get (codes "to") d)) (λ to. (required (new_tag s) (get (codes "tag") d) >>= λ name. Ok (to, name))) (to_ok n s h (get (codes "to") d))
     (λ to to_in. skip (ToBelow n) (required (new_tag s) (get (codes "tag") d)) (λ name. Ok (to, name))
     (λ name. to_in)))
@@ -242,7 +242,7 @@ ask_goes n s h to name to_in = record {
 plain_goes : (n : ℕ) (s : Scope) → ScopeFits n s → (o : Operation) → Plain n s o → Goes n s o s
 plain_goes n s h o p = record { fits = p.0; scope = h; made = omega (arith, p.1) }
 
-named_goes : (n : ℕ) (s : Scope) → ScopeFits n s → (op : List ℕ) (d : Data) → IfOk (named s op d) (λ o. Goes n s o.0 o.1)
+named_goes : (n : ℕ) (s : Scope) → ScopeFits n s → (op : List ℕ) (d : Data) → IfOk (named_operation s op d) (λ o. Goes n s o.0 o.1)
 named_goes n s h op d =
     let Q : Operation × Scope → Type 0 = λ o. Goes n s o.0 o.1 in
     let P : Result (Operation × Scope) Fault → Type 0 = λ r. IfOk r Q in
@@ -251,4 +251,4 @@ named_goes n s h op d =
     (bind (Plain n s) Q (plain s op d) (λ o. Ok (o, s)) (plain_fits n s h op d) (λ o p. plain_goes n s h o p)))
 
 pub simple_goes : (n : ℕ) (s : Scope) → ScopeFits n s → (d : Data) → IfOk (simple s d) (λ o. Goes n s o.0 o.1)
-simple_goes n s h d = skip (λ o. Goes n s o.0 o.1) (required text (get (codes "op") d)) (λ op. named s op d) (λ op. named_goes n s h op d)
+simple_goes n s h d = skip (λ o. Goes n s o.0 o.1) (required text (get (codes "op") d)) (λ op. named_operation s op d) (λ op. named_goes n s h op d)

@@ -17,9 +17,9 @@ use Rattle.pt_script.specs.Steps.{◌>>=◌}
 use Rattle.pt_script.specs.Members.{required, text}
 use Rattle.pt_script.specs.Operations.{Spawning, is_spawn, spawn, tagged, plain}
 use Rattle.pt_script.specs.Scopes.{Scope, can_ask}
-use Rattle.pt_script.specs.Lists.{Part, Step, Reader, placed, at_process, at_operation, fresh, with_child, with_monitor, with_ask, limits, spawned, simple, named, one_at, list_with, no_list, list_from}
+use Rattle.pt_script.specs.Lists.{Part, Step, ListReader, placed, at_process, at_operation, fresh_scope, with_child, with_monitor, with_ask, limits, spawned, simple, named_operation, one_at, list_with, no_list, list_from}
 use Rattle.pt_script.specs.Scripts.{loose}
-use Rattle.pt_script.specs.Standing.{ops_of, spawns_in, processes_in, Stands, IsAmong, IsOperationOf, AreOperationsOf, ArePlansOf}
+use Rattle.pt_script.specs.Standing.{ops_of, spawns_in, processes_in, OperationStands, IsAmong, IsOperationOf, AreOperationsOf, ArePlansOf}
 use Rattle.pt_script.proofs.ListFacts.{limits_levels}
 use Rattle.pt_script.proofs.SoundSteps.{skip, either}
 use Rattle.pt_script.proofs.SoundLists.{spawn_list, ListIs}
@@ -45,7 +45,7 @@ In all place = IsAmong all place.process place.op
 -- the values stand there from a number on
 abbrev pub StandFrom : List Data → ℕ → List Data → Type 0
 StandFrom all n [] = Unit {0}
-StandFrom all n (d ∷ ds) = Stands all n d × StandFrom all (n + 1) ds
+StandFrom all n (d ∷ ds) = OperationStands all n d × StandFrom all (n + 1) ds
 
 pub front : (all : List Data) (n : ℕ) (xs ys : List Data) → StandFrom all n (xs ++ ys) → StandFrom all n xs
 front all n [] ys h = tt
@@ -61,7 +61,7 @@ behind all n (x ∷ xs) ys h =
 abbrev pub OwnFrom : List Data → ℕ → ℕ → List Data → Type 0
 OwnFrom all own index ds = (k : ℕ) → k < length ds → In all (at_operation own (index + k))
 
-pub own_all : (all : List Data) (own : ℕ) (d : Data) (ds : List Data) → Stands all own d → ops_of d ≡ ds → OwnFrom all own 0 ds
+pub own_all : (all : List Data) (own : ℕ) (d : Data) (ds : List Data) → OperationStands all own d → ops_of d ≡ ds → OwnFrom all own 0 ds
 own_all all own d ds stands is k lt =
     let e : ops_of (get_or all own null) ≡ ds = ap ops_of stands.1 ∙ is in
     let f : 0 + k ≡ k = omega arith in
@@ -96,7 +96,7 @@ record StepOf (all : List Data) (s : Scope) (d : Data) (inside : List Data) (one
   own : one.scope.own ≡ s.own
 
 -- a reader of the lists of spawns
-abbrev ReaderOf : List Data → Reader → (Data → List Data) → Type 0
+abbrev ReaderOf : List Data → ListReader → (Data → List Data) → Type 0
 ReaderOf all read inside =
     (s : Scope) (next seen : ℕ) (ds : List Data) → OwnFrom all s.own 0 ds → StandFrom all next (spawns_in inside ds)
     → Told (In all) (PartOf all ds (spawns_in inside ds)) (read s next seen ds)
@@ -119,9 +119,9 @@ limit_place all false place levels next seen h g =
 abbrev within : (Data → List Data) → Data → List Data
 within inside d = d ∷ spawns_in inside (ops_of d)
 
-spawn_of : (all : List Data) (read : Reader) (inside : Data → List Data) → ReaderOf all read inside → (place : Place) (s : Scope) (next seen : ℕ) (d : Data) → In all place → StandFrom all next (within inside d) → Told (In all) (StepOf all s d (within inside d)) (spawned read place s next seen d)
+spawn_of : (all : List Data) (read : ListReader) (inside : Data → List Data) → ReaderOf all read inside → (place : Place) (s : Scope) (next seen : ℕ) (d : Data) → In all place → StandFrom all next (within inside d) → Told (In all) (StepOf all s d (within inside d)) (spawned read place s next seen d)
 spawn_of all read inside reads place s next seen d here stand =
-    let t : Scope = fresh s.format next (Some s.own) s.tops in
+    let t : Scope = fresh_scope s.format next (Some s.own) s.tops in
     let Q : Step → Type 0 = StepOf all s d (within inside d) in
     let of_part : Spawning → Part → Result Step ScriptError = λ child part. Ok (record { operation = operation.Spawn next child.linked; inside = record { trap = child.trap; operations = part.operations } ∷ part.inside; seen = part.seen; scope = with_child s child.name next }) in
     told (In all) (ListIs d) Q (placed place (spawn s d)) (λ child. read t (next + 1) seen child.ops >>= of_part child) (told_placed (In all) (ListIs d) place (spawn s d) here (spawn_list s d)) (λ child is.
@@ -137,7 +137,7 @@ spawn_of all read inside reads place s next seen d here stand =
 abbrev SameOwn : Scope → Operation × Scope → Type 0
 SameOwn s o = o.1.own ≡ s.own
 
-named_own : (s : Scope) (op : List ℕ) (d : Data) → IfOk (named s op d) (SameOwn s)
+named_own : (s : Scope) (op : List ℕ) (d : Data) → IfOk (named_operation s op d) (SameOwn s)
 named_own s op d =
     let T : Result (Operation × Scope) Fault → Type 0 = λ r. IfOk r (SameOwn s) in
     let watch : Result (Operation × Scope) Fault = tagged s d >>= λ m. Ok (operation.Monitor m.0 s.made, with_monitor s m.1) in
@@ -147,7 +147,7 @@ named_own s op d =
     (either T (bytes_eq op (codes "alive") && can_ask s) ask rest (skip (SameOwn s) (tagged s d) (λ m. Ok (operation.Alive m.0 s.made, with_ask s m.1)) (λ m. refl)) (skip (SameOwn s) (plain s op d) (λ o. Ok (o, s)) (λ o. refl)))
 
 simple_own : (s : Scope) (d : Data) → IfOk (simple s d) (SameOwn s)
-simple_own s d = skip (SameOwn s) (required text (get (codes "op") d)) (λ op. named s op d) (λ op. named_own s op d)
+simple_own s d = skip (SameOwn s) (required text (get (codes "op") d)) (λ op. named_operation s op d) (λ op. named_own s op d)
 
 simple_of : (all : List Data) (place : Place) (s : Scope) (seen : ℕ) (d : Data) → In all place → is_spawn d ≡ false → Told (In all) (StepOf all s d []) (placed place (simple s d) >>= λ o. Ok (record { operation = o.0; inside = []; seen = seen + 1; scope = o.1 }))
 simple_of all place s seen d here calm =
@@ -155,7 +155,7 @@ simple_of all place s seen d here calm =
 
 -- one operation
 
-chosen : (all : List Data) (read : Reader) (inside : Data → List Data) (levels : ℕ) → (0 < levels → ReaderOf all read inside) → (place : Place) (s : Scope) (next seen : ℕ) (d : Data) (b : Bool) → is_spawn d ≡ b → In all place → StandFrom all next (if b then within inside d else []) → limits b place levels next seen ≡ Ok tt → Told (In all) (StepOf all s d (if b then within inside d else [])) (if b then spawned read place s next (seen + 1) d else (placed place (simple s d) >>= λ o. Ok (record { operation = o.0; inside = []; seen = seen + 1; scope = o.1 })))
+chosen : (all : List Data) (read : ListReader) (inside : Data → List Data) (levels : ℕ) → (0 < levels → ReaderOf all read inside) → (place : Place) (s : Scope) (next seen : ℕ) (d : Data) (b : Bool) → is_spawn d ≡ b → In all place → StandFrom all next (if b then within inside d else []) → limits b place levels next seen ≡ Ok tt → Told (In all) (StepOf all s d (if b then within inside d else [])) (if b then spawned read place s next (seen + 1) d else (placed place (simple s d) >>= λ o. Ok (record { operation = o.0; inside = []; seen = seen + 1; scope = o.1 })))
 chosen all read inside levels reads place s next seen d true is here stand e = spawn_of all read inside (reads (limits_levels place levels next seen e)) place s next (seen + 1) d here stand
 chosen all read inside levels reads place s next seen d false is here stand e = simple_of all place s seen d here is
 
@@ -163,7 +163,7 @@ first_stands : (all : List Data) (inside : Data → List Data) (next : ℕ) (d :
 first_stands all inside next d true stand is = stand.0.0
 first_stands all inside next d false stand is = absurd (let e : false ≡ true = is in cc)
 
-one_of : (all : List Data) (read : Reader) (inside : Data → List Data) (levels : ℕ) → (0 < levels → ReaderOf all read inside) → (index : ℕ) (s : Scope) (next seen : ℕ) (d : Data) → In all (at_operation s.own index) → StandFrom all next (if is_spawn d then within inside d else []) → Told (In all) (StepOf all s d (if is_spawn d then within inside d else [])) (one_at read levels index s next seen d)
+one_of : (all : List Data) (read : ListReader) (inside : Data → List Data) (levels : ℕ) → (0 < levels → ReaderOf all read inside) → (index : ℕ) (s : Scope) (next seen : ℕ) (d : Data) → In all (at_operation s.own index) → StandFrom all next (if is_spawn d then within inside d else []) → Told (In all) (StepOf all s d (if is_spawn d then within inside d else [])) (one_at read levels index s next seen d)
 unfolding one_at
 one_of all read inside levels reads index s next seen d here stand =
     let place : Place = at_operation s.own index in
@@ -172,7 +172,7 @@ one_of all read inside levels reads index s next seen d here stand =
 
 -- lists
 
-list_with_of : (all : List Data) (read : Reader) (inside : Data → List Data) (levels : ℕ) → (0 < levels → ReaderOf all read inside) → (index : ℕ) (s : Scope) (next seen : ℕ) (ds : List Data) → OwnFrom all s.own index ds → StandFrom all next (spawns_in (within inside) ds) → Told (In all) (PartOf all ds (spawns_in (within inside) ds)) (list_with read levels index s next seen ds)
+list_with_of : (all : List Data) (read : ListReader) (inside : Data → List Data) (levels : ℕ) → (0 < levels → ReaderOf all read inside) → (index : ℕ) (s : Scope) (next seen : ℕ) (ds : List Data) → OwnFrom all s.own index ds → StandFrom all next (spawns_in (within inside) ds) → Told (In all) (PartOf all ds (spawns_in (within inside) ds)) (list_with read levels index s next seen ds)
 unfolding list_with
 list_with_of all read inside levels reads index s next seen [] own stand = record { operations = tt; inside_is = tt }
 list_with_of all read inside levels reads index s next seen (d ∷ ds) own stand =

@@ -15,21 +15,21 @@ use Rattle.pt_script.specs.declared.values.Pattern.TheVariants as pattern
 use Rattle.pt_script.specs.declared.values.Operation.{Operation}
 use Rattle.pt_script.specs.declared.values.Operation.TheVariants as operation
 use Rattle.pt_script.specs.Steps.{◌>>=◌}
-use Rattle.pt_script.specs.Members.{known, signed}
-use Rattle.pt_script.specs.Operations.{is_decimal, number as numeral, reason_of, process, new_tag, pick, pick_members, kind, tagged, plain, send, receive, check, link, unlink, demonitor, trap, exit, signal, pass}
-use Rattle.pt_script.specs.Scopes.{Scope, can_ask, is_digit}
+use Rattle.pt_script.specs.Members.{known_members, signed}
+use Rattle.pt_script.specs.Operations.{is_decimal, number as numeral, reason_written, process, new_tag, pick, pick_members, kind, tagged, plain, send, receive, check, link, unlink, demonitor, trap, exit, signal, pass}
+use Rattle.pt_script.specs.Scopes.{Scope, can_ask, is_script_digit}
 use Rattle.pt_script.specs.Lists.{simple, with_monitor, with_ask}
-use Rattle.pt_script.specs.Writing.{Called, with, written, IsCalled, CanPick, FitsReason, FitsSigned, IsNewTag, CanSay, scope_behind}
+use Rattle.pt_script.specs.Writing.{Called, with, written_operation, IsCalled, CanPick, WritesReason, FitsSigned, IsNewTag, CanSay, scope_behind}
 use Rattle.pt_script.proofs.NumberFacts.{own}
 
 -- parts --------------------------------------------------------------------------
 
 is_written : (n : ℕ) → n < 2 ^ 32 → is_decimal (decimal n) ≡ true
-unfolding is_decimal is_digit
+unfolding is_decimal is_script_digit
 is_written zero small = rw (decimal_digit 0 (omega arith)) refl
 is_written (suc m) small =
     let some : 0 < length (decimal (suc m)) = decimal_nonempty (suc m) (omega (arith, small)) in
-    let digits : list_all is_digit (decimal (suc m)) ≡ true = digits_decimal own (suc m) (omega (arith, small)) in
+    let digits : list_all is_script_digit (decimal (suc m)) ≡ true = digits_decimal own (suc m) (omega (arith, small)) in
     let first : 48 < get_or (decimal (suc m)) 0 0 = first_decimal (suc m) (omega arith) (omega (arith, small)) in
     grind (arith, some, digits, first)
 
@@ -41,7 +41,7 @@ numeral_back n small =
     let low : nat_lt n (2 ^ 32) ≡ true = grind (arith, small) in
     rw (is, value, low) refl
 
-reason_back : (r : Reason) → FitsReason r → reason_of (reason_text r) ≡ Ok r
+reason_back : (r : Reason) → WritesReason r → reason_written (reason_text r) ≡ Ok r
 unfolding reason_text
 reason_back Normal h = refl
 reason_back Kill h = refl
@@ -65,23 +65,23 @@ new_back s c tag h = rw (h.1, h.2) refl
 
 -- picks ----------------------------------------------------------------------------
 
-kind_known : (b : Bool) (d : Data) → known (pick_members b) (object (with (codes "kind") d no_members)) ≡ Ok tt
+kind_known : (b : Bool) (d : Data) → known_members (pick_members b) (object (with (codes "kind") d no_members)) ≡ Ok tt
 kind_known true d = refl
 kind_known false d = refl
 
-from_known : (b : Bool) (d : Data) → known (pick_members b) (object (with (codes "from") d no_members)) ≡ Ok tt
+from_known : (b : Bool) (d : Data) → known_members (pick_members b) (object (with (codes "from") d no_members)) ≡ Ok tt
 from_known true d = refl
 from_known false d = refl
 
-exit_known : (b : Bool) (d : Data) → known (pick_members b) (object (with (codes "exit") d no_members)) ≡ Ok tt
+exit_known : (b : Bool) (d : Data) → known_members (pick_members b) (object (with (codes "exit") d no_members)) ≡ Ok tt
 exit_known true d = refl
 exit_known false d = refl
 
-down_known : (b : Bool) (d : Data) → known (pick_members b) (object (with (codes "down") d no_members)) ≡ Ok tt
+down_known : (b : Bool) (d : Data) → known_members (pick_members b) (object (with (codes "down") d no_members)) ≡ Ok tt
 down_known true d = refl
 down_known false d = refl
 
-alive_known : (b : Bool) (d : Data) → b ≡ true → known (pick_members b) (object (with (codes "alive") d no_members)) ≡ Ok tt
+alive_known : (b : Bool) (d : Data) → b ≡ true → known_members (pick_members b) (object (with (codes "alive") d no_members)) ≡ Ok tt
 alive_known true d h = refl
 alive_known false d h = absurd (let e : false ≡ true = h in cc)
 
@@ -107,7 +107,7 @@ pick_alive s c tag asks h = rw (alive_known (can_ask s) (string (c.tag tag)) ask
 
 -- operations -----------------------------------------------------------------------
 
-receive_back : (s : Scope) (c : Called) (p : Pattern) → CanPick s c p → simple s (written c (operation.Receive p)) ≡ Ok (operation.Receive p, s)
+receive_back : (s : Scope) (c : Called) (p : Pattern) → CanPick s c p → simple s (written_operation c (operation.Receive p)) ≡ Ok (operation.Receive p, s)
 unfolding plain receive
 receive_back s c pattern.Any h = refl
 receive_back s c (pattern.Kind n) h = rw (pick_kind s n h) refl
@@ -116,7 +116,7 @@ receive_back s c (pattern.ExitOf n) h = rw (pick_exit s c n h) refl
 receive_back s c (pattern.DownOf tag) h = rw (pick_down s c tag h) refl
 receive_back s c (pattern.AliveOf tag) h = rw (pick_alive s c tag h.0 h.1) refl
 
-check_back : (s : Scope) (c : Called) (p : Pattern) → CanPick s c p → simple s (written c (operation.Check p)) ≡ Ok (operation.Check p, s)
+check_back : (s : Scope) (c : Called) (p : Pattern) → CanPick s c p → simple s (written_operation c (operation.Check p)) ≡ Ok (operation.Check p, s)
 unfolding plain check
 check_back s c pattern.Any h = refl
 check_back s c (pattern.Kind n) h = rw (pick_kind s n h) refl
@@ -129,10 +129,10 @@ tagged_back : (s : Scope) (c : Called) (op : List ℕ) (to tag : ℕ) → IsCall
 unfolding tagged
 tagged_back s c op to tag h new = rw (called s c to h, new_back s c tag new) refl
 
-alive_back : (s : Scope) (c : Called) (to tag : ℕ) → can_ask s ≡ true → IsCalled s c to → IsNewTag s c tag → simple s (written c (operation.Alive to tag)) ≡ Ok (operation.Alive to tag, with_ask s (c.tag tag))
+alive_back : (s : Scope) (c : Called) (to tag : ℕ) → can_ask s ≡ true → IsCalled s c to → IsNewTag s c tag → simple s (written_operation c (operation.Alive to tag)) ≡ Ok (operation.Alive to tag, with_ask s (c.tag tag))
 alive_back s c to tag asks h new = rw (asks, tagged_back s c (codes "alive") to tag h new) (ap (λ t. Ok (operation.Alive to t, with_ask s (c.tag tag))) (sym new.0))
 
-pub back : (s : Scope) (c : Called) (o : Operation) → CanSay s c o → simple s (written c o) ≡ Ok (o, scope_behind s c o)
+pub back : (s : Scope) (c : Called) (o : Operation) → CanSay s c o → simple s (written_operation c o) ≡ Ok (o, scope_behind s c o)
 unfolding plain send link unlink demonitor trap exit signal pass
 back s c (operation.Send to kind num None) h = rw (called s c to h.0, kind_back kind h.1, signed_back num h.2) refl
 back s c (operation.Send to kind num (Some n)) h = rw (called s c to h.0, kind_back kind h.1, signed_back num h.2, called s c n h.3) refl

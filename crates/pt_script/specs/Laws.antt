@@ -15,27 +15,27 @@ use Rattle.pt_script.specs.declared.values.Operation.{Operation}
 use Rattle.pt_script.specs.Steps.{each}
 use Rattle.pt_script.specs.Scopes.{Scope}
 use Rattle.pt_script.specs.Lists.{simple}
-use Rattle.pt_script.specs.Operations.{reason_of}
+use Rattle.pt_script.specs.Operations.{reason_written}
 use Rattle.pt_script.specs.Scripts.{Heads, next_head, no_heads, script, reading}
-use Rattle.pt_script.specs.Sound.{IsSound}
+use Rattle.pt_script.specs.Sound.{IsSoundScript}
 use Rattle.pt_script.specs.Sights.{IsWellFormed}
-use Rattle.pt_script.specs.Writing.{Called, written, CanSay, scope_behind}
+use Rattle.pt_script.specs.Writing.{Called, written_operation, CanSay, scope_behind}
 use Rattle.pt_script.specs.WritingScripts.{script_written}
-use Rattle.pt_script.specs.Standing.{HasPlace, IsNumbered, AreNamesOf, processes_of}
+use Rattle.pt_script.specs.Standing.{HasPlaceIn, IsNumbered, AreNamesOf, processes_of}
 
 -- whatever bytes are accepted, their script is sound
 abbrev pub AcceptedAreSound : Type 0
-AcceptedAreSound = (bytes : List ℕ) (w : Whole) → reading bytes ≡ Ok w → IsSound w
+AcceptedAreSound = (bytes : List ℕ) (w : Whole) → reading bytes ≡ Ok w → IsSoundScript w
 
 -- a reason is read from the text that it is printed as, and from no other
 abbrev pub ReasonsAsPrinted : Type 0
-ReasonsAsPrinted = (text : List ℕ) (r : Reason) → reason_of text ≡ Ok r → text ≡ reason_text r
+ReasonsAsPrinted = (text : List ℕ) (r : Reason) → reason_written text ≡ Ok r → text ≡ reason_text r
 
 -- the process and the operation that a fault names are in the text
 abbrev pub FaultsHavePlaces : Type 0
 FaultsHavePlaces =
     (bytes : List ℕ) (fault : Fault) (place : Place) → reading bytes ≡ Err (Refused fault place)
-    → HasPlace (read bytes) place
+    → HasPlaceIn (read bytes) place
 
 -- the numbers of an accepted script are the places of its processes in the text
 abbrev pub NumbersArePlaces : Type 0
@@ -51,7 +51,7 @@ NamesArePlaces =
 -- an operation that was written is read back, and with the scope behind it
 abbrev pub OperationsReadBack : Type 0
 OperationsReadBack =
-    (s : Scope) (c : Called) (o : Operation) → CanSay s c o → simple s (written c o) ≡ Ok (o, scope_behind s c o)
+    (s : Scope) (c : Called) (o : Operation) → CanSay s c o → simple s (written_operation c o) ≡ Ok (o, scope_behind s c o)
 
 -- a script that is well formed is read back from what is written of it, and from each text of that value
 abbrev pub ScriptsReadBack : Type 0

@@ -51,12 +51,12 @@ pub record Step : Type 0 where
   pub scope : Scope
 
 -- how a list is read: in a scope, with the number of the next process, and how many operations have been read
-abbrev pub Reader : Type 0
-Reader = Scope → ℕ → ℕ → List Data → Result Part ScriptError
+abbrev pub ListReader : Type 0
+ListReader = Scope → ℕ → ℕ → List Data → Result Part ScriptError
 
 -- the scope at the begin of a list
-abbrev pub fresh : ℕ → ℕ → Option ℕ → Naming → Scope
-fresh format own parent tops = record {
+abbrev pub fresh_scope : ℕ → ℕ → Option ℕ → Naming → Scope
+fresh_scope format own parent tops = record {
   format = format;
   own = own;
   parent = parent;
@@ -85,10 +85,10 @@ limits spawns place levels next seen =
     else (if spawns && nat_le levels 0 then Err (Refused Bounds place) else Ok tt))
 
 -- a spawn; its operations are read one level further in
-abbrev pub spawned : Reader → Place → Scope → ℕ → ℕ → Data → Result Step ScriptError
+abbrev pub spawned : ListReader → Place → Scope → ℕ → ℕ → Data → Result Step ScriptError
 spawned read place s next seen d = do
   child ← placed place (spawn s d)
-  part ← read (fresh s.format next (Some s.own) s.tops) (next + 1) seen child.ops
+  part ← read (fresh_scope s.format next (Some s.own) s.tops) (next + 1) seen child.ops
   Ok (record {
     operation = operation.Spawn next child.linked;
     inside = record { trap = child.trap; operations = part.operations } ∷ part.inside;
@@ -97,8 +97,8 @@ spawned read place s next seen d = do
   })
 
 -- an operation that spawns nothing, and the scope behind it
-abbrev pub named : Scope → List ℕ → Data → Result (Operation × Scope) Fault
-named s op d =
+abbrev pub named_operation : Scope → List ℕ → Data → Result (Operation × Scope) Fault
+named_operation s op d =
     if bytes_eq op (codes "monitor") then (tagged s d >>= λ m. Ok (operation.Monitor m.0 s.made, with_monitor s m.1))
     else (if bytes_eq op (codes "alive") && can_ask s
     then (tagged s d >>= λ m. Ok (operation.Alive m.0 s.made, with_ask s m.1))
@@ -107,10 +107,10 @@ named s op d =
 abbrev pub simple : Scope → Data → Result (Operation × Scope) Fault
 simple s d = do
   op ← required text (get (codes "op") d)
-  named s op d
+  named_operation s op d
 
 -- one operation, where the operations of a spawn are read by read, and so many spawns may still stand around one
-unfoldable pub one_at : Reader → ℕ → ℕ → Scope → ℕ → ℕ → Data → Result Step ScriptError
+unfoldable pub one_at : ListReader → ℕ → ℕ → Scope → ℕ → ℕ → Data → Result Step ScriptError
 one_at read levels index s next seen d = do
   _ ← limits (is_spawn d) (at_operation s.own index) levels next seen
   if is_spawn d then spawned read (at_operation s.own index) s next (seen + 1) d
@@ -118,7 +118,7 @@ one_at read levels index s next seen d = do
       Ok (record { operation = o.0; inside = []; seen = seen + 1; scope = o.1 }))
 
 -- the operations of a list from an index on
-unfoldable pub list_with : Reader → ℕ → ℕ → Reader
+unfoldable pub list_with : ListReader → ℕ → ℕ → ListReader
 list_with read levels index s next seen [] = Ok (record { operations = []; inside = []; seen = seen })
 list_with read levels index s next seen (d ∷ ds) = do
   one ← one_at read levels index s next seen d
@@ -126,17 +126,17 @@ list_with read levels index s next seen (d ∷ ds) = do
   Ok (record { operations = one.operation ∷ rest.operations; inside = one.inside ++ rest.inside; seen = rest.seen })
 
 -- no list is read below the last level
-abbrev pub no_list : Reader
+abbrev pub no_list : ListReader
 no_list s next seen ds = Ok (record { operations = []; inside = []; seen = seen })
 
 -- the operations of a list from an index on, with so many levels of spawns in it at most
-unfoldable pub list_from : ℕ → ℕ → Reader
+unfoldable pub list_from : ℕ → ℕ → ListReader
 list_from zero index s next seen ds = list_with no_list zero index s next seen ds
 list_from (suc levels) index s next seen ds =
     list_with (λ t n k es. list_from levels 0 t n k es) (suc levels) index s next seen ds
 
 -- a list as a whole
-abbrev pub list_at : ℕ → Reader
+abbrev pub list_at : ℕ → ListReader
 list_at levels s next seen ds = list_from levels 0 s next seen ds
 
 -- one operation of such a list
@@ -148,9 +148,9 @@ step_at (suc levels) index s next seen d =
 -- ---- what a function answers
 
 -- an answer that reading gives, where there was memory
-abbrev pub Refuses : {A : Type 0} → ScriptError → Result A ScriptError → Type 0
-Refuses Memory read = Unit {0}
-Refuses (Refused fault place) read = read ≡ Err (Refused fault place)
+abbrev pub ScriptRefuses : {A : Type 0} → ScriptError → Result A ScriptError → Type 0
+ScriptRefuses Memory read = Unit {0}
+ScriptRefuses (Refused fault place) read = read ≡ Err (Refused fault place)
 
 -- what was returned is what reading gives; processes before and after, operations read after
 abbrev pub ReadsList : List Plan → List Plan → ℕ → Result (Vec Operation Global) ScriptError → Result Part ScriptError
@@ -160,7 +160,7 @@ ReadsList old new seen (Ok os) read = (inside : List Plan) × (read ≡ Ok (reco
   inside = inside;
   seen = seen;
 })) × (new ≡ old ++ inside)
-ReadsList old new seen (Err e) read = Refuses e read
+ReadsList old new seen (Err e) read = ScriptRefuses e read
 
 abbrev pub ReadsStep : List Plan → List Plan → ℕ → Scope → Result Operation ScriptError → Result Step ScriptError
     → Type 0
@@ -170,16 +170,16 @@ ReadsStep old new seen after (Ok o) read = (inside : List Plan) × (read ≡ Ok 
   seen = seen;
   scope = after;
 })) × (new ≡ old ++ inside)
-ReadsStep old new seen after (Err e) read = Refuses e read
+ReadsStep old new seen after (Err e) read = ScriptRefuses e read
 
 abbrev pub ReadsProcess : Bool → List Plan → List Plan → ℕ → Result (Unit {0}) ScriptError → Result Part ScriptError
     → Type 0
 ReadsProcess trap old new seen (Ok _) read =
     (part : Part) × (read ≡ Ok part) × (seen ≡ part.seen)
     × (new ≡ old ++ record { trap = trap; operations = part.operations } ∷ part.inside)
-ReadsProcess trap old new seen (Err e) read = Refuses e read
+ReadsProcess trap old new seen (Err e) read = ScriptRefuses e read
 
 -- an operation that spawns nothing
 abbrev pub ReadsSimple : Place → Scope → Result Operation ScriptError → Result (Operation × Scope) Fault → Type 0
 ReadsSimple place after (Ok o) read = read ≡ Ok (o, after)
-ReadsSimple place after (Err e) read = Refuses e (placed place read)
+ReadsSimple place after (Err e) read = ScriptRefuses e (placed place read)

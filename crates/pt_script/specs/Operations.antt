@@ -16,8 +16,8 @@ use Rattle.pt_script.specs.declared.values.Pattern.TheVariants as pattern
 use Rattle.pt_script.specs.declared.values.Operation.{Operation}
 use Rattle.pt_script.specs.declared.values.Operation.TheVariants as operation
 use Rattle.pt_script.specs.Steps.{◌>>=◌}
-use Rattle.pt_script.specs.Members.{known, whole, signed, flag, text, list, required, optional}
-use Rattle.pt_script.specs.Scopes.{Scope, can_ask, process_in, tag_in, is_name, is_own_name, is_digit}
+use Rattle.pt_script.specs.Members.{known_members, whole_number, signed, flag, text, list, required, optional_member}
+use Rattle.pt_script.specs.Scopes.{Scope, can_ask, process_in, tag_in, is_script_name, is_own_name, is_script_digit}
 
 abbrev pub is_text : List ℕ → Option (List ℕ) → Bool
 is_text t None = false
@@ -61,23 +61,23 @@ new_name taken d = do
 abbrev pub new_tag : Scope → Data → Result (List ℕ) Fault
 new_tag s d = do
   name ← text d
-  if is_name name then (if is_some (tag_in s name) then Err Name else Ok name) else Err Field
+  if is_script_name name then (if is_some (tag_in s name) then Err Name else Ok name) else Err Field
 
 -- a number in decimal digits with no zero in front
 unfoldable pub is_decimal : List ℕ → Bool
 is_decimal digits =
-    nat_lt 0 (length digits) && list_all is_digit digits && ((length digits == 1) || not (slice_index digits 0 == 48))
+    nat_lt 0 (length digits) && list_all is_script_digit digits && ((length digits == 1) || not (slice_index digits 0 == 48))
 
-abbrev pub number : List ℕ → Result ℕ Fault
-number digits =
+abbrev pub number_read : List ℕ → Result ℕ Fault
+number_read digits =
     if is_decimal digits
     then (if nat_lt (digits_value 10 digits) (2 ^ 32) then Ok (digits_value 10 digits) else Err Bounds) else Err Field
 
 abbrev pub other_reason : List ℕ → Result Reason Fault
-other_reason t = if bytes_eq (take 6 t) (codes "other:") then (number (drop 6 t) >>= λ n. Ok (Other n)) else Err Field
+other_reason t = if bytes_eq (take 6 t) (codes "other:") then (number_read (drop 6 t) >>= λ n. Ok (Other n)) else Err Field
 
-abbrev pub reason_of : List ℕ → Result Reason Fault
-reason_of t = if bytes_eq t (codes "normal") then Ok Normal
+abbrev pub reason_written : List ℕ → Result Reason Fault
+reason_written t = if bytes_eq t (codes "normal") then Ok Normal
     else (if bytes_eq t (codes "kill") then Ok Kill
     else (if bytes_eq t (codes "killed") then Ok Killed
     else (if bytes_eq t (codes "noproc") then Ok Noproc
@@ -87,10 +87,10 @@ reason_of t = if bytes_eq t (codes "normal") then Ok Normal
 abbrev pub reason : Data → Result Reason Fault
 reason d = do
   t ← text d
-  reason_of t
+  reason_written t
 
 abbrev pub kind : Data → Result ℕ Fault
-kind = whole 0 4294967295
+kind = whole_number 0 4294967295
 
 -- exactly one of kind, from, exit, down and alive
 abbrev pub one_pick : Scope → Option Data → Option Data → Option Data → Option Data → Option Data → Result Pattern Fault
@@ -108,78 +108,78 @@ pick_members false = codes "kind" ∷ codes "from" ∷ codes "exit" ∷ codes "d
 
 unfoldable pub pick : Scope → Data → Result Pattern Fault
 pick s d = do
-  _ ← known (pick_members (can_ask s)) d
+  _ ← known_members (pick_members (can_ask s)) d
   one_pick s (get (codes "kind") d) (get (codes "from") d) (get (codes "exit") d) (get (codes "down") d)
       (get (codes "alive") d)
 
 unfoldable pub send : Scope → Data → Result Operation Fault
 send s d = do
-  _ ← known (codes "op" ∷ codes "to" ∷ codes "kind" ∷ codes "num" ∷ codes "who" ∷ []) d
+  _ ← known_members (codes "op" ∷ codes "to" ∷ codes "kind" ∷ codes "num" ∷ codes "who" ∷ []) d
   to ← required (process s) (get (codes "to") d)
   kind ← required kind (get (codes "kind") d)
   num ← required signed (get (codes "num") d)
-  who ← optional None (maybe_process s) (get (codes "who") d)
+  who ← optional_member None (maybe_process s) (get (codes "who") d)
   Ok (operation.Send to kind num who)
 
 unfoldable pub receive : Scope → Data → Result Operation Fault
 receive s d = do
-  _ ← known (codes "op" ∷ codes "pick" ∷ []) d
-  p ← optional pattern.Any (pick s) (get (codes "pick") d)
+  _ ← known_members (codes "op" ∷ codes "pick" ∷ []) d
+  p ← optional_member pattern.Any (pick s) (get (codes "pick") d)
   Ok (operation.Receive p)
 
 unfoldable pub check : Scope → Data → Result Operation Fault
 check s d = do
-  _ ← known (codes "op" ∷ codes "pick" ∷ []) d
-  p ← optional pattern.Any (pick s) (get (codes "pick") d)
+  _ ← known_members (codes "op" ∷ codes "pick" ∷ []) d
+  p ← optional_member pattern.Any (pick s) (get (codes "pick") d)
   Ok (operation.Check p)
 
 unfoldable pub link : Scope → Data → Result Operation Fault
 link s d = do
-  _ ← known (codes "op" ∷ codes "to" ∷ []) d
+  _ ← known_members (codes "op" ∷ codes "to" ∷ []) d
   to ← required (process s) (get (codes "to") d)
   Ok (operation.Link to)
 
 unfoldable pub unlink : Scope → Data → Result Operation Fault
 unlink s d = do
-  _ ← known (codes "op" ∷ codes "to" ∷ []) d
+  _ ← known_members (codes "op" ∷ codes "to" ∷ []) d
   to ← required (process s) (get (codes "to") d)
   Ok (operation.Unlink to)
 
 unfoldable pub demonitor : Scope → Data → Result Operation Fault
 demonitor s d = do
-  _ ← known (codes "op" ∷ codes "tag" ∷ codes "flush" ∷ []) d
+  _ ← known_members (codes "op" ∷ codes "tag" ∷ codes "flush" ∷ []) d
   tag ← required (monitor_tag s) (get (codes "tag") d)
-  flush ← optional false flag (get (codes "flush") d)
+  flush ← optional_member false flag (get (codes "flush") d)
   Ok (operation.Demonitor tag flush)
 
 unfoldable pub trap : Data → Result Operation Fault
 trap d = do
-  _ ← known (codes "op" ∷ codes "on" ∷ []) d
+  _ ← known_members (codes "op" ∷ codes "on" ∷ []) d
   on ← required flag (get (codes "on") d)
   Ok (operation.Trap on)
 
 unfoldable pub exit : Data → Result Operation Fault
 exit d = do
-  _ ← known (codes "op" ∷ codes "reason" ∷ []) d
+  _ ← known_members (codes "op" ∷ codes "reason" ∷ []) d
   r ← required reason (get (codes "reason") d)
   Ok (operation.Exit r)
 
 unfoldable pub signal : Scope → Data → Result Operation Fault
 signal s d = do
-  _ ← known (codes "op" ∷ codes "to" ∷ codes "reason" ∷ []) d
+  _ ← known_members (codes "op" ∷ codes "to" ∷ codes "reason" ∷ []) d
   to ← required (process s) (get (codes "to") d)
   r ← required reason (get (codes "reason") d)
   Ok (operation.Signal to r)
 
 unfoldable pub pass : Data → Result Operation Fault
 pass d = do
-  _ ← known (codes "op" ∷ []) d
+  _ ← known_members (codes "op" ∷ []) d
   Ok operation.Pass
 
 -- a monitor or an ask: of whom, and its tag
 unfoldable pub tagged : Scope → Data → Result (ℕ × List ℕ) Fault
 tagged s d = do
-  _ ← known (codes "op" ∷ codes "to" ∷ codes "tag" ∷ []) d
+  _ ← known_members (codes "op" ∷ codes "to" ∷ codes "tag" ∷ []) d
   to ← required (process s) (get (codes "to") d)
   name ← required (new_tag s) (get (codes "tag") d)
   Ok (to, name)
@@ -193,10 +193,10 @@ pub record Spawning : Type 0 where
 
 unfoldable pub spawn : Scope → Data → Result Spawning Fault
 spawn s d = do
-  _ ← known (codes "op" ∷ codes "name" ∷ codes "linked" ∷ codes "trap" ∷ codes "ops" ∷ []) d
+  _ ← known_members (codes "op" ∷ codes "name" ∷ codes "linked" ∷ codes "trap" ∷ codes "ops" ∷ []) d
   name ← required (new_name (process_in s)) (get (codes "name") d)
-  linked ← optional false flag (get (codes "linked") d)
-  trap ← optional false flag (get (codes "trap") d)
+  linked ← optional_member false flag (get (codes "linked") d)
+  trap ← optional_member false flag (get (codes "trap") d)
   ops ← required list (get (codes "ops") d)
   Ok (record { name = name; linked = linked; trap = trap; ops = ops })
 

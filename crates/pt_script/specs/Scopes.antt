@@ -50,37 +50,37 @@ scope_view s = record {
 abbrev pub can_ask : Scope → Bool
 can_ask s = nat_le 2 s.format
 
-abbrev pub or_else : Option ℕ → Option ℕ → Option ℕ
-or_else (Some n) other = Some n
-or_else None other = other
+abbrev pub or_number : Option ℕ → Option ℕ → Option ℕ
+or_number (Some n) other = Some n
+or_number None other = other
 
 -- the process that a name stands for
 abbrev pub process_in : Scope → Naming
 process_in s name =
     if bytes_eq name (codes "self") then Some s.own
-    else (if bytes_eq name (codes "parent") then s.parent else or_else (s.children name) (s.tops name))
+    else (if bytes_eq name (codes "parent") then s.parent else or_number (s.children name) (s.tops name))
 
 -- the tag that a text is, of a monitor or of an ask
 abbrev pub tag_in : Scope → Naming
-tag_in s name = or_else (s.monitors name) (s.asks name)
+tag_in s name = or_number (s.monitors name) (s.asks name)
 
-unfoldable pub is_digit : ℕ → Bool
-is_digit b = nat_le 48 b && nat_le b 57
+unfoldable pub is_script_digit : ℕ → Bool
+is_script_digit b = nat_le 48 b && nat_le b 57
 
-unfoldable pub is_letter : ℕ → Bool
-is_letter b = (nat_le 65 b && nat_le b 90) || (nat_le 97 b && nat_le b 122)
+unfoldable pub is_script_letter : ℕ → Bool
+is_script_letter b = (nat_le 65 b && nat_le b 90) || (nat_le 97 b && nat_le b 122)
 
 unfoldable pub is_name_byte : ℕ → Bool
-is_name_byte b = is_letter b || is_digit b || (b == 95)
+is_name_byte b = is_script_letter b || is_script_digit b || (b == 95)
 
 -- letters, digits and `_`, beginning with a letter
 unfoldable pub begins_well : List ℕ → Bool
-begins_well name = is_letter (slice_index name 0) && list_all is_name_byte name
+begins_well name = is_script_letter (slice_index name 0) && list_all is_name_byte name
 
 -- as many of them as a name has
-abbrev pub is_name : List ℕ → Bool
-is_name name = if nat_lt 0 (length name) && nat_le (length name) MAX_NAME then begins_well name else false
+abbrev pub is_script_name : List ℕ → Bool
+is_script_name name = if nat_lt 0 (length name) && nat_le (length name) MAX_NAME then begins_well name else false
 
 -- a name that a process may be given
 abbrev pub is_own_name : List ℕ → Bool
-is_own_name name = is_name name && not (bytes_eq name (codes "self")) && not (bytes_eq name (codes "parent"))
+is_own_name name = is_script_name name && not (bytes_eq name (codes "self")) && not (bytes_eq name (codes "parent"))

@@ -19,24 +19,24 @@ use Rattle.pt_script.specs.declared.limits.TheConstants.{MAX_BYTES, MAX_DEPTH, M
 use Rattle.pt_script.specs.declared.limits.TheConstants.{MAX_NESTING, MAX_PROCESSES, MAX_SLOTS}
 use Rattle.pt_script.specs.Plans.{Plan, Whole}
 use Rattle.pt_script.specs.Steps.{◌>>=◌, each}
-use Rattle.pt_script.specs.Members.{known, whole, flag, list, required, optional}
+use Rattle.pt_script.specs.Members.{known_members, whole_number, flag, list, required, optional_member}
 use Rattle.pt_script.specs.Operations.{is_spawn, new_name}
 use Rattle.pt_script.specs.Scopes.{Naming, naming}
 use Rattle.serde_json.specs.View.{view}
 use Rattle.pt_script.specs.declared.heads.Heads.{Heads as HeadsRead}
 use Rattle.pt_script.specs.declared.heads.Pending.{Pending as Unread}
-use Rattle.pt_script.specs.Lists.{Refuses, placed, at_script, at_process, fresh, list_at}
+use Rattle.pt_script.specs.Lists.{ScriptRefuses, placed, at_script, at_process, fresh_scope, list_at}
 
 unfoldable pub settings : Data → Result Settings Fault
 settings d = do
-  _ ← known (codes "format" ∷ codes "desks" ∷ codes "slots" ∷ codes "top" ∷ codes "lane" ∷ codes "budget"
+  _ ← known_members (codes "format" ∷ codes "desks" ∷ codes "slots" ∷ codes "top" ∷ codes "lane" ∷ codes "budget"
       ∷ codes "processes" ∷ []) d
-  format ← required (whole 1 MAX_FORMAT) (get (codes "format") d)
-  desks ← required (whole 1 MAX_DESKS) (get (codes "desks") d)
-  slots ← optional DEFAULT_SLOTS (whole 1 MAX_SLOTS) (get (codes "slots") d)
-  top ← optional 4294967295 (whole 1 4294967295) (get (codes "top") d)
-  lane ← optional DEFAULT_LANE (whole 1 MAX_LANE) (get (codes "lane") d)
-  budget ← optional DEFAULT_BUDGET (whole 1 MAX_BUDGET) (get (codes "budget") d)
+  format ← required (whole_number 1 MAX_FORMAT) (get (codes "format") d)
+  desks ← required (whole_number 1 MAX_DESKS) (get (codes "desks") d)
+  slots ← optional_member DEFAULT_SLOTS (whole_number 1 MAX_SLOTS) (get (codes "slots") d)
+  top ← optional_member 4294967295 (whole_number 1 4294967295) (get (codes "top") d)
+  lane ← optional_member DEFAULT_LANE (whole_number 1 MAX_LANE) (get (codes "lane") d)
+  budget ← optional_member DEFAULT_BUDGET (whole_number 1 MAX_BUDGET) (get (codes "budget") d)
   Ok (record { format = format; desks = desks; slots = slots; top_version = top; lane = lane; budget = budget })
 
 -- the list of a member that is one, whatever else is wrong
@@ -87,11 +87,11 @@ room s tops desk = if nat_lt (count_by (λ t. t.desk == desk) tops) s.slots then
 
 unfoldable pub head : Settings → Heads → Data → Result Head Fault
 head s before d = do
-  _ ← known (codes "name" ∷ codes "desk" ∷ codes "trap" ∷ codes "ops" ∷ []) d
+  _ ← known_members (codes "name" ∷ codes "desk" ∷ codes "trap" ∷ codes "ops" ∷ []) d
   name ← required (new_name before.names) (get (codes "name") d)
-  desk ← required (whole 0 (s.desks - 1)) (get (codes "desk") d)
+  desk ← required (whole_number 0 (s.desks - 1)) (get (codes "desk") d)
   _ ← room s before.tops desk
-  trap ← optional false flag (get (codes "trap") d)
+  trap ← optional_member false flag (get (codes "trap") d)
   Ok (record { name = name; desk = desk; trap = trap })
 
 -- with one process more
@@ -125,7 +125,7 @@ unfoldable pub next_list : ℕ → Naming → Lists → Pending → Result Lists
 next_list format names before h = do
   _ ← few (length before.processes)
   ops ← placed (at_process (length before.processes)) (required list (get (codes "ops") h.value))
-  part ← list_at MAX_DEPTH (fresh format (length before.processes) None names)
+  part ← list_at MAX_DEPTH (fresh_scope format (length before.processes) None names)
       (length before.processes + 1) before.seen ops
   Ok (record {
     processes = before.processes ++ record { trap = h.trap; operations = part.operations } ∷ part.inside;
@@ -153,12 +153,12 @@ reading bytes = if nat_lt MAX_BYTES (length bytes) then Err (Refused Bounds at_s
 -- what was returned is what the bytes say, where there was memory
 abbrev pub Reads : {A : Type 0} → Result A ScriptError → Result A ScriptError → Type 0
 Reads (Ok x) read = read ≡ Ok x
-Reads (Err e) read = Refuses e read
+Reads (Err e) read = ScriptRefuses e read
 
 -- the same of a value that is changed
 abbrev pub Becomes : {A : Type 0} → A → Result (Unit {0}) ScriptError → Result A ScriptError → Type 0
 Becomes new (Ok _) read = read ≡ Ok new
-Becomes new (Err e) read = Refuses e read
+Becomes new (Err e) read = ScriptRefuses e read
 
 abbrev pub pending_view : Unread → Pending
 pending_view p = record { trap = p.trap; value = view p.value.now }
@@ -169,8 +169,8 @@ heads_view h = record { names = naming h.names; tops = h.tops; unread = map pend
 -- the same of the heads, and of the processes of the lists
 abbrev pub ReadsHeads : Result HeadsRead ScriptError → Result Heads ScriptError → Type 0
 ReadsHeads (Ok h) read = read ≡ Ok (heads_view h)
-ReadsHeads (Err e) read = Refuses e read
+ReadsHeads (Err e) read = ScriptRefuses e read
 
 abbrev pub ReadsPlans : Result (Vec Plan Global) ScriptError → Result Lists ScriptError → Type 0
 ReadsPlans (Ok ps) read = (seen : ℕ) × (read ≡ Ok (record { processes = ps.items; seen = seen }))
-ReadsPlans (Err e) read = Refuses e read
+ReadsPlans (Err e) read = ScriptRefuses e read

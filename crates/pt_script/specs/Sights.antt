@@ -11,10 +11,10 @@ use Rattle.pt_script.specs.declared.values.Operation.TheVariants as operation
 use Rattle.pt_script.specs.Plans.{Plan, Whole}
 use Rattle.pt_script.specs.declared.limits.TheConstants.{MAX_DEPTH, MAX_OPERATIONS, MAX_PROCESSES}
 use Rattle.pt_script.specs.Sound.{InRange, operations_of}
-use Rattle.pt_script.specs.Writing.{FitsReason, FitsSigned}
+use Rattle.pt_script.specs.Writing.{WritesReason, FitsSigned}
 
 -- what an operation can name, by number
-pub record Sight : Type 0 where
+pub record NameSight : Type 0 where
   -- the script's format, 1 or 2
   pub format : ℕ
   -- the process that does it
@@ -41,14 +41,14 @@ is_parent n None = false
 is_parent n (Some k) = k == n
 
 -- oneself, the process that spawned one, one's children so far, and the processes that the script begins with
-abbrev pub sees : Sight → ℕ → Bool
+abbrev pub sees : NameSight → ℕ → Bool
 sees v n = (v.own == n) || is_parent n v.parent || among n v.children || among n v.tops
 
-abbrev pub SeesIfAny : Sight → Option ℕ → Type 0
+abbrev pub SeesIfAny : NameSight → Option ℕ → Type 0
 SeesIfAny v None = ⊤
 SeesIfAny v (Some n) = sees v n ≡ true
 
-abbrev pub SeesAllOf : Sight → Pattern → Type 0
+abbrev pub SeesAllOf : NameSight → Pattern → Type 0
 SeesAllOf v pattern.Any = ⊤
 SeesAllOf v (pattern.Kind kind) = kind < 2 ^ 32
 SeesAllOf v (pattern.From n) = sees v n ≡ true
@@ -58,7 +58,7 @@ SeesAllOf v (pattern.AliveOf tag) = among tag v.asks ≡ true
 
 -- an operation that spawns nothing names what is in sight, its numbers are in their ranges, and a tag that it makes is
 -- the next one
-abbrev pub CanDo : Sight → Operation → Type 0
+abbrev pub CanDo : NameSight → Operation → Type 0
 CanDo v (operation.Send to kind num who) = (sees v to ≡ true) × (kind < 2 ^ 32) × FitsSigned num × SeesIfAny v who
 CanDo v (operation.Receive p) = SeesAllOf v p
 CanDo v (operation.Check p) = SeesAllOf v p
@@ -68,20 +68,20 @@ CanDo v (operation.Monitor to tag) = (sees v to ≡ true) × (tag ≡ v.made)
 CanDo v (operation.Demonitor tag flush) = among tag v.monitors ≡ true
 CanDo v (operation.Alive to tag) = (2 ≤ v.format) × (sees v to ≡ true) × (tag ≡ v.made)
 CanDo v (operation.Trap on) = ⊤
-CanDo v (operation.Exit reason) = FitsReason reason
-CanDo v (operation.Signal to reason) = (sees v to ≡ true) × FitsReason reason
+CanDo v (operation.Exit reason) = WritesReason reason
+CanDo v (operation.Signal to reason) = (sees v to ≡ true) × WritesReason reason
 CanDo v (operation.Spawn process linked) = ⊥
 CanDo v operation.Pass = ⊤
 
 -- what is in sight behind an operation
-abbrev pub sight_behind : Sight → Operation → Sight
+abbrev pub sight_behind : NameSight → Operation → NameSight
 sight_behind v (operation.Monitor to tag) = record v { monitors = v.made ∷ v.monitors; made = v.made + 1 }
 sight_behind v (operation.Alive to tag) = record v { asks = v.made ∷ v.asks; made = v.made + 1 }
 sight_behind v (operation.Spawn process linked) = record v { children = process ∷ v.children }
 sight_behind v _ = v
 
 -- what is in sight at the begin of a list
-abbrev pub first_sight : ℕ → ℕ → Option ℕ → List ℕ → Sight
+abbrev pub first_sight : ℕ → ℕ → Option ℕ → List ℕ → NameSight
 first_sight format own parent tops = record {
   format = format;
   own = own;
@@ -95,10 +95,10 @@ first_sight format own parent tops = record {
 
 -- a list of operations begins these processes, in this order, the first of which has this number
 abbrev pub Begins : Type 1
-Begins = Sight → ℕ → List Operation → List Plan → Type 0
+Begins = NameSight → ℕ → List Operation → List Plan → Type 0
 
 -- an operation begins these: a spawn its process, which is the next one, and those that its list begins
-abbrev pub StepBegins : Begins → Sight → ℕ → Operation → List Plan → Type 0
+abbrev pub StepBegins : Begins → NameSight → ℕ → Operation → List Plan → Type 0
 StepBegins Inner v next (operation.Spawn n linked) [] = ⊥
 StepBegins Inner v next (operation.Spawn n linked) (child ∷ inside) =
     (n ≡ next) × Inner (first_sight v.format next (Some v.own) v.tops) (next + 1) child.operations inside

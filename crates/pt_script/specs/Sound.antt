@@ -66,7 +66,7 @@ pub record InRange (s : Settings) : Type 0 where
 abbrev pub operations_of : List Plan → ℕ
 operations_of plans = sum_by (λ p. length p.operations) plans
 
-pub record IsSound (w : Whole) : Type 0 where
+pub record IsSoundScript (w : Whole) : Type 0 where
   pub settings : InRange w.settings
   pub tops : All (TopFits (length w.processes) w.settings.desks) w.tops
   pub lists : PlansFit (length w.processes) w.processes

@@ -38,8 +38,8 @@ abbrev pub all_processes : Data → List Data
 all_processes d = processes_of (loose (required list (get (codes "processes") d)))
 
 -- the process with this number is this value
-abbrev pub Stands : List Data → ℕ → Data → Type 0
-Stands all n d = (n < length all) × (slice_index_or all n null ≡ d)
+abbrev pub OperationStands : List Data → ℕ → Data → Type 0
+OperationStands all n d = (n < length all) × (slice_index_or all n null ≡ d)
 
 -- the process and the operation that a place names are among them
 abbrev pub IsAmong : List Data → Option ℕ → Option ℕ → Type 0
@@ -49,13 +49,13 @@ IsAmong all (Some n) None = n < length all
 IsAmong all (Some n) (Some k) = (n < length all) × (k < length (ops_of (slice_index_or all n null)))
 
 -- a place in what was read: where nothing was, the script as a whole
-abbrev pub HasPlace : Option Data → Place → Type 0
-HasPlace None place = place ≡ at_script
-HasPlace (Some d) place = IsAmong (all_processes d) place.process place.op
+abbrev pub HasPlaceIn : Option Data → Place → Type 0
+HasPlaceIn None place = place ≡ at_script
+HasPlaceIn (Some d) place = IsAmong (all_processes d) place.process place.op
 
 -- a spawn of the text is one of the script, with the number of the process that it spawns
 abbrev pub SpawnsAt : List Data → Data → Operation → Type 0
-SpawnsAt all d (Spawn n linked) = Stands all n d
+SpawnsAt all d (Spawn n linked) = OperationStands all n d
 SpawnsAt all d _ = ⊥
 
 abbrev pub IsOperationOf : List Data → Operation → Data → Type 0
@@ -76,7 +76,7 @@ ArePlansOf all _ _ = ⊥
 -- the processes that the script begins with, each by its number
 abbrev pub AreTopsOf : List Data → List Top → List Data → Type 0
 AreTopsOf all [] [] = Unit {0}
-AreTopsOf all (t ∷ ts) (d ∷ ds) = Stands all t.process d × AreTopsOf all ts ds
+AreTopsOf all (t ∷ ts) (d ∷ ds) = OperationStands all t.process d × AreTopsOf all ts ds
 AreTopsOf all _ _ = ⊥
 
 -- the number that a name stands for is that of the process which has this name

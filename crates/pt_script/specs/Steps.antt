@@ -12,6 +12,6 @@ each f before [] = Ok before
 each f before (x ∷ xs) = f before x >>= λ after. each f after xs
 
 -- What a function returned, seen by view, is what reading gives.
-abbrev pub Gives : {X Y E : Type 0} → (X → Y) → Result X E → Result Y E → Type 0
-Gives view (Ok x) read = read ≡ Ok (view x)
-Gives view (Err e) read = read ≡ Err e
+abbrev pub ReadingGives : {X Y E : Type 0} → (X → Y) → Result X E → Result Y E → Type 0
+ReadingGives view (Ok x) read = read ≡ Ok (view x)
+ReadingGives view (Err e) read = read ≡ Err e

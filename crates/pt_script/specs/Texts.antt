@@ -4,11 +4,11 @@ use Rattle.pt_script.specs.declared.fault.Fault.{Fault}
 use Rattle.pt_script.specs.declared.fault.Fault.TheVariants.{Syntax, Field, Name, Bounds}
 use Rattle.pt_script.specs.declared.fault.Place.{Place}
 
-unfoldable pub fault_text : Fault → List ℕ
-fault_text Syntax = codes "1 syntax"
-fault_text Field = codes "2 field"
-fault_text Name = codes "3 name"
-fault_text Bounds = codes "4 bounds"
+unfoldable pub script_fault_text : Fault → List ℕ
+script_fault_text Syntax = codes "1 syntax"
+script_fault_text Field = codes "2 field"
+script_fault_text Name = codes "3 name"
+script_fault_text Bounds = codes "4 bounds"
 
 abbrev pub numbers_text : Option ℕ → Option ℕ → List ℕ
 numbers_text (Some process) (Some op) = codes "process " ++ decimal process ++ codes " op " ++ decimal op

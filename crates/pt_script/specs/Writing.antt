@@ -9,7 +9,7 @@ use Rattle.pt_script.specs.declared.values.Pattern.{Pattern}
 use Rattle.pt_script.specs.declared.values.Pattern.TheVariants as pattern
 use Rattle.pt_script.specs.declared.values.Operation.{Operation}
 use Rattle.pt_script.specs.declared.values.Operation.TheVariants as operation
-use Rattle.pt_script.specs.Scopes.{Scope, can_ask, process_in, tag_in, is_name}
+use Rattle.pt_script.specs.Scopes.{Scope, can_ask, process_in, tag_in, is_script_name}
 use Rattle.pt_script.specs.Lists.{with_monitor, with_ask}
 
 -- what processes and tags are called, by their numbers
@@ -39,40 +39,40 @@ who_written c None = no_members
 who_written c (Some n) = with (codes "who") (string (c.process n)) no_members
 
 -- an operation as a value; a spawn is not written here
-abbrev pub written : Called → Operation → Data
-written c (operation.Send to kind num who) =
+abbrev pub written_operation : Called → Operation → Data
+written_operation c (operation.Send to kind num who) =
     object
     (with (codes "kind") (number (unsigned kind))
     (with (codes "num") (number (of_integer num))
     (with (codes "op") (string (codes "send")) (with (codes "to") (string (c.process to)) (who_written c who)))))
-written c (operation.Receive p) = object (with (codes "op") (string (codes "receive")) (pick_written c p no_members))
-written c (operation.Check p) = object (with (codes "op") (string (codes "check")) (pick_written c p no_members))
-written c (operation.Link to) =
+written_operation c (operation.Receive p) = object (with (codes "op") (string (codes "receive")) (pick_written c p no_members))
+written_operation c (operation.Check p) = object (with (codes "op") (string (codes "check")) (pick_written c p no_members))
+written_operation c (operation.Link to) =
     object (with (codes "op") (string (codes "link")) (with (codes "to") (string (c.process to)) no_members))
-written c (operation.Unlink to) =
+written_operation c (operation.Unlink to) =
     object (with (codes "op") (string (codes "unlink")) (with (codes "to") (string (c.process to)) no_members))
-written c (operation.Monitor to tag) =
+written_operation c (operation.Monitor to tag) =
     object
     (with (codes "op") (string (codes "monitor"))
     (with (codes "tag") (string (c.tag tag)) (with (codes "to") (string (c.process to)) no_members)))
-written c (operation.Demonitor tag flush) =
+written_operation c (operation.Demonitor tag flush) =
     object
     (with (codes "flush") (boolean flush)
     (with (codes "op") (string (codes "demonitor")) (with (codes "tag") (string (c.tag tag)) no_members)))
-written c (operation.Alive to tag) =
+written_operation c (operation.Alive to tag) =
     object
     (with (codes "op") (string (codes "alive"))
     (with (codes "tag") (string (c.tag tag)) (with (codes "to") (string (c.process to)) no_members)))
-written c (operation.Trap on) =
+written_operation c (operation.Trap on) =
     object (with (codes "on") (boolean on) (with (codes "op") (string (codes "trap")) no_members))
-written c (operation.Exit reason) =
+written_operation c (operation.Exit reason) =
     object (with (codes "op") (string (codes "exit")) (with (codes "reason") (string (reason_text reason)) no_members))
-written c (operation.Signal to reason) =
+written_operation c (operation.Signal to reason) =
     object
     (with (codes "op") (string (codes "signal"))
     (with (codes "reason") (string (reason_text reason)) (with (codes "to") (string (c.process to)) no_members)))
-written c (operation.Spawn process linked) = object no_members
-written c operation.Pass = object (with (codes "op") (string (codes "pass")) no_members)
+written_operation c (operation.Spawn process linked) = object no_members
+written_operation c operation.Pass = object (with (codes "op") (string (codes "pass")) no_members)
 
 -- in this scope the process is called so
 abbrev pub IsCalled : Scope → Called → ℕ → Type 0
@@ -90,9 +90,9 @@ CanPick s c (pattern.ExitOf n) = IsCalled s c n
 CanPick s c (pattern.DownOf tag) = s.monitors (c.tag tag) ≡ Some tag
 CanPick s c (pattern.AliveOf tag) = (can_ask s ≡ true) × (s.asks (c.tag tag) ≡ Some tag)
 
-abbrev pub FitsReason : Reason → Type 0
-FitsReason (Other n) = n < 2 ^ 32
-FitsReason _ = ⊤
+abbrev pub WritesReason : Reason → Type 0
+WritesReason (Other n) = n < 2 ^ 32
+WritesReason _ = ⊤
 
 abbrev pub FitsSigned : ℤ → Type 0
 FitsSigned (pos n) = n < 2 ^ 63
@@ -100,7 +100,7 @@ FitsSigned (negsuc n) = n < 2 ^ 63
 
 -- the tag is the next one, and is called by a new name
 abbrev pub IsNewTag : Scope → Called → ℕ → Type 0
-IsNewTag s c tag = (tag ≡ s.made) × (is_name (c.tag tag) ≡ true) × (tag_in s (c.tag tag) ≡ None)
+IsNewTag s c tag = (tag ≡ s.made) × (is_script_name (c.tag tag) ≡ true) × (tag_in s (c.tag tag) ≡ None)
 
 -- what can be said in this scope: its numbers are in their ranges, and its processes and tags have names there
 abbrev pub CanSay : Scope → Called → Operation → Type 0
@@ -113,8 +113,8 @@ CanSay s c (operation.Monitor to tag) = IsCalled s c to × IsNewTag s c tag
 CanSay s c (operation.Demonitor tag flush) = s.monitors (c.tag tag) ≡ Some tag
 CanSay s c (operation.Alive to tag) = (can_ask s ≡ true) × IsCalled s c to × IsNewTag s c tag
 CanSay s c (operation.Trap on) = ⊤
-CanSay s c (operation.Exit reason) = FitsReason reason
-CanSay s c (operation.Signal to reason) = IsCalled s c to × FitsReason reason
+CanSay s c (operation.Exit reason) = WritesReason reason
+CanSay s c (operation.Signal to reason) = IsCalled s c to × WritesReason reason
 CanSay s c (operation.Spawn process linked) = ⊥
 CanSay s c operation.Pass = ⊤
 

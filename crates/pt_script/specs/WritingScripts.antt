@@ -9,7 +9,7 @@ use Rattle.pt_script.specs.declared.values.Operation.TheVariants.{Spawn}
 use Rattle.pt_script.specs.declared.limits.TheConstants.{MAX_DEPTH}
 use Rattle.pt_script.specs.Plans.{Plan, Whole}
 use Rattle.pt_script.specs.Sights.{is_parent}
-use Rattle.pt_script.specs.Writing.{Called, with, written}
+use Rattle.pt_script.specs.Writing.{Called, with, written_operation}
 
 abbrev pub process_name : ℕ → List ℕ
 process_name n = codes "n" ++ decimal n
@@ -43,7 +43,7 @@ spawn_written n linked trap ops =
 -- an operation, where lists has the written operations of a process that it spawns
 abbrev pub operation_written : (ℕ → List Data) → List Plan → Called → Operation → Data
 operation_written lists all c (Spawn n linked) = spawn_written n linked (plan_of all n).trap (lists n)
-operation_written lists all c o = written c o
+operation_written lists all c o = written_operation c o
 
 -- the operations of a process that another one spawned, down to so many lists within one another
 unfoldable pub list_written : ℕ → List Plan → Option ℕ → ℕ → List Data

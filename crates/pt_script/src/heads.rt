@@ -8,7 +8,7 @@ ghost use Rattle.pt_script.specs.declared.fault.ScriptError.TheVariants.{Refused
 ghost use Rattle.pt_script.specs.Lists.{at_process};
 ghost use Rattle.pt_script.specs.Scopes.{naming};
 ghost use Rattle.pt_script.specs.Scripts as spec;
-ghost use Rattle.pt_script.specs.Steps.{Gives, each};
+ghost use Rattle.pt_script.specs.Steps.{ReadingGives, each};
 ghost use Rattle.pt_script.specs.declared.limits.TheConstants.{MAX_DESKS, MAX_SLOTS};
 
 use crate::crowd::Crowd;
@@ -103,7 +103,7 @@ impl<'a> Heads<'a> {
 
     /// The name of a process that the script begins with.
     fn name<'b>(&self, member: Option<&'b Value>) -> Result<&'b str, Fault>
-        ensures { Gives (λ t. t.now) result
+        ensures { ReadingGives (λ t. t.now) result
             (members.required (new_name (naming self.now.names)) (option_map (λ v. view v.now) member.entry)) }
     {
         let name = text(member)?;
@@ -132,7 +132,7 @@ impl<'a> Heads<'a> {
     #[tactic(auto, unfolding(crate::specs::Scripts::head))]
     fn head<'b>(&self, settings: &Settings, value: &'b Value) -> Result<Head<'b>, Fault>
         requires { (1 ≤ settings.now.desks) × (settings.now.desks ≤ MAX_DESKS) }
-        ensures head { Gives (λ h. record {
+        ensures head { ReadingGives (λ h. record {
           name = h.name.now;
           desk = h.desk;
           trap = h.trap;

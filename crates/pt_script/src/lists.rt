@@ -69,7 +69,7 @@ pub(crate) fn read_process<'a>(
     requires { vec_len draft.old.processes < MAX_PROCESSES }
     ensures seen { OnOk result (draft.old.seen ≤ draft.new.seen) }
     ensures read { spec.ReadsProcess trap draft.old.processes.items draft.new.processes.items draft.new.seen result
-        (spec.list_at levels (spec.fresh format (vec_len draft.old.processes) parent (naming tops.now))
+        (spec.list_at levels (spec.fresh_scope format (vec_len draft.old.processes) parent (naming tops.now))
         (vec_len draft.old.processes + 1) draft.old.seen (map view list.now)) }
 {
     let number = draft.processes.len();

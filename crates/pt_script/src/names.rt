@@ -45,7 +45,7 @@ impl<'a> Names<'a> {
 
 /// Whether the text has the form of a name: 1 to 32 ASCII letters, digits and `_`, beginning with a letter.
 pub(crate) fn is_name(text: &str) -> bool
-    ensures { result ≡ spec.is_name text.now }
+    ensures { result ≡ spec.is_script_name text.now }
 {
     let bytes = text.as_bytes();
     if 0 < bytes.len() && bytes.len() <= MAX_NAME {
@@ -70,16 +70,16 @@ fn are_name_bytes(bytes: &[u8]) -> bool
     bytes.iter().all(|b| is_name_byte(*b))
 }
 
-#[tactic(auto, unfolding(crate::specs::Scopes::is_letter))]
+#[tactic(auto, unfolding(crate::specs::Scopes::is_script_letter))]
 fn is_letter(byte: u8) -> bool
-    ensures { result ≡ spec.is_letter byte }
+    ensures { result ≡ spec.is_script_letter byte }
 {
     (b'A' <= byte && byte <= b'Z') || (b'a' <= byte && byte <= b'z')
 }
 
-#[tactic(auto, unfolding(crate::specs::Scopes::is_digit))]
+#[tactic(auto, unfolding(crate::specs::Scopes::is_script_digit))]
 pub(crate) fn is_digit(byte: u8) -> bool
-    ensures { result ≡ spec.is_digit byte }
+    ensures { result ≡ spec.is_script_digit byte }
 {
     b'0' <= byte && byte <= b'9'
 }

@@ -6,8 +6,8 @@ ghost use Rattle.serde_json.specs.Find.{get};
 ghost use Rattle.serde_json.specs.View.{view};
 ghost use Rattle.pt_script.specs.Members as members;
 ghost use Rattle.pt_script.specs.Operations as spec;
-ghost use Rattle.pt_script.specs.Scopes.{scope_view, can_ask, process_in, tag_in, is_digit};
-ghost use Rattle.pt_script.specs.Steps.{Gives};
+ghost use Rattle.pt_script.specs.Scopes.{scope_view, can_ask, process_in, tag_in, is_script_digit};
+ghost use Rattle.pt_script.specs.Steps.{ReadingGives};
 
 use crate::fault::Fault;
 use crate::members::{flag_at, flag_or_false, known, list, signed_at, text, whole_at};
@@ -100,7 +100,7 @@ fn name(scope: &Scope<'_, '_>, member: Option<&Value>) -> Result<u32, Fault>
 
 fn name_or_none(scope: &Scope<'_, '_>, member: Option<&Value>) -> Result<Option<u32>, Fault>
     ensures { result
-        ≡ members.optional None (spec.maybe_process (scope_view scope.now))
+        ≡ members.optional_member None (spec.maybe_process (scope_view scope.now))
         (option_map (λ v. view v.now) member.entry) }
 {
     match member {
@@ -124,7 +124,7 @@ fn ask_tag(scope: &Scope<'_, '_>, member: Option<&Value>) -> Result<u32, Fault>
 }
 
 fn new_tag<'a>(scope: &Scope<'_, '_>, member: Option<&'a Value>) -> Result<&'a str, Fault>
-    ensures { Gives (λ t. t.now) result
+    ensures { ReadingGives (λ t. t.now) result
         (members.required (spec.new_tag (scope_view scope.now)) (option_map (λ v. view v.now) member.entry)) }
 {
     let tag = text(member)?;
@@ -138,7 +138,7 @@ fn new_tag<'a>(scope: &Scope<'_, '_>, member: Option<&'a Value>) -> Result<&'a s
 }
 
 fn new_name<'a>(scope: &Scope<'_, '_>, member: Option<&'a Value>) -> Result<&'a str, Fault>
-    ensures { Gives (λ t. t.now) result
+    ensures { ReadingGives (λ t. t.now) result
         (members.required (spec.new_name (process_in (scope_view scope.now)))
         (option_map (λ v. view v.now) member.entry)) }
 {
@@ -167,14 +167,14 @@ fn is_decimal(bytes: &[u8]) -> bool
 }
 
 fn are_digits(bytes: &[u8]) -> bool
-    ensures { result ≡ list_all is_digit bytes.now }
+    ensures { result ≡ list_all is_script_digit bytes.now }
 {
     bytes.iter().all(|b| is_digit(*b))
 }
 
 /// The number that decimal digits spell, with no zero in front.
 fn decimal(digits: &str) -> Result<u32, Fault>
-    ensures { result ≡ spec.number digits.now }
+    ensures { result ≡ spec.number_read digits.now }
 {
     if !is_decimal(digits.as_bytes()) {
         return Err(Fault::Field);
@@ -192,7 +192,7 @@ fn reason(member: Option<&Value>) -> Result<Reason, Fault>
 }
 
 fn reason_of(text: &str) -> Result<Reason, Fault>
-    ensures { result ≡ spec.reason_of text.now }
+    ensures { result ≡ spec.reason_written text.now }
 {
     match text {
         "normal" => Ok(Reason::Normal),
@@ -216,7 +216,7 @@ fn other_reason(text: &str) -> Result<Reason, Fault>
 
 fn pattern(scope: &Scope<'_, '_>, member: Option<&Value>) -> Result<Pattern, Fault>
     ensures { result
-        ≡ members.optional Pattern.Any (spec.pick (scope_view scope.now)) (option_map (λ v. view v.now) member.entry) }
+        ≡ members.optional_member Pattern.Any (spec.pick (scope_view scope.now)) (option_map (λ v. view v.now) member.entry) }
 {
     match member {
         Some(value) => pick(scope, value),
@@ -226,7 +226,7 @@ fn pattern(scope: &Scope<'_, '_>, member: Option<&Value>) -> Result<Pattern, Fau
 
 /// Refuses a member that no pick has; format 1 does not know `alive`.
 fn known_pick(scope: &Scope<'_, '_>, value: &Value) -> Result<(), Fault>
-    ensures { result ≡ members.known (spec.pick_members (can_ask (scope_view scope.now))) (view value.now) }
+    ensures { result ≡ members.known_members (spec.pick_members (can_ask (scope_view scope.now))) (view value.now) }
 {
     if scope.can_ask() {
         known(value, &["kind", "from", "exit", "down", "alive"])
@@ -364,7 +364,7 @@ fn pass(value: &Value) -> Result<Operation, Fault>
 /// The process that a monitor or an ask is about, and its tag.
 #[tactic(auto, unfolding(crate::specs::Operations::tagged))]
 pub(crate) fn tagged<'a>(scope: &Scope<'_, '_>, value: &'a Value) -> Result<(u32, &'a str), Fault>
-    ensures { Gives (λ m. (m.0, m.1.now)) result (spec.tagged (scope_view scope.now) (view value.now)) }
+    ensures { ReadingGives (λ m. (m.0, m.1.now)) result (spec.tagged (scope_view scope.now) (view value.now)) }
 {
     known(value, &["op", "to", "tag"])?;
     let to = name(scope, value.get("to"))?;
@@ -375,7 +375,7 @@ pub(crate) fn tagged<'a>(scope: &Scope<'_, '_>, value: &'a Value) -> Result<(u32
 /// What a spawn says, its operations apart.
 #[tactic(auto, unfolding(crate::specs::Operations::spawn))]
 pub(crate) fn spawned_by<'a>(scope: &Scope<'_, '_>, value: &'a Value) -> Result<Spawned<'a>, Fault>
-    ensures { Gives (λ c. record {
+    ensures { ReadingGives (λ c. record {
       name = c.name.now;
       linked = c.linked;
       trap = c.trap;
@@ -397,7 +397,7 @@ pub(crate) fn spawned_by<'a>(scope: &Scope<'_, '_>, value: &'a Value) -> Result<
 
 /// The `op` of an operation.
 pub(crate) fn op_of(value: &Value) -> Result<&str, Fault>
-    ensures { Gives (λ t. t.now) result (members.required members.text (get (codes "op") (view value.now))) }
+    ensures { ReadingGives (λ t. t.now) result (members.required members.text (get (codes "op") (view value.now))) }
 {
     text(value.get("op"))
 }

@@ -3,7 +3,7 @@
 ghost use Rattle.std.specs.Prelude.{◌≡◌};
 ghost use Rattle.pt_shard.specs.Opening.{IsInRange};
 ghost use Rattle.pt_script.specs.Nodes.{config_of};
-ghost use Rattle.pt_script.specs.Sound.{IsSound};
+ghost use Rattle.pt_script.specs.Sound.{IsSoundScript};
 
 use crate::values::{Operation, Settings, Top};
 use pt_shard::Config;
@@ -57,13 +57,13 @@ pub struct Script {
 
 impl Model for Script {
     ghost use Rattle.pt_script.specs.Plans.{Whole};
-    ghost use Rattle.pt_script.specs.Sound.{IsSound};
+    ghost use Rattle.pt_script.specs.Sound.{IsSoundScript};
 
     ghost Value = { Whole };
 
     ghost view = { λ s. record { settings = s.settings; tops = s.tops.items; processes = s.processes.items } };
 
-    ghost invariant = { λ s. IsSound (record {
+    ghost invariant = { λ s. IsSoundScript (record {
       settings = s.settings;
       tops = s.tops.items;
       processes = s.processes.items;
@@ -72,7 +72,7 @@ impl Model for Script {
 
 impl Script {
     pub(crate) fn new(settings: Settings, tops: Vec<Top>, processes: Vec<Process>) -> Script
-        requires { IsSound (record { settings = settings; tops = tops.items; processes = processes.items }) }
+        requires { IsSoundScript (record { settings = settings; tops = tops.items; processes = processes.items }) }
         ensures { result ≡ record { settings = settings; tops = tops.items; processes = processes.items } }
     {
         Script {
@@ -85,7 +85,7 @@ impl Script {
     /// The settings of the node, and the budget of its turns.
     pub fn settings(&self) -> Settings
         ensures settings { result ≡ self.now.settings }
-        ensures sound { IsSound self.now }
+        ensures sound { IsSoundScript self.now }
     {
         self.settings
     }
@@ -108,7 +108,7 @@ impl Script {
     /// How many letters each turn of a desk may handle.
     pub fn budget(&self) -> u32
         ensures budget { result ≡ self.now.settings.budget }
-        ensures sound { IsSound self.now }
+        ensures sound { IsSoundScript self.now }
     {
         self.settings.budget
     }
@@ -116,7 +116,7 @@ impl Script {
     /// The processes that the script begins with, in its order.
     pub fn tops(&self) -> &[Top]
         ensures tops { result.now ≡ self.now.tops }
-        ensures sound { IsSound self.now }
+        ensures sound { IsSoundScript self.now }
     {
         self.tops.as_slice()
     }
@@ -124,7 +124,7 @@ impl Script {
     /// Every process of the script, by number.
     pub fn processes(&self) -> &[Process]
         ensures processes { result.now ≡ self.now.processes }
-        ensures sound { IsSound self.now }
+        ensures sound { IsSoundScript self.now }
     {
         self.processes.as_slice()
     }

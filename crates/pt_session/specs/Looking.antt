@@ -102,8 +102,8 @@ abbrev pub is_kept : Option (Pid × ProcessState) → Ref → Bool
 is_kept None m = false
 is_kept (Some x) m = list_any (λ k. same_ref m k.0) x.1.kept
 
-abbrev pub process_in : Pid → DeskState → Option (Pid × ProcessState)
-process_in p x = cond (lives x.shard p) (Some (p, state_in x.shard p)) None
+abbrev pub process_on_desk : Pid → DeskState → Option (Pid × ProcessState)
+process_on_desk p x = cond (lives x.shard p) (Some (p, state_in x.shard p)) None
 
 -- what is read of a node that runs; what is read of another one alone is not answered
 abbrev pub LooksAtNode : Look → List DeskState → Option Answer → Type 0
@@ -123,7 +123,7 @@ LooksAtNode (Look.Waiting p) desks a =
 LooksAtNode (Look.Linked p q) desks a =
     IfIds a (ReadsAt p.shard (λ x. cond (lives x.shard p) (held_by x.shard p q) None) None desks)
 LooksAtNode (Look.Watching p m) desks a =
-    IfTrue a (ReadsAt p.shard (λ x. is_watching (process_in p x) m) (is_watching None m) desks)
+    IfTrue a (ReadsAt p.shard (λ x. is_watching (process_on_desk p x) m) (is_watching None m) desks)
 LooksAtNode (Look.Kept p m) desks a =
-    IfTrue a (ReadsAt p.shard (λ x. is_kept (process_in p x) m) (is_kept None m) desks)
+    IfTrue a (ReadsAt p.shard (λ x. is_kept (process_on_desk p x) m) (is_kept None m) desks)
 LooksAtNode _ desks a = IsNotNow a

@@ -20,13 +20,13 @@ use Rattle.pt_lines.specs.declared.call.Look.{Look}
 use Rattle.pt_session.specs.declared.answer.Answer.{Answer}
 use Rattle.pt_session.specs.Looking.{IfNumber, IfEvent, IfEvents, IfLetters, IfPids, IfAccount, IfReason, IfTrue, IfIds}
 use Rattle.pt_session.specs.Looking.{IfItems, IsNotNow, event_in}
-use Rattle.pt_session.specs.Stepping.{bare}
+use Rattle.pt_session.specs.Stepping.{without_stamps}
 
 -- The judge of histories went through the events of the epochs before, and then through those of the history: all may
 -- come, or the first that may not is told; memory may be wanting.
 abbrev pub IsJudged : List Event → List Stamped → Answer → Type 0
-IsJudged earlier history (Answer.Judged (Ok u)) = IsLegal [] (reverse (bare history) ++ reverse earlier)
-IsJudged earlier history (Answer.Judged (Err stop)) = ReplaysAfter [] (reverse earlier) (bare history) (Err stop)
+IsJudged earlier history (Answer.Judged (Ok u)) = IsLegal [] (reverse (without_stamps history) ++ reverse earlier)
+IsJudged earlier history (Answer.Judged (Err stop)) = ReplaysAfter [] (reverse earlier) (without_stamps history) (Err stop)
 IsJudged earlier history Answer.NoMemory = Unit {0}
 IsJudged earlier history _ = ⊥
 

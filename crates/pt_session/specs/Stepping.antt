@@ -19,8 +19,8 @@ use Rattle.pt_session.specs.declared.answer.Answer.{Answer}
 use Rattle.pt_session.specs.declared.phase.Phase.{Phase}
 
 -- events without their stamps and desks
-abbrev pub bare : List Stamped → List Event
-bare history = map (λ (s : Stamped). s.event) history
+abbrev pub without_stamps : List Stamped → List Event
+without_stamps history = map (λ (s : Stamped). s.event) history
 
 -- the node is in this state, and is so
 abbrev pub IfRunning : Phase → (List DeskState → Type 0) → Type 0
@@ -36,11 +36,11 @@ IfSettled (Phase.Settled q) P = P q
 IfSettled _ P = ⊥
 
 -- a new node is there, and no epoch is before it; or the one before stays
-abbrev pub OpensAs : Config → Phase → List Event → Answer → Phase → List Event → Type 0
-OpensAs config old before (Answer.Opened (Ok u)) new after =
+abbrev pub OpensPhase : Config → Phase → List Event → Answer → Phase → List Event → Type 0
+OpensPhase config old before (Answer.Opened (Ok u)) new after =
     IfRunning new (λ desks. OpensNode config (Ok desks)) × (after ≡ [])
-OpensAs config old before (Answer.Opened (Err e)) new after = OpensNode config (Err e) × (new ≡ old) × (after ≡ before)
-OpensAs config old before _ new after = ⊥
+OpensPhase config old before (Answer.Opened (Err e)) new after = OpensNode config (Err e) × (new ≡ old) × (after ≡ before)
+OpensPhase config old before _ new after = ⊥
 
 -- it is gathered, and so many letters are left over; where there was no memory for the list of them that is not told,
 -- and where there was none to gather it the node is as it was
@@ -51,10 +51,10 @@ GathersTo desks Answer.NoMemory (Phase.Gathered g) = Gathers desks g × HasJourn
 GathersTo desks Answer.NoMemory (Phase.Running back) = map desk_kept back ≡ map desk_kept desks
 GathersTo desks _ new = ⊥
 
-abbrev pub GathersAs : Phase → Option Answer → Phase → Type 0
-GathersAs (Phase.Running desks) (Some a) new = GathersTo desks a new
-GathersAs (Phase.Running desks) None new = ⊥
-GathersAs old a new = (a ≡ None) × (new ≡ old)
+abbrev pub GathersPhase : Phase → Option Answer → Phase → Type 0
+GathersPhase (Phase.Running desks) (Some a) new = GathersTo desks a new
+GathersPhase (Phase.Running desks) None new = ⊥
+GathersPhase old a new = (a ≡ None) × (new ≡ old)
 
 -- it is settled, and so many letters were handled; or settling stopped, and it is gathered as before, with what was
 -- handled so far
@@ -66,15 +66,15 @@ SettlesTo g (Answer.Handled (Err stop)) new =
     IfGathered new (λ h. Settles g h × SettlingStops (length g.shards) stop g h)
 SettlesTo g _ new = ⊥
 
-abbrev pub SettlesAs : Phase → Option Answer → Phase → Type 0
-SettlesAs (Phase.Gathered g) (Some a) new = SettlesTo g a new
-SettlesAs (Phase.Gathered g) None new = ⊥
-SettlesAs old a new = (a ≡ None) × (new ≡ old)
+abbrev pub SettlesPhase : Phase → Option Answer → Phase → Type 0
+SettlesPhase (Phase.Gathered g) (Some a) new = SettlesTo g a new
+SettlesPhase (Phase.Gathered g) None new = ⊥
+SettlesPhase old a new = (a ≡ None) × (new ≡ old)
 
 -- the events of the epochs before, and then those of the node's history
 abbrev pub HasEpoch : QuietState → List Event → List Event → Type 0
 HasEpoch q before after =
-    (history : List Stamped) × IsMerge (journals q.gathered) (reverse history) × (after ≡ before ++ bare history)
+    (history : List Stamped) × IsMerge (journals q.gathered) (reverse history) × (after ≡ before ++ without_stamps history)
 
 -- the node runs on, and its history is among those of the epochs before; or there was no memory, and all is as it was
 abbrev pub ResumesTo : QuietState → List Event → Answer → Phase → List Event → Type 0
@@ -84,7 +84,7 @@ ResumesTo q before Answer.Resumed new after =
 ResumesTo q before Answer.NoMemory new after = (new ≡ Phase.Settled q) × (after ≡ before)
 ResumesTo q before _ new after = ⊥
 
-abbrev pub ResumesAs : Phase → List Event → Option Answer → Phase → List Event → Type 0
-ResumesAs (Phase.Settled q) before (Some a) new after = ResumesTo q before a new after
-ResumesAs (Phase.Settled q) before None new after = ⊥
-ResumesAs old before a new after = (a ≡ None) × (new ≡ old) × (after ≡ before)
+abbrev pub ResumesPhase : Phase → List Event → Option Answer → Phase → List Event → Type 0
+ResumesPhase (Phase.Settled q) before (Some a) new after = ResumesTo q before a new after
+ResumesPhase (Phase.Settled q) before None new after = ⊥
+ResumesPhase old before a new after = (a ≡ None) × (new ≡ old) × (after ≡ before)

@@ -59,7 +59,7 @@ fn knows(node: &Node, desk: u8, pid: Pid) -> Option<bool>
 }
 
 fn watching(node: &Node, pid: Pid, monitor: Ref) -> bool
-    ensures { ReadsAt pid.shard (λ x. spec.is_watching (spec.process_in pid x) monitor) (spec.is_watching None monitor)
+    ensures { ReadsAt pid.shard (λ x. spec.is_watching (spec.process_on_desk pid x) monitor) (spec.is_watching None monitor)
         node.now result }
 {
     match node.process(pid) {
@@ -69,7 +69,7 @@ fn watching(node: &Node, pid: Pid, monitor: Ref) -> bool
 }
 
 fn kept(node: &Node, pid: Pid, monitor: Ref) -> bool
-    ensures { ReadsAt pid.shard (λ x. spec.is_kept (spec.process_in pid x) monitor) (spec.is_kept None monitor)
+    ensures { ReadsAt pid.shard (λ x. spec.is_kept (spec.process_on_desk pid x) monitor) (spec.is_kept None monitor)
         node.now result }
 {
     match node.process(pid) {

@@ -5,7 +5,7 @@ ghost use Rattle.pt_accounts.specs.LivesState.{account_in};
 ghost use Rattle.pt_gathered.specs.Gathered.{begins};
 ghost use Rattle.pt_session.specs.Looking.{IfItems};
 ghost use Rattle.pt_session.specs.LookingBack as spec;
-ghost use Rattle.pt_session.specs.Stepping.{bare};
+ghost use Rattle.pt_session.specs.Stepping.{without_stamps};
 
 use crate::answer::Answer;
 use crate::looking::{find_event, items};
@@ -144,7 +144,7 @@ fn judge(alloc: Global, earlier: &[Event], history: &[Stamped]) -> Answer
 
 /// The events, without their stamps and desks.
 pub(crate) fn events_of(alloc: Global, history: &[Stamped]) -> Result<Vec<Event>, AllocError>
-    ensures { IfOk result (λ events. events.items ≡ bare history.now) }
+    ensures { IfOk result (λ events. events.items ≡ without_stamps history.now) }
 {
     let mut events = Vec::new(alloc);
     for place in 0..history.len() {

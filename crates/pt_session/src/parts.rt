@@ -1,6 +1,6 @@
 //! Parts of the texts of answers.
 
-#![tactic(auto, unfolding(crate::specs::Text::turns_text, crate::specs::Text::then_text, crate::specs::Text::count_text, crate::specs::Text::stopped_text, crate::specs::Text::counts_text, crate::specs::Text::contradiction_text))]
+#![tactic(auto, unfolding(crate::specs::Text::turns_text, crate::specs::Text::then_text, crate::specs::Text::count_text, crate::specs::Text::stopped_text, crate::specs::Text::counts_text, crate::specs::Text::cause_line))]
 
 ghost use Rattle.std.specs.Prelude.{◌≡◌};
 ghost use Rattle.pt_session.specs.Text.{stop_word};
@@ -120,9 +120,9 @@ pub(crate) struct Contradiction {
 
 impl fmt::Display for Contradiction {
     ghost use Rattle.std.specs.Prelude.{Some};
-    ghost use Rattle.pt_session.specs.Text.{contradiction_text};
+    ghost use Rattle.pt_session.specs.Text.{cause_line};
 
-    ghost output = { λ c. Some (contradiction_text c.place c.cause) };
+    ghost output = { λ c. Some (cause_line c.place c.cause) };
 
     fn fmt<W: fmt::Write>(&self, f: &mut fmt::Formatter<W>) -> fmt::Result {
         let Contradiction { place, cause } = *self;

@@ -4,7 +4,7 @@ ghost use Rattle.std.specs.Prelude.{◌≡◌, ◌≢◌, OnOk, IfOk, Ok, true, 
 ghost use Rattle.std.specs.Io.KnownBytes.{Appends};
 ghost use Rattle.std.specs.Io.BufRead.{strip_last};
 ghost use Rattle.pt_session.specs.Running as spec;
-ghost use Rattle.pt_session.specs.Sessions.{is_comparing, seen};
+ghost use Rattle.pt_session.specs.Sessions.{is_comparing, seen_session};
 ghost use Rattle.pt_session.specs.declared.complaint.Complaint.{Complaint};
 
 use crate::complaint::Complaint;
@@ -47,7 +47,7 @@ pub fn run<R: BufRead, W: Write, E: Write>(
     out: &mut W,
     errors: &mut E,
 ) -> Result<(), Fault>
-    ensures { OnOk result (spec.HasRunAll is_person Config.DEFAULT (R.remaining from.old) spec.fresh
+    ensures { OnOk result (spec.HasRunAll is_person Config.DEFAULT (R.remaining from.old) spec.fresh_session
         (W.contents out.old) (W.contents out.new)) }
 {
     let mut session = begin(alloc);
@@ -80,8 +80,8 @@ fn step<R: BufRead, W: Write, E: Write>(
     out: &mut W,
     errors: &mut E,
 ) -> Result<bool, Fault>
-    ensures { IfOk result (λ more. spec.Steps is_person Config.DEFAULT more (R.remaining from.old)
-        (R.remaining from.new) (seen session.old) (W.contents out.old) (W.contents out.new) (seen session.new)) }
+    ensures { IfOk result (λ more. spec.SessionSteps is_person Config.DEFAULT more (R.remaining from.old)
+        (R.remaining from.new) (seen_session session.old) (W.contents out.old) (W.contents out.new) (seen_session session.new)) }
 {
     prompt(is_person, out)?;
     let more = read_line(from, line)?;
@@ -96,7 +96,7 @@ fn step<R: BufRead, W: Write, E: Write>(
 
 /// Reads the next line; whether there is one.
 fn read_line<R: BufRead>(from: &mut R, line: &mut Vec<u8>) -> Result<bool, Fault>
-    ensures { IfOk result (λ more. spec.Reads more (R.remaining from.old) (R.remaining from.new) line.new.items) }
+    ensures { IfOk result (λ more. spec.ReadsLine more (R.remaining from.old) (R.remaining from.new) line.new.items) }
 {
     line.clear();
     match from.read_until(b'\n', line) {
@@ -137,8 +137,8 @@ fn pass<W: Write, E: Write>(
     out: &mut W,
     errors: &mut E,
 ) -> Result<(), Fault>
-    ensures { OnOk result (spec.HearsLine is_person Config.DEFAULT line.now (seen session.old) (W.contents out.old)
-        (W.contents out.new) (seen session.new)) }
+    ensures { OnOk result (spec.HearsLine is_person Config.DEFAULT line.now (seen_session session.old) (W.contents out.old)
+        (W.contents out.new) (seen_session session.new)) }
 {
     match hear(session, line) {
         Ok(heard) => {
@@ -170,7 +170,7 @@ fn go_on(is_person: bool, complaint: Complaint) -> Result<(), Fault>
 #[tactic(auto, using(crate::proofs::LineByLine::appends_keeps, crate::proofs::LineByLine::appends_nothing))]
 fn write_answer<W: Write>(session: &Session, heard: Heard, out: &mut W) -> io::Result<()>
     ensures { OnOk result (Appends (W.contents out.old) (W.contents out.new)
-        (spec.written (Ok heard) (seen session.now))) }
+        (spec.written_answer (Ok heard) (seen_session session.now))) }
 {
     match heard {
         Heard::Silent => Ok(()),
@@ -183,7 +183,7 @@ fn write_answer<W: Write>(session: &Session, heard: Heard, out: &mut W) -> io::R
 
 /// The lines have ended.
 fn end<E: Write>(session: &Session, number: u64, errors: &mut E) -> Result<(), Fault>
-    ensures { OnOk result (is_comparing (seen session.now) ≡ false) }
+    ensures { OnOk result (is_comparing (seen_session session.now) ≡ false) }
 {
     if is_comparing(session) {
         tell_end(errors, session, number)?;

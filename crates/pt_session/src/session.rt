@@ -3,10 +3,10 @@
 ghost use Rattle.std.specs.Prelude.{◌≡◌, ◌≢◌, [], map, Err, OnOk};
 ghost use Rattle.std.specs.Option.{option_map};
 ghost use Rattle.pt_lines.specs.Commands.{asked_by};
-ghost use Rattle.pt_lines.specs.Words.{told};
+ghost use Rattle.pt_lines.specs.Words.{told_word};
 ghost use Rattle.pt_session.specs.Acting.{DoesAct};
 ghost use Rattle.pt_session.specs.Sessions as spec;
-ghost use Rattle.pt_session.specs.Sessions.{seen};
+ghost use Rattle.pt_session.specs.Sessions.{seen_session};
 ghost use Rattle.pt_session.specs.declared.complaint.Complaint.{Complaint};
 ghost use Rattle.pt_session.specs.declared.phase.Phase.{Phase};
 
@@ -48,7 +48,7 @@ pub struct Session {
 
 /// A session without a node.
 pub fn begin(alloc: Global) -> Session
-    ensures { seen result
+    ensures { seen_session result
         ≡ record { phase = Phase.Closed; earlier = []; names = []; answer = []; compared = 0 } }
 {
     Session {
@@ -63,21 +63,21 @@ pub fn begin(alloc: Global) -> Session
 
 /// The last answer: lines, each with a line feed at its end.
 pub fn answer_of(session: &Session) -> &str
-    ensures { result.now ≡ (seen session.now).answer }
+    ensures { result.now ≡ (seen_session session.now).answer }
 {
     session.answer.as_str()
 }
 
 /// The next line of the last answer that would be compared, without its line feed.
 pub fn next_line(session: &Session) -> &[u8]
-    ensures { result.now ≡ spec.next_line (seen session.now) }
+    ensures { result.now ≡ spec.next_line (seen_session session.now) }
 {
     line_at(session.answer.as_bytes(), session.compared)
 }
 
 /// Whether some lines of the last answer were compared, and some were not.
 pub fn is_comparing(session: &Session) -> bool
-    ensures { result ≡ spec.is_comparing (seen session.now) }
+    ensures { result ≡ spec.is_comparing (seen_session session.now) }
 {
     0 < session.compared && session.compared < session.answer.len()
 }
@@ -85,7 +85,7 @@ pub fn is_comparing(session: &Session) -> bool
 /// Hears a line, without its line feed, and does what it asks for.
 pub fn hear(session: &mut Session, line: &[u8]) -> Result<Heard, Complaint>
     ensures { result ≢ Err Complaint.Memory
-        → spec.Hears Config.DEFAULT line.now (seen session.old) result (seen session.new) }
+        → spec.SessionHears Config.DEFAULT line.now (seen_session session.old) result (seen_session session.new) }
 {
     let Ok(words) = words_of(session.alloc, line) else {
         return Err(Complaint::Memory);
@@ -99,7 +99,7 @@ pub fn hear(session: &mut Session, line: &[u8]) -> Result<Heard, Complaint>
 
 /// Does what was asked.
 fn follow(session: &mut Session, command: Command<'_>) -> Result<Heard, Complaint>
-    ensures { spec.Follows (asked_by command.entry) (seen session.old) result (seen session.new) }
+    ensures { spec.FollowsAsked (asked_by command.entry) (seen_session session.old) result (seen_session session.new) }
 {
     match command {
         Command::Nothing => Ok(Heard::Silent),
@@ -121,7 +121,7 @@ fn follow(session: &mut Session, command: Command<'_>) -> Result<Heard, Complain
 
 /// Compares the next line of the last answer.
 fn compare(session: &mut Session, wanted: &[Word<'_>]) -> Result<Heard, Complaint>
-    ensures { spec.Compares (map told wanted.now) (seen session.old) result (seen session.new) }
+    ensures { spec.Compares (map told_word wanted.now) (seen_session session.old) result (seen_session session.new) }
 {
     if session.compared >= session.answer.len() {
         return Err(Complaint::NothingLeft);
@@ -142,7 +142,7 @@ fn compare(session: &mut Session, wanted: &[Word<'_>]) -> Result<Heard, Complain
 }
 
 fn help(session: &mut Session) -> Result<Heard, Complaint>
-    ensures { spec.Helps (seen session.old) result (seen session.new) }
+    ensures { spec.Helps (seen_session session.old) result (seen_session session.new) }
 {
     match help_text(session.alloc) {
         Ok(text) => {
@@ -161,8 +161,8 @@ fn make_call(
     column: usize,
     call: Call,
 ) -> Result<Heard, Complaint>
-    ensures { spec.MakesCall (option_map (λ n. n.now) name.entry) column call (seen session.old) result
-        (seen session.new) }
+    ensures { spec.MakesCall (option_map (λ n. n.now) name.entry) column call (seen_session session.old) result
+        (seen_session session.new) }
 {
     match make(
         session.alloc,
@@ -199,7 +199,7 @@ fn act_on(phase: &mut Phase, call: Act) -> Option<Answer>
 }
 
 fn look_at(alloc: Global, phase: &Phase, earlier: &[Event], look: Look) -> Option<Answer>
-    ensures { spec.LooksAt look phase.now earlier.now result }
+    ensures { spec.LookGives look phase.now earlier.now result }
 {
     match phase {
         Phase::Closed => None,
@@ -211,8 +211,8 @@ fn look_at(alloc: Global, phase: &Phase, earlier: &[Event], look: Look) -> Optio
 
 /// Keeps the answer, and gives the name to what was answered.
 fn keep(session: &mut Session, name: Option<&[u8]>, answer: &Answer) -> Result<Heard, Complaint>
-    ensures { spec.Keeps (option_map (λ n. n.now) name.entry) answer.now (seen session.old) result
-        (seen session.new) }
+    ensures { spec.KeepsAnswer (option_map (λ n. n.now) name.entry) answer.now (seen_session session.old) result
+        (seen_session session.new) }
 {
     let Ok(text) = text_of(session.alloc, answer) else {
         return Err(Complaint::Memory);
@@ -227,7 +227,7 @@ fn keep(session: &mut Session, name: Option<&[u8]>, answer: &Answer) -> Result<H
 
 /// Gives the name to the value, if there are both.
 fn give(names: &mut Names, name: Option<&[u8]>, value: Option<Value>) -> Result<(), AllocError>
-    ensures { OnOk result (names.new ≡ spec.given (option_map (λ n. n.now) name.entry) value names.old) }
+    ensures { OnOk result (names.new ≡ spec.given_name (option_map (λ n. n.now) name.entry) value names.old) }
 {
     match (name, value) {
         (Some(name), Some(value)) => names.give(name, value),
@@ -236,7 +236,7 @@ fn give(names: &mut Names, name: Option<&[u8]>, value: Option<Value>) -> Result<
 }
 
 fn state_of(phase: &Phase) -> State
-    ensures { result ≡ spec.state_of phase.now }
+    ensures { result ≡ spec.phase_state phase.now }
 {
     match phase {
         Phase::Closed => State::Closed,

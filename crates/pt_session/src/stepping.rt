@@ -21,7 +21,7 @@ pub(crate) fn open(
     earlier: &mut Vec<Event>,
     config: Config,
 ) -> Answer
-    ensures { spec.OpensAs config phase.old earlier.old.items result phase.new earlier.new.items }
+    ensures { spec.OpensPhase config phase.old earlier.old.items result phase.new earlier.new.items }
 {
     match Node::open(alloc, config) {
         Ok(node) => {
@@ -35,7 +35,7 @@ pub(crate) fn open(
 
 /// Gathers the node, if it runs.
 pub(crate) fn gather(phase: &mut Phase) -> Option<Answer>
-    ensures { spec.GathersAs phase.old result phase.new }
+    ensures { spec.GathersPhase phase.old result phase.new }
 {
     match mem::replace(phase, Phase::Closed) {
         Phase::Running(node) => {
@@ -74,7 +74,7 @@ fn count_left(gathered: &Gathered) -> Option<u64>
 
 /// Settles the node, if it is gathered.
 pub(crate) fn settle(phase: &mut Phase) -> Option<Answer>
-    ensures { spec.SettlesAs phase.old result phase.new }
+    ensures { spec.SettlesPhase phase.old result phase.new }
 {
     match mem::replace(phase, Phase::Closed) {
         Phase::Gathered(gathered) => {
@@ -106,7 +106,7 @@ fn settled(gathered: Gathered) -> (Phase, Answer)
 
 /// Goes on from the node, if it is settled.
 pub(crate) fn resume(alloc: Global, phase: &mut Phase, earlier: &mut Vec<Event>) -> Option<Answer>
-    ensures { spec.ResumesAs phase.old earlier.old.items result phase.new earlier.new.items }
+    ensures { spec.ResumesPhase phase.old earlier.old.items result phase.new earlier.new.items }
 {
     match mem::replace(phase, Phase::Closed) {
         Phase::Settled(quiet) => {

@@ -115,7 +115,7 @@ fn word_of_truth(truth: bool) -> &'static str
 }
 
 fn refused_text(alloc: Global, fault: NodeFault) -> Result<String, AllocError>
-    ensures { IfOk result (λ s. string_bytes s ≡ spec.line (spec.refusal_word fault)) }
+    ensures { IfOk result (λ s. string_bytes s ≡ spec.text_line (spec.refusal_word fault)) }
 {
     word_text(alloc, word_of_refusal(fault))
 }
@@ -205,7 +205,7 @@ fn turn_text(
 
 fn stopped_text(alloc: Global, turns: Turns, stop: Then) -> Result<String, AllocError>
     ensures { IfOk result (λ s. string_bytes s
-        ≡ spec.line (spec.turns_text turns.posted turns.handled ++ spec.then_text stop.0)) }
+        ≡ spec.text_line (spec.turns_text turns.posted turns.handled ++ spec.then_text stop.0)) }
 {
     let mut text = format!(in alloc; "{turns}")?;
     write!(text, "{stop}\n")?;
@@ -223,7 +223,7 @@ fn rested_text(alloc: Global, handled: u64, stopped: Option<Stopped>) -> Result<
 }
 
 fn stopped_rest_text(alloc: Global, count: Count, stop: ThenAt) -> Result<String, AllocError>
-    ensures { IfOk result (λ s. string_bytes s ≡ spec.line (spec.count_text count.0 ++ spec.stopped_text stop.0)) }
+    ensures { IfOk result (λ s. string_bytes s ≡ spec.text_line (spec.count_text count.0 ++ spec.stopped_text stop.0)) }
 {
     let mut text = format!(in alloc; "{count}")?;
     write!(text, "{stop}\n")?;
@@ -231,7 +231,7 @@ fn stopped_rest_text(alloc: Global, count: Count, stop: ThenAt) -> Result<String
 }
 
 fn number_text(alloc: Global, number: Option<u64>) -> Result<String, AllocError>
-    ensures { IfOk result (λ s. string_bytes s ≡ spec.number_text number) }
+    ensures { IfOk result (λ s. string_bytes s ≡ spec.number_line number) }
 {
     match number {
         Some(number) => format!(in alloc; "{number}\n"),
@@ -285,7 +285,7 @@ fn event_text(alloc: Global, event: Option<Stamped>) -> Result<String, AllocErro
 }
 
 fn account_text(alloc: Global, account: Option<Account>) -> Result<String, AllocError>
-    ensures { IfOk result (λ s. string_bytes s ≡ spec.account_text account) }
+    ensures { IfOk result (λ s. string_bytes s ≡ spec.account_told account) }
 {
     match account {
         Some(account) => {
@@ -308,7 +308,7 @@ fn account_text(alloc: Global, account: Option<Account>) -> Result<String, Alloc
 
 fn fate_text(alloc: Global, ended: Option<Reason>, counts: Counts) -> Result<String, AllocError>
     ensures { IfOk result (λ s. string_bytes s
-        ≡ spec.fate_text ended (spec.counts_text counts.arrived counts.taken counts.waiting)) }
+        ≡ spec.fate_line ended (spec.counts_text counts.arrived counts.taken counts.waiting)) }
 {
     match ended {
         None => format!(in alloc; "alive{counts}\n"),
@@ -318,7 +318,7 @@ fn fate_text(alloc: Global, ended: Option<Reason>, counts: Counts) -> Result<Str
 
 fn ended_text(alloc: Global, reason: Reason, counts: Counts) -> Result<String, AllocError>
     ensures { IfOk result (λ s. string_bytes s
-        ≡ spec.line (codes "ended " ++ signal_text.reason_text reason
+        ≡ spec.text_line (codes "ended " ++ signal_text.reason_text reason
         ++ spec.counts_text counts.arrived counts.taken counts.waiting)) }
 {
     let mut text = format!(in alloc; "ended {reason}")?;
@@ -440,7 +440,7 @@ fn judged_text(alloc: Global, given: Result<(), (u64, Cause)>) -> Result<String,
 }
 
 fn contradiction_text(alloc: Global, place: u64, cause: Cause) -> Result<String, AllocError>
-    ensures { IfOk result (λ s. string_bytes s ≡ spec.line (spec.contradiction_text place cause)) }
+    ensures { IfOk result (λ s. string_bytes s ≡ spec.text_line (spec.cause_line place cause)) }
 {
     let found = Contradiction { place, cause };
     format!(in alloc; "{found}\n")

@@ -25,7 +25,7 @@ use Rattle.pt_slots.specs.declared.Key.{Key}
 use Rattle.pt_slots.specs.State.{next_key}
 use Rattle.pt_slots.specs.Calls.{Inserted}
 use Rattle.pt_process.specs.ProcessView.{ProcessView, Owing}
-use Rattle.pt_process.specs.Peers.{peers}
+use Rattle.pt_process.specs.Peers.{peers_held}
 use Rattle.pt_shard.specs.Sound.{Every}
 use Rattle.pt_shard.specs.Backs.{living_back}
 use Rattle.pt_shard.specs.declared.fault.Fault.{Fault}
@@ -33,16 +33,16 @@ use Rattle.pt_shard.specs.declared.fault.Fault.TheVariants as fault
 use Rattle.pt_shard.specs.declared.stop.Stop.{Stop}
 use Rattle.pt_shard.specs.declared.stop.Stop.TheVariants.{Memory, Worn}
 use Rattle.std.specs.Result.{IsErr, IsErrAnd}
-use Rattle.pt_shard.specs.ShardState.{ShardState, Handles, came, past, state_in}
+use Rattle.pt_shard.specs.ShardState.{ShardState, Handles, came_event, past, state_in}
 use Rattle.pt_shard.specs.Known.{knows}
 use Rattle.pt_shard.specs.Calls.{Calls, BearsChild, new_link, new_ref, link_event, unlink_event, take_event, first_match, demonitor_event, demonitor_at, if_asked}
 use Rattle.pt_shard.specs.Extends.{Extends}
 use Rattle.pt_shard.specs.Fit.{IsFit}
 use Rattle.pt_shard.specs.Faults.{fault_of}
 use Rattle.pt_shard.specs.LedgerState.{Book, LedgerState, HasRoomToAll, Prepares, wrote}
-use Rattle.pt_shard.specs.Processes.{ProcessesState, living_at, with_process, in_place, pid_at, vacant_at, Changes, Ends, IsSameTable, HasRoomFor}
+use Rattle.pt_shard.specs.Processes.{ProcessesState, living_at, with_process, in_place, pid_of_key, vacant_at, Changes, Ends, IsSameTable, HasRoomFor}
 use Rattle.pt_shard.specs.Whole.{Parts, parts_of, shard_of, IsWhole}
-use Rattle.pt_shard.specs.Plain.{IsPlain}
+use Rattle.pt_shard.specs.Plain.{IsPlainSignal}
 use Rattle.pt_shard.specs.Acts.{Acts, Tells, HasOnlyMoreRoom, PreparesBirth, IsStopped, TakesIn, done, posted, link_after, ref_after, taking, linking, unlinking, giving_up, giving_up_at}
 use Rattle.pt_shard.proofs.Acting.{Outcome, Found, own_book, alive, lives_here, is_there, said_to, said_known, plain_may, plain_new, plain_changes, left_alone, set_flag, took_item, link_now, link_new, ref_now, ref_new, not_open_yet, open_target, peers_near, left_by, left_from, left_near, left_peers}
 use Rattle.pt_shard.proofs.Outcomes.{not_prepared, same_book}
@@ -245,7 +245,7 @@ module _ (a : Parts) (whole : IsWhole a) (p : Pid) (found : Found a p) (ledger :
     told law (Err fault.Myself) h = absurd h
     told law (Err fault.NoProc) h = absurd h
 
-  pub said : (to : Pid) (x : Signal) → knows (shard_of a) to ≡ true → IsPlain x → (r : Result (Unit {0}) Fault) → Tells (Said p to x) (tt {0}) ledger r ledger'
+  pub said : (to : Pid) (x : Signal) → knows (shard_of a) to ≡ true → IsPlainSignal x → (r : Result (Unit {0}) Fault) → Tells (Said p to x) (tt {0}) ledger r ledger'
       → Acted (Unit {0}) a (told_with ledger'.book) p (Some (Said p to x)) (tt {0}) r
   said to x known plain r h =
       told (tt {0}) (Said p to x)
@@ -287,18 +287,18 @@ module _ (a : Parts) (whole : IsWhole a) (l : Letter) (was : ProcessView) (found
 
   -- the process lives on
   pub took_in : (handle was.me was.state l.from l.signal).ending ≡ None → TakesIn l was ledger (Ok (tt {0})) now ledger'
-      → Outcome a (parts_of a.config ledger'.book (with_process a.processes l.to now)) (receipt_stamp a l) (came l)
+      → Outcome a (parts_of a.config ledger'.book (with_process a.processes l.to now)) (receipt_stamp a l) (came_event l)
   took_in goes_on h =
       let can : max a.book.clock l.stamp < 2 ^ 62 = subst (λ (b : Book). max b.clock l.stamp < 2 ^ 62) is h.0 in
       taken_in a whole l here near can ledger'.book (with_process a.processes l.to now) refl (acting a whole l.to was found) goes_on
       (given_back a.processes.desk a.processes.table l.to was found (λ me s. (handle me s l.from l.signal).state) now h.1 h.2)
       (receipt_book a l ledger.book ledger'.book (living_back l.signal) is h.3
-      ∙ ap (λ o. wrote (receipt_stamp a l) (came l) (map (letter (receipt_stamp a l)) o) a.book) (living_back_is l.to l.from l.signal))
+      ∙ ap (λ o. wrote (receipt_stamp a l) (came_event l) (map (letter (receipt_stamp a l)) o) a.book) (living_back_is l.to l.from l.signal))
 
 -- an end
 module _ (a : Parts) (whole : IsWhole a) (p : Pid) (was : ProcessView) (found : Some was ≡ living_at a.processes.desk a.processes.table p) where
   -- what it owes goes to desks of the node
-  pub near_peers : Every (λ q. q.shard < length a.book.outbox) (peers was.state)
+  pub near_peers : Every (λ q. q.shard < length a.book.outbox) (peers_held was.state)
   near_peers = peers_near a whole p (acting a whole p was found)
 
   pub few_boxes : length a.book.outbox ≤ 64
@@ -317,7 +317,7 @@ module _ (a : Parts) (whole : IsWhole a) (p : Pid) (was : ProcessView) (found : 
     ends_too r owing last ends = ends_after p r owing a.processes.table (with_process a.processes p now).table last.table same_after ends
 
     -- what it owed then finds room
-    pub owing_fits : (r : Reason) (owing : Owing) (last : ProcessesState) → Ends p r owing (with_process a.processes p now).table last.table → (ledger : LedgerState) → ledger.book ≡ a.book → HasRoomToAll (peers was.state) ledger
+    pub owing_fits : (r : Reason) (owing : Owing) (last : ProcessesState) → Ends p r owing (with_process a.processes p now).table last.table → (ledger : LedgerState) → ledger.book ≡ a.book → HasRoomToAll (peers_held was.state) ledger
         → (owing.from ≡ p) × Every (λ l. l.to.shard < length ledger.book.outbox) owing.owed × HasRoomToAll (map (λ l. l.to) owing.owed) ledger
     owing_fits r owing last ends ledger is room =
         let f = acting a whole p was found in
@@ -349,7 +349,7 @@ module _ (a : Parts) (whole : IsWhole a) (p : Pid) (was : ProcessView) (found : 
         }
 
 -- the key of the pid that is vacant
-vacant_key : (desk : ℕ) (o : Option Key) → IsSome (option_map (pid_at desk) o) → IsSome o
+vacant_key : (desk : ℕ) (o : Option Key) → IsSome (option_map (pid_of_key desk) o) → IsSome o
 vacant_key desk None free = free
 vacant_key desk (Some key) free = refl
 

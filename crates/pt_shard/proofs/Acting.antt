@@ -24,16 +24,16 @@ use Rattle.pt_slots.specs.State.{at, next_key}
 use Rattle.pt_slots.specs.Offers.{OffersTheFree}
 use Rattle.pt_signal.specs.declared.reason.Reason.TheVariants.{Normal}
 use Rattle.pt_process.specs.ProcessView.{Owing}
-use Rattle.pt_process.specs.Peers.{peers}
+use Rattle.pt_process.specs.Peers.{peers_held}
 use Rattle.pt_shard.proofs.Endings.{estate_peers, every_to}
 use Rattle.pt_shard.specs.ShardState.{past, lives, written, vacated, ended_by, sends}
 use Rattle.pt_shard.specs.Extends.{Extends}
 use Rattle.pt_shard.specs.Fit.{IsFit}
-use Rattle.pt_shard.specs.Plain.{IsPlain}
+use Rattle.pt_shard.specs.Plain.{IsPlainSignal}
 use Rattle.pt_shard.specs.Known.{knows}
 use Rattle.pt_shard.specs.LedgerState.{Book, wrote}
 use Rattle.pt_shard.specs.Sound.{IsNear, of_phase, live_process}
-use Rattle.pt_shard.specs.Processes.{Table, ProcessesState, seen, process_at, in_place, changed, is_place_of, pid_at, vacant_at, Puts, Changes, Ends, SameSettings}
+use Rattle.pt_shard.specs.Processes.{Table, ProcessesState, seen_process, process_at, in_place, changed, is_place_of, pid_of_key, vacant_at, Puts, Changes, Ends, SameSettings}
 use Rattle.pt_shard.specs.Whole.{Parts, parts_of, shard_of, IsWhole}
 use Rattle.pt_signal.specs.declared.ids.Ref.{Ref}
 use Rattle.pt_signal.specs.declared.ids.LinkId.{LinkId}
@@ -83,11 +83,11 @@ changed_nothing (Some r) = refl
 pub left_alone : (p : Pid) (table : Table) → Changes p (λ me s. s) table table
 left_alone p table = record { puts = record { live = λ slot version. go slot version (is_place_of p slot version) refl; settings = same_settings table }; next = refl }
   where
-    go : (slot version : ℕ) (b : Bool) → is_place_of p slot version ≡ b → seen (at table slot version) ≡ cond (is_place_of p slot version) (changed (λ me s. s) (in_place table p)) (seen (at table slot version))
+    go : (slot version : ℕ) (b : Bool) → is_place_of p slot version ≡ b → seen_process (at table slot version) ≡ cond (is_place_of p slot version) (changed (λ me s. s) (in_place table p)) (seen_process (at table slot version))
     go slot version false h = rw h refl
     go slot version true h =
         let e = same_place p slot version h in
-        rw (h, changed_nothing (in_place table p)) (sym (ap (λ x. seen (at table x p.version)) e.0 ∙ ap (λ x. seen (at table slot x)) e.1))
+        rw (h, changed_nothing (in_place table p)) (sym (ap (λ x. seen_process (at table x p.version)) e.0 ∙ ap (λ x. seen_process (at table slot x)) e.1))
 
 -- the place of p itself
 pub own_place : (p : Pid) → is_place_of p p.slot p.version ≡ true
@@ -102,7 +102,7 @@ pub vacant_next : (desk top : ℕ) (p : Pid) (old new : Table) → p.shard ≡ d
     → vacant_at desk new ≡ vacated top (Some p) (vacant_at desk old)
 vacant_next desk top p old new here is next = go (p.version == top) refl
   where
-    same : Some (pid_at desk (record { slot = p.slot; version = p.version + 1 })) ≡ Some (record p { version = p.version + 1 })
+    same : Some (pid_of_key desk (record { slot = p.slot; version = p.version + 1 })) ≡ Some (record p { version = p.version + 1 })
     same = ap (λ d. Some (record { shard = d; slot = p.slot; version = p.version + 1 })) (sym here)
 
     go : (b : Bool) → (p.version == top) ≡ b → vacant_at desk new ≡ vacated top (Some p) (vacant_at desk old)
@@ -111,14 +111,14 @@ vacant_next desk top p old new here is next = go (p.version == top) refl
 
 -- the vacant pid of a desk by its key
 abbrev pub option_pid : ℕ → Option Key → Option Pid
-option_pid desk key = option_map (pid_at desk) key
+option_pid desk key = option_map (pid_of_key desk) key
 
 pub owes_is : (p : Pid) (r : Reason) (owing : Owing) (old new : Table) (s : ProcessState) → in_place old p ≡ Some (p, s) → Ends p r owing old new → owing ≡ record { from = p; owed = estate p s r }
 owes_is p r owing old new s stands ends = subst (λ o. IfSome o (λ x. owing ≡ record { from = x.0; owed = estate x.0 x.1 r })) stands ends.owes
 
 -- signals that may be said at any time -----------------------------------------------------
 
-pub plain_may : (start : Start) (past : List Event) (s : ProcessState) (a b : Pid) (x : Signal) → IsPlain x → MaySay start past s a b x
+pub plain_may : (start : Start) (past : List Event) (s : ProcessState) (a b : Pid) (x : Signal) → IsPlainSignal x → MaySay start past s a b x
 plain_may start past s a b (Message body) h = tt
 plain_may start past s a b (Signal.Exit reason) h = tt
 plain_may start past s a b (Link i) h = absurd h
@@ -130,7 +130,7 @@ plain_may start past s a b (Signal.Down m r) h = absurd h
 plain_may start past s a b (AliveAsk m) h = absurd h
 plain_may start past s a b (AliveSay m y) h = absurd h
 
-pub plain_new : (d n : ℕ) (a b : Pid) (x : Signal) → IsPlain x → IsNewAt d n (Said a b x)
+pub plain_new : (d n : ℕ) (a b : Pid) (x : Signal) → IsPlainSignal x → IsNewAt d n (Said a b x)
 plain_new d n a b (Message body) h = tt
 plain_new d n a b (Signal.Exit reason) h = tt
 plain_new d n a b (Link i) h = absurd h
@@ -142,7 +142,7 @@ plain_new d n a b (Signal.Down m r) h = absurd h
 plain_new d n a b (AliveAsk m) h = absurd h
 plain_new d n a b (AliveSay m y) h = absurd h
 
-pub plain_changes : (p to : Pid) (x : Signal) (table : Table) → IsPlain x → Changes p (λ me s. say s to x) table table
+pub plain_changes : (p to : Pid) (x : Signal) (table : Table) → IsPlainSignal x → Changes p (λ me s. say s to x) table table
 plain_changes p to (Message body) table h = left_alone p table
 plain_changes p to (Signal.Exit reason) table h = left_alone p table
 plain_changes p to (Link i) table h = absurd h
@@ -329,10 +329,10 @@ module _ (a : Parts) (whole : IsWhole a) (p : Pid) (f : Found a p) where
       subst (λ n. Every (λ l. l.to.shard < n) owing.owed) (sym whole.sound.fit.boxes)
       (subst (Every (λ l. l.to.shard < a.config.desks)) (sym owes) (sent_near a whole (Left p r) tt))
 
-  pub left_peers : (r : Reason) (owing : Owing) (table : Table) → Ends p r owing a.processes.table table → map (λ l. l.to) owing.owed ≡ peers f.s
+  pub left_peers : (r : Reason) (owing : Owing) (table : Table) → Ends p r owing a.processes.table table → map (λ l. l.to) owing.owed ≡ peers_held f.s
   left_peers r owing table ends = ap (λ o. map (λ l. l.to) o.owed) (owes_is p r owing a.processes.table table f.s (stands a whole p f).1 ends) ∙ estate_peers p f.s r
 
-  pub peers_near : Every (λ q. q.shard < length a.book.outbox) (peers f.s)
+  pub peers_near : Every (λ q. q.shard < length a.book.outbox) (peers_held f.s)
   peers_near =
       let owes : estate p f.s Normal ≡ sent_by a.book.start (past (shard_of a)) (Left p Normal) = sym (ap (λ x. left_sends x p Normal) (lives_here a whole p f)) in
       subst (Every (λ q. q.shard < length a.book.outbox)) (estate_peers p f.s Normal)

@@ -22,13 +22,13 @@ use Rattle.pt_process.specs.ProcessView.{ProcessView}
 use Rattle.pt_shard.specs.declared.fault.Fault.{Fault}
 use Rattle.pt_shard.specs.declared.fault.Fault.TheVariants.{Memory}
 use Rattle.pt_shard.specs.Calls.{BearsChild, CanWrite, birth_link, new_link}
-use Rattle.pt_shard.specs.ShardState.{ShardState, past, after, lives}
+use Rattle.pt_shard.specs.ShardState.{ShardState, past, shard_after, lives}
 use Rattle.pt_shard.specs.Known.{knows, issued_in}
 use Rattle.pt_shard.specs.Extends.{Extends}
 use Rattle.pt_shard.specs.Fit.{IsFit}
 use Rattle.pt_shard.specs.LedgerState.{Book, wrote}
 use Rattle.pt_shard.specs.Sound.{live_process, of_phase}
-use Rattle.pt_shard.specs.Processes.{Table, ProcessesState, seen, process_at, in_place, changed, vacant_at, pid_at, Changes, IsSameTable, HasRoomFor}
+use Rattle.pt_shard.specs.Processes.{Table, ProcessesState, seen_process, process_at, in_place, changed, vacant_at, pid_of_key, Changes, IsSameTable, HasRoomFor}
 use Rattle.pt_shard.specs.Whole.{Parts, parts_of, shard_of, IsWhole}
 use Rattle.pt_shard.proofs.Births.{issued_more, next_unborn, previous, previous_born, is_unborn_is, ended_is}
 use Rattle.pt_shard.proofs.Frames.{lives_not}
@@ -72,7 +72,7 @@ stale : (table : Table) (slot version : ℕ) → (issued table slot == version) 
 unfolding at issued
 stale table slot version h = rw h refl
 
-names_is : (key : Key) (p : Pid) (desk : ℕ) → p.shard ≡ desk → names key p.slot p.version ≡ same_pid p (pid_at desk key)
+names_is : (key : Key) (p : Pid) (desk : ℕ) → p.shard ≡ desk → names key p.slot p.version ≡ same_pid p (pid_of_key desk key)
 names_is key p desk here = grind (arith, nat_tests)
 
 names_slot : (key : Key) (version : ℕ) → (key.version == version) ≡ false → names key key.slot version ≡ false
@@ -83,18 +83,18 @@ other_version n some = grind (arith, nat_tests)
 
 -- what a pid reads in the slots after an insertion
 inserted_reading : (desk : ℕ) (key : Key) (r : ProcessView) (table mid : Table) → Inserted r key table mid
-    → (p : Pid) → process_at desk mid p ≡ cond (same_pid p (pid_at desk key)) (Some (r.me, r.state)) (process_at desk table p)
+    → (p : Pid) → process_at desk mid p ≡ cond (same_pid p (pid_of_key desk key)) (Some (r.me, r.state)) (process_at desk table p)
 inserted_reading desk key r table mid ins p = go (p.shard == desk) refl
   where
-    placed : (b : Bool) → names key p.slot p.version ≡ b → seen (at mid p.slot p.version) ≡ cond b (Some (r.me, r.state)) (seen (at table p.slot p.version))
+    placed : (b : Bool) → names key p.slot p.version ≡ b → seen_process (at mid p.slot p.version) ≡ cond b (Some (r.me, r.state)) (seen_process (at table p.slot p.version))
     placed true n = rw (ins.live p.slot p.version, n) refl
     placed false n = rw (ins.live p.slot p.version, n) refl
 
-    go : (a : Bool) → (p.shard == desk) ≡ a → process_at desk mid p ≡ cond (same_pid p (pid_at desk key)) (Some (r.me, r.state)) (process_at desk table p)
+    go : (a : Bool) → (p.shard == desk) ≡ a → process_at desk mid p ≡ cond (same_pid p (pid_of_key desk key)) (Some (r.me, r.state)) (process_at desk table p)
     go true h =
         let same = names_is key p desk (eqb-true p.shard desk h) in
-        subst (λ b. cond b (seen (at mid p.slot p.version)) None ≡ cond (same_pid p (pid_at desk key)) (Some (r.me, r.state)) (cond b (seen (at table p.slot p.version)) None)) (sym h)
-        (placed (same_pid p (pid_at desk key)) same)
+        subst (λ b. cond b (seen_process (at mid p.slot p.version)) None ≡ cond (same_pid p (pid_of_key desk key)) (Some (r.me, r.state)) (cond b (seen_process (at table p.slot p.version)) None)) (sym h)
+        (placed (same_pid p (pid_of_key desk key)) same)
     go false h = rw h refl
 
 -- the slot that is offered has nobody
@@ -110,12 +110,12 @@ pub record BirthOutcome (d : ShardState) (b : Parts) (p : Pid) (parent : Option 
   pub whole : IsWhole b
   pub fit : IsFit (shard_of b)
   pub extends : Extends d (shard_of b)
-  pub is : shard_of b ≡ record (after (Born p parent link) d) { vacant = (shard_of b).vacant }
+  pub is : shard_of b ≡ record (shard_after (Born p parent link) d) { vacant = (shard_of b).vacant }
   pub here : p.shard ≡ b.processes.desk
   pub known : knows (shard_of b) p ≡ true
 
 -- the key of the pid that was offered
-offered_key : (desk : ℕ) (o : Option Key) (key : Key) (q : Pid) → o ≡ Some key → Some q ≡ option_map (pid_at desk) o → q ≡ pid_at desk key
+offered_key : (desk : ℕ) (o : Option Key) (key : Key) (q : Pid) → o ≡ Some key → Some q ≡ option_map (pid_of_key desk) o → q ≡ pid_of_key desk key
 offered_key desk None key q h k = absurd (cc)
 offered_key desk (Some other) key q h k = cc
 
@@ -125,7 +125,7 @@ knows_new d p here inside slot some top issued = grind (arith, nat_tests)
 
 module _ (a : Parts) (whole : IsWhole a) (key : Key) (r : ProcessView) (mid : Table) (ins : Inserted r key a.processes.table mid) where
   abbrev child : Pid
-  child = pid_at a.processes.desk key
+  child = pid_of_key a.processes.desk key
 
   next_is : key.version ≡ issued_in a.book.start (past (shard_of a)) key.slot + 1
   next_is = ins.version_is_next ∙ ap (λ n. n + 1) (whole.sound.issues key.slot)
@@ -142,7 +142,7 @@ module _ (a : Parts) (whole : IsWhole a) (key : Key) (r : ProcessView) (mid : Ta
       (lives_not (life a.book.start (past (shard_of a)) (previous child)) (previous child) (sym (whole.sound.processes (previous child)) ∙ none))
 
   module _ (parent : Option Pid) (link : Option LinkId) (table' : Table) where
-    -- the slots after the birth
+    -- the slots shard_after the birth
     pub record IsBirth : Type 0 where
       pub can : a.book.clock < 2 ^ 62
       pub home : IsOf a.processes.desk parent
@@ -308,7 +308,7 @@ link_at : (desk n : ℕ) (asked : Bool) → IsLinkAt desk n (then_some asked (re
 link_at desk n true = (refl, refl)
 link_at desk n false = tt
 
-inserted_if : (o : Option Key) (r : ProcessView) (old new : Table) → IfSome o (λ key. Inserted r key old new) → (q : Pid) (desk : ℕ) → Some q ≡ option_map (pid_at desk) o → (key : Key) × ((o ≡ Some key) × Inserted r key old new)
+inserted_if : (o : Option Key) (r : ProcessView) (old new : Table) → IfSome o (λ key. Inserted r key old new) → (q : Pid) (desk : ℕ) → Some q ≡ option_map (pid_of_key desk) o → (key : Key) × ((o ≡ Some key) × Inserted r key old new)
 inserted_if None r old new h q desk free = absurd (cc)
 inserted_if (Some key) r old new h q desk free = (key, (refl, h))
 
@@ -317,7 +317,7 @@ pub spawned : (a : Parts) (whole : IsWhole a) (q : Pid) → Some q ≡ vacant_at
     → (book : Book) → book ≡ wrote (a.book.clock + 1) (Born q None None) [] a.book → BirthOutcome (shard_of a) (parts_of a.config book processes) q None None
 spawned a whole q free can r me state processes desk inserts book is =
     let found = inserted_if (next_key a.processes.table) r a.processes.table processes.table inserts q a.processes.desk free in
-    let at : q ≡ pid_at a.processes.desk found.0 = offered_key a.processes.desk (next_key a.processes.table) found.0 q found.1.0 free in
+    let at : q ≡ pid_of_key a.processes.desk found.0 = offered_key a.processes.desk (next_key a.processes.table) found.0 q found.1.0 free in
     born_outcome a whole found.0 r processes.table found.1.1 None None processes.table
     (alone_born a whole found.0 r processes.table found.1.1 can (me ∙ at) state) q at book is processes desk refl
 
@@ -343,12 +343,12 @@ module _ (a : Parts) (whole : IsWhole a) (par : Pid) (f : Found a par) (q : Pid)
   wide_found = record { me = f.me; s = f.s; there = f.there ∙ sym (same_reading a.processes.desk a.processes.table roomy.table same par) }
 
   wide_free : Some q ≡ vacant_at a.processes.desk roomy.table
-  wide_free = free ∙ ap (option_map (pid_at a.processes.desk)) (sym same.next)
+  wide_free = free ∙ ap (option_map (pid_of_key a.processes.desk)) (sym same.next)
 
   picked : (key : Key) × ((next_key roomy.table ≡ Some key) × Inserted r key roomy.table mid.table)
   picked = inserted_if (next_key roomy.table) r roomy.table mid.table inserts q a.processes.desk wide_free
 
-  q_is : q ≡ pid_at a.processes.desk picked.0
+  q_is : q ≡ pid_of_key a.processes.desk picked.0
   q_is = offered_key a.processes.desk (next_key roomy.table) picked.0 q picked.1.0 wide_free
 
   pub room_stays : (link : Option LinkId) → HasRoomFor link par roomy.table → HasRoomFor link par mid.table
@@ -369,7 +369,7 @@ module _ (a : Parts) (whole : IsWhole a) (par : Pid) (f : Found a par) (q : Pid)
       let birth = child_born wide wide_whole picked.0 r mid.table picked.1.1 par wide_found link (me ∙ q_is) state last.table
       (subst (λ x. Changes par (links_parent x link) mid.table last.table) q_is changes) can may new_at in
       let born = born_outcome wide wide_whole picked.0 r mid.table picked.1.1 (Some par) link last.table birth q q_is book book_is last (desk'' ∙ desk' ∙ desk) refl in
-      subst (λ v. BirthOutcome (record (shard_of a) { vacant = v }) (parts_of a.config book last) q (Some par) link) (ap (option_map (pid_at a.processes.desk)) same.next) born
+      subst (λ v. BirthOutcome (record (shard_of a) { vacant = v }) (parts_of a.config book last) q (Some par) link) (ap (option_map (pid_of_key a.processes.desk)) same.next) born
 
 -- a refusal ------------------------------------------------------------------------------------
 

@@ -4,7 +4,7 @@ use Rattle.std.specs.Map.{lookup, remove_entry}
 use Rattle.std.specs.Prelude.{count_by}
 use Rattle.std.proofs.lemmas.List.{map-append}
 use Rattle.std.proofs.lemmas.List.Sums.{sum_by-append}
-use Rattle.pt_process.specs.Peers.{peers}
+use Rattle.pt_process.specs.Peers.{peers_held}
 use Rattle.pt_shard.specs.Sound.{Every}
 use Rattle.pt_signal.specs.declared.pid.Pid.{Pid}
 use Rattle.pt_signal.specs.declared.ids.Ids.{Ids}
@@ -23,7 +23,7 @@ map-to : {X : Type 0} (g : X → Sent) (xs : List X) → map (λ l. l.to) (map g
 map-to g [] = refl
 map-to g (x ∷ xs) = ap (λ l. (g x).to ∷ l) (map-to g xs)
 
-pub estate_peers : (me : Pid) (s : ProcessState) (r : Reason) → map (λ l. l.to) (estate me s r) ≡ peers s
+pub estate_peers : (me : Pid) (s : ProcessState) (r : Reason) → map (λ l. l.to) (estate me s r) ≡ peers_held s
 estate_peers me s r =
     let a = map-to (λ (e : Pid × Ids). sent me e.0 (LinkExit e.1 r)) s.links in
     let b = map-to (λ (k : Ref × Pid). sent me k.1 (Signal.Down k.0 r)) s.kept in
@@ -42,7 +42,7 @@ count-remove_entry P test (e ∷ es) =
     each_branch (λ xs. count_by P (map (λ x. x.0) xs) ≤ count_by P (map (λ x. x.0) (e ∷ es))) (test e.0) es (e ∷ remove_entry test es)
     (omega (arith, all)) (let h = count-remove_entry P test es in omega (arith, h, all, left))
 
-count-peers : (P : Pid → Bool) (s : ProcessState) → count_by P (peers s) ≡ count_by P (map (λ e. e.0) s.links) + count_by P (map (λ k. k.1) s.kept) + count_by P (map (λ m. m.1) s.watching)
+count-peers : (P : Pid → Bool) (s : ProcessState) → count_by P (peers_held s) ≡ count_by P (map (λ e. e.0) s.links) + count_by P (map (λ k. k.1) s.kept) + count_by P (map (λ m. m.1) s.watching)
 count-peers P s = rw (sum_by-append, sum_by-append) refl
 
 obeyed : (v : Verdict) (s : ProcessState) (r : Reason) → (obey v s).ending ≡ Some r → (obey v s).state ≡ s
@@ -52,7 +52,7 @@ obeyed (ends w) s r h = refl
 
 module _ (P : Pid → Bool) (me : Pid) (s : ProcessState) (from : Pid) (r : Reason) where
   abbrev IsFewer : Handled → Type 0
-  IsFewer h = h.ending ≡ Some r → count_by P (peers h.state) ≤ count_by P (peers s)
+  IsFewer h = h.ending ≡ Some r → count_by P (peers_held h.state) ≤ count_by P (peers_held s)
 
   fewer_link_exit : (held : Bool) (why : Reason) → IsFewer (link_exit held me s from why)
   fewer_link_exit false why h = absurd (cc)

@@ -23,7 +23,7 @@ use Rattle.pt_carrier.proofs.Lists.{map-set_more, map-set_same, get_or-map_read,
 use Rattle.pt_shard.specs.declared.stop.Stop.{Stop}
 use Rattle.pt_shard.specs.declared.stop.Stop.TheVariants.{Memory}
 use Rattle.pt_shard.specs.LettersState.{LettersState}
-use Rattle.pt_shard.specs.LedgerState.{Book, LedgerState, wrote, IsUpTo, Prepares, is_of}
+use Rattle.pt_shard.specs.LedgerState.{Book, LedgerState, wrote, IsUpTo, Prepares, is_of_desk}
 use Rattle.pt_shard.specs.Sound.{Every}
 
 -- an event stamped above the clock is newer than the journal
@@ -79,31 +79,31 @@ every_at P (y ∷ xs) zero x h got = let e : y ≡ x = cc in subst P e h.0
 every_at P (y ∷ xs) (suc i) x h got = every_at P xs i x h.1 got
 
 -- how many of the first i+1, and of the last, are of desk e
-count_first : (e i : ℕ) (qs : List Pid) (q : Pid) → i < length qs → slice_get qs i ≡ Some q → count_by (is_of e) (take (i + 1) qs) ≡ count_by (is_of e) (take i qs) + cond (q.shard == e) 1 0
+count_first : (e i : ℕ) (qs : List Pid) (q : Pid) → i < length qs → slice_get qs i ≡ Some q → count_by (is_of_desk e) (take (i + 1) qs) ≡ count_by (is_of_desk e) (take i qs) + cond (q.shard == e) 1 0
 count_first e i qs q within got =
-    sum_by_more (λ x. cond (is_of e x) 1 0) qs i q within ∙ ap (λ x. count_by (is_of e) (take i qs) + cond (is_of e x) 1 0) (get_or_from_slice_get qs i q q got)
+    sum_by_more (λ x. cond (is_of_desk e x) 1 0) qs i q within ∙ ap (λ x. count_by (is_of_desk e) (take i qs) + cond (is_of_desk e x) 1 0) (get_or_from_slice_get qs i q q got)
 
-count_last : (e i : ℕ) (qs : List Pid) (q : Pid) → i < length qs → slice_get qs i ≡ Some q → count_by (is_of e) (drop i qs) ≡ cond (q.shard == e) 1 0 + count_by (is_of e) (drop (i + 1) qs)
+count_last : (e i : ℕ) (qs : List Pid) (q : Pid) → i < length qs → slice_get qs i ≡ Some q → count_by (is_of_desk e) (drop i qs) ≡ cond (q.shard == e) 1 0 + count_by (is_of_desk e) (drop (i + 1) qs)
 count_last e i qs q within got =
-    sum_by-drop_more (λ x. cond (is_of e x) 1 0) qs i q within ∙ ap (λ x. cond (is_of e x) 1 0 + count_by (is_of e) (drop (i + 1) qs)) (get_or_from_slice_get qs i q q got)
+    sum_by-drop_more (λ x. cond (is_of_desk e x) 1 0) qs i q within ∙ ap (λ x. cond (is_of_desk e x) 1 0 + count_by (is_of_desk e) (drop (i + 1) qs)) (get_or_from_slice_get qs i q q got)
 
 module _ (qs : List Pid) (i : ℕ) (q : Pid) (within : i < length qs) (got : slice_get qs i ≡ Some q) where
   -- there is room for the next letter
-  pub room_next : (rooms : List ℕ) → count_by (is_of q.shard) (drop i qs) ≤ get_or rooms q.shard 0 → 0 < get_or rooms q.shard 0
+  pub room_next : (rooms : List ℕ) → count_by (is_of_desk q.shard) (drop i qs) ≤ get_or rooms q.shard 0 → 0 < get_or rooms q.shard 0
   room_next rooms enough =
       let n = count_last q.shard i qs q within got in
       let one : ◌≡◌ {A = ℕ} (cond (q.shard == q.shard) 1 0) 1 = rw (eq-eqb q.shard q.shard refl) refl in
       omega (arith, enough, n, one)
 
   -- and then for the others
-  pub room_less : (rooms : List ℕ) (e : ℕ) → count_by (is_of e) (drop i qs) ≤ get_or rooms e 0
-      → count_by (is_of e) (drop (i + 1) qs) ≤ get_or (set rooms q.shard (get_or rooms q.shard 0 - 1)) e 0
+  pub room_less : (rooms : List ℕ) (e : ℕ) → count_by (is_of_desk e) (drop i qs) ≤ get_or rooms e 0
+      → count_by (is_of_desk e) (drop (i + 1) qs) ≤ get_or (set rooms q.shard (get_or rooms q.shard 0 - 1)) e 0
   room_less rooms e enough = go (q.shard == e) refl (cases_lt e (length rooms))
     where
-      n : count_by (is_of e) (drop i qs) ≡ cond (q.shard == e) 1 0 + count_by (is_of e) (drop (i + 1) qs)
+      n : count_by (is_of_desk e) (drop i qs) ≡ cond (q.shard == e) 1 0 + count_by (is_of_desk e) (drop (i + 1) qs)
       n = count_last e i qs q within got
 
-      go : (b : Bool) → (q.shard == e) ≡ b → (e < length rooms) ⊎ (length rooms ≤ e) → count_by (is_of e) (drop (i + 1) qs) ≤ get_or (set rooms q.shard (get_or rooms q.shard 0 - 1)) e 0
+      go : (b : Bool) → (q.shard == e) ≡ b → (e < length rooms) ⊎ (length rooms ≤ e) → count_by (is_of_desk e) (drop (i + 1) qs) ≤ get_or (set rooms q.shard (get_or rooms q.shard 0 - 1)) e 0
       go b k (inr beyond) =
           let none = get_or_past rooms e 0 beyond in
           let at = get_or_past (set rooms q.shard (get_or rooms q.shard 0 - 1)) e 0 (let m = length-set rooms q.shard (get_or rooms q.shard 0 - 1) in omega (arith, beyond, m)) in
@@ -112,28 +112,28 @@ module _ (qs : List Pid) (i : ℕ) (q : Pid) (within : i < length qs) (got : sli
           let at : q.shard ≡ e = eqb-true q.shard e k in
           let here : get_or (set rooms e (get_or rooms e 0 - 1)) e 0 ≡ get_or rooms e 0 - 1 = get_or-set_same rooms e (get_or rooms e 0 - 1) 0 inside in
           let one : ◌≡◌ {A = ℕ} (cond (q.shard == e) 1 0) 1 = rw k refl in
-          subst (λ x. count_by (is_of e) (drop (i + 1) qs) ≤ get_or (set rooms x (get_or rooms x 0 - 1)) e 0) (sym at) (omega (arith, enough, here, n, one))
+          subst (λ x. count_by (is_of_desk e) (drop (i + 1) qs) ≤ get_or (set rooms x (get_or rooms x 0 - 1)) e 0) (sym at) (omega (arith, enough, here, n, one))
       go false k (inl inside) =
           let other : get_or (set rooms q.shard (get_or rooms q.shard 0 - 1)) e 0 ≡ get_or rooms e 0 = get_or-set_other rooms q.shard e (get_or rooms q.shard 0 - 1) 0 (λ h. both_ways (q.shard == e) k (eq-eqb q.shard e (sym h))) in
           let zero_ : ◌≡◌ {A = ℕ} (cond (q.shard == e) 1 0) 0 = rw k refl in
           omega (arith, enough, other, n, zero_)
 
   module _ (t : ℕ) (is : t ≡ q.shard) (counts : List ℕ) (few : length counts ≡ 64) (t_in : t < 64)
-      (so_far : (e : ℕ) → e < 64 → get_or counts e 0 ≡ count_by (is_of e) (take i qs)) where
+      (so_far : (e : ℕ) → e < 64 → get_or counts e 0 ≡ count_by (is_of_desk e) (take i qs)) where
     -- the counts of one letter more
-    pub counts_more : (e : ℕ) → e < 64 → get_or (set counts t (get_or counts t 0 + 1)) e 0 ≡ count_by (is_of e) (take (i + 1) qs)
+    pub counts_more : (e : ℕ) → e < 64 → get_or (set counts t (get_or counts t 0 + 1)) e 0 ≡ count_by (is_of_desk e) (take (i + 1) qs)
     counts_more e e_in = go (t == e) refl
       where
-        n : count_by (is_of e) (take (i + 1) qs) ≡ count_by (is_of e) (take i qs) + cond (t == e) 1 0
-        n = count_first e i qs q within got ∙ ap (λ x. count_by (is_of e) (take i qs) + cond (x == e) 1 0) (sym is)
+        n : count_by (is_of_desk e) (take (i + 1) qs) ≡ count_by (is_of_desk e) (take i qs) + cond (t == e) 1 0
+        n = count_first e i qs q within got ∙ ap (λ x. count_by (is_of_desk e) (take i qs) + cond (x == e) 1 0) (sym is)
 
-        go : (b : Bool) → (t == e) ≡ b → get_or (set counts t (get_or counts t 0 + 1)) e 0 ≡ count_by (is_of e) (take (i + 1) qs)
+        go : (b : Bool) → (t == e) ≡ b → get_or (set counts t (get_or counts t 0 + 1)) e 0 ≡ count_by (is_of_desk e) (take (i + 1) qs)
         go true k =
             let at : t ≡ e = eqb-true t e k in
             let one : ◌≡◌ {A = ℕ} (cond (t == e) 1 0) 1 = rw k refl in
             let here : get_or (set counts e (get_or counts e 0 + 1)) e 0 ≡ get_or counts e 0 + 1 = get_or-set_same counts e (get_or counts e 0 + 1) 0 (omega (arith, few, e_in)) in
             let was = so_far e e_in in
-            subst (λ x. get_or (set counts x (get_or counts x 0 + 1)) e 0 ≡ count_by (is_of e) (take (i + 1) qs)) (sym at) (omega (arith, here, was, n, one))
+            subst (λ x. get_or (set counts x (get_or counts x 0 + 1)) e 0 ≡ count_by (is_of_desk e) (take (i + 1) qs)) (sym at) (omega (arith, here, was, n, one))
         go false k =
             let none : ◌≡◌ {A = ℕ} (cond (t == e) 1 0) 0 = rw k refl in
             let other : get_or (set counts t (get_or counts t 0 + 1)) e 0 ≡ get_or counts e 0 = get_or-set_other counts t e (get_or counts t 0 + 1) 0 (λ h. both_ways (t == e) k (eq-eqb t e (sym h))) in
@@ -142,21 +142,21 @@ module _ (qs : List Pid) (i : ℕ) (q : Pid) (within : i < length qs) (got : sli
 
     -- the boxes have room for one letter more
     pub reserved_more : (items : List LettersState) (new : LettersState) → t < length items → get_or counts t 0 + 1 ≤ new.room
-        → ((e : ℕ) → e < length items → count_by (is_of e) (take i qs) ≤ get_or (rooms_in items) e 0)
-        → (e : ℕ) → e < length items → count_by (is_of e) (take (i + 1) qs) ≤ get_or (rooms_in (set items t new)) e 0
+        → ((e : ℕ) → e < length items → count_by (is_of_desk e) (take i qs) ≤ get_or (rooms_in items) e 0)
+        → (e : ℕ) → e < length items → count_by (is_of_desk e) (take (i + 1) qs) ≤ get_or (rooms_in (set items t new)) e 0
     reserved_more items new inside roomy before e e_in = go (t == e) refl
       where
-        n : count_by (is_of e) (take (i + 1) qs) ≡ count_by (is_of e) (take i qs) + cond (t == e) 1 0
-        n = count_first e i qs q within got ∙ ap (λ x. count_by (is_of e) (take i qs) + cond (x == e) 1 0) (sym is)
+        n : count_by (is_of_desk e) (take (i + 1) qs) ≡ count_by (is_of_desk e) (take i qs) + cond (t == e) 1 0
+        n = count_first e i qs q within got ∙ ap (λ x. count_by (is_of_desk e) (take i qs) + cond (x == e) 1 0) (sym is)
 
-        go : (b : Bool) → (t == e) ≡ b → count_by (is_of e) (take (i + 1) qs) ≤ get_or (rooms_in (set items t new)) e 0
+        go : (b : Bool) → (t == e) ≡ b → count_by (is_of_desk e) (take (i + 1) qs) ≤ get_or (rooms_in (set items t new)) e 0
         go true k =
             let at : t ≡ e = eqb-true t e k in
             let one : ◌≡◌ {A = ℕ} (cond (t == e) 1 0) 1 = rw k refl in
             let here : get_or (rooms_in (set items t new)) t 0 ≡ new.room = get_or-map_set_same (λ (b : LettersState). b.room) items t new 0 inside in
             let was = so_far t t_in in
             let there : get_or (rooms_in (set items t new)) e 0 ≡ new.room = ap (λ x. get_or (rooms_in (set items t new)) x 0) (sym at) ∙ here in
-            let same : count_by (is_of e) (take i qs) ≡ count_by (is_of t) (take i qs) = ap (λ x. count_by (is_of x) (take i qs)) (sym at) in
+            let same : count_by (is_of_desk e) (take i qs) ≡ count_by (is_of_desk t) (take i qs) = ap (λ x. count_by (is_of_desk x) (take i qs)) (sym at) in
             omega (arith, roomy, there, was, n, one, same)
         go false k =
             let none : ◌≡◌ {A = ℕ} (cond (t == e) 1 0) 0 = rw k refl in

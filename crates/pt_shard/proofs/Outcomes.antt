@@ -12,7 +12,7 @@ use Rattle.pt_shard.specs.declared.fault.Fault.TheVariants as fault
 use Rattle.pt_shard.specs.declared.stop.Stop.{Stop}
 use Rattle.pt_shard.specs.declared.stop.Stop.TheVariants as stop
 use Rattle.pt_shard.specs.Faults.{fault_of}
-use Rattle.pt_shard.specs.ShardState.{ShardState, lives, after}
+use Rattle.pt_shard.specs.ShardState.{ShardState, lives, shard_after}
 use Rattle.pt_shard.specs.declared.fault.Fault.{Fault}
 use Rattle.pt_shard.specs.LedgerState.{Book, LedgerState, Prepares}
 use Rattle.pt_shard.specs.Processes.{ProcessesState, IsSameTable}
@@ -20,7 +20,7 @@ use Rattle.pt_shard.specs.Whole.{Parts, parts_of, shard_of}
 use Rattle.pt_shard.specs.Calls.{Calls, Monitors, CanWrite, CanWriteIf, after_if, new_ref}
 
 module _ {A : Type 0} (p : Pid) (event : Option Event) (answer : A) (old new : ShardState) where
-  pub did : (e : Event) (a : A) → lives old p ≡ true → event ≡ Some e → answer ≡ a → CanWrite old → new ≡ after e old → Calls p event answer old (Ok a) new
+  pub did : (e : Event) (a : A) → lives old p ≡ true → event ≡ Some e → answer ≡ a → CanWrite old → new ≡ shard_after e old → Calls p event answer old (Ok a) new
   did e a alive is same can left = (alive, subst (λ x. CanWriteIf x old) (sym is) can, sym same, left ∙ ap (λ x. after_if x old) (sym is))
 
   -- the ledger could not be prepared

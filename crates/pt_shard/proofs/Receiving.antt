@@ -14,11 +14,11 @@ use Rattle.pt_events.specs.History.{Phase, unborn, living, ended, life, gets, li
 use Rattle.pt_events.specs.Journal.{letter}
 use Rattle.pt_process.specs.ProcessView.{Owing}
 use Rattle.pt_shard.specs.ShardState as shards
-use Rattle.pt_shard.specs.ShardState.{ShardState, past, came, handled, vacated, ended_by, sends}
+use Rattle.pt_shard.specs.ShardState.{ShardState, past, came_event, handled, vacated, ended_by, sends}
 use Rattle.pt_shard.specs.LedgerState.{Book, wrote}
 use Rattle.pt_shard.specs.Sound.{of_phase, live_process}
 use Rattle.pt_shard.specs.Processes.{Table, ProcessesState, process_at, in_place, changed, vacant_at, Changes, Ends, SameSettings}
-use Rattle.pt_shard.specs.Deliveries.{Standing, unless_ended, remains, is_ended_by, replies}
+use Rattle.pt_shard.specs.Deliveries.{Receiver, unless_ended, remains, is_ended_by, letter_replies}
 use Rattle.pt_shard.specs.Whole.{Parts, parts_of, shard_of, IsWhole}
 use Rattle.pt_shard.specs.Backs.{living_back}
 use Rattle.pt_shard.proofs.Births.{issued_kept, issued_same}
@@ -26,7 +26,7 @@ use Rattle.pt_shard.proofs.Frames.{IsPut, put_one}
 use Rattle.pt_signal.specs.declared.signal.Signal.TheVariants.{Message, Link, Unlink, LinkExit, Monitor, Demonitor, AliveAsk, AliveSay}
 use Rattle.pt_shard.specs.Sound.{Every}
 use Rattle.pt_shard.proofs.Endings.{fewer_owed, estate_peers}
-use Rattle.pt_process.specs.Peers.{peers}
+use Rattle.pt_process.specs.Peers.{peers_held}
 use Rattle.pt_shard.proofs.Keeps.{IsLawful, sent_near}
 use Rattle.pt_slots.specs.Offers.{OffersTheFree}
 use Rattle.pt_shard.proofs.Vacancy.{offers_changed}
@@ -43,7 +43,7 @@ gets_is l unborn = refl
 gets_is l (living s) = ended_or_not l.to (handle l.to s l.from l.signal).ending (handle l.to s l.from l.signal).state
 gets_is l (ended r s) = refl
 
-got_is : (l : Letter) (f : Phase) → got_sends f l.to l.from l.signal ≡ replies l (of_phase l.to f)
+got_is : (l : Letter) (f : Phase) → got_sends f l.to l.from l.signal ≡ letter_replies l (of_phase l.to f)
 got_is l unborn = refl
 got_is l (living s) = refl
 got_is l (ended r s) = refl
@@ -58,7 +58,7 @@ ends_is l (ended r s) = refl
 abbrev pub receipt_stamp : Parts → Letter → ℕ
 receipt_stamp a l = max a.book.clock l.stamp + 1
 
-abbrev pub standing : Parts → Letter → Standing
+abbrev pub standing : Parts → Letter → Receiver
 standing a l = process_at a.processes.desk a.processes.table l.to
 
 -- what the receipt does to the slots
@@ -73,7 +73,7 @@ module _ (a : Parts) (whole : IsWhole a) (l : Letter) (here : l.to.shard ≡ a.p
   there = whole.sound.processes l.to
 
   module _ (book : Book) (processes : ProcessesState) (desk : processes.desk ≡ a.processes.desk) where
-    lawful : Delivers a l processes.table → IsLawful a whole (receipt_stamp a l) (came l) processes.table
+    lawful : Delivers a l processes.table → IsLawful a whole (receipt_stamp a l) (came_event l) processes.table
     lawful delivers = record {
       later = omega arith;
       fits = omega (arith, can);
@@ -83,30 +83,30 @@ module _ (a : Parts) (whole : IsWhole a) (l : Letter) (here : l.to.shard ≡ a.p
       known = tt;
       near = near;
       processes =
-          let comes : live_process a.book.start (came l ∷ past (shard_of a)) l.to ≡ remains l (standing a l) = rw (same_pid_refl l.to, there) (gets_is l (life a.book.start (past (shard_of a)) l.to)) in
-          put_one a.book.start (past (shard_of a)) (came l) l.to (λ q. refl) (process_at a.processes.desk a.processes.table) (process_at a.processes.desk processes.table) whole.sound.processes
+          let comes : live_process a.book.start (came_event l ∷ past (shard_of a)) l.to ≡ remains l (standing a l) = rw (same_pid_refl l.to, there) (gets_is l (life a.book.start (past (shard_of a)) l.to)) in
+          put_one a.book.start (past (shard_of a)) (came_event l) l.to (λ q. refl) (process_at a.processes.desk a.processes.table) (process_at a.processes.desk processes.table) whole.sound.processes
           (subst (λ v. IsPut l.to v (process_at a.processes.desk a.processes.table) (process_at a.processes.desk processes.table)) (sym comes) delivers.live);
-      issues = λ slot. delivers.settings.issues slot ∙ whole.sound.issues slot ∙ sym (issued_same a.book.start (past (shard_of a)) (came l) slot refl);
-      born = issued_kept a.book.start a.processes.desk (past (shard_of a)) (came l) refl whole.sound.born;
+      issues = λ slot. delivers.settings.issues slot ∙ whole.sound.issues slot ∙ sym (issued_same a.book.start (past (shard_of a)) (came_event l) slot refl);
+      born = issued_kept a.book.start a.processes.desk (past (shard_of a)) (came_event l) refl whole.sound.born;
       offers = delivers.offers;
       capacity = delivers.settings.capacity;
       top_version = delivers.settings.top_version;
     }
 
-    ended_here : ended_by (shard_of a) (came l) ≡ cond (is_ended_by l (standing a l)) (Some l.to) None
+    ended_here : ended_by (shard_of a) (came_event l) ≡ cond (is_ended_by l (standing a l)) (Some l.to) None
     ended_here = ap (λ b. cond b (Some l.to) None) (ends_is l (life a.book.start (past (shard_of a)) l.to) ∙ sym (ap (is_ended_by l) there))
 
-    delivered : Delivers a l processes.table → book ≡ wrote (receipt_stamp a l) (came l) (map (letter (receipt_stamp a l)) (replies l (standing a l))) a.book
-        → Outcome a (parts_of a.config book processes) (receipt_stamp a l) (came l)
+    delivered : Delivers a l processes.table → book ≡ wrote (receipt_stamp a l) (came_event l) (map (letter (receipt_stamp a l)) (letter_replies l (standing a l))) a.book
+        → Outcome a (parts_of a.config book processes) (receipt_stamp a l) (came_event l)
     delivered delivers is =
-        let replied : replies l (standing a l) ≡ sent_by a.book.start (past (shard_of a)) (came l) = ap (replies l) there ∙ sym (got_is l (life a.book.start (past (shard_of a)) l.to)) in
-        outcome a whole (receipt_stamp a l) (came l) book processes desk (lawful delivers)
-        (is ∙ ap (λ o. wrote (receipt_stamp a l) (came l) (map (letter (receipt_stamp a l)) o) a.book) replied)
+        let replied : letter_replies l (standing a l) ≡ sent_by a.book.start (past (shard_of a)) (came_event l) = ap (letter_replies l) there ∙ sym (got_is l (life a.book.start (past (shard_of a)) l.to)) in
+        outcome a whole (receipt_stamp a l) (came_event l) book processes desk (lawful delivers)
+        (is ∙ ap (λ o. wrote (receipt_stamp a l) (came_event l) (map (letter (receipt_stamp a l)) o) a.book) replied)
         (delivers.vacant ∙ ap (λ o. vacated a.config.top_version o (vacant_at a.processes.desk a.processes.table)) (sym ended_here))
 
     -- a receiver that is not alive
-    pub bounced : processes.table ≡ a.processes.table → standing a l ≡ None → book ≡ wrote (receipt_stamp a l) (came l) (map (letter (receipt_stamp a l)) (bounce l.to l.from l.signal)) a.book
-        → Outcome a (parts_of a.config book processes) (receipt_stamp a l) (came l)
+    pub bounced : processes.table ≡ a.processes.table → standing a l ≡ None → book ≡ wrote (receipt_stamp a l) (came_event l) (map (letter (receipt_stamp a l)) (bounce l.to l.from l.signal)) a.book
+        → Outcome a (parts_of a.config book processes) (receipt_stamp a l) (came_event l)
     bounced same none is =
         delivered
         (subst (Delivers a l) (sym same) (record {
@@ -115,7 +115,7 @@ module _ (a : Parts) (whole : IsWhole a) (l : Letter) (here : l.to.shard ≡ a.p
           offers = whole.offers;
           vacant = rw none refl;
         }))
-        (is ∙ ap (λ o. wrote (receipt_stamp a l) (came l) (map (letter (receipt_stamp a l)) (replies l o)) a.book) (sym none))
+        (is ∙ ap (λ o. wrote (receipt_stamp a l) (came_event l) (map (letter (receipt_stamp a l)) (letter_replies l o)) a.book) (sym none))
       where
         still : (q : Pid) (b : Bool) → same_pid q l.to ≡ b → process_at a.processes.desk a.processes.table q ≡ cond (same_pid q l.to) (remains l (standing a l)) (process_at a.processes.desk a.processes.table q)
         still q true h = rw (h, none) (ap (process_at a.processes.desk a.processes.table) (same_pid_is q l.to h) ∙ none)
@@ -130,12 +130,12 @@ module _ (a : Parts) (whole : IsWhole a) (l : Letter) (here : l.to.shard ≡ a.p
 
       -- a live receiver that goes on
       pub taken_in : (handle f.me f.s l.from l.signal).ending ≡ None → Changes l.to (λ me s. (handle me s l.from l.signal).state) a.processes.table processes.table
-          → book ≡ wrote (receipt_stamp a l) (came l) (map (letter (receipt_stamp a l)) (living_answer l.to l.from l.signal)) a.book
-          → Outcome a (parts_of a.config book processes) (receipt_stamp a l) (came l)
+          → book ≡ wrote (receipt_stamp a l) (came_event l) (map (letter (receipt_stamp a l)) (living_answer l.to l.from l.signal)) a.book
+          → Outcome a (parts_of a.config book processes) (receipt_stamp a l) (came_event l)
       taken_in goes_on changes is =
           let none : (handle l.to f.s l.from l.signal).ending ≡ None = ap (λ m. (handle m f.s l.from l.signal).ending) (sym (both a whole l.to f).1) ∙ goes_on in
           let stays : remains l (standing a l) ≡ changed (λ me s. (handle me s l.from l.signal).state) (in_place a.processes.table l.to) = rw (stands_there, place, none) refl in
-          let back : replies l (standing a l) ≡ living_answer l.to l.from l.signal = rw (stands_there, none, handle_answer l.to f.s l.from l.signal) (append-nil (living_answer l.to l.from l.signal)) in
+          let back : letter_replies l (standing a l) ≡ living_answer l.to l.from l.signal = rw (stands_there, none, handle_answer l.to f.s l.from l.signal) (append-nil (living_answer l.to l.from l.signal)) in
           delivered
           (record {
             live = subst (λ v. IsPut l.to v (process_at a.processes.desk a.processes.table) (process_at a.processes.desk processes.table)) (sym stays) (put_by_pid a.processes.desk l.to _ a.processes.table processes.table here changes.puts);
@@ -143,7 +143,7 @@ module _ (a : Parts) (whole : IsWhole a) (l : Letter) (here : l.to.shard ≡ a.p
             offers = offers_changed l.to _ a.processes.table processes.table whole.offers changes;
             vacant = rw (stands_there, none) (ap (option_pid a.processes.desk) changes.next);
           })
-          (is ∙ ap (λ o. wrote (receipt_stamp a l) (came l) (map (letter (receipt_stamp a l)) o) a.book) (sym back))
+          (is ∙ ap (λ o. wrote (receipt_stamp a l) (came_event l) (map (letter (receipt_stamp a l)) o) a.book) (sym back))
 
 -- a signal that ends a process is not answered
 ending_unanswered : (me : Pid) (s : ProcessState) (from : Pid) (x : Signal) (r : Reason) → (handle me s from x).ending ≡ Some r → living_answer me from x ≡ []
@@ -175,30 +175,30 @@ module _ (a : Parts) (whole : IsWhole a) (l : Letter) (here : l.to.shard ≡ a.p
   in_mid : in_place mid.table l.to ≡ Some (l.to, after)
   in_mid = put_there l.to _ a.processes.table mid.table changes.puts ∙ ap (changed (λ me s. (handle me s l.from l.signal).state)) (stands a whole l.to f).1
 
-  owed_is : owing.owed ≡ replies l (standing a l)
+  owed_is : owing.owed ≡ letter_replies l (standing a l)
   owed_is =
       let silent : (handle l.to f.s l.from l.signal).answer ≡ [] = handle_answer l.to f.s l.from l.signal ∙ ending_unanswered l.to f.s l.from l.signal r ending_is in
       ap (λ o. o.owed) (owes_is l.to r owing mid.table last.table after in_mid ends) ∙ rw (stands_here, silent, ending_is) refl
 
   pub owed_near : Every (λ x. x.to.shard < length a.book.outbox) owing.owed
   owed_near =
-      let sent_is : replies l (standing a l) ≡ sent_by a.book.start (past (shard_of a)) (came l)
-      = ap (replies l) (whole.sound.processes l.to) ∙ sym (got_is l (life a.book.start (past (shard_of a)) l.to)) in
+      let sent_is : letter_replies l (standing a l) ≡ sent_by a.book.start (past (shard_of a)) (came_event l)
+      = ap (letter_replies l) (whole.sound.processes l.to) ∙ sym (got_is l (life a.book.start (past (shard_of a)) l.to)) in
       subst (λ n. Every (λ x. x.to.shard < n) owing.owed) (sym whole.sound.fit.boxes)
-      (subst (Every (λ x. x.to.shard < a.config.desks)) (sym (owed_is ∙ sent_is)) (sent_near a whole (came l) near))
+      (subst (Every (λ x. x.to.shard < a.config.desks)) (sym (owed_is ∙ sent_is)) (sent_near a whole (came_event l) near))
 
-  pub owed_counted : (P : Pid → Bool) → count_by P (map (λ x. x.to) owing.owed) ≤ count_by P (peers f.s)
+  pub owed_counted : (P : Pid → Bool) → count_by P (map (λ x. x.to) owing.owed) ≤ count_by P (peers_held f.s)
   owed_counted P =
       let fewer = fewer_owed P l.to f.s l.from r l.signal ending_is in
-      let now : map (λ x. x.to) owing.owed ≡ peers after
+      let now : map (λ x. x.to) owing.owed ≡ peers_held after
       = ap (λ o. map (λ x. x.to) o.owed) (owes_is l.to r owing mid.table last.table after in_mid ends) ∙ estate_peers l.to after r in
       rw now fewer
 
   pub owing_from : owing.from ≡ l.to
   owing_from = ap (λ o. o.from) (owes_is l.to r owing mid.table last.table after in_mid ends)
 
-  pub ended_outcome : (book : Book) → book ≡ wrote (receipt_stamp a l) (came l) (map (letter (receipt_stamp a l)) owing.owed) a.book
-      → Outcome a (parts_of a.config book last) (receipt_stamp a l) (came l)
+  pub ended_outcome : (book : Book) → book ≡ wrote (receipt_stamp a l) (came_event l) (map (letter (receipt_stamp a l)) owing.owed) a.book
+      → Outcome a (parts_of a.config book last) (receipt_stamp a l) (came_event l)
   ended_outcome book is =
       let gone : remains l (standing a l) ≡ None = rw (stands_here, ending_is) refl in
       delivered a whole l here near can book last (desk' ∙ desk)
@@ -215,7 +215,7 @@ module _ (a : Parts) (whole : IsWhole a) (l : Letter) (here : l.to.shard ≡ a.p
             ∙ ap (vacated a.config.top_version (Some l.to)) (ap (option_pid a.processes.desk) changes.next)
             ∙ ap (λ b. vacated a.config.top_version (cond b (Some l.to) None) (vacant_at a.processes.desk a.processes.table)) (sym ends_now);
       })
-      (is ∙ ap (λ o. wrote (receipt_stamp a l) (came l) (map (letter (receipt_stamp a l)) o) a.book) owed_is)
+      (is ∙ ap (λ o. wrote (receipt_stamp a l) (came_event l) (map (letter (receipt_stamp a l)) o) a.book) owed_is)
     where
       ends_now : is_ended_by l (standing a l) ≡ true
       ends_now = rw (stands_here, ending_is) refl
@@ -227,11 +227,11 @@ module _ (a : Parts) (whole : IsWhole a) (l : Letter) (here : l.to.shard ≡ a.p
 -- who ended by it ------------------------------------------------------------------------------
 
 module _ (a : Parts) (whole : IsWhole a) (l : Letter) where
-  pub nobody_ends : process_at a.processes.desk a.processes.table l.to ≡ None → None ≡ ended_by (shard_of a) (came l)
+  pub nobody_ends : process_at a.processes.desk a.processes.table l.to ≡ None → None ≡ ended_by (shard_of a) (came_event l)
   nobody_ends none =
       sym (ap (λ b. cond b (Some l.to) None) (ends_is l (life a.book.start (past (shard_of a)) l.to) ∙ sym (ap (is_ended_by l) (whole.sound.processes l.to)) ∙ ap (is_ended_by l) none))
 
-  pub who_ends : (f : Found a l.to) (o : Option Reason) → (handle f.me f.s l.from l.signal).ending ≡ o → cond (is_some o) (Some l.to) None ≡ ended_by (shard_of a) (came l)
+  pub who_ends : (f : Found a l.to) (o : Option Reason) → (handle f.me f.s l.from l.signal).ending ≡ o → cond (is_some o) (Some l.to) None ≡ ended_by (shard_of a) (came_event l)
   who_ends f o is =
       sym (ap (λ b. cond b (Some l.to) None) (ends_is l (life a.book.start (past (shard_of a)) l.to) ∙ sym (ap (is_ended_by l) (whole.sound.processes l.to))
       ∙ ap (is_ended_by l) (sym f.there) ∙ ap is_some is))
@@ -239,10 +239,10 @@ module _ (a : Parts) (whole : IsWhole a) (l : Letter) where
 -- what the ledger wrote -----------------------------------------------------------------------
 
 pub receipt_book : (a : Parts) (l : Letter) (prepared book : Book) (back : Option Signal) → prepared ≡ a.book
-    → book ≡ wrote (max prepared.clock l.stamp + 1) (came l) (map (letter (max prepared.clock l.stamp + 1)) (map (sent l.to l.from) (option_to_list back))) prepared
-    → book ≡ wrote (receipt_stamp a l) (came l) (map (letter (receipt_stamp a l)) (map (sent l.to l.from) (option_to_list back))) a.book
+    → book ≡ wrote (max prepared.clock l.stamp + 1) (came_event l) (map (letter (max prepared.clock l.stamp + 1)) (map (sent l.to l.from) (option_to_list back))) prepared
+    → book ≡ wrote (receipt_stamp a l) (came_event l) (map (letter (receipt_stamp a l)) (map (sent l.to l.from) (option_to_list back))) a.book
 receipt_book a l prepared book back same is =
-    subst (λ (b : Book). book ≡ wrote (max b.clock l.stamp + 1) (came l) (map (letter (max b.clock l.stamp + 1)) (map (sent l.to l.from) (option_to_list back))) b) same is
+    subst (λ (b : Book). book ≡ wrote (max b.clock l.stamp + 1) (came_event l) (map (letter (max b.clock l.stamp + 1)) (map (sent l.to l.from) (option_to_list back))) b) same is
 
 pub living_back_is : (me from : Pid) (x : Signal) → map (sent me from) (option_to_list (living_back x)) ≡ living_answer me from x
 living_back_is me from (AliveAsk m) = refl

@@ -8,7 +8,7 @@ use Rattle.pt_signal.specs.declared.pid.Pid.{Pid}
 use Rattle.pt_signal.specs.declared.letter.Letter.{Letter}
 use Rattle.pt_slots.specs.Calls.{IsEmpty}
 use Rattle.pt_shard.specs.declared.config.Config.{Config}
-use Rattle.pt_shard.specs.Opening.{IsInRange, fresh}
+use Rattle.pt_shard.specs.Opening.{IsInRange, fresh_shard}
 use Rattle.pt_shard.proofs.Vacancy.{next_birth}
 use Rattle.pt_shard.specs.Extends.{Extends}
 use Rattle.pt_shard.specs.Fit.{AreBetween, IsNextBirth}
@@ -133,7 +133,7 @@ module _ (config : Config) (settings : IsInRange config) (processes : ProcessesS
     top_version = empty.top_version_is;
   }
 
-  pub fresh_is : (book : Book) → book ≡ first_book config processes.desk → shard_of (parts_of config book processes) ≡ fresh config processes.desk
+  pub fresh_is : (book : Book) → book ≡ first_book config processes.desk → shard_of (parts_of config book processes) ≡ fresh_shard config processes.desk
   fresh_is book is = let next = empty.next in rw (is, next) refl
 
   pub fresh_whole : (book : Book) → book ≡ first_book config processes.desk → IsWhole (parts_of config book processes)

@@ -20,12 +20,12 @@ use Rattle.pt_events.specs.declared.event.Event.TheVariants.{Said, Took, Flag}
 use Rattle.pt_events.specs.Journal.{letter}
 use Rattle.pt_events.specs.declared.event.TheConstants.{MAX_STAMP}
 use Rattle.pt_process.specs.ProcessView.{ProcessView, Owing}
-use Rattle.pt_process.specs.Peers.{peers}
+use Rattle.pt_process.specs.Peers.{peers_held}
 use Rattle.pt_shard.specs.declared.fault.Fault.{Fault}
 use Rattle.pt_shard.specs.declared.fault.Fault.TheVariants as fault
 use Rattle.pt_shard.specs.declared.stop.Stop.{Stop}
 use Rattle.pt_shard.specs.declared.stop.Stop.TheVariants.{Memory, Worn}
-use Rattle.pt_shard.specs.ShardState.{came}
+use Rattle.pt_shard.specs.ShardState.{came_event}
 use Rattle.pt_shard.specs.Backs.{living_back}
 use Rattle.pt_shard.specs.Calls.{if_asked}
 use Rattle.pt_shard.specs.LedgerState.{Book, LedgerState, wrote, HasRoomToAll}
@@ -134,7 +134,7 @@ abbrev pub TakesIn : Letter → ProcessView → LedgerState → Result (Unit {0}
 TakesIn x r l (Ok _) r' l' =
     (max l.book.clock x.stamp < MAX_STAMP) × (r'.me ≡ r.me) × (r'.state ≡ (handle r.me r.state x.from x.signal).state)
     × (l'.book
-    ≡ wrote (max l.book.clock x.stamp + 1) (came x)
+    ≡ wrote (max l.book.clock x.stamp + 1) (came_event x)
     (map (letter (max l.book.clock x.stamp + 1)) (map (sent x.to x.from) (option_to_list (living_back x.signal))))
     l.book)
 TakesIn x r l (Err s) r' l' = IsStopped x s r l r' l'
@@ -144,7 +144,7 @@ abbrev pub GivesBack : Letter → Option Signal → LedgerState → Result (Unit
 GivesBack x back l (Ok _) l' =
     (max l.book.clock x.stamp < MAX_STAMP)
     × (l'.book
-    ≡ wrote (max l.book.clock x.stamp + 1) (came x)
+    ≡ wrote (max l.book.clock x.stamp + 1) (came_event x)
     (map (letter (max l.book.clock x.stamp + 1)) (map (sent x.to x.from) (option_to_list back))) l.book)
 GivesBack x back l (Err Worn) l' = (MAX_STAMP ≤ max l.book.clock x.stamp) × (l'.book ≡ l.book)
 GivesBack x back l (Err Memory) l' = (max l.book.clock x.stamp < MAX_STAMP) × (l'.book ≡ l.book)
@@ -154,7 +154,7 @@ abbrev pub PreparesEnding : Letter → ProcessView → LedgerState → Result (U
     → Type 0
 PreparesEnding x r l (Ok _) r' l' =
     (max l.book.clock x.stamp < MAX_STAMP) × (r'.me ≡ r.me) × (r'.state ≡ (handle r.me r.state x.from x.signal).state)
-    × (l'.book ≡ l.book) × (0 < l'.room) × HasRoomToAll (peers r.state) l'
+    × (l'.book ≡ l.book) × (0 < l'.room) × HasRoomToAll (peers_held r.state) l'
 PreparesEnding x r l (Err s) r' l' = IsStopped x s r l r' l'
 
 -- whatever the process p is found to owe at its end with this reason comes from it, and finds room
@@ -170,4 +170,4 @@ abbrev pub EndsBy : Letter → Reason → ProcessesState → LedgerState → Pro
 EndsBy x reason processes l processes' l' =
     (owing : Owing) × (processes'.desk ≡ processes.desk) × Ends x.to reason owing processes.table processes'.table
     × (l'.book
-    ≡ wrote (max l.book.clock x.stamp + 1) (came x) (map (letter (max l.book.clock x.stamp + 1)) owing.owed) l.book)
+    ≡ wrote (max l.book.clock x.stamp + 1) (came_event x) (map (letter (max l.book.clock x.stamp + 1)) owing.owed) l.book)

@@ -19,7 +19,7 @@ use Rattle.pt_events.specs.declared.event.Event.TheVariants.{Born, Said, Took, R
 use Rattle.pt_events.specs.declared.event.TheConstants.{MAX_STAMP}
 use Rattle.pt_shard.specs.declared.fault.Fault.{Fault}
 use Rattle.pt_shard.specs.declared.fault.Fault.TheVariants.{Full, Memory, Worn, Gone, Myself, NoProc}
-use Rattle.pt_shard.specs.ShardState.{ShardState, lives, state_in, after, written}
+use Rattle.pt_shard.specs.ShardState.{ShardState, lives, state_in, shard_after, written}
 
 -- one more event can be stamped
 abbrev pub CanWrite : ShardState → Type 0
@@ -34,7 +34,7 @@ CanWriteIf (Some e) d = CanWrite d
 
 abbrev pub after_if : Option Event → ShardState → ShardState
 after_if None d = d
-after_if (Some e) d = after e d
+after_if (Some e) d = shard_after e d
 
 -- a call of the process p, which answers so and writes that event, if any
 abbrev pub Calls : {A : Type 0} → Pid → Option Event → A → ShardState → Result A Fault → ShardState → Type 0
@@ -103,7 +103,7 @@ Monitors w t old (Err NoProc) new = ⊥
 -- which slot is vacant afterwards is left open
 abbrev pub Bears : Option Pid → Option LinkId → ShardState → Result Pid Fault → ShardState → Type 0
 Bears parent link old (Ok p) new =
-    CanWrite old × (old.vacant ≡ Some p) × (new ≡ record (after (Born p parent link) old) { vacant = new.vacant })
+    CanWrite old × (old.vacant ≡ Some p) × (new ≡ record (shard_after (Born p parent link) old) { vacant = new.vacant })
 Bears parent link old (Err Worn) new = IsWorn old × (new ≡ old)
 Bears parent link old (Err Full) new = CanWrite old × (old.vacant ≡ None) × (new ≡ old)
 Bears parent link old (Err Memory) new = CanWrite old × IsSome old.vacant × (new ≡ old)

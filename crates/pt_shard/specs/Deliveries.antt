@@ -7,27 +7,27 @@ use Rattle.pt_signal.specs.Process.{ProcessState, Handled, handle, Sent, bounce}
 use Rattle.pt_events.specs.History.{end_sends}
 
 -- a live process by its pid and its state, if there is one
-abbrev pub Standing : Type 0
-Standing = Option (Pid × ProcessState)
+abbrev pub Receiver : Type 0
+Receiver = Option (Pid × ProcessState)
 
 -- what the letter does to a live process
 abbrev pub handle_letter : Letter → Pid × ProcessState → Handled
 handle_letter l r = handle r.0 r.1 l.from l.signal
 
-abbrev pub unless_ended : Option Reason → Pid → ProcessState → Standing
+abbrev pub unless_ended : Option Reason → Pid → ProcessState → Receiver
 unless_ended None me s = Some (me, s)
 unless_ended (Some r) me s = None
 
 -- what stands there after the letter
-abbrev pub remains : Letter → Standing → Standing
+abbrev pub remains : Letter → Receiver → Receiver
 remains l None = None
 remains l (Some r) = let h = handle_letter l r in unless_ended h.ending r.0 h.state
 
-abbrev pub is_ended_by : Letter → Standing → Bool
+abbrev pub is_ended_by : Letter → Receiver → Bool
 is_ended_by l None = false
 is_ended_by l (Some r) = is_some (handle_letter l r).ending
 
 -- what the letter makes the receiver send, or the desk in its place
-abbrev pub replies : Letter → Standing → List Sent
-replies l None = bounce l.to l.from l.signal
-replies l (Some r) = let h = handle_letter l r in h.answer ++ end_sends r.0 h.ending h.state
+abbrev pub letter_replies : Letter → Receiver → List Sent
+letter_replies l None = bounce l.to l.from l.signal
+letter_replies l (Some r) = let h = handle_letter l r in h.answer ++ end_sends r.0 h.ending h.state

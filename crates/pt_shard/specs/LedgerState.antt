@@ -65,12 +65,12 @@ HasRoomFor None e s = ⊤
 HasRoomFor (Some x) e s = HasRoomAt e s
 
 -- the process is of desk e
-abbrev pub is_of : ℕ → Pid → Bool
-is_of e q = q.shard == e
+abbrev pub is_of_desk : ℕ → Pid → Bool
+is_of_desk e q = q.shard == e
 
 -- for a letter to each of them
 abbrev pub HasRoomToAll : List Pid → LedgerState → Type 0
-HasRoomToAll qs s = (e : ℕ) → e < length s.book.outbox → count_by (is_of e) qs ≤ slice_index_or s.rooms e 0
+HasRoomToAll qs s = (e : ℕ) → e < length s.book.outbox → count_by (is_of_desk e) qs ≤ slice_index_or s.rooms e 0
 
 -- an attempt to make room for an event that is stamped above floor, and for letters
 abbrev pub Prepares : ℕ → (LedgerState → Type 0) → LedgerState → Result (Unit {0}) Stop → LedgerState → Type 0

@@ -18,8 +18,8 @@ pub record IsInRange (c : Config) : Type 0 where
   pub start : c.start ≤ MAX_STAMP
 
 -- the first birth has the first version of slot 0
-abbrev pub fresh : Config → ℕ → ShardState
-fresh c number = record {
+abbrev pub fresh_shard : Config → ℕ → ShardState
+fresh_shard c number = record {
   start = [];
   number = number;
   config = c;

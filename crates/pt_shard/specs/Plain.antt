@@ -3,7 +3,7 @@ use Rattle.std.specs.Prelude.{⊤}
 use Rattle.pt_signal.specs.declared.signal.Signal.{Signal}
 use Rattle.pt_signal.specs.declared.signal.Signal.TheVariants.{Message}
 
-abbrev pub IsPlain : Signal → Type 0
-IsPlain (Message body) = ⊤
-IsPlain (Signal.Exit reason) = ⊤
-IsPlain _ = ⊥
+abbrev pub IsPlainSignal : Signal → Type 0
+IsPlainSignal (Message body) = ⊤
+IsPlainSignal (Signal.Exit reason) = ⊤
+IsPlainSignal _ = ⊥

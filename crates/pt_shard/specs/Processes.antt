@@ -18,13 +18,13 @@ pub record ProcessesState : Type 0 where
   pub desk : ℕ
   pub table : Table
 
-abbrev pub seen : Option ProcessView → Option (Pid × ProcessState)
-seen None = None
-seen (Some r) = Some (r.me, r.state)
+abbrev pub seen_process : Option ProcessView → Option (Pid × ProcessState)
+seen_process None = None
+seen_process (Some r) = Some (r.me, r.state)
 
 -- what the slots of the desk have for p
 abbrev pub process_at : ℕ → Table → Pid → Option (Pid × ProcessState)
-process_at desk table p = cond (p.shard == desk) (seen (at table p.slot p.version)) None
+process_at desk table p = cond (p.shard == desk) (seen_process (at table p.slot p.version)) None
 
 -- the process p, if it stands in the slots of the desk
 abbrev pub living_at : ℕ → Table → Pid → Option ProcessView
@@ -39,12 +39,12 @@ abbrev pub with_process : ProcessesState → Pid → ProcessView → ProcessesSt
 with_process s p v = record s { table = with_value s.table (key_at p) v }
 
 -- the pid of a key of the desk
-abbrev pub pid_at : ℕ → Key → Pid
-pid_at desk key = record { shard = desk; slot = key.slot; version = key.version }
+abbrev pub pid_of_key : ℕ → Key → Pid
+pid_of_key desk key = record { shard = desk; slot = key.slot; version = key.version }
 
 -- the pid that the next birth has
 abbrev pub vacant_at : ℕ → Table → Option Pid
-vacant_at desk table = option_map (pid_at desk) (next_key table)
+vacant_at desk table = option_map (pid_of_key desk) (next_key table)
 
 -- the state of a live process, changed by f, which is told its pid
 abbrev pub changed : (Pid → ProcessState → ProcessState) → Option (Pid × ProcessState) → Option (Pid × ProcessState)
@@ -57,7 +57,7 @@ is_place_of p slot version = (p.slot == slot) && (p.version == version)
 
 -- what stands in the place of p
 abbrev pub in_place : Table → Pid → Option (Pid × ProcessState)
-in_place table p = seen (at table p.slot p.version)
+in_place table p = seen_process (at table p.slot p.version)
 
 pub record SameSettings (old new : Table) : Type 0 where
   pub issues : (slot : ℕ) → issued new slot ≡ issued old slot
@@ -67,7 +67,7 @@ pub record SameSettings (old new : Table) : Type 0 where
 -- v stands in the place of p, and all else is as before
 pub record Puts (p : Pid) (v : Option (Pid × ProcessState)) (old new : Table) : Type 0 where
   pub live : (slot version : ℕ)
-      → seen (at new slot version) ≡ cond (is_place_of p slot version) v (seen (at old slot version))
+      → seen_process (at new slot version) ≡ cond (is_place_of p slot version) v (seen_process (at old slot version))
   pub settings : SameSettings old new
 
 -- the state of p is changed by f, and which slot is vacant is not
@@ -77,17 +77,17 @@ pub record Changes (p : Pid) (f : Pid → ProcessState → ProcessState) (old ne
 
 -- no process differs
 pub record IsSameTable (old new : Table) : Type 0 where
-  pub live : (slot version : ℕ) → seen (at new slot version) ≡ seen (at old slot version)
+  pub live : (slot version : ℕ) → seen_process (at new slot version) ≡ seen_process (at old slot version)
   pub settings : SameSettings old new
   pub next : next_key new ≡ next_key old
 
 -- the process in the place of p takes one more link without memory
-abbrev pub HasRoom : Pid → Table → Type 0
-HasRoom p table = IfSome (at table p.slot p.version) (λ r. 0 < r.room)
+abbrev pub HasLinkRoom : Pid → Table → Type 0
+HasLinkRoom p table = IfSome (at table p.slot p.version) (λ r. 0 < r.room)
 
 abbrev pub HasRoomFor : Option LinkId → Pid → Table → Type 0
 HasRoomFor None p table = ⊤
-HasRoomFor (Some i) p table = HasRoom p table
+HasRoomFor (Some i) p table = HasLinkRoom p table
 
 -- the process p was taken out, and owes that at its end
 pub record Ends (p : Pid) (reason : Reason) (owing : Owing) (old new : Table) : Type 0 where

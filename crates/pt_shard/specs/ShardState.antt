@@ -91,19 +91,19 @@ written n e d = record {
 }
 
 -- the desk after an event of its own
-abbrev pub after : Event → ShardState → ShardState
-after e d = written (d.clock + 1) e d
+abbrev pub shard_after : Event → ShardState → ShardState
+shard_after e d = written (d.clock + 1) e d
 
-abbrev pub came : Letter → Event
-came l = Came l.from l.to l.signal
+abbrev pub came_event : Letter → Event
+came_event l = Came l.from l.to l.signal
 
 -- the desk after the receipt of a letter
 abbrev pub handled : Letter → ShardState → ShardState
-handled l d = written (max d.clock l.stamp + 1) (came l) d
+handled l d = written (max d.clock l.stamp + 1) (came_event l) d
 
 -- the letter is handled, and the answer is who ended by it; a refusal changes nothing
 abbrev pub Handles : Letter → ShardState → Result (Option Pid) Stop → ShardState → Type 0
 Handles l old (Ok ended) new =
-    (max old.clock l.stamp < MAX_STAMP) × (new ≡ handled l old) × (ended ≡ ended_by old (came l))
+    (max old.clock l.stamp < MAX_STAMP) × (new ≡ handled l old) × (ended ≡ ended_by old (came_event l))
 Handles l old (Err Worn) new = (MAX_STAMP ≤ max old.clock l.stamp) × (new ≡ old)
 Handles l old (Err Memory) new = (max old.clock l.stamp < MAX_STAMP) × (new ≡ old)

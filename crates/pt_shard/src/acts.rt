@@ -10,7 +10,7 @@ ghost use Rattle.pt_process.specs.Outcome.{Accepts};
 ghost use Rattle.std.specs.List.{find};
 ghost use Rattle.std.specs.Map.{lookup};
 ghost use Rattle.pt_signal.specs.Values.{fits, same_ref};
-ghost use Rattle.pt_process.specs.Peers.{peers};
+ghost use Rattle.pt_process.specs.Peers.{peers_held};
 ghost use Rattle.pt_shard.specs.Sound.{Every};
 ghost use Rattle.pt_shard.specs.Processes.{in_place};
 ghost use Rattle.pt_events.specs.declared.event.TheConstants.{MAX_STAMP};
@@ -260,7 +260,7 @@ pub(crate) fn prepare_ending(
     letter: &Letter,
 ) -> Result<(), Stop>
     requires few { length ledger.old.book.outbox ≤ MAX_DESKS }
-    requires near { Every (λ q. q.shard < length ledger.old.book.outbox) (peers process.old.state) }
+    requires near { Every (λ q. q.shard < length ledger.old.book.outbox) (peers_held process.old.state) }
     ensures { PreparesEnding letter.now process.old ledger.old result process.new ledger.new }
 {
     ledger.prepare_end(letter.stamp, process)?;

@@ -9,12 +9,12 @@ ghost use Rattle.pt_events.specs.declared.event.Event.{Event};
 ghost use Rattle.pt_events.specs.Journal.{letter};
 ghost use Rattle.pt_events.specs.Journal.{letter as stamp_letter};
 ghost use Rattle.std.specs.Option.{option_to_list};
-ghost use Rattle.pt_shard.specs.ShardState.{came};
+ghost use Rattle.pt_shard.specs.ShardState.{came_event};
 ghost use Rattle.pt_carrier.specs.declared.ends.TheConstants.{MAX_DESKS};
 ghost use Rattle.pt_carrier.specs.Ends.{one_more};
 ghost use Rattle.pt_shard.specs.LedgerState.{Book, wrote, restarted_book, Prepares, HasNoNeed, HasRoomAt, HasRoomFor};
-ghost use Rattle.pt_shard.specs.LedgerState.{HasRoomToAll, is_of};
-ghost use Rattle.pt_process.specs.Peers.{peers};
+ghost use Rattle.pt_shard.specs.LedgerState.{HasRoomToAll, is_of_desk};
+ghost use Rattle.pt_process.specs.Peers.{peers_held};
 ghost use Rattle.pt_shard.specs.LettersState.{LettersState};
 ghost use Rattle.pt_shard.specs.Outbox.{count_held};
 ghost use Rattle.pt_shard.specs.Sound.{Every};
@@ -77,14 +77,14 @@ fn no_letters(alloc: Global, desks: u8) -> Result<Vec<Letters>, AllocError>
 /// Makes room for what a process would owe at its end, in the boxes of those that it would go to.
 fn reserve_owed(outbox: &mut Vec<Letters>, process: &mut Process) -> Result<(), AllocError>
     requires few { length outbox.old.items ≤ MAX_DESKS }
-    requires near { Every (λ q. q.shard < length outbox.old.items) (peers process.old.state) }
+    requires near { Every (λ q. q.shard < length outbox.old.items) (peers_held process.old.state) }
     ensures letters { map (λ (b : LettersState). b.letters) outbox.new.items
         ≡ map (λ (b : LettersState). b.letters) outbox.old.items }
     ensures me { process.new.me ≡ process.old.me }
     ensures state { process.new.state ≡ process.old.state }
     ensures room { OnOk result
         ((e : ℕ) → e < length outbox.new.items
-        → count_by (is_of e) (peers process.old.state)
+        → count_by (is_of_desk e) (peers_held process.old.state)
         ≤ slice_index_or (map (λ (b : LettersState). b.room) outbox.new.items) e 0) }
 {
     // How many letters so far, for each desk.
@@ -213,8 +213,8 @@ impl Ledger {
     #[inline(always)]
     pub(crate) fn prepare_end(&mut self, floor: u64, process: &mut Process) -> Result<(), Stop>
         requires few { length self.old.book.outbox ≤ MAX_DESKS }
-        requires near { Every (λ q. q.shard < length self.old.book.outbox) (peers process.old.state) }
-        ensures does { Prepares floor (HasRoomToAll (peers process.old.state)) self.old result self.new }
+        requires near { Every (λ q. q.shard < length self.old.book.outbox) (peers_held process.old.state) }
+        ensures does { Prepares floor (HasRoomToAll (peers_held process.old.state)) self.old result self.new }
         ensures me { process.new.me ≡ process.old.me }
         ensures state { process.new.state ≡ process.old.state }
     {
@@ -284,7 +284,7 @@ impl Ledger {
         requires from { letter.now.from.shard < length self.old.book.outbox }
         requires letter { HasRoomFor back letter.now.from.shard self.old }
         ensures { self.new.book
-            ≡ wrote (max self.old.book.clock letter.now.stamp + 1) (came letter.now)
+            ≡ wrote (max self.old.book.clock letter.now.stamp + 1) (came_event letter.now)
             (map (stamp_letter (max self.old.book.clock letter.now.stamp + 1))
             (map (sent letter.now.to letter.now.from) (option_to_list back))) self.old.book }
     {

@@ -11,7 +11,7 @@ ghost use Rattle.pt_shard.specs.InTurn.{IsInTurn};
 ghost use Rattle.pt_events.specs.History.{is_unborn};
 ghost use Rattle.pt_events.specs.Leaving.{outcome};
 ghost use Rattle.pt_signal.specs.declared.pid.Pid.{Pid};
-ghost use Rattle.pt_shard.specs.Opening.{IsInRange, fresh};
+ghost use Rattle.pt_shard.specs.Opening.{IsInRange, fresh_shard};
 ghost use Rattle.pt_shard.specs.Living.{living_in, living_count, living_pids};
 ghost use Rattle.pt_shard.specs.Known.{knows};
 ghost use Rattle.pt_shard.specs.Reading.{read_of};
@@ -20,7 +20,7 @@ ghost use Rattle.pt_shard.specs.Fit.{IsFit};
 ghost use Rattle.pt_shard.specs.Outbox.{sent_on, sent_on_some, holding, count_pending};
 ghost use Rattle.pt_shard.specs.Calls.{Calls, Monitors, Bears, BearsChild, link_event, unlink_event, first_match};
 ghost use Rattle.pt_shard.specs.Calls.{take_event, demonitor_event, held_by, new_ref, Refuses};
-ghost use Rattle.pt_shard.specs.Plain.{IsPlain};
+ghost use Rattle.pt_shard.specs.Plain.{IsPlainSignal};
 ghost use Rattle.pt_events.specs.declared.event.TheConstants.{MAX_STAMP};
 
 use crate::acts::{
@@ -68,8 +68,8 @@ impl Shard {
     pub fn new(alloc: Global, config: Config, number: u8) -> Result<Shard, AllocError>
         requires settings { IsInRange config }
         requires number { number < config.desks }
-        ensures fresh { IfOk result (λ d. d ≡ fresh config number) }
-        ensures fit { OnOk result (IsFit (fresh config number)) }
+        ensures fresh { IfOk result (λ d. d ≡ fresh_shard config number) }
+        ensures fit { OnOk result (IsFit (fresh_shard config number)) }
     {
         Ok(Shard {
             alloc,
@@ -653,7 +653,7 @@ impl Shard {
     #[inline(always)]
     fn say(&mut self, from: Pid, to: Pid, signal: Signal) -> Result<(), Fault>
         requires known { knows self.old to ≡ true }
-        requires plain { IsPlain signal }
+        requires plain { IsPlainSignal signal }
         ensures does { Calls from (Some (Event.Said from to signal)) tt self.old result self.new }
         ensures extends { Extends self.old self.new }
         ensures fit { IsFit self.new }

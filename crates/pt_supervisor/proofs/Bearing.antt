@@ -12,8 +12,8 @@ use Rattle.pt_shard.specs.ShardState.{ShardState}
 use Rattle.pt_crew.specs.Births.{Bore, bore}
 use Rattle.pt_supervisor.specs.declared.children.Child.{Child}
 use Rattle.pt_supervisor.specs.Children.{is_missing, last_alive}
-use Rattle.pt_supervisor.specs.Supervising.{StartsOf, Nursery, BearsAs, StartsAt, StartsOne, StartsFirst, StartsAll, Scene, nursery, Settles, AdvancesAs, Handles, after_attending}
-use Rattle.pt_supervisor.specs.Keeping.{AllStarted, AllBegin, BeginsAs, BearsFrom, PartOf}
+use Rattle.pt_supervisor.specs.Supervising.{StartsOf, Nursery, BearsAs, StartsAt, StartsOne, StartsFirst, StartsAll, SupervisorScene, nursery, SupervisorSettles, AdvancesAs, SupervisorHandles, after_attending}
+use Rattle.pt_supervisor.specs.Keeping.{AllStarted, AllBegin, SupervisorBegins, BearsFrom, PartOf}
 
 module _ {S B : Type 0} (starts : StartsOf S B) (me : Pid) where
   started_both : (xs ys : List (Role B)) → AllStarted starts me xs → AllStarted starts me ys → AllStarted starts me (xs ++ ys)
@@ -57,23 +57,23 @@ module _ {S B : Type 0} (starts : StartsOf S B) (me : Pid) where
   all_from count old new true h = first_from count old new h
   all_from count old new false h = from_then old.born h.2.born new.born (first_from h.0 old h.2 h.3) (one_from h.0 h.2 new false h.4)
 
-  settles_from : (stopping : Option Reason) (old : Scene S B) (next : Next) (new : Scene S B) → Settles starts me stopping old next new → BearsFrom starts me old.born new.born
-  settles_from (Some r) old next new h = from_none old.born new.born (ap (λ (x : Scene S B). x.born) h.1)
+  settles_from : (stopping : Option Reason) (old : SupervisorScene S B) (next : Next) (new : SupervisorScene S B) → SupervisorSettles starts me stopping old next new → BearsFrom starts me old.born new.born
+  settles_from (Some r) old next new h = from_none old.born new.born (ap (λ (x : SupervisorScene S B). x.born) h.1)
   settles_from None old next new h = all_from (length old.standing.children) (nursery old) (nursery new) h.0 h.1
 
-  advances_from : (last : Option (Pid × Reason)) (old : Scene S B) (next : Next) (new : Scene S B) → AdvancesAs starts me last old next new → BearsFrom starts me old.born new.born
+  advances_from : (last : Option (Pid × Reason)) (old : SupervisorScene S B) (next : Next) (new : SupervisorScene S B) → AdvancesAs starts me last old next new → BearsFrom starts me old.born new.born
   advances_from (Some (p, reason)) old next new h = from_none old.born new.born h.same.2
   advances_from None old next new h = settles_from old.standing.stopping old next new h
 
-  then_from : (answer : Bool) (mid : Scene S B) (next : Next) (new : Scene S B) → after_attending starts me answer mid next new → BearsFrom starts me mid.born new.born
+  then_from : (answer : Bool) (mid : SupervisorScene S B) (next : Next) (new : SupervisorScene S B) → after_attending starts me answer mid next new → BearsFrom starts me mid.born new.born
   then_from true mid next new h = advances_from (last_alive mid.standing.children mid.standing.ending (length mid.standing.children)) mid next new h
-  then_from false mid next new h = from_none mid.born new.born (ap (λ (x : Scene S B). x.born) h.1)
+  then_from false mid next new h = from_none mid.born new.born (ap (λ (x : SupervisorScene S B). x.born) h.1)
 
-  pub handles_bear : (item : Option Item) (old : Scene S B) (next : Next) (new : Scene S B) → Handles starts me item old next new → BearsFrom starts me old.born new.born
+  pub handles_bear : (item : Option Item) (old : SupervisorScene S B) (next : Next) (new : SupervisorScene S B) → SupervisorHandles starts me item old next new → BearsFrom starts me old.born new.born
   handles_bear item old next new h = from_then old.born h.mid.born new.born (from_none old.born h.mid.born h.same.1) (then_from h.answer h.mid next new h.goes)
 
   -- so, where the program's `Start` gives only such as begin, all of them do
-  pub bore_begin : (part : PartOf B) → ((was : S) (place : ℕ) (b : B) (first : Next) (later : S) → starts was me place (Ok (b, first)) later → BeginsAs (part b) first)
+  pub bore_begin : (part : PartOf B) → ((was : S) (place : ℕ) (b : B) (first : Next) (later : S) → starts was me place (Ok (b, first)) later → SupervisorBegins (part b) first)
       → (old new : List (Role B)) → BearsFrom starts me old new → AllBegin part (bore old new)
   bore_begin part law old new h =
       subst (AllBegin part) (sym (ap (bore old) h.1 ∙ drop-append_seam old h.0)) (all h.0 h.2)

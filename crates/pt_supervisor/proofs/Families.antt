@@ -22,23 +22,23 @@ use Rattle.pt_events.specs.History.{Start, at_start, Phase, unborn, living, ende
 use Rattle.pt_laws.proofs.linking.Entries.{held-enter}
 use Rattle.pt_shard.specs.declared.fault.Fault.{Fault}
 use Rattle.pt_shard.specs.declared.fault.Fault.TheVariants.{Full, Memory, Worn, Gone, Myself, NoProc}
-use Rattle.pt_shard.specs.ShardState.{ShardState, phase_of, state_in, after}
+use Rattle.pt_shard.specs.ShardState.{ShardState, phase_of, state_in, shard_after}
 use Rattle.pt_shard.specs.Calls.{Calls}
 use Rattle.pt_crew.specs.Upholding.{IsLater, ActsFor, child_by, children_by}
 use Rattle.pt_crew.proofs.Waking.{by_cases}
 use Rattle.pt_crew.proofs.Upholding.{later_is, later_same, later_then, later_after, born_then, phase_same, phase_is, alone_is, alone_then, alone_event, acts_is, acts_then, same_pid_sym, living_born}
 use Rattle.pt_supervisor.specs.declared.children.Child.{Child}
-use Rattle.pt_supervisor.specs.Children.{NoneLives, is_of}
-use Rattle.pt_supervisor.specs.Hearing.{Standing, gone, heard, heard_at, lives_again, lost, restarted, started_again, stopped}
+use Rattle.pt_supervisor.specs.Children.{NoneLives, is_child}
+use Rattle.pt_supervisor.specs.Hearing.{Standing, gone, heard, heard_at, lives_again, lost, restarted_child, started_again, stopped}
 use Rattle.pt_supervisor.specs.Limits.{allows}
-use Rattle.pt_supervisor.specs.Keeping.{pid_in, child_at, is_exit_of, is_cut, has_cut, IsTied, IsHeld, Family, tells_end, has_told, was_started, IsPlaced, Remembers}
+use Rattle.pt_supervisor.specs.Keeping.{pid_of_child, child_at, is_exit_of, is_cut, has_cut, IsTied, IsHeld, Family, tells_end, has_told, was_started, IsPlaced, Remembers}
 use Rattle.pt_supervisor.proofs.Wanting.{set_same, set_other, set_keeps, again_same, again_count}
 use Rattle.pt_supervisor.proofs.Telling.{one_taken}
 use Rattle.pt_supervisor.proofs.Tying.{or_right, entered_tied}
 
 -- children in their places ---------------------------------------------------------------------
 
-child_in : (o : Option Child) (q : Pid) → pid_in o ≡ Some q → (c : Child) × (o ≡ Some c) × (c.pid ≡ Some q)
+child_in : (o : Option Child) (q : Pid) → pid_of_child o ≡ Some q → (c : Child) × (o ≡ Some c) × (c.pid ≡ Some q)
 child_in None q is = absurd (cc)
 child_in (Some c) q is = (c, refl, is)
 
@@ -51,17 +51,17 @@ none_at children place q none is =
     let bad : None ≡ Some q = sym (none place c.0 c.1) ∙ c.2 in absurd (cc)
 
 set_at : (children : List Child) (place : ℕ) (c v : Child) → slice_get children place ≡ Some c → child_at (slice_set children place v) place ≡ v.pid
-set_at children place c v at = ap pid_in (set_same children place v (slice_get_within children place c at))
+set_at children place c v at = ap pid_of_child (set_same children place v (slice_get_within children place c at))
 
 set_beside : (children : List Child) (place j : ℕ) (v : Child) (q : Pid) → (j ≡ place → ⊥) → child_at (slice_set children place v) j ≡ Some q → child_at children j ≡ Some q
 set_beside children place j v q apart is =
     let x = child_is (slice_set children place v) j q is in
-    ap pid_in (set_other children place j v x.0 apart x.1) ∙ x.2
+    ap pid_of_child (set_other children place j v x.0 apart x.1) ∙ x.2
 
 set_same_at : (children : List Child) (place j : ℕ) (v : Child) (q : Pid) → (j ≡ place → ⊥) → child_at children j ≡ Some q → child_at (slice_set children place v) j ≡ Some q
 set_same_at children place j v q apart is =
     let x = child_is children j q is in
-    ap pid_in (set_keeps children place j v x.0 apart x.1) ∙ x.2
+    ap pid_of_child (set_keeps children place j v x.0 apart x.1) ∙ x.2
 
 -- what is left of the children after an item -----------------------------------------------------
 
@@ -76,7 +76,7 @@ pub record Less (item : Item) (old new : Standing) : Type 0 where
 some_reason : {X : Type 0} (o : Option Reason) (r : Reason) → o ≡ Some r → o ≡ None → X
 some_reason o r is none = absurd (let bad : Some r ≡ None = sym is ∙ none in cc)
 
-restarted_stop : (allowed : Bool) (now place : ℕ) (s : Standing) → (restarted allowed now place s).stopping ≡ None → s.stopping ≡ None
+restarted_stop : (allowed : Bool) (now place : ℕ) (s : Standing) → (restarted_child allowed now place s).stopping ≡ None → s.stopping ≡ None
 restarted_stop true now place s h = h
 restarted_stop false now place s h = absurd (cc)
 
@@ -85,36 +85,36 @@ again_stop true now place s h = restarted_stop (allows now s.span s.most s.times
 again_stop false now place s h = h
 
 -- who stands in a place, by the test of its pid
-of_is : (pid : Option Pid) (p : Pid) → is_of pid p ≡ true → pid ≡ Some p
+of_is : (pid : Option Pid) (p : Pid) → is_child pid p ≡ true → pid ≡ Some p
 of_is None p h = absurd (cc)
 of_is (Some q) p h = ap Some (same_pid_is q p h)
 
-of_not : (c : Child) (q from : Pid) → c.pid ≡ Some q → is_of c.pid from ≡ false → same_pid q from ≡ false
-of_not c q from is no_of = sym (ap (λ (o : Option Pid). is_of o from) is) ∙ no_of
+of_not : (c : Child) (q from : Pid) → c.pid ≡ Some q → is_child c.pid from ≡ false → same_pid q from ≡ false
+of_not c q from is no_of = sym (ap (λ (o : Option Pid). is_child o from) is) ∙ no_of
 
 module _ (now : ℕ) (from : Pid) (reason : Reason) (s : Standing) (apart : (i j : ℕ) (q : Pid) → child_at s.children i ≡ Some q → child_at s.children j ≡ Some q → i ≡ j) where
   test : Child → Bool
-  test c = is_of c.pid from
+  test c = is_child c.pid from
 
-  none_of : position (λ (c : Child). is_of c.pid from) s.children ≡ None → (j : ℕ) (q : Pid) → child_at s.children j ≡ Some q → same_pid q from ≡ false
+  none_of : position (λ (c : Child). is_child c.pid from) s.children ≡ None → (j : ℕ) (q : Pid) → child_at s.children j ≡ Some q → same_pid q from ≡ false
   none_of nowhere j q is =
       let x = child_is s.children j q is in
       let within : j < length s.children = slice_get_within s.children j x.0 x.1 in
       let at : get_or s.children j x.0 ≡ x.0 = get_or_from_slice_get s.children j x.0 x.0 x.1 in
-      let past : length s.children ≤ position_or_len (λ (c : Child). is_of c.pid from) s.children = past_end nowhere in
-      of_not x.0 q from x.2 (ap (λ (c : Child). is_of c.pid from) (sym at) ∙ fails_before_first (λ (c : Child). is_of c.pid from) s.children j x.0 (omega (arith, within, past)))
+      let past : length s.children ≤ position_or_len (λ (c : Child). is_child c.pid from) s.children = past_end nowhere in
+      of_not x.0 q from x.2 (ap (λ (c : Child). is_child c.pid from) (sym at) ∙ fails_before_first (λ (c : Child). is_child c.pid from) s.children j x.0 (omega (arith, within, past)))
     where
-      past_end : cond (nat_lt (position_or_len (λ (c : Child). is_of c.pid from) s.children) (length s.children)) (Some (position_or_len (λ (c : Child). is_of c.pid from) s.children)) None ≡ None
-          → length s.children ≤ position_or_len (λ (c : Child). is_of c.pid from) s.children
+      past_end : cond (nat_lt (position_or_len (λ (c : Child). is_child c.pid from) s.children) (length s.children)) (Some (position_or_len (λ (c : Child). is_child c.pid from) s.children)) None ≡ None
+          → length s.children ≤ position_or_len (λ (c : Child). is_child c.pid from) s.children
       past_end h = grind (arith, h)
 
-  one_of : (place : ℕ) → position (λ (c : Child). is_of c.pid from) s.children ≡ Some place → (d : Child) → (slice_get s.children place ≡ Some (get_or s.children place d)) × (child_at s.children place ≡ Some from)
+  one_of : (place : ℕ) → position (λ (c : Child). is_child c.pid from) s.children ≡ Some place → (d : Child) → (slice_get s.children place ≡ Some (get_or s.children place d)) × (child_at s.children place ≡ Some from)
   one_of place found d =
-      let p = position-Some (λ (c : Child). is_of c.pid from) s.children place d found in
+      let p = position-Some (λ (c : Child). is_child c.pid from) s.children place d found in
       let at : slice_get s.children place ≡ Some (get_or s.children place d) = slice_get-get_or s.children place d p.0 in
-      (at, ap pid_in at ∙ of_is (get_or s.children place d).pid from p.1)
+      (at, ap pid_of_child at ∙ of_is (get_or s.children place d).pid from p.1)
 
-  less_lost : (place : ℕ) (c : Option Child) → position (λ (x : Child). is_of x.pid from) s.children ≡ Some place → slice_get s.children place ≡ c → (r : Reason) → Less (Item.Exit from r) s (lost now reason place c s)
+  less_lost : (place : ℕ) (c : Option Child) → position (λ (x : Child). is_child x.pid from) s.children ≡ Some place → slice_get s.children place ≡ c → (r : Reason) → Less (Item.Exit from r) s (lost now reason place c s)
   less_lost place None found at r = record {
     sub = λ j q is. is;
     stop = λ h. h;
@@ -166,7 +166,7 @@ module _ (now : ℕ) (from : Pid) (reason : Reason) (s : Standing) (apart : (i j
       here j q is same =
           let bad : None ≡ Some q = sym (set_at s.children place c v at) ∙ ap (child_at (slice_set s.children place v)) (sym same) ∙ before j q is in absurd (cc)
 
-  less_at : (at : Option ℕ) → position (λ (x : Child). is_of x.pid from) s.children ≡ at → (r : Reason) → Less (Item.Exit from r) s (heard_at at now reason s)
+  less_at : (at : Option ℕ) → position (λ (x : Child). is_child x.pid from) s.children ≡ at → (r : Reason) → Less (Item.Exit from r) s (heard_at at now reason s)
   less_at None nowhere r = record { sub = λ j q is. is; stop = λ h. h; out = λ h j q is. none_of nowhere j q is; kept = λ j q is. inl is; count = refl }
   less_at (Some place) found r = less_lost place (slice_get s.children place) found refl r
 
@@ -176,8 +176,8 @@ module _ (now : ℕ) (from : Pid) (reason : Reason) (s : Standing) (apart : (i j
 
   pub less_heard : Less (Item.Exit from reason) s (heard now from reason s)
   less_heard =
-      less_parent (is_of s.parent from) (heard_at (position (λ (c : Child). is_of c.pid from) s.children) now reason s) reason
-      (less_at (position (λ (c : Child). is_of c.pid from) s.children) refl reason)
+      less_parent (is_child s.parent from) (heard_at (position (λ (c : Child). is_child c.pid from) s.children) now reason s) reason
+      (less_at (position (λ (c : Child). is_child c.pid from) s.children) refl reason)
 
 -- desks that go on -----------------------------------------------------------------------------------
 
@@ -191,10 +191,10 @@ goes_is me d e is = record { later = later_is d e is; acts = acts_is me d e is }
 pub goes_then : (me : Pid) (d f e : ShardState) → Goes me d f → Goes me f e → Goes me d e
 goes_then me d f e a b = record { later = later_then d f e a.later b.later; acts = acts_then me d f e a.later a.acts b.acts }
 
-pub goes_event : (me : Pid) (d e : ShardState) (ev : Event) → ((q : Pid) → same_pid me q ≡ false → touches q ev ≡ false) → ((q : Pid) → child_by q ev ≡ []) → e ≡ after ev d → Goes me d e
+pub goes_event : (me : Pid) (d e : ShardState) (ev : Event) → ((q : Pid) → same_pid me q ≡ false → touches q ev ≡ false) → ((q : Pid) → child_by q ev ≡ []) → e ≡ shard_after ev d → Goes me d e
 goes_event me d e ev own bare is = record {
   later = subst (λ (f : ShardState). IsLater d f) (sym is) (later_after ev d);
-  acts = λ q other born. alone_then q d (after ev d) e (alone_event ev d q (own q other) (bare q)) (alone_is (after ev d) e is q);
+  acts = λ q other born. alone_then q d (shard_after ev d) e (alone_event ev d q (own q other) (bare q)) (alone_is (shard_after ev d) e is q);
 }
 
 pub cut_later : (me q : Pid) (d e : ShardState) → IsLater d e → has_cut me q d.journal ≡ true → has_cut me q e.journal ≡ true
@@ -275,7 +275,7 @@ pub kept_is : (children : List Child) (started : ℕ) (stopping : Option Reason)
 kept_is children started stopping me d e is k = subst (Kept children started stopping me) (sym is) k
 
 -- an event of its own
-pub own_phase : (me : Pid) (ev : Event) (d : ShardState) (s : ProcessState) (own : touches me ev ≡ true) → phase_of d me ≡ living s → phase_of (after ev d) me ≡ change me ev (living s)
+pub own_phase : (me : Pid) (ev : Event) (d : ShardState) (s : ProcessState) (own : touches me ev ≡ true) → phase_of d me ≡ living s → phase_of (shard_after ev d) me ≡ change me ev (living s)
 own_phase me ev d s own is i = cond (own i) (change me ev (is i)) (is i)
 
 said_own : (me p : Pid) (x : Signal) (q : Pid) → same_pid me q ≡ false → touches q (Said me p x) ≡ false
@@ -294,7 +294,7 @@ module _ (me p : Pid) (reason : Reason) where
   pub told_kept : (children : List Child) (started : ℕ) (stopping : Option Reason) (d e : ShardState) (result : Result (Unit {0}) Fault) → Calls me (Some (Said me p (Signal.Exit reason))) (tt {0}) d result e → Kept children started stopping me d → Kept children started stopping me e
   told_kept children started stopping d e (Ok x) c k =
       kept_step children started stopping me d e (told_goes d e (Ok x) c).later (ap (λ (f : ShardState). children_by me f.journal) c.3) k k.state
-      (phase_is (after (Said me p (Signal.Exit reason)) d) e c.3 me ∙ own_phase me (Said me p (Signal.Exit reason)) d k.state (same_pid_refl me) k.living_is) k.traps (λ q h. h)
+      (phase_is (shard_after (Said me p (Signal.Exit reason)) d) e c.3 me ∙ own_phase me (Said me p (Signal.Exit reason)) d k.state (same_pid_refl me) k.living_is) k.traps (λ q h. h)
   told_kept children started stopping d e (Err Gone) c k = kept_is children started stopping me d e c.1 k
   told_kept children started stopping d e (Err Worn) c k = kept_is children started stopping me d e c.3 k
   told_kept children started stopping d e (Err Memory) c k = kept_is children started stopping me d e c.3 k
@@ -309,7 +309,7 @@ newborn_born parent link unborn = refl
 newborn_born parent link (living s) = refl
 newborn_born parent link (ended r s) = refl
 
-module _ (me p : Pid) (d e : ShardState) (i : LinkId) (unborn_is : is_unborn (phase_of d p) ≡ true) (start : e.start ≡ d.start) (journal : e.journal ≡ (after (Born p (Some me) (Some i)) d).journal) where
+module _ (me p : Pid) (d e : ShardState) (i : LinkId) (unborn_is : is_unborn (phase_of d p) ≡ true) (start : e.start ≡ d.start) (journal : e.journal ≡ (shard_after (Born p (Some me) (Some i)) d).journal) where
   ev : Event
   ev = Born p (Some me) (Some i)
 
@@ -318,12 +318,12 @@ module _ (me p : Pid) (d e : ShardState) (i : LinkId) (unborn_is : is_unborn (ph
       (λ same. let bad : false ≡ true = sym born ∙ ap (λ (x : Pid). is_unborn (phase_of d x)) (same_pid_is q p same) ∙ unborn_is in absurd (cc))
       (λ other. other)
 
-  same_phase : (q : Pid) → phase_of e q ≡ phase_of (after (Born p (Some me) (Some i)) d) q
-  same_phase q = phase_same (after (Born p (Some me) (Some i)) d) e start journal q
+  same_phase : (q : Pid) → phase_of e q ≡ phase_of (shard_after (Born p (Some me) (Some i)) d) q
+  same_phase q = phase_same (shard_after (Born p (Some me) (Some i)) d) e start journal q
 
   pub born_goes : Goes me d e
   born_goes = record {
-    later = later_then d (after (Born p (Some me) (Some i)) d) e (later_after (Born p (Some me) (Some i)) d) (later_same (after (Born p (Some me) (Some i)) d) e start journal);
+    later = later_then d (shard_after (Born p (Some me) (Some i)) d) e (later_after (Born p (Some me) (Some i)) d) (later_same (shard_after (Born p (Some me) (Some i)) d) e start journal);
     acts = λ q other born. (
       same_phase q ∙ (λ n. cond (apart_from q born n || same_pid_sym me q other n) (cond (same_pid q p) (newborn (Some me) (Some i) (phase_of d q)) (while_living (linked (Some p) (Some i)) (phase_of d q))) (phase_of d q)),
       ap (children_by q) journal ∙ ap (λ (b : Bool). cond b (p ∷ []) [] ++ children_by q d.journal) (same_pid_sym me q other),
@@ -384,7 +384,7 @@ module _ (me p : Pid) (d e : ShardState) (i : LinkId) (unborn_is : is_unborn (ph
 
       still_placed : (q : Pid) → IsPlaced children q → IsPlaced (slice_set children place v) q
       still_placed q placed = elim (cases_eq placed.0 place) [
-        | inl same ↦ absurd (let bad : None ≡ Some q = sym missing ∙ sym (ap pid_in at) ∙ sym (ap (child_at children) same) ∙ placed.1 in cc)
+        | inl same ↦ absurd (let bad : None ≡ Some q = sym missing ∙ sym (ap pid_of_child at) ∙ sym (ap (child_at children) same) ∙ placed.1 in cc)
         | inr other ↦ (placed.0, set_same_at children place placed.0 v q other placed.1)
       ]
 

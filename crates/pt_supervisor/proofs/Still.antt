@@ -24,7 +24,7 @@ use Rattle.pt_crew.specs.Crews.{members, queue, role, roles, waiting}
 use Rattle.pt_crew.specs.Upholding.{Relation, AllFirst, Upholds}
 use Rattle.pt_crew.proofs.Waking.{by_cases, some_none}
 use Rattle.pt_supervisor.specs.Hearing.{Standing}
-use Rattle.pt_supervisor.specs.Keeping.{pid_in, is_exit_of, has_cut, IsHeld, Holds, PartOf, HoldsAs, IsIdle, QuietChildrenLive}
+use Rattle.pt_supervisor.specs.Keeping.{pid_of_child, is_exit_of, has_cut, IsHeld, Holds, PartOf, HoldsAs, IsIdle, QuietChildrenLive}
 use Rattle.pt_supervisor.proofs.Wanting.{lives_when_wanted}
 
 -- a crew of nobody upholds what it likes
@@ -96,4 +96,4 @@ module _ {B : Type 0} (part : PartOf B) (say : JournalsSay) (there : MergeIsTher
       outcome : (alive (begins g) (events merged) q.0 ≡ true) ⊎ (has_cut p q.0 d.journal ≡ true)
       outcome = by_cases (same_pid p q.0)
           (λ same. inl (subst (λ (x : Pid). alive (begins g) (events merged) x ≡ true) (same_pid_is p q.0 same) lives_there))
-          (λ other. go (holds.family.held holds.waits.2 place q.0 (ap pid_in at_place ∙ q.1)) other)
+          (λ other. go (holds.family.held holds.waits.2 place q.0 (ap pid_of_child at_place ∙ q.1)) other)

@@ -17,7 +17,7 @@ use Rattle.pt_events.specs.declared.event.Event.TheVariants.{Came, Said, Took, F
 use Rattle.pt_events.specs.History.{Phase, unborn, living, ended, is_unborn, is_living, state_of, gets, leaves, live_or_end}
 use Rattle.pt_shard.specs.declared.fault.Fault.{Fault}
 use Rattle.pt_shard.specs.declared.fault.Fault.TheVariants.{Full, Memory, Worn, Gone, Myself, NoProc}
-use Rattle.pt_shard.specs.ShardState.{ShardState, phase_of, state_in, lives, after, handled}
+use Rattle.pt_shard.specs.ShardState.{ShardState, phase_of, state_in, lives, shard_after, handled}
 use Rattle.pt_shard.specs.Known.{knows}
 use Rattle.pt_shard.specs.Calls.{Calls, BearsChild, new_link}
 use Rattle.pt_desk.specs.DeskState.{DeskState}
@@ -27,14 +27,14 @@ use Rattle.pt_crew.specs.declared.births.Role.{Role}
 use Rattle.pt_crew.specs.Births.{Bore}
 use Rattle.pt_crew.specs.Telling.{IfKnown}
 use Rattle.pt_crew.specs.Visiting.{Answers}
-use Rattle.pt_crew.specs.Upholding.{IsLater, IsLeftAlone, ActsFor, IsTaken, AllFirst, IsUpheld, children_by}
+use Rattle.pt_crew.specs.Upholding.{IsLater, IsLeftAlone, ActsFor, ItemIsTaken, AllFirst, IsUpheld, children_by}
 use Rattle.pt_crew.proofs.Waking.{by_cases}
 use Rattle.pt_crew.proofs.Upholding.{later_after, later_handled, born_then, phase_is, same_pid_sym}
 use Rattle.pt_supervisor.specs.declared.children.Child.{Child}
 use Rattle.pt_supervisor.specs.Children.{NoneLives, is_missing, last_alive}
 use Rattle.pt_supervisor.specs.Hearing.{Standing, heard}
-use Rattle.pt_supervisor.specs.Supervising.{StartsOf, Nursery, BearsAs, StartsAt, StartsOne, StartsFirst, StartsAll, Scene, nursery, Settles, AdvancesAs, Attends, Handles, Supervises, with_pid, with_one, after_attending}
-use Rattle.pt_supervisor.specs.Keeping.{is_exit_of, is_cut, has_cut, IsTied, IsHeld, Family, was_started, Remembers, Holds, Tends, PartOf, HoldsAs, Keeps, BeginsAs, AllBegin, ActsAs, SuperviseAs}
+use Rattle.pt_supervisor.specs.Supervising.{StartsOf, Nursery, BearsAs, StartsAt, StartsOne, StartsFirst, StartsAll, SupervisorScene, nursery, SupervisorSettles, AdvancesAs, SupervisorAttends, SupervisorHandles, Supervises, with_pid, with_one, after_attending}
+use Rattle.pt_supervisor.specs.Keeping.{is_exit_of, is_cut, has_cut, IsTied, IsHeld, Family, was_started, Remembers, Holds, Tends, PartOf, HoldsAs, Keeps, SupervisorBegins, AllBegin, ActsAs, SuperviseAs}
 use Rattle.pt_supervisor.proofs.Tying.{or_left, stays_in, tied_by, is_unlink, handled_tied, handled_traps}
 use Rattle.pt_supervisor.proofs.Telling.{found_any, waits_told}
 use Rattle.pt_supervisor.proofs.Families.{none_at, Less, less_heard, Goes, goes_is, goes_then, goes_event, cut_later, remembers_step, remembers_less, Kept, family_step, kept_is, own_phase, told_goes, told_kept, born_goes, born_kept}
@@ -131,7 +131,7 @@ module _ {S B : Type 0} (starts : StartsOf S B) (me : Pid) where
 
 -- what it does once it has heard --------------------------------------------------------------------
 
-abbrev KeptAt : {S B : Type 0} → Pid → Scene S B → Type 0
+abbrev KeptAt : {S B : Type 0} → Pid → SupervisorScene S B → Type 0
 KeptAt me s = Kept s.standing.children s.standing.started s.standing.stopping me s.desk.shard
 
 module _ {S B : Type 0} (starts : StartsOf S B) (me : Pid) where
@@ -145,22 +145,22 @@ module _ {S B : Type 0} (starts : StartsOf S B) (me : Pid) where
   known_kept p reason true d e result children started stopping h k = told_kept me p reason children started stopping d.shard e.shard result h k
   known_kept p reason false d e result children started stopping h k = kept_is children started stopping me d.shard e.shard (ap (λ (x : DeskState). x.shard) h.1) k
 
-  settles_goes : (stopping : Option Reason) (old : Scene S B) (next : Next) (new : Scene S B) → Settles starts me stopping old next new → Goes me old.desk.shard new.desk.shard
-  settles_goes (Some r) old next new h = goes_is me old.desk.shard new.desk.shard (ap (λ (x : Scene S B). x.desk.shard) h.1)
+  settles_goes : (stopping : Option Reason) (old : SupervisorScene S B) (next : Next) (new : SupervisorScene S B) → SupervisorSettles starts me stopping old next new → Goes me old.desk.shard new.desk.shard
+  settles_goes (Some r) old next new h = goes_is me old.desk.shard new.desk.shard (ap (λ (x : SupervisorScene S B). x.desk.shard) h.1)
   settles_goes None old next new h = all_goes starts me (length old.standing.children) (nursery old) (nursery new) h.0 h.1
 
-  settles_kept : (stopping : Option Reason) (old : Scene S B) (next : Next) (new : Scene S B) → old.standing.stopping ≡ stopping → Settles starts me stopping old next new → KeptAt me old → KeptAt me new
+  settles_kept : (stopping : Option Reason) (old : SupervisorScene S B) (next : Next) (new : SupervisorScene S B) → old.standing.stopping ≡ stopping → SupervisorSettles starts me stopping old next new → KeptAt me old → KeptAt me new
   settles_kept (Some r) old next new is h k = subst (KeptAt me) (sym h.1) k
   settles_kept None old next new is h k =
       subst (λ (o : Option Reason). Kept new.standing.children new.standing.started o me new.desk.shard) (sym (ap (λ (s : Standing). s.stopping) h.3 ∙ is))
       (all_kept starts me (length old.standing.children) (nursery old) (nursery new) h.0 h.1
       (subst (λ (o : Option Reason). Kept old.standing.children old.standing.started o me old.desk.shard) is k))
 
-  advances_goes : (last : Option (Pid × Reason)) (old : Scene S B) (next : Next) (new : Scene S B) → AdvancesAs starts me last old next new → Goes me old.desk.shard new.desk.shard
+  advances_goes : (last : Option (Pid × Reason)) (old : SupervisorScene S B) (next : Next) (new : SupervisorScene S B) → AdvancesAs starts me last old next new → Goes me old.desk.shard new.desk.shard
   advances_goes (Some (p, reason)) old next new h = known_goes p reason (knows old.desk.shard p) old.desk new.desk h.result h.signal
   advances_goes None old next new h = settles_goes old.standing.stopping old next new h
 
-  advances_kept : (last : Option (Pid × Reason)) (old : Scene S B) (next : Next) (new : Scene S B) → AdvancesAs starts me last old next new → KeptAt me old → KeptAt me new
+  advances_kept : (last : Option (Pid × Reason)) (old : SupervisorScene S B) (next : Next) (new : SupervisorScene S B) → AdvancesAs starts me last old next new → KeptAt me old → KeptAt me new
   advances_kept (Some (p, reason)) old next new h k =
       subst (λ (s : Standing). Kept s.children s.started s.stopping me new.desk.shard) (sym h.same.1)
       (known_kept p reason (knows old.desk.shard p) old.desk new.desk h.result old.standing.children old.standing.started old.standing.stopping h.signal k)
@@ -177,7 +177,7 @@ waits_traps : (traps : Bool) (before : Next) (pick : Pick) (children : List Chil
 waits_traps traps before pick children (inl h) waits = h
 waits_traps traps before pick children (inr h) waits = absurd (let bad : Proceed ≡ Wait pick = sym h.0 ∙ waits in cc)
 
-taken_kept : (me : Pid) (item : Item) (s m : Standing) (before : Next) (was d : ShardState) → Less item s m → IsTaken me before (Some item) was d → Holds s before me was → Kept m.children m.started m.stopping me d
+taken_kept : (me : Pid) (item : Item) (s m : Standing) (before : Next) (was d : ShardState) → Less item s m → ItemIsTaken me before (Some item) was d → Holds s before me was → Kept m.children m.started m.stopping me d
 taken_kept me item s m before was d less taken h = record {
   remembers = remembers_less item s m me was d later (ap (λ (f : ShardState). children_by me f.journal) taken.4)
       (λ q is new. waits_told me q was.start was.journal new (found_any (is_exit_of q) (fits taken.0) (state_in was me).waiting item taken.3 is)) less h.remembers;
@@ -198,7 +198,7 @@ taken_kept me item s m before was d less taken h = record {
     t = record (st.0) { waiting = without_first (fits taken.0) st.0.waiting }
 
     now : phase_of d me ≡ living t
-    now = phase_is (after (Took me taken.0 item) was) d taken.4 me ∙ own_phase me (Took me taken.0 item) was st.0 (same_pid_refl me) st.1
+    now = phase_is (shard_after (Took me taken.0 item) was) d taken.4 me ∙ own_phase me (Took me taken.0 item) was st.0 (same_pid_refl me) st.1
 
     later : IsLater was d
     later = subst (λ (f : ShardState). IsLater was f) (sym taken.4) (later_after (Took me taken.0 item) was)
@@ -229,14 +229,14 @@ refused_holds s m me before was d e same proceeds is as_is h =
     subst (λ (x : Standing). Holds x Proceed me e) (sym same) (subst (λ (n : Next). Holds s n me e) proceeds (subst (Holds s before me) (sym (as_is ∙ is)) h))
 
 flag_attends : (me : Pid) (s m : Standing) (before : Next) (was d e : ShardState) (on answer : Bool) (result : Result Bool Fault) → Calls me (Some (Flag me true)) on d result e → answer ≡ is_ok result → m ≡ s
-    → IsTaken me before None was d → Holds s before me was → Attended answer m me e
+    → ItemIsTaken me before None was d → Holds s before me was → Attended answer m me e
 flag_attends me s m before was d e on answer (Ok x) c ok same taken h =
     subst (λ (a : Bool). Attended a m me e) (sym ok) (record {
       state = record (st.0) { traps = true };
-      living_is = phase_is (after (Flag me true) d) e c.3 me ∙ own_phase me (Flag me true) d st.0 (same_pid_refl me) st.1;
+      living_is = phase_is (shard_after (Flag me true) d) e c.3 me ∙ own_phase me (Flag me true) d st.0 (same_pid_refl me) st.1;
       traps = refl;
       family = family_step m.children m.stopping me d e (flag_goes me on d e (Ok x) c).later (λ q tied.
-          inl (subst (λ (f : Phase). IsTied (state_of f) q) (sym (phase_is (after (Flag me true) d) e c.3 me ∙ own_phase me (Flag me true) d st.0 (same_pid_refl me) st.1))
+          inl (subst (λ (f : Phase). IsTied (state_of f) q) (sym (phase_is (shard_after (Flag me true) d) e c.3 me ∙ own_phase me (Flag me true) d st.0 (same_pid_refl me) st.1))
           (tied_by st.0 (record (st.0) { traps = true }) q (λ k. k) (λ k. k) (subst (λ (f : Phase). IsTied (state_of f) q) st.1 tied))))
           (subst (λ (x : Standing). Family x.children x.stopping me d) (sym same) (subst (Family s.children s.stopping me) (sym taken.2) h.family));
       remembers = remembers_step m.children m.started me d e (flag_goes me on d e (Ok x) c).later (ap (λ (f : ShardState). children_by me f.journal) c.3)
@@ -256,14 +256,14 @@ less_same : (item : Item) (s : Standing) → ((q : Pid) → is_exit_of q item �
 less_same item s none = record { sub = λ j q is. is; stop = λ h. h; out = λ h j q is. none q; kept = λ j q is. inl is; count = refl }
 
 heard_attends : (me : Pid) (item : Item) (s m n : Standing) (before : Next) (was : ShardState) (d e : DeskState) (answer : Bool) → answer ≡ true → m ≡ n → e ≡ d → Less item s n
-    → IsTaken me before (Some item) was d.shard → Holds s before me was → Attended answer m me e.shard
+    → ItemIsTaken me before (Some item) was d.shard → Holds s before me was → Attended answer m me e.shard
 heard_attends me item s m n before was d e answer on is same less taken h =
     subst (λ (a : Bool). Attended a m me e.shard) (sym on)
     (subst (λ (x : Standing). Kept x.children x.started x.stopping me e.shard) (sym is)
     (kept_is n.children n.started n.stopping me d.shard e.shard (ap (λ (x : DeskState). x.shard) same) (taken_kept me item s n before was d.shard less taken h)))
 
-attends_to : (me : Pid) (item : Option Item) (s m : Standing) (before : Next) (was : ShardState) (d e : DeskState) (answer : Bool) → Attends me item s d answer m e
-    → IsTaken me before item was d.shard → Holds s before me was → Attended answer m me e.shard
+attends_to : (me : Pid) (item : Option Item) (s m : Standing) (before : Next) (was : ShardState) (d e : DeskState) (answer : Bool) → SupervisorAttends me item s d answer m e
+    → ItemIsTaken me before item was d.shard → Holds s before me was → Attended answer m me e.shard
 attends_to me (Some (Exit from r)) s m before was d e answer a taken h =
     heard_attends me (Exit from r) s m (heard d.shard.clock from r s) before was d e answer a.0 a.1 a.2 (less_heard d.shard.clock from r s h.family.apart) taken h
 attends_to me (Some (User from b)) s m before was d e answer a taken h = heard_attends me (User from b) s m s before was d e answer a.0 a.1 a.2 (less_same (User from b) s (λ q. refl)) taken h
@@ -271,7 +271,7 @@ attends_to me (Some (Down x from r)) s m before was d e answer a taken h = heard
 attends_to me (Some (Alive x from y)) s m before was d e answer a taken h = heard_attends me (Alive x from y) s m s before was d e answer a.0 a.1 a.2 (less_same (Alive x from y) s (λ q. refl)) taken h
 attends_to me None s m before was d e answer a taken h = flag_attends me s m before was d.shard e.shard (state_in d.shard me).traps answer a.0 a.1 a.2 a.3 taken h
 
-attends_goes : (me : Pid) (item : Option Item) (s m : Standing) (d e : DeskState) (answer : Bool) → Attends me item s d answer m e → Goes me d.shard e.shard
+attends_goes : (me : Pid) (item : Option Item) (s m : Standing) (d e : DeskState) (answer : Bool) → SupervisorAttends me item s d answer m e → Goes me d.shard e.shard
 attends_goes me (Some (Exit from r)) s m d e answer a = goes_is me d.shard e.shard (ap (λ (x : DeskState). x.shard) a.2)
 attends_goes me (Some (User from b)) s m d e answer a = goes_is me d.shard e.shard (ap (λ (x : DeskState). x.shard) a.2)
 attends_goes me (Some (Down x from r)) s m d e answer a = goes_is me d.shard e.shard (ap (λ (x : DeskState). x.shard) a.2)
@@ -281,21 +281,21 @@ attends_goes me None s m d e answer a = flag_goes me (state_in d.shard me).traps
 -- so it handles an item, or none ---------------------------------------------------------------------------
 
 module _ {S B : Type 0} (starts : StartsOf S B) (me : Pid) where
-  then_goes : (answer : Bool) (mid : Scene S B) (next : Next) (new : Scene S B) → after_attending starts me answer mid next new → Goes me mid.desk.shard new.desk.shard
+  then_goes : (answer : Bool) (mid : SupervisorScene S B) (next : Next) (new : SupervisorScene S B) → after_attending starts me answer mid next new → Goes me mid.desk.shard new.desk.shard
   then_goes true mid next new h = advances_goes starts me (last_alive mid.standing.children mid.standing.ending (length mid.standing.children)) mid next new h
-  then_goes false mid next new h = goes_is me mid.desk.shard new.desk.shard (ap (λ (x : Scene S B). x.desk.shard) h.1)
+  then_goes false mid next new h = goes_is me mid.desk.shard new.desk.shard (ap (λ (x : SupervisorScene S B). x.desk.shard) h.1)
 
   kept_holds : (s : Standing) (next : Next) (e : ShardState) → Supervises next s → Kept s.children s.started s.stopping me e → Holds s next me e
   kept_holds s next e waits k = record { waits = waits; remembers = k.remembers; traps = inl (subst (λ (f : Phase). (state_of f).traps ≡ true) (sym k.living_is) k.traps); family = k.family }
 
-  then_holds : (answer : Bool) (mid : Scene S B) (next : Next) (new : Scene S B) → after_attending starts me answer mid next new → Supervises next new.standing → Attended answer mid.standing me mid.desk.shard
+  then_holds : (answer : Bool) (mid : SupervisorScene S B) (next : Next) (new : SupervisorScene S B) → after_attending starts me answer mid next new → Supervises next new.standing → Attended answer mid.standing me mid.desk.shard
       → Holds new.standing next me new.desk.shard
   then_holds true mid next new h waits k =
       kept_holds new.standing next new.desk.shard waits (advances_kept starts me (last_alive mid.standing.children mid.standing.ending (length mid.standing.children)) mid next new h k)
   then_holds false mid next new h waits k =
-      subst (λ (x : Scene S B). Holds x.standing next me x.desk.shard) (sym h.1) (subst (λ (n : Next). Holds mid.standing n me mid.desk.shard) (sym h.0) k)
+      subst (λ (x : SupervisorScene S B). Holds x.standing next me x.desk.shard) (sym h.1) (subst (λ (n : Next). Holds mid.standing n me mid.desk.shard) (sym h.0) k)
 
-  pub handles_tend : (item : Option Item) (old : Scene S B) (next : Next) (new : Scene S B) → Handles starts me item old next new → Supervises next new.standing
+  pub handles_tend : (item : Option Item) (old : SupervisorScene S B) (next : Next) (new : SupervisorScene S B) → SupervisorHandles starts me item old next new → Supervises next new.standing
       → Tends me item old.standing old.desk.shard next new.standing new.desk.shard
   handles_tend item old next new h waits = record {
     acts = (goes_then me old.desk.shard h.mid.desk.shard new.desk.shard (attends_goes me item old.standing h.mid.standing old.desk h.mid.desk h.answer h.attends) (then_goes h.answer h.mid next new h.goes)).acts;
@@ -388,15 +388,15 @@ not_left r unborn h = absurd (cc)
 not_left r (living s) h = absurd (cc)
 not_left r (ended w s) h = absurd (cc)
 
-ended_holds : (o : Option Standing) (r : Reason) (me : Pid) (d : ShardState) → HoldsAs o (Stop r) me d → HoldsAs o (Stop r) me (after (Left me r) d)
+ended_holds : (o : Option Standing) (r : Reason) (me : Pid) (d : ShardState) → HoldsAs o (Stop r) me d → HoldsAs o (Stop r) me (shard_after (Left me r) d)
 ended_holds None r me d h = tt
 ended_holds (Some s) r me d h = (
   λ alive. not_left r (phase_of d me) (sym (λ i. is_living (cond (same_pid_refl me i) (leaves r (phase_of d me)) (phase_of d me))) ∙ alive),
   h.1,
-  remembers_step s.children s.started me d (after (Left me r) d) (later_after (Left me r) d) refl h.2,
+  remembers_step s.children s.started me d (shard_after (Left me r) d) (later_after (Left me r) d) refl h.2,
 )
 
-pub begins : (o : Option Standing) (next : Next) (me : Pid) (d : ShardState) → BeginsAs o next → HoldsAs o next me d
+pub begins : (o : Option Standing) (next : Next) (me : Pid) (d : ShardState) → SupervisorBegins o next → HoldsAs o next me d
 begins None next me d h = tt
 begins (Some s) next me d h = (
   λ alive. record {
@@ -423,7 +423,7 @@ begins (Some s) next me d h = (
         nobody [] any = absurd (cc)
         nobody (x ∷ qs) any = absurd (cc)
 
-taken_lives : (me : Pid) (before : Next) (item : Option Item) (was d : ShardState) → IsTaken me before item was d → lives was me ≡ true
+taken_lives : (me : Pid) (before : Next) (item : Option Item) (was d : ShardState) → ItemIsTaken me before item was d → lives was me ≡ true
 taken_lives me before None was d h = h.1
 taken_lives me before (Some item) was d h = h.2
 
@@ -437,7 +437,7 @@ module _ {B : Type 0} (part : PartOf B) where
   acts_as (Some s) me item d next later e h = h.2.acts
 
   hands_as : (o : Option Standing) (before : Next) (me : Pid) (item : Option Item) (was d : ShardState) (next : Next) (later : Option Standing) (e : ShardState) → HoldsAs o before me was
-      → is_unborn (phase_of was me) ≡ false → IsTaken me before item was d → ActsAs o me item d next later e → HoldsAs later next me e
+      → is_unborn (phase_of was me) ≡ false → ItemIsTaken me before item was d → ActsAs o me item d next later e → HoldsAs later next me e
   hands_as None before me item was d next later e h born taken acts = subst (λ (x : Option Standing). HoldsAs x next me e) (sym acts.0) tt
   hands_as (Some s) before me item was d next later e h born taken acts =
       subst (λ (x : Option Standing). HoldsAs x next me e) (sym acts.1)

@@ -8,9 +8,9 @@ use Rattle.pt_signal.specs.declared.pid.Pid.{Pid}
 use Rattle.pt_signal.specs.declared.reason.Reason.{Reason}
 use Rattle.pt_supervisor.specs.declared.children.Child.{Child}
 use Rattle.pt_supervisor.specs.declared.restart.Restart.{Restart}
-use Rattle.pt_supervisor.specs.Children.{PermanentAreWanted, is_of, is_missing}
+use Rattle.pt_supervisor.specs.Children.{PermanentAreWanted, is_child, is_missing}
 use Rattle.pt_supervisor.specs.Limits.{allows}
-use Rattle.pt_supervisor.specs.Hearing.{Standing, gone, heard, heard_at, is_temporary, lives_again, lost, restarted, started_again, stopped}
+use Rattle.pt_supervisor.specs.Hearing.{Standing, gone, heard, heard_at, is_temporary, lives_again, lost, restarted_child, started_again, stopped}
 
 pub set_same : (xs : List Child) (i : ℕ) (v : Child) → i < length xs → slice_get (slice_set xs i v) i ≡ Some v
 set_same xs i v l = slice_get-get_or (set xs i v) i v (omega (arith, length-set xs i v, l)) ∙ ap Some (get_or-set_same xs i v v l)
@@ -45,7 +45,7 @@ permanent_again : (bidden : Bool) (restart : Restart) (reason : Reason) → rest
 permanent_again true restart reason is = ap (λ (r : Restart). not (is_temporary r)) is
 permanent_again false restart reason is = ap (λ (r : Restart). lives_again false r reason) is
 
-restarted_same : (allowed : Bool) (now place : ℕ) (s : Standing) → (restarted allowed now place s).children ≡ s.children
+restarted_same : (allowed : Bool) (now place : ℕ) (s : Standing) → (restarted_child allowed now place s).children ≡ s.children
 restarted_same true now place s = refl
 restarted_same false now place s = refl
 
@@ -53,7 +53,7 @@ pub again_same : (again : Bool) (now place : ℕ) (s : Standing) → (started_ag
 again_same true now place s = restarted_same (allows now s.span s.most s.times) now place s
 again_same false now place s = refl
 
-restarted_count : (allowed : Bool) (now place : ℕ) (s : Standing) → (restarted allowed now place s).started ≡ s.started
+restarted_count : (allowed : Bool) (now place : ℕ) (s : Standing) → (restarted_child allowed now place s).started ≡ s.started
 restarted_count true now place s = refl
 restarted_count false now place s = refl
 
@@ -81,8 +81,8 @@ parent_or false reason s other k h = h
 
 pub heard_keeps : (now : ℕ) (from : Pid) (reason : Reason) (s : Standing) → PermanentAreWanted s.children → PermanentAreWanted (heard now from reason s).children
 heard_keeps now from reason s k =
-    parent_or (is_of s.parent from) reason s (heard_at (position (λ (c : Child). is_of c.pid from) s.children) now reason s) k
-    (at_keeps (position (λ (c : Child). is_of c.pid from) s.children) now reason s k)
+    parent_or (is_child s.parent from) reason s (heard_at (position (λ (c : Child). is_child c.pid from) s.children) now reason s) k
+    (at_keeps (position (λ (c : Child). is_child c.pid from) s.children) now reason s k)
 
 -- one that is to live and is not missing lives
 lives_if : (wanted pid : Bool) → wanted ≡ true → (wanted && not pid) ≡ false → pid ≡ true

@@ -11,9 +11,9 @@ use Rattle.pt_supervisor.specs.declared.children.Shutdown.{Shutdown}
 use Rattle.pt_supervisor.specs.declared.children.Shutdown.TheVariants.{Infinity, BrutalKill}
 
 -- there is a process, and it is this one
-abbrev pub is_of : Option Pid → Pid → Bool
-is_of None p = false
-is_of (Some q) p = same_pid q p
+abbrev pub is_child : Option Pid → Pid → Bool
+is_child None p = false
+is_child (Some q) p = same_pid q p
 
 -- it is to live, and does not
 abbrev pub is_missing : Child → Bool

@@ -10,8 +10,8 @@ use Rattle.pt_supervisor.specs.declared.restart.Restart.TheVariants.{Permanent, 
 use Rattle.pt_supervisor.specs.declared.restart.Strategy.{Strategy}
 use Rattle.pt_supervisor.specs.declared.supervisor.Supervisor.{Supervisor}
 use Rattle.pt_supervisor.specs.Restarts.{starts_again, ends_from}
-use Rattle.pt_supervisor.specs.Limits.{recent, allows, counted}
-use Rattle.pt_supervisor.specs.Children.{is_of}
+use Rattle.pt_supervisor.specs.Limits.{recent, allows, counted_restarts}
+use Rattle.pt_supervisor.specs.Children.{is_child}
 
 pub record Standing : Type 0 where
   pub children : List Child
@@ -77,16 +77,16 @@ gone bidden reason c = record c { pid = None; wanted = lives_again bidden c.rest
 
 -- One more restart, for the child at a place, if it is allowed: those whom the strategy names are ended first. Else the
 -- supervisor gives up.
-abbrev pub restarted : Bool → ℕ → ℕ → Standing → Standing
-restarted true now place s = record s {
-  times = counted true now (recent now s.span s.times);
+abbrev pub restarted_child : Bool → ℕ → ℕ → Standing → Standing
+restarted_child true now place s = record s {
+  times = counted_restarts true now (recent now s.span s.times);
   ending = ends_from s.strategy place (length s.children);
 }
-restarted false now place s = stopped Reason.Shutdown (record s { times = recent now s.span s.times })
+restarted_child false now place s = stopped Reason.Shutdown (record s { times = recent now s.span s.times })
 
 -- one that its supervisor ended, or that is not to live again, makes no restart of its own
 abbrev pub started_again : Bool → ℕ → ℕ → Standing → Standing
-started_again true now place s = restarted (allows now s.span s.most s.times) now place s
+started_again true now place s = restarted_child (allows now s.span s.most s.times) now place s
 started_again false now place s = s
 
 -- the child at a place has ended
@@ -104,5 +104,5 @@ heard_at (Some place) now reason s = lost now reason place (slice_get s.children
 -- It hears that a process has ended. With its parent it ends itself; a child is lost; of any other nothing comes.
 abbrev pub heard : ℕ → Pid → Reason → Standing → Standing
 heard now from reason s =
-    cond (is_of s.parent from) (stopped reason s)
-    (heard_at (position (λ c. is_of c.pid from) s.children) now reason s)
+    cond (is_child s.parent from) (stopped reason s)
+    (heard_at (position (λ c. is_child c.pid from) s.children) now reason s)

@@ -23,7 +23,7 @@ use Rattle.pt_crew.specs.declared.behaviour.Next.TheVariants.{Wait, Proceed}
 use Rattle.pt_crew.specs.declared.births.Role.{Role}
 use Rattle.pt_crew.specs.declared.crew.Crew.{Crew}
 use Rattle.pt_crew.specs.Visiting.{Answers}
-use Rattle.pt_crew.specs.Upholding.{Relation, ActsFor, IsTaken, Upholds, children_by}
+use Rattle.pt_crew.specs.Upholding.{Relation, ActsFor, ItemIsTaken, Upholds, children_by}
 use Rattle.pt_crew.specs.Waking.{has_work}
 use Rattle.pt_crew.specs.Crews.{roles}
 use Rattle.pt_supervisor.specs.declared.children.Child.{Child}
@@ -32,12 +32,12 @@ use Rattle.pt_supervisor.specs.Hearing.{Standing}
 use Rattle.pt_supervisor.specs.Supervising.{StartsOf, Supervises}
 
 -- the pid of the child at a place, if one lives there by all that its supervisor has heard
-abbrev pub pid_in : Option Child → Option Pid
-pid_in None = None
-pid_in (Some c) = c.pid
+abbrev pub pid_of_child : Option Child → Option Pid
+pid_of_child None = None
+pid_of_child (Some c) = c.pid
 
 abbrev pub child_at : List Child → ℕ → Option Pid
-child_at children place = pid_in (slice_get children place)
+child_at children place = pid_of_child (slice_get children place)
 
 -- the item tells of the end of q
 abbrev pub is_exit_of : Pid → Item → Bool
@@ -102,7 +102,7 @@ pub record Holds (s : Standing) (next : Next) (me : Pid) (d : ShardState) : Type
 pub record Tends (me : Pid) (item : Option Item) (s : Standing) (d : ShardState) (next : Next) (new : Standing)
     (e : ShardState) : Type 0 where
   pub acts : ActsFor me d e
-  pub keeps : (before : Next) (was : ShardState) → IsTaken me before item was d → is_unborn (phase_of was me) ≡ false
+  pub keeps : (before : Next) (was : ShardState) → ItemIsTaken me before item was d → is_unborn (phase_of was me) ≡ false
       → Holds s before me was → Holds new next me e
 
 -- the behaviours of those who are born are what the program's `Start` gave
@@ -131,13 +131,13 @@ abbrev pub Keeps : {B : Type 0} → PartOf B → Relation B
 Keeps part b next me d = HoldsAs (part b) next me d
 
 -- a supervisor begins by proceeding, with no child, and has started none
-abbrev pub BeginsAs : Option Standing → Next → Type 0
-BeginsAs None next = ⊤
-BeginsAs (Some s) next = (next ≡ Proceed) × NoneLives s.children × (s.started ≡ 0)
+abbrev pub SupervisorBegins : Option Standing → Next → Type 0
+SupervisorBegins None next = ⊤
+SupervisorBegins (Some s) next = (next ≡ Proceed) × NoneLives s.children × (s.started ≡ 0)
 
 abbrev pub AllBegin : {B : Type 0} → PartOf B → List (Role B) → Type 0
 AllBegin part [] = ⊤
-AllBegin part (r ∷ rs) = BeginsAs (part r.behaviour) r.next × AllBegin part rs
+AllBegin part (r ∷ rs) = SupervisorBegins (part r.behaviour) r.next × AllBegin part rs
 
 -- who is no supervisor does not become one, and acts for itself alone; a supervisor stays one, and sees to the item
 abbrev pub ActsAs : Option Standing → Pid → Option Item → ShardState → Next → Option Standing → ShardState → Type 0

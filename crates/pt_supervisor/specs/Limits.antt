@@ -14,13 +14,13 @@ recent now span times = filter (λ time. nat_lt (now - time) span) times
 abbrev pub allows : ℕ → ℕ → ℕ → List ℕ → Bool
 allows now span most times = nat_lt (length (recent now span times)) most
 
-abbrev pub counted : Bool → ℕ → List ℕ → List ℕ
-counted true now times = times ++ now ∷ []
-counted false now times = times
+abbrev pub counted_restarts : Bool → ℕ → List ℕ → List ℕ
+counted_restarts true now times = times ++ now ∷ []
+counted_restarts false now times = times
 
 -- where one more is allowed it is counted; older ones are forgotten
 abbrev pub Allows : ℕ → Limit → Bool → Limit → Type 0
 Allows now old answer new =
     (answer ≡ allows now old.span old.most old.times.items)
-    × (new.times.items ≡ counted answer now (recent now old.span old.times.items))
+    × (new.times.items ≡ counted_restarts answer now (recent now old.span old.times.items))
     × (new.most ≡ old.most) × (new.span ≡ old.span)

@@ -92,13 +92,13 @@ StartsAll {S} {B} starts me count old false new =
     × StartsOne starts me place mid false new
 
 -- a supervisor, its desk, and who was born
-pub record Scene (S B : Type 0) : Type 0 where
+pub record SupervisorScene (S B : Type 0) : Type 0 where
   pub start : S
   pub standing : Standing
   pub desk : DeskState
   pub born : List (Role B)
 
-abbrev pub nursery : {S B : Type 0} → Scene S B → Nursery S B
+abbrev pub nursery : {S B : Type 0} → SupervisorScene S B → Nursery S B
 nursery s = record {
   start = s.start;
   children = s.standing.children;
@@ -113,7 +113,7 @@ after_bid p (Ok done) = Wait (Pick.ExitOf p)
 after_bid p (Err f) = Proceed
 
 -- it tells one to end, by an exit signal
-pub record Bids {S B : Type 0} (me p : Pid) (reason : Reason) (old : Scene S B) (next : Next) (new : Scene S B)
+pub record Bids {S B : Type 0} (me p : Pid) (reason : Reason) (old : SupervisorScene S B) (next : Next) (new : SupervisorScene S B)
     : Type 0 where
   pub result : Result (Unit {0}) Fault
   pub signal : IfKnown (knows old.desk.shard p)
@@ -123,9 +123,9 @@ pub record Bids {S B : Type 0} (me p : Pid) (reason : Reason) (old : Scene S B) 
   pub same : (new.start ≡ old.start) × (new.standing ≡ old.standing) × (new.born ≡ old.born)
 
 -- nobody is to end any more: it ends, if it is to, or starts who is missing, and tries again where that was refused
-abbrev pub Settles : {S B : Type 0} → StartsOf S B → Pid → Option Reason → Scene S B → Next → Scene S B → Type 0
-Settles starts me (Some reason) old next new = (next ≡ Stop reason) × (new ≡ old)
-Settles starts me None old next new =
+abbrev pub SupervisorSettles : {S B : Type 0} → StartsOf S B → Pid → Option Reason → SupervisorScene S B → Next → SupervisorScene S B → Type 0
+SupervisorSettles starts me (Some reason) old next new = (next ≡ Stop reason) × (new ≡ old)
+SupervisorSettles starts me None old next new =
     (answer : Bool) × StartsAll starts me (length old.standing.children) (nursery old) answer (nursery new)
     × (next ≡ cond answer (Wait Pick.Any) Proceed)
     × (new.standing ≡ record (old.standing) {
@@ -134,38 +134,38 @@ Settles starts me None old next new =
       ending = length old.standing.children;
     })
 
-abbrev pub AdvancesAs : {S B : Type 0} → StartsOf S B → Pid → Option (Pid × Reason) → Scene S B → Next → Scene S B
+abbrev pub AdvancesAs : {S B : Type 0} → StartsOf S B → Pid → Option (Pid × Reason) → SupervisorScene S B → Next → SupervisorScene S B
     → Type 0
 AdvancesAs starts me (Some (p, reason)) old next new = Bids me p reason old next new
-AdvancesAs starts me None old next new = Settles starts me old.standing.stopping old next new
+AdvancesAs starts me None old next new = SupervisorSettles starts me old.standing.stopping old next new
 
 -- the last of those that are to end is told so; where none of them lives, it goes on
-abbrev pub Advances : {S B : Type 0} → StartsOf S B → Pid → Scene S B → Next → Scene S B → Type 0
+abbrev pub Advances : {S B : Type 0} → StartsOf S B → Pid → SupervisorScene S B → Next → SupervisorScene S B → Type 0
 Advances starts me old next new =
     AdvancesAs starts me (last_alive old.standing.children old.standing.ending (length old.standing.children)) old next
     new
 
 -- It sees to an item: of an end it hears, and where it proceeds without one it sets its trap; whether nothing was
 -- refused.
-abbrev pub Attends : Pid → Option Item → Standing → DeskState → Bool → Standing → DeskState → Type 0
-Attends me (Some (Exit from reason)) old d answer new e =
+abbrev pub SupervisorAttends : Pid → Option Item → Standing → DeskState → Bool → Standing → DeskState → Type 0
+SupervisorAttends me (Some (Exit from reason)) old d answer new e =
     (answer ≡ true) × (new ≡ heard d.shard.clock from reason old) × (e ≡ d)
-Attends me (Some _) old d answer new e = (answer ≡ true) × (new ≡ old) × (e ≡ d)
-Attends me None old d answer new e =
+SupervisorAttends me (Some _) old d answer new e = (answer ≡ true) × (new ≡ old) × (e ≡ d)
+SupervisorAttends me None old d answer new e =
     (result : Result Bool Fault)
     × Calls me (Some (Flag me true)) (state_in d.shard me).traps d.shard result e.shard × (answer ≡ is_ok result)
     × (new ≡ old)
 
-abbrev pub after_attending : {S B : Type 0} → StartsOf S B → Pid → Bool → Scene S B → Next → Scene S B → Type 0
+abbrev pub after_attending : {S B : Type 0} → StartsOf S B → Pid → Bool → SupervisorScene S B → Next → SupervisorScene S B → Type 0
 after_attending starts me true mid next new = Advances starts me mid next new
 after_attending starts me false mid next new = (next ≡ Proceed) × (new ≡ mid)
 
 -- so it handles an item, or none
-pub record Handles {S B : Type 0} (starts : StartsOf S B) (me : Pid) (item : Option Item) (old : Scene S B)
-    (next : Next) (new : Scene S B) : Type 0 where
-  pub mid : Scene S B
+pub record SupervisorHandles {S B : Type 0} (starts : StartsOf S B) (me : Pid) (item : Option Item) (old : SupervisorScene S B)
+    (next : Next) (new : SupervisorScene S B) : Type 0 where
+  pub mid : SupervisorScene S B
   pub answer : Bool
-  pub attends : Attends me item old.standing old.desk answer mid.standing mid.desk
+  pub attends : SupervisorAttends me item old.standing old.desk answer mid.standing mid.desk
   pub same : (mid.start ≡ old.start) × (mid.born ≡ old.born)
   pub goes : after_attending starts me answer mid next new
 

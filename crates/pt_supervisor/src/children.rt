@@ -2,7 +2,7 @@
 
 ghost use Rattle.std.specs.Prelude.{◌≡◌, ◌<◌, IfSome, None, true, position, length};
 ghost use Rattle.std.specs.Option.{option_map};
-ghost use Rattle.pt_supervisor.specs.Children.{bids, is_missing, is_of, last_alive, leaving};
+ghost use Rattle.pt_supervisor.specs.Children.{bids, is_missing, is_child, last_alive, leaving};
 
 use crate::restart::Restart;
 use pt_node::{Pid, Reason};
@@ -69,7 +69,7 @@ impl Child {
 
     /// Whether it is this process.
     pub fn is_of(&self, pid: Pid) -> bool
-        ensures { result ≡ is_of self.now.pid pid }
+        ensures { result ≡ is_child self.now.pid pid }
     {
         is_process(self.pid, pid)
     }
@@ -87,7 +87,7 @@ impl Child {
 
 /// Whether there is a process, and it is this one.
 pub(crate) fn is_process(known: Option<Pid>, pid: Pid) -> bool
-    ensures { result ≡ is_of known pid }
+    ensures { result ≡ is_child known pid }
 {
     match known {
         Some(own) => own == pid,
@@ -97,7 +97,7 @@ pub(crate) fn is_process(known: Option<Pid>, pid: Pid) -> bool
 
 /// The place of a child by its pid.
 pub fn place_of(children: &[Child], pid: Pid) -> Option<usize>
-    ensures place { result ≡ position (λ c. is_of c.pid pid) children.now }
+    ensures place { result ≡ position (λ c. is_child c.pid pid) children.now }
     ensures within { IfSome result (λ i. i < length children.now) }
 {
     children.iter().position(|child| child.is_of(pid))

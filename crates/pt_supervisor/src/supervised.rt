@@ -11,11 +11,11 @@ ghost use Rattle.pt_crew.specs.declared.behaviour.Next.{Next};
 ghost use Rattle.pt_crew.specs.declared.crew.Crew.{Crew};
 ghost use Rattle.pt_crew.specs.Visiting.{Roles};
 ghost use Rattle.pt_crew.specs.Waking.{IsAwake};
-ghost use Rattle.pt_crew.specs.Crews.{CrewDoes, Enters, Works, left, members, queue, roles, waiting};
+ghost use Rattle.pt_crew.specs.Crews.{CrewDoes, Enters, CrewWorks, left, members, queue, roles, waiting};
 ghost use Rattle.pt_crew.specs.declared.births.Role.{Role};
 ghost use Rattle.pt_crew.specs.Upholding.{AllStand, AllStill, Upholds};
 ghost use Rattle.pt_supervisor.specs.Hearing.{Standing};
-ghost use Rattle.pt_supervisor.specs.Keeping.{BeginsAs, IsIdle, Keeps, QuietChildrenLive, SuperviseAs};
+ghost use Rattle.pt_supervisor.specs.Keeping.{SupervisorBegins, IsIdle, Keeps, QuietChildrenLive, SuperviseAs};
 ghost use Rattle.pt_supervisor.specs.Stopping.{StoppedChildrenEnded};
 
 use pt_crew::Behaviour;
@@ -45,12 +45,12 @@ pub fn quiet_children_live<B: Supervised + Drop>()
     ensures step { (old new : Crew B) (d e : ShardState) → CrewDoes B.answers old d new e
         → Upholds (Keeps B.supervisor) old d → Upholds (Keeps B.supervisor) new e }
     ensures work { (old new : Crew B) (budget : ℕ) (d e : DeskState) (turned : Turned)
-        → Works B.answers budget old d turned new e → Upholds (Keeps B.supervisor) old d.shard
+        → CrewWorks B.answers budget old d turned new e → Upholds (Keeps B.supervisor) old d.shard
         → Upholds (Keeps B.supervisor) new e.shard }
     ensures receipt { (roles : Roles B) (d : ShardState) (l : Letter) → AllStand (Keeps B.supervisor) roles d
         → AllStand (Keeps B.supervisor) roles (handled l d) }
     ensures enter { (b : B) (first : Next) (old new : Crew B) (d e : ShardState) (result : Result Pid Fault)
-        → Enters b first old d result new e → BeginsAs (B.supervisor b) first
+        → Enters b first old d result new e → SupervisorBegins (B.supervisor b) first
         → Upholds (Keeps B.supervisor) old d → Upholds (Keeps B.supervisor) new e }
     ensures idle { (c : Crew B) (d : ShardState) → IsAwake (members c) (queue c) d → queue c ≡ [] → IsIdle c d }
     ensures live { QuietChildrenLive B.supervisor }
@@ -68,7 +68,7 @@ pub fn stopped_children_ended<B: Supervised + Drop>()
     ensures left { (old new : Crew B) (d e : ShardState) → CrewDoes B.answers old d new e
         → Upholds (Keeps B.supervisor) old d → AllStill (Keeps B.supervisor) (left new) e }
     ensures left_work { (old new : Crew B) (budget : ℕ) (d e : DeskState) (turned : Turned)
-        → Works B.answers budget old d turned new e → Upholds (Keeps B.supervisor) old d.shard
+        → CrewWorks B.answers budget old d turned new e → Upholds (Keeps B.supervisor) old d.shard
         → AllStill (Keeps B.supervisor) (left new) e.shard }
     ensures receipt { (roles : List (Role B)) (d : ShardState) (l : Letter) → AllStill (Keeps B.supervisor) roles d
         → AllStill (Keeps B.supervisor) roles (handled l d) }

@@ -47,11 +47,11 @@ pub struct Supervisor<S> {
 impl<S> Supervisor<S> {
     ghost use Rattle.std.specs.Prelude.{◌<◌, true, length, slice_get};
     ghost use Rattle.pt_desk.specs.DeskState.{GoesOn};
-    ghost use Rattle.pt_crew.specs.Births.{born, kept};
+    ghost use Rattle.pt_crew.specs.Births.{born, kept_roles};
     ghost use Rattle.pt_crew.specs.Visiting.{takes};
     ghost use Rattle.pt_supervisor.specs.Children.{AreStarted, PermanentAreWanted};
     ghost use Rattle.pt_supervisor.specs.Hearing.{begun, heard, lost, standing, started_again, stopped};
-    ghost use Rattle.pt_supervisor.specs.Supervising.{Advances, Attends, Handles, SetsAt, StartsAll};
+    ghost use Rattle.pt_supervisor.specs.Supervising.{Advances, SupervisorAttends, SupervisorHandles, SetsAt, StartsAll};
     ghost use Rattle.pt_supervisor.specs.Supervising.{StartsOne, Supervises};
     ghost use Rattle.pt_supervisor.specs.Keeping.{BearsFrom, Tends};
 
@@ -142,7 +142,7 @@ impl<S> Supervisor<S> {
     ) -> Next
     where
         S: Start<B>,
-        ensures does { Handles S.starts me item
+        ensures does { SupervisorHandles S.starts me item
             (record { start = self.old.start; standing = standing self.old; desk = desk.old; born = born births.old })
             result
             (record { start = self.new.start; standing = standing self.new; desk = desk.new; born = born births.new }) }
@@ -152,7 +152,7 @@ impl<S> Supervisor<S> {
         ensures permanent { PermanentAreWanted (standing self.old).children
             → PermanentAreWanted (standing self.new).children }
         ensures takes { takes desk.new.shard.journal ≡ takes desk.old.shard.journal }
-        ensures kept { kept births.new ≡ kept births.old }
+        ensures kept { kept_roles births.new ≡ kept_roles births.old }
         ensures goes_on { GoesOn desk.old desk.new }
     {
         if !self.attend(desk, me, item) {
@@ -164,7 +164,7 @@ impl<S> Supervisor<S> {
     /// Hears of an end, or begins to trap exits; whether nothing was refused.
     #[tactic(auto, using(pt_node::proofs::GoingOn::stays))]
     fn attend(&mut self, desk: &mut Desk, me: Pid, item: Option<Item>) -> bool
-        ensures does { Attends me item (standing self.old) desk.old result (standing self.new) desk.new }
+        ensures does { SupervisorAttends me item (standing self.old) desk.old result (standing self.new) desk.new }
         ensures permanent { PermanentAreWanted (standing self.old).children
             → PermanentAreWanted (standing self.new).children }
         ensures start { self.new.start ≡ self.old.start }
@@ -246,7 +246,7 @@ impl<S> Supervisor<S> {
         ensures permanent { PermanentAreWanted (standing self.old).children
             → PermanentAreWanted (standing self.new).children }
         ensures takes { takes desk.new.shard.journal ≡ takes desk.old.shard.journal }
-        ensures kept { kept births.new ≡ kept births.old }
+        ensures kept { kept_roles births.new ≡ kept_roles births.old }
         ensures goes_on { GoesOn desk.old desk.new }
     {
         if let Some((pid, reason)) = last_alive(self.children.as_slice(), self.ending) {
@@ -296,7 +296,7 @@ impl<S> Supervisor<S> {
         ensures started { result ≡ true
             → AreStarted (standing self.new).children (length (standing self.new).children) }
         ensures takes { takes desk.new.shard.journal ≡ takes desk.old.shard.journal }
-        ensures kept { kept births.new ≡ kept births.old }
+        ensures kept { kept_roles births.new ≡ kept_roles births.old }
         ensures goes_on { GoesOn desk.old desk.new }
     {
         for place in 0..self.children.len() {
@@ -340,7 +340,7 @@ impl<S> Supervisor<S> {
         } }
         ensures at { SetsAt place result (standing self.old).children (standing self.new).children }
         ensures takes { takes desk.new.shard.journal ≡ takes desk.old.shard.journal }
-        ensures kept { kept births.new ≡ kept births.old }
+        ensures kept { kept_roles births.new ≡ kept_roles births.old }
         ensures goes_on { GoesOn desk.old desk.new }
     {
         let child = self.children[place];

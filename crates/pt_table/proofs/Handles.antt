@@ -21,7 +21,7 @@ use denote.Struct.Struct.{Struct}
 use Rattle.core.proofs.cell.Inside.{Good}
 use Rattle.std_heap.proofs.GlobalToken.{dealloc_token-Testable}
 use Rattle.std_alloc.specs.Box.Ownership.{box_owns}
-use Rattle.pt_table.specs.Held.{held, freeing}
+use Rattle.pt_table.specs.Held.{held_on_heap, freeing}
 
 abbrev pub plainly : List RattleType → RattleType
 plainly Rs = Struct (record { name = []; args = []; types = []; fields = Rs })
@@ -60,7 +60,7 @@ module _ (R : RattleType) {M : Type 1} {𝓤 : Ura M} {𝓛 : Logic 𝓤} {K : T
   pub either_held : K → (h : Option R.Denot) (p : Ptr)
       → (h ≡ None → p ≡ null_ptr → Seq K 𝓛 Γ G)
       → ((b o : ℕ) (x : R.Denot) → h ≡ Some x → p ≡ block_ptr b o → Testable (block_ptr b o) → Seq K 𝓛 (‵ (box_owns freeing R (block_ptr b o) x) ∷ Γ) G)
-      → Seq K 𝓛 (‵ (held R h p) ∷ Γ) G
+      → Seq K 𝓛 (‵ (held_on_heap R h p) ∷ Γ) G
   either_held t None p none some = fpick t (λ e. drop t $ none refl e)
   either_held t (Some x) p none some =
       in_a_block t p (λ q. box_owns freeing R q x) (fst∗ 𝓤 (never 𝓤) (sem 𝓛 (freeing (bare (lone R.mir)) null_ptr))) (λ b o e.

@@ -4,7 +4,7 @@ use Rattle.std.specs.Prelude.{replicate, is_some, IsSome, cond}
 use Rattle.std.specs.Option.{option_map}
 use mir.Val.{bool_byte}
 use Rattle.std.proofs.lemmas.List.{set-append_right, append_assoc, length-append, length-map, length-replicate, get_or-map, map-set, replicate_more}
-use Rattle.pt_table.specs.Answers.{Place, value_in, values, had, full}
+use Rattle.pt_table.specs.Answers.{HandlePlace, value_behind, values, had, full}
 
 module _ {X : Type 0} where
   pub set_at : (pre : List X) (x : X) (post : List X) (k : ℕ) (y : X) → length pre ≡ k → set (pre ++ x ∷ post) k y ≡ pre ++ y ∷ post
@@ -48,33 +48,33 @@ module _ {S : Type 0} where
   had_length (Some s) rest = omega arith
   had_length None rest = omega arith
 
-  pub values_snoc : (seen : List (Place S)) (p : Place S) → length (values (seen ++ p ∷ [])) ≡ length (values seen) + cond (is_some (value_in p)) 1 0
-  values_snoc [] p = had_length (value_in p) []
+  pub values_snoc : (seen : List (HandlePlace S)) (p : HandlePlace S) → length (values (seen ++ p ∷ [])) ≡ length (values seen) + cond (is_some (value_behind p)) 1 0
+  values_snoc [] p = had_length (value_behind p) []
   values_snoc (q ∷ seen) p =
-      omega (arith, had_length (value_in q) (values (seen ++ p ∷ [])), had_length (value_in q) (values seen), values_snoc seen p)
+      omega (arith, had_length (value_behind q) (values (seen ++ p ∷ [])), had_length (value_behind q) (values seen), values_snoc seen p)
 
-  pub values_few : (places : List (Place S)) → length (values places) ≤ length places
+  pub values_few : (places : List (HandlePlace S)) → length (values places) ≤ length places
   values_few [] = omega arith
-  values_few (p ∷ places) = few (value_in p) (values_few places)
+  values_few (p ∷ places) = few (value_behind p) (values_few places)
     where
       few : (o : Option S) → length (values places) ≤ length places → length (had o (values places)) ≤ length (p ∷ places)
       few (Some s) h = omega (arith, h)
       few None h = omega (arith, h)
 
   -- where all of them have something, the first has
-  pub first_value : (p : Place S) (places : List (Place S)) → length (values (p ∷ places)) ≡ length (p ∷ places) → (s : S) × (value_in p ≡ Some s)
-  first_value p places all = one (value_in p) refl
+  pub first_value : (p : HandlePlace S) (places : List (HandlePlace S)) → length (values (p ∷ places)) ≡ length (p ∷ places) → (s : S) × (value_behind p ≡ Some s)
+  first_value p places all = one (value_behind p) refl
     where
-      one : (o : Option S) → value_in p ≡ o → (s : S) × (value_in p ≡ Some s)
+      one : (o : Option S) → value_behind p ≡ o → (s : S) × (value_behind p ≡ Some s)
       one (Some s) is = (s, is)
       one None is = absurd (omega (arith, values_few places, sym (ap (λ o. length (had o (values places))) is) ∙ all))
 
-module _ {H S : Type 0} (st : H → Place S) where
+module _ {H S : Type 0} (st : H → HandlePlace S) where
   -- the last of those that are not filled yet gets s
   pub filled_more :
-      (hs : List H) (pre : List (Place S)) (done rest whole : List S) (s : S) (h : H) (k : ℕ)
+      (hs : List H) (pre : List (HandlePlace S)) (done rest whole : List S) (s : S) (h : H) (k : ℕ)
       → map st hs ≡ pre ++ map full done → (rest ++ s ∷ []) ++ done ≡ whole → length pre ≡ length rest + 1 → k ≡ length rest → st h ≡ full s
-      → (pre' : List (Place S)) × (done' : List S) × (map st (set hs k h) ≡ pre' ++ map full done') × (rest ++ done' ≡ whole) × (length pre' ≡ length rest)
+      → (pre' : List (HandlePlace S)) × (done' : List S) × (map st (set hs k h) ≡ pre' ++ map full done') × (rest ++ done' ≡ whole) × (length pre' ≡ length rest)
   filled_more hs pre done rest whole s h k are is long at new =
       let l = last_of pre (length rest) long in
       let split : map st hs ≡ l.0 ++ l.1 ∷ map full done = are ∙ ap (λ z. z ++ map full done) l.2 ∙ append_assoc l.0 (l.1 ∷ []) (map full done) in (
@@ -87,9 +87,9 @@ module _ {H S : Type 0} (st : H → Place S) where
 
   -- the handle at k is the first of the rest
   pub at_first :
-      (hs : List H) (pre rest : List (Place S)) (k : ℕ) (h : H)
+      (hs : List H) (pre rest : List (HandlePlace S)) (k : ℕ) (h : H)
       → map st hs ≡ pre ++ rest → length pre ≡ k → k < length hs → h ≡ get_or hs k h
-      → (rest' : List (Place S)) × (rest ≡ st h ∷ rest')
+      → (rest' : List (HandlePlace S)) × (rest ≡ st h ∷ rest')
   at_first hs pre rest k h are long within is =
       let count : length hs ≡ length pre + length rest = sym (length-map hs st) ∙ ap length are ∙ length-append pre rest in
       let f = first_of rest (omega (arith, count, long, within)) in
@@ -98,11 +98,11 @@ module _ {H S : Type 0} (st : H → Place S) where
       (f.1, f.2 ∙ ap (λ z. z ∷ f.1) (sym here))
 
   pub counted :
-      (hs : List H) (whole seen rest : List (Place S)) (k count : ℕ) (h h' : H)
+      (hs : List H) (whole seen rest : List (HandlePlace S)) (k count : ℕ) (h h' : H)
       → map st hs ≡ whole → whole ≡ seen ++ rest → length seen ≡ k → count ≡ length (values seen) → k < length hs → h ≡ get_or hs k h → st h' ≡ st h
       → (map st (set hs k h') ≡ whole)
-      × ((seen' : List (Place S)) × (rest' : List (Place S))
-      × (whole ≡ seen' ++ rest') × (length seen' ≡ k + 1) × (count + cond (is_some (value_in (st h))) 1 0 ≡ length (values seen')))
+      × ((seen' : List (HandlePlace S)) × (rest' : List (HandlePlace S))
+      × (whole ≡ seen' ++ rest') × (length seen' ≡ k + 1) × (count + cond (is_some (value_behind (st h))) 1 0 ≡ length (values seen')))
   counted hs whole seen rest k count h h' are split long counts within is same =
       let f = at_first hs seen rest k h (are ∙ split) long within is in
       let whole_is : whole ≡ seen ++ st h ∷ f.0 = split ∙ ap (λ z. seen ++ z) f.1 in (
@@ -112,16 +112,16 @@ module _ {H S : Type 0} (st : H → Place S) where
           f.0,
           whole_is ∙ sym (append_assoc seen (st h ∷ []) f.0),
           length-append seen (st h ∷ []) ∙ ap (λ n. n + 1) long,
-          ap (λ n. n + cond (is_some (value_in (st h))) 1 0) counts ∙ sym (values_snoc seen (st h)),
+          ap (λ n. n + cond (is_some (value_behind (st h))) 1 0) counts ∙ sym (values_snoc seen (st h)),
         ),
       )
 
   pub emptied :
-      (hs : List H) (rest : List (Place S)) (k n : ℕ) (h : H) (list whole : List S)
+      (hs : List H) (rest : List (HandlePlace S)) (k n : ℕ) (h : H) (list whole : List S)
       → map st hs ≡ replicate k None ++ rest → list ++ values rest ≡ whole → length (values rest) ≡ length rest → k + length rest ≡ n → k < length hs → h ≡ get_or hs k h
-      → (s : S) × (value_in (st h) ≡ Some s)
+      → (s : S) × (value_behind (st h) ≡ Some s)
       × ((h' : H) → st h' ≡ None
-      → (rest' : List (Place S)) × (map st (set hs k h') ≡ replicate (k + 1) None ++ rest') × ((list ++ s ∷ []) ++ values rest' ≡ whole)
+      → (rest' : List (HandlePlace S)) × (map st (set hs k h') ≡ replicate (k + 1) None ++ rest') × ((list ++ s ∷ []) ++ values rest' ≡ whole)
       × (length (values rest') ≡ length rest') × (k + 1 + length rest' ≡ n))
   emptied hs rest k n h list whole are split all count within is =
       let long = length-replicate k None in

@@ -30,14 +30,14 @@ use Rattle.pt_table.specs.Crossing.{pid_out, ref_out, item_out}
 -- handles ------------------------------------------------------------------------------
 
 -- What a handle has: nothing, or a place on the heap, with a value or without.
-abbrev pub Place : Type 0 → Type 0
-Place S = Option (Option S)
+abbrev pub HandlePlace : Type 0 → Type 0
+HandlePlace S = Option (Option S)
 
-abbrev pub value_in : {S : Type 0} → Place S → Option S
-value_in (Some (Some s)) = Some s
-value_in _ = None
+abbrev pub value_behind : {S : Type 0} → HandlePlace S → Option S
+value_behind (Some (Some s)) = Some s
+value_behind _ = None
 
-abbrev pub full : {S : Type 0} → S → Place S
+abbrev pub full : {S : Type 0} → S → HandlePlace S
 full s = Some (Some s)
 
 abbrev pub had : {S : Type 0} → Option S → List S → List S
@@ -45,21 +45,21 @@ had (Some s) rest = s ∷ rest
 had None rest = rest
 
 -- what the handles of a row have, in order
-abbrev pub values : {S : Type 0} → List (Place S) → List S
+abbrev pub values : {S : Type 0} → List (HandlePlace S) → List S
 values [] = []
-values (p ∷ places) = had (value_in p) (values places)
+values (p ∷ places) = had (value_behind p) (values places)
 
 -- a call of what the handle has: P ties it before and after; where the handle has nothing the code says so, and nothing
 -- has changed
-abbrev pub Called : {S : Type 0} → Place S → Place S → ℕ → Type 0 → (S → S → Type 0) → Type 0
-Called (Some (Some old)) (Some (Some new)) code kept P = P old new
-Called (Some (Some old)) _ code kept P = ⊥
-Called old new code kept P = (code ≡ empty) × (new ≡ old) × kept
+abbrev pub CallsThrough : {S : Type 0} → HandlePlace S → HandlePlace S → ℕ → Type 0 → (S → S → Type 0) → Type 0
+CallsThrough (Some (Some old)) (Some (Some new)) code kept P = P old new
+CallsThrough (Some (Some old)) _ code kept P = ⊥
+CallsThrough old new code kept P = (code ≡ empty) × (new ≡ old) × kept
 
 -- a call that only reads
-abbrev pub Read : {S : Type 0} → Place S → Place S → ℕ → Type 0 → (S → Type 0) → Type 0
-Read (Some (Some old)) new code kept P = (new ≡ Some (Some old)) × P old
-Read old new code kept P = (code ≡ empty) × (new ≡ old) × kept
+abbrev pub ReadsThrough : {S : Type 0} → HandlePlace S → HandlePlace S → ℕ → Type 0 → (S → Type 0) → Type 0
+ReadsThrough (Some (Some old)) new code kept P = (new ≡ Some (Some old)) × P old
+ReadsThrough old new code kept P = (code ≡ empty) × (new ≡ old) × kept
 
 -- what is passed out ---------------------------------------------------------------------
 
@@ -77,105 +77,105 @@ some_or f before (Some a) = f a
 some_or f before None = before
 
 -- an answer that P allows, as its code
-abbrev pub Answers : ℕ → (Result (Unit {0}) Fault → Type 0) → Type 0
-Answers code P = (r : Result (Unit {0}) Fault) × (code ≡ code_at r) × P r
+abbrev pub AnswersCode : ℕ → (Result (Unit {0}) Fault → Type 0) → Type 0
+AnswersCode code P = (r : Result (Unit {0}) Fault) × (code ≡ code_at r) × P r
 
 -- the same where an answer has a value too
-abbrev pub Gives : {A B : Type 0} → ℕ → B → B → (A → B) → (Result A Fault → Type 0) → Type 0
-Gives {A} code before after f P = (r : Result A Fault) × (code ≡ code_at r) × (after ≡ told_or f before r) × P r
+abbrev pub GivesCode : {A B : Type 0} → ℕ → B → B → (A → B) → (Result A Fault → Type 0) → Type 0
+GivesCode {A} code before after f P = (r : Result A Fault) × (code ≡ code_at r) × (after ≡ told_or f before r) × P r
 
 -- the same where an answer may be that there is none
-abbrev pub Finds : {A B : Type 0} → ℕ → B → B → (A → B) → (Result (Option A) Fault → Type 0) → Type 0
-Finds {A} code before after f P =
+abbrev pub FindsCode : {A B : Type 0} → ℕ → B → B → (A → B) → (Result (Option A) Fault → Type 0) → Type 0
+FindsCode {A} code before after f P =
     (r : Result (Option A) Fault) × (code ≡ found_code r) × (after ≡ found_or f before r) × P r
 
 -- what is read, where there is any
-abbrev pub Shows : {A B : Type 0} → ℕ → B → B → (A → B) → Option A → Type 0
-Shows code before after f a = (code ≡ some_code a) × (after ≡ some_or f before a)
+abbrev pub ShowsCode : {A B : Type 0} → ℕ → B → B → (A → B) → Option A → Type 0
+ShowsCode code before after f a = (code ≡ some_code a) × (after ≡ some_or f before a)
 
 -- the calls ------------------------------------------------------------------------------
 
 -- what a call that does not look at other desks keeps of a desk
-abbrev pub Stays : DeskState → DeskState → Type 0
-Stays old new = HasSameEnds old new × (new.sight ≡ old.sight) × GoesOn old new
+abbrev pub StaysOnDesk : DeskState → DeskState → Type 0
+StaysOnDesk old new = HasSameEnds old new × (new.sight ≡ old.sight) × GoesOn old new
 
 -- and one that does
-abbrev pub Looks : DeskState → DeskState → Type 0
-Looks old new = HasSameEnds old new × GoesOn old new
+abbrev pub LooksOnDesk : DeskState → DeskState → Type 0
+LooksOnDesk old new = HasSameEnds old new × GoesOn old new
 
 -- a call whose target the desk may not know: the code says that it does not, and nothing has changed
-abbrev pub IfKnown : Bool → ℕ → Type 0 → Type 0 → Type 0
-IfKnown true code kept P = P
-IfKnown false code kept P = (code ≡ unknown) × kept
+abbrev pub IfKnownCode : Bool → ℕ → Type 0 → Type 0 → Type 0
+IfKnownCode true code kept P = P
+IfKnownCode false code kept P = (code ≡ unknown) × kept
 
-unfoldable pub Spawns : ℕ → PtPid → PtPid → DeskState → DeskState → Type 0
-Spawns code before after old new =
-    Gives code before after pid_out (λ r. Bears None None old.shard r new.shard) × Stays old new
+unfoldable pub SpawnsOnDesk : ℕ → PtPid → PtPid → DeskState → DeskState → Type 0
+SpawnsOnDesk code before after old new =
+    GivesCode code before after pid_out (λ r. Bears None None old.shard r new.shard) × StaysOnDesk old new
 
 unfoldable pub SpawnsChild : Pid → Bool → ℕ → PtPid → PtPid → DeskState → DeskState → Type 0
 SpawnsChild parent linked code before after old new =
-    Gives code before after pid_out (λ r. BearsChild parent linked old.shard r new.shard) × Stays old new
+    GivesCode code before after pid_out (λ r. BearsChild parent linked old.shard r new.shard) × StaysOnDesk old new
 
-unfoldable pub Sends : Pid → Pid → Body → ℕ → DeskState → DeskState → Type 0
-Sends from to body code old new =
-    IfKnown (knows old.shard to) code (new ≡ old)
-    (Answers code (λ r. Reaches (lives old.shard from) from to
+unfoldable pub SendsOnDesk : Pid → Pid → Body → ℕ → DeskState → DeskState → Type 0
+SendsOnDesk from to body code old new =
+    IfKnownCode (knows old.shard to) code (new ≡ old)
+    (AnswersCode code (λ r. Reaches (lives old.shard from) from to
     (Calls from (Some (Event.Said from to (Signal.Message body))) tt old.shard r new.shard) old r new)
-    × Looks old new)
+    × LooksOnDesk old new)
 
 unfoldable pub SendsExit : Pid → Pid → Reason → ℕ → DeskState → DeskState → Type 0
 SendsExit from to reason code old new =
-    IfKnown (knows old.shard to) code (new ≡ old)
-    (Answers code (λ r. Calls from (Some (Event.Said from to (Signal.Exit reason))) tt old.shard r new.shard)
-    × Stays old new)
+    IfKnownCode (knows old.shard to) code (new ≡ old)
+    (AnswersCode code (λ r. Calls from (Some (Event.Said from to (Signal.Exit reason))) tt old.shard r new.shard)
+    × StaysOnDesk old new)
 
 unfoldable pub Links : Pid → Pid → ℕ → DeskState → DeskState → Type 0
 Links p to code old new =
-    IfKnown (knows old.shard to) code (new ≡ old)
-    (Answers code (λ r. Reaches (has_link_to_make old.shard p to) p to
+    IfKnownCode (knows old.shard to) code (new ≡ old)
+    (AnswersCode code (λ r. Reaches (has_link_to_make old.shard p to) p to
     (Calls p (link_event old.shard p to) tt old.shard r new.shard) old r new)
-    × Looks old new)
+    × LooksOnDesk old new)
 
 unfoldable pub Unlinks : Pid → Pid → ℕ → DeskState → DeskState → Type 0
 Unlinks p to code old new =
-    IfKnown (knows old.shard to) code (new ≡ old)
-    (Answers code (λ r. Calls p (unlink_event old.shard p to) tt old.shard r new.shard) × Stays old new)
+    IfKnownCode (knows old.shard to) code (new ≡ old)
+    (AnswersCode code (λ r. Calls p (unlink_event old.shard p to) tt old.shard r new.shard) × StaysOnDesk old new)
 
-unfoldable pub Watches : Pid → Pid → ℕ → PtRef → PtRef → DeskState → DeskState → Type 0
-Watches w t code before after old new =
-    IfKnown (knows old.shard t) code ((new ≡ old) × (after ≡ before))
-    (Gives code before after ref_out (λ r. Reaches (has_monitor_to_make old.shard w t) w t
+unfoldable pub WatchesOnDesk : Pid → Pid → ℕ → PtRef → PtRef → DeskState → DeskState → Type 0
+WatchesOnDesk w t code before after old new =
+    IfKnownCode (knows old.shard t) code ((new ≡ old) × (after ≡ before))
+    (GivesCode code before after ref_out (λ r. Reaches (has_monitor_to_make old.shard w t) w t
     (Monitors w t old.shard r new.shard) old r new)
-    × Looks old new)
+    × LooksOnDesk old new)
 
-unfoldable pub Unwatches : Pid → Ref → Bool → ℕ → Bool → Bool → DeskState → DeskState → Type 0
-Unwatches w m flush code before after old new =
-    Gives code before after (λ b. b) (λ r. Calls w (demonitor_event old.shard w m flush)
+unfoldable pub UnwatchesOnDesk : Pid → Ref → Bool → ℕ → Bool → Bool → DeskState → DeskState → Type 0
+UnwatchesOnDesk w m flush code before after old new =
+    GivesCode code before after (λ b. b) (λ r. Calls w (demonitor_event old.shard w m flush)
     (is_some (demonitor_event old.shard w m flush)) old.shard r new.shard)
-    × Stays old new
+    × StaysOnDesk old new
 
-unfoldable pub Asks : Pid → Pid → ℕ → PtRef → PtRef → DeskState → DeskState → Type 0
-Asks p t code before after old new =
-    IfKnown (knows old.shard t) code ((new ≡ old) × (after ≡ before))
-    (Gives code before after ref_out (λ r. Calls p (Some (Event.Said p t (Signal.AliveAsk (new_ref old.shard))))
+unfoldable pub AsksOnDesk : Pid → Pid → ℕ → PtRef → PtRef → DeskState → DeskState → Type 0
+AsksOnDesk p t code before after old new =
+    IfKnownCode (knows old.shard t) code ((new ≡ old) × (after ≡ before))
+    (GivesCode code before after ref_out (λ r. Calls p (Some (Event.Said p t (Signal.AliveAsk (new_ref old.shard))))
     (new_ref old.shard) old.shard r new.shard)
-    × Stays old new)
+    × StaysOnDesk old new)
 
 unfoldable pub Traps : Pid → Bool → ℕ → Bool → Bool → DeskState → DeskState → Type 0
 Traps p on code before after old new =
-    Gives code before after (λ b. b)
+    GivesCode code before after (λ b. b)
     (λ r. Calls p (Some (Event.Flag p on)) (state_in old.shard p).traps old.shard r new.shard)
-    × Stays old new
+    × StaysOnDesk old new
 
-unfoldable pub Takes : Pid → Pick → ℕ → PtItem → PtItem → DeskState → DeskState → Type 0
-Takes p pick code before after old new =
-    Finds code before after item_out
+unfoldable pub TakesOnDesk : Pid → Pick → ℕ → PtItem → PtItem → DeskState → DeskState → Type 0
+TakesOnDesk p pick code before after old new =
+    FindsCode code before after item_out
     (λ r. Calls p (take_event old.shard p pick) (first_match old.shard p pick) old.shard r new.shard)
-    × Stays old new
+    × StaysOnDesk old new
 
 unfoldable pub Exits : Pid → Reason → ℕ → DeskState → DeskState → Type 0
 Exits p reason code old new =
-    Answers code (λ r. Calls p (Some (Event.Left p reason)) tt old.shard r new.shard) × Stays old new
+    AnswersCode code (λ r. Calls p (Some (Event.Left p reason)) tt old.shard r new.shard) × StaysOnDesk old new
 
 abbrev pub turned_out : Turned → PtTurned
 turned_out t = record { posted = t.posted; handled = t.handled; stopped = stop_code t.stopped }

@@ -86,8 +86,8 @@ blank stamp desk = record {
 
 -- names and reasons ------------------------------------------------------------------
 
-abbrev pub pid_in : PtPid → Pid
-pid_in p = record { shard = p.shard; slot = p.slot; version = p.version }
+abbrev pub pid_crossed : PtPid → Pid
+pid_crossed p = record { shard = p.shard; slot = p.slot; version = p.version }
 
 abbrev pub pid_out : Pid → PtPid
 pid_out p = record { shard = p.shard; slot = p.slot; version = p.version }
@@ -101,20 +101,20 @@ ref_out m = record { desk = m.desk; number = m.number }
 abbrev pub link_out : LinkId → PtRef
 link_out i = record { desk = i.desk; number = i.number }
 
-abbrev pub ids_at : LinkId → Option LinkId → PtIds
-ids_at one (Some two) = record { one = link_out one; has_two = true; two = link_out two }
-ids_at one None = record { one = link_out one; has_two = false; two = no_ref }
+abbrev pub ids_in_c : LinkId → Option LinkId → PtIds
+ids_in_c one (Some two) = record { one = link_out one; has_two = true; two = link_out two }
+ids_in_c one None = record { one = link_out one; has_two = false; two = no_ref }
 
 abbrev pub ids_out : Ids → PtIds
-ids_out ids = ids_at ids.one ids.two
+ids_out ids = ids_in_c ids.one ids.two
 
-abbrev pub reason_at : ℕ → ℕ → Reason
-reason_at code n =
+abbrev pub reason_in_c : ℕ → ℕ → Reason
+reason_in_c code n =
     cond (code == 0) Normal (cond (code == 1) Kill (cond (code == 2) Killed (cond (code == 3) Noproc
     (cond (code == 4) Shutdown (Other n)))))
 
 abbrev pub reason_in : PtReason → Reason
-reason_in r = reason_at r.code r.number
+reason_in r = reason_in_c r.code r.number
 
 abbrev pub reason_out : Reason → PtReason
 reason_out Normal = record { code = 0; number = 0 }
@@ -127,26 +127,26 @@ reason_out (Other n) = record { code = 5; number = n }
 -- messages, items and picks ------------------------------------------------------------
 
 abbrev pub who_in : Bool → PtPid → Option Pid
-who_in true p = Some (pid_in p)
+who_in true p = Some (pid_crossed p)
 who_in false p = None
 
 abbrev pub body_in : PtBody → Body
 body_in b = record { kind = b.kind; num = b.num; who = who_in b.has_who b.who }
 
-abbrev pub body_at : ℕ → ℤ → Option Pid → PtBody
-body_at kind num (Some p) = record { kind = kind; num = num; has_who = true; who = pid_out p }
-body_at kind num None = record { kind = kind; num = num; has_who = false; who = no_pid }
+abbrev pub body_in_c : ℕ → ℤ → Option Pid → PtBody
+body_in_c kind num (Some p) = record { kind = kind; num = num; has_who = true; who = pid_out p }
+body_in_c kind num None = record { kind = kind; num = num; has_who = false; who = no_pid }
 
 abbrev pub body_out : Body → PtBody
-body_out b = body_at b.kind b.num b.who
+body_out b = body_in_c b.kind b.num b.who
 
-abbrev pub pick_at : ℕ → PtPick → Pick
-pick_at code k =
-    cond (code == 0) (Kind k.kind) (cond (code == 1) (From (pid_in k.pid)) (cond (code == 2) (ExitOf (pid_in k.pid))
+abbrev pub pick_in_c : ℕ → PtPick → Pick
+pick_in_c code k =
+    cond (code == 0) (Kind k.kind) (cond (code == 1) (From (pid_crossed k.pid)) (cond (code == 2) (ExitOf (pid_crossed k.pid))
     (cond (code == 3) (DownOf (ref_in k.reference)) (cond (code == 4) (AliveOf (ref_in k.reference)) Any))))
 
 abbrev pub pick_in : PtPick → Pick
-pick_in k = pick_at k.code k
+pick_in k = pick_in_c k.code k
 
 abbrev pub pick_out : Pick → PtPick
 pick_out (Kind n) = record no_pick { code = 0; kind = n }
@@ -184,8 +184,8 @@ abbrev pub link_or_none : Option LinkId → PtRef
 link_or_none (Some i) = link_out i
 link_or_none None = no_ref
 
-abbrev pub told : Event → PtEvent → PtEvent
-told (Born p parent link) b = record b {
+abbrev pub told_in_c : Event → PtEvent → PtEvent
+told_in_c (Born p parent link) b = record b {
   has_peer = is_some parent;
   has_link = is_some link;
   code = 0;
@@ -193,17 +193,17 @@ told (Born p parent link) b = record b {
   peer = pid_or_none parent;
   link = link_or_none link;
 }
-told (Said p q x) b =
+told_in_c (Said p q x) b =
     record b { has_peer = true; code = 1; pid = pid_out p; peer = pid_out q; signal = signal_out x }
-told (Came p q x) b =
+told_in_c (Came p q x) b =
     record b { has_peer = true; code = 2; pid = pid_out q; peer = pid_out p; signal = signal_out x }
-told (Took p k i) b = record b { code = 3; pid = pid_out p; pick = pick_out k; item = item_out i }
-told (Flag p on) b = record b { on = on; code = 4; pid = pid_out p }
-told (Left p r) b = record b { code = 5; pid = pid_out p; reason = reason_out r }
-told (Refused p q) b = record b { has_peer = true; code = 6; pid = pid_out p; peer = pid_out q }
+told_in_c (Took p k i) b = record b { code = 3; pid = pid_out p; pick = pick_out k; item = item_out i }
+told_in_c (Flag p on) b = record b { on = on; code = 4; pid = pid_out p }
+told_in_c (Left p r) b = record b { code = 5; pid = pid_out p; reason = reason_out r }
+told_in_c (Refused p q) b = record b { has_peer = true; code = 6; pid = pid_out p; peer = pid_out q }
 
 abbrev pub event_out : Stamped → PtEvent
-event_out s = told s.event (blank s.stamp s.desk)
+event_out s = told_in_c s.event (blank s.stamp s.desk)
 
 abbrev pub left_out : LeftOver → PtLeftOver
 left_out l = record {

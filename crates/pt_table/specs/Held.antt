@@ -12,6 +12,6 @@ abbrev pub freeing : Ty → Ptr → Fml
 freeing = ghosts.dealloc_token (record { memory = record { seal = tt } })
 
 -- a value on the heap, or a null pointer
-abbrev pub held : (R : RattleType) → Option R.Denot → Ptr → Fml
-held R (Some x) at = box_owns freeing R at x
-held R None at = fex (at ≡ null_ptr) (λ _. ftrue)
+abbrev pub held_on_heap : (R : RattleType) → Option R.Denot → Ptr → Fml
+held_on_heap R (Some x) at = box_owns freeing R at x
+held_on_heap R None at = fex (at ≡ null_ptr) (λ _. ftrue)

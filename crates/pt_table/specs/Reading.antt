@@ -23,7 +23,7 @@ use Rattle.pt_table.specs.declared.types.PtPid.{PtPid}
 use Rattle.pt_table.specs.declared.types.PtIds.{PtIds}
 use Rattle.pt_table.specs.declared.types.PtAccount.{PtAccount}
 use Rattle.pt_table.specs.Crossing.{pid_out, ids_out, account_out}
-use Rattle.pt_table.specs.Answers.{Shows}
+use Rattle.pt_table.specs.Answers.{ShowsCode}
 
 -- desks --------------------------------------------------------------------------------
 
@@ -34,18 +34,18 @@ pending_in d = min (count_pending d.shard) (2 ^ 64 - 1)
 abbrev pub waits_in : DeskState → Pid → Option (List Item)
 waits_in d p = cond (lives d.shard p) (Some (state_in d.shard p).waiting) None
 
-abbrev pub item_of : Option (List Item) → ℕ → Option Item
-item_of (Some items) place = slice_get items place
-item_of None place = None
+abbrev pub item_numbered : Option (List Item) → ℕ → Option Item
+item_numbered (Some items) place = slice_get items place
+item_numbered None place = None
 
-abbrev pub linked_in : DeskState → Pid → Pid → Option Ids
-linked_in d p q = cond (lives d.shard p) (held_by d.shard p q) None
+abbrev pub linked_on_desk : DeskState → Pid → Pid → Option Ids
+linked_on_desk d p q = cond (lives d.shard p) (held_by d.shard p q) None
 
 abbrev pub event_count_in : DeskState → ℕ
 event_count_in d = length d.shard.journal
 
-abbrev pub event_of : DeskState → ℕ → Option Stamped
-event_of d place = slice_get (reverse d.shard.journal) place
+abbrev pub event_numbered : DeskState → ℕ → Option Stamped
+event_numbered d place = slice_get (reverse d.shard.journal) place
 
 -- settled nodes --------------------------------------------------------------------------
 
@@ -58,18 +58,18 @@ TellsCount q code after = (code ≡ 0) × (pids : List Pid) × AreItsPids q pids
 
 abbrev pub TellsPid : QuietState → ℕ → ℕ → PtPid → PtPid → Type 0
 TellsPid q place code before after =
-    (pids : List Pid) × AreItsPids q pids × Shows code before after pid_out (slice_get pids place)
+    (pids : List Pid) × AreItsPids q pids × ShowsCode code before after pid_out (slice_get pids place)
 
 abbrev pub TellsAccount : QuietState → Pid → ℕ → PtAccount → PtAccount → Type 0
 TellsAccount q p code before after =
     (a : Option Account) × InEveryMerge (journals q.gathered) (λ past. a ≡ account_in (begins q.gathered) past p)
-    × Shows code before after account_out a
+    × ShowsCode code before after account_out a
 
 abbrev pub TellsLinked : QuietState → Pid → Pid → ℕ → PtIds → PtIds → Type 0
 TellsLinked q p peer code before after =
     (ids : Option Ids)
     × InEveryMerge (journals q.gathered) (λ past. ids ≡ held (state (begins q.gathered) past p).links peer)
-    × Shows code before after ids_out ids
+    × ShowsCode code before after ids_out ids
 
 abbrev pub TellsKept : QuietState → Pid → Ref → ℕ → Bool → Type 0
 TellsKept q target m code after =

@@ -1,7 +1,7 @@
 //! The table's values as what crosses, and the other way round.
 
 ghost use Rattle.std.specs.Prelude.{◌≡◌};
-ghost use Rattle.pt_table.specs.Crossing.{pid_in, pid_out, ref_in, ref_out, link_out, ids_out, reason_in, reason_out};
+ghost use Rattle.pt_table.specs.Crossing.{pid_crossed, pid_out, ref_in, ref_out, link_out, ids_out, reason_in, reason_out};
 ghost use Rattle.pt_table.specs.Crossing.{body_in, body_out, pick_in, pick_out, item_out, signal_out, event_out};
 ghost use Rattle.pt_table.specs.Crossing.{left_out, account_out, no_pid, no_ref, no_ids, no_reason, no_body, no_pick};
 ghost use Rattle.pt_table.specs.Crossing.{no_item, no_signal, blank};
@@ -14,7 +14,7 @@ use pt_node::{
 };
 
 pub fn pid_in(p: PtPid) -> Pid
-    ensures { result ≡ pid_in p }
+    ensures { result ≡ pid_crossed p }
 {
     Pid {
         shard: p.shard,

@@ -1,17 +1,17 @@
 //! The calls of a desk, with what crosses in the place of the table's values.
 
 ghost use Rattle.std.specs.Prelude.{◌≡◌};
-ghost use Rattle.pt_table.specs.Answers.{Spawns, SpawnsChild, Sends, SendsExit, Links, Unlinks, Watches, Unwatches, Asks};
-ghost use Rattle.pt_table.specs.Answers.{Traps, Takes, Exits, TurnsOnce};
+ghost use Rattle.pt_table.specs.Answers.{SpawnsOnDesk, SpawnsChild, SendsOnDesk, SendsExit, Links, Unlinks, WatchesOnDesk, UnwatchesOnDesk, AsksOnDesk};
+ghost use Rattle.pt_table.specs.Answers.{Traps, TakesOnDesk, Exits, TurnsOnce};
 
 use crate::codes::{DONE, NOTHING, UNKNOWN, code_at, code_of, stop_code};
 use crate::crossing::{item_out, pid_out, ref_out};
 use crate::types::{PtItem, PtPid, PtRef, PtTurned};
 use pt_node::{Body, Desk, Pick, Pid, Reason, Ref};
 
-#[tactic(auto, unfolding(crate::specs::Answers::Spawns))]
+#[tactic(auto, unfolding(crate::specs::Answers::SpawnsOnDesk))]
 pub fn spawn(desk: &mut Desk, out: &mut PtPid) -> u32
-    ensures { Spawns result out.old out.new desk.old desk.new }
+    ensures { SpawnsOnDesk result out.old out.new desk.old desk.new }
 {
     match desk.spawn() {
         Ok(pid) => {
@@ -35,9 +35,9 @@ pub fn spawn_child(desk: &mut Desk, parent: Pid, linked: bool, out: &mut PtPid) 
     }
 }
 
-#[tactic(auto, unfolding(crate::specs::Answers::Sends))]
+#[tactic(auto, unfolding(crate::specs::Answers::SendsOnDesk))]
 pub fn send(desk: &mut Desk, from: Pid, to: Pid, body: Body) -> u32
-    ensures { Sends from to body result desk.old desk.new }
+    ensures { SendsOnDesk from to body result desk.old desk.new }
 {
     if !desk.knows(to) {
         return UNKNOWN;
@@ -75,9 +75,9 @@ pub fn unlink(desk: &mut Desk, p: Pid, to: Pid) -> u32
     code_at(desk.unlink(p, to))
 }
 
-#[tactic(auto, unfolding(crate::specs::Answers::Watches))]
+#[tactic(auto, unfolding(crate::specs::Answers::WatchesOnDesk))]
 pub fn monitor(desk: &mut Desk, w: Pid, t: Pid, out: &mut PtRef) -> u32
-    ensures { Watches w t result out.old out.new desk.old desk.new }
+    ensures { WatchesOnDesk w t result out.old out.new desk.old desk.new }
 {
     if !desk.knows(t) {
         return UNKNOWN;
@@ -91,9 +91,9 @@ pub fn monitor(desk: &mut Desk, w: Pid, t: Pid, out: &mut PtRef) -> u32
     }
 }
 
-#[tactic(auto, unfolding(crate::specs::Answers::Unwatches))]
+#[tactic(auto, unfolding(crate::specs::Answers::UnwatchesOnDesk))]
 pub fn demonitor(desk: &mut Desk, w: Pid, monitor: Ref, flush: bool, wrote: &mut bool) -> u32
-    ensures { Unwatches w monitor flush result wrote.old wrote.new desk.old desk.new }
+    ensures { UnwatchesOnDesk w monitor flush result wrote.old wrote.new desk.old desk.new }
 {
     match desk.demonitor(w, monitor, flush) {
         Ok(did) => {
@@ -104,9 +104,9 @@ pub fn demonitor(desk: &mut Desk, w: Pid, monitor: Ref, flush: bool, wrote: &mut
     }
 }
 
-#[tactic(auto, unfolding(crate::specs::Answers::Asks))]
+#[tactic(auto, unfolding(crate::specs::Answers::AsksOnDesk))]
 pub fn ask_alive(desk: &mut Desk, p: Pid, t: Pid, out: &mut PtRef) -> u32
-    ensures { Asks p t result out.old out.new desk.old desk.new }
+    ensures { AsksOnDesk p t result out.old out.new desk.old desk.new }
 {
     if !desk.knows(t) {
         return UNKNOWN;
@@ -133,9 +133,9 @@ pub fn trap(desk: &mut Desk, p: Pid, on: bool, was: &mut bool) -> u32
     }
 }
 
-#[tactic(auto, unfolding(crate::specs::Answers::Takes))]
+#[tactic(auto, unfolding(crate::specs::Answers::TakesOnDesk))]
 pub fn receive(desk: &mut Desk, p: Pid, pick: Pick, out: &mut PtItem) -> u32
-    ensures { Takes p pick result out.old out.new desk.old desk.new }
+    ensures { TakesOnDesk p pick result out.old out.new desk.old desk.new }
 {
     match desk.receive(p, pick) {
         Ok(Some(item)) => {

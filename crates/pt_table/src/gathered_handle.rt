@@ -4,8 +4,8 @@ ghost use Rattle.std.specs.Prelude.{◌≡◌, Option, Some, None, IfOk, is_some
 ghost use Rattle.std.specs.Coded.{coded_option};
 ghost use Rattle.std.specs.Option.{option_map};
 ghost use Rattle.pt_table.specs.contracts.held.HeldGathered.{the_row as row};
-ghost use Rattle.pt_table.specs.Answers.{value_in, full};
-ghost use Rattle.pt_table.specs.Held.{held};
+ghost use Rattle.pt_table.specs.Answers.{value_behind, full};
+ghost use Rattle.pt_table.specs.Held.{held_on_heap};
 
 use crate::held::HeldGathered;
 use crate::loose::{Loose, Opaque};
@@ -25,7 +25,7 @@ pub struct GatheredHandle {
 }
 
 impl Model for GatheredHandle {
-    ghost also_owns = { λ h. held row h.state h.at };
+    ghost also_owns = { λ h. held_on_heap row h.state h.at };
 }
 
 // What it has is `Send`, and any thread may give a block of the C library's heap back.
@@ -82,7 +82,7 @@ pub fn hold(place: Box<HeldGathered, Global>) -> GatheredHandle
 /// Whether the handle has a gathered node.
 pub fn is_full(alloc: Global, h: &mut GatheredHandle) -> bool
     ensures same { h.new.state ≡ h.old.state }
-    ensures full { result ≡ is_some (value_in h.old.state) }
+    ensures full { result ≡ is_some (value_behind h.old.state) }
 {
     let Some(place) = claim(alloc, h) else {
         return false;
@@ -97,7 +97,7 @@ pub fn take_out(
     alloc: Global,
     h: &mut GatheredHandle,
 ) -> Option<(Box<HeldGathered, Global>, Gathered)>
-    ensures value { option_map (λ r. r.1) result ≡ value_in h.old.state }
+    ensures value { option_map (λ r. r.1) result ≡ value_behind h.old.state }
     ensures empty { h.new.state ≡ None }
 {
     let mut place = claim(alloc, h)?;

@@ -1,8 +1,8 @@
 //! What is read, as what crosses.
 
 ghost use Rattle.std.specs.Prelude.{◌≡◌, length, reverse, slice_get};
-ghost use Rattle.pt_table.specs.Answers.{Shows};
-ghost use Rattle.pt_table.specs.Reading.{event_of, item_of, linked_in, waits_in};
+ghost use Rattle.pt_table.specs.Answers.{ShowsCode};
+ghost use Rattle.pt_table.specs.Reading.{event_numbered, item_numbered, linked_on_desk, waits_in};
 ghost use Rattle.pt_table.specs.Waking.{Woken};
 ghost use Rattle.pt_table.specs.Reading.{TellsCount, TellsPid, TellsAccount, TellsLinked, TellsKept, TellsWatching};
 ghost use Rattle.pt_table.specs.Crossing.{pid_out, ids_out, item_out, event_out, left_out};
@@ -14,7 +14,7 @@ use crate::types::{PtAccount, PtEvent, PtIds, PtItem, PtLeftOver, PtPid};
 use pt_node::{Desk, Ids, Item, Pid, Quiet, Ref, Stamped};
 
 fn show_pid(pid: Option<Pid>, out: &mut PtPid) -> u32
-    ensures { Shows result out.old out.new pid_out pid }
+    ensures { ShowsCode result out.old out.new pid_out pid }
 {
     match pid {
         Some(pid) => {
@@ -26,7 +26,7 @@ fn show_pid(pid: Option<Pid>, out: &mut PtPid) -> u32
 }
 
 fn show_ids(ids: Option<Ids>, out: &mut PtIds) -> u32
-    ensures { Shows result out.old out.new ids_out ids }
+    ensures { ShowsCode result out.old out.new ids_out ids }
 {
     match ids {
         Some(ids) => {
@@ -38,7 +38,7 @@ fn show_ids(ids: Option<Ids>, out: &mut PtIds) -> u32
 }
 
 fn show_event(events: &[Stamped], place: usize, out: &mut PtEvent) -> u32
-    ensures { Shows result out.old out.new event_out (slice_get events.now place) }
+    ensures { ShowsCode result out.old out.new event_out (slice_get events.now place) }
 {
     match events.get(place) {
         Some(event) => {
@@ -50,13 +50,13 @@ fn show_event(events: &[Stamped], place: usize, out: &mut PtEvent) -> u32
 }
 
 pub fn vacant(desk: &Desk, out: &mut PtPid) -> u32
-    ensures { Shows result out.old out.new pid_out desk.now.shard.vacant }
+    ensures { ShowsCode result out.old out.new pid_out desk.now.shard.vacant }
 {
     show_pid(desk.vacant(), out)
 }
 
 pub fn waiting(desk: &Desk, p: Pid, out: &mut usize) -> u32
-    ensures { Shows result out.old out.new length (waits_in desk.now p) }
+    ensures { ShowsCode result out.old out.new length (waits_in desk.now p) }
 {
     match desk.waiting(p) {
         Some(items) => {
@@ -68,7 +68,7 @@ pub fn waiting(desk: &Desk, p: Pid, out: &mut usize) -> u32
 }
 
 pub fn peek(desk: &Desk, p: Pid, place: usize, out: &mut PtItem) -> u32
-    ensures { Shows result out.old out.new item_out (item_of (waits_in desk.now p) place) }
+    ensures { ShowsCode result out.old out.new item_out (item_numbered (waits_in desk.now p) place) }
 {
     match desk.waiting(p) {
         Some(items) => show_item(items, place, out),
@@ -77,7 +77,7 @@ pub fn peek(desk: &Desk, p: Pid, place: usize, out: &mut PtItem) -> u32
 }
 
 fn show_item(items: &[Item], place: usize, out: &mut PtItem) -> u32
-    ensures { Shows result out.old out.new item_out (slice_get items.now place) }
+    ensures { ShowsCode result out.old out.new item_out (slice_get items.now place) }
 {
     match items.get(place) {
         Some(item) => {
@@ -89,13 +89,13 @@ fn show_item(items: &[Item], place: usize, out: &mut PtItem) -> u32
 }
 
 pub fn linked(desk: &Desk, p: Pid, peer: Pid, out: &mut PtIds) -> u32
-    ensures { Shows result out.old out.new ids_out (linked_in desk.now p peer) }
+    ensures { ShowsCode result out.old out.new ids_out (linked_on_desk desk.now p peer) }
 {
     show_ids(desk.linked(p, peer), out)
 }
 
 pub fn event_at(desk: &Desk, place: usize, out: &mut PtEvent) -> u32
-    ensures { Shows result out.old out.new event_out (event_of desk.now place) }
+    ensures { ShowsCode result out.old out.new event_out (event_numbered desk.now place) }
 {
     show_event(desk.journal().events(), place, out)
 }
@@ -132,7 +132,7 @@ pub fn pid_at(quiet: &Quiet, place: usize, out: &mut PtPid) -> u32
 }
 
 fn show_pid_at(pids: &[Pid], place: usize, out: &mut PtPid) -> u32
-    ensures { Shows result out.old out.new pid_out (slice_get pids.now place) }
+    ensures { ShowsCode result out.old out.new pid_out (slice_get pids.now place) }
 {
     match pids.get(place) {
         Some(pid) => {
@@ -176,13 +176,13 @@ pub fn watching(quiet: &Quiet, watcher: Pid, monitor: Ref, out: &mut bool) -> u3
 }
 
 pub fn history_event(history: &History, place: usize, out: &mut PtEvent) -> u32
-    ensures { Shows result out.old out.new event_out (slice_get history.now.events place) }
+    ensures { ShowsCode result out.old out.new event_out (slice_get history.now.events place) }
 {
     show_event(history.events.as_slice(), place, out)
 }
 
 pub fn history_left(history: &History, place: usize, out: &mut PtLeftOver) -> u32
-    ensures { Shows result out.old out.new left_out (slice_get history.now.left place) }
+    ensures { ShowsCode result out.old out.new left_out (slice_get history.now.left place) }
 {
     match history.left.get(place) {
         Some(letter) => {

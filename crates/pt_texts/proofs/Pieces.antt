@@ -1,6 +1,6 @@
 -- Readers of pieces, put together: what is read is what is printed, and what is printed is read again.
 use Rattle.std.proofs.Common.{◌≡◌, ℕ, ◌==◌, Bool, true, false, cond, Option, Some, None, Result, Ok, Err, List, [], ◌∷◌, ◌++◌, refl, ap, sym, ◌∙◌, subst, append_assoc, append-nil, eqb-true, eq-eqb}
-use Rattle.pt_texts.specs.Steps.{Reader, ◌>>=◌, behind, expected, word_at, choose, or_else, none_of_these, given, before, closed, pair, mapped, optional, ended, whole}
+use Rattle.pt_texts.specs.Steps.{Reader, ◌>>=◌, behind, expected, word_at, choose, or_reader, none_of_these, given_value, before, closed, pair, mapped, optional, ended, whole}
 use Rattle.pt_texts.specs.Fits.{FitsIfAny}
 
 -- what is read is what such a value prints, and then the rest
@@ -122,7 +122,7 @@ module _ {A : Type 0} (Fit : A → Type 0) (Stop : List ℕ → Type 0) (print :
       took : (t : List ℕ) (x : Option A × List ℕ) → optional word reader t ≡ Ok x → (t ≡ text_if_any print word x.0 ++ x.1) × FitsIfAny Fit x.0
       took t x h = go (behind word t) refl h
         where
-          go : (o : Option (List ℕ)) → behind word t ≡ o → choose o (mapped Some reader) (given None t) ≡ Ok x → (t ≡ text_if_any print word x.0 ++ x.1) × FitsIfAny Fit x.0
+          go : (o : Option (List ℕ)) → behind word t ≡ o → choose o (mapped Some reader) (given_value None t) ≡ Ok x → (t ≡ text_if_any print word x.0 ++ x.1) × FitsIfAny Fit x.0
           go None e k = subst (λ (y : Option A × List ℕ). (t ≡ text_if_any print word y.0 ++ y.1) × FitsIfAny Fit y.0) (ok_is (None, t) x k) (refl, tt)
           go (Some r) e k =
               let b = bound (reader r) _ x k in
@@ -131,11 +131,11 @@ module _ {A : Type 0} (Fit : A → Type 0) (Stop : List ℕ → Type 0) (print :
               (join t word r (print b.0.0) b.0.1 (behind_is word t r e) j.0, j.1)
 
       back : (v : Option A) (r : List ℕ) → FitsIfAny Fit v → Stop r × (behind word r ≡ None) → optional word reader (text_if_any print word v ++ r) ≡ Ok (v, r)
-      back None r f s = ap (λ o. choose o (mapped Some reader) (given None r)) s.1
+      back None r f s = ap (λ o. choose o (mapped Some reader) (given_value None r)) s.1
       back (Some v) r f s =
           let inner : mapped Some reader (print v ++ r) ≡ Ok (Some v, r) = ap (λ z. z >>= λ x. Ok (Some x.0, x.1)) (reads.again v r f s.0) in
           let outer : optional word reader (word ++ (print v ++ r)) ≡ Ok (Some v, r) =
-          subst (λ o. choose o (mapped Some reader) (given None (word ++ (print v ++ r))) ≡ Ok (Some v, r)) (sym (behind_again word (print v ++ r))) inner
+          subst (λ o. choose o (mapped Some reader) (given_value None (word ++ (print v ++ r))) ≡ Ok (Some v, r)) (sym (behind_again word (print v ++ r))) inner
           in
           ap (optional word reader) (append_assoc word (print v) r) ∙ outer
 
@@ -181,15 +181,15 @@ module _ {B : Type 0} (Fit' : B → Type 0) (print' : B → List ℕ) where
   pub none_takes : Takes Fit' print' none_of_these
   none_takes t x h = absurd (cc)
 
-  pub given_takes : (word : List ℕ) (v : B) (other : Reader B) → print' v ≡ word → Fit' v → Takes Fit' print' other → Takes Fit' print' (or_else word (given v) other)
+  pub given_takes : (word : List ℕ) (v : B) (other : Reader B) → print' v ≡ word → Fit' v → Takes Fit' print' other → Takes Fit' print' (or_reader word (given_value v) other)
   given_takes word v other says fits rest t x h = go (behind word t) refl h
     where
-      go : (o : Option (List ℕ)) → behind word t ≡ o → choose o (given v) (other t) ≡ Ok x → (t ≡ print' x.0 ++ x.1) × Fit' x.0
+      go : (o : Option (List ℕ)) → behind word t ≡ o → choose o (given_value v) (other t) ≡ Ok x → (t ≡ print' x.0 ++ x.1) × Fit' x.0
       go None e k = rest t x k
       go (Some r) e k = subst (λ (y : B × List ℕ). (t ≡ print' y.0 ++ y.1) × Fit' y.0) (ok_is (v, r) x k) (behind_is word t r e ∙ ap (λ z. z ++ r) (sym says), fits)
 
   pub or_takes : {A : Type 0} (Fit : A → Type 0) (print : A → List ℕ) (reader : Reader A) → Takes Fit print reader → (word : List ℕ) (f : A → B) (other : Reader B)
-      → ((x : A) → print' (f x) ≡ word ++ print x) → ((x : A) → Fit x → Fit' (f x)) → Takes Fit' print' other → Takes Fit' print' (or_else word (mapped f reader) other)
+      → ((x : A) → print' (f x) ≡ word ++ print x) → ((x : A) → Fit x → Fit' (f x)) → Takes Fit' print' other → Takes Fit' print' (or_reader word (mapped f reader) other)
   or_takes {A} Fit print reader takes word f other says fits rest t x h = go (behind word t) refl h
     where
       go : (o : Option (List ℕ)) → behind word t ≡ o → choose o (mapped f reader) (other t) ≡ Ok x → (t ≡ print' x.0 ++ x.1) × Fit' x.0

@@ -4,13 +4,13 @@ use Rattle.pt_texts.specs.declared.parse.Refused.{Refused}
 use Rattle.pt_texts.specs.Steps.{Read, Reader, ◌>>=◌, ended}
 
 -- the column, from 1 on, behind all that was read
-abbrev pub told : {A : Type 0} → List ℕ → Result A ℕ → Result A Refused
-told text (Ok v) = Ok v
-told text (Err left) = Err (record { column = length text - left + 1 })
+abbrev pub told_column : {A : Type 0} → List ℕ → Result A ℕ → Result A Refused
+told_column text (Ok v) = Ok v
+told_column text (Err left) = Err (record { column = length text - left + 1 })
 
 -- nothing may stand behind what a reader read
 abbrev pub finished : {A : Type 0} → List ℕ → Read A → Result A Refused
-finished text read = told text (read >>= ended)
+finished text read = told_column text (read >>= ended)
 
 pub record Parses
     {A : Type 0} (Fits : A → Type 0) (print : A → List ℕ) (reader : Reader A) (text : List ℕ)

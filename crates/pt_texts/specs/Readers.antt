@@ -18,7 +18,7 @@ use Rattle.pt_events.specs.declared.event.Event.{Event}
 use Rattle.pt_events.specs.declared.event.Event.TheVariants.{Born, Said, Came, Took, Flag, Left, Refused}
 use Rattle.pt_events.specs.declared.event.Stamped.{Stamped}
 use Rattle.pt_texts.specs.declared.left_over.LeftOver.{LeftOver}
-use Rattle.pt_texts.specs.Steps.{Reader, or_else, none_of_these, given, before, closed, pair, mapped, optional}
+use Rattle.pt_texts.specs.Steps.{Reader, or_reader, none_of_these, given_value, before, closed, pair, mapped, optional}
 use Rattle.pt_texts.specs.Numbers.{u8_at, u32_at, u64_at, i64_at}
 
 unfoldable pub pid_at : Reader Pid
@@ -48,56 +48,56 @@ body_at =
 
 unfoldable pub reason_at : Reader Reason
 reason_at =
-    or_else (codes "normal") (given Normal)
-    (or_else (codes "killed") (given Killed)
-    (or_else (codes "kill") (given Kill)
-    (or_else (codes "noproc") (given Noproc)
-    (or_else (codes "shutdown") (given Shutdown)
-    (or_else (codes "other:") (mapped Other u32_at)
+    or_reader (codes "normal") (given_value Normal)
+    (or_reader (codes "killed") (given_value Killed)
+    (or_reader (codes "kill") (given_value Kill)
+    (or_reader (codes "noproc") (given_value Noproc)
+    (or_reader (codes "shutdown") (given_value Shutdown)
+    (or_reader (codes "other:") (mapped Other u32_at)
     none_of_these)))))
 
 unfoldable pub yes_or_no_at : Reader Bool
-yes_or_no_at = or_else (codes "yes") (given true) (or_else (codes "no") (given false) none_of_these)
+yes_or_no_at = or_reader (codes "yes") (given_value true) (or_reader (codes "no") (given_value false) none_of_these)
 
 unfoldable pub item_at : Reader Item
 item_at =
-    or_else (codes "user ") (mapped (λ x. User x.0 x.1) (pair pid_at (before (codes " ") body_at)))
-    (or_else (codes "exit ") (mapped (λ x. Item.Exit x.0 x.1) (pair pid_at (before (codes " ") reason_at)))
-    (or_else (codes "down ")
+    or_reader (codes "user ") (mapped (λ x. User x.0 x.1) (pair pid_at (before (codes " ") body_at)))
+    (or_reader (codes "exit ") (mapped (λ x. Item.Exit x.0 x.1) (pair pid_at (before (codes " ") reason_at)))
+    (or_reader (codes "down ")
     (mapped (λ x. Item.Down x.0 x.1.0 x.1.1)
     (pair ref_at (before (codes " ") (pair pid_at (before (codes " ") reason_at)))))
-    (or_else (codes "alive ")
+    (or_reader (codes "alive ")
     (mapped (λ x. Item.Alive x.0 x.1.0 x.1.1)
     (pair ref_at (before (codes " ") (pair pid_at (before (codes " ") yes_or_no_at)))))
     none_of_these)))
 
 unfoldable pub pick_at : Reader Pick
 pick_at =
-    or_else (codes "any") (given Pick.Any)
-    (or_else (codes "kind ") (mapped Pick.Kind u32_at)
-    (or_else (codes "from ") (mapped Pick.From pid_at)
-    (or_else (codes "exit-of ") (mapped Pick.ExitOf pid_at)
-    (or_else (codes "down-of ") (mapped Pick.DownOf ref_at)
-    (or_else (codes "alive-of ") (mapped Pick.AliveOf ref_at)
+    or_reader (codes "any") (given_value Pick.Any)
+    (or_reader (codes "kind ") (mapped Pick.Kind u32_at)
+    (or_reader (codes "from ") (mapped Pick.From pid_at)
+    (or_reader (codes "exit-of ") (mapped Pick.ExitOf pid_at)
+    (or_reader (codes "down-of ") (mapped Pick.DownOf ref_at)
+    (or_reader (codes "alive-of ") (mapped Pick.AliveOf ref_at)
     none_of_these)))))
 
 -- a signal of a monitor, or of the question whether a process is alive
 abbrev pub other_signal_at : Reader Signal
 other_signal_at =
-    or_else (codes "monitor ") (mapped Monitor ref_at)
-    (or_else (codes "demonitor ") (mapped Demonitor ref_at)
-    (or_else (codes "down ") (mapped (λ x. Signal.Down x.0 x.1) (pair ref_at (before (codes " ") reason_at)))
-    (or_else (codes "alive-ask ") (mapped AliveAsk ref_at)
-    (or_else (codes "alive-say ") (mapped (λ x. AliveSay x.0 x.1) (pair ref_at (before (codes " ") yes_or_no_at)))
+    or_reader (codes "monitor ") (mapped Monitor ref_at)
+    (or_reader (codes "demonitor ") (mapped Demonitor ref_at)
+    (or_reader (codes "down ") (mapped (λ x. Signal.Down x.0 x.1) (pair ref_at (before (codes " ") reason_at)))
+    (or_reader (codes "alive-ask ") (mapped AliveAsk ref_at)
+    (or_reader (codes "alive-say ") (mapped (λ x. AliveSay x.0 x.1) (pair ref_at (before (codes " ") yes_or_no_at)))
     none_of_these))))
 
 unfoldable pub signal_at : Reader Signal
 signal_at =
-    or_else (codes "message ") (mapped Message body_at)
-    (or_else (codes "link ") (mapped Link link_id_at)
-    (or_else (codes "unlink ") (mapped Unlink ids_at)
-    (or_else (codes "exit ") (mapped Signal.Exit reason_at)
-    (or_else (codes "link-exit ") (mapped (λ x. LinkExit x.0 x.1) (pair ids_at (before (codes " ") reason_at)))
+    or_reader (codes "message ") (mapped Message body_at)
+    (or_reader (codes "link ") (mapped Link link_id_at)
+    (or_reader (codes "unlink ") (mapped Unlink ids_at)
+    (or_reader (codes "exit ") (mapped Signal.Exit reason_at)
+    (or_reader (codes "link-exit ") (mapped (λ x. LinkExit x.0 x.1) (pair ids_at (before (codes " ") reason_at)))
     other_signal_at))))
 
 unfoldable pub route_at : Reader (Pid × Pid)
@@ -109,7 +109,7 @@ letter_at =
     (pair route_at (before (codes " ") (pair signal_at (before (codes " @") u64_at))))
 
 unfoldable pub switch_at : Reader Bool
-switch_at = or_else (codes "on") (given true) (or_else (codes "off") (given false) none_of_these)
+switch_at = or_reader (codes "on") (given_value true) (or_reader (codes "off") (given_value false) none_of_these)
 
 abbrev pub parent_at : Reader (Option Pid)
 parent_at = optional (codes " by ") pid_at
@@ -122,15 +122,15 @@ birth_at = mapped (λ x. Born x.0 x.1.0 x.1.1) (pair pid_at (pair parent_at birt
 
 unfoldable pub event_at : Reader Event
 event_at =
-    or_else (codes "said ") (mapped (λ x. Said x.0.0 x.0.1 x.1) (pair route_at (before (codes " ") signal_at)))
-    (or_else (codes "came ") (mapped (λ x. Came x.0.0 x.0.1 x.1) (pair route_at (before (codes " ") signal_at)))
-    (or_else (codes "took ")
+    or_reader (codes "said ") (mapped (λ x. Said x.0.0 x.0.1 x.1) (pair route_at (before (codes " ") signal_at)))
+    (or_reader (codes "came ") (mapped (λ x. Came x.0.0 x.0.1 x.1) (pair route_at (before (codes " ") signal_at)))
+    (or_reader (codes "took ")
     (mapped (λ x. Took x.0 x.1.0 x.1.1)
     (pair pid_at (before (codes " ") (pair pick_at (before (codes " = ") item_at)))))
-    (or_else (codes "born ") birth_at
-    (or_else (codes "left ") (mapped (λ x. Left x.0 x.1) (pair pid_at (before (codes " ") reason_at)))
-    (or_else (codes "flag ") (mapped (λ x. Flag x.0 x.1) (pair pid_at (before (codes " ") switch_at)))
-    (or_else (codes "refused ") (mapped (λ x. Refused x.0 x.1) route_at)
+    (or_reader (codes "born ") birth_at
+    (or_reader (codes "left ") (mapped (λ x. Left x.0 x.1) (pair pid_at (before (codes " ") reason_at)))
+    (or_reader (codes "flag ") (mapped (λ x. Flag x.0 x.1) (pair pid_at (before (codes " ") switch_at)))
+    (or_reader (codes "refused ") (mapped (λ x. Refused x.0 x.1) route_at)
     none_of_these))))))
 
 unfoldable pub stamped_at : Reader Stamped

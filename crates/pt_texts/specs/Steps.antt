@@ -14,9 +14,9 @@ abbrev pub ◌>>=◌ : {A B : Type 0} → Result A ℕ → (A → Result B ℕ) 
 (Err e) >>= f = Err e
 
 -- What a function returned, seen by view, is what reading gives.
-abbrev pub Gives : {X Y : Type 0} → (X → Y) → Result X ℕ → Result Y ℕ → Type 0
-Gives view (Ok x) read = read ≡ Ok (view x)
-Gives view (Err e) read = read ≡ Err e
+abbrev pub ReaderGives : {X Y : Type 0} → (X → Y) → Result X ℕ → Result Y ℕ → Type 0
+ReaderGives view (Ok x) read = read ≡ Ok (view x)
+ReaderGives view (Err e) read = read ≡ Err e
 
 -- what stands behind the word, where the text begins with it
 abbrev pub behind : List ℕ → List ℕ → Option (List ℕ)
@@ -38,16 +38,16 @@ choose None f other = other
 choose (Some x) f other = f x
 
 -- behind the word the one, else the other
-abbrev pub or_else : {A : Type 0} → List ℕ → Reader A → Reader A → Reader A
-or_else word reader other text = choose (behind word text) reader (other text)
+abbrev pub or_reader : {A : Type 0} → List ℕ → Reader A → Reader A → Reader A
+or_reader word reader other text = choose (behind word text) reader (other text)
 
 -- there is no more to choose from
 abbrev pub none_of_these : {A : Type 0} → Reader A
 none_of_these text = Err (length text)
 
 -- this value, for which nothing more has to stand there
-abbrev pub given : {A : Type 0} → A → Reader A
-given x text = Ok (x, text)
+abbrev pub given_value : {A : Type 0} → A → Reader A
+given_value x text = Ok (x, text)
 
 abbrev pub before : {A : Type 0} → List ℕ → Reader A → Reader A
 before word reader text = word_at word text >>= reader
@@ -63,7 +63,7 @@ mapped f reader text = reader text >>= λ x. Ok (f x.0, x.1)
 
 -- behind the word something, else nothing
 abbrev pub optional : {A : Type 0} → List ℕ → Reader A → Reader (Option A)
-optional word reader = or_else word (mapped Some reader) (given None)
+optional word reader = or_reader word (mapped Some reader) (given_value None)
 
 -- nothing may stand behind it
 abbrev pub ended : {A : Type 0} → A × List ℕ → Result A ℕ

@@ -1,6 +1,6 @@
 //! Events, with their stamps and without.
 
-ghost use Rattle.pt_texts.specs.Steps.{Gives};
+ghost use Rattle.pt_texts.specs.Steps.{ReaderGives};
 ghost use Rattle.pt_texts.specs.Readers.{switch_at, parent_at, birth_link_at, birth_at, event_at, stamped_at};
 
 use crate::numbers::{u8_at, u64_at};
@@ -12,7 +12,7 @@ use pt_signal::{LinkId, Pid};
 
 #[tactic(auto, unfolding(crate::specs::Readers::switch_at))]
 fn switch_at(text: &[u8]) -> Read<'_, bool>
-    ensures { Gives (λ read. (read.0, read.1.now)) result (switch_at text.now) }
+    ensures { ReaderGives (λ read. (read.0, read.1.now)) result (switch_at text.now) }
 {
     if let Some(rest) = behind("on", text) {
         return Ok((true, rest));
@@ -25,7 +25,7 @@ fn switch_at(text: &[u8]) -> Read<'_, bool>
 
 /// The parent of a birth, where there is one.
 fn parent_at(text: &[u8]) -> Read<'_, Option<Pid>>
-    ensures { Gives (λ read. (read.0, read.1.now)) result (parent_at text.now) }
+    ensures { ReaderGives (λ read. (read.0, read.1.now)) result (parent_at text.now) }
 {
     match behind(" by ", text) {
         Some(text) => {
@@ -38,7 +38,7 @@ fn parent_at(text: &[u8]) -> Read<'_, Option<Pid>>
 
 /// The id of the link that a birth makes, where it makes one.
 fn birth_link_at(text: &[u8]) -> Read<'_, Option<LinkId>>
-    ensures { Gives (λ read. (read.0, read.1.now)) result (birth_link_at text.now) }
+    ensures { ReaderGives (λ read. (read.0, read.1.now)) result (birth_link_at text.now) }
 {
     match behind(" link ", text) {
         Some(text) => {
@@ -52,7 +52,7 @@ fn birth_link_at(text: &[u8]) -> Read<'_, Option<LinkId>>
 /// What stands behind `born`.
 #[tactic(auto, unfolding(crate::specs::Readers::birth_at))]
 fn birth_at(text: &[u8]) -> Read<'_, Event>
-    ensures { Gives (λ read. (read.0, read.1.now)) result (birth_at text.now) }
+    ensures { ReaderGives (λ read. (read.0, read.1.now)) result (birth_at text.now) }
 {
     let (pid, rest) = pid_at(text)?;
     let (parent, rest) = parent_at(rest)?;
@@ -62,7 +62,7 @@ fn birth_at(text: &[u8]) -> Read<'_, Event>
 
 #[tactic(auto, unfolding(crate::specs::Readers::event_at))]
 pub(crate) fn event_at(text: &[u8]) -> Read<'_, Event>
-    ensures { Gives (λ read. (read.0, read.1.now)) result (event_at text.now) }
+    ensures { ReaderGives (λ read. (read.0, read.1.now)) result (event_at text.now) }
 {
     if let Some(text) = behind("said ", text) {
         let ((from, to), rest) = route_at(text)?;
@@ -102,7 +102,7 @@ pub(crate) fn event_at(text: &[u8]) -> Read<'_, Event>
 
 #[tactic(auto, unfolding(crate::specs::Readers::stamped_at))]
 pub(crate) fn stamped_at(text: &[u8]) -> Read<'_, Stamped>
-    ensures { Gives (λ read. (read.0, read.1.now)) result (stamped_at text.now) }
+    ensures { ReaderGives (λ read. (read.0, read.1.now)) result (stamped_at text.now) }
 {
     let (stamp, rest) = u64_at(text)?;
     let (desk, rest) = u8_at(word_at("@", rest)?)?;

@@ -1,7 +1,7 @@
 //! A letter that was sent and did not come.
 
 ghost use Rattle.pt_texts.specs.Readers.{left_over_at};
-ghost use Rattle.pt_texts.specs.Steps.{Gives};
+ghost use Rattle.pt_texts.specs.Steps.{ReaderGives};
 
 use crate::numbers::u8_at;
 use crate::signals::letter_at;
@@ -21,7 +21,7 @@ pub struct LeftOver {
 
 #[tactic(auto, unfolding(crate::specs::Readers::left_over_at))]
 pub(crate) fn left_over_at(text: &[u8]) -> Read<'_, LeftOver>
-    ensures { Gives (λ read. (read.0, read.1.now)) result (left_over_at text.now) }
+    ensures { ReaderGives (λ read. (read.0, read.1.now)) result (left_over_at text.now) }
 {
     let (from_desk, rest) = u8_at(word_at("left-over ", text)?)?;
     let (to_desk, rest) = u8_at(word_at(" -> ", rest)?)?;

@@ -2,7 +2,7 @@
 
 ghost use Rattle.std.specs.Prelude.{◌≡◌, ◌<◌, ◌≤◌, ◌-◌, ◌^◌, IfOk};
 ghost use Rattle.pt_texts.specs.Numbers.{is_digit, digits_at, number_at, u8_at, u32_at, u64_at, i64_at};
-ghost use Rattle.pt_texts.specs.Steps.{Gives};
+ghost use Rattle.pt_texts.specs.Steps.{ReaderGives};
 
 use crate::steps::{Read, behind};
 
@@ -18,7 +18,7 @@ fn digits_at(most: u64, first: u64, text: &[u8]) -> Read<'_, u64>
     requires most { 9 ≤ most }
     requires first { first ≤ most }
     ensures range { IfOk result (λ read. read.0 ≤ most) }
-    ensures value { Gives (λ read. (read.0, read.1.now)) result (digits_at most first text.now) }
+    ensures value { ReaderGives (λ read. (read.0, read.1.now)) result (digits_at most first text.now) }
 {
     let mut number = first;
     for place in 0..text.len() {
@@ -38,7 +38,7 @@ fn digits_at(most: u64, first: u64, text: &[u8]) -> Read<'_, u64>
 fn number_at(most: u64, text: &[u8]) -> Read<'_, u64>
     requires { 9 ≤ most }
     ensures range { IfOk result (λ read. read.0 ≤ most) }
-    ensures value { Gives (λ read. (read.0, read.1.now)) result (number_at most text.now) }
+    ensures value { ReaderGives (λ read. (read.0, read.1.now)) result (number_at most text.now) }
 {
     if text.len() == 0 {
         return Err(0);
@@ -54,7 +54,7 @@ fn number_at(most: u64, text: &[u8]) -> Read<'_, u64>
 
 /// A number of 8 bits.
 pub(crate) fn u8_at(text: &[u8]) -> Read<'_, u8>
-    ensures { Gives (λ read. (read.0, read.1.now)) result (u8_at text.now) }
+    ensures { ReaderGives (λ read. (read.0, read.1.now)) result (u8_at text.now) }
 {
     let (number, rest) = number_at(255, text)?;
     Ok((number as u8, rest))
@@ -62,7 +62,7 @@ pub(crate) fn u8_at(text: &[u8]) -> Read<'_, u8>
 
 /// A number of 32 bits.
 pub(crate) fn u32_at(text: &[u8]) -> Read<'_, u32>
-    ensures { Gives (λ read. (read.0, read.1.now)) result (u32_at text.now) }
+    ensures { ReaderGives (λ read. (read.0, read.1.now)) result (u32_at text.now) }
 {
     let (number, rest) = number_at(4_294_967_295, text)?;
     Ok((number as u32, rest))
@@ -70,14 +70,14 @@ pub(crate) fn u32_at(text: &[u8]) -> Read<'_, u32>
 
 /// A number of 64 bits.
 pub(crate) fn u64_at(text: &[u8]) -> Read<'_, u64>
-    ensures { Gives (λ read. (read.0, read.1.now)) result (u64_at text.now) }
+    ensures { ReaderGives (λ read. (read.0, read.1.now)) result (u64_at text.now) }
 {
     number_at(18_446_744_073_709_551_615, text)
 }
 
 /// A number of 64 bits with its sign.
 pub(crate) fn i64_at(text: &[u8]) -> Read<'_, i64>
-    ensures { Gives (λ read. (read.0, read.1.now)) result (i64_at text.now) }
+    ensures { ReaderGives (λ read. (read.0, read.1.now)) result (i64_at text.now) }
 {
     match behind("-", text) {
         Some(digits) => {

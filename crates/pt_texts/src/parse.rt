@@ -3,9 +3,9 @@
 ghost use Rattle.pt_signal.specs.Text.{pid_text, ref_text, link_id_text, ids_text, body_text, reason_text, item_text};
 ghost use Rattle.pt_signal.specs.Text.{pick_text, signal_text, letter_text};
 ghost use Rattle.pt_events.specs.Text.{event_text, stamped_text};
-ghost use Rattle.pt_texts.specs.Text.{left_over_text};
+ghost use Rattle.pt_texts.specs.Text.{left_over_line};
 ghost use Rattle.std.specs.Prelude.{◌≡◌};
-ghost use Rattle.pt_texts.specs.Steps.{Read as Got, Gives};
+ghost use Rattle.pt_texts.specs.Steps.{Read as Got, ReaderGives};
 ghost use Rattle.pt_texts.specs.Readers.{pid_at, ref_at, link_id_at, ids_at, body_at, reason_at, item_at, pick_at};
 ghost use Rattle.pt_texts.specs.Readers.{signal_at, letter_at, event_at, stamped_at, left_over_at};
 ghost use Rattle.pt_texts.specs.Fits.{FitsPid, FitsRef, FitsLinkId, FitsIds, FitsBody, FitsReason, FitsItem, FitsPick};
@@ -32,7 +32,7 @@ pub struct Refused {
 
 /// The value, where the whole text was read.
 fn finish<T: Copy>(text: &[u8], read: Read<'_, T>) -> Result<T, Refused>
-    ensures { (got : Got T) → Gives (λ x. (x.0, x.1.now)) read.entry got → result ≡ finished text.now got }
+    ensures { (got : Got T) → ReaderGives (λ x. (x.0, x.1.now)) read.entry got → result ≡ finished text.now got }
 {
     let left = match read {
         Ok((value, rest)) => {
@@ -134,7 +134,7 @@ pub fn parse_stamped(text: &[u8]) -> Result<Stamped, Refused>
 
 /// A letter left over, as `left-over 0 -> 1 <0.0.1> -> <1.0.1> message 1 1 @2`.
 pub fn parse_left_over(text: &[u8]) -> Result<LeftOver, Refused>
-    ensures { Parses FitsLeftOver left_over_text left_over_at text.now result }
+    ensures { Parses FitsLeftOver left_over_line left_over_at text.now result }
 {
     finish(text, left_over_at(text))
 }

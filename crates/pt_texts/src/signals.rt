@@ -1,6 +1,6 @@
 //! What stands in a mailbox, what a receive takes, and signals on their way.
 
-ghost use Rattle.pt_texts.specs.Steps.{Gives};
+ghost use Rattle.pt_texts.specs.Steps.{ReaderGives};
 ghost use Rattle.pt_texts.specs.Readers.{item_at, pick_at, signal_at, other_signal_at, route_at, letter_at};
 
 use crate::numbers::{u32_at, u64_at};
@@ -10,7 +10,7 @@ use pt_signal::{Item, Letter, Pick, Pid, Signal};
 
 #[tactic(auto, unfolding(crate::specs::Readers::item_at))]
 pub(crate) fn item_at(text: &[u8]) -> Read<'_, Item>
-    ensures { Gives (λ read. (read.0, read.1.now)) result (item_at text.now) }
+    ensures { ReaderGives (λ read. (read.0, read.1.now)) result (item_at text.now) }
 {
     if let Some(text) = behind("user ", text) {
         let (from, rest) = pid_at(text)?;
@@ -39,7 +39,7 @@ pub(crate) fn item_at(text: &[u8]) -> Read<'_, Item>
 
 #[tactic(auto, unfolding(crate::specs::Readers::pick_at))]
 pub(crate) fn pick_at(text: &[u8]) -> Read<'_, Pick>
-    ensures { Gives (λ read. (read.0, read.1.now)) result (pick_at text.now) }
+    ensures { ReaderGives (λ read. (read.0, read.1.now)) result (pick_at text.now) }
 {
     if let Some(rest) = behind("any", text) {
         return Ok((Pick::Any, rest));
@@ -69,7 +69,7 @@ pub(crate) fn pick_at(text: &[u8]) -> Read<'_, Pick>
 
 #[tactic(auto, unfolding(crate::specs::Readers::signal_at))]
 pub(crate) fn signal_at(text: &[u8]) -> Read<'_, Signal>
-    ensures { Gives (λ read. (read.0, read.1.now)) result (signal_at text.now) }
+    ensures { ReaderGives (λ read. (read.0, read.1.now)) result (signal_at text.now) }
 {
     if let Some(text) = behind("message ", text) {
         let (body, rest) = body_at(text)?;
@@ -97,7 +97,7 @@ pub(crate) fn signal_at(text: &[u8]) -> Read<'_, Signal>
 
 /// A signal of a monitor, or of the question whether a process is alive.
 fn other_signal_at(text: &[u8]) -> Read<'_, Signal>
-    ensures { Gives (λ read. (read.0, read.1.now)) result (other_signal_at text.now) }
+    ensures { ReaderGives (λ read. (read.0, read.1.now)) result (other_signal_at text.now) }
 {
     if let Some(text) = behind("monitor ", text) {
         let (monitor, rest) = ref_at(text)?;
@@ -127,7 +127,7 @@ fn other_signal_at(text: &[u8]) -> Read<'_, Signal>
 /// Who sends, and to whom.
 #[tactic(auto, unfolding(crate::specs::Readers::route_at))]
 pub(crate) fn route_at(text: &[u8]) -> Read<'_, (Pid, Pid)>
-    ensures { Gives (λ read. (read.0, read.1.now)) result (route_at text.now) }
+    ensures { ReaderGives (λ read. (read.0, read.1.now)) result (route_at text.now) }
 {
     let (from, rest) = pid_at(text)?;
     let (to, rest) = pid_at(word_at(" -> ", rest)?)?;
@@ -136,7 +136,7 @@ pub(crate) fn route_at(text: &[u8]) -> Read<'_, (Pid, Pid)>
 
 #[tactic(auto, unfolding(crate::specs::Readers::letter_at))]
 pub(crate) fn letter_at(text: &[u8]) -> Read<'_, Letter>
-    ensures { Gives (λ read. (read.0, read.1.now)) result (letter_at text.now) }
+    ensures { ReaderGives (λ read. (read.0, read.1.now)) result (letter_at text.now) }
 {
     let ((from, to), rest) = route_at(text)?;
     let (signal, rest) = signal_at(word_at(" ", rest)?)?;

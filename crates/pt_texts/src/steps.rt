@@ -1,7 +1,7 @@
 //! The first steps of reading a text from its front.
 
 ghost use Rattle.std.specs.Prelude.{◌≡◌, option_map};
-ghost use Rattle.pt_texts.specs.Steps.{Gives, behind, word_at};
+ghost use Rattle.pt_texts.specs.Steps.{ReaderGives, behind, word_at};
 
 /// A value and the text behind it, or how many bytes are left where reading stops.
 pub(crate) type Read<'a, T> = Result<(T, &'a [u8]), usize>;
@@ -25,7 +25,7 @@ pub(crate) fn behind<'a>(word: &str, text: &'a [u8]) -> Option<&'a [u8]>
 
 /// What stands behind the word, which the text has to begin with.
 pub(crate) fn word_at<'a>(word: &str, text: &'a [u8]) -> Result<&'a [u8], usize>
-    ensures { Gives (λ rest. rest.now) result (word_at word.now text.now) }
+    ensures { ReaderGives (λ rest. rest.now) result (word_at word.now text.now) }
 {
     match behind(word, text) {
         Some(rest) => Ok(rest),

@@ -1,6 +1,6 @@
 //! Pids, references and ids of links, exit reasons, and what a message holds.
 
-ghost use Rattle.pt_texts.specs.Steps.{Gives};
+ghost use Rattle.pt_texts.specs.Steps.{ReaderGives};
 ghost use Rattle.pt_texts.specs.Readers.{pid_at, ref_at, link_id_at, ids_at, body_at, reason_at, yes_or_no_at};
 
 use crate::numbers::{i64_at, u8_at, u32_at, u64_at};
@@ -9,7 +9,7 @@ use pt_signal::{Body, Ids, LinkId, Pid, Reason, Ref};
 
 #[tactic(auto, unfolding(crate::specs::Readers::pid_at))]
 pub(crate) fn pid_at(text: &[u8]) -> Read<'_, Pid>
-    ensures { Gives (λ read. (read.0, read.1.now)) result (pid_at text.now) }
+    ensures { ReaderGives (λ read. (read.0, read.1.now)) result (pid_at text.now) }
 {
     let text = word_at("<", text)?;
     let (shard, rest) = u8_at(text)?;
@@ -28,7 +28,7 @@ pub(crate) fn pid_at(text: &[u8]) -> Read<'_, Pid>
 
 #[tactic(auto, unfolding(crate::specs::Readers::ref_at))]
 pub(crate) fn ref_at(text: &[u8]) -> Read<'_, Ref>
-    ensures { Gives (λ read. (read.0, read.1.now)) result (ref_at text.now) }
+    ensures { ReaderGives (λ read. (read.0, read.1.now)) result (ref_at text.now) }
 {
     let text = word_at("#", text)?;
     let (desk, rest) = u8_at(text)?;
@@ -39,7 +39,7 @@ pub(crate) fn ref_at(text: &[u8]) -> Read<'_, Ref>
 
 #[tactic(auto, unfolding(crate::specs::Readers::link_id_at))]
 pub(crate) fn link_id_at(text: &[u8]) -> Read<'_, LinkId>
-    ensures { Gives (λ read. (read.0, read.1.now)) result (link_id_at text.now) }
+    ensures { ReaderGives (λ read. (read.0, read.1.now)) result (link_id_at text.now) }
 {
     let text = word_at("~", text)?;
     let (desk, rest) = u8_at(text)?;
@@ -50,7 +50,7 @@ pub(crate) fn link_id_at(text: &[u8]) -> Read<'_, LinkId>
 
 #[tactic(auto, unfolding(crate::specs::Readers::ids_at))]
 pub(crate) fn ids_at(text: &[u8]) -> Read<'_, Ids>
-    ensures { Gives (λ read. (read.0, read.1.now)) result (ids_at text.now) }
+    ensures { ReaderGives (λ read. (read.0, read.1.now)) result (ids_at text.now) }
 {
     let (one, rest) = link_id_at(text)?;
     match behind("+", rest) {
@@ -65,7 +65,7 @@ pub(crate) fn ids_at(text: &[u8]) -> Read<'_, Ids>
 
 #[tactic(auto, unfolding(crate::specs::Readers::body_at))]
 pub(crate) fn body_at(text: &[u8]) -> Read<'_, Body>
-    ensures { Gives (λ read. (read.0, read.1.now)) result (body_at text.now) }
+    ensures { ReaderGives (λ read. (read.0, read.1.now)) result (body_at text.now) }
 {
     let (kind, rest) = u32_at(text)?;
     let text = word_at(" ", rest)?;
@@ -85,7 +85,7 @@ pub(crate) fn body_at(text: &[u8]) -> Read<'_, Body>
 
 #[tactic(auto, unfolding(crate::specs::Readers::reason_at))]
 pub(crate) fn reason_at(text: &[u8]) -> Read<'_, Reason>
-    ensures { Gives (λ read. (read.0, read.1.now)) result (reason_at text.now) }
+    ensures { ReaderGives (λ read. (read.0, read.1.now)) result (reason_at text.now) }
 {
     if let Some(rest) = behind("normal", text) {
         return Ok((Reason::Normal, rest));
@@ -111,7 +111,7 @@ pub(crate) fn reason_at(text: &[u8]) -> Read<'_, Reason>
 
 #[tactic(auto, unfolding(crate::specs::Readers::yes_or_no_at))]
 pub(crate) fn yes_or_no_at(text: &[u8]) -> Read<'_, bool>
-    ensures { Gives (λ read. (read.0, read.1.now)) result (yes_or_no_at text.now) }
+    ensures { ReaderGives (λ read. (read.0, read.1.now)) result (yes_or_no_at text.now) }
 {
     if let Some(rest) = behind("yes", text) {
         return Ok((true, rest));

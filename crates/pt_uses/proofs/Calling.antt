@@ -13,7 +13,7 @@ use Rattle.pt_desk.specs.Reaching.{Reaches}
 use Rattle.pt_desk.proofs.Reached.{reached}
 use Rattle.pt_uses.specs.Telling.{SaysTo, unheard}
 use Rattle.pt_shard.specs.Calls.{Calls}
-use Rattle.pt_uses.specs.Games.{Monsters, SeesTo, SeesToAt}
+use Rattle.pt_uses.specs.Games.{Monsters, SeesToMonster, SeesToAt}
 
 -- a message to a pid that the desk knows
 pub says : (from to : Pid) (signal : Signal) (old new : DeskState) (answer r : Result (Unit {0}) Fault) → knows old.shard to ≡ true
@@ -28,5 +28,5 @@ unfolding SaysTo
 says_nothing from to signal old known = rw known (refl, refl)
 
 -- the monster at a place was seen to
-pub seen_at : (place : ℕ) (old : ShardState × Monsters) (monster : Pid × ℤ) (r : Result (Unit {0}) Fault) (new : ShardState) (health : ℤ) → slice_get old.1 place ≡ Some monster → SeesTo monster.0 (old.0, monster.1) r (new, health) → SeesToAt place old r (new, set_value_at old.1 place health)
+pub seen_at : (place : ℕ) (old : ShardState × Monsters) (monster : Pid × ℤ) (r : Result (Unit {0}) Fault) (new : ShardState) (health : ℤ) → slice_get old.1 place ≡ Some monster → SeesToMonster monster.0 (old.0, monster.1) r (new, health) → SeesToAt place old r (new, set_value_at old.1 place health)
 seen_at place old monster r new health e sees = rw e (health, sees, refl)

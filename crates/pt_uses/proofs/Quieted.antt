@@ -4,7 +4,7 @@ use Rattle.pt_desk.specs.DeskState.{DeskState}
 use Rattle.pt_node.specs.Running.{BeginsAs, TakesTurn, TakesTurns, WorkRelation, always, begins_by}
 use Rattle.pt_node.specs.declared.work.Standing.TheVariants.{Going, Done}
 use Rattle.pt_uses.specs.declared.until_quiet.UntilQuiet.{UntilQuiet}
-use Rattle.pt_uses.specs.Quiet.{EndsQuietly, QuietTurns, did_nothing, standing_of, within}
+use Rattle.pt_uses.specs.Quiet.{EndsQuietly, QuietTurns, did_nothing, quiet_standing, within}
 
 module _ {W : Type 0} (work : WorkRelation W) (number budget : ℕ) where
   abbrev Pair : Type 0
@@ -13,15 +13,15 @@ module _ {W : Type 0} (work : WorkRelation W) (number budget : ℕ) where
   -- the last n of these turns did nothing
   abbrev EndsWith : ℕ → ℕ → Pair → Pair → Type 0
   EndsWith n count old new =
-      (before : ℕ) × (mid : Pair) × (before + n ≡ count) × TakesTurns (begins_by standing_of always number) (within work) budget before old mid
+      (before : ℕ) × (mid : Pair) × (before + n ≡ count) × TakesTurns (begins_by quiet_standing always number) (within work) budget before old mid
       × QuietTurns (within work) budget n mid new
 
-  enough_stays : (count : ℕ) (old new : Pair) → TakesTurns (begins_by standing_of always number) (within work) budget count old new → new.1.enough ≡ old.1.enough
+  enough_stays : (count : ℕ) (old new : Pair) → TakesTurns (begins_by quiet_standing always number) (within work) budget count old new → new.1.enough ≡ old.1.enough
   enough_stays zero old new same = ap (λ (p : Pair). p.1.enough) same
   enough_stays (suc count) old new (last, took, begins, turn) = turn.hears.2 ∙ turn.step.2 ∙ enough_stays count old last took
 
   -- one turn more
-  one_more : (n count : ℕ) (old last new : Pair) (b : Bool) → TakesTurns (begins_by standing_of always number) (within work) budget (suc count) old new → (turn : TakesTurn (within work) budget last new) → did_nothing turn.turned ≡ b
+  one_more : (n count : ℕ) (old last new : Pair) (b : Bool) → TakesTurns (begins_by quiet_standing always number) (within work) budget (suc count) old new → (turn : TakesTurn (within work) budget last new) → did_nothing turn.turned ≡ b
       → n ≤ new.1.quiet → ((m : ℕ) → m ≤ last.1.quiet → EndsWith m count old last) → EndsWith n (suc count) old new
   one_more zero count old last new b took turn is le earlier = (suc count, new, omega arith, took, refl)
   one_more (suc m) count old last new true took turn is le earlier =
@@ -33,7 +33,7 @@ module _ {W : Type 0} (work : WorkRelation W) (number budget : ℕ) where
       let none : new.1.quiet ≡ 0 = turn.hears.1 ∙ ap (λ t. cond t (min (turn.worked.quiet + 1) 18446744073709551615) 0) is in
       absurd (omega (arith, le, none))
 
-  ends_with : (count : ℕ) (old new : Pair) → old.1.quiet ≡ 0 → TakesTurns (begins_by standing_of always number) (within work) budget count old new → (n : ℕ) → n ≤ new.1.quiet → EndsWith n count old new
+  ends_with : (count : ℕ) (old new : Pair) → old.1.quiet ≡ 0 → TakesTurns (begins_by quiet_standing always number) (within work) budget count old new → (n : ℕ) → n ≤ new.1.quiet → EndsWith n count old new
   ends_with zero old new fresh same n le =
       let none : n ≡ 0 = let e = ap (λ (p : Pair). p.1.quiet) same in omega (arith, e, fresh, le) in
       let sum : 0 + n ≡ 0 = omega (arith, none) in

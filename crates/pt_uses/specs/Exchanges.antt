@@ -6,7 +6,7 @@ use Rattle.pt_signal.specs.declared.item.Pick.{Pick}
 use Rattle.pt_signal.specs.declared.signal.Signal.{Signal}
 use Rattle.pt_shard.specs.declared.config.Config.{Config}
 use Rattle.pt_shard.specs.declared.fault.Fault.{Fault}
-use Rattle.pt_shard.specs.Opening.{fresh}
+use Rattle.pt_shard.specs.Opening.{fresh_shard}
 use Rattle.pt_shard.specs.ShardState.{ShardState}
 use Rattle.pt_shard.specs.Calls.{Calls, Bears, take_event, first_match}
 use Rattle.pt_desk.specs.DeskState.{DeskState, HasSameEnds}
@@ -15,29 +15,29 @@ use Rattle.pt_desk.specs.declared.turned.Turned.{Turned}
 use Rattle.pt_gathered.specs.Gathered.{GatheredState, journals}
 use Rattle.pt_uses.specs.declared.two_processes.TheConstants.{ASK, ANSWER}
 use Rattle.pt_uses.specs.Doing.{Doing, Idles, AndThen}
-use Rattle.pt_uses.specs.Telling.{SaysTo, message}
+use Rattle.pt_uses.specs.Telling.{SaysTo, plain_message}
 
 -- what a desk does while nothing is posted and nothing collected
-abbrev pub OnDesk : {A : Type 0} → Doing ShardState A → Doing DeskState A
-OnDesk does old r new = does old.shard r new.shard × HasSameEnds old new
+abbrev pub WithinDesk : {A : Type 0} → Doing ShardState A → Doing DeskState A
+WithinDesk does old r new = does old.shard r new.shard × HasSameEnds old new
 
 -- a signal is said, the desk has a turn of up to 16 letters, and the receiver takes the first item that fits, if
 -- there is one
 abbrev pub HandsOver : Pid → Pid → Signal → Pick → Doing DeskState (Option Item)
 HandsOver from to signal pick old r new =
-    AndThen (OnDesk (SaysTo from to signal) old)
+    AndThen (WithinDesk (SaysTo from to signal) old)
     (λ _ said r new.
     (came : DeskState) × (turned : Turned) × Turns 16 said turned came
-    × OnDesk (λ desk. Calls to (take_event desk to pick) (first_match desk to pick) desk) came r new) r new
+    × WithinDesk (λ desk. Calls to (take_event desk to pick) (first_match desk to pick) desk) came r new) r new
 
 -- ping is born and pong is born; ping asks with the number 7, and pong takes the question; pong answers with the
 -- number 8, and ping takes what came from pong
 abbrev pub Exchanges : Doing DeskState (Unit {0})
 Exchanges old r new =
-    AndThen (OnDesk (Bears None None) old)
-    (λ ping first. AndThen (OnDesk (Bears None None) first)
-    (λ pong both. AndThen (HandsOver ping pong (message ASK (pos 7)) (Pick.Kind ASK) both)
-    (λ _ asked. AndThen (HandsOver pong ping (message ANSWER (pos 8)) (Pick.From pong) asked) (λ _. Idles (tt {0}))))) r
+    AndThen (WithinDesk (Bears None None) old)
+    (λ ping first. AndThen (WithinDesk (Bears None None) first)
+    (λ pong both. AndThen (HandsOver ping pong (plain_message ASK (pos 7)) (Pick.Kind ASK) both)
+    (λ _ asked. AndThen (HandsOver pong ping (plain_message ANSWER (pos 8)) (Pick.From pong) asked) (λ _. Idles (tt {0}))))) r
     new
 
 -- the exchange happened on the first of the desks
@@ -51,7 +51,7 @@ pub record HasExchanged (g : GatheredState) : Type 0 where
   pub config : Config
   pub old : DeskState
   pub new : DeskState
-  pub fresh : old.shard ≡ fresh config 0
+  pub fresh : old.shard ≡ fresh_shard config 0
   pub exchanges : Exchanges old (Ok (tt {0})) new
   pub desks : length g.shards ≡ 1
   pub journal : journals g 0 ≡ new.shard.journal

@@ -24,8 +24,8 @@ abbrev pub Monsters : Type 0
 Monsters = List (Pid × ℤ)
 
 -- a monster is born
-abbrev pub Enters : Doing ShardState Pid
-Enters old r new = OrNoMemory (Bears None None) old r new
+abbrev pub MonsterEnters : Doing ShardState Pid
+MonsterEnters old r new = OrNoMemory (Bears None None) old r new
 
 -- one that was born is written down with its health, behind the others
 abbrev pub entered : Monsters → Result Pid Fault → ℤ → Monsters
@@ -55,8 +55,8 @@ EndsIfSpent me old r new =
     (Beside (λ desk. Calls me (Some (Left me Normal)) (tt {0}) desk) old r new) (Idles (tt {0}) old r new)
 
 -- a monster that is alive takes its hits, and then ends or not
-abbrev pub SeesTo : Pid → Doing (ShardState × ℤ) (Unit {0})
-SeesTo me old r new =
+abbrev pub SeesToMonster : Pid → Doing (ShardState × ℤ) (Unit {0})
+SeesToMonster me old r new =
     MatchBool (lives old.0 me)
     (AndThen (Repeats (TakesHit me) BUDGET old) (λ _. EndsIfSpent me) r new) (Idles (tt {0}) old r new)
 
@@ -64,7 +64,7 @@ SeesTo me old r new =
 abbrev pub SeesToAt : ℕ → Doing (ShardState × Monsters) (Unit {0})
 SeesToAt place old r new =
     MatchOption (slice_get old.1 place) (Idles (tt {0}) old r new)
-    (λ monster. (health : ℤ) × SeesTo monster.0 (old.0, monster.1) r (new.0, health)
+    (λ monster. (health : ℤ) × SeesToMonster monster.0 (old.0, monster.1) r (new.0, health)
     × (new.1 ≡ set_value_at old.1 place health))
 
 -- so each of them, in the order in which they came

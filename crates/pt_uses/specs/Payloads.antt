@@ -15,19 +15,19 @@ use Rattle.pt_shard.specs.Calls.{Calls, take_event, first_match}
 use Rattle.pt_uses.specs.declared.payloads.Sent.{Sent}
 use Rattle.pt_uses.specs.declared.payloads.TheConstants.{TEXT}
 use Rattle.pt_uses.specs.Doing.{Doing, OrNoMemory}
-use Rattle.pt_uses.specs.Telling.{SaysTo, message}
+use Rattle.pt_uses.specs.Telling.{SaysTo, plain_message}
 
 -- the number, where the message that names it was not refused
-abbrev pub numbered : ℕ → Result (Unit {0}) Fault → Result ℕ Fault
-numbered key (Ok _) = Ok key
-numbered key (Err fault) = Err fault
+abbrev pub number_if_sent : ℕ → Result (Unit {0}) Fault → Result ℕ Fault
+number_if_sent key (Ok _) = Ok key
+number_if_sent key (Err fault) = Err fault
 
 -- a message that names a number is said, and the answer is the number
 abbrev pub SaysNumber : Pid → Pid → Doing ShardState ℕ
 SaysNumber from to old r new =
     OrNoMemory
     (λ old r new. (key : ℕ) × (answer : Result (Unit {0}) Fault)
-    × SaysTo from to (message TEXT (pos key)) old answer new × (r ≡ numbered key answer))
+    × SaysTo from to (plain_message TEXT (pos key)) old answer new × (r ≡ number_if_sent key answer))
     old r new
 
 -- what is sent stands under a number that was free, and all else as before; after a refusal all is as before
@@ -40,9 +40,9 @@ with_key from (pos key) = Some (from, key)
 with_key from (negsuc n) = None
 
 -- who sent an item, and the number that it names
-abbrev pub named : Option Item → Option (Pid × ℕ)
-named (Some (User from body)) = with_key from body.num
-named _ = None
+abbrev pub named_sender : Option Item → Option (Pid × ℕ)
+named_sender (Some (User from body)) = with_key from body.num
+named_sender _ = None
 
 -- the text under that number, and who sent it
 abbrev pub text_of : Slab Sent → Option (Pid × ℕ) → Option (Pid × String Global)
@@ -56,12 +56,12 @@ next_text d p = first_match d p (Pick.Kind TEXT)
 -- it is taken, if there is one, and the answer is the text that it names, and who sent it
 abbrev pub TakesText : Slab Sent → Pid → Doing ShardState (Option (Pid × String Global))
 TakesText kept p old r new =
-    Calls p (take_event old p (Pick.Kind TEXT)) (text_of kept (named (next_text old p))) old r new
+    Calls p (take_event old p (Pick.Kind TEXT)) (text_of kept (named_sender (next_text old p))) old r new
 
 -- what that number names stands here no more, and all else as before
-abbrev pub TakesOut : Option (Pid × ℕ) → Slab Sent → Slab Sent → Type 0
-TakesOut None old new = SameValues old new
-TakesOut (Some (from, key)) old new = Updates old new key None
+abbrev pub TakesTextOut : Option (Pid × ℕ) → Slab Sent → Slab Sent → Type 0
+TakesTextOut None old new = SameValues old new
+TakesTextOut (Some (from, key)) old new = Updates old new key None
 
 -- a process of this desk that has ended: nothing that was sent to it is received any more
 abbrev pub is_lost : ShardState → Pid → Bool

@@ -30,8 +30,8 @@ abbrev pub within : {W : Type 0} → WorkRelation W → WorkRelation (UntilQuiet
 within {W} work = (StepsWithin {W = W} work.0, HearsWithin {W = W} work.1)
 
 -- it is done once they are enough
-abbrev pub standing_of : {W : Type 0} → UntilQuiet W → Standing
-standing_of task = (if leb task.enough task.quiet then Done else Going)
+abbrev pub quiet_standing : {W : Type 0} → UntilQuiet W → Standing
+quiet_standing task = (if leb task.enough task.quiet then Done else Going)
 
 -- so many turns, each of which did nothing
 abbrev pub QuietTurns : {W : Type 0} → WorkRelation W → ℕ → ℕ → DeskState × W → DeskState × W → Type 0
@@ -44,7 +44,7 @@ QuietTurns {W} work budget (suc n) old new =
 abbrev pub EndsQuietly : {W : Type 0} → WorkRelation W → Type 0
 EndsQuietly {W} work =
     (number turns budget : ℕ) (old new : DeskState × UntilQuiet W)
-    → (run : Works (begins_by standing_of always number) (within work) turns budget old new) → old.1.quiet ≡ 0
+    → (run : Works (begins_by quiet_standing always number) (within work) turns budget old new) → old.1.quiet ≡ 0
     → (run.count ≡ turns) ⊎ ((before : ℕ) × (mid : DeskState × UntilQuiet W) × (before + old.1.enough ≡ run.count)
-    × TakesTurns (begins_by standing_of always number) (within work) budget before old mid
+    × TakesTurns (begins_by quiet_standing always number) (within work) budget before old mid
     × QuietTurns (within work) budget old.1.enough mid new)

@@ -12,8 +12,8 @@ use Rattle.pt_desk.specs.Reaching.{IsReached}
 use Rattle.pt_uses.specs.Doing.{Doing, Idles}
 
 -- a message without a pid
-abbrev pub message : ℕ → ℤ → Signal
-message kind num = Signal.Message (record { kind = kind; num = num; who = None })
+abbrev pub plain_message : ℕ → ℤ → Signal
+plain_message kind num = Signal.Message (record { kind = kind; num = num; who = None })
 
 -- who has ended is not told, and a message to him is lost without a word
 abbrev pub unheard : Result (Unit {0}) Fault → Result (Unit {0}) Fault

@@ -6,7 +6,7 @@
 ghost use Rattle.std.specs.Prelude.{◌≡◌, []};
 ghost use Rattle.pt_node.specs.Desks.{IsStill};
 ghost use Rattle.pt_uses.specs.Doing.{Repeats};
-ghost use Rattle.pt_uses.specs.Games.{EndsIfSpent, Enters, SeesTo, SeesToAll, TakesHit, Ticks, entered, hit_by};
+ghost use Rattle.pt_uses.specs.Games.{EndsIfSpent, MonsterEnters, SeesToMonster, SeesToAll, TakesHit, Ticks, entered, hit_by};
 
 use indexmap::IndexMap;
 use pt_node::{Desk, Fault, Item, Pick, Pid, Reason};
@@ -35,7 +35,7 @@ impl Game {
 
     /// A monster enters: a process, and its health.
     pub fn enter(&mut self, desk: &mut Desk, health: i64) -> Result<Pid, Fault>
-        ensures does { Enters desk.old.shard result desk.new.shard }
+        ensures does { MonsterEnters desk.old.shard result desk.new.shard }
         ensures monsters { self.new.health.entries ≡ entered self.old.health.entries result health }
         ensures still { IsStill desk.old desk.new }
     {
@@ -73,7 +73,7 @@ impl Game {
 
 /// A monster, if it is alive, takes the hits that wait, and ends where no health is left.
 fn see_to(desk: &mut Desk, me: Pid, health: &mut i64) -> Result<(), Fault>
-    ensures does { SeesTo me (desk.old.shard, health.old) result (desk.new.shard, health.new) }
+    ensures does { SeesToMonster me (desk.old.shard, health.old) result (desk.new.shard, health.new) }
     ensures still { IsStill desk.old desk.new }
 {
     if !desk.alive_here(me) {

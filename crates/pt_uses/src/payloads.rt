@@ -7,7 +7,7 @@
 ghost use Rattle.std.specs.Prelude.{◌≡◌, true, [], OnOk, OnErr};
 ghost use Rattle.pt_shard.specs.Known.{knows};
 ghost use Rattle.pt_node.specs.Desks.{IsStill};
-ghost use Rattle.pt_uses.specs.Payloads.{LetsGo, SaysNumber, Stores, TakesOut, TakesText, is_lost, named, next_text};
+ghost use Rattle.pt_uses.specs.Payloads.{LetsGo, SaysNumber, Stores, TakesTextOut, TakesText, is_lost, named_sender, next_text};
 ghost use Rattle.pt_uses.specs.Payloads.{text_of};
 
 use crate::steps::tell;
@@ -65,7 +65,7 @@ impl Texts {
     /// Takes the oldest message with a text out of the mailbox of p, and answers its sender and the text.
     pub fn receive(&mut self, desk: &mut Desk, p: Pid) -> Result<Option<(Pid, String)>, Fault>
         ensures does { TakesText self.old.kept p desk.old.shard result desk.new.shard }
-        ensures taken { OnOk result (TakesOut (named (next_text desk.old.shard p)) self.old.kept self.new.kept) }
+        ensures taken { OnOk result (TakesTextOut (named_sender (next_text desk.old.shard p)) self.old.kept self.new.kept) }
         ensures refused { OnErr result (self.new.kept ≡ self.old.kept) }
         ensures still { IsStill desk.old desk.new }
     {
@@ -75,8 +75,8 @@ impl Texts {
 
     /// Takes out the text that an item names, and answers who sent it and the text.
     fn take(&mut self, item: Option<Item>) -> Option<(Pid, String)>
-        ensures text { result ≡ text_of self.old.kept (named item) }
-        ensures taken { TakesOut (named item) self.old.kept self.new.kept }
+        ensures text { result ≡ text_of self.old.kept (named_sender item) }
+        ensures taken { TakesTextOut (named_sender item) self.old.kept self.new.kept }
     {
         let Some(Item::User(from, body)) = item else {
             return None;

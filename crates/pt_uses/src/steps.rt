@@ -5,7 +5,7 @@ ghost use Rattle.pt_desk.specs.DeskState.{GoesOn, HasSameEnds};
 ghost use Rattle.pt_gathered.specs.Lawful.{KeepsHeadline, IsLegalNode};
 ghost use Rattle.pt_node.specs.Desks.{AreDesks};
 ghost use Rattle.pt_node.specs.Gathering.{HasJournalsOf};
-ghost use Rattle.pt_uses.specs.Telling.{SaysTo, message, unheard};
+ghost use Rattle.pt_uses.specs.Telling.{SaysTo, plain_message, unheard};
 
 use crate::RecipeError;
 use pt_node::{Body, Desk, Fault, Gathered, Pid, gather};
@@ -14,7 +14,7 @@ use std::alloc::Global;
 /// Sends a message. One to a pid that the desk does not know is lost, as one to a process that has ended.
 #[tactic(auto, using(pt_node::proofs::GoingOn::stays))]
 pub fn tell(desk: &mut Desk, from: Pid, to: Pid, kind: u32, num: i64) -> Result<(), Fault>
-    ensures does { SaysTo from to (message kind num) desk.old.shard result desk.new.shard }
+    ensures does { SaysTo from to (plain_message kind num) desk.old.shard result desk.new.shard }
     ensures ends { HasSameEnds desk.old desk.new }
     ensures goes_on { GoesOn desk.old desk.new }
 {

@@ -48,13 +48,13 @@ impl<W> UntilQuiet<W> {
 }
 
 impl<W: Work> Task for UntilQuiet<W> {
-    ghost use Rattle.pt_uses.specs.Quiet.{HearsWithin, StepsWithin, standing_of};
+    ghost use Rattle.pt_uses.specs.Quiet.{HearsWithin, StepsWithin, quiet_standing};
 
     ghost does = { StepsWithin W.Work.does };
 
     ghost hears = { HearsWithin W.Work.hears };
 
-    ghost standing = { standing_of };
+    ghost standing = { quiet_standing };
 
     fn step(&mut self, desk: &mut Desk) {
         self.work.step(desk);

@@ -7,7 +7,7 @@ ghost use Rattle.pt_signal.specs.declared.signal.Signal.TheVariants.{LinkExit, D
 ghost use Rattle.pt_signal.specs.Values.{without_first};
 ghost use Rattle.pt_signal.specs.Process.{sent, estate, bounce};
 ghost use Rattle.pt_events.specs.History.{is_between, landed};
-ghost use Rattle.pt_judge.specs.Judging.{answered, owed, sends};
+ghost use Rattle.pt_judge.specs.Judging.{answered, owed, judge_sends};
 
 use crate::judging::holdings::Holdings;
 use crate::judging::lives::{Lives, holdings, reason};
@@ -264,7 +264,7 @@ impl Flights {
         lived: bool,
         event: Event,
     ) -> Result<Flights, AllocError>
-        ensures { IfOk result (λ flights. flights ≡ self ++ sends lives.now lived event) }
+        ensures { IfOk result (λ flights. flights ≡ self ++ judge_sends lives.now lived event) }
     {
         match event {
             Event::Said(from, to, signal) => self.with(from, to, signal),

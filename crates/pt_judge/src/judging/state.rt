@@ -13,7 +13,7 @@ ghost use Rattle.pt_events.specs.declared.event.Event.TheVariants.{Born, Said, C
 ghost use Rattle.pt_events.specs.History.{Start, Past, open_monitors, reason_of, state_of, is_living, is_unborn};
 ghost use Rattle.pt_events.specs.History.{is_the, is_between, makes_link, makes_ref};
 ghost use Rattle.pt_judge.specs.Judge.{IsAfter, IsJudged};
-ghost use Rattle.pt_judge.specs.Judging.{now_is, known, cause, may_say, lacks, unlawful_link, is_item, is_ids};
+ghost use Rattle.pt_judge.specs.Judging.{now_is, known_state, cause, may_say, lacks, unlawful_link, is_item, is_ids};
 ghost use Rattle.pt_judge.specs.Judging.{is_signal, IsHeldBy, IsStep};
 
 use crate::Cause;
@@ -265,13 +265,13 @@ impl State {
     }
 
     fn made_link(&self, id: LinkId) -> bool
-        ensures { result ≡ (known self.now).links id }
+        ensures { result ≡ (known_state self.now).links id }
     {
         self.links.contains(&id)
     }
 
     fn made_ref(&self, monitor: Ref) -> bool
-        ensures { result ≡ (known self.now).refs monitor }
+        ensures { result ≡ (known_state self.now).refs monitor }
     {
         self.refs.contains(&monitor)
     }
@@ -317,7 +317,7 @@ impl State {
     }
 
     fn may_say(&self, from: Pid, to: Pid, signal: Signal) -> bool
-        ensures { result ≡ may_say (known self.now) from to signal }
+        ensures { result ≡ may_say (known_state self.now) from to signal }
     {
         match signal {
             Signal::Message(_) => true,
@@ -336,7 +336,7 @@ impl State {
     }
 
     fn lacks(&self, parent: Option<Pid>) -> bool
-        ensures { result ≡ lacks (known self.now) parent }
+        ensures { result ≡ lacks (known_state self.now) parent }
     {
         match parent {
             Some(parent) => !self.alive(parent),
@@ -345,7 +345,7 @@ impl State {
     }
 
     fn is_unlawful_link(&self, parent: Option<Pid>, link: Option<LinkId>) -> bool
-        ensures { result ≡ unlawful_link (known self.now) parent link }
+        ensures { result ≡ unlawful_link (known_state self.now) parent link }
     {
         match (parent, link) {
             (_, None) => false,
@@ -355,7 +355,7 @@ impl State {
     }
 
     fn birth_cause(&self, pid: Pid, parent: Option<Pid>, link: Option<LinkId>) -> Option<Cause>
-        ensures { result ≡ cause (known self.now) (Born pid parent link) }
+        ensures { result ≡ cause (known_state self.now) (Born pid parent link) }
     {
         if !self.is_unborn(pid) {
             return Some(Cause::BornTwice);
@@ -370,7 +370,7 @@ impl State {
     }
 
     fn saying_cause(&self, from: Pid, to: Pid, signal: Signal) -> Option<Cause>
-        ensures { result ≡ cause (known self.now) (Said from to signal) }
+        ensures { result ≡ cause (known_state self.now) (Said from to signal) }
     {
         if !self.alive(from) {
             return Some(Cause::NotAlive);
@@ -382,7 +382,7 @@ impl State {
     }
 
     fn coming_cause(&self, from: Pid, to: Pid, signal: Signal) -> Option<Cause>
-        ensures { result ≡ cause (known self.now) (Came from to signal) }
+        ensures { result ≡ cause (known_state self.now) (Came from to signal) }
     {
         if !self.is_front(from, to, signal) {
             return Some(Cause::NotFront);
@@ -391,7 +391,7 @@ impl State {
     }
 
     fn taking_cause(&self, pid: Pid, pick: Pick, item: Item) -> Option<Cause>
-        ensures { result ≡ cause (known self.now) (Took pid pick item) }
+        ensures { result ≡ cause (known_state self.now) (Took pid pick item) }
     {
         if !self.alive(pid) {
             return Some(Cause::NotAlive);
@@ -412,7 +412,7 @@ impl State {
     }
 
     fn refusal_cause(&self, from: Pid, to: Pid) -> Option<Cause>
-        ensures { result ≡ cause (known self.now) (Refused from to) }
+        ensures { result ≡ cause (known_state self.now) (Refused from to) }
     {
         if !self.alive(from) {
             return Some(Cause::NotAlive);
@@ -425,7 +425,7 @@ impl State {
 
     /// Why the event may not come next, if it may not: the lowest cause that fits, which is never memory.
     pub fn cause(&self, event: Event) -> Option<Cause>
-        ensures is { result ≡ cause (known self.now) event }
+        ensures is { result ≡ cause (known_state self.now) event }
         ensures judged { (start : Start) (past : Past) → IsAfter start past self.now
             → IsJudged start past event result }
     {
@@ -443,7 +443,7 @@ impl State {
     /// The state after an event that may come next: one that [`State::cause`] answers `None` for. Where memory is
     /// wanting the state goes.
     pub fn after(self, alloc: Global, event: Event) -> Result<State, AllocError>
-        requires { cause (known self) event ≡ None }
+        requires { cause (known_state self) event ≡ None }
         ensures step { IfOk result (λ state. IsStep self event state) }
         ensures goes_on { (start : Start) (past : Past) → IsAfter start past self
             → IfOk result (λ state. IsAfter start (event ∷ past) state) }

@@ -15,7 +15,7 @@ use Rattle.pt_events.specs.declared.event.Event.TheVariants.{Born, Came}
 use Rattle.pt_signal.specs.Values.{same_pid, same_ref, without_first}
 use Rattle.pt_signal.specs.Process.{ProcessState, Verdict, drops, queues, ends, verdict, obey, Handled, handle, held, holds_any, link_exit, down, enter, enter_at, cut, cut_at, leave_at, without_ids, keep, same_watch, Sent, sent, estate, bounce}
 use Rattle.pt_events.specs.History.{Past, Start, Phase, unborn, living, ended, life, after, is_unborn, is_between, flying, got_sends, end_sends, live_or_end, gets, change, touches, sent_by, IsLegal, is_birth}
-use Rattle.pt_laws.specs.Load.{weight, weights, size, total, one_if, times, IsStart, pids, load, desk_sizes}
+use Rattle.pt_laws.specs.Load.{weight, weights, size, total_of, one_if, times, IsStart, pids, load, desk_sizes}
 use Rattle.pt_signal.proofs.Same.{same_pid_is, same_pid_refl}
 use Rattle.pt_events.proofs.Phases.{after_born, each_branch}
 
@@ -158,20 +158,20 @@ receipt b a x (ended r s) = let h = spends_bounce b a x in omega arith
 -- all receivers -------------------------------------------------------------------------------------
 
 module _ (f g : Pid → ℕ) (b : Pid) (others : (q : Pid) → same_pid b q ≡ false → g q ≡ f q) where
-  total_none : (ps : List Pid) → times b ps ≡ 0 → total g ps ≡ total f ps
+  total_none : (ps : List Pid) → times b ps ≡ 0 → total_of g ps ≡ total_of f ps
   total_none [] h = refl
   total_none (q ∷ qs) h = go (same_pid b q) refl h (total_none qs)
     where
-      go : (t : Bool) → same_pid b q ≡ t → one_if (same_pid b q) + times b qs ≡ 0 → (times b qs ≡ 0 → total g qs ≡ total f qs) → total g (q ∷ qs) ≡ total f (q ∷ qs)
+      go : (t : Bool) → same_pid b q ≡ t → one_if (same_pid b q) + times b qs ≡ 0 → (times b qs ≡ 0 → total_of g qs ≡ total_of f qs) → total_of g (q ∷ qs) ≡ total_of f (q ∷ qs)
       go true e h ih = let k : 1 + times b qs ≡ 0 = rw e at h in absurd (omega arith)
       go false e h ih = let k : 0 + times b qs ≡ 0 = rw e at h in let j = ih (omega arith) in let i = others q e in omega arith
 
-  total_one : (ps : List Pid) → times b ps ≡ 1 → total g ps + f b ≡ total f ps + g b
+  total_one : (ps : List Pid) → times b ps ≡ 1 → total_of g ps + f b ≡ total_of f ps + g b
   total_one [] h = absurd (omega arith)
   total_one (q ∷ qs) h = go (same_pid b q) refl h (total_one qs) (total_none qs)
     where
-      go : (t : Bool) → same_pid b q ≡ t → one_if (same_pid b q) + times b qs ≡ 1 → (times b qs ≡ 1 → total g qs + f b ≡ total f qs + g b)
-          → (times b qs ≡ 0 → total g qs ≡ total f qs) → total g (q ∷ qs) + f b ≡ total f (q ∷ qs) + g b
+      go : (t : Bool) → same_pid b q ≡ t → one_if (same_pid b q) + times b qs ≡ 1 → (times b qs ≡ 1 → total_of g qs + f b ≡ total_of f qs + g b)
+          → (times b qs ≡ 0 → total_of g qs ≡ total_of f qs) → total_of g (q ∷ qs) + f b ≡ total_of f (q ∷ qs) + g b
       go true e h ih outside =
           let k : 1 + times b qs ≡ 1 = rw e at h in
           let j = outside (omega arith) in
@@ -232,7 +232,7 @@ module _ (start : Start) (ok : IsStart start) where
 
   -- of one receipt: the processes afterwards and what goes out weigh less than the processes before and the letter
   pub came_sizes : (past : Past) (a b : Pid) (x : Signal) (ps : List Pid) → times b ps ≡ cond (is_unborn (life start past b)) 0 1
-      → total (λ p. size (life start (Came a b x ∷ past) p)) ps + weights (got_sends (life start past b) b a x) + 1 ≤ total (λ p. size (life start past p)) ps + weight x
+      → total_of (λ p. size (life start (Came a b x ∷ past) p)) ps + weights (got_sends (life start past b) b a x) + 1 ≤ total_of (λ p. size (life start past p)) ps + weight x
   came_sizes past a b x ps k = go (is_unborn f) refl k
     where
       f : Phase
@@ -250,7 +250,7 @@ module _ (start : Start) (ok : IsStart start) where
       here : G b ≡ size (gets b a x f)
       here = rw (same_pid_refl b) refl
 
-      go : (t : Bool) → is_unborn f ≡ t → times b ps ≡ cond (is_unborn f) 0 1 → total G ps + weights (got_sends f b a x) + 1 ≤ total F ps + weight x
+      go : (t : Bool) → is_unborn f ≡ t → times b ps ≡ cond (is_unborn f) 0 1 → total_of G ps + weights (got_sends f b a x) + 1 ≤ total_of F ps + weight x
       go true e k =
           let k0 : times b ps ≡ 0 = rw e at k in
           let t = total_none F G b others ps k0 in

@@ -19,17 +19,17 @@ use Rattle.pt_laws.specs.Load.{one_if}
 use Rattle.std.specs.Map.{lookup}
 use Rattle.pt_signal.proofs.Same.{same_pid_is}
 use Rattle.pt_events.proofs.Phases.{after_ended}
-use Rattle.pt_laws.specs.BirthsAndEnds.{ended_by, signal_ends, ends_with, births, deaths, was_born, end_reason}
+use Rattle.pt_laws.specs.BirthsAndEnds.{ended_by_verdict, signal_ends, ends_with, births, deaths, was_born, end_reason}
 
 -- a signal ends a live process by its verdict alone ------------------------------------------------
 
-obey_ending : (v : Verdict) (s : ProcessState) → (obey v s).ending ≡ ended_by v
+obey_ending : (v : Verdict) (s : ProcessState) → (obey v s).ending ≡ ended_by_verdict v
 obey_ending drops s = refl
 obey_ending (queues i) s = refl
 obey_ending (ends r) s = refl
 
 link_exit_ending : (b : Bool) (p : Pid) (s : ProcessState) (a : Pid) (r : Reason)
-    → (link_exit b p s a r).ending ≡ cond b (ended_by (verdict true s.traps (same_pid a p) a r)) None
+    → (link_exit b p s a r).ending ≡ cond b (ended_by_verdict (verdict true s.traps (same_pid a p) a r)) None
 link_exit_ending false p s a r = refl
 link_exit_ending true p s a r = obey_ending (verdict true s.traps (same_pid a p) a r) _
 

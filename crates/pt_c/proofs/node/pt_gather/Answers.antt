@@ -1,7 +1,7 @@
 use Rattle.std.proofs.Common.{◌≡◌, ◌<◌, false, length, map, sym, ◌∙◌, arith}
 use Rattle.std.specs.Prelude.{is_some}
 use Rattle.std.proofs.lemmas.List.{length-map}
-use Rattle.pt_table.specs.Answers.{value_in, values}
+use Rattle.pt_table.specs.Answers.{value_behind, values}
 use Rattle.pt_c.proofs.Joining.{no_memory}
 use Rattle.pt_c.proofs.node.pt_gather.Goals as goal
 

@@ -1,13 +1,13 @@
 use Rattle.std.proofs.Common.{◌≡◌, Some, sym, ap, ◌∙◌}
 use Rattle.std.specs.Option.{option_map}
-use Rattle.pt_table.specs.Answers.{full, value_in}
+use Rattle.pt_table.specs.Answers.{full, value_behind}
 use Rattle.pt_c.proofs.Joining.{place_is, settled, not_settled}
 use Rattle.pt_c.proofs.node.pt_settle.Goals as goal
 
 pub returns-in-Ok-settle : goal.returns-in-Ok-settle
 returns-in-Ok-settle c =
     let g = c.unwrap-place.result.1 in
-    let was : value_in c.is_full.new.h.state ≡ Some g = sym c.take_out.ensures.value ∙ ap (option_map (λ r. r.1)) c.unwrap-place.ensures in
+    let was : value_behind c.is_full.new.h.state ≡ Some g = sym c.take_out.ensures.value ∙ ap (option_map (λ r. r.1)) c.unwrap-place.ensures in
     let is : c.args.g.now.state ≡ full g = sym c.is_full.ensures.same ∙ place_is c.is_full.new.h.state g was in
     let e = c.in-Ok-settle.ensures in
     settled c.args.g.now.state g is c.take_out.new.h.state c.args.out.now.state c.filled.result.state (sym c.is_full-2.ensures.full ∙ c.if-is_full.false) c.in-Ok-settle.quiet c.take_out.ensures.empty
@@ -27,7 +27,7 @@ returns-in-Ok-settle c =
 pub returns-in-Err : goal.returns-in-Err
 returns-in-Err c =
     let g = c.unwrap-place.result.1 in
-    let was : value_in c.is_full.new.h.state ≡ Some g = sym c.take_out.ensures.value ∙ ap (option_map (λ r. r.1)) c.unwrap-place.ensures in
+    let was : value_behind c.is_full.new.h.state ≡ Some g = sym c.take_out.ensures.value ∙ ap (option_map (λ r. r.1)) c.unwrap-place.ensures in
     let is : c.args.g.now.state ≡ full g = sym c.is_full.ensures.same ∙ place_is c.is_full.new.h.state g was in
     let e = c.in-Err.ensures in
     not_settled c.args.g.now.state g is c.filled-in-Err.result.state c.args.out.now.state c.is_full-2.new.h.state (sym c.is_full-2.ensures.full ∙ c.if-is_full.false) c.stop_code.result

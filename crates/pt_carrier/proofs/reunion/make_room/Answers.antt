@@ -1,7 +1,7 @@
 use Rattle.std.proofs.Common.{◌≡◌, ◌+◌, ◌*◌, [], ◌∷◌, ◌++◌, length, get_or, arith, ap, below_more}
 use Rattle.pt_carrier.specs.Ends.{OutEnds, InEnds}
 use Rattle.pt_carrier.specs.Node.{places, entry}
-use Rattle.pt_carrier.specs.Reunion.{HasRoom, all_known}
+use Rattle.pt_carrier.specs.Reunion.{VectorHasRoom, all_known}
 use Rattle.pt_carrier.proofs.Lists.{get_or-map_read}
 use Rattle.pt_carrier.proofs.Places.{in_lanes}
 use Rattle.pt_carrier.proofs.Rooms.{HasRoom-before, HasRoom-push, next_row}
@@ -30,7 +30,7 @@ loop-e-preserved c =
     rw c.in_ok-push.ensures.items (record {
       count = omega (arith, c.in_ok-push.ensures.len, inv.count);
       room = λ i j l m. HasRoom-before (entry (all_known pairs) j i) lanes v (i * length pairs + j) (inv.room i j l m);
-      row = below_more (λ j. HasRoom (entry (all_known pairs) j d) (lanes ++ v ∷ []) (d * length pairs + j)) e
+      row = below_more (λ j. VectorHasRoom (entry (all_known pairs) j d) (lanes ++ v ∷ []) (d * length pairs + j)) e
           (λ j m. HasRoom-before (entry (all_known pairs) j d) lanes v (d * length pairs + j) (inv.row j m))
           (HasRoom-push (entry (all_known pairs) e d) lanes v (d * length pairs + e) (omega (arith, c.loop-e.lanes.ok.0, inv.count)) c.in_ok-with_capacity.ensures.items
           (omega (arith, c.in_ok-with_capacity.ensures.exact, c.known.ensures, ap length known)));
@@ -44,5 +44,5 @@ loop-d-preserved c =
     let all : c.loop-e.e ≡ length pairs = omega (arith, c.loop-e-test.false, c.loop-e.auto.e-end) in
     record {
       count = omega (arith, inv.count, all, next_row d (length pairs));
-      room = λ i j l m. below_more (λ i. HasRoom (entry (all_known pairs) j i) c.loop-e.lanes.items (i * length pairs + j)) d (λ i h. inv.room i j h m) (inv.row j (omega (arith, all))) i l;
+      room = λ i j l m. below_more (λ i. VectorHasRoom (entry (all_known pairs) j i) c.loop-e.lanes.items (i * length pairs + j)) d (λ i h. inv.room i j h m) (inv.row j (omega (arith, all))) i l;
     }

@@ -2,7 +2,7 @@ use Rattle.std.proofs.Common.{None, ap, ◌∙◌, rules, arith, take, get_or}
 use Rattle.std.specs.Prelude.{pos, slice_get}
 use Rattle.pt_signal.specs.declared.signal.Signal.TheVariants.{Message}
 use Rattle.pt_chart.specs.declared.layout.Sending.{Sending}
-use Rattle.pt_chart.specs.Chart.{place, receipts, sent_to}
+use Rattle.pt_chart.specs.Chart.{column_place, receipts, sent_to}
 use Rattle.pt_chart.proofs.Arrows.{arrows_next}
 use Rattle.pt_chart.proofs.Arrivals.{awaits_next, first_left}
 use Rattle.pt_chart.proofs.layout.arrows_of.Goals as goal
@@ -24,7 +24,7 @@ loop-k-preserved c =
     record {
       made =
           arrows_next events c.args.pids.now from sent k nothing c.loop-k.arrows.items c.push_reserved.new.self.items c.arrow_of.result
-          (omega arith) (c.arrow_of.ensures ∙ ap (λ row. record { to = place c.args.pids.now l.to; signal = l.signal; sent = l.event; came = row }) came)
+          (omega arith) (c.arrow_of.ensures ∙ ap (λ row. record { to = column_place c.args.pids.now l.to; signal = l.signal; sent = l.event; came = row }) came)
           c.loop-k.invariant.made c.push_reserved.ensures.items;
       count = search rules;
       room = search rules;

@@ -1,7 +1,7 @@
 use Rattle.std.proofs.Common.{None, ap, sym, ◌∙◌, get_or, arith}
 use Rattle.pt_events.specs.declared.event.Stamped.{Stamped}
 use Rattle.pt_events.specs.declared.event.Event.TheVariants.{Born}
-use Rattle.pt_chart.specs.Chart.{joined, named}
+use Rattle.pt_chart.specs.Chart.{joined_columns, named_columns}
 use Rattle.pt_chart.proofs.Rows.{everyone_more}
 use Rattle.pt_chart.proofs.layout.pids_of.Goals as goal
 
@@ -12,4 +12,4 @@ pub loop-stamped-preserved : goal.loop-stamped-preserved
 loop-stamped-preserved c =
     let events = c.args.events.now in
     let i = c.loop-stamped.stamped-index in
-    c.in_ok-name.ensures ∙ ap (λ ps. joined ps (named (get_or events i nothing).event)) c.loop-stamped.invariant ∙ sym (everyone_more events i nothing (omega arith))
+    c.in_ok-name.ensures ∙ ap (λ ps. joined_columns ps (named_columns (get_or events i nothing).event)) c.loop-stamped.invariant ∙ sym (everyone_more events i nothing (omega arith))

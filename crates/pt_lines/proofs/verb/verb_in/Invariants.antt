@@ -1,6 +1,6 @@
 use Rattle.std.proofs.Common.{◌≡◌, drop, map}
-use Rattle.pt_lines.specs.Calls.{first_named, named}
+use Rattle.pt_lines.specs.Calls.{first_named, named_row}
 use Rattle.pt_lines.proofs.verb.verb_in.Given as goal
 
 abbrev pub invariant-loop-place : goal.invariant-loop-place
-invariant-loop-place l = first_named (map named l.table) l.word ≡ first_named (map named (drop l.place l.table)) l.word
+invariant-loop-place l = first_named (map named_row l.table) l.word ≡ first_named (map named_row (drop l.place l.table)) l.word

@@ -1,7 +1,7 @@
 use Rattle.std.proofs.Common.{◌≡◌, ◌++◌, drop, map}
-use Rattle.pt_lines.specs.Words.{spaced, told}
+use Rattle.pt_lines.specs.Words.{spaced, told_word}
 use Rattle.pt_lines.proofs.word.push_spaced.Given as goal
 
 abbrev pub invariant-loop-place : goal.invariant-loop-place
 invariant-loop-place l =
-    l.text.items ++ spaced (map told (drop l.place l.words)) ≡ l.fn.text.items ++ spaced (map told l.words)
+    l.text.items ++ spaced (map told_word (drop l.place l.words)) ≡ l.fn.text.items ++ spaced (map told_word l.words)

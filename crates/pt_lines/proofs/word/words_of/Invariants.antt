@@ -1,9 +1,9 @@
 use Rattle.std.proofs.Common.{◌≡◌, ◌+◌, ◌≤◌, ◌++◌, drop, map}
 use Rattle.std.specs.Prelude.{slice_range}
-use Rattle.pt_lines.specs.Words.{told, words_behind, words_in}
+use Rattle.pt_lines.specs.Words.{told_word, words_behind, words_in}
 use Rattle.pt_lines.proofs.word.words_of.Given as goal
 
 abbrev pub invariant-loop-place : goal.invariant-loop-place
 invariant-loop-place l =
     (l.start ≤ l.place)
-    × (map told l.words.items ++ words_behind (l.start + 1) (slice_range l.line l.start l.place) (drop l.place l.line) ≡ words_in l.line)
+    × (map told_word l.words.items ++ words_behind (l.start + 1) (slice_range l.line l.start l.place) (drop l.place l.line) ≡ words_in l.line)

@@ -2,7 +2,7 @@ use Rattle.std.proofs.Common.{◌≡◌, ◌+◌, ◌<◌, List, ap, inl, inr, s
 use Rattle.std.proofs.lemmas.List.{get_or_read}
 use Rattle.std.proofs.Common.{◌^◌}
 use Rattle.pt_merge.specs.declared.merging.Seat.{Seat}
-use Rattle.pt_merge.specs.Race.{IsPlayed, alone, middle, key_at, winner_at, taken_at}
+use Rattle.pt_merge.specs.Race.{IsPlayed, alone, middle, next_key, winner_at, taken_at}
 use Rattle.pt_merge.proofs.Race.{apart_taken, one_half, other_half}
 use Rattle.pt_merge.proofs.merging.+advance.Goals as goal
 use Rattle.pt_merge.proofs.merging.+advance.Goals.{then-which-middle, else-which-middle}
@@ -23,10 +23,10 @@ play-requires-clause-one_half t c =
     let old = c.args.seats.now.items in
     let m = middle c.args.low c.args.high in
     let some : c.args.low + 1 < c.args.high = omega arith in
-    let was = one_half (key_at js old) (winner_at old) c.args.low c.args.high some c.requires.played in
+    let was = one_half (next_key js old) (winner_at old) c.args.low c.args.high some c.requires.played in
     elim c.if-which-middle.branch [
-      | then-which-middle w ↦ subst (λ (seats : List Seat). IsPlayed (key_at js seats) (winner_at seats) c.args.low m) (sym (ap (λ v. v.items) w.seats-is)) w.advance.ensures.played
-      | else-which-middle w ↦ subst (λ (seats : List Seat). IsPlayed (key_at js seats) (winner_at seats) c.args.low m) (sym (ap (λ v. v.items) w.seats-is))
+      | then-which-middle w ↦ subst (λ (seats : List Seat). IsPlayed (next_key js seats) (winner_at seats) c.args.low m) (sym (ap (λ v. v.items) w.seats-is)) w.advance.ensures.played
+      | else-which-middle w ↦ subst (λ (seats : List Seat). IsPlayed (next_key js seats) (winner_at seats) c.args.low m) (sym (ap (λ v. v.items) w.seats-is))
           (apart_taken js old w.advance-else-which-middle.new.seats.items c.args.low m m c.args.high c.args.which w.advance-else-which-middle.ensures.taken (inr (omega arith)) (inr (omega arith)) (omega arith) was)
     ]
 
@@ -36,9 +36,9 @@ play-requires-clause-other_half t c =
     let old = c.args.seats.now.items in
     let m = middle c.args.low c.args.high in
     let some : c.args.low + 1 < c.args.high = omega arith in
-    let was = other_half (key_at js old) (winner_at old) c.args.low c.args.high some c.requires.played in
+    let was = other_half (next_key js old) (winner_at old) c.args.low c.args.high some c.requires.played in
     elim c.if-which-middle.branch [
-      | then-which-middle w ↦ subst (λ (seats : List Seat). IsPlayed (key_at js seats) (winner_at seats) m c.args.high) (sym (ap (λ v. v.items) w.seats-is))
+      | then-which-middle w ↦ subst (λ (seats : List Seat). IsPlayed (next_key js seats) (winner_at seats) m c.args.high) (sym (ap (λ v. v.items) w.seats-is))
           (apart_taken js old w.advance.new.seats.items m c.args.high c.args.low m c.args.which w.advance.ensures.taken (inl (omega arith)) (inl (omega arith)) (omega arith) was)
-      | else-which-middle w ↦ subst (λ (seats : List Seat). IsPlayed (key_at js seats) (winner_at seats) m c.args.high) (sym (ap (λ v. v.items) w.seats-is)) w.advance-else-which-middle.ensures.played
+      | else-which-middle w ↦ subst (λ (seats : List Seat). IsPlayed (next_key js seats) (winner_at seats) m c.args.high) (sym (ap (λ v. v.items) w.seats-is)) w.advance-else-which-middle.ensures.played
     ]

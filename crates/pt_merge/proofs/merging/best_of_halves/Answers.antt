@@ -1,11 +1,11 @@
 use Rattle.std.proofs.Common.{◌≡◌, sym, subst, true, false, arith}
-use Rattle.pt_merge.specs.Race.{key_at, winner_at, leads, middle, IsBest}
+use Rattle.pt_merge.specs.Race.{next_key, winner_at, leads, middle, IsBest}
 use Rattle.pt_merge.proofs.Race.{best_played, best_one, best_other}
 use Rattle.pt_merge.proofs.merging.best_of_halves.Goals as goal
 
 pub returns-then-leads : goal.returns-then-leads
 returns-then-leads c =
-    let key = key_at c.args.journals.now c.args.seats.now in
+    let key = next_key c.args.journals.now c.args.seats.now in
     let w = winner_at c.args.seats.now in
     let m = middle c.args.low c.args.high in
     let one : IsBest key c.args.low m c.winner-one.result = subst (IsBest key c.args.low m) (sym c.winner-one.ensures) (best_played key w c.args.low m c.requires.one_half) in
@@ -15,7 +15,7 @@ returns-then-leads c =
 
 pub returns-else-leads : goal.returns-else-leads
 returns-else-leads c =
-    let key = key_at c.args.journals.now c.args.seats.now in
+    let key = next_key c.args.journals.now c.args.seats.now in
     let w = winner_at c.args.seats.now in
     let m = middle c.args.low c.args.high in
     let one : IsBest key c.args.low m c.winner-one.result = subst (IsBest key c.args.low m) (sym c.winner-one.ensures) (best_played key w c.args.low m c.requires.one_half) in

@@ -1,5 +1,5 @@
 use Rattle.std.proofs.Common.{[], ◌∷◌, ◌++◌, None, sym, ap, ◌∙◌}
-use Rattle.pt_runner.specs.Acting.{got}
+use Rattle.pt_runner.specs.Acting.{ref_got}
 use Rattle.pt_runner.proofs.Acting.{ask_no_room, ask_no_target, ask_at}
 use Rattle.pt_runner.proofs.calls.ask_alive.Goals as goal
 
@@ -12,4 +12,4 @@ returns-in_default-clause-does c = ask_no_target c.args.p _ c.args.desk.now.shar
 pub returns-clause-does : goal.returns-clause-does
 returns-clause-does c =
     ask_at c.args.p _ c.in-Some.to c.args.desk.now.shard c.ask_alive-answer.new.self.shard c.args.references.now.items c.note.new.references.items c.ask_alive-answer.result c.progress_of.result
-    (sym c.target.ensures.target ∙ c.in-Some.is) c.ask_alive-answer.ensures.does c.progress_of.ensures (c.note.ensures ∙ ap (λ xs. xs ++ got c.ask_alive-answer.result) c.reserve.ensures.items)
+    (sym c.target.ensures.target ∙ c.in-Some.is) c.ask_alive-answer.ensures.does c.progress_of.ensures (c.note.ensures ∙ ap (λ xs. xs ++ ref_got c.ask_alive-answer.result) c.reserve.ensures.items)

@@ -1,5 +1,5 @@
 use Rattle.std.proofs.Common.{[], ◌∷◌, ◌++◌, None, sym, ap, ◌∙◌}
-use Rattle.pt_runner.specs.Acting.{got}
+use Rattle.pt_runner.specs.Acting.{ref_got}
 use Rattle.pt_runner.proofs.Acting.{no_room, no_target, monitor_at}
 use Rattle.pt_runner.proofs.calls.monitor.Goals as goal
 
@@ -12,4 +12,4 @@ returns-in_default-clause-does c = no_target c.args.p _ c.args.desk.now.shard c.
 pub returns-clause-does : goal.returns-clause-does
 returns-clause-does c =
     monitor_at c.args.p _ c.in-Some.to c.args.desk.now c.monitor-answer.new.self c.args.references.now.items c.note.new.references.items c.monitor-answer.result c.progress_of.result
-    (sym c.target.ensures.target ∙ c.in-Some.is) c.monitor-answer.ensures.does c.progress_of.ensures (c.note.ensures ∙ ap (λ xs. xs ++ got c.monitor-answer.result) c.reserve.ensures.items)
+    (sym c.target.ensures.target ∙ c.in-Some.is) c.monitor-answer.ensures.does c.progress_of.ensures (c.note.ensures ∙ ap (λ xs. xs ++ ref_got c.monitor-answer.result) c.reserve.ensures.items)

@@ -1,6 +1,6 @@
 use Rattle.std.proofs.Common.{◌≡◌, ◌+◌, ◌<◌, ◌++◌, ◌∙◌, sym, ap, arith, Ok, rules, length, length-append, append_assoc, refl, [], ◌∷◌, set, map, vec_len}
 use Rattle.std.proofs.lemmas.Grind.{common_steps}
-use Rattle.pt_script.specs.Lists.{fresh, list_from}
+use Rattle.pt_script.specs.Lists.{fresh_scope, list_from}
 use Rattle.pt_script.specs.Operations.{Spawning, spawn}
 use Rattle.pt_script.proofs.StepFacts.{spawned_read}
 use Rattle.std.proofs.Math.Seq.{set-append_seam}
@@ -75,7 +75,7 @@ read_process-returns-clause-read t c =
     let longer : vec_len c.push.new.self ≡ size + 1 = omega (arith, c.in_ok-push.ensures.len) in
     let number : c.len-number.result ≡ length old = omega (arith, c.len-number.ensures, c.args.draft.now.processes.ok.0) in
     let scope : Scope = record { format = c.args.format; own = c.len-number.result; parent = c.args.parent; tops = naming c.args.tops.now; children = naming c.new-3.result; monitors = naming c.new-4.result; asks = naming c.new-5.result; made = 0 } in
-    let begun : scope ≡ fresh c.args.format size c.args.parent (naming c.args.tops.now) = λ i. record { format = c.args.format; own = c.len-number.ensures i; parent = c.args.parent; tops = naming c.args.tops.now; children = c.new-3.ensures i; monitors = c.new-4.ensures i; asks = c.new-5.ensures i; made = 0 } in
+    let begun : scope ≡ fresh_scope c.args.format size c.args.parent (naming c.args.tops.now) = λ i. record { format = c.args.format; own = c.len-number.ensures i; parent = c.args.parent; tops = naming c.args.tops.now; children = c.new-3.ensures i; monitors = c.new-4.ensures i; asks = c.new-5.ensures i; made = 0 } in
     let read = rw (begun, longer) at got.1 in (
       record { operations = c.in_ok-operations.operations.items; inside = got.0; seen = c.read_list.new.draft.seen },
       read,

@@ -5,17 +5,17 @@ use Rattle.serde_json.specs.Data.{Data}
 use Rattle.serde_json.specs.Find.{get}
 use Rattle.serde_json.specs.View.{view}
 use Rattle.pt_script.specs.declared.fault.Fault.{Fault}
-use Rattle.pt_script.specs.Members.{known, required, signed}
+use Rattle.pt_script.specs.Members.{known_members, required, signed}
 use Rattle.pt_script.specs.Operations.{send, process, kind}
 use Rattle.pt_script.specs.Scopes.{Scope, scope_view}
 use Rattle.pt_script.proofs.operation.send.Goals as goal
 
-kind_refused : (s : Scope) (d : Data) (to : ℕ) (fault : Fault) → known (codes "op" ∷ codes "to" ∷ codes "kind" ∷ codes "num" ∷ codes "who" ∷ []) d ≡ Ok tt → required (process s) (get (codes "to") d) ≡ Ok to
+kind_refused : (s : Scope) (d : Data) (to : ℕ) (fault : Fault) → known_members (codes "op" ∷ codes "to" ∷ codes "kind" ∷ codes "num" ∷ codes "who" ∷ []) d ≡ Ok tt → required (process s) (get (codes "to") d) ≡ Ok to
     → required kind (get (codes "kind") d) ≡ Err fault → send s d ≡ Err fault
 unfolding send
 kind_refused s d to fault names t k = rw (names, t, k) refl
 
-num_refused : (s : Scope) (d : Data) (to of_kind : ℕ) (fault : Fault) → known (codes "op" ∷ codes "to" ∷ codes "kind" ∷ codes "num" ∷ codes "who" ∷ []) d ≡ Ok tt → required (process s) (get (codes "to") d) ≡ Ok to
+num_refused : (s : Scope) (d : Data) (to of_kind : ℕ) (fault : Fault) → known_members (codes "op" ∷ codes "to" ∷ codes "kind" ∷ codes "num" ∷ codes "who" ∷ []) d ≡ Ok tt → required (process s) (get (codes "to") d) ≡ Ok to
     → required kind (get (codes "kind") d) ≡ Ok of_kind → required signed (get (codes "num") d) ≡ Err fault → send s d ≡ Err fault
 unfolding send
 num_refused s d to of_kind fault names t k n = rw (names, t, k, n) refl

@@ -3,20 +3,20 @@ use Rattle.std.specs.Prelude.{codes}
 use Rattle.serde_json.specs.Data.{Data}
 use Rattle.serde_json.specs.Find.{get}
 use Rattle.serde_json.specs.View.{view}
-use Rattle.pt_script.specs.Members.{known, whole, required, optional}
+use Rattle.pt_script.specs.Members.{known_members, whole_number, required, optional_member}
 use Rattle.pt_script.specs.Scripts.{settings}
 use Rattle.pt_script.specs.declared.limits.TheConstants.{DEFAULT_BUDGET, DEFAULT_LANE, DEFAULT_SLOTS, MAX_BUDGET, MAX_DESKS, MAX_FORMAT, MAX_LANE, MAX_SLOTS}
 use Rattle.pt_script.proofs.reading.settings_of.Goals as goal
 
 -- the settings that six members say
 all_read : (d : Data) (format desks slots top lane budget : ℕ)
-    → known (codes "format" ∷ codes "desks" ∷ codes "slots" ∷ codes "top" ∷ codes "lane" ∷ codes "budget" ∷ codes "processes" ∷ []) d ≡ Ok tt
-    → required (whole 1 MAX_FORMAT) (get (codes "format") d) ≡ Ok format
-    → required (whole 1 MAX_DESKS) (get (codes "desks") d) ≡ Ok desks
-    → optional DEFAULT_SLOTS (whole 1 MAX_SLOTS) (get (codes "slots") d) ≡ Ok slots
-    → optional 4294967295 (whole 1 4294967295) (get (codes "top") d) ≡ Ok top
-    → optional DEFAULT_LANE (whole 1 MAX_LANE) (get (codes "lane") d) ≡ Ok lane
-    → optional DEFAULT_BUDGET (whole 1 MAX_BUDGET) (get (codes "budget") d) ≡ Ok budget
+    → known_members (codes "format" ∷ codes "desks" ∷ codes "slots" ∷ codes "top" ∷ codes "lane" ∷ codes "budget" ∷ codes "processes" ∷ []) d ≡ Ok tt
+    → required (whole_number 1 MAX_FORMAT) (get (codes "format") d) ≡ Ok format
+    → required (whole_number 1 MAX_DESKS) (get (codes "desks") d) ≡ Ok desks
+    → optional_member DEFAULT_SLOTS (whole_number 1 MAX_SLOTS) (get (codes "slots") d) ≡ Ok slots
+    → optional_member 4294967295 (whole_number 1 4294967295) (get (codes "top") d) ≡ Ok top
+    → optional_member DEFAULT_LANE (whole_number 1 MAX_LANE) (get (codes "lane") d) ≡ Ok lane
+    → optional_member DEFAULT_BUDGET (whole_number 1 MAX_BUDGET) (get (codes "budget") d) ≡ Ok budget
     → settings d ≡ Ok (record { format = format; desks = desks; slots = slots; top_version = top; lane = lane; budget = budget })
 unfolding settings
 all_read d format desks slots top lane budget names f s l t n b = rw (names, f, s, l, t, n, b) refl

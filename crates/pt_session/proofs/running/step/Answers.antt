@@ -2,13 +2,13 @@
 use Rattle.std.proofs.Common.{ap, ◌∙◌, subst, Bool}
 use Rattle.std.specs.Io.BufRead.{strip_last}
 use Rattle.pt_shard.specs.declared.config.TheConstants.Config.{DEFAULT}
-use Rattle.pt_session.specs.Running.{Reads}
-use Rattle.pt_session.specs.Sessions.{seen}
+use Rattle.pt_session.specs.Running.{ReadsLine}
+use Rattle.pt_session.specs.Sessions.{seen_session}
 use Rattle.pt_session.proofs.LineByLine.{passed}
 use Rattle.pt_session.proofs.running.step.Goals as goal
 
 pub returns-then-more : goal.returns-then-more
 returns-then-more g c =
-    passed c.args.is_person DEFAULT (g.R.Read.remaining c.args.from.now) (g.R.Read.remaining c.read_line.new.from) c.read_line.new.line.items c.bare-line.result.now (seen c.args.session.now) (seen c.pass.new.session) (g.W.Write.contents c.args.out.now) (g.W.Write.contents c.prompt.new.out) (g.W.Write.contents c.pass.new.out)
-    (subst (λ (b : Bool). Reads b (g.R.Read.remaining c.args.from.now) (g.R.Read.remaining c.read_line.new.from) c.read_line.new.line.items) c.if-more.true c.in_ok-more.ensures)
+    passed c.args.is_person DEFAULT (g.R.Read.remaining c.args.from.now) (g.R.Read.remaining c.read_line.new.from) c.read_line.new.line.items c.bare-line.result.now (seen_session c.args.session.now) (seen_session c.pass.new.session) (g.W.Write.contents c.args.out.now) (g.W.Write.contents c.prompt.new.out) (g.W.Write.contents c.pass.new.out)
+    (subst (λ (b : Bool). ReadsLine b (g.R.Read.remaining c.args.from.now) (g.R.Read.remaining c.read_line.new.from) c.read_line.new.line.items) c.if-more.true c.in_ok-more.ensures)
     (c.bare-line.ensures ∙ ap (strip_last 10) c.as_slice.ensures.value) c.in_ok-prompt.ensures c.in_ok-pass.ensures

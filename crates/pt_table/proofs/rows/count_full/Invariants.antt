@@ -1,11 +1,11 @@
 use Rattle.std.proofs.Common.{◌≡◌, ℕ, List, ◌++◌, map, length}
 use Rattle.pt_desk.specs.DeskState.{DeskState}
-use Rattle.pt_table.specs.Answers.{Place, values}
+use Rattle.pt_table.specs.Answers.{HandlePlace, values}
 use Rattle.pt_table.proofs.rows.count_full.Given as goal
 
 abbrev pub invariant-loop-k : goal.invariant-loop-k
 invariant-loop-k l = record {
   same : map (λ h. h.state) l.desks ≡ map (λ h. h.state) l.fn.desks;
-  split : (seen : List (Place DeskState)) × (rest : List (Place DeskState))
+  split : (seen : List (HandlePlace DeskState)) × (rest : List (HandlePlace DeskState))
       × (map (λ h. h.state) l.fn.desks ≡ seen ++ rest) × (length seen ≡ l.k) × (l.count ≡ length (values seen));
 }

@@ -2,12 +2,12 @@ use Rattle.std.proofs.Common.{◌≡◌, ℕ, ◌+◌, ◌≤◌, List, ◌++◌
 use Rattle.std.specs.Prelude.{replicate}
 use Rattle.std.specs.Vec.{vec_capacity}
 use Rattle.pt_desk.specs.DeskState.{DeskState}
-use Rattle.pt_table.specs.Answers.{Place, values}
+use Rattle.pt_table.specs.Answers.{HandlePlace, values}
 use Rattle.pt_table.proofs.rows.empty_all.Given as goal
 
 abbrev pub invariant-loop-k : goal.invariant-loop-k
 invariant-loop-k l = record {
-  split : (rest : List (Place DeskState)) × (map (λ h. h.state) l.desks ≡ replicate l.k None ++ rest)
+  split : (rest : List (HandlePlace DeskState)) × (map (λ h. h.state) l.desks ≡ replicate l.k None ++ rest)
       × (l.list.items ++ values rest ≡ values (map (λ h. h.state) l.fn.desks)) × (length (values rest) ≡ length rest)
       × (l.k + length rest ≡ length l.fn.desks);
   places : length l.places.items ≡ l.k;

@@ -1,7 +1,7 @@
 use Rattle.std.proofs.Common.{◌≡◌, ℕ, ◌+◌, ◌-◌, ◌++◌, ◌∷◌, [], List, Some, length, map, set, refl, sym, ap, ◌∙◌, subst, arith}
 use Rattle.std.specs.Option.{option_to_list}
 use Rattle.std.proofs.lemmas.List.{length-map, length-append, append-nil}
-use Rattle.pt_table.specs.Answers.{Place, full}
+use Rattle.pt_table.specs.Answers.{HandlePlace, full}
 use Rattle.pt_table.proofs.InRow.{filled_more}
 use Rattle.pt_table.proofs.rows.fill_all.Goals as goal
 

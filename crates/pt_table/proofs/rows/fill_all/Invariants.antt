@@ -1,11 +1,11 @@
 use Rattle.std.proofs.Common.{◌≡◌, ℕ, List, ◌++◌, map, length}
 use Rattle.pt_desk.specs.DeskState.{DeskState}
-use Rattle.pt_table.specs.Answers.{Place, full}
+use Rattle.pt_table.specs.Answers.{HandlePlace, full}
 use Rattle.pt_table.proofs.rows.fill_all.Given as goal
 
 abbrev pub invariant-loop-desk : goal.invariant-loop-desk
 invariant-loop-desk l = record {
-  rest : (pre : List (Place DeskState)) × (done : List DeskState)
+  rest : (pre : List (HandlePlace DeskState)) × (done : List DeskState)
       × (map (λ h. h.state) l.desks ≡ pre ++ map full done)
       × (l.list.items ++ done ≡ l.fn.list.items)
       × (length pre ≡ length l.list.items);

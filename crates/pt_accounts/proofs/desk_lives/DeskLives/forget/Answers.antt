@@ -1,14 +1,14 @@
 use Rattle.std.proofs.Common.{List, sym, subst}
 use Rattle.pt_accounts.specs.LifeState.{LifeState}
 use Rattle.pt_accounts.specs.DeskLives.{DeskTable, BeginsAnew}
-use Rattle.pt_accounts.specs.SlotState.{AreCounted}
+use Rattle.pt_accounts.specs.SlotState.{SlotsAreCounted}
 use Rattle.pt_accounts.proofs.Forgetting.{begins_anew, counted_forgotten}
 use Rattle.pt_accounts.proofs.desk_lives.DeskLives.forget.Goals as goal
 
 pub invariant_of-self : goal.invariant_of-self
 invariant_of-self c = record {
   few = c.self.invariant.few;
-  counted = subst (AreCounted c.self.inside.ever) (sym c.forget_all.ensures) (counted_forgotten c.self.inside.ever c.self.inside.slots.items c.self.invariant.counted);
+  counted = subst (SlotsAreCounted c.self.inside.ever) (sym c.forget_all.ensures) (counted_forgotten c.self.inside.ever c.self.inside.slots.items c.self.invariant.counted);
 }
 
 pub returns-clause-anew : goal.returns-clause-anew

@@ -1,14 +1,14 @@
 use Rattle.std.proofs.Common.{◌≡◌, ◌+◌, sym, subst, arith}
 use Rattle.pt_accounts.specs.DeskLives.{DeskTable}
-use Rattle.pt_accounts.specs.SlotState.{AreCounted}
-use Rattle.pt_accounts.specs.Steps.{GoesOn}
+use Rattle.pt_accounts.specs.SlotState.{SlotsAreCounted}
+use Rattle.pt_accounts.specs.Steps.{TableGoesOn}
 use Rattle.pt_accounts.proofs.MayObserve.{may_observe, told_next}
 use Rattle.pt_accounts.proofs.Counted.{few_counted, counted_next}
 use Rattle.pt_accounts.proofs.desk_lives.DeskLives.step.Goals as goal
 use Rattle.pt_accounts.proofs.desk_lives.DeskLives.step.Goals.{In-Some}
 
-next : (c : In-Some) → GoesOn (record { desk = c.self.inside.desk; slots = c.self.inside.slots.items; read = c.self.inside.read }) c.args.event
-next c = subst (λ (t : DeskTable). GoesOn t c.args.event) (sym c.self.view_is) c.requires.next
+next : (c : In-Some) → TableGoesOn (record { desk = c.self.inside.desk; slots = c.self.inside.slots.items; read = c.self.inside.read }) c.args.event
+next c = subst (λ (t : DeskTable). TableGoesOn t c.args.event) (sym c.self.view_is) c.requires.next
 
 pub observe-requires : goal.observe-requires
 observe-requires c =
@@ -24,7 +24,7 @@ invariant_of-self-2 c =
     record {
       few = let f = c.in-Some.ensures in omega (arith, f.0, f.1);
       counted =
-          subst (λ n. AreCounted n c.observe.new.slots.items) e
+          subst (λ n. SlotsAreCounted n c.observe.new.slots.items) e
           (counted_next g.start s.desk s.slots.items c.observe.new.slots.items g.past c.args.event s.ever g.told
           (told_next g.start s.desk s.slots.items c.observe.new.slots.items g.past g.told c.args.event g.home g.may c.in_ok-observe.ensures.observes) g.may c.self.invariant.counted);
     }

@@ -2,7 +2,7 @@ use Rattle.std.proofs.Common.{◌≡◌, ◌∙◌, ◌++◌, ◌+◌, [], ap, s
 use Rattle.std.proofs.lemmas.List.{length-append}
 use Rattle.pt_accounts.specs.LifeState.{LifeState}
 use Rattle.pt_accounts.specs.DeskLives.{forgotten}
-use Rattle.pt_accounts.specs.SlotState.{IsSlot, lives_of, end_of, reasons_of}
+use Rattle.pt_accounts.specs.SlotState.{IsSlot, lives_of, life_end, reasons_of}
 use Rattle.pt_accounts.proofs.SlotLives.{many_reasons, ends_or_stays, forgets, forgot}
 use Rattle.pt_accounts.proofs.slot.Slot.forget.Goals as goal
 use Rattle.pt_accounts.proofs.slot.Slot.forget.Goals.{After-add_reason, After-add_reasons}
@@ -10,7 +10,7 @@ use Rattle.pt_accounts.proofs.slot.Slot.forget.Goals.{After-add_reason, After-ad
 added : (c : After-add_reasons) → c.add_reasons.new.forgotten.items ≡ c.self.inside.forgotten.items ++ reasons_of c.self.inside.ended.items
 added c = c.add_reasons.ensures.items ∙ ap (λ (l : List LifeState). c.self.inside.forgotten.items ++ reasons_of l) c.as_slice.ensures.value
 
-all_added : (c : After-add_reason) → c.add_reason.new.forgotten.items ≡ (c.self.inside.forgotten.items ++ reasons_of c.self.inside.ended.items) ++ option_to_list (end_of c.self.inside.newest)
+all_added : (c : After-add_reason) → c.add_reason.new.forgotten.items ≡ (c.self.inside.forgotten.items ++ reasons_of c.self.inside.ended.items) ++ option_to_list (life_end c.self.inside.newest)
 all_added c =
     c.add_reason.ensures.items ∙ ap (λ z. z ++ option_to_list c.forget_newest-reason.result) (added (goal.at.returns c).After-add_reasons)
     ∙ ap (λ o. (c.self.inside.forgotten.items ++ reasons_of c.self.inside.ended.items) ++ option_to_list o) c.forget_newest-reason.ensures.reason
@@ -25,7 +25,7 @@ add_reason-requires c =
     let k : length c.add_reasons.new.forgotten.items ≡ length s.forgotten.items + length (reasons_of s.ended.items) = ap length (added (goal.at.add_reason-requires c).After-add_reasons) ∙ length-append s.forgotten.items (reasons_of s.ended.items) in
     let n = many_reasons s.desk s.slot (vec_capacity s.forgotten) s.forgotten.items s.ended.items s.newest c.self.invariant in
     let m = ends_or_stays s.newest in
-    let e : length (option_to_list c.forget_newest-reason.result) ≡ length (option_to_list (end_of s.newest)) = ap (λ (o : _). length (option_to_list o)) c.forget_newest-reason.ensures.reason in
+    let e : length (option_to_list c.forget_newest-reason.result) ≡ length (option_to_list (life_end s.newest)) = ap (λ (o : _). length (option_to_list o)) c.forget_newest-reason.ensures.reason in
     let o = c.add_reasons.new.forgotten.ok.0 in
     let cap = c.add_reasons.ensures.room in
     omega arith

@@ -1,7 +1,7 @@
 use Rattle.std.proofs.Common.{◌≡◌, ◌∙◌, ◌++◌, ◌∷◌, [], ◌+◌, List, ap, sym, subst, arith, take, length, vec_capacity, append_assoc}
 use Rattle.pt_signal.specs.declared.pid.Pid.{Pid}
 use Rattle.pt_accounts.specs.LifeState.{LifeState}
-use Rattle.pt_accounts.specs.Pids.{pid_at}
+use Rattle.pt_accounts.specs.Pids.{pid_of_slot}
 use Rattle.pt_accounts.specs.SlotState.{lives_of}
 use Rattle.pt_accounts.specs.DeskLives.{pids_of}
 use Rattle.pt_accounts.proofs.SlotLives.{pid_more}
@@ -11,7 +11,7 @@ pub loop-place-preserved : goal.loop-place-preserved
 loop-place-preserved c =
     let s = c.self.inside in
     let k = c.loop-place.place in
-    let p : Pid = pid_at s.desk s.slot (k + 1) in
+    let p : Pid = pid_of_slot s.desk s.slot (k + 1) in
     let n : length (lives_of s.desk s.slot s.forgotten.items s.ended.items s.newest) ≡ length c.args.self.now = ap length c.self.view_is in
     let l = c.len-place-end.ensures.len in
     let more : pids_of (take (k + 1) c.args.self.now) ≡ pids_of (take k c.args.self.now) ++ p ∷ [] =

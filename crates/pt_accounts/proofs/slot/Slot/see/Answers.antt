@@ -4,7 +4,7 @@ use Rattle.std.specs.Option.{option_map}
 use Rattle.pt_accounts.specs.LifeState.{LifeState}
 use Rattle.pt_accounts.specs.Table.{of_version}
 use Rattle.pt_accounts.specs.SlotState.{lives_of}
-use Rattle.pt_accounts.specs.Steps.{shown, MaySee}
+use Rattle.pt_accounts.specs.Steps.{life_after, MaySee}
 use Rattle.pt_accounts.proofs.SlotLives.{seen_newest, unseen, kept_slot, newest_at}
 use Rattle.pt_accounts.proofs.slot.Slot.see.Goals as goal
 
@@ -17,7 +17,7 @@ pub returns-in_default-clause-versions : goal.returns-in_default-clause-versions
 returns-in_default-clause-versions c =
     let s = c.self.inside in
     let parts : List LifeState = lives_of s.desk s.slot s.forgotten.items s.ended.items s.newest in
-    moved parts c.args.self.now parts c.args.version (shown c.args.event) c.self.view_is
+    moved parts c.args.self.now parts c.args.version (life_after c.args.event) c.self.view_is
     (unseen s.desk s.slot (vec_capacity s.forgotten) s.forgotten.items s.ended.items s.newest c.self.invariant c.args.version c.args.event (inl c.in_default.is) (subst (λ l. IfSome (of_version l c.args.version) (MaySee c.args.event)) (sym c.self.view_is) c.requires))
 
 pub returns-then-version-before-clause-versions : goal.returns-then-version-before-clause-versions
@@ -26,8 +26,8 @@ returns-then-version-before-clause-versions c =
     let parts : List LifeState = lives_of s.desk s.slot s.forgotten.items s.ended.items s.newest in
     let a = s.forgotten.ok.0 in
     let b = s.ended.ok.0 in
-    subst (λ o. (v : ℕ) → of_version (lives_of s.desk s.slot s.forgotten.items s.ended.items o) v ≡ cond (c.args.version == v) (option_map (shown c.args.event) (of_version c.args.self.now v)) (of_version c.args.self.now v)) c.in-Some.is
-    (moved parts c.args.self.now parts c.args.version (shown c.args.event) c.self.view_is
+    subst (λ o. (v : ℕ) → of_version (lives_of s.desk s.slot s.forgotten.items s.ended.items o) v ≡ cond (c.args.version == v) (option_map (life_after c.args.event) (of_version c.args.self.now v)) (of_version c.args.self.now v)) c.in-Some.is
+    (moved parts c.args.self.now parts c.args.version (life_after c.args.event) c.self.view_is
     (unseen s.desk s.slot (vec_capacity s.forgotten) s.forgotten.items s.ended.items s.newest c.self.invariant c.args.version c.args.event (inr (λ e. c.if-version-before.true (omega arith))) (subst (λ l. IfSome (of_version l c.args.version) (MaySee c.args.event)) (sym c.self.view_is) c.requires)))
 
 pub see-requires : goal.see-requires
@@ -55,6 +55,6 @@ returns-clause-versions c =
     let a = s.forgotten.ok.0 in
     let b = s.ended.ok.0 in
     on_ok _ _ c.see.result
-    (λ (e : c.see.new.self ≡ shown c.args.event c.in-Some.life).
-    moved parts c.args.self.now (lives_of s.desk s.slot s.forgotten.items s.ended.items (Some c.see.new.self)) c.args.version (shown c.args.event) c.self.view_is
-    (seen_newest s.desk s.slot (vec_capacity s.forgotten) s.forgotten.items s.ended.items s.newest c.self.invariant c.args.version (shown c.args.event) c.in-Some.life c.see.new.self c.in-Some.is (omega arith) e)) c.see.ensures.shown
+    (λ (e : c.see.new.self ≡ life_after c.args.event c.in-Some.life).
+    moved parts c.args.self.now (lives_of s.desk s.slot s.forgotten.items s.ended.items (Some c.see.new.self)) c.args.version (life_after c.args.event) c.self.view_is
+    (seen_newest s.desk s.slot (vec_capacity s.forgotten) s.forgotten.items s.ended.items s.newest c.self.invariant c.args.version (life_after c.args.event) c.in-Some.life c.see.new.self c.in-Some.is (omega arith) e)) c.see.ensures.shown

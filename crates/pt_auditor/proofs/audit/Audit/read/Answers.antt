@@ -2,7 +2,7 @@ use Rattle.std.proofs.Common.{◌+◌, ◌-◌, ◌^◌, ◌++◌, ◌∙◌, mi
 use Rattle.std.proofs.lemmas.List.{take_all}
 use Rattle.pt_auditor.specs.declared.fault.Fault.{Fault}
 use Rattle.pt_auditor.specs.declared.fault.Why.TheVariants.{Long, Memory}
-use Rattle.pt_auditor.specs.Reading.{bare, OneMore, IsFault, IsRead, IsFaulty}
+use Rattle.pt_auditor.specs.Reading.{without_return, OneMore, IsFault, IsRead, IsFaulty}
 use Rattle.pt_auditor.proofs.Read.{line_over, pushed, faulty, why_is, seam, next_byte, over_at, goes_on_at, plain_byte, pushed_items}
 use Rattle.pt_auditor.proofs.audit.Audit.read.Goals as goal
 
@@ -15,7 +15,7 @@ returns-in-Err c text heard r =
     faulty (text ++ take n bytes) now.0 c.loop-place.hearing line c.loop-place.lines now.1 (text ++ bytes) (drop n bytes) _ (seam text bytes n) c.one_more.ensures
     (why_is now.0 line (drop n bytes) c.in-Err.why
     (over_at text bytes n (get_or bytes n 0) c.loop-place-test.true refl c.if-byte-eq10.true)
-    (subst (λ z. IsFault now.0 (bare z) c.in-Err.why) c.as_slice.ensures.value (c.in-Err.ensures now.0 now.1.heard)))
+    (subst (λ z. IsFault now.0 (without_return z) c.in-Err.why) c.as_slice.ensures.value (c.in-Err.ensures now.0 now.1.heard)))
 
 pub loop-place-preserved-then-byte-eq10 : goal.loop-place-preserved-then-byte-eq10
 loop-place-preserved-then-byte-eq10 c text heard r =
@@ -27,7 +27,7 @@ loop-place-preserved-then-byte-eq10 c text heard r =
       one.0,
       subst (λ z. IsRead z one.0 c.in-Ok.next new c.one_more-lines.result) (sym (next_byte text bytes n 10 c.loop-place-test.true (sym c.if-byte-eq10.true)))
           (line_over (text ++ take n bytes) now.0 c.loop-place.hearing c.loop-place.line.items c.loop-place.lines now.1 one.0 c.in-Ok.next new c.one_more-lines.result
-          (subst (λ z. OneMore now.0 (bare z) one.0) c.as_slice.ensures.value one.1)
+          (subst (λ z. OneMore now.0 (without_return z) one.0) c.as_slice.ensures.value one.1)
           one.2 c.clear.ensures.items c.one_more-lines.ensures),
     )
 

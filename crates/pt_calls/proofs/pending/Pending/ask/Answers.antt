@@ -1,6 +1,6 @@
 use Rattle.std.proofs.Common.{Some, inr, sym, subst, ◌∙◌, ℤ}
 use Rattle.pt_desk.proofs.Turning.{goes_on_then}
-use Rattle.pt_calls.specs.Asking.{Tells}
+use Rattle.pt_calls.specs.Asking.{TellsServer}
 use Rattle.pt_calls.proofs.Fitting.{monitor_fits, carried}
 use Rattle.pt_calls.proofs.pending.Pending.ask.Goals as goal
 
@@ -14,7 +14,7 @@ returns-in-Some-clause-does c = inr (record {
   watches = c.in_ok-monitor.ensures.does;
   untold = c.tell.new.desk;
   told = c.tell.result;
-  tells = subst (λ (n : ℤ). Tells c.args.me c.args.server (record { kind = c.args.asks; num = n; who = Some c.args.me }) c.watch.new.desk c.tell.result c.tell.new.desk)
+  tells = subst (λ (n : ℤ). TellsServer c.args.me c.args.server (record { kind = c.args.asks; num = n; who = Some c.args.me }) c.watch.new.desk c.tell.result c.tell.new.desk)
       (carried c.number_of-number.result c.in_ok-monitor.monitor.number c.number_of-number.ensures (monitor_fits c.args.me c.args.server c.args.desk.now c.in_ok-monitor.monitor c.watch.new.desk c.in_ok-monitor.ensures.does)) c.tell.ensures.does;
   refused = sym c.refusal.ensures ∙ c.in-Some.is;
   given_up = c.unwatch.result;

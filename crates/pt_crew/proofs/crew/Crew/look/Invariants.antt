@@ -1,14 +1,14 @@
 use Rattle.std.proofs.Common.{◌-◌, length}
 use Rattle.pt_crew.specs.Visiting.{AreSame}
 use Rattle.pt_crew.specs.Crews.{KeepsRest, KnowsDesk, HasRoom, queue, roles}
-use Rattle.pt_crew.specs.Parts.{IsLonger}
+use Rattle.pt_crew.specs.Parts.{QueueIsLonger}
 use Rattle.pt_crew.proofs.crew.Crew.look.Given as goal
 
 abbrev pub invariant-loop-self : goal.invariant-loop-self
 invariant-loop-self g l = record {
   knows : KnowsDesk l.initial.self l.desk.shard → KnowsDesk l.self l.desk.shard;
   kept : AreSame (roles l.initial.self) (roles l.self);
-  longer : IsLonger (queue l.initial.self) (queue l.self);
+  longer : QueueIsLonger (queue l.initial.self) (queue l.self);
   rest : KeepsRest l.initial.self l.self;
   room : HasRoom l.initial.self → HasRoom l.self;
 }

@@ -17,14 +17,14 @@ use Rattle.pt_shard.specs.ShardState.{ShardState, phase_of}
 use Rattle.pt_crew.specs.declared.crew.Member.{Member}
 use Rattle.pt_crew.specs.declared.crew.Tended.{Tended}
 use Rattle.pt_crew.specs.declared.crew.Tended.TheVariants.{Done}
-use Rattle.pt_crew.specs.Parts.{Tends}
+use Rattle.pt_crew.specs.Parts.{MemberTends}
 use Rattle.pt_crew.specs.Waking.{has_work}
 use Rattle.pt_crew.proofs.crew.Crew.serve.Goals as goal
 
 -- who leaves the queue has nothing to do
-idles : {B : Type 0} (p : Pid) (t : Tended) (m : Member B) (d : ShardState) → (t ≡ Idle) ⊎ (t ≡ Done) → Tends p t m d → has_work m.next (phase_of d p) ≡ false
-idles p t m d (inl idle) h = subst (λ (x : Tended). Tends p x m d) idle h
-idles p t m d (inr done) h = subst (λ (x : Tended). Tends p x m d) done h
+idles : {B : Type 0} (p : Pid) (t : Tended) (m : Member B) (d : ShardState) → (t ≡ Idle) ⊎ (t ≡ Done) → MemberTends p t m d → has_work m.next (phase_of d p) ≡ false
+idles p t m d (inl idle) h = subst (λ (x : Tended). MemberTends p x m d) idle h
+idles p t m d (inr done) h = subst (λ (x : Tended). MemberTends p x m d) done h
 
 pub returns-in_default-place_of-clause-knows : goal.returns-in_default-place_of-clause-knows
 returns-in_default-place_of-clause-knows g c =

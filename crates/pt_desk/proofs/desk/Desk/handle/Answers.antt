@@ -8,7 +8,7 @@ use Rattle.pt_desk.specs.Turns.{HandlesNext, Stays}
 use Rattle.pt_desk.proofs.Turning.{is_free, front_handled, front_refused, next_collected, collected_accounted, refused_accounted, stays_collected}
 use Rattle.pt_desk.proofs.Posted.{of_parts}
 use Rattle.pt_shard.specs.Outbox.{holding}
-use Rattle.pt_desk.specs.InPlace.{CanTell, told}
+use Rattle.pt_desk.specs.InPlace.{CanTell, seat_told}
 use Rattle.pt_desk.proofs.Seating.{sight_of, same_whole}
 use Rattle.pt_desk.proofs.Telling.{may_tell_ended, handled_whole, told_sight}
 use Rattle.pt_desk.proofs.desk.Desk.handle.Goals as goal
@@ -63,7 +63,7 @@ invariant_of-self-in-Ok c =
       config = ap (λ (z : ShardState). z.config) is;
       journal = ap (λ (z : ShardState). z.journal) is;
     })
-    (done c).2 (c.tell_ended.ensures ∙ ap (λ m. told c.in-Ok.ended m i.seat) (ap (λ (z : ShardState). z.clock) is))
+    (done c).2 (c.tell_ended.ensures ∙ ap (λ m. seat_told c.in-Ok.ended m i.seat) (ap (λ (z : ShardState). z.clock) is))
     c.in-Ok.ensures.fit
     (collected_accounted i.shard i.outs i.ins c.pass.new.self (sight_of (arc_value i.directory) i.seat i.before) c.in-Some.from c.pass.ensures.collects.0 (is_free i.shard.hold (sym c.if-holds.ensures)) (taken c)
     (c.pass.ensures.place ∙ c.in-Some.ensures.same.0) c.handle_front.new.shard c.self.invariant.0.fit.boxes c.self.invariant.0.accounts is)

@@ -3,7 +3,7 @@ use Rattle.std.specs.Prelude.{IfSome}
 use Rattle.std.specs.Arc.{arc_value}
 use Rattle.pt_shard.specs.ShardState.{ShardState}
 use Rattle.pt_shard.specs.Outbox.{holding}
-use Rattle.pt_desk.specs.InPlace.{CanTell, told}
+use Rattle.pt_desk.specs.InPlace.{CanTell, seat_told}
 use Rattle.pt_desk.proofs.Turning.{held_accounted}
 use Rattle.pt_desk.proofs.Telling.{may_tell_ended, handled_whole}
 use Rattle.pt_desk.proofs.desk.Desk.handle_held.Goals as goal
@@ -31,6 +31,6 @@ invariant_of-self-2 c =
       config = ap (λ (z : ShardState). z.config) is;
       journal = ap (λ (z : ShardState). z.journal) is;
     })
-    does.2 (c.tell_ended.ensures ∙ ap (λ m. told c.in_ok-ended.ended m i.seat) (ap (λ (z : ShardState). z.clock) is))
+    does.2 (c.tell_ended.ensures ∙ ap (λ m. seat_told c.in_ok-ended.ended m i.seat) (ap (λ (z : ShardState). z.clock) is))
     c.take_hold.ensures.fit
     (held_accounted i.shard c.handle.new.self c.take_hold.new.self i.outs i.ins l c.self.invariant.0.fit.boxes c.self.invariant.0.accounts (sym c.held.ensures ∙ c.in-Some.is) does.1 c.take_hold.ensures.rest)

@@ -2,7 +2,7 @@ use Rattle.std.proofs.Common.{ℕ, ◌<◌, ◌≤◌, length, get_or, sym, subs
 use Rattle.pt_events.specs.Journal.{clock}
 use Rattle.pt_events.specs.declared.event.TheConstants.{MAX_STAMP}
 use Rattle.pt_shard.specs.ShardState.{ShardState}
-use Rattle.pt_shard.specs.Opening.{fresh}
+use Rattle.pt_shard.specs.Opening.{fresh_shard}
 use Rattle.pt_gathered.specs.Gathered.{journals}
 use Rattle.pt_gathered.specs.Quiet.{QuietState}
 use Rattle.pt_gathered.proofs.Clocks.{above, shards_above, within}
@@ -21,4 +21,4 @@ returns-clause-shards c =
 pub returns-clause-within : goal.returns-clause-within
 returns-clause-within c =
     subst (λ (q : QuietState). 0 < length q.gathered.shards → c.clock.result ≤ MAX_STAMP) c.self.view_is
-    (subst (λ n. 0 < length c.self.inside.node.shards → n ≤ MAX_STAMP) (sym c.clock.ensures) (within c.self.inside.node c.desks-desks.ensures.gathered (fresh c.self.inside.node.config 0)))
+    (subst (λ n. 0 < length c.self.inside.node.shards → n ≤ MAX_STAMP) (sym c.clock.ensures) (within c.self.inside.node c.desks-desks.ensures.gathered (fresh_shard c.self.inside.node.config 0)))

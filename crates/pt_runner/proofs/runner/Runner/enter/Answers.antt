@@ -1,7 +1,7 @@
 use Rattle.std.proofs.Common.{◌≡◌, ◌⊎◌, inl, inr, ℕ, ◌∷◌, ◌++◌, [], Vec, Global, None, Some, get_or, set, ap, ◌∙◌}
 use Rattle.std.specs.List.{All}
 use Rattle.pt_runner.specs.declared.runner.Runner.{Runner}
-use Rattle.pt_runner.specs.Acting.{Table}
+use Rattle.pt_runner.specs.Acting.{PidTable}
 use Rattle.pt_runner.specs.Waiting.{IsUnmarked}
 use Rattle.pt_runner.proofs.Waiting.{knows_by, knows_listed}
 use Rattle.pt_runner.proofs.runner.Runner.enter.Goals as goal
@@ -19,8 +19,8 @@ returns-in-Ok-clause-knows c = λ d k.
       | inl same ↦ inl (same.0, ap (λ (r : Runner). r.actors.items) same.1)
       | inr none ↦ inr none
     ] in
-    let plans = ap (λ (t : Table). t.plans) c.list.ensures.table ∙ ap (λ (t : Table). t.plans) c.free.ensures.table in
-    let pids = ap (λ (t : Table). t.pids) c.list.ensures.table ∙ ap (λ (t : Table). set t.pids i (Some p)) c.free.ensures.table in
+    let plans = ap (λ (t : PidTable). t.plans) c.list.ensures.table ∙ ap (λ (t : PidTable). t.plans) c.free.ensures.table in
+    let pids = ap (λ (t : PidTable). t.pids) c.list.ensures.table ∙ ap (λ (t : PidTable). set t.pids i (Some p)) c.free.ensures.table in
     let came = ap (λ (v : Vec ℕ Global). v.items) (c.list.ensures.rest.2 ∙ c.free.ensures.rest.2) in
     knows_by first.script.now.processes last.script.now.processes (set first.pids.items i (Some p)) last.pids.items (woken.actors.items ++ child.0 ∷ []) last.actors.items first.came.items last.came.items first.read last.read d
     plans pids child.2 came (c.list.ensures.rest.1 ∙ c.free.ensures.rest.1)

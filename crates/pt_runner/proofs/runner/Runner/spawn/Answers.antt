@@ -3,7 +3,7 @@ use Rattle.pt_signal.specs.declared.pid.Pid.{Pid}
 use Rattle.pt_shard.specs.Calls.{BearsChild}
 use Rattle.pt_runner.specs.declared.calls.Progress.{Progress}
 use Rattle.pt_runner.specs.declared.runner.Actor.{Actor}
-use Rattle.pt_runner.specs.Acting.{Acting, Table, GoesBehind, acting, table, with_child, set_acting}
+use Rattle.pt_runner.specs.Acting.{Acting, PidTable, GoesBehind, acting, table, with_born, set_acting}
 use Rattle.pt_runner.proofs.Acting.{acting_within, acting_at, same_at, some_at, table_of, set_actor, child_behind, with_child_same}
 use Rattle.pt_runner.specs.Waiting.{KnowsOf}
 use Rattle.pt_runner.proofs.Waiting.{knows_later, knows_set, unmarked_true}
@@ -22,12 +22,12 @@ returns-clause-spawns c =
     let b = c.conclude.new.self in
     let t = table old in
     let reserved : c.reserve.new.self.items ≡ first = c.reserve.ensures.items in
-    let listed : table c.enter.new.self ≡ with_child c.args.process r t = c.enter.ensures.table ∙ with_child_same c.args.process r plans old.pids.items c.reserve.new.self.items first reserved in
+    let listed : table c.enter.new.self ≡ with_born c.args.process r t = c.enter.ensures.table ∙ with_child_same c.args.process r plans old.pids.items c.reserve.new.self.items first reserved in
     let within : i < length first = omega (arith, c.requires, old.actors.ok.0) in
     let inside : i < length actors = omega (arith, within, ap length reserved, c.enter.ensures.len, c.reserve.new.self.ok.0, c.enter.new.self.actors.ok.0) in
     let is : get_or t.actors i (acting a) ≡ acting a =
     sym (child_behind c.args.process r t i (acting a) (acting_within first i within))
-    ∙ ap (λ (u : Table). get_or u.actors i (acting a)) (sym listed)
+    ∙ ap (λ (u : PidTable). get_or u.actors i (acting a)) (sym listed)
     ∙ acting_at actors i a inside c.index_mut.ensures.value in
     let there : get_or t.actors i (acting x) ≡ acting x = acting_at first i x within (c.index.ensures ∙ ap (λ (xs : List Actor). get_or xs i x) reserved) in
     let mine : a.pid ≡ x.pid = ap (λ (z : Acting). z.pid) (same_at t.actors i (acting a) (acting x) (acting_within first i within) (sym is) (sym there)) in (

@@ -1,7 +1,7 @@
 use Rattle.std.proofs.Common.{◌≡◌, length, subst, ◌∙◌, arith}
 use Rattle.pt_desk.proofs.Turning.{goes_on_then}
 use Rattle.pt_runner.specs.Acting.{EachActs, EachDoesNext, table, living}
-use Rattle.pt_runner.specs.Stepping.{Steps, processes_of}
+use Rattle.pt_runner.specs.Stepping.{ProcessesStep, processes_here}
 use Rattle.pt_runner.proofs.Acting.{each_acts_then}
 use Rattle.pt_runner.proofs.Stepping.{steps, idle}
 use Rattle.pt_runner.proofs.runner.RunnerWork.step.Goals as goal
@@ -35,5 +35,5 @@ returns-clause-idle c = λ attends none.
     let new = c.loop-index.desk.shard in
     let last : c.loop-index.index ≡ length (living old (table c.args.self.now)).actors = omega (arith, c.loop-index-test.false, inv.count attends, c.loop-index.auto.index-end) in
     let does : EachDoesNext (table c.args.self.now) old (table c.loop-index.self) new = subst (λ n. EachActs n (living old (table c.args.self.now)) old (table c.loop-index.self) new) last (inv.does attends) in
-    let one : Steps (processes_of c.args.self.now) old (processes_of c.loop-index.self) new = steps c.args.self.now c.loop-index.self old new does in
-    idle (processes_of c.args.self.now) (processes_of c.loop-index.self) old new one none
+    let one : ProcessesStep (processes_here c.args.self.now) old (processes_here c.loop-index.self) new = steps c.args.self.now c.loop-index.self old new does in
+    idle (processes_here c.args.self.now) (processes_here c.loop-index.self) old new one none

@@ -5,7 +5,7 @@ use Rattle.pt_crew.specs.Births.{born}
 use Rattle.pt_supervisor.specs.declared.supervisor.Supervisor.{Supervisor}
 use Rattle.pt_supervisor.specs.Hearing.{standing}
 use Rattle.pt_supervisor.specs.Supervising.{StartsOf}
-use Rattle.pt_supervisor.specs.Keeping.{ActsAs, BeginsAs, PartOf}
+use Rattle.pt_supervisor.specs.Keeping.{ActsAs, SupervisorBegins, PartOf}
 use Rattle.pt_supervisor.proofs.Bearing.{bore_begin}
 use Rattle.pt_scenes.specs.declared.team.Workers.{Workers}
 use Rattle.pt_scenes.specs.declared.team.Member.{Member}
@@ -15,7 +15,7 @@ abbrev part : PartOf Member
 part b = option_map standing b.boss
 
 abbrev starts : StartsOf Workers Member
-starts old boss place result new = (b : Member) (first : Next) → result ≡ Ok (b, first) → BeginsAs (part b) first
+starts old boss place result new = (b : Member) (first : Next) → result ≡ Ok (b, first) → SupervisorBegins (part b) first
 
 pub returns-in-Some-clause-answers : goal.returns-in-Some-clause-answers
 returns-in-Some-clause-answers c = (

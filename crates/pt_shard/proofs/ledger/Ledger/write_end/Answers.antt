@@ -4,7 +4,7 @@ use Rattle.std.proofs.lemmas.Option.{slice_get-map}
 use Rattle.std.specs.Option.{option_map}
 use Rattle.std.specs.Prelude.{count_by}
 use Rattle.pt_signal.specs.Process.{Sent}
-use Rattle.pt_shard.specs.LedgerState.{Book, is_of}
+use Rattle.pt_shard.specs.LedgerState.{Book, is_of_desk}
 use Rattle.pt_shard.proofs.Ledgers.{owed_to, owed_more, room_next, room_less, one_more_length}
 use Rattle.pt_shard.proofs.ledger.Ledger.write_end.Goals as goal
 
@@ -35,5 +35,5 @@ loop-i-preserved c =
       λ e inside.
           let as_many = one_more_length c.loop-i.self.book.outbox c.put.new.self.book.outbox c.owed-signal.result.0.shard _ (ap (λ (b : Book). b.outbox) c.put.ensures.book) in
           let less = room_less tos c.loop-i.i c.owed-signal.result.0 within got c.loop-i.self.rooms e (c.loop-i.invariant.1 e (omega (arith, inside, as_many))) in
-          subst (λ rooms. count_by (is_of e) (drop (c.loop-i.i + 1) tos) ≤ get_or rooms e 0) (sym c.put.ensures.rooms) less,
+          subst (λ rooms. count_by (is_of_desk e) (drop (c.loop-i.i + 1) tos) ≤ get_or rooms e 0) (sym c.put.ensures.rooms) less,
     )

@@ -1,6 +1,6 @@
 use Rattle.std.proofs.Common.{◌<◌, ◌^◌, Ok, Some, refl, subst, arith}
 use Rattle.pt_events.specs.declared.event.Event.TheVariants.{Left}
-use Rattle.pt_process.specs.Peers.{peers}
+use Rattle.pt_process.specs.Peers.{peers_held}
 use Rattle.pt_shard.specs.LedgerState.{HasRoomToAll}
 use Rattle.pt_shard.specs.Calls.{Calls}
 use Rattle.pt_shard.specs.Extends.{Extends}
@@ -22,7 +22,7 @@ refused : (c : goal.After-from_residual)
 refused c =
     let i = c.self.inside in
     not_exited (parts_of i.config i.ledger.book i.processes) c.self.invariant c.args.p c.in-Some.process.now c.in-Some.ensures.value c.prepare_end.new.process c.prepare_end.ensures.me c.prepare_end.ensures.state
-    c.args.reason (HasRoomToAll (peers c.in-Some.process.now.state)) i.ledger c.prepare_end.new.self refl c.in_err-prepare_end.field-0.0 c.in_err-prepare_end.ensures.does c.from_residual.result c.from_residual.ensures
+    c.args.reason (HasRoomToAll (peers_held c.in-Some.process.now.state)) i.ledger c.prepare_end.new.self refl c.in_err-prepare_end.field-0.0 c.in_err-prepare_end.ensures.does c.from_residual.result c.from_residual.ensures
 
 pub invariant_of-self-in_err-prepare_end : goal.invariant_of-self-in_err-prepare_end
 invariant_of-self-in_err-prepare_end c = (refused c).whole

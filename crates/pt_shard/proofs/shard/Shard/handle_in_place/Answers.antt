@@ -1,7 +1,7 @@
 use Rattle.std.proofs.Common.{◌≡◌, ◌+◌, ◌<◌, max, length, map, Ok, Some, None, sym, ap, ◌∙◌, refl, subst, arith}
 use Rattle.pt_events.specs.Journal.{letter}
-use Rattle.pt_shard.specs.ShardState.{ShardState, Handles, came}
-use Rattle.pt_shard.specs.LedgerState.{Book, wrote, is_of}
+use Rattle.pt_shard.specs.ShardState.{ShardState, Handles, came_event}
+use Rattle.pt_shard.specs.LedgerState.{Book, wrote, is_of_desk}
 use Rattle.pt_shard.specs.Processes.{with_process}
 use Rattle.pt_shard.specs.Extends.{Extends}
 use Rattle.pt_shard.specs.Sound.{Every}
@@ -15,7 +15,7 @@ use Rattle.pt_shard.proofs.shard.Shard.handle_in_place.Goals as goal
 
 pub invariant_of-self-in_default : goal.invariant_of-self-in_default
 invariant_of-self-in_default c =
-    let one : Outcome (parts_of c.self.inside.config c.self.inside.ledger.book c.self.inside.processes) (parts_of c.self.inside.config c.bounce.new.ledger.book c.self.inside.processes) (receipt_stamp (parts_of c.self.inside.config c.self.inside.ledger.book c.self.inside.processes) c.args.letter.now) (came c.args.letter.now) = (
+    let one : Outcome (parts_of c.self.inside.config c.self.inside.ledger.book c.self.inside.processes) (parts_of c.self.inside.config c.bounce.new.ledger.book c.self.inside.processes) (receipt_stamp (parts_of c.self.inside.config c.self.inside.ledger.book c.self.inside.processes) c.args.letter.now) (came_event c.args.letter.now) = (
     bounced (parts_of c.self.inside.config c.self.inside.ledger.book c.self.inside.processes) c.self.invariant c.args.letter.now (c.requires.here ∙ sym (ap (λ (d : ShardState). d.number) c.self.view_is)) (subst (λ (d : ShardState). c.args.letter.now.from.shard < d.config.desks) (sym c.self.view_is) c.requires.near) c.in_ok-bounce.ensures.0 c.bounce.new.ledger.book c.self.inside.processes refl refl (nobody c.self.inside.processes.desk c.self.inside.processes.table c.args.letter.now.to c.in_default.ensures.value)
     c.in_ok-bounce.ensures.1
     ) in
@@ -23,7 +23,7 @@ invariant_of-self-in_default c =
 
 pub returns-in_default-clause-does : goal.returns-in_default-clause-does
 returns-in_default-clause-does c =
-    let one : Outcome (parts_of c.self.inside.config c.self.inside.ledger.book c.self.inside.processes) (parts_of c.self.inside.config c.bounce.new.ledger.book c.self.inside.processes) (receipt_stamp (parts_of c.self.inside.config c.self.inside.ledger.book c.self.inside.processes) c.args.letter.now) (came c.args.letter.now) = (
+    let one : Outcome (parts_of c.self.inside.config c.self.inside.ledger.book c.self.inside.processes) (parts_of c.self.inside.config c.bounce.new.ledger.book c.self.inside.processes) (receipt_stamp (parts_of c.self.inside.config c.self.inside.ledger.book c.self.inside.processes) c.args.letter.now) (came_event c.args.letter.now) = (
     bounced (parts_of c.self.inside.config c.self.inside.ledger.book c.self.inside.processes) c.self.invariant c.args.letter.now (c.requires.here ∙ sym (ap (λ (d : ShardState). d.number) c.self.view_is)) (subst (λ (d : ShardState). c.args.letter.now.from.shard < d.config.desks) (sym c.self.view_is) c.requires.near) c.in_ok-bounce.ensures.0 c.bounce.new.ledger.book c.self.inside.processes refl refl (nobody c.self.inside.processes.desk c.self.inside.processes.table c.args.letter.now.to c.in_default.ensures.value)
     c.in_ok-bounce.ensures.1
     ) in
@@ -31,7 +31,7 @@ returns-in_default-clause-does c =
 
 pub returns-in_default-clause-extends : goal.returns-in_default-clause-extends
 returns-in_default-clause-extends c =
-    let one : Outcome (parts_of c.self.inside.config c.self.inside.ledger.book c.self.inside.processes) (parts_of c.self.inside.config c.bounce.new.ledger.book c.self.inside.processes) (receipt_stamp (parts_of c.self.inside.config c.self.inside.ledger.book c.self.inside.processes) c.args.letter.now) (came c.args.letter.now) = (
+    let one : Outcome (parts_of c.self.inside.config c.self.inside.ledger.book c.self.inside.processes) (parts_of c.self.inside.config c.bounce.new.ledger.book c.self.inside.processes) (receipt_stamp (parts_of c.self.inside.config c.self.inside.ledger.book c.self.inside.processes) c.args.letter.now) (came_event c.args.letter.now) = (
     bounced (parts_of c.self.inside.config c.self.inside.ledger.book c.self.inside.processes) c.self.invariant c.args.letter.now (c.requires.here ∙ sym (ap (λ (d : ShardState). d.number) c.self.view_is)) (subst (λ (d : ShardState). c.args.letter.now.from.shard < d.config.desks) (sym c.self.view_is) c.requires.near) c.in_ok-bounce.ensures.0 c.bounce.new.ledger.book c.self.inside.processes refl refl (nobody c.self.inside.processes.desk c.self.inside.processes.table c.args.letter.now.to c.in_default.ensures.value)
     c.in_ok-bounce.ensures.1
     ) in
@@ -39,7 +39,7 @@ returns-in_default-clause-extends c =
 
 pub returns-in_default-clause-fit : goal.returns-in_default-clause-fit
 returns-in_default-clause-fit c =
-    let one : Outcome (parts_of c.self.inside.config c.self.inside.ledger.book c.self.inside.processes) (parts_of c.self.inside.config c.bounce.new.ledger.book c.self.inside.processes) (receipt_stamp (parts_of c.self.inside.config c.self.inside.ledger.book c.self.inside.processes) c.args.letter.now) (came c.args.letter.now) = (
+    let one : Outcome (parts_of c.self.inside.config c.self.inside.ledger.book c.self.inside.processes) (parts_of c.self.inside.config c.bounce.new.ledger.book c.self.inside.processes) (receipt_stamp (parts_of c.self.inside.config c.self.inside.ledger.book c.self.inside.processes) c.args.letter.now) (came_event c.args.letter.now) = (
     bounced (parts_of c.self.inside.config c.self.inside.ledger.book c.self.inside.processes) c.self.invariant c.args.letter.now (c.requires.here ∙ sym (ap (λ (d : ShardState). d.number) c.self.view_is)) (subst (λ (d : ShardState). c.args.letter.now.from.shard < d.config.desks) (sym c.self.view_is) c.requires.near) c.in_ok-bounce.ensures.0 c.bounce.new.ledger.book c.self.inside.processes refl refl (nobody c.self.inside.processes.desk c.self.inside.processes.table c.args.letter.now.to c.in_default.ensures.value)
     c.in_ok-bounce.ensures.1
     ) in
@@ -62,14 +62,14 @@ returns-in_err-take_in-clause-fit c = (refused_living c).fit
 
 pub invariant_of-self-in_default-would_end : goal.invariant_of-self-in_default-would_end
 invariant_of-self-in_default-would_end c =
-    let one : Outcome (parts_of c.self.inside.config c.self.inside.ledger.book c.self.inside.processes) (parts_of c.self.inside.config c.take_in.new.ledger.book (with_process c.self.inside.processes c.args.letter.now.to c.take_in.new.process)) (receipt_stamp (parts_of c.self.inside.config c.self.inside.ledger.book c.self.inside.processes) c.args.letter.now) (came c.args.letter.now) = (
+    let one : Outcome (parts_of c.self.inside.config c.self.inside.ledger.book c.self.inside.processes) (parts_of c.self.inside.config c.take_in.new.ledger.book (with_process c.self.inside.processes c.args.letter.now.to c.take_in.new.process)) (receipt_stamp (parts_of c.self.inside.config c.self.inside.ledger.book c.self.inside.processes) c.args.letter.now) (came_event c.args.letter.now) = (
     took_in (parts_of c.self.inside.config c.self.inside.ledger.book c.self.inside.processes) c.self.invariant c.args.letter.now c.in-Some.process.now c.in-Some.ensures.value (c.requires.here ∙ sym (ap (λ (d : ShardState). d.number) c.self.view_is)) (subst (λ (d : ShardState). c.args.letter.now.from.shard < d.config.desks) (sym c.self.view_is) c.requires.near) c.self.inside.ledger refl c.take_in.new.process c.take_in.new.ledger (sym c.in_default-would_end.ensures) c.in_ok-take_in.ensures
     ) in
     one.whole
 
 pub returns-in_default-would_end-clause-does : goal.returns-in_default-would_end-clause-does
 returns-in_default-would_end-clause-does c =
-    let one : Outcome (parts_of c.self.inside.config c.self.inside.ledger.book c.self.inside.processes) (parts_of c.self.inside.config c.take_in.new.ledger.book (with_process c.self.inside.processes c.args.letter.now.to c.take_in.new.process)) (receipt_stamp (parts_of c.self.inside.config c.self.inside.ledger.book c.self.inside.processes) c.args.letter.now) (came c.args.letter.now) = (
+    let one : Outcome (parts_of c.self.inside.config c.self.inside.ledger.book c.self.inside.processes) (parts_of c.self.inside.config c.take_in.new.ledger.book (with_process c.self.inside.processes c.args.letter.now.to c.take_in.new.process)) (receipt_stamp (parts_of c.self.inside.config c.self.inside.ledger.book c.self.inside.processes) c.args.letter.now) (came_event c.args.letter.now) = (
     took_in (parts_of c.self.inside.config c.self.inside.ledger.book c.self.inside.processes) c.self.invariant c.args.letter.now c.in-Some.process.now c.in-Some.ensures.value (c.requires.here ∙ sym (ap (λ (d : ShardState). d.number) c.self.view_is)) (subst (λ (d : ShardState). c.args.letter.now.from.shard < d.config.desks) (sym c.self.view_is) c.requires.near) c.self.inside.ledger refl c.take_in.new.process c.take_in.new.ledger (sym c.in_default-would_end.ensures) c.in_ok-take_in.ensures
     ) in
     subst (λ d. Handles c.args.letter.now d (Ok None) (shard_of (parts_of c.self.inside.config c.take_in.new.ledger.book (with_process c.self.inside.processes c.args.letter.now.to c.take_in.new.process)))) c.self.view_is
@@ -77,14 +77,14 @@ returns-in_default-would_end-clause-does c =
 
 pub returns-in_default-would_end-clause-extends : goal.returns-in_default-would_end-clause-extends
 returns-in_default-would_end-clause-extends c =
-    let one : Outcome (parts_of c.self.inside.config c.self.inside.ledger.book c.self.inside.processes) (parts_of c.self.inside.config c.take_in.new.ledger.book (with_process c.self.inside.processes c.args.letter.now.to c.take_in.new.process)) (receipt_stamp (parts_of c.self.inside.config c.self.inside.ledger.book c.self.inside.processes) c.args.letter.now) (came c.args.letter.now) = (
+    let one : Outcome (parts_of c.self.inside.config c.self.inside.ledger.book c.self.inside.processes) (parts_of c.self.inside.config c.take_in.new.ledger.book (with_process c.self.inside.processes c.args.letter.now.to c.take_in.new.process)) (receipt_stamp (parts_of c.self.inside.config c.self.inside.ledger.book c.self.inside.processes) c.args.letter.now) (came_event c.args.letter.now) = (
     took_in (parts_of c.self.inside.config c.self.inside.ledger.book c.self.inside.processes) c.self.invariant c.args.letter.now c.in-Some.process.now c.in-Some.ensures.value (c.requires.here ∙ sym (ap (λ (d : ShardState). d.number) c.self.view_is)) (subst (λ (d : ShardState). c.args.letter.now.from.shard < d.config.desks) (sym c.self.view_is) c.requires.near) c.self.inside.ledger refl c.take_in.new.process c.take_in.new.ledger (sym c.in_default-would_end.ensures) c.in_ok-take_in.ensures
     ) in
     subst (λ d. Extends d (shard_of (parts_of c.self.inside.config c.take_in.new.ledger.book (with_process c.self.inside.processes c.args.letter.now.to c.take_in.new.process)))) c.self.view_is one.extends
 
 pub returns-in_default-would_end-clause-fit : goal.returns-in_default-would_end-clause-fit
 returns-in_default-would_end-clause-fit c =
-    let one : Outcome (parts_of c.self.inside.config c.self.inside.ledger.book c.self.inside.processes) (parts_of c.self.inside.config c.take_in.new.ledger.book (with_process c.self.inside.processes c.args.letter.now.to c.take_in.new.process)) (receipt_stamp (parts_of c.self.inside.config c.self.inside.ledger.book c.self.inside.processes) c.args.letter.now) (came c.args.letter.now) = (
+    let one : Outcome (parts_of c.self.inside.config c.self.inside.ledger.book c.self.inside.processes) (parts_of c.self.inside.config c.take_in.new.ledger.book (with_process c.self.inside.processes c.args.letter.now.to c.take_in.new.process)) (receipt_stamp (parts_of c.self.inside.config c.self.inside.ledger.book c.self.inside.processes) c.args.letter.now) (came_event c.args.letter.now) = (
     took_in (parts_of c.self.inside.config c.self.inside.ledger.book c.self.inside.processes) c.self.invariant c.args.letter.now c.in-Some.process.now c.in-Some.ensures.value (c.requires.here ∙ sym (ap (λ (d : ShardState). d.number) c.self.view_is)) (subst (λ (d : ShardState). c.args.letter.now.from.shard < d.config.desks) (sym c.self.view_is) c.requires.near) c.self.inside.ledger refl c.take_in.new.process c.take_in.new.ledger (sym c.in_default-would_end.ensures) c.in_ok-take_in.ensures
     ) in
     one.fit
@@ -117,39 +117,39 @@ end_by-requires-clause-owes c after owing desk ends = (
   subst (λ (b : Book). Every (λ l. l.to.shard < length b.outbox) owing.owed) (sym c.in_ok-prepare_ending.ensures.3) (owed_near (parts_of c.self.inside.config c.self.inside.ledger.book c.self.inside.processes) c.self.invariant c.args.letter.now (c.requires.here ∙ sym (ap (λ (d : ShardState). d.number) c.self.view_is)) (subst (λ (d : ShardState). c.args.letter.now.from.shard < d.config.desks) (sym c.self.view_is) c.requires.near) c.in_ok-prepare_ending.ensures.0 (acting (parts_of c.self.inside.config c.self.inside.ledger.book c.self.inside.processes) c.self.invariant c.args.letter.now.to c.in-Some.process.now c.in-Some.ensures.value) c.in-Some-would_end.reason (sym c.in-Some-would_end.ensures) (with_process c.self.inside.processes c.args.letter.now.to c.prepare_ending.new.process) after refl desk (after_letter (parts_of c.self.inside.config c.self.inside.ledger.book c.self.inside.processes) c.self.invariant c.args.letter.now c.in-Some.process.now c.in-Some.ensures.value (c.requires.here ∙ sym (ap (λ (d : ShardState). d.number) c.self.view_is)) (subst (λ (d : ShardState). c.args.letter.now.from.shard < d.config.desks) (sym c.self.view_is) c.requires.near) c.self.inside.ledger refl c.prepare_ending.new.process c.prepare_ending.new.ledger c.in_ok-prepare_ending.ensures.1 c.in_ok-prepare_ending.ensures.2) owing ends),
   λ e within.
       let room = c.in_ok-prepare_ending.ensures.5 e within in
-      let fewer = owed_counted (parts_of c.self.inside.config c.self.inside.ledger.book c.self.inside.processes) c.self.invariant c.args.letter.now (c.requires.here ∙ sym (ap (λ (d : ShardState). d.number) c.self.view_is)) (subst (λ (d : ShardState). c.args.letter.now.from.shard < d.config.desks) (sym c.self.view_is) c.requires.near) c.in_ok-prepare_ending.ensures.0 (acting (parts_of c.self.inside.config c.self.inside.ledger.book c.self.inside.processes) c.self.invariant c.args.letter.now.to c.in-Some.process.now c.in-Some.ensures.value) c.in-Some-would_end.reason (sym c.in-Some-would_end.ensures) (with_process c.self.inside.processes c.args.letter.now.to c.prepare_ending.new.process) after refl desk (after_letter (parts_of c.self.inside.config c.self.inside.ledger.book c.self.inside.processes) c.self.invariant c.args.letter.now c.in-Some.process.now c.in-Some.ensures.value (c.requires.here ∙ sym (ap (λ (d : ShardState). d.number) c.self.view_is)) (subst (λ (d : ShardState). c.args.letter.now.from.shard < d.config.desks) (sym c.self.view_is) c.requires.near) c.self.inside.ledger refl c.prepare_ending.new.process c.prepare_ending.new.ledger c.in_ok-prepare_ending.ensures.1 c.in_ok-prepare_ending.ensures.2) owing ends (is_of e) in
+      let fewer = owed_counted (parts_of c.self.inside.config c.self.inside.ledger.book c.self.inside.processes) c.self.invariant c.args.letter.now (c.requires.here ∙ sym (ap (λ (d : ShardState). d.number) c.self.view_is)) (subst (λ (d : ShardState). c.args.letter.now.from.shard < d.config.desks) (sym c.self.view_is) c.requires.near) c.in_ok-prepare_ending.ensures.0 (acting (parts_of c.self.inside.config c.self.inside.ledger.book c.self.inside.processes) c.self.invariant c.args.letter.now.to c.in-Some.process.now c.in-Some.ensures.value) c.in-Some-would_end.reason (sym c.in-Some-would_end.ensures) (with_process c.self.inside.processes c.args.letter.now.to c.prepare_ending.new.process) after refl desk (after_letter (parts_of c.self.inside.config c.self.inside.ledger.book c.self.inside.processes) c.self.invariant c.args.letter.now c.in-Some.process.now c.in-Some.ensures.value (c.requires.here ∙ sym (ap (λ (d : ShardState). d.number) c.self.view_is)) (subst (λ (d : ShardState). c.args.letter.now.from.shard < d.config.desks) (sym c.self.view_is) c.requires.near) c.self.inside.ledger refl c.prepare_ending.new.process c.prepare_ending.new.ledger c.in_ok-prepare_ending.ensures.1 c.in_ok-prepare_ending.ensures.2) owing ends (is_of_desk e) in
       omega (arith, room, fewer),
 )
 
 pub invariant_of-self-2 : goal.invariant_of-self-2
 invariant_of-self-2 c =
-    let one : Outcome (parts_of c.self.inside.config c.self.inside.ledger.book c.self.inside.processes) (parts_of c.self.inside.config c.end_by.new.ledger.book c.end_by.new.processes) (receipt_stamp (parts_of c.self.inside.config c.self.inside.ledger.book c.self.inside.processes) c.args.letter.now) (came c.args.letter.now) = (
+    let one : Outcome (parts_of c.self.inside.config c.self.inside.ledger.book c.self.inside.processes) (parts_of c.self.inside.config c.end_by.new.ledger.book c.end_by.new.processes) (receipt_stamp (parts_of c.self.inside.config c.self.inside.ledger.book c.self.inside.processes) c.args.letter.now) (came_event c.args.letter.now) = (
     ended_outcome (parts_of c.self.inside.config c.self.inside.ledger.book c.self.inside.processes) c.self.invariant c.args.letter.now (c.requires.here ∙ sym (ap (λ (d : ShardState). d.number) c.self.view_is)) (subst (λ (d : ShardState). c.args.letter.now.from.shard < d.config.desks) (sym c.self.view_is) c.requires.near) c.in_ok-prepare_ending.ensures.0 (acting (parts_of c.self.inside.config c.self.inside.ledger.book c.self.inside.processes) c.self.invariant c.args.letter.now.to c.in-Some.process.now c.in-Some.ensures.value) c.in-Some-would_end.reason (sym c.in-Some-would_end.ensures) (with_process c.self.inside.processes c.args.letter.now.to c.prepare_ending.new.process) c.end_by.new.processes refl c.end_by.ensures.1 (after_letter (parts_of c.self.inside.config c.self.inside.ledger.book c.self.inside.processes) c.self.invariant c.args.letter.now c.in-Some.process.now c.in-Some.ensures.value (c.requires.here ∙ sym (ap (λ (d : ShardState). d.number) c.self.view_is)) (subst (λ (d : ShardState). c.args.letter.now.from.shard < d.config.desks) (sym c.self.view_is) c.requires.near) c.self.inside.ledger refl c.prepare_ending.new.process c.prepare_ending.new.ledger c.in_ok-prepare_ending.ensures.1 c.in_ok-prepare_ending.ensures.2) c.end_by.ensures.0 c.end_by.ensures.2 c.end_by.new.ledger.book
-    (subst (λ (b : Book). c.end_by.new.ledger.book ≡ wrote (max b.clock c.args.letter.now.stamp + 1) (came c.args.letter.now) (map (letter (max b.clock c.args.letter.now.stamp + 1)) c.end_by.ensures.0.owed) b) c.in_ok-prepare_ending.ensures.3 c.end_by.ensures.3)
+    (subst (λ (b : Book). c.end_by.new.ledger.book ≡ wrote (max b.clock c.args.letter.now.stamp + 1) (came_event c.args.letter.now) (map (letter (max b.clock c.args.letter.now.stamp + 1)) c.end_by.ensures.0.owed) b) c.in_ok-prepare_ending.ensures.3 c.end_by.ensures.3)
     ) in
     one.whole
 
 pub returns-clause-does : goal.returns-clause-does
 returns-clause-does c =
-    let one : Outcome (parts_of c.self.inside.config c.self.inside.ledger.book c.self.inside.processes) (parts_of c.self.inside.config c.end_by.new.ledger.book c.end_by.new.processes) (receipt_stamp (parts_of c.self.inside.config c.self.inside.ledger.book c.self.inside.processes) c.args.letter.now) (came c.args.letter.now) = (
+    let one : Outcome (parts_of c.self.inside.config c.self.inside.ledger.book c.self.inside.processes) (parts_of c.self.inside.config c.end_by.new.ledger.book c.end_by.new.processes) (receipt_stamp (parts_of c.self.inside.config c.self.inside.ledger.book c.self.inside.processes) c.args.letter.now) (came_event c.args.letter.now) = (
     ended_outcome (parts_of c.self.inside.config c.self.inside.ledger.book c.self.inside.processes) c.self.invariant c.args.letter.now (c.requires.here ∙ sym (ap (λ (d : ShardState). d.number) c.self.view_is)) (subst (λ (d : ShardState). c.args.letter.now.from.shard < d.config.desks) (sym c.self.view_is) c.requires.near) c.in_ok-prepare_ending.ensures.0 (acting (parts_of c.self.inside.config c.self.inside.ledger.book c.self.inside.processes) c.self.invariant c.args.letter.now.to c.in-Some.process.now c.in-Some.ensures.value) c.in-Some-would_end.reason (sym c.in-Some-would_end.ensures) (with_process c.self.inside.processes c.args.letter.now.to c.prepare_ending.new.process) c.end_by.new.processes refl c.end_by.ensures.1 (after_letter (parts_of c.self.inside.config c.self.inside.ledger.book c.self.inside.processes) c.self.invariant c.args.letter.now c.in-Some.process.now c.in-Some.ensures.value (c.requires.here ∙ sym (ap (λ (d : ShardState). d.number) c.self.view_is)) (subst (λ (d : ShardState). c.args.letter.now.from.shard < d.config.desks) (sym c.self.view_is) c.requires.near) c.self.inside.ledger refl c.prepare_ending.new.process c.prepare_ending.new.ledger c.in_ok-prepare_ending.ensures.1 c.in_ok-prepare_ending.ensures.2) c.end_by.ensures.0 c.end_by.ensures.2 c.end_by.new.ledger.book
-    (subst (λ (b : Book). c.end_by.new.ledger.book ≡ wrote (max b.clock c.args.letter.now.stamp + 1) (came c.args.letter.now) (map (letter (max b.clock c.args.letter.now.stamp + 1)) c.end_by.ensures.0.owed) b) c.in_ok-prepare_ending.ensures.3 c.end_by.ensures.3)
+    (subst (λ (b : Book). c.end_by.new.ledger.book ≡ wrote (max b.clock c.args.letter.now.stamp + 1) (came_event c.args.letter.now) (map (letter (max b.clock c.args.letter.now.stamp + 1)) c.end_by.ensures.0.owed) b) c.in_ok-prepare_ending.ensures.3 c.end_by.ensures.3)
     ) in
     subst (λ d. Handles c.args.letter.now d (Ok (Some c.args.letter.now.to)) (shard_of (parts_of c.self.inside.config c.end_by.new.ledger.book c.end_by.new.processes))) c.self.view_is
     (c.in_ok-prepare_ending.ensures.0, one.is, who_ends (parts_of c.self.inside.config c.self.inside.ledger.book c.self.inside.processes) c.self.invariant c.args.letter.now (acting (parts_of c.self.inside.config c.self.inside.ledger.book c.self.inside.processes) c.self.invariant c.args.letter.now.to c.in-Some.process.now c.in-Some.ensures.value) (Some c.in-Some-would_end.reason) (sym c.in-Some-would_end.ensures))
 
 pub returns-clause-extends : goal.returns-clause-extends
 returns-clause-extends c =
-    let one : Outcome (parts_of c.self.inside.config c.self.inside.ledger.book c.self.inside.processes) (parts_of c.self.inside.config c.end_by.new.ledger.book c.end_by.new.processes) (receipt_stamp (parts_of c.self.inside.config c.self.inside.ledger.book c.self.inside.processes) c.args.letter.now) (came c.args.letter.now) = (
+    let one : Outcome (parts_of c.self.inside.config c.self.inside.ledger.book c.self.inside.processes) (parts_of c.self.inside.config c.end_by.new.ledger.book c.end_by.new.processes) (receipt_stamp (parts_of c.self.inside.config c.self.inside.ledger.book c.self.inside.processes) c.args.letter.now) (came_event c.args.letter.now) = (
     ended_outcome (parts_of c.self.inside.config c.self.inside.ledger.book c.self.inside.processes) c.self.invariant c.args.letter.now (c.requires.here ∙ sym (ap (λ (d : ShardState). d.number) c.self.view_is)) (subst (λ (d : ShardState). c.args.letter.now.from.shard < d.config.desks) (sym c.self.view_is) c.requires.near) c.in_ok-prepare_ending.ensures.0 (acting (parts_of c.self.inside.config c.self.inside.ledger.book c.self.inside.processes) c.self.invariant c.args.letter.now.to c.in-Some.process.now c.in-Some.ensures.value) c.in-Some-would_end.reason (sym c.in-Some-would_end.ensures) (with_process c.self.inside.processes c.args.letter.now.to c.prepare_ending.new.process) c.end_by.new.processes refl c.end_by.ensures.1 (after_letter (parts_of c.self.inside.config c.self.inside.ledger.book c.self.inside.processes) c.self.invariant c.args.letter.now c.in-Some.process.now c.in-Some.ensures.value (c.requires.here ∙ sym (ap (λ (d : ShardState). d.number) c.self.view_is)) (subst (λ (d : ShardState). c.args.letter.now.from.shard < d.config.desks) (sym c.self.view_is) c.requires.near) c.self.inside.ledger refl c.prepare_ending.new.process c.prepare_ending.new.ledger c.in_ok-prepare_ending.ensures.1 c.in_ok-prepare_ending.ensures.2) c.end_by.ensures.0 c.end_by.ensures.2 c.end_by.new.ledger.book
-    (subst (λ (b : Book). c.end_by.new.ledger.book ≡ wrote (max b.clock c.args.letter.now.stamp + 1) (came c.args.letter.now) (map (letter (max b.clock c.args.letter.now.stamp + 1)) c.end_by.ensures.0.owed) b) c.in_ok-prepare_ending.ensures.3 c.end_by.ensures.3)
+    (subst (λ (b : Book). c.end_by.new.ledger.book ≡ wrote (max b.clock c.args.letter.now.stamp + 1) (came_event c.args.letter.now) (map (letter (max b.clock c.args.letter.now.stamp + 1)) c.end_by.ensures.0.owed) b) c.in_ok-prepare_ending.ensures.3 c.end_by.ensures.3)
     ) in
     subst (λ d. Extends d (shard_of (parts_of c.self.inside.config c.end_by.new.ledger.book c.end_by.new.processes))) c.self.view_is one.extends
 
 pub returns-clause-fit : goal.returns-clause-fit
 returns-clause-fit c =
-    let one : Outcome (parts_of c.self.inside.config c.self.inside.ledger.book c.self.inside.processes) (parts_of c.self.inside.config c.end_by.new.ledger.book c.end_by.new.processes) (receipt_stamp (parts_of c.self.inside.config c.self.inside.ledger.book c.self.inside.processes) c.args.letter.now) (came c.args.letter.now) = (
+    let one : Outcome (parts_of c.self.inside.config c.self.inside.ledger.book c.self.inside.processes) (parts_of c.self.inside.config c.end_by.new.ledger.book c.end_by.new.processes) (receipt_stamp (parts_of c.self.inside.config c.self.inside.ledger.book c.self.inside.processes) c.args.letter.now) (came_event c.args.letter.now) = (
     ended_outcome (parts_of c.self.inside.config c.self.inside.ledger.book c.self.inside.processes) c.self.invariant c.args.letter.now (c.requires.here ∙ sym (ap (λ (d : ShardState). d.number) c.self.view_is)) (subst (λ (d : ShardState). c.args.letter.now.from.shard < d.config.desks) (sym c.self.view_is) c.requires.near) c.in_ok-prepare_ending.ensures.0 (acting (parts_of c.self.inside.config c.self.inside.ledger.book c.self.inside.processes) c.self.invariant c.args.letter.now.to c.in-Some.process.now c.in-Some.ensures.value) c.in-Some-would_end.reason (sym c.in-Some-would_end.ensures) (with_process c.self.inside.processes c.args.letter.now.to c.prepare_ending.new.process) c.end_by.new.processes refl c.end_by.ensures.1 (after_letter (parts_of c.self.inside.config c.self.inside.ledger.book c.self.inside.processes) c.self.invariant c.args.letter.now c.in-Some.process.now c.in-Some.ensures.value (c.requires.here ∙ sym (ap (λ (d : ShardState). d.number) c.self.view_is)) (subst (λ (d : ShardState). c.args.letter.now.from.shard < d.config.desks) (sym c.self.view_is) c.requires.near) c.self.inside.ledger refl c.prepare_ending.new.process c.prepare_ending.new.ledger c.in_ok-prepare_ending.ensures.1 c.in_ok-prepare_ending.ensures.2) c.end_by.ensures.0 c.end_by.ensures.2 c.end_by.new.ledger.book
-    (subst (λ (b : Book). c.end_by.new.ledger.book ≡ wrote (max b.clock c.args.letter.now.stamp + 1) (came c.args.letter.now) (map (letter (max b.clock c.args.letter.now.stamp + 1)) c.end_by.ensures.0.owed) b) c.in_ok-prepare_ending.ensures.3 c.end_by.ensures.3)
+    (subst (λ (b : Book). c.end_by.new.ledger.book ≡ wrote (max b.clock c.args.letter.now.stamp + 1) (came_event c.args.letter.now) (map (letter (max b.clock c.args.letter.now.stamp + 1)) c.end_by.ensures.0.owed) b) c.in_ok-prepare_ending.ensures.3 c.end_by.ensures.3)
     ) in
     one.fit

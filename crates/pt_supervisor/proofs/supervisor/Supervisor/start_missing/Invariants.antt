@@ -1,6 +1,6 @@
 use Rattle.std.proofs.Common.{◌≡◌, length}
 use Rattle.pt_desk.specs.DeskState.{GoesOn}
-use Rattle.pt_crew.specs.Births.{born, kept}
+use Rattle.pt_crew.specs.Births.{born, kept_roles}
 use Rattle.pt_crew.specs.Visiting.{takes}
 use Rattle.pt_supervisor.specs.Children.{AreStarted, PermanentAreWanted}
 use Rattle.pt_supervisor.specs.Hearing.{standing}
@@ -30,6 +30,6 @@ invariant-loop-place g l = record {
   permanent : PermanentAreWanted (standing l.fn.self).children → PermanentAreWanted (standing l.self).children;
   count : length (standing l.self).children ≡ length (standing l.fn.self).children;
   takes : takes l.desk.shard.journal ≡ takes l.fn.desk.shard.journal;
-  kept : kept l.births ≡ kept l.fn.births;
+  kept : kept_roles l.births ≡ kept_roles l.fn.births;
   goes_on : GoesOn l.fn.desk l.desk;
 }

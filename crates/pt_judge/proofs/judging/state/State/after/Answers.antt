@@ -1,6 +1,6 @@
 use Rattle.std.proofs.Common.{◌≡◌, None, ◌++◌, ◌∙◌, sym, ap, subst}
 use Rattle.pt_events.specs.History.{landed}
-use Rattle.pt_judge.specs.Judging.{JudgeState, IsObserved, IsStep, sends, known, cause}
+use Rattle.pt_judge.specs.Judging.{JudgeState, IsObserved, IsStep, judge_sends, known_state, cause}
 use Rattle.pt_judge.proofs.KeptNext.{lists_next, may_be_born, after_next}
 use Rattle.pt_judge.proofs.judging.state.State.after.Goals as goal
 
@@ -8,7 +8,7 @@ pub observe-requires : goal.observe-requires
 observe-requires c =
     let s = c.self.inside in
     let old : JudgeState = record { links = s.links.keys; refs = s.refs.keys; lives = s.lives; flights = s.flights } in
-    may_be_born old c.args.event c.self.invariant (subst (λ z. cause (known z) c.args.event ≡ None) (sym c.self.view_is) c.requires)
+    may_be_born old c.args.event c.self.invariant (subst (λ z. cause (known_state z) c.args.event ≡ None) (sym c.self.view_is) c.requires)
 
 pub invariant_of-result : goal.invariant_of-result
 invariant_of-result c = lists_next c.self.inside.lives c.in_ok-lives.lives c.args.event c.self.invariant c.in_ok-lives.ensures
@@ -28,8 +28,8 @@ returns c =
       lives = seen.lives;
       flights =
           c.in_ok-flights.ensures
-          ∙ ap (λ z. z ++ sends lives c.lived-lived.result e) c.landed.ensures
-          ∙ ap (λ b. landed e s.flights ++ sends lives b e) c.lived-lived.ensures;
+          ∙ ap (λ z. z ++ judge_sends lives c.lived-lived.result e) c.landed.ensures
+          ∙ ap (λ b. landed e s.flights ++ judge_sends lives b e) c.lived-lived.ensures;
     }
     in
     let stepped = subst (λ z. IsStep z e new) c.self.view_is step in
