@@ -20,9 +20,8 @@ use Rattle.pt_events.specs.declared.event.Event.TheVariants.{Born, Said, Came, T
 use Rattle.pt_events.specs.History.{Past, Start, Phase, unborn, living, ended, life, state, state_of, touches, is_unborn, is_ended, is_living, alive, made_ref, makes_ref, MayBear, change, linked, live_or_end}
 use Rattle.pt_events.specs.Journal.{IsHome, IsOf, MayHere, IsKnown}
 use Rattle.pt_events.proofs.Phases.{each_branch}
-use Rattle.pt_laws.specs.Load.{one_if}
-use Rattle.pt_laws.specs.Watch.{count}
-use Rattle.pt_laws.specs.Taken.{taken_by}
+use Rattle.pt_events.specs.Counting.{one_if, count}
+use Rattle.pt_events.specs.Takes.{taken_by}
 use Rattle.pt_accounts.specs.LifeState.{LifeState}
 use Rattle.pt_accounts.specs.Table.{Slots, life_at, of_version, slot_at, TableTells, AreTold}
 use Rattle.pt_accounts.specs.SlotState.{AreVersions, HasEnded, LifeIsOver}

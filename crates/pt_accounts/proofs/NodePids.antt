@@ -4,7 +4,7 @@ use Rattle.std.proofs.lemmas.Bool.{cases_lt, both_ways}
 use Rattle.pt_signal.specs.declared.pid.Pid.{Pid}
 use Rattle.pt_events.specs.History.{Start, life, is_unborn}
 use Rattle.pt_events.specs.Journal.{Journals, events}
-use Rattle.pt_laws.specs.JournalLaws.{JournalsSay}
+use Rattle.pt_events.specs.Locality.{JournalsSay}
 use Rattle.pt_accounts.specs.Pids.{IsBeforeAll, AreRising, IsIn}
 use Rattle.pt_accounts.specs.DeskLives.{DeskTable, pids_in}
 use Rattle.pt_accounts.specs.LivesState.{Lives, AreLivesOf, AreAllPids, InEveryMerge, Tell, all_pids}

@@ -10,8 +10,8 @@ use Rattle.pt_signal.specs.Process.{held}
 use Rattle.pt_events.specs.declared.event.Stamped.{Stamped}
 use Rattle.pt_events.specs.History.{Past, Start, at_start, life, state, state_of, arrived, arrived_since, open_monitors}
 use Rattle.pt_events.specs.Journal.{Journals, events, IsMerge}
-use Rattle.pt_laws.specs.JournalLaws.{JournalsSay}
-use Rattle.pt_laws.specs.Taken.{taken}
+use Rattle.pt_events.specs.Locality.{JournalsSay}
+use Rattle.pt_events.specs.Takes.{taken}
 use Rattle.pt_accounts.specs.LifeState.{LifeState, account_of}
 use Rattle.pt_accounts.specs.Table.{TableTells, found}
 use Rattle.pt_accounts.specs.DeskLives.{DeskTable, life_in, IsTableOf, linked_in, kept_by, watching_in}

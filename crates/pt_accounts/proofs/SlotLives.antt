@@ -8,7 +8,7 @@ use Rattle.pt_signal.specs.declared.pid.Pid.{Pid}
 use Rattle.pt_signal.specs.declared.reason.Reason.{Reason}
 use Rattle.pt_events.specs.History.{Phase, unborn, living, ended, is_ended, reason_of, after}
 use Rattle.pt_signal.specs.Process.{ProcessState}
-use Rattle.pt_laws.specs.Taken.{taken_by}
+use Rattle.pt_events.specs.Takes.{taken_by}
 use Rattle.pt_events.specs.declared.event.Event.TheVariants.{Took}
 use Rattle.pt_events.specs.declared.event.Event.{Event}
 use Rattle.pt_events.specs.Leaving.{outcome}

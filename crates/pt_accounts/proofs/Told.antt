@@ -10,7 +10,7 @@ use Rattle.pt_signal.proofs.Same.{same_pid_is, same_pid_refl}
 use Rattle.pt_events.specs.declared.event.Event.{Event}
 use Rattle.pt_events.specs.declared.event.Event.TheVariants.{Born, Took}
 use Rattle.pt_events.specs.History.{Past, Start, unborn, life, after, change, newborn, touches, is_unborn}
-use Rattle.pt_laws.specs.Taken.{taken, taken_by}
+use Rattle.pt_events.specs.Takes.{taken, taken_by}
 use Rattle.pt_events.proofs.Phases.{after_born, each_branch}
 use Rattle.pt_accounts.specs.LifeState.{LifeState}
 use Rattle.pt_accounts.specs.Table.{Slots, of_version, life_at, found, TableTells, AreTold}

@@ -11,8 +11,8 @@ use Rattle.pt_events.specs.declared.event.Stamped.{Stamped}
 use Rattle.pt_events.specs.History.{Start, state, MaySay}
 use Rattle.pt_events.specs.Journal.{events, clock, IsNext, IsLocal, IsNewAt, MayHere}
 use Rattle.pt_events.proofs.InOrder.{reverse_take, reverse_split}
-use Rattle.pt_laws.specs.MonitorLaws.{HasOldRefs}
-use Rattle.pt_laws.proofs.monitoring.MadeOnce.{clock_above}
+use Rattle.pt_events.specs.OldRefs.{HasOldRefs}
+use Rattle.pt_events.proofs.Orders.{clock_above}
 use Rattle.pt_accounts.specs.Table.{life_at, AreTold, TableTells}
 use Rattle.pt_accounts.specs.DeskLives.{DeskTable, oldest, IsJournalOver, IsReadUpTo}
 use Rattle.pt_accounts.specs.Steps.{TableGoesOn, Observes, AreAlike, IsAnewAfter}

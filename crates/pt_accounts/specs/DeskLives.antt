@@ -14,7 +14,7 @@ use Rattle.pt_events.specs.declared.event.Stamped.{Stamped}
 use Rattle.pt_events.specs.History.{Past, Start, state_of, open_monitors, is_ended}
 use Rattle.pt_events.specs.Journal.{IsLocal, events}
 use Rattle.pt_events.specs.Leaving.{outcome, start_after}
-use Rattle.pt_laws.specs.MonitorLaws.{HasOldRefs}
+use Rattle.pt_events.specs.OldRefs.{HasOldRefs}
 use Rattle.pt_accounts.specs.LifeState.{LifeState}
 use Rattle.pt_accounts.specs.Table.{Slots, found, AreTold}
 

@@ -7,7 +7,7 @@ use Rattle.pt_events.specs.declared.event.Stamped.{Stamped}
 use Rattle.pt_events.specs.History.{Past, Start, Phase, unborn, at_start, life, state_of, arrived, is_unborn, reason_of}
 use Rattle.pt_events.specs.Journal.{Journals, IsLocal, IsMerge, events}
 use Rattle.pt_events.specs.JournalState.{JournalState}
-use Rattle.pt_laws.specs.Taken.{taken}
+use Rattle.pt_events.specs.Takes.{taken}
 use Rattle.pt_accounts.specs.declared.account.Account.{Account}
 use Rattle.pt_accounts.specs.DeskLives.{DeskTable, IsTableOf, pids_in}
 use Rattle.pt_accounts.specs.Pids.{AreRising, IsIn}

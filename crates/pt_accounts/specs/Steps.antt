@@ -10,7 +10,7 @@ use Rattle.pt_signal.specs.Process.{ProcessState}
 use Rattle.pt_process.specs.Outcome.{IsAnew}
 use Rattle.pt_events.specs.History.{Past, Start, Phase, unborn, living, ended, newborn, after, touches, state}
 use Rattle.pt_events.specs.Journal.{IsHome, MayHere, IsKnown}
-use Rattle.pt_laws.specs.Taken.{taken_by}
+use Rattle.pt_events.specs.Takes.{taken_by}
 use Rattle.pt_accounts.specs.LifeState.{LifeState}
 use Rattle.pt_accounts.specs.Table.{Slots, slot_at, life_at, AreTold}
 use Rattle.pt_accounts.specs.SlotState.{AreVersions, HasEnded}

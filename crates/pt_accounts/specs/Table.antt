@@ -3,7 +3,7 @@ use Rattle.std.specs.Prelude.{◌≡◌, ℕ, zero, suc, ◌==◌, cond, List, [
 use Rattle.std.specs.Prelude.{None, false}
 use Rattle.pt_signal.specs.declared.pid.Pid.{Pid}
 use Rattle.pt_events.specs.History.{Past, Start, unborn, life, is_unborn}
-use Rattle.pt_laws.specs.Taken.{taken}
+use Rattle.pt_events.specs.Takes.{taken}
 use Rattle.pt_accounts.specs.LifeState.{LifeState}
 
 abbrev pub Slots : Type 0

@@ -21,6 +21,14 @@
 //! process is found by its slot and version, so nothing is searched or sorted. Of each process that was born since the
 //! table last forgot 48 bytes are kept, and 8 for its end; one that lives, or that ended with an item, link, watch or
 //! monitor, keeps its lists beside them. Of one that ended before, its reason is kept, in 8 bytes.
+//!
+//! # What is proved
+//!
+//! - **What is told.** Of each process ever born `Lives` tells why it exited, how many items arrived, were taken and
+//!   wait, its links, watchers and open monitors; of an exited one the last.
+//! - **In every merge.** Each of these is what the definitions give for every merge of the journals.
+//! - **Order.** `Lives::pids` lists the pids by desk and in order of birth.
+//! - **Reading on.** `DeskLives::read` reads each event once, and `forget` makes the start of the next journal.
 #![tactic(auto)]
 
 mod account;

@@ -12,7 +12,7 @@ ghost use Rattle.pt_accounts.specs.LivesState.{Adds, Tell, AreAllPids, account_i
 use crate::Account;
 use crate::desk_lives::DeskLives;
 use pt_events::Journal;
-use pt_laws::laws;
+use pt_events::journals_tell_their_pids;
 use pt_signal::{Ids, Pid, Ref};
 use std::alloc::{AllocError, Global};
 use std::marker::Model;
@@ -108,7 +108,7 @@ impl Lives {
     pub fn pids(&self) -> &[Pid]
         ensures { Tell self.now (λ start past. AreAllPids start past result.now) }
     {
-        laws::journals_tell_their_pids();
+        journals_tell_their_pids();
         self.pids.as_slice()
     }
 
@@ -116,7 +116,7 @@ impl Lives {
     pub fn account(&self, pid: Pid) -> Option<Account>
         ensures { Tell self.now (λ start past. result ≡ account_in start past pid) }
     {
-        laws::journals_tell_their_pids();
+        journals_tell_their_pids();
         let desk = usize::from(pid.shard);
         if desk < self.desks.len() {
             self.desks[desk].account(pid)
@@ -129,7 +129,7 @@ impl Lives {
     pub fn linked(&self, pid: Pid, peer: Pid) -> Option<Ids>
         ensures { Tell self.now (λ start past. result ≡ held (state start past pid).links peer) }
     {
-        laws::journals_tell_their_pids();
+        journals_tell_their_pids();
         let desk = usize::from(pid.shard);
         if desk < self.desks.len() {
             self.desks[desk].linked(pid, peer)
@@ -143,7 +143,7 @@ impl Lives {
         ensures { Tell self.now
             (λ start past. result ≡ list_any (λ k. same_ref monitor k.0) (state start past target).kept) }
     {
-        laws::journals_tell_their_pids();
+        journals_tell_their_pids();
         let desk = usize::from(target.shard);
         if desk < self.desks.len() {
             self.desks[desk].kept(target, monitor)
@@ -157,7 +157,7 @@ impl Lives {
         ensures { Tell self.now
             (λ start past. result ≡ is_some (lookup (same_ref monitor) (open_monitors (life start past watcher)))) }
     {
-        laws::journals_tell_their_pids();
+        journals_tell_their_pids();
         let desk = usize::from(watcher.shard);
         if desk < self.desks.len() {
             self.desks[desk].watching(watcher, monitor)

@@ -7,6 +7,21 @@
 //! An [`Audit`] reads the same from bytes, as a program prints a history: a line an event, then a line a letter left
 //! over. It takes the bytes in pieces of any size, keeps one line of them, and answers the first line at fault by its
 //! number.
+//!
+//! # What is proved
+//!
+//! - **Lines.** A history read in pieces of any size is accepted only if its lines are the texts of events and then of
+//!   letters left over. (`Audit::read`, `end`)
+//! - **Events.** An event is heard if it comes after the one before it and the judge lets it come. Otherwise the first
+//!   objection that holds is returned. (`Hearing::hear`)
+//! - **Letters left over.** A letter is accepted if it is the oldest on its way between its two processes that was not
+//!   told before. (`Hearing::tell`)
+//! - **The verdict.** At the end nothing is on its way that was not told, or the oldest such letter is returned.
+//!   (`Hearing::end`)
+//! - **Faults.** A fault names the first line at fault.
+//! - **Processes.** `standing` tells of the n-th process born its exit and how many items wait.
+//! - **Selection.** `Selection` says which events and processes were asked for.
+//! - **Texts.** A verdict, the line of a process and each fault print exactly as their text definitions give.
 #![tactic(auto)]
 
 mod against;

@@ -4,13 +4,12 @@ use Rattle.std.specs.Prelude.{Option, Some, None, is_some, Result, Ok, Err, Vec,
 use Rattle.pt_events.specs.Journal.{IsMerge, events}
 use Rattle.pt_laws.specs.Laws.{LegalWithLeftOver}
 use Rattle.pt_laws.specs.Load.{IsQuiet}
-use Rattle.pt_shard.specs.declared.config.Config.{Config}
-use Rattle.pt_shard.specs.declared.config.OpenError.{OpenError}
-use Rattle.pt_shard.specs.declared.config.OpenError.TheVariants.{Bounds, Memory}
-use Rattle.pt_shard.specs.declared.config.Setting.TheVariants.{Desks}
+use Rattle.pt_signal.specs.declared.config.Config.{Config}
+use Rattle.pt_signal.specs.declared.config.OpenError.{OpenError}
+use Rattle.pt_signal.specs.declared.config.OpenError.TheVariants.{Bounds, Memory}
+use Rattle.pt_signal.specs.declared.config.Setting.TheVariants.{Desks}
 use Rattle.pt_shard.specs.declared.stop.Stop.{Stop}
-use Rattle.pt_shard.specs.Opening.{IsInRange}
-use Rattle.pt_shard.specs.Settings.{IsFirstOut}
+use Rattle.pt_signal.specs.Settings.{IsFirstOut, IsInRange}
 use Rattle.pt_desk.specs.DeskState.{DeskState}
 use Rattle.pt_gathered.specs.Gathered.{GatheredState, begins, journals, over}
 use Rattle.pt_gathered.specs.LeftOvers.{all_left}

@@ -7,6 +7,16 @@
 //!
 //! What has an enum or an option in Rattle crosses as a plain struct with a code (`pt_table::types`); `about` tells codes,
 //! sizes and fields, to be compared with a header. `pt_table` has all that exports nothing.
+//!
+//! # What is proved
+//!
+//! - **Exports.** Each function answers the code of the call that it makes on what its handle has, and passes out that
+//!   call's answer. (`CallsThrough`, `ReadsThrough`)
+//! - **Refusals.** If a function fails, each handle and each struct passed in is as it was, also if memory is refused.
+//! - **Handles.** An empty handle, a full one that was to be filled, and a wrong number of desks are codes.
+//! - **Nodes.** Opening, gathering, settling and resuming leave in the handles what `open`, `gather`, `settle` and
+//!   `resume` promise.
+//! - **Threads.** Each handle may go to another thread.
 #![tactic(auto)]
 
 mod about;

@@ -4,7 +4,8 @@ use Rattle.std.proofs.lemmas.List.{append-nil}
 use Rattle.std.proofs.lemmas.Bool.{both_ways}
 use mathlib.Core.List.{IsPrefix}
 use Rattle.pt_signal.specs.declared.letter.Letter.{Letter}
-use Rattle.pt_carrier.specs.Ends.{InEnds, one_more, Collects, Shows, ShowNone, IsFirstFromCursor, IsFront}
+use Rattle.pt_signal.specs.Boxes.{one_more}
+use Rattle.pt_carrier.specs.Ends.{InEnds, Collects, Shows, ShowNone, IsFirstFromCursor, IsFront}
 use Rattle.pt_carrier.proofs.Taking.{front_is}
 
 pub IsPrefix-nil : {X : Type 0} (xs ys : List X) → IsPrefix xs ys → ys ≡ [] → xs ≡ []

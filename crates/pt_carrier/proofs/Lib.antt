@@ -1,6 +1,6 @@
+-- The lemmas that more than one function of the crate uses.
 pub mod Lists
 pub mod Places
-pub mod Boxes
 pub mod Collecting
 pub mod Making
 pub mod Meeting

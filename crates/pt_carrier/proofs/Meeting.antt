@@ -9,7 +9,7 @@ use Rattle.pt_carrier.specs.Node.{places, IsNode, kept, entry}
 use Rattle.pt_carrier.specs.Meeting.{Meets, LaneIsWhole, out_kept, in_kept}
 use Rattle.pt_carrier.specs.Reunion.{MeetAt, WholeAt}
 use Rattle.pt_carrier.proofs.Places.{out_number, in_number, out_lanes, in_lanes, kept_posted, kept_collected}
-use Rattle.pt_carrier.proofs.Lists.{map-set_same, get_or-map_read, get_or-map_set_same, get_or-map_set_other}
+use Rattle.pt_signal.proofs.Lists.{map-set_same, get_or-map_read, get_or-map_set_same, get_or-map_set_other}
 
 module _ (a b cursor : ℕ) (xs : List Sending) (ys : List Receiving) (out : GoOutFrom a xs) (into : ComeInTo b ys) (meets : Meets (out_ends a xs) (in_ends b cursor ys)) where
   pub xs_within : b < length xs

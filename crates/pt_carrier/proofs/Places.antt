@@ -3,7 +3,8 @@ use Rattle.std.proofs.Common.{◌≡◌, ℕ, ◌<◌, List, map, length, get_or
 use Rattle.std.proofs.lemmas.List.{length-map}
 use Rattle.pt_carrier.specs.Ends.{Place, OutEnds, InEnds}
 use Rattle.pt_carrier.specs.Node.{places, IsNode, kept, all_posted, all_collected}
-use Rattle.pt_carrier.proofs.Lists.{get_or-map_read, map-through, length-map_same}
+use Rattle.pt_signal.proofs.Lists.{get_or-map_read}
+use Rattle.pt_carrier.proofs.Lists.{map-through, length-map_same}
 
 -- the desk `x` that was read at d, of a node whose desks have their ends at these places
 module _ {X : Type 0} (ends : X → Place × Place) (desks : List X) (node : IsNode (map ends desks)) (d : ℕ) (x : X) (within : d < length desks) (is : x ≡ get_or desks d x) where

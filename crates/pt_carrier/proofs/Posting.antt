@@ -6,7 +6,7 @@ use Rattle.std.proofs.lemmas.List.Elements.{All-head, All-tail, All-take}
 use Rattle.pt_signal.specs.declared.letter.Letter.{Letter}
 use Rattle.pt_carrier.specs.Lanes.{Sending, AllGo, on_lane}
 use Rattle.pt_carrier.specs.Ends.{OutEnds, out_ends, IsFull, HasPlace}
-use Rattle.pt_carrier.proofs.Lists.{get_or-map_set_same}
+use Rattle.pt_signal.proofs.Lists.{get_or-map_set_same}
 
 -- there is a lane to each desk that has a ring
 pub lane_in : (number : ℕ) (lanes : List Sending) (o : OutEnds) (i to : ℕ) → out_ends number lanes ≡ o → to < length o.place.rings → i ≡ to → i < length lanes

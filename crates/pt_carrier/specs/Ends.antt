@@ -2,6 +2,7 @@
 use Rattle.std.specs.Prelude.{◌≡◌, ℕ, ◌+◌, ◌%◌, ◌<◌, ◌≤◌, List, [], ◌∷◌, ◌++◌, length, map, slice_index_or, slice_set}
 use mathlib.Core.List.{IsPrefix}
 use Rattle.pt_signal.specs.declared.letter.Letter.{Letter}
+use Rattle.pt_signal.specs.Boxes.{one_more}
 use Rattle.pt_carrier.specs.Lanes.{Ring, Sending, Receiving}
 
 -- where a desk's sending or receiving ends stand: the desk's number, and the ring of the lane to or from
@@ -53,10 +54,6 @@ abbrev pub ComeInTo : ℕ → List Receiving → Type 0
 ComeInTo number lanes =
     (k : ℕ) (d : Receiving) → k < length lanes
     → ((slice_index_or lanes k d).from ≡ k) × ((slice_index_or lanes k d).to ≡ number)
-
--- the list for desk k gets one more letter at its end
-abbrev pub one_more : List (List Letter) → ℕ → Letter → List (List Letter)
-one_more lists k letter = slice_set lists k (slice_index_or lists k [] ++ letter ∷ [])
 
 -- the list for desk k gets more letters at its end
 abbrev pub more_of : List (List Letter) → ℕ → List Letter → List (List Letter)

@@ -4,8 +4,9 @@ ghost use Rattle.std.specs.Prelude.{◌≡◌, ◌≢◌, ℕ, ◌⊎◌, ◌+�
 ghost use Rattle.std.specs.Prelude.{IfErr, IfSome, IfNone, false, slice_index_or, take};
 ghost use Rattle.std.specs.Bool.{OnTrue, OnFalse};
 ghost use Rattle.pt_signal.specs.declared.letter.Letter.{Letter};
-ghost use Rattle.pt_carrier.specs.declared.ends.TheConstants.{MAX_DESKS};
-ghost use Rattle.pt_carrier.specs.Ends.{OutEnds, InEnds, out_ends, in_ends, GoOutFrom, ComeInTo, one_more, more_of};
+ghost use Rattle.pt_signal.specs.declared.config.TheConstants.{MAX_DESKS};
+ghost use Rattle.pt_signal.specs.Boxes.{one_more};
+ghost use Rattle.pt_carrier.specs.Ends.{OutEnds, InEnds, out_ends, in_ends, GoOutFrom, ComeInTo, more_of};
 ghost use Rattle.pt_carrier.specs.Ends.{IsFull, HasPlace, HasPlaces, LooksAt, Collects, Shows, ShowNone};
 ghost use Rattle.pt_carrier.specs.Ends.{IsFirstFromCursor, IsFront};
 ghost use Rattle.pt_carrier.specs.Lanes.{AllGo};
@@ -17,9 +18,6 @@ use crate::lane::{InLane, OutLane};
 use pt_signal::Letter;
 use std::marker::Model;
 use thiserror::Error;
-
-/// The most desks that a node may have.
-pub const MAX_DESKS: u8 = 64;
 
 /// The ends of a desk's lanes by which it posts, one to each desk.
 ///

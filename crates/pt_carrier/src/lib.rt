@@ -46,6 +46,18 @@
 //! Who wants a letter only to read it takes [`Ins::next_from`], [`Ins::front`] and [`Ins::pass`] in place of `collect`:
 //! the letter is then read in its ring, and goes from there without being moved out.
 //!
+//! # What is proved
+//!
+//! - **Lanes.** For each ordered pair of desks, what was posted is what was collected, then what is left over.
+//!   (`reunite`)
+//! - **Posting.** `post` refuses only a lane that its end knows to be full. `post_run` posts a front of what it gets,
+//!   in order, and stops only at such a lane.
+//! - **Collecting.** `collect` returns nothing only if its end knows of no letter in any lane.
+//! - **Reading in place.** `next_from`, `front`, `take` and `pass` are its parts: whose letter is next, that letter in
+//!   its lane, and taking it.
+//! - **No locks.** None of these takes a lock or memory, or waits.
+//! - **Both ends.** After `Ins::meet` each end of the lane knows all of it.
+//!
 //! # For proofs above
 //!
 //! A contract sees a desk's ends as `OutEnds` and `InEnds` of `specs/Ends.antt`. Every call leaves their `place`,
@@ -55,11 +67,10 @@
 
 mod ends;
 mod lane;
-mod laws;
 mod opening;
 mod reunion;
 
-pub use ends::{Ins, MAX_DESKS, Outs, PostCause, Refused};
-pub use laws::limits_stand;
-pub use opening::{MAX_CAPACITY, open};
+pub use ends::{Ins, Outs, PostCause, Refused};
+pub use opening::open;
+pub use pt_signal::{MAX_DESKS, MAX_LANE as MAX_CAPACITY};
 pub use reunion::{Cause, EndsBack, Leftovers, reunite};

@@ -5,21 +5,19 @@ ghost use Rattle.pt_carrier.specs.Lanes.{Sending, new_sending, new_receiving};
 ghost use Rattle.pt_carrier.specs.Ends.{OutEnds, InEnds};
 ghost use Rattle.pt_carrier.specs.Node.{places, IsNode, IsNew, lists};
 ghost use Rattle.pt_carrier.specs.Opening.{AreLanes};
+ghost use Rattle.pt_signal.specs.declared.config.TheConstants.{MAX_DESKS, MAX_LANE};
 
-use crate::ends::{Ins, MAX_DESKS, Outs};
+use crate::ends::{Ins, Outs};
 use crate::lane::{self, InLane, OutLane};
 use std::alloc::{AllocError, Global};
 use std::mem;
-
-/// The most letters that one lane may be made for.
-pub const MAX_CAPACITY: u32 = 65_536;
 
 /// Makes the lanes among `desks` desks, each for `capacity` letters, and gives the ends of each desk in order.
 ///
 /// Memory is the only refusal; all that was made is then given back.
 pub fn open(alloc: Global, desks: u8, capacity: u32) -> Result<Vec<(Outs, Ins)>, AllocError>
     requires desks { (1 ≤ desks) × (desks ≤ MAX_DESKS) }
-    requires capacity { (1 ≤ capacity) × (capacity ≤ MAX_CAPACITY) }
+    requires capacity { (1 ≤ capacity) × (capacity ≤ MAX_LANE) }
     ensures count { IfOk result (λ v. vec_len v ≡ desks) }
     ensures node { IfOk result (λ v. IsNode (map places v.items)) }
     ensures new { IfOk result

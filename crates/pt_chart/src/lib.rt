@@ -27,6 +27,18 @@
 //! come in the order in which they were sent, so the nth receipt between two ends the nth arrow between them: the rows
 //! of the receipts stand in a queue for each receiver, and a letter takes the first. The work grows with the events
 //! times the processes, each of which is followed through all events, and not with the letters between two of them.
+//!
+//! # What is proved
+//!
+//! - **Columns.** The layout has a column for each process that the history names, once, by desk and then in order of
+//!   first appearance. (`lay_out`)
+//! - **Rows.** Births at the front share one row. A receipt right after its sending is beside it. Each other event has
+//!   a row of its own.
+//! - **Right places.** In each legal history each exit, receipt and arrow is where the history says. A letter still on
+//!   its way has an open arrow.
+//! - **The whole text.** `chart` writes the life of each process, each arrow, label, mark and event of that layout,
+//!   once and in order, and nothing else but the pids above the rows.
+//! - **The page.** It is as wide as its columns, longest label and legend need, and as high as its rows.
 #![tactic(auto, unfolding(crate::specs::Points::point_text, crate::specs::Points::at_text, crate::specs::Text::stroke_text))]
 
 mod called;

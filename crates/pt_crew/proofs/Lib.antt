@@ -1,3 +1,4 @@
+-- The lemmas that more than one function of the crate uses.
 pub mod Places
 pub mod Waking
 pub mod Beginning
@@ -11,3 +12,5 @@ pub mod Handing
 pub mod Admitting
 pub mod Upholding
 pub mod Runs
+pub mod Ends
+pub mod Fitting

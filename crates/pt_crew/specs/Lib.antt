@@ -7,3 +7,5 @@ pub mod Telling
 pub mod Upholding
 pub mod Parts
 pub mod Running
+pub mod Asking
+pub mod Ending

@@ -2,6 +2,35 @@
 //!
 //! What a process does with an item of its mailbox is a [`Behaviour`]. A [`Crew`] has the processes of one desk with
 //! their behaviours, and is the desk's [`Work`](pt_node::Work), so `pt_node::run` and `run_single` run it.
+//!
+//! # Calls that are answered
+//! Erlang's `gen_server:call`, as a monitor, a request, and the answer or the `DOWN`. A behaviour that asks keeps a
+//! [`Pending`] in its state and shows it each item that comes; one that is asked tells a request from other items by
+//! [`request_of`], and answers by [`reply`], at once or later.
+//!
+//! A message holds a kind, a number and maybe a pid. A request and its answer both speak of the client, by its pid: the
+//! request of its own sender, the answer of its receiver. Both carry the number of the monitor's reference, which no
+//! other monitor of the client's desk has, so an answer belongs to one call alone. The kind is what is asked, and what
+//! is answered.
+//!
+//! # What is proved
+//!
+//! - **No lost wake-up.** After each step, each live process with an item that it waits for is in the queue, and so is
+//!   each exited one that has not left. (`CrewDoes`, `awake`)
+//! - **Each item once.** Each item taken was handed to the behaviour of its process, once and in order, and nothing
+//!   else was. (`hands`)
+//! - **Behaviours decide.** What a behaviour answered is what its process does next: proceed, wait for a pick, or exit.
+//!   (`steps`)
+//! - **Rounds.** A step makes as many rounds as asked for. In each it runs each queued process once, in order.
+//! - **Leaving.** A process leaves a crew only by its exit, and is handed over as it was. (`left`, `take_left`)
+//! - **Refusals.** If memory or the clock refuses a call, item and process stay, and `refused` says so.
+//! - **Invariants.** What a behaviour upholds by its answers, its crew keeps for all its processes, and through runs.
+//!   (`crew_upholds`, `runs_uphold`)
+//! - **Idle.** `is_idle` and `are_idle` say whether no process has anything to do.
+//! - **A call ends once.** It ends by its answer or by the `DOWN` of its server, if one of them comes, and never by both.
+//!   (`calls_end_once`)
+//! - **Asking.** `Pending::ask` is a monitor and a request under its number, or fails, and then nothing was asked. (`Asks`)
+//! - **Hearing.** `Pending::hear` says whether an item is the answer, the end of the server, late, or none of these.
 #![tactic(auto)]
 
 mod behaviour;
@@ -9,6 +38,8 @@ mod births;
 mod calls;
 mod crew;
 mod hints;
+mod pending;
+mod request;
 mod running;
 mod upholds;
 
@@ -16,5 +47,7 @@ pub use behaviour::{Behaviour, Next};
 pub use births::{Births, Role, bear};
 pub use calls::{bid_exit, join, part, tell, trap, unwatch, watch};
 pub use crew::Crew;
+pub use pending::{Heard, Pending, calls_end_once};
+pub use request::{Request, reply, request_of};
 pub use running::{are_idle, runs_uphold};
 pub use upholds::{Upheld, crew_upholds};

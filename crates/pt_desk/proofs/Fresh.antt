@@ -9,7 +9,7 @@ use Rattle.pt_directory.proofs.Lists.{at_nothing}
 use Rattle.pt_carrier.specs.Ends.{OutEnds, InEnds}
 use Rattle.pt_carrier.specs.Node.{places, IsNode, IsNew}
 use Rattle.pt_carrier.proofs.Places.{out_number, in_number, out_lanes, in_lanes}
-use Rattle.pt_shard.specs.declared.config.Config.{Config}
+use Rattle.pt_signal.specs.declared.config.Config.{Config}
 use Rattle.pt_shard.specs.Opening.{fresh_shard}
 use Rattle.pt_desk.specs.Sight.{IsSeated}
 use Rattle.pt_desk.specs.DeskState.{IsAccounted}

@@ -6,7 +6,8 @@ use Rattle.std.proofs.lemmas.List.Elements.{All-nil, All-cons}
 use Rattle.std.proofs.lemmas.List.Sums.{sum_by-set}
 use Rattle.pt_signal.specs.declared.letter.Letter.{Letter}
 use Rattle.pt_carrier.specs.Lanes.{AllGo}
-use Rattle.pt_carrier.specs.Ends.{one_more, more_of}
+use Rattle.pt_signal.specs.Boxes.{one_more}
+use Rattle.pt_carrier.specs.Ends.{more_of}
 use Rattle.pt_shard.specs.ShardState.{put_out}
 use Rattle.pt_shard.specs.Fit.{AreBetween}
 use Rattle.pt_desk.specs.Posting.{total}

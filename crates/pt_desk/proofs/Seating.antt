@@ -18,7 +18,7 @@ use Rattle.pt_carrier.specs.Ends.{OutEnds, InEnds}
 use Rattle.pt_carrier.specs.Meeting.{out_kept, in_kept}
 use Rattle.pt_shard.specs.ShardState.{ShardState, past, written, ended_in}
 use Rattle.pt_desk.specs.Sight.{Sight, death_by, deaths_in, seat_of, deaths_before, WasInTurn, IsSeen, AllSeen, IsSeated, HasWordsAt, AllHaveWords}
-use Rattle.pt_shard.specs.declared.config.Config.{Config}
+use Rattle.pt_signal.specs.declared.config.Config.{Config}
 use Rattle.pt_shard.specs.Outbox.{sent_on_some}
 use Rattle.pt_shard.specs.Fit.{IsFit}
 use Rattle.pt_desk.specs.DeskState.{IsDesk, IsAccounted}

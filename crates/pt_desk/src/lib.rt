@@ -61,6 +61,20 @@
 //! and one look at each desk's queue; no call takes a lock or waits for another thread, and none allocates but for
 //! the events and letters that it writes.
 //!
+//! # What is proved
+//!
+//! - **Calls.** A desk's calls are those of its shard, and the ends of its lanes stay.
+//! - **Refused as exited.** `send`, `link` and `monitor` fail with `NoProc` exactly if the desk's look shows an exit.
+//!   The note is stamped above the exit. (`Reaches`)
+//! - **A desk's own exits.** The look always shows an exited process of its own desk, and one that this desk saw
+//!   before.
+//! - **The directory.** It is told each exit of the journal, and no other. (`IsSeated`)
+//! - **Turns.** `turn` posts what each lane takes, then handles at most `budget` letters, each as `handle` says, with
+//!   exact counts. (`Turns`)
+//! - **Accounts.** For each desk, what the journal sends there is what was posted and then what waits. What was
+//!   collected from it is what came and then the hold.
+//! - **Both ends.** `meet` has two desks look at a lane from both ends, and changes nothing else.
+//!
 //! # For proofs above
 //!
 //! A contract sees a desk as the `DeskState` of `specs/DeskState`. `IsDesk` holds of every desk, and

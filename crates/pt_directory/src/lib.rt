@@ -28,6 +28,16 @@
 //! A probe is one load, or two where the process has ended; a death is two stores. The two words of a slot stand
 //! beside each other, in 16 bytes a slot, and `open` takes twice that while it makes them.
 //!
+//! # What is proved
+//!
+//! - **Steps.** A desk writes only the words of its own slots, by six kinds of step. (`Rule`)
+//! - **A desk sees its own exits.** `probe` returns a stamp for each process of the seat's own desk that has exited.
+//! - **What was seen stays seen.** `probe` returns a stamp for each process that this seat saw as exited before.
+//! - **Every answer is a read.** `probe` answers only after a read of the slot's word.
+//! - **Answers are true.** Once the seats are joined, `audit` shows that each process read as exited had exited, no
+//!   later than the stamp that was read.
+//! - **Resuming.** `reopen` makes a directory that has the latest exit of each slot.
+//!
 //! # For proofs above
 //!
 //! A contract sees a directory as `DirectoryState` and a seat as `SeatState` of `specs/Seats.antt`: whose home the seat

@@ -1,7 +1,10 @@
+-- The lemmas that more than one function of the crate uses.
 pub mod Steps
 pub mod Local
 pub mod Phases
 pub mod Homes
+pub mod Fields
+pub mod Telling
 pub mod Orders
 pub mod InOrder
 pub mod Since

@@ -10,7 +10,7 @@ use Rattle.pt_events.specs.declared.event.Stamped.{Stamped}
 use Rattle.pt_signal.specs.declared.letter.Letter.{Letter}
 use Rattle.pt_signal.specs.Process.{Sent, sent}
 use Rattle.pt_events.specs.History.{Past, Start, is_unborn, is_ended, alive, life, sent_by, May}
-use Rattle.pt_events.specs.declared.event.TheConstants.{MAX_STAMP}
+use Rattle.pt_signal.specs.declared.config.TheConstants.{MAX_STAMP}
 
 abbrev pub events : List Stamped → Past
 events journal = map (λ s. s.event) journal

@@ -1,5 +1,8 @@
 pub mod History
 pub mod Journal
+pub mod Counting
+pub mod Takes
+pub mod OldRefs
 pub mod Locality
 pub mod JournalState
 pub mod Since

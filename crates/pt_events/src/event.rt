@@ -23,9 +23,6 @@ pub enum Event {
     Refused(Pid, Pid),
 }
 
-/// The greatest stamp: 2^62. A clock that has reached it is worn, and its desk writes no more events.
-pub const MAX_STAMP: u64 = 4_611_686_018_427_387_904;
-
 /// An event with its stamp and its desk.
 #[derive(Clone, Copy, Debug, PartialEq, Eq)]
 pub struct Stamped {

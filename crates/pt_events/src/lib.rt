@@ -8,12 +8,20 @@
 //! What a history means stands in `specs/`: `History` says what each process is after a history, what an event
 //! sends, and which event may come next; `Journal` says what one desk's journal is, and how the journals of several
 //! desks make one history.
+//!
+//! # What is proved
+//!
+//! - **Journals.** A `Journal` is of one desk, and its stamps rise strictly.
+//! - **Journals from lists.** `Journal::of` takes a list exactly if it is a journal, and else hands it back.
+//! - **Clearing.** `Journal::clear` forgets the events and keeps their memory.
+//! - **Texts.** Each event prints exactly the bytes that its text definition gives. (`Display`)
 #![tactic(auto, unfolding(crate::specs::Text::parent_text, crate::specs::Text::link_text, crate::specs::Text::switch_text, crate::specs::Text::event_text, crate::specs::Text::stamped_text))]
 
 mod event;
 mod journal;
 mod laws;
 
-pub use event::{Event, MAX_STAMP, Stamped};
+pub use event::{Event, Stamped};
 pub use journal::Journal;
-pub use laws::limits_stand;
+pub use laws::journals_tell_their_pids;
+pub use pt_signal::MAX_STAMP;

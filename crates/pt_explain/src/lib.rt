@@ -11,6 +11,11 @@
 //!
 //! The texts are those of `docs/SCRIPTS.md`. Of what a script says no text is repeated but names of at most 32 letters,
 //! digits and `_`, so the line is one line whatever the script holds.
+//!
+//! # What is proved
+//!
+//! - **Texts.** What it says of a refused script is the text of a place, of a member if one is wrong, and of what is
+//!   wrong. (`explain`)
 #![tactic(auto, unfolding(crate::specs::Texts::where_text, crate::specs::Texts::wrong_text, crate::specs::Texts::why_text))]
 
 mod explaining;

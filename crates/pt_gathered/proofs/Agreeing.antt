@@ -11,7 +11,7 @@ use Rattle.pt_events.specs.History.{Start, sent_by}
 use Rattle.pt_events.specs.Journal.{events, letter, letters, posts, gots, Agrees, IsLocal}
 use Rattle.pt_events.proofs.Homes.{AllFrom, from_home}
 use Rattle.pt_events.proofs.Agreeing.{Agrees-posted, Agrees-got}
-use Rattle.pt_shard.specs.declared.config.Config.{Config}
+use Rattle.pt_signal.specs.declared.config.Config.{Config}
 use Rattle.pt_shard.specs.ShardState.{ShardState, came_event}
 use Rattle.pt_gathered.specs.Gathered.{GatheredState, IsGathered, IsShardOf, begins, journals, over_in}
 use Rattle.pt_gathered.proofs.Starts.{start_same}

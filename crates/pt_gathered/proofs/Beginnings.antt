@@ -14,9 +14,10 @@ use Rattle.pt_events.specs.Leaving.{pids, outcome, start_after}
 use Rattle.pt_events.proofs.Leaving.{leaves_each}
 use Rattle.pt_events.proofs.Phases.{each_branch}
 use Rattle.pt_laws.specs.Load.{IsStart, times}
-use Rattle.pt_laws.specs.Watch.{count}
-use Rattle.pt_laws.specs.MonitorLaws.{HasOldRefs}
-use Rattle.pt_laws.specs.JournalLaws.{JournalsSay, MergeIsThere}
+use Rattle.pt_events.specs.Counting.{count}
+use Rattle.pt_events.specs.OldRefs.{HasOldRefs}
+use Rattle.pt_events.specs.Locality.{JournalsSay}
+use Rattle.pt_laws.specs.JournalLaws.{MergeIsThere}
 use Rattle.pt_laws.specs.LinkLaws.{MergeKnown, KnownAgain}
 use Rattle.pt_laws.specs.Resumed.{MadeUpTo}
 use Rattle.pt_laws.specs.ResumedLaws.{LeftAgain, StampsNumber, BothNumber, StampsAreNew, OldRefsResumed}

@@ -5,7 +5,7 @@ use Rattle.std.proofs.Math.Nat.{le-max_left, le-max_right, max-le}
 use Rattle.pt_events.specs.declared.event.Stamped.{Stamped}
 use Rattle.pt_events.specs.History.{Start}
 use Rattle.pt_events.specs.Journal.{clock, IsLocal}
-use Rattle.pt_events.specs.declared.event.TheConstants.{MAX_STAMP}
+use Rattle.pt_signal.specs.declared.config.TheConstants.{MAX_STAMP}
 use Rattle.pt_shard.specs.ShardState.{ShardState}
 use Rattle.pt_gathered.specs.Gathered.{GatheredState, IsGathered, begins, journals}
 use Rattle.pt_gathered.specs.Quiet.{latest_below, latest_stamp}

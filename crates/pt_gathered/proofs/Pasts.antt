@@ -6,12 +6,12 @@ use Rattle.pt_events.specs.History.{Past, IsLegal}
 use Rattle.pt_events.specs.Journal.{events, in_lane, IsMerge}
 use Rattle.pt_laws.specs.Laws.{MergeLegal, LanesFly}
 use Rattle.pt_laws.specs.Load.{IsQuiet}
-use Rattle.pt_laws.specs.JournalLaws.{JournalsSay}
+use Rattle.pt_events.specs.Locality.{JournalsSay}
 use Rattle.pt_laws.specs.LinkLaws.{MergeKnown, KnownAgain}
 use Rattle.pt_laws.specs.Resumed.{AllNewTo}
 use Rattle.pt_laws.specs.ResumedLaws.{LeftAgain, StampsNumber, BothNumber, StampsAreNew, OldRefsResumed}
 use Rattle.pt_laws.proofs.living.Resumed.{over_legal, over_flying}
-use Rattle.pt_shard.specs.declared.config.Config.{Config}
+use Rattle.pt_signal.specs.declared.config.Config.{Config}
 use Rattle.pt_shard.specs.Opening.{fresh_shard}
 use Rattle.pt_shard.specs.Restart.{restarted}
 use Rattle.pt_gathered.specs.Beginning.{IsBeginning}

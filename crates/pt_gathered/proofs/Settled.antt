@@ -12,7 +12,8 @@ use Rattle.pt_laws.specs.LoadLaws.{AllCame}
 use Rattle.pt_shard.specs.declared.stop.Stop.{Stop}
 use Rattle.pt_gathered.specs.Gathered.{GatheredState, begins, journals}
 use Rattle.pt_gathered.specs.Settling.{load_of, event_count, receipt, Receives, Follows, Settles, Runs, Moves, Steps, NothingBelow, NothingLeft}
-use Rattle.pt_laws.specs.Load.{below, IsStart}
+use Rattle.pt_events.specs.Counting.{below}
+use Rattle.pt_laws.specs.Load.{IsStart}
 use Rattle.pt_laws.proofs.Sums.{below_shift, below_zero, below_at}
 use Rattle.pt_gathered.proofs.Loads.{load_lowered}
 

@@ -14,8 +14,9 @@ use Rattle.pt_events.specs.declared.event.Stamped.{Stamped}
 use Rattle.pt_events.specs.History.{Past, Start, Phase, unborn, living, ended, at_start, phase_or_unborn, life, state_of, arrived, is_unborn, is_living, reason_of}
 use Rattle.pt_events.specs.Journal.{events, IsMerge}
 use Rattle.pt_events.specs.Leaving.{outcome}
-use Rattle.pt_laws.specs.JournalLaws.{JournalsSay, MergeIsThere}
-use Rattle.pt_laws.specs.Taken.{taken}
+use Rattle.pt_events.specs.Locality.{JournalsSay}
+use Rattle.pt_laws.specs.JournalLaws.{MergeIsThere}
+use Rattle.pt_events.specs.Takes.{taken}
 use Rattle.pt_judge.specs.Judge.{IsAfter}
 use Rattle.pt_judge.specs.Judging.{JudgeState}
 use Rattle.pt_accounts.specs.Pids.{IsBefore, IsBeforeAll, AreRising, IsIn}

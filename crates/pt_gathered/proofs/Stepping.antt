@@ -11,9 +11,10 @@ use Rattle.pt_events.specs.Journal.{events, letter, clock}
 use Rattle.pt_events.specs.Refusals.{AllTrueRefusals, RefusalsAreTrue}
 use Rattle.pt_events.proofs.Refusals.{still_true_refusals}
 use Rattle.pt_gathered.proofs.Boxes.{put_at}
-use Rattle.pt_carrier.proofs.Lists.{get_or-map_read, get_or-map_set_same, get_or-map_set_other, map-set_same, map-through, length-map_same}
+use Rattle.pt_signal.proofs.Lists.{get_or-map_read, get_or-map_set_same, get_or-map_set_other, map-set_same}
+use Rattle.pt_carrier.proofs.Lists.{map-through, length-map_same}
 use Rattle.pt_carrier.proofs.Rooms.{place_before}
-use Rattle.pt_shard.specs.declared.config.Config.{Config}
+use Rattle.pt_signal.specs.declared.config.Config.{Config}
 use Rattle.pt_shard.specs.declared.stop.Stop.{Stop}
 use Rattle.pt_shard.specs.declared.stop.Stop.TheVariants.{Memory, Worn}
 use Rattle.pt_shard.specs.ShardState.{ShardState, came_event, put_out, handled, Handles}

@@ -7,7 +7,7 @@ use Rattle.pt_events.specs.declared.event.Stamped.{Stamped}
 use Rattle.pt_events.specs.History.{Past, Start, at_start, is_unborn}
 use Rattle.pt_events.specs.Journal.{events, IsLocal}
 use Rattle.pt_events.specs.JournalState.{JournalState}
-use Rattle.pt_laws.specs.Taken.{taken}
+use Rattle.pt_events.specs.Takes.{taken}
 use Rattle.pt_accounts.specs.LifeState.{LifeState}
 use Rattle.pt_accounts.specs.Table.{Slots, TableTells, AreTold, found}
 use Rattle.pt_accounts.specs.DeskLives.{DeskTable, IsReadUpTo, IsTableOf, IsJournalOver, MayRead, ReadsOn, oldest}

@@ -4,7 +4,7 @@ use Rattle.pt_signal.specs.declared.pid.Pid.{Pid}
 use Rattle.pt_events.specs.History.{Past, Start, at_start, is_unborn}
 use Rattle.pt_laws.specs.Load.{IsStart}
 use Rattle.pt_laws.specs.Links.{IsKnownSaid, IsBornHome}
-use Rattle.pt_laws.specs.MonitorLaws.{HasOldRefs}
+use Rattle.pt_events.specs.OldRefs.{HasOldRefs}
 use Rattle.pt_laws.specs.Resumed.{IsLeftBy, MadeUpTo}
 
 -- a legal and quiet history, as desks make them, has left it behind, and what was made before is numbered up to low

@@ -11,7 +11,8 @@ use Rattle.pt_laws.specs.Laws.{LegalWithLeftOver}
 use Rattle.pt_laws.specs.Load.{IsQuiet, load}
 use Rattle.pt_laws.specs.Links.{LinksAgree}
 use Rattle.pt_laws.specs.Headline.{IsHeadline}
-use Rattle.pt_laws.specs.Watch.{count, said_to, open_in, kept_in}
+use Rattle.pt_events.specs.Counting.{count}
+use Rattle.pt_laws.specs.Watch.{said_to, open_in, kept_in}
 use Rattle.pt_laws.specs.MonitorLaws.{demonitors_and_downs, times_made}
 use Rattle.pt_laws.specs.Asking.{IsAnswer, is_question, is_answer}
 use Rattle.pt_shard.specs.Restart.{restarted}

@@ -5,8 +5,9 @@ use Rattle.pt_signal.specs.declared.letter.Letter.{Letter}
 use Rattle.pt_events.specs.declared.event.Stamped.{Stamped}
 use Rattle.pt_events.specs.History.{Start, sent_by}
 use Rattle.pt_events.specs.Journal.{events, letter, clock}
-use Rattle.pt_events.specs.declared.event.TheConstants.{MAX_STAMP}
-use Rattle.pt_laws.specs.Load.{below, load_by_desk}
+use Rattle.pt_signal.specs.declared.config.TheConstants.{MAX_STAMP}
+use Rattle.pt_events.specs.Counting.{below}
+use Rattle.pt_laws.specs.Load.{load_by_desk}
 use Rattle.pt_laws.specs.LoadLaws.{AllCame}
 use Rattle.pt_shard.specs.declared.stop.Stop.{Stop}
 use Rattle.pt_shard.specs.declared.stop.Stop.TheVariants.{Memory, Worn}

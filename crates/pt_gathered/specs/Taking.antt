@@ -1,7 +1,7 @@
 -- The first letter left over from one desk to another is taken out. No public clause cites this module.
 use Rattle.std.specs.Prelude.{◌≡◌, ℕ, ◌<◌, ◌==◌, ◌&&◌, cond, List, [], length, map, drop, slice_index_or, None}
 use Rattle.pt_signal.specs.declared.letter.Letter.{Letter}
-use Rattle.pt_shard.specs.declared.config.Config.{Config}
+use Rattle.pt_signal.specs.declared.config.Config.{Config}
 use Rattle.pt_shard.specs.ShardState.{ShardState}
 use Rattle.pt_gathered.specs.Gathered.{over_in, IsShardOf}
 use Rattle.pt_gathered.specs.Waits.{posted_in}

@@ -1,6 +1,6 @@
 //! A node whose desks were gathered.
 
-ghost use Rattle.pt_carrier.specs.declared.ends.TheConstants.{MAX_DESKS};
+ghost use Rattle.pt_signal.specs.declared.config.TheConstants.{MAX_DESKS};
 ghost use Rattle.std.specs.Prelude.{◌≡◌, ◌<◌, ◌≤◌, [], ◌++◌, length, reverse, IfOk, IfSome, IfNone};
 ghost use Rattle.pt_events.specs.History.{IsLegal, Past};
 ghost use Rattle.pt_events.specs.Journal.{IsMerge, events};

@@ -51,6 +51,20 @@
 //! at, and each lane is looked at in full once. No list of letters is moved, no journal and no table is copied; reading
 //! the journals takes constant time, on average, for each event. `history` takes the logarithm of the number of desks
 //! for each event.
+//!
+//! # What is proved
+//!
+//! - **Nothing else.** A gathered node has the journals as handed in and the letters left over. Its lanes agree, and
+//!   the headline holds.
+//! - **One legal history.** `Gathered::history` is the one merge, and it is legal. After resumptions it is legal from
+//!   the first opening on.
+//! - **Refusals are true.** Each process that a desk saw as exited had exited, no later than the stamp that was seen.
+//! - **Settling.** `settle` adds receipts alone, at most as many as the load, and leaves a quiet node.
+//! - **Quiet.** Links are at both ends or at neither. Each monitor was given up, had its one `DOWN`, or is open and
+//!   kept. (`Quiet::laws`)
+//! - **Answers.** Once settled, each question of a live process has its one answer, which is true.
+//! - **Accounts.** `Quiet` tells of each process what the definitions give for every merge of the journals.
+//! - **A refused settling.** It keeps all that holds of a gathered node, and says where it stopped.
 #![tactic(auto, unfolding(crate::specs::Text::left_over_text))]
 
 mod gathered;

@@ -1,7 +1,7 @@
 //! The desks of a node without their lanes, and the letters left over: a gathered node, but for what is told of its
 //! processes.
 
-ghost use Rattle.pt_carrier.specs.declared.ends.TheConstants.{MAX_DESKS};
+ghost use Rattle.pt_signal.specs.declared.config.TheConstants.{MAX_DESKS};
 ghost use Rattle.std.specs.Prelude.{◌≡◌, ◌*◌, ◌<◌, ◌≤◌, ◌-◌, ◌^◌, ◌++◌, min, [], length, map, reverse, drop, slice_get};
 ghost use Rattle.std.specs.Prelude.{IfOk, OnOk, IfSome, IfNone};
 ghost use Rattle.pt_events.specs.Journal.{IsMerge};

@@ -1,7 +1,6 @@
 //! A node in which no letter is left over.
 
-ghost use Rattle.pt_carrier.specs.declared.ends.TheConstants.{MAX_DESKS};
-ghost use Rattle.pt_events.specs.declared.event.TheConstants.{MAX_STAMP};
+ghost use Rattle.pt_signal.specs.declared.config.TheConstants.{MAX_DESKS, MAX_STAMP};
 ghost use Rattle.std.specs.Prelude.{◌≡◌, ◌<◌, ◌≤◌, ℕ, [], ◌++◌, length, slice_index_or, reverse, is_some, IfOk};
 ghost use Rattle.std.specs.Map.{lookup};
 ghost use Rattle.std.specs.List.{list_any};

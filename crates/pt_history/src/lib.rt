@@ -46,9 +46,21 @@
 //! Adding an event takes constant time on average. `merge` takes two pieces of memory and for each event the
 //! logarithm of the number of journals. `replay` takes constant time for an event, but for a look through the letters
 //! on their way at each receipt, and through the lists of the one process that the event is of.
+//!
+//! # What is proved
+//!
+//! - **One name.** It exports events, merge and judge, and states the laws that no crate of a node needs.
+//! - **Flags and links.** The flag of a process is the last one that it set. It is linked with just those with whom a
+//!   link was made since and not removed. (`trap_is_the_last_flag`, `peers_are_linked_since`)
+//! - **Open monitors.** A monitor is open if it was made and neither cancelled, delivered nor ended with its process.
+//!   (`monitors_are_open_since`)
+//! - **Early links.** A link to a process that is not born yet is answered. (`early_link_unknown`, `early_link_abroad`)
+//! - **Worked histories.** Some histories are shown legal and quiet by computing them. (`worked_histories`)
 #![tactic(auto)]
+
+pub mod laws;
+pub mod links;
 
 pub use pt_events::{Event, Journal, Stamped};
 pub use pt_judge::{Cause, Holding, State, replay, replay_from};
-pub use pt_laws::{laws, links};
 pub use pt_merge::merge;

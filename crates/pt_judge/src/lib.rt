@@ -13,6 +13,16 @@
 //! made stand in sets; letters on their way stand by number, and the numbers of each two processes in a queue. So what
 //! an event costs grows with the logarithm of the letters on their way, and with the lists of the one process that it
 //! is of.
+//!
+//! # What is proved
+//!
+//! - **Legal.** `replay` succeeds exactly if the history is legal.
+//! - **The first fault.** Otherwise it returns the place of the first event that may not come, and the lowest cause
+//!   that fits.
+//! - **In pieces.** `replay_from` judges in the same way what comes after any legal past, from the state that it led
+//!   to.
+//! - **The state.** `State` tells of each process what the definitions give.
+//! - **Texts.** Each cause prints exactly as its text definition gives. (`Cause`)
 #![tactic(auto, unfolding(crate::specs::Text::cause_text))]
 
 mod cause;

@@ -11,13 +11,15 @@ use Rattle.pt_events.specs.declared.event.Stamped.{Stamped}
 use Rattle.pt_events.specs.History.{Past, Start, life, is_unborn, flying, sent_by}
 use Rattle.pt_events.specs.Journal.{Journals, LanesAgree, IsMerge, IsLocal, IsHome, Agrees, events, of_desk, letter, content, posts, gots, in_lane}
 use Rattle.pt_events.specs.Locality.{AllHome}
-use Rattle.pt_laws.specs.Load.{weight, weights, size, total_of, pids, IsStart, load, desk_sizes, below, left_weight, load_by_desk}
+use Rattle.pt_events.specs.Counting.{below}
+use Rattle.pt_laws.specs.Load.{weight, weights, size, total_of, pids, IsStart, load, desk_sizes, left_weight, load_by_desk}
 use Rattle.pt_laws.specs.Laws.{LanesFly}
 use Rattle.pt_laws.specs.LoadLaws.{OldestComes, HasDesks, LoadByDesk}
 use Rattle.pt_events.proofs.Local.{life_local}
 use Rattle.pt_events.proofs.Homes.{life_home}
 use Rattle.pt_laws.proofs.lanes.Load.{one_receipt}
-use Rattle.pt_laws.proofs.Merged.{all_home, merged_flies}
+use Rattle.pt_events.proofs.Telling.{all_home}
+use Rattle.pt_laws.proofs.Merged.{merged_flies}
 use Rattle.pt_laws.proofs.Sums.{below_shift, below_shift_le, below_same, below_zero, below_one, below_at, weigh-append, weigh_sent, weigh_apart}
 
 -- one receipt --------------------------------------------------------------------------

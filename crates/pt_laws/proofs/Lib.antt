@@ -1,4 +1,4 @@
-pub mod Examples
+-- The lemmas that more than one function of the crate uses.
 pub mod Merged
 pub mod Sums
 pub mod DeskLoads

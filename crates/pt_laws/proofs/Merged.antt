@@ -19,42 +19,25 @@ use Rattle.pt_events.specs.declared.event.Stamped.{Stamped}
 use Rattle.pt_signal.specs.Values.{same_pid, same_ref, same_link, without_first, fits}
 use Rattle.pt_signal.specs.Process.{Sent, sent, held}
 use Rattle.pt_events.specs.History.{Start, life, alive, state, is_living, is_ended, state_of, is_between, flying, landed, sent_by, made_link, made_ref, makes_link, makes_ref, is_this, May, MaySay, MayBear, IsLegal}
-use Rattle.pt_events.specs.Journal.{Journals, IsMerge, events, of_desk, letter, content, IsHome, IsOf, IsNewAt, IsLinkAt, MayHere, IsNext, IsLocal, letters, posts, got, got_of, gots, Agrees, LanesAgree, IsAfter, AllBefore, IsRising}
+use Rattle.pt_events.specs.Journal.{Journals, IsMerge, events, of_desk, letter, content, IsHome, IsOf, IsNewAt, IsLinkAt, MayHere, IsNext, letters, posts, got, got_of, gots, Agrees, LanesAgree, IsAfter, AllBefore, IsRising}
 use Rattle.pt_events.specs.Refusals.{stamped_below, IsTrueRefusal, AllTrueRefusals, RefusalsAreTrue}
 use Rattle.pt_signal.proofs.Same.{same_pid_is, same_pid_refl, same_ref_is, same_link_is}
 use Rattle.pt_events.proofs.Local.{AllHome}
+use Rattle.pt_events.proofs.Telling.{AllLocal, head_local, tail_local, all_home}
 use Rattle.pt_signal.proofs.Firsts.{filter_wider, filter_other, first_wider}
 use Rattle.pt_laws.proofs.lanes.Lanes.{AllUpTo, AllUpTo-append, AllAt-letters, Back, back, contents}
 use Rattle.pt_events.proofs.Refusals.{ended_below}
 use Rattle.pt_events.proofs.Homes.{AllFrom, from_home, in_lane, life_home, sent_home}
 
 module _ (start : Start) (low top : ℕ) where
-  -- each desk's events are a local journal
-  abbrev pub AllLocal : List Stamped → Type 0
-  AllLocal merged = (d : ℕ) → IsLocal start low top d (of_desk d merged)
-
-  pub head_local : (s : Stamped) (merged : List Stamped) → AllLocal (s ∷ merged) → IsNext start low top s.desk (of_desk s.desk merged) s
-  head_local s merged h = (subst (λ c. IsLocal start low top s.desk (cond c (s ∷ of_desk s.desk merged) (of_desk s.desk merged))) (eq-eqb s.desk s.desk refl) (h s.desk)).0
-
-  pub tail_local : (s : Stamped) (merged : List Stamped) → AllLocal (s ∷ merged) → AllLocal merged
-  tail_local s merged h d = go (s.desk == d) refl (h d)
-    where
-      go : (b : Bool) → (s.desk == d) ≡ b → IsLocal start low top d (of_desk d (s ∷ merged)) → IsLocal start low top d (of_desk d merged)
-      go true e k = (subst (λ c. IsLocal start low top d (cond c (s ∷ of_desk d merged) (of_desk d merged))) e k).1
-      go false e k = subst (λ c. IsLocal start low top d (cond c (s ∷ of_desk d merged) (of_desk d merged))) e k
-
-  pub all_home : (merged : List Stamped) → AllLocal merged → AllHome merged
-  all_home [] h = tt
-  all_home (s ∷ merged) h = ((head_local s merged h).home, all_home merged (tail_local s merged h))
-
   -- new ids and references ----------------------------------------------------------------
 
   -- of events before s, none makes an id of the desk and the stamp of s
-  fresh_link : (s : Stamped) (merged : List Stamped) (i : LinkId) → i.desk ≡ s.desk → i.number ≡ s.stamp → AllBefore s merged → AllLocal merged
+  fresh_link : (s : Stamped) (merged : List Stamped) (i : LinkId) → i.desk ≡ s.desk → i.number ≡ s.stamp → AllBefore s merged → AllLocal start low top merged
       → made_link (events merged) i ≡ false
   fresh_link s [] i e f b h = refl
   fresh_link s (t ∷ merged) i e f b h =
-      rw (not_this t.event (head_local t merged h).new_at, fresh_link s merged i e f b.1 (tail_local t merged h)) refl
+      rw (not_this t.event (head_local start low top t merged h).new_at, fresh_link s merged i e f b.1 (tail_local start low top t merged h)) refl
     where
       differs : (j : LinkId) → (j.desk ≡ t.desk) × (j.number ≡ t.stamp) → (c : Bool) → same_link i j ≡ c → same_link i j ≡ false
       differs j k false g = g
@@ -73,11 +56,11 @@ module _ (start : Start) (low top : ℕ) where
       not_this (Said a c (Link j)) k = differs j k _ refl
       not_this _ k = refl
 
-  fresh_ref : (s : Stamped) (merged : List Stamped) (m : Ref) → m.desk ≡ s.desk → m.number ≡ s.stamp → AllBefore s merged → AllLocal merged
+  fresh_ref : (s : Stamped) (merged : List Stamped) (m : Ref) → m.desk ≡ s.desk → m.number ≡ s.stamp → AllBefore s merged → AllLocal start low top merged
       → made_ref (events merged) m ≡ false
   fresh_ref s [] m e f b h = refl
   fresh_ref s (t ∷ merged) m e f b h =
-      rw (not_this t.event (head_local t merged h).new_at, fresh_ref s merged m e f b.1 (tail_local t merged h)) refl
+      rw (not_this t.event (head_local start low top t merged h).new_at, fresh_ref s merged m e f b.1 (tail_local start low top t merged h)) refl
     where
       differs : (n : Ref) → (n.desk ≡ t.desk) × (n.number ≡ t.stamp) → (c : Bool) → same_ref m n ≡ c → same_ref m n ≡ false
       differs n k false g = g
@@ -94,9 +77,9 @@ module _ (start : Start) (low top : ℕ) where
 
   -- what the journal allows the merge allows ------------------------------------------------
 
-  module _ (s : Stamped) (merged : List Stamped) (b : AllBefore s merged) (h : AllLocal merged) where
+  module _ (s : Stamped) (merged : List Stamped) (b : AllBefore s merged) (h : AllLocal start low top merged) where
     same_life : (p : Pid) → p.shard ≡ s.desk → life start (events (of_desk s.desk merged)) p ≡ life start (events merged) p
-    same_life p e = life_home start p s.desk merged e (all_home merged h)
+    same_life p e = life_home start p s.desk merged e (all_home start low top merged h)
 
     may_say : (a c : Pid) (x : Signal) → a.shard ≡ s.desk → IsNewAt s.desk s.stamp (Said a c x)
         → MaySay start (events (of_desk s.desk merged)) (state start (events (of_desk s.desk merged)) a) a c x
@@ -123,7 +106,7 @@ module _ (start : Start) (low top : ℕ) where
     -- the other of a refused call has ended by the events with lower stamps of its own desk, all of which stand before s
     other_ended : (c : Pid) → is_ended (life start (events (stamped_below s.stamp (of_desk c.shard merged))) c) ≡ true → is_ended (life start (events merged) c) ≡ true
     other_ended c k =
-        subst (λ f. is_ended f ≡ true) (life_home start c c.shard merged refl (all_home merged h))
+        subst (λ f. is_ended f ≡ true) (life_home start c c.shard merged refl (all_home start low top merged h))
         (ended_below start c low top c.shard s.stamp (of_desk c.shard merged) (h c.shard) k)
 
     -- every event but a receipt
@@ -324,17 +307,17 @@ module _ (start : Start) (low top : ℕ) where
           ∙ rw (eq-eqb s.desk c.shard (sym home), eq-eqb a.shard a.shard refl) refl
 
   -- one event more, and the lanes as they were before it
-  module _ (s : Stamped) (merged : List Stamped) (over : ℕ → ℕ → List Letter) (r : IsRising (s ∷ merged)) (h : AllLocal (s ∷ merged)) (a : LanesAgree start (λ d. of_desk d (s ∷ merged)) over) where
-    tail : AllLocal merged
-    tail = tail_local s merged h
+  module _ (s : Stamped) (merged : List Stamped) (over : ℕ → ℕ → List Letter) (r : IsRising (s ∷ merged)) (h : AllLocal start low top (s ∷ merged)) (a : LanesAgree start (λ d. of_desk d (s ∷ merged)) over) where
+    tail : AllLocal start low top merged
+    tail = tail_local start low top s merged h
 
     next : IsNext start low top s.desk (of_desk s.desk merged) s
-    next = head_local s merged h
+    next = head_local start low top s merged h
 
     backs : (d e : ℕ) → Back (posts start (of_desk d merged) e) (new_posts s merged d e) (gots (of_desk e merged) d) (new_gots s d e) (over d e)
     backs d e =
         back s.stamp _ _ _ _ _ (AllAt-letters s.stamp (λ l. in_lane d e (content l)) (sent_by start (events merged) s.event)) (gots_up_to s merged d e r.0) (new_up_to s d e)
-        (subst (λ z. Agrees z (gots (of_desk e merged) d ++ new_gots s d e) (over d e)) (posts_step s merged d e next.home (all_home merged tail))
+        (subst (λ z. Agrees z (gots (of_desk e merged) d ++ new_gots s d e) (over d e)) (posts_step s merged d e next.home (all_home start low top merged tail))
         (subst (λ z. Agrees (posts start (of_desk d (s ∷ merged)) e) z (over d e)) (gots_step s merged d e) (a d e)))
 
     before : ℕ → ℕ → List Letter
@@ -366,13 +349,13 @@ module _ (start : Start) (low top : ℕ) where
         (came_may s merged s.event refl (λ d e. (backs d e).lead) (λ d e. (backs d e).rest) next.home f (λ d e. (backs d e).same))
 
   -- what flies, whether the refusals are true or not
-  pub merged_flies : (merged : List Stamped) (over : ℕ → ℕ → List Letter) → IsRising merged → AllLocal merged → LanesAgree start (λ d. of_desk d merged) over
+  pub merged_flies : (merged : List Stamped) (over : ℕ → ℕ → List Letter) → IsRising merged → AllLocal start low top merged → LanesAgree start (λ d. of_desk d merged) over
       → (d e : ℕ) → filter (in_lane d e) (flying start (events merged)) ≡ map content (over d e)
   merged_flies [] over r h a d e = ap (map content) (a d e)
   merged_flies (s ∷ merged) over r h a d e =
       flies_more s merged over r h a (merged_flies merged (before s merged over r h a) r.1 (tail s merged over r h a) (agreed s merged over r h a)) d e
 
-  pub merged_legal : (merged : List Stamped) (over : ℕ → ℕ → List Letter) → IsRising merged → AllLocal merged
+  pub merged_legal : (merged : List Stamped) (over : ℕ → ℕ → List Letter) → IsRising merged → AllLocal start low top merged
       → LanesAgree start (λ d. of_desk d merged) over → AllTrueRefusals start (λ d. of_desk d merged) merged → IsMerged merged over
   merged_legal [] over r h a true_all = record { legal = tt; flies = λ d e. ap (map content) (a d e) }
   merged_legal (s ∷ merged) over r h a true_all =

@@ -4,7 +4,8 @@ use Rattle.std.proofs.lemmas.Bool.{both_ways, eqb-true, eq-eqb}
 use Rattle.pt_signal.specs.declared.letter.Letter.{Letter}
 use Rattle.pt_signal.specs.Process.{Sent}
 use Rattle.pt_events.specs.Journal.{letter}
-use Rattle.pt_laws.specs.Load.{weight, weights, below, left_weight}
+use Rattle.pt_events.specs.Counting.{below}
+use Rattle.pt_laws.specs.Load.{weight, weights, left_weight}
 
 pub below_shift : (f g u v : ℕ → ℕ) (n : ℕ) → ((k : ℕ) → k < n → g k + u k ≡ f k + v k) → below g n + below u n ≡ below f n + below v n
 below_shift f g u v zero h = refl

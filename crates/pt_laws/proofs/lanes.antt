@@ -1,7 +1,6 @@
 -- Lanes and merges: journals that agree, the load, the headline.
 pub mod Lanes
 pub mod Heading
-pub mod Telling
 pub mod OneMerge
 pub mod Gathering
 pub mod Load

@@ -1,5 +1,4 @@
 -- Links: which ids a process holds, and that both ends agree once all is quiet.
-pub mod Peers
 pub mod LinksSince
 pub mod Entries
 pub mod Holding
@@ -10,4 +9,3 @@ pub mod Bonds
 pub mod Between
 pub mod Linked
 pub mod Agreed
-pub mod EarlyLinks

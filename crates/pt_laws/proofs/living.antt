@@ -1,8 +1,6 @@
 -- Lives: births, ends, flags, and histories that go on from others.
 pub mod Acts
 pub mod Since
-pub mod Fields
-pub mod Flags
 pub mod BirthsAndEnds
 pub mod AfterEnd
 pub mod Resumed

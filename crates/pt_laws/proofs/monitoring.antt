@@ -1,5 +1,4 @@
 -- Monitors: how often each is made, kept and answered.
-pub mod MonitorsSince
 pub mod WatchesSince
 pub mod MadeOnce
 pub mod Counts

@@ -9,7 +9,8 @@ use Rattle.pt_signal.specs.Values.{same_pid, same_ref}
 use Rattle.pt_events.specs.declared.event.Event.TheVariants.{Said, Came}
 use Rattle.pt_events.specs.History.{Past, Start, IsLegal, alive, arrived_since, emitted, came}
 use Rattle.pt_laws.specs.Load.{IsQuiet}
-use Rattle.pt_laws.specs.Watch.{count, said_to}
+use Rattle.pt_events.specs.Counting.{count}
+use Rattle.pt_laws.specs.Watch.{said_to}
 
 -- q's question m came to t; x says whether t was alive just before; and what had come from q to t by then is all that q
 -- had sent t when it asked

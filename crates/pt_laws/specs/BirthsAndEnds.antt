@@ -13,7 +13,7 @@ use Rattle.pt_signal.specs.Process.{ProcessState, Verdict, ends, verdict, held, 
 use Rattle.pt_events.specs.History.{Past, Start, Phase, living, ended, at_start, life, alive, arrived, is_birth}
 use Rattle.pt_events.specs.History.{is_unborn, is_ended, reason_of}
 use Rattle.pt_laws.specs.Acts.{ActsMayCome}
-use Rattle.pt_laws.specs.Load.{one_if}
+use Rattle.pt_events.specs.Counting.{one_if}
 
 abbrev pub ended_by_verdict : Verdict → Option Reason
 ended_by_verdict (ends r) = Some r

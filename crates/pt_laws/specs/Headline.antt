@@ -8,11 +8,13 @@ use Rattle.pt_signal.specs.declared.letter.Letter.{Letter}
 use Rattle.pt_signal.specs.Process.{ProcessState}
 use Rattle.pt_events.specs.History.{Past, Start, ended, at_start, life, state, arrived, is_unborn}
 use Rattle.pt_events.specs.Journal.{Journals, LanesAgree, IsLocal, events}
-use Rattle.pt_laws.specs.Load.{one_if}
+use Rattle.pt_events.specs.Counting.{one_if}
 use Rattle.pt_laws.specs.BirthsAndEnds.{births}
 use Rattle.pt_laws.specs.Sender.{IsSenderFront}
-use Rattle.pt_laws.specs.MonitorLaws.{demonitors_and_downs, HasOldRefs}
-use Rattle.pt_laws.specs.Taken.{taken, take_places, AllArrivals, AllDistinct, free_of}
+use Rattle.pt_events.specs.OldRefs.{HasOldRefs}
+use Rattle.pt_laws.specs.MonitorLaws.{demonitors_and_downs}
+use Rattle.pt_events.specs.Takes.{taken}
+use Rattle.pt_laws.specs.Taken.{take_places, AllArrivals, AllDistinct, free_of}
 
 module _ (start : Start) (journal : Journals) (over : ℕ → ℕ → List Letter) where
   -- the history of p's own desk

@@ -12,9 +12,7 @@ pub mod MonitorLaws
 pub mod Headline
 pub mod Links
 pub mod LinkLaws
-pub mod EarlyLinks
 pub mod Load
 pub mod LoadLaws
 pub mod Resumed
 pub mod ResumedLaws
-pub mod Examples

@@ -1,5 +1,5 @@
 -- Quiet histories, and what may still happen in one that is not.
-use Rattle.std.specs.Prelude.{◌≡◌, ℕ, zero, suc, ◌+◌, ◌==◌, Bool, true, false, cond, List, [], ◌∷◌, length, map, filter}
+use Rattle.std.specs.Prelude.{◌≡◌, ℕ, ◌+◌, ◌==◌, cond, List, [], ◌∷◌, length, map, filter}
 use Rattle.std.specs.Map.{keys_of}
 use Rattle.pt_signal.specs.declared.pid.Pid.{Pid}
 use Rattle.pt_signal.specs.declared.signal.Signal.{Signal}
@@ -9,6 +9,7 @@ use Rattle.pt_signal.specs.Values.{same_pid}
 use Rattle.pt_signal.specs.Process.{Sent}
 use Rattle.pt_events.specs.History.{Past, Start, Phase, living, life, at_start, is_unborn, flying}
 use Rattle.pt_events.specs.Journal.{Journals, events, content}
+use Rattle.pt_events.specs.Counting.{one_if, below}
 pub use Rattle.pt_events.specs.Leaving.{pids}
 
 -- no letter is in flight
@@ -35,10 +36,6 @@ abbrev pub total_of : (Pid → ℕ) → List Pid → ℕ
 total_of f [] = 0
 total_of f (p ∷ ps) = f p + total_of f ps
 
-abbrev pub one_if : Bool → ℕ
-one_if true = 1
-one_if false = 0
-
 -- how often p is in the list
 abbrev pub times : Pid → List Pid → ℕ
 times p [] = 0
@@ -57,11 +54,6 @@ module _ (start : Start) where
   desk_sizes d past = total_of (λ p. size (life start past p)) (filter (λ p. p.shard == d) (pids start past))
 
 -- the load, desk by desk ---------------------------------------------------------------
-
--- the sum of f below n
-abbrev pub below : (ℕ → ℕ) → ℕ → ℕ
-below f zero = 0
-below f (suc n) = f n + below f n
 
 abbrev pub left_weight : List Letter → ℕ
 left_weight over = weights (map content over)

@@ -1,5 +1,5 @@
 -- Laws on monitors.
-use Rattle.std.specs.Prelude.{◌≡◌, ℕ, ◌≤◌, ◌<◌, ◌+◌, true, false, List, [], ◌++◌}
+use Rattle.std.specs.Prelude.{◌≡◌, ℕ, ◌≤◌, ◌+◌, true, false, List, [], ◌++◌}
 use Rattle.pt_signal.specs.declared.pid.Pid.{Pid}
 use Rattle.pt_signal.specs.declared.ids.Ref.{Ref}
 use Rattle.pt_signal.specs.Values.{same_ref}
@@ -9,7 +9,8 @@ use Rattle.pt_events.specs.Journal.{IsLocal, events}
 use Rattle.pt_laws.specs.Acts.{ActsMayCome}
 use Rattle.pt_laws.specs.Load.{IsQuiet}
 use Rattle.pt_laws.specs.Resumed.{AllNewTo, IsLeftBy}
-use Rattle.pt_laws.specs.Watch.{count, is_monitor, is_demonitor, is_down_item, said_times, said_to, open_in, kept_in}
+use Rattle.pt_events.specs.Counting.{count}
+use Rattle.pt_laws.specs.Watch.{is_monitor, is_demonitor, is_down_item, said_times, said_to, open_in, kept_in}
 
 -- how often w said Demonitor m, and the DOWNs of m that arrived at w
 abbrev pub demonitors_and_downs : Start → Past → Pid → Ref → ℕ
@@ -29,13 +30,6 @@ OneDown = (start : Start) (past : Past) (w : Pid) (m : Ref) → ActsMayCome star
 -- from the empty start each monitor is made once
 abbrev pub MadeOnce : Type 0
 MadeOnce = (past : Past) (w : Pid) (m : Ref) → ActsMayCome [] past → IsMadeOnce [] past w m
-
--- at the start no process has a reference open twice, nor one that is numbered above low
-abbrev pub HasOldRefs : ℕ → Start → Type 0
-HasOldRefs low start =
-    (w : Pid) (m : Ref)
-    → (count (λ e. same_ref m e.0) (state start [] w).watching ≤ 1)
-    × (low < m.number → count (λ e. same_ref m e.0) (state start [] w).watching ≡ 0)
 
 abbrev pub EmptyHasOldRefs : Type 0
 EmptyHasOldRefs = (low : ℕ) → HasOldRefs low []

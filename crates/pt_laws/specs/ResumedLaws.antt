@@ -8,7 +8,7 @@ use Rattle.pt_events.specs.History.{Past, Start, ended, is_ended, life, flying, 
 use Rattle.pt_events.specs.Journal.{Journals, IsLocal, IsMerge, clock, events}
 use Rattle.pt_laws.specs.Load.{IsStart, IsQuiet}
 use Rattle.pt_laws.specs.Resumed.{start_after, AllNewTo, MadeUpTo, IsLeftBy}
-use Rattle.pt_laws.specs.MonitorLaws.{HasOldRefs}
+use Rattle.pt_events.specs.OldRefs.{HasOldRefs}
 use Rattle.pt_laws.specs.Words.{HasOneEntryEach, KeepsEachOnce}
 
 -- after a legal and quiet history, one that is legal over its state and makes new ids and references is legal over both

@@ -5,20 +5,11 @@ use Rattle.std.specs.List.{list_any, enumerate_from}
 use Rattle.pt_signal.specs.declared.pid.Pid.{Pid}
 use Rattle.pt_signal.specs.declared.item.Item.{Item}
 use Rattle.pt_signal.specs.declared.item.Pick.{Pick}
-use Rattle.pt_events.specs.declared.event.Event.{Event}
 use Rattle.pt_events.specs.declared.event.Event.TheVariants.{Took}
 use Rattle.pt_signal.specs.Values.{same_pid, fits}
 use Rattle.pt_events.specs.History.{Past, Start, arrived, state}
+use Rattle.pt_events.specs.Takes.{taken}
 use Rattle.pt_laws.specs.Acts.{ActsMayCome}
-
-abbrev pub taken_by : Pid → Event → List Item
-taken_by p (Took q k i) = cond (same_pid p q) (i ∷ []) []
-taken_by p _ = []
-
--- the items of p's Took events, in order
-abbrev pub taken : Past → Pid → List Item
-taken [] p = []
-taken (e ∷ past) p = taken past p ++ taken_by p e
 
 -- a position and the item there
 abbrev pub TakePlace : Type 0

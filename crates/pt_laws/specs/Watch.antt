@@ -1,5 +1,5 @@
 -- One monitor: where its reference is open, kept, said, and on its way.
-use Rattle.std.specs.Prelude.{ℕ, ◌+◌, Bool, false, ◌&&◌, List, [], ◌∷◌}
+use Rattle.std.specs.Prelude.{ℕ, ◌+◌, Bool, false, ◌&&◌, [], ◌∷◌}
 use Rattle.pt_signal.specs.declared.pid.Pid.{Pid}
 use Rattle.pt_signal.specs.declared.ids.Ref.{Ref}
 use Rattle.pt_signal.specs.declared.item.Item.{Item}
@@ -10,12 +10,7 @@ use Rattle.pt_events.specs.declared.event.Event.TheVariants.{Said}
 use Rattle.pt_signal.specs.Values.{same_pid, same_ref}
 use Rattle.pt_signal.specs.Process.{ProcessState, same_watch}
 use Rattle.pt_events.specs.History.{Past, Phase, living}
-use Rattle.pt_laws.specs.Load.{one_if}
-
--- how many pass the test
-abbrev pub count : {X : Type 0} → (X → Bool) → List X → ℕ
-count test [] = 0
-count test (x ∷ xs) = one_if (test x) + count test xs
+use Rattle.pt_events.specs.Counting.{one_if, count}
 
 abbrev pub is_monitor : Ref → Signal → Bool
 is_monitor m (Monitor n) = same_ref m n

@@ -2,9 +2,8 @@
 
 ghost use Rattle.pt_laws.specs.Acts.{LocalActs, LegalActs};
 ghost use Rattle.pt_laws.specs.BirthsAndEnds.{LivesOnce, StaysEnded, NothingAfterEnd, AliveUntilEnd};
-ghost use Rattle.pt_laws.specs.Words.{TrapIsLastFlag, HeldSince, IsHeldSince, PeersSince, OpenSince, IsOpenSince};
-ghost use Rattle.pt_laws.specs.Words.{KeptSince, IsKeptSince};
-ghost use Rattle.pt_laws.specs.JournalLaws.{ReadLocally, SentLocally, JournalsSay, MergeIsThere, MergeIsOne};
+ghost use Rattle.pt_laws.specs.Words.{HeldSince, IsHeldSince, KeptSince, IsKeptSince};
+ghost use Rattle.pt_laws.specs.JournalLaws.{MergeIsThere, MergeIsOne};
 ghost use Rattle.pt_laws.specs.Taken.{TakenByPosition};
 ghost use Rattle.pt_laws.specs.Laws.{CameOrFlies, SenderFront, MergeLegal};
 ghost use Rattle.pt_laws.specs.ResumedLaws.{ResumedLegal, ResumedSame, ResumedStart, ResumedTwice, EmptyIsLeft};
@@ -16,7 +15,8 @@ ghost use Rattle.pt_laws.specs.LoadLaws.{LoadFalls, ReceiptsBounded, QuietFlight
 ghost use Rattle.pt_laws.specs.LoadLaws.{OneReceipt, ReceiptLowers, LoadByDesk};
 ghost use Rattle.pt_laws.specs.Headline.{HeadlineHolds};
 ghost use Rattle.pt_laws.specs.Asking.{AnswersAreTrue, QuietAnswers};
-ghost use Rattle.pt_laws.specs.Examples.{TenLines, Cascade, EarlyLink};
+
+pub use pt_events::journals_tell_their_pids;
 
 /// In one desk's local journal, and in a legal history, each event but a receipt may come. The laws that ask no more
 /// than that hold of both.
@@ -37,11 +37,6 @@ pub fn alive_until_its_end()
     ensures { AliveUntilEnd }
 {}
 
-/// A process's trap flag is the last one that it set; where it set none, it is off, or as at the start.
-pub fn trap_is_the_last_flag()
-    ensures { TrapIsLastFlag }
-{}
-
 /// The link ids that a process holds with another, in order of entry, are those that entered and have not left
 /// since. An id enters where the two are linked at a birth, where the process says `Link`, and where a `Link` comes
 /// while it lives, unless two are held. It leaves where the process says an `Unlink` of it, and where there comes,
@@ -51,33 +46,11 @@ pub fn links_are_held_since()
     ensures each { IsHeldSince }
 {}
 
-/// The processes that a process is linked with stand in the order of the events at which it came to hold a link id
-/// with them.
-pub fn peers_are_linked_since()
-    ensures { PeersSince }
-{}
-
-/// The open monitors of a live process, in order of making, are those that it made and for which it has since said
-/// no `Demonitor` and got no `DOWN`.
-pub fn monitors_are_open_since()
-    ensures list { OpenSince }
-    ensures each { IsOpenSince }
-{}
-
 /// The monitors that a process keeps for its watchers, in order of coming, are those that came while it lived and
 /// whose `Demonitor` has not come since, up to its end.
 pub fn watches_are_kept_since()
     ensures list { KeptSince }
     ensures each { IsKeptSince }
-{}
-
-/// What a process is after a history (alive or not, its trap flag, links, monitors and waiting items), all that
-/// arrived in its mailbox, what it took, and what an event sends, is told by the events of its own desk. So a desk's
-/// journal says of its own pids what every merge says.
-pub fn journals_tell_their_pids()
-    ensures life { ReadLocally }
-    ensures sent { SentLocally }
-    ensures journals { JournalsSay }
 {}
 
 /// The local journals of finitely many desks have a merge, and one only.
@@ -192,13 +165,4 @@ pub fn stamps_make_new_ids()
 pub fn answers_are_true()
     ensures told { AnswersAreTrue }
     ensures once { QuietAnswers }
-{}
-
-/// Histories worked by hand are legal and quiet and end as they should: ten lines of two processes that send each
-/// other a message; an exit that goes down a chain of links as far as a process that traps it; a link made before
-/// the birth of its target, by which the two ends come to differ.
-pub fn worked_histories()
-    ensures ten_lines { TenLines }
-    ensures cascade { Cascade }
-    ensures early_link { EarlyLink }
 {}

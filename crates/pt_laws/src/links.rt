@@ -2,7 +2,6 @@
 
 ghost use Rattle.pt_laws.specs.LinkLaws.{QuietLinks, KnownBornFree, MergeKnown, MergeLinks, QuietLinksOver};
 ghost use Rattle.pt_laws.specs.LinkLaws.{MergeLinksOver, KnownAgain};
-ghost use Rattle.pt_laws.specs.EarlyLinks.{EarlyLinkUnknown, EarlyLinkAbroad};
 
 /// Once no signal is on its way, a link of a live process stands at both ends or at neither: where the other
 /// process lives, the two hold the same link ids with each other; where it has ended or was never born, the live
@@ -45,18 +44,4 @@ pub fn resumed_links()
     ensures over { QuietLinksOver }
     ensures merge { MergeLinksOver }
     ensures again { KnownAgain }
-{}
-
-/// A counterexample on one desk, where a parent says `Link` to its child's pid before the child is born. The
-/// parent traps exits; the `Link` finds nobody and goes back as an exit signal with reason `noproc`; then the
-/// parent spawns the child with a link; then the exit signal comes to the parent, names the first link, and takes
-/// the child's link out with it. Nothing is on its way any more, both live, and only the child holds a link.
-pub fn early_link_unknown()
-    ensures { EarlyLinkUnknown }
-{}
-
-/// The same counterexample on two desks, where the child is born on another desk than its parent's, so that the
-/// parent may say `Link` to it at any time.
-pub fn early_link_abroad()
-    ensures { EarlyLinkAbroad }
 {}

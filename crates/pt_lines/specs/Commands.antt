@@ -3,7 +3,7 @@ use Rattle.std.specs.Prelude.{◌≡◌, ℕ, ◌+◌, Bool, false, ◌||◌, �
 use Rattle.std.specs.Prelude.{Result, Ok, Err, codes, is_some, if◌then◌else◌, map}
 use Rattle.std.specs.Option.{option_map}
 use Rattle.std.specs.Str.{bytes_eq}
-use Rattle.pt_shard.specs.declared.config.Config.{Config}
+use Rattle.pt_signal.specs.declared.config.Config.{Config}
 use Rattle.pt_lines.specs.declared.call.Call.{Call}
 use Rattle.pt_lines.specs.declared.command.Command.{Command}
 use Rattle.pt_lines.specs.declared.command.Command.TheVariants as code

@@ -1,7 +1,6 @@
 //! Calls, with their arguments.
 
-use pt_shard::Config;
-use pt_signal::{Body, Pick, Pid, Reason, Ref};
+use pt_signal::{Body, Config, Pick, Pid, Reason, Ref};
 
 /// What a line asks of a node.
 #[derive(Clone, Copy)]

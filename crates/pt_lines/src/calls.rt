@@ -14,7 +14,7 @@ use crate::names::Names;
 use crate::settings::config_of;
 use crate::verb::{DeskVerb, LookVerb, ProcessVerb, Verb};
 use crate::word::Word;
-use pt_shard::Config;
+use pt_signal::Config;
 
 /// The call, where the words are those that it takes.
 pub(crate) fn call_of(

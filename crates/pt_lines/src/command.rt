@@ -12,7 +12,7 @@ use crate::mistake::{Mistake, Why};
 use crate::names::{Names, is_name};
 use crate::verb::verb_of;
 use crate::word::Word;
-use pt_shard::Config;
+use pt_signal::Config;
 
 /// What a line asks for.
 #[derive(Clone, Copy)]

@@ -10,6 +10,13 @@
 //!
 //! A line is split into words at blanks. A word stands for a value by the value's printed text, or by a name that was
 //! given to a pid or a reference before. What the words of each call are, [`CALLS`] says.
+//!
+//! # What is proved
+//!
+//! - **Lines.** A line asks for what its definition says: nothing, help, an expectation, or one call with its
+//!   arguments. (`command_of`)
+//! - **Mistakes.** Otherwise the column and the kind of the first mistake are returned.
+//! - **Names.** `Names` finds the value that was last given a name.
 #![tactic(auto, unfolding(crate::specs::Text::mistake_text))]
 
 mod arguments;

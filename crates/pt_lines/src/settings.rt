@@ -7,7 +7,7 @@ ghost use Rattle.pt_lines.specs.Words.{told_word};
 use crate::mistake::{Mistake, Why};
 use crate::values::{u8_of, u32_of, u64_of};
 use crate::word::Word;
-use pt_shard::Config;
+use pt_signal::Config;
 
 /// The settings with the one of this name, by the word of its number.
 fn with_named(config: Config, name: &[u8], number: Word<'_>) -> Result<Config, Mistake>

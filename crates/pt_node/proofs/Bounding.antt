@@ -6,9 +6,10 @@ use Rattle.std.proofs.lemmas.List.Sums.{sum_by-cons}
 use Rattle.pt_signal.specs.declared.letter.Letter.{Letter}
 use Rattle.pt_events.specs.declared.event.Stamped.{Stamped}
 use Rattle.pt_events.specs.Journal.{Agrees, IsLocal, IsMerge, LanesAgree, events, gots, posts}
-use Rattle.pt_laws.specs.Load.{IsStart, below, load, load_by_desk}
+use Rattle.pt_events.specs.Counting.{below}
+use Rattle.pt_laws.specs.Load.{IsStart, load, load_by_desk}
 use Rattle.pt_laws.proofs.DeskLoads.{merge_load}
-use Rattle.pt_shard.specs.declared.config.Config.{Config}
+use Rattle.pt_signal.specs.declared.config.Config.{Config}
 use Rattle.pt_shard.specs.ShardState.{ShardState}
 use Rattle.pt_shard.specs.Outbox.{held_from}
 use Rattle.pt_gathered.specs.Gathered.{IsShardOf, journal_at, start_of}

@@ -6,9 +6,10 @@ use Rattle.std.proofs.lemmas.Simd.{map-map}
 use Rattle.pt_signal.specs.declared.letter.Letter.{Letter}
 use Rattle.pt_carrier.specs.Ends.{Place, OutEnds, InEnds}
 use Rattle.pt_carrier.specs.Node.{places, IsNode, IsNew}
-use Rattle.pt_shard.specs.declared.config.Config.{Config}
+use Rattle.pt_signal.specs.declared.config.Config.{Config}
 use Rattle.pt_shard.specs.ShardState.{ShardState}
-use Rattle.pt_shard.specs.Opening.{IsInRange, fresh_shard}
+use Rattle.pt_signal.specs.Settings.{IsInRange}
+use Rattle.pt_shard.specs.Opening.{fresh_shard}
 use Rattle.pt_gathered.specs.Gathered.{start_of}
 use Rattle.pt_gathered.specs.Pasts.{IsBeginningOf}
 use Rattle.pt_gathered.proofs.Starts.{all_empty}

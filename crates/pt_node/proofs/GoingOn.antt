@@ -5,7 +5,7 @@ use Rattle.std.proofs.lemmas.List.{same_lists, get_or-map, length-map, nil_from_
 use Rattle.std.proofs.lemmas.Simd.{map-map}
 use Rattle.pt_carrier.specs.Ends.{Place}
 use Rattle.pt_carrier.specs.Node.{IsNode}
-use Rattle.pt_shard.specs.declared.config.Config.{Config}
+use Rattle.pt_signal.specs.declared.config.Config.{Config}
 use Rattle.pt_desk.specs.DeskState.{DeskState, GoesOn, place}
 use Rattle.pt_desk.proofs.Turning.{extends, goes_on_then}
 use Rattle.pt_gathered.specs.Beginning.{IsBeginning}

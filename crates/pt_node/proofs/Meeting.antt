@@ -5,7 +5,7 @@ use Rattle.std.proofs.lemmas.List.{get_or-map, get_or-set_same, get_or-set_other
 use Rattle.pt_signal.specs.declared.letter.Letter.{Letter}
 use Rattle.pt_carrier.specs.Ends.{Place, OutEnds, InEnds}
 use Rattle.pt_carrier.specs.Meeting.{HaveMet, Meets, out_kept, in_kept}
-use Rattle.pt_carrier.proofs.Lists.{get_or-map_read, map-set_same}
+use Rattle.pt_signal.proofs.Lists.{get_or-map_read, map-set_same}
 use Rattle.pt_carrier.proofs.Places.{out_number, in_number, out_lanes, in_lanes}
 use Rattle.pt_shard.specs.ShardState.{ShardState}
 use Rattle.pt_desk.specs.Sight.{Sight}

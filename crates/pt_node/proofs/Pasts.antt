@@ -2,7 +2,7 @@
 use Rattle.std.proofs.Common.{◌≡◌, ◌<◌, List, [], ◌∷◌, map, length, sym, ap, ◌∙◌, subst, arith}
 use Rattle.std.proofs.lemmas.List.{get_or-map, length-map}
 use Rattle.pt_events.specs.History.{Past}
-use Rattle.pt_shard.specs.declared.config.Config.{Config}
+use Rattle.pt_signal.specs.declared.config.Config.{Config}
 use Rattle.pt_gathered.specs.Gathered.{GatheredState, start_of}
 use Rattle.pt_gathered.specs.Pasts.{IsBeginningOf}
 use Rattle.pt_desk.specs.DeskState.{DeskState}

@@ -3,13 +3,14 @@ use Rattle.std.proofs.Common.{◌≡◌, ℕ, ◌+◌, ◌<◌, ◌≤◌, false
 use lib.ListN.{get_elem?}
 use mathlib.Core.Option.{some}
 use Rattle.pt_signal.specs.declared.pid.Pid.{Pid}
-use Rattle.pt_events.specs.declared.event.TheConstants.{MAX_STAMP}
+use Rattle.pt_signal.specs.declared.config.TheConstants.{MAX_STAMP}
 use Rattle.pt_events.specs.History.{Phase, unborn, living, ended, is_ended, is_unborn}
 use Rattle.pt_accounts.specs.DeskLives.{DeskTable, latest_ends}
 use Rattle.pt_directory.specs.Seats.{AreEnded, death_of, given_deaths}
-use Rattle.pt_shard.specs.declared.config.Config.{Config}
+use Rattle.pt_signal.specs.declared.config.Config.{Config}
 use Rattle.pt_shard.specs.ShardState.{ShardState, past, phase_of}
-use Rattle.pt_shard.specs.Opening.{IsInRange, fresh_shard}
+use Rattle.pt_signal.specs.Settings.{IsInRange}
+use Rattle.pt_shard.specs.Opening.{fresh_shard}
 use Rattle.pt_gathered.specs.Gathered.{GatheredState, IsGathered}
 use Rattle.pt_gathered.specs.Tables.{IsTold}
 use Rattle.pt_gathered.specs.Quiet.{AreInTurn, ends_of}

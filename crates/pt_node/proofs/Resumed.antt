@@ -18,7 +18,7 @@ use Rattle.pt_directory.specs.Seats.{DirectoryState, death_of, given_deaths, reo
 use Rattle.pt_directory.proofs.Lists.{at_nothing}
 use Rattle.pt_carrier.specs.Ends.{Place, OutEnds, InEnds}
 use Rattle.pt_carrier.specs.Node.{places, IsNode, IsNew}
-use Rattle.pt_shard.specs.declared.config.Config.{Config}
+use Rattle.pt_signal.specs.declared.config.Config.{Config}
 use Rattle.pt_shard.specs.ShardState.{ShardState, past, phase_of, box}
 use Rattle.pt_shard.specs.Outbox.{held_from}
 use Rattle.pt_shard.specs.Restart.{restarted}

@@ -6,10 +6,10 @@ use Rattle.std.proofs.lemmas.List.{get_or-map, length-map, length-set}
 use Rattle.std.proofs.lemmas.Simd.{map-map}
 use Rattle.pt_carrier.specs.Ends.{Place}
 use Rattle.pt_carrier.specs.Node.{IsNode}
-use Rattle.pt_carrier.proofs.Lists.{map-set_same}
+use Rattle.pt_signal.proofs.Lists.{map-set_same}
 use Rattle.pt_signal.specs.declared.letter.Letter.{Letter}
 use Rattle.pt_directory.specs.Seats.{DirectoryState}
-use Rattle.pt_shard.specs.declared.config.Config.{Config}
+use Rattle.pt_signal.specs.declared.config.Config.{Config}
 use Rattle.pt_shard.specs.ShardState.{ShardState}
 use Rattle.pt_desk.specs.Sight.{Sight}
 use Rattle.pt_desk.specs.DeskState.{DeskState, place}

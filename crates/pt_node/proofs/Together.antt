@@ -16,7 +16,7 @@ use Rattle.pt_events.specs.Journal.{events, Agrees, posts, gots}
 use Rattle.pt_events.specs.Refusals.{stamped_below, IsTrueRefusal, AllTrueRefusals, RefusalsAreTrue}
 use Rattle.pt_carrier.specs.Ends.{OutEnds, InEnds}
 use Rattle.pt_carrier.specs.Node.{all_posted, all_collected, entry}
-use Rattle.pt_shard.specs.declared.config.Config.{Config}
+use Rattle.pt_signal.specs.declared.config.Config.{Config}
 use Rattle.pt_shard.specs.ShardState.{ShardState}
 use Rattle.pt_shard.specs.Outbox.{held_from}
 use Rattle.pt_gathered.specs.Gathered.{GatheredState, IsGathered, begins, start_of, IsShardOf, journal_at, box_at, hold_at, over_in}

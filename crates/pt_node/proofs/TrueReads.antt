@@ -15,7 +15,7 @@ use Rattle.pt_directory.specs.declared.view.Read.{Read}
 use Rattle.pt_directory.specs.declared.view.Death.{Death}
 use Rattle.pt_directory.specs.Views.{deaths_at, Covers}
 use Rattle.pt_directory.proofs.Lists.{at_append, at_behind, at_nothing, among, from_among, true-is_at}
-use Rattle.pt_shard.specs.declared.config.Config.{Config}
+use Rattle.pt_signal.specs.declared.config.Config.{Config}
 use Rattle.pt_shard.specs.ShardState.{ShardState}
 use Rattle.pt_desk.specs.Sight.{deaths_before, deaths_in, HasEndOf}
 use Rattle.pt_desk.specs.DeskState.{DeskState, place}

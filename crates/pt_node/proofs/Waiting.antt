@@ -15,7 +15,7 @@ use Rattle.pt_events.specs.declared.event.Stamped.{Stamped}
 use Rattle.pt_events.specs.History.{Phase, unborn, living, ended, Start, life, after, is_living, is_unborn, state_of, touches, newborn, linked, while_living}
 use Rattle.pt_events.specs.Journal.{events}
 use Rattle.pt_events.proofs.Phases.{after_born, each_branch}
-use Rattle.pt_laws.proofs.living.Fields.{say_keeps}
+use Rattle.pt_events.proofs.Fields.{say_keeps}
 use Rattle.pt_shard.specs.Calls.{first_match}
 use Rattle.pt_shard.specs.Extends.{Extends}
 use Rattle.pt_shard.specs.ShardState.{ShardState, lives, phase_of}

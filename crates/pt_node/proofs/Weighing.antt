@@ -8,7 +8,8 @@ use Rattle.pt_events.specs.declared.event.Event.TheVariants.{Came}
 use Rattle.pt_events.specs.declared.event.Stamped.{Stamped}
 use Rattle.pt_events.specs.History.{Past, Start, sent_by}
 use Rattle.pt_events.specs.Journal.{Journals, Agrees, IsHome, IsLocal, events, got, got_of, gots, letter, letters, posts}
-use Rattle.pt_laws.specs.Load.{IsStart, below, desk_sizes, left_weight, load_by_desk, weight, weights}
+use Rattle.pt_events.specs.Counting.{below}
+use Rattle.pt_laws.specs.Load.{IsStart, desk_sizes, left_weight, load_by_desk, weight, weights}
 use Rattle.pt_laws.specs.LoadLaws.{AllCame}
 use Rattle.pt_laws.proofs.lanes.Load.{one_receipt}
 use Rattle.pt_laws.proofs.Sums.{below_one, below_same, below_shift, below_shift_le, below_zero, weigh-append, weigh_sent}

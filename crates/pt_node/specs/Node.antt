@@ -2,14 +2,13 @@
 use Rattle.std.specs.Prelude.{◌≡◌, ℕ, zero, suc, ◌+◌, ◌-◌, ◌^◌, ◌<◌, ◌≤◌, false, true, min, Option, Some, None, List}
 use Rattle.std.specs.Prelude.{length, slice_index_or, slice_set, Result, Ok, Err}
 use Rattle.pt_signal.specs.declared.pid.Pid.{Pid}
-use Rattle.pt_shard.specs.declared.config.Config.{Config}
-use Rattle.pt_shard.specs.declared.config.OpenError.{OpenError}
-use Rattle.pt_shard.specs.declared.config.OpenError.TheVariants.{Bounds, Memory}
+use Rattle.pt_signal.specs.declared.config.Config.{Config}
+use Rattle.pt_signal.specs.declared.config.OpenError.{OpenError}
+use Rattle.pt_signal.specs.declared.config.OpenError.TheVariants.{Bounds, Memory}
 use Rattle.pt_shard.specs.declared.fault.Fault.{Fault}
 use Rattle.pt_shard.specs.declared.stop.Stop.{Stop}
 use Rattle.pt_shard.specs.Known.{knows}
-use Rattle.pt_shard.specs.Opening.{IsInRange}
-use Rattle.pt_shard.specs.Settings.{IsFirstOut}
+use Rattle.pt_signal.specs.Settings.{IsFirstOut, IsInRange}
 use Rattle.pt_shard.specs.ShardState.{ShardState}
 use Rattle.pt_desk.specs.DeskState.{DeskState, GoesOn, HasSameEnds}
 use Rattle.pt_desk.specs.declared.turned.Turned.{Turned}

@@ -2,12 +2,12 @@
 use Rattle.std.specs.Prelude.{◌≡◌, ℕ, ◌<◌, List, length, slice_index_or, Result, Ok, Err, Vec, []}
 use Rattle.pt_accounts.specs.DeskLives.{DeskTable}
 use Rattle.pt_carrier.specs.Node.{IsNew}
-use Rattle.pt_shard.specs.declared.config.Config.{Config}
-use Rattle.pt_shard.specs.declared.config.OpenError.{OpenError}
-use Rattle.pt_shard.specs.declared.config.OpenError.TheVariants.{Bounds, Memory}
+use Rattle.pt_signal.specs.declared.config.Config.{Config}
+use Rattle.pt_signal.specs.declared.config.OpenError.{OpenError}
+use Rattle.pt_signal.specs.declared.config.OpenError.TheVariants.{Bounds, Memory}
 use Rattle.pt_shard.specs.ShardState.{ShardState}
-use Rattle.pt_shard.specs.Opening.{IsInRange, fresh_shard}
-use Rattle.pt_shard.specs.Settings.{IsFirstOut}
+use Rattle.pt_signal.specs.Settings.{IsFirstOut, IsInRange}
+use Rattle.pt_shard.specs.Opening.{fresh_shard}
 use Rattle.pt_desk.specs.DeskState.{DeskState}
 use Rattle.pt_node.specs.Desks.{AreDesksOf}
 use Rattle.pt_node.specs.Pasts.{GoOnFrom}

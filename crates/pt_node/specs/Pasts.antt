@@ -1,7 +1,7 @@
 -- What happened on the node of these desks before their journals, from its first opening on.
 use Rattle.std.specs.Prelude.{List}
 use Rattle.pt_events.specs.History.{Past}
-use Rattle.pt_shard.specs.declared.config.Config.{Config}
+use Rattle.pt_signal.specs.declared.config.Config.{Config}
 use Rattle.pt_gathered.specs.Gathered.{GatheredState, start_of}
 use Rattle.pt_gathered.specs.Pasts.{IsBeginningOf, GoesOnFrom}
 use Rattle.pt_desk.specs.DeskState.{DeskState}

@@ -5,7 +5,7 @@ use Rattle.pt_directory.specs.Views.{up_from}
 use Rattle.pt_directory.specs.Seats.{DirectoryState, SeatState, reopened_seat, join_seats, IsAudited}
 use Rattle.pt_accounts.specs.DeskLives.{DeskTable}
 use Rattle.pt_signal.specs.declared.pid.Pid.{Pid}
-use Rattle.pt_shard.specs.declared.config.Config.{Config}
+use Rattle.pt_signal.specs.declared.config.Config.{Config}
 use Rattle.pt_shard.specs.ShardState.{ShardState}
 use Rattle.pt_desk.specs.Sight.{Sight, IsSeated, seat_of}
 use Rattle.pt_desk.specs.DeskState.{DeskState}

@@ -45,6 +45,25 @@
 //! written out, and [`resume`] goes on from the quiet node with empty journals over what they left behind. The dead
 //! stay dead, the versions and the clocks go on, and whatever holds of an opened node holds of this one, over that
 //! start; it may be resumed any number of times.
+//!
+//! # What is proved
+//!
+//! - **Opening.** `open` returns the desks of one node, in order, or says which setting is out of range. (`Opening`)
+//! - **Gathering.** `gather` returns the node with the journals as handed in, or gives all desks back as they were.
+//! - **Resuming.** `resume` goes on from a quiet node with empty journals, or gives it back as it was. Pids, versions
+//!   and clocks go on. (`AreResumed`)
+//! - **Running.** `run` and `run_single` return all desks, in order. What happened is the workers' turns, each one step
+//!   of the work and one turn of the desk. (`Running`)
+//! - **No worker stops early.** A worker takes all its turns, or those before the first that its work or its gate did
+//!   not let begin.
+//! - **The node's calls.** Each call of `Node` is that of the pid's desk, and the others stay. It asks nothing of its
+//!   caller. (`CallsAt`, `CallsTo`)
+//! - **Until still.** `turn_until_still` ends, and handles no more letters than the load before. (`IsWithinLoad`)
+//! - **Still.** It answers that the node is still exactly if no turn was stopped. Then no letter waits anywhere.
+//!   (`AreStill`)
+//! - **Wake-ups.** `next_woken` names each process that got a signal or exited, in order, once for each event.
+//! - **Taking.** `take_each` takes at most so many fitting items, oldest first, hands each over and returns their
+//!   number.
 #![tactic(auto)]
 
 mod gathering;

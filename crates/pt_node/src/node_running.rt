@@ -1,7 +1,7 @@
 //! The desks of a node run, each with the work at its place.
 
 ghost use Rattle.std.specs.Prelude.{◌≤◌, length};
-ghost use Rattle.pt_carrier.specs.declared.ends.TheConstants.{MAX_DESKS};
+ghost use Rattle.pt_signal.specs.declared.config.TheConstants.{MAX_DESKS};
 ghost use Rattle.pt_node.specs.Desks.{AreDesks};
 ghost use Rattle.pt_node.specs.NodeRunning.{RunsNode};
 ghost use Rattle.pt_node.specs.Running.{AllWork, InRounds, begins_by};

@@ -1,7 +1,7 @@
 //! The desks of a new node.
 
 ghost use Rattle.std.specs.Prelude.{◌≡◌, IfOk};
-ghost use Rattle.pt_shard.specs.Opening.{IsInRange};
+ghost use Rattle.pt_signal.specs.Settings.{IsInRange};
 ghost use Rattle.pt_node.specs.Opening.{Opens, AreFreshShards, AreFreshTables};
 
 use crate::making::make_whole;

@@ -3,7 +3,7 @@
 ghost use Rattle.std.specs.Prelude.{◌≡◌, ◌≤◌, [], length, map, IfErr, IfOk, vec_len};
 ghost use Rattle.std.specs.Arc.{arc_value};
 ghost use Rattle.std.specs.Vec.{vec_capacity};
-ghost use Rattle.pt_events.specs.declared.event.TheConstants.{MAX_STAMP};
+ghost use Rattle.pt_signal.specs.declared.config.TheConstants.{MAX_STAMP};
 ghost use Rattle.pt_shard.specs.Begun.{Every};
 ghost use Rattle.pt_shard.specs.Restart.{restarted};
 ghost use Rattle.pt_accounts.specs.DeskLives.{all_forgotten};

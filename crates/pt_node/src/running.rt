@@ -1,7 +1,7 @@
 //! Workers, each with a desk of a node.
 
 ghost use Rattle.std.specs.Prelude.{◌≡◌, ℕ, ◌<◌, ◌≤◌, Bool, Some, None, false, MatchBool, length, map, slice_index_or};
-ghost use Rattle.pt_carrier.specs.declared.ends.TheConstants.{MAX_DESKS};
+ghost use Rattle.pt_signal.specs.declared.config.TheConstants.{MAX_DESKS};
 ghost use Rattle.pt_desk.specs.DeskState.{DeskState, GoesOn};
 ghost use Rattle.pt_node.specs.Desks.{AreDesks};
 ghost use Rattle.pt_node.specs.Running.{AllGoOn, AllWork, HasTurn, HaveEnded, InRounds, Round, TakesTurn, Works};

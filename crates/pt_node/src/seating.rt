@@ -4,7 +4,7 @@ ghost use Rattle.std.specs.Prelude.{◌<◌, map, IfOk, vec_len};
 ghost use Rattle.std.specs.Arc.{arc_value};
 ghost use Rattle.atomic_table.specs.Seated.{TableId};
 ghost use Rattle.pt_directory.specs.Seats.{AreEnded};
-ghost use Rattle.pt_shard.specs.Opening.{IsInRange};
+ghost use Rattle.pt_signal.specs.Settings.{IsInRange};
 ghost use Rattle.pt_node.specs.Seating.{AreFreshSeats, AreOf, AreAudited};
 
 use pt_directory::{Directory, Seat};

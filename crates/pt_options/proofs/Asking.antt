@@ -21,10 +21,10 @@ use Rattle.clap.proofs.ValueTestLemmas.{accepts-Accepts, Accepts-accepts}
 use Rattle.pt_options.specs.Choosing.{Words, IsCommand, chosen_of, command_with, epochs_of, file_of, number_written, turns_of}
 use Rattle.pt_options.specs.Laws.{AskFor, DefaultsStand, FilesAreNamed, TurnsAreTold, WrongTurnsAreRefused, EpochsAreTold, WrongEpochsAreRefused, ModesAreTold, WrongModesAreRefused, PrintsAreTold, WrongPrintsAreRefused, HelpIsAsked, VersionIsAsked, ExplainingIsTold, ExplainingTakesNoValue, defaults}
 use Rattle.pt_options.proofs.Reading.{false_unless}
-use Rattle.pt_choices.specs.declared.Mode.TheVariants.{Many}
-use Rattle.pt_choices.specs.declared.Show.TheVariants.{Summary, Chart, Mermaid, Json}
-use Rattle.pt_choices.specs.declared.Options.{Options}
-use Rattle.pt_choices.specs.declared.TheConstants.{MOST_EPOCHS, MOST_TURNS}
+use Rattle.pt_render.specs.declared.choices.Mode.TheVariants.{Many}
+use Rattle.pt_render.specs.declared.choices.Show.TheVariants.{Summary, Chart, Mermaid, Json}
+use Rattle.pt_render.specs.declared.choices.Options.{Options}
+use Rattle.pt_render.specs.declared.choices.TheConstants.{MOST_EPOCHS, MOST_TURNS}
 
 -- a text at a place in memory
 abbrev at : ℕ × ℕ → Text → Bor Text

@@ -15,12 +15,12 @@ use Rattle.clap.specs.ValueTests.{is_unsigned_in}
 use Rattle.clap.specs.declared.builder.value_parser.ValueParser.TheVariants.{Names, Unsigned}
 use Rattle.clap.specs.declared.error.Error.{Error}
 use Rattle.clap.specs.declared.error.kind.ErrorKind.TheVariants.{OutOfMemory}
-use Rattle.pt_choices.specs.declared.Mode.{Mode}
-use Rattle.pt_choices.specs.declared.Mode.TheVariants.{Single, Many}
-use Rattle.pt_choices.specs.declared.Options.{Options}
-use Rattle.pt_choices.specs.declared.Show.{Show}
-use Rattle.pt_choices.specs.declared.Show.TheVariants.{Summary, History, Chart, Mermaid, Json}
-use Rattle.pt_choices.specs.declared.TheConstants.{MOST_EPOCHS, MOST_TURNS}
+use Rattle.pt_render.specs.declared.choices.Mode.{Mode}
+use Rattle.pt_render.specs.declared.choices.Mode.TheVariants.{Single, Many}
+use Rattle.pt_render.specs.declared.choices.Options.{Options}
+use Rattle.pt_render.specs.declared.choices.Show.{Show}
+use Rattle.pt_render.specs.declared.choices.Show.TheVariants.{Summary, History, Chart, Mermaid, Json}
+use Rattle.pt_render.specs.declared.choices.TheConstants.{MOST_EPOCHS, MOST_TURNS}
 
 -- the words that an argument takes, where they stand in memory
 abbrev pub Words : Type 0

@@ -8,10 +8,10 @@ use Rattle.clap.specs.declared.error.kind.ErrorKind.{ErrorKind}
 use Rattle.clap.specs.declared.error.kind.ErrorKind.TheVariants.{DisplayHelp, DisplayVersion, InvalidValue, TooManyValues}
 use Rattle.clap.specs.declared.error.kind.ErrorKind.TheVariants.{ValueValidation}
 use Rattle.pt_options.specs.Choosing.{IsCommand, chosen_of, file_of}
-use Rattle.pt_choices.specs.declared.Mode.TheVariants.{Single, Many}
-use Rattle.pt_choices.specs.declared.Options.{Options}
-use Rattle.pt_choices.specs.declared.Show.TheVariants.{Summary, History, Chart, Mermaid, Json}
-use Rattle.pt_choices.specs.declared.TheConstants.{MOST_EPOCHS, MOST_TURNS}
+use Rattle.pt_render.specs.declared.choices.Mode.TheVariants.{Single, Many}
+use Rattle.pt_render.specs.declared.choices.Options.{Options}
+use Rattle.pt_render.specs.declared.choices.Show.TheVariants.{Summary, History, Chart, Mermaid, Json}
+use Rattle.pt_render.specs.declared.choices.TheConstants.{MOST_EPOCHS, MOST_TURNS}
 
 abbrev pub defaults : Options
 defaults = record { threads = Single; turns = 100; epochs = 1; print = History; explain = false }

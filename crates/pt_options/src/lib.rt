@@ -6,18 +6,26 @@
 //!
 //! [`options`] reads the words, and [`laws`] says what it makes of some. `FILE` is the script; without it, and for `-`,
 //! the script is read from standard input.
+//!
+//! # What is proved
+//!
+//! - **Words.** `options` returns what the words ask for by the definitions of `clap` for this command, or an error of
+//!   the kind of their fault.
+//! - **Values.** `--turns=` takes 0 to 1,000,000, `--epochs=` 1 to 1,000,000, `--threads=` and `--print=` their own
+//!   words, and no other text. (`laws`)
+//! - **Flags.** `--explain` takes no value, `--help` is a kind of its own, and no word at all gives the defaults.
 #![tactic(auto)]
 
 ghost use Rattle.std.specs.Prelude.{◌≡◌, ◌≤◌, IfOk, codes, map, option_map, string_bytes};
 ghost use Rattle.clap.specs.Words.{app_of, found_of, new_rule, rows_of};
 ghost use Rattle.pt_options.specs.Choosing as spec;
-ghost use Rattle.pt_choices.specs.declared.TheConstants.{MOST_EPOCHS, MOST_TURNS};
+ghost use Rattle.pt_render.specs.declared.choices.TheConstants.{MOST_EPOCHS, MOST_TURNS};
 
 pub mod laws;
 
 use clap::builder::ValueParser;
 use clap::{Arg, ArgAction, ArgMatches, Command};
-pub use pt_choices::{MOST_EPOCHS, MOST_TURNS, Mode, Options, Show, VERSION};
+pub use pt_render::{MOST_EPOCHS, MOST_TURNS, Mode, Options, Show, VERSION};
 use std::alloc::{AllocError, Global};
 
 static MODES: [&str; 2] = ["single", "many"];

@@ -40,6 +40,16 @@
 //! whichever is the shorter; `kept` looks through the watches; `estate` and reading it cost what is owed; and where
 //! more than eight are linked, a link with a peer that was unlinked before, and whose gap still stands, costs what
 //! entered after it. Links, monitors and watches keep the order of entry through all removals.
+//!
+//! # What is proved
+//!
+//! - **Signals.** `accept` does to a live process exactly what the table of signals says, with the verdict on exit
+//!   signals.
+//! - **Refused memory.** `accept` fails only if a list would have to grow, and then nothing has changed.
+//! - **Selective receive.** `take` removes the first item that fits, and the others keep their order.
+//! - **Exits.** `estate` lists what a process owes at its exit, in order.
+//! - **Lists.** `link_at`, `monitor_at` and `watcher_at` return links, open monitors and watchers in the order of their
+//!   entry.
 #![tactic(auto)]
 
 mod entries;

@@ -11,11 +11,21 @@
 //!
 //! Each value is a `Display`, and what it prints is its contract: `specs/Json` and `specs/Mermaid` have the texts. None
 //! ends with a line feed, and none needs memory.
+//!
+//! [`Options`] says what can be asked for when a script is run, and which of these outputs is printed.
+//!
+//! # What is proved
+//!
+//! - **JSON.** An event or a letter left over is written as the one line of JSON that its definition gives.
+//! - **Mermaid.** It is written as the line of a sequence diagram that its definition gives.
+//! - **Defaults.** `Options` has the defaults of the command line. (`limits_stand`)
 #![tactic(auto, unfolding(crate::specs::Json::body_members, crate::specs::Json::links_member, crate::specs::Json::signal_members, crate::specs::Json::item_members, crate::specs::Json::pick_json, crate::specs::Json::event_members, crate::specs::Json::letter_members, crate::specs::Json::left_over_members, crate::specs::Json::json_text, crate::specs::Json::json_left_over_text, crate::specs::Mermaid::column_name_text, crate::specs::Mermaid::pid_label, crate::specs::Mermaid::ref_label, crate::specs::Mermaid::body_label, crate::specs::Mermaid::signal_label, crate::specs::Mermaid::item_label, crate::specs::Mermaid::pick_label, crate::specs::Mermaid::scene_text, crate::specs::Mermaid::deed_text, crate::specs::Mermaid::mermaid_text, crate::specs::Mermaid::mermaid_left_over_text))]
 
+mod choices;
 mod json;
 mod labels;
 mod mermaid;
 
+pub use choices::{MOST_EPOCHS, MOST_TURNS, Mode, Options, Show, VERSION, limits_stand};
 pub use json::{JsonEvent, JsonLeftOver};
 pub use mermaid::{MERMAID_HEAD, MermaidEvent, MermaidLeftOver};

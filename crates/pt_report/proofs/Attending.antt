@@ -14,7 +14,7 @@ use Rattle.pt_node.specs.NodeRunning.{ArePaired}
 use Rattle.pt_node.specs.Resuming.{Resumes}
 use Rattle.pt_node.specs.Running.{AllWork, BeginRelation, InRounds, Round, Rounds, TakesOrEnds, TakesTurn, TakesTurns, Workers, Works, step_alone}
 use Rattle.pt_script.specs.Plans.{Whole}
-use Rattle.pt_choices.specs.declared.Options.{Options}
+use Rattle.pt_render.specs.declared.choices.Options.{Options}
 use Rattle.pt_runner.specs.declared.runner.Runner.{Runner}
 use Rattle.pt_runner.specs.Acting.{RunnerDoes}
 use Rattle.pt_runner.specs.Waiting.{RunnerAttends, RunnerSteps}

@@ -10,8 +10,8 @@ use Rattle.pt_shard.specs.declared.stop.Stop.{Stop}
 use Rattle.pt_shard.specs.declared.stop.Stop.TheVariants.{Memory as StopMemory, Worn as StopWorn}
 use Rattle.pt_gathered.specs.Gathered.{GatheredState}
 use Rattle.pt_gathered.specs.Order.{SettlingStops}
-use Rattle.pt_choices.specs.declared.Options.{Options}
-use Rattle.pt_choices.specs.declared.Show.TheVariants.{Summary}
+use Rattle.pt_render.specs.declared.choices.Options.{Options}
+use Rattle.pt_render.specs.declared.choices.Show.TheVariants.{Summary}
 use Rattle.pt_report.specs.declared.fault.ReportFault.{ReportFault}
 use Rattle.pt_report.specs.declared.fault.ReportFault.TheVariants.{Script, Memory, Desk, File}
 use Rattle.pt_report.specs.Status.{told_fault, stopped_fault, IsOfPrint}

@@ -1,3 +1,4 @@
+-- The lemmas that more than one function of the crate uses.
 mod Accounts
 mod Attending
 mod Faults

@@ -10,7 +10,7 @@ use Rattle.pt_gathered.specs.Gathered.{GatheredState, journals}
 use Rattle.pt_gathered.specs.LeftOvers.{all_left}
 use Rattle.pt_gathered.specs.Quiet.{latest_stamp}
 use Rattle.pt_gathered.specs.declared.left_over.LeftOver.{LeftOver}
-use Rattle.pt_shard.specs.declared.config.Config.{Config}
+use Rattle.pt_signal.specs.declared.config.Config.{Config}
 use Rattle.pt_shard.specs.declared.fault.Fault.TheVariants.{Full, Memory as DeskMemory, Worn, Gone, Myself, NoProc}
 use Rattle.pt_shard.specs.declared.stop.Stop.{Stop}
 use Rattle.pt_shard.specs.declared.stop.Stop.TheVariants.{Memory as StopMemory, Worn as StopWorn}
@@ -23,9 +23,9 @@ use Rattle.pt_script.specs.Called.{names_in}
 use Rattle.pt_script.specs.Nodes.{config_of}
 use Rattle.pt_script.specs.Plans.{Whole}
 use Rattle.pt_script.specs.Scripts.{reading}
-use Rattle.pt_choices.specs.declared.Options.{Options}
-use Rattle.pt_choices.specs.declared.Show.{Show}
-use Rattle.pt_choices.specs.declared.Show.TheVariants.{Summary, History, Chart, Mermaid, Json}
+use Rattle.pt_render.specs.declared.choices.Options.{Options}
+use Rattle.pt_render.specs.declared.choices.Show.{Show}
+use Rattle.pt_render.specs.declared.choices.Show.TheVariants.{Summary, History, Chart, Mermaid, Json}
 use Rattle.pt_report.specs.Lines.{line, lines, left_lines, form_head, history_text}
 use Rattle.pt_report.specs.declared.form.Form.{Form}
 use Rattle.pt_report.specs.declared.form.Form.TheVariants.{Lines, Diagram, Objects}

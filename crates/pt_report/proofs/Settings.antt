@@ -1,6 +1,6 @@
 -- The settings of desks that go on.
 use Rattle.std.proofs.Common.{◌≡◌, List, [], ◌∷◌, map, sym, ◌∙◌, arith}
-use Rattle.pt_shard.specs.declared.config.Config.{Config}
+use Rattle.pt_signal.specs.declared.config.Config.{Config}
 use Rattle.pt_desk.specs.DeskState.{DeskState}
 use Rattle.pt_node.specs.Desks.{AreDesksOf}
 use Rattle.pt_node.specs.Running.{AllGoOn}

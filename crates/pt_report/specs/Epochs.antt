@@ -14,10 +14,10 @@ use Rattle.pt_node.specs.Gathering.{Gathers}
 use Rattle.pt_node.specs.NodeRunning.{RunsPaired}
 use Rattle.pt_node.specs.Resuming.{Resumes}
 use Rattle.pt_node.specs.Running.{AllWork, InRounds, always, step_alone}
-use Rattle.pt_choices.specs.declared.Mode.TheVariants.{Single}
-use Rattle.pt_choices.specs.declared.Options.{Options}
-use Rattle.pt_choices.specs.declared.Show.{Show}
-use Rattle.pt_choices.specs.declared.Show.TheVariants.{Summary, History, Chart, Mermaid, Json}
+use Rattle.pt_render.specs.declared.choices.Mode.TheVariants.{Single}
+use Rattle.pt_render.specs.declared.choices.Options.{Options}
+use Rattle.pt_render.specs.declared.choices.Show.{Show}
+use Rattle.pt_render.specs.declared.choices.Show.TheVariants.{Summary, History, Chart, Mermaid, Json}
 use Rattle.pt_runner.specs.declared.runner.Runner.{Runner}
 use Rattle.pt_runner.specs.Acting.{RunnerDoes}
 use Rattle.pt_report.specs.Lines.{lines}

@@ -14,7 +14,7 @@ use crate::fault::ReportFault;
 use crate::form::Form;
 use crate::history::write_events;
 use crate::running::run_once;
-use pt_choices::{Options, Show};
+use pt_render::{Options, Show};
 use pt_node::{Node, Stamped};
 use pt_runner::Runner;
 use std::alloc::Global;

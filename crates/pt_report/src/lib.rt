@@ -32,6 +32,15 @@
 //! # Writers
 //!
 //! Each line is a few writes, so the writer should be a buffered one. It is flushed before [`report`] answers `Ok`.
+//!
+//! # What is proved
+//!
+//! - **What is printed.** On success the text is the history, summary, chart or diagram of a node that ran the script,
+//!   with the turns and epochs asked for. (`report`)
+//! - **Epochs.** The history of each epoch is in the text once, in order. (`PassEpochs`)
+//! - **Faults.** A script's fault is the first one. After any fault but `File` the writer is as it was, or has the
+//!   lines of the epochs that passed.
+//! - **Status.** It is 1 for a refused script and else 3. (`ReportFault::status`)
 #![tactic(auto, unfolding(crate::specs::Lines::ending_text, crate::specs::Lines::account_text, crate::specs::Lines::totals_text))]
 
 mod called;

@@ -10,7 +10,7 @@ use crate::fault::ReportFault;
 use crate::form::Form;
 use crate::history::print_history;
 use crate::running::run_script;
-use pt_choices::{Options, Show};
+use pt_render::{Options, Show};
 use pt_script::Script;
 use std::alloc::Global;
 use std::io::Write;

@@ -4,6 +4,14 @@
 //! [`Bells`] are what the workers of a node wake each other by. A [`RestGate`] lets the worker of a desk rest on which
 //! nothing is to be done, and lets every worker go on until [`Bells::stop`]; a [`Resting`] is the work that tells it.
 //! A [`Door`] takes messages from a thread without a desk; a [`Porter`] sends them on, as a process of its desk.
+//!
+//! # What is proved
+//!
+//! - **The way in.** A message that a `Porter` took was sent, once and in order, or its receiver was seen to have
+//!   exited or is not known. (`Brings`)
+//! - **Refusals.** A message that could not be sent for want of memory or stamps stays in front.
+//! - **Doors.** `Door::post` fails exactly if all places are taken.
+//! - **The work within.** A `Resting` does what its work does.
 #![tactic(auto)]
 
 mod bells;

@@ -33,6 +33,18 @@
 //! A step costs the operations that it does, the events that are new in the journal, and a look at a flag for each
 //! process of the script that waits. A birth under a number that has a pid already, and the first step over a resumed
 //! node, have each that waits try its receive again. A runner has eight bytes for each slot of its desk.
+//!
+//! # What is proved
+//!
+//! - **Starting.** `start` lets the processes of the script be born, each on its desk and in order, and nothing else
+//!   happens. (`Starting`)
+//! - **Refused starts.** It fails with `Full` or `Worn` exactly if the next birth does, and else only for memory.
+//! - **Steps.** In each step each live process does its next operation, in order of birth, and only that.
+//!   (`RunnerDoes`)
+//! - **Operations.** What an operation does is one line a kind. (`Performs`)
+//! - **Attending.** All this holds if the runner attends its desk: it is new, or has taken each turn of it, or begins
+//!   again. (`RunnerAttends`)
+//! - **Places.** `place` tells where a process is in its list.
 #![tactic(auto)]
 
 mod calls;

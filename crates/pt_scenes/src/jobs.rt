@@ -13,8 +13,9 @@ ghost use Rattle.pt_crew.specs.Visiting.{takes};
 use crate::stage;
 use crate::stage::{DESKS, Stage, first_of};
 use anyhow::Result;
-use pt_calls::{Heard, Pending, Request, reply, request_of};
-use pt_crew::{Behaviour, Births, Next, unwatch, watch};
+use pt_crew::{
+    Behaviour, Births, Heard, Next, Pending, Request, reply, request_of, unwatch, watch,
+};
 use pt_node::{Desk, Fault, Item, Pick, Pid, Reason, Ref};
 use pt_supervisor::{Child, Limit, Restart, Start, Strategy, Supervisor};
 use std::alloc::{AllocError, Global};

@@ -1,5 +1,5 @@
 -- The settings of a script's node.
-use Rattle.pt_shard.specs.declared.config.Config.{Config}
+use Rattle.pt_signal.specs.declared.config.Config.{Config}
 use Rattle.pt_script.specs.declared.values.Settings.{Settings}
 
 -- those of the script, and clocks that begin at 0

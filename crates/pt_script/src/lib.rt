@@ -5,6 +5,14 @@
 //! the text, and operations speak of processes by these numbers. [`process_names`] gives the names, for those who show
 //! them. What holds of every script stands in [`laws`].
 //! The format is that of `docs/SCRIPTS.md`.
+//!
+//! # What is proved
+//!
+//! - **Reading.** `Script::from_bytes` succeeds exactly if the text is a script of the format; otherwise it returns the
+//!   first fault and its place. (`read`)
+//! - **Well formed.** An accepted script names only processes and tags of its own, and keeps the limits. (`laws`)
+//! - **Reading back.** Each well-formed script is read back from what is written of it.
+//! - **Names.** `process_names` returns the names of the processes of a text, by their places in it.
 #![tactic(auto)]
 
 mod called;

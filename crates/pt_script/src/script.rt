@@ -1,12 +1,12 @@
 //! What a script says.
 
 ghost use Rattle.std.specs.Prelude.{◌≡◌};
-ghost use Rattle.pt_shard.specs.Opening.{IsInRange};
+ghost use Rattle.pt_signal.specs.Settings.{IsInRange};
 ghost use Rattle.pt_script.specs.Nodes.{config_of};
 ghost use Rattle.pt_script.specs.Sound.{IsSoundScript};
 
 use crate::values::{Operation, Settings, Top};
-use pt_shard::Config;
+use pt_signal::Config;
 use std::marker::Model;
 
 /// What a process does.

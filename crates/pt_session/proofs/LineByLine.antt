@@ -2,7 +2,7 @@
 use Rattle.std.proofs.Common.{◌≡◌, ℕ, suc, Bool, true, false, List, [], ◌++◌, sym, ap, ◌∙◌, append_assoc, append-nil, refl, subst, Option, Some, None}
 use Rattle.std.specs.Io.KnownBytes.{Appends, Keeps}
 use Rattle.std.specs.Io.BufRead.{strip_last}
-use Rattle.pt_shard.specs.declared.config.Config.{Config}
+use Rattle.pt_signal.specs.declared.config.Config.{Config}
 use Rattle.pt_session.specs.Sessions.{SessionState, SessionHears, is_comparing}
 use Rattle.pt_session.specs.Running.{SessionRuns, HasRun, HasRunAll, SessionSteps, ReadsLine, HearsLine, prompted, written_answer}
 

@@ -3,7 +3,7 @@ use Rattle.std.specs.Prelude.{◌≡◌, ◌≢◌, ℕ, zero, suc, Bool, true, 
 use Rattle.std.specs.Prelude.{Result, Ok, Err}
 use Rattle.std.specs.Io.KnownBytes.{Appends}
 use Rattle.std.specs.Io.BufRead.{take_through, drop_through, strip_last}
-use Rattle.pt_shard.specs.declared.config.Config.{Config}
+use Rattle.pt_signal.specs.declared.config.Config.{Config}
 use Rattle.pt_session.specs.declared.complaint.Complaint.{Complaint}
 use Rattle.pt_session.specs.declared.phase.Phase.{Phase}
 use Rattle.pt_session.specs.declared.session.Heard.{Heard}

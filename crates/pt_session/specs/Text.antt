@@ -14,10 +14,10 @@ use Rattle.pt_shard.specs.declared.fault.Fault.{Fault}
 use Rattle.pt_shard.specs.declared.fault.Fault.TheVariants as fault
 use Rattle.pt_shard.specs.declared.stop.Stop.{Stop}
 use Rattle.pt_shard.specs.declared.stop.Stop.TheVariants as stop
-use Rattle.pt_shard.specs.declared.config.OpenError.{OpenError}
-use Rattle.pt_shard.specs.declared.config.OpenError.TheVariants as open_error
-use Rattle.pt_shard.specs.declared.config.Setting.{Setting}
-use Rattle.pt_shard.specs.declared.config.Setting.TheVariants as setting
+use Rattle.pt_signal.specs.declared.config.OpenError.{OpenError}
+use Rattle.pt_signal.specs.declared.config.OpenError.TheVariants as open_error
+use Rattle.pt_signal.specs.declared.config.Setting.{Setting}
+use Rattle.pt_signal.specs.declared.config.Setting.TheVariants as setting
 use Rattle.pt_desk.specs.declared.turned.Turned.{Turned}
 use Rattle.pt_gathered.specs.declared.left_over.LeftOver.{LeftOver}
 use Rattle.pt_gathered.specs.Text.{left_over_text}

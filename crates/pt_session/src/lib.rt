@@ -10,6 +10,13 @@
 //!
 //! What a line may be, `pt_lines` says. A session has one node at most: it runs, is gathered, or is settled, and each
 //! call is the node's call of that name. [`run`] hears the lines of a reader and writes each answer.
+//!
+//! # What is proved
+//!
+//! - **Answers.** Each call that a line asks for is the node's call, and the text kept is that of its answer. (`hear`)
+//! - **Calls out of place.** A call that the node's state does not allow changes nothing.
+//! - **Expectations.** An expectation passes exactly if the next line of the answer is its words.
+//! - **Runs.** A run that comes to its end wrote the answers of its lines, in order. (`run`)
 #![tactic(auto)]
 
 mod acting;

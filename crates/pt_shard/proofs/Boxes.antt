@@ -3,8 +3,8 @@ use Rattle.std.proofs.Common.{◌≡◌, ℕ, ◌<◌, ◌==◌, Bool, true, fal
 use Rattle.std.proofs.lemmas.Bool.{eqb-true, eq-eqb, both_ways}
 use Rattle.std.proofs.lemmas.List.{append-nil}
 use Rattle.pt_signal.specs.declared.letter.Letter.{Letter}
-use Rattle.pt_carrier.specs.Ends.{one_more}
-use Rattle.pt_carrier.proofs.Boxes.{one_more_count, one_more_same, one_more_other}
+use Rattle.pt_signal.specs.Boxes.{one_more}
+use Rattle.pt_signal.proofs.Boxes.{one_more_count, one_more_same, one_more_other}
 use Rattle.pt_shard.specs.Boxes.{put_out}
 
 pub put_count : (boxes : List (List Letter)) (ls : List Letter) → length (put_out boxes ls) ≡ length boxes

@@ -15,11 +15,11 @@ use Rattle.pt_events.specs.declared.event.Stamped.{Stamped}
 use Rattle.pt_events.specs.Journal.{letter}
 use Rattle.pt_events.specs.JournalState.{IsNewer}
 use Rattle.pt_process.specs.ProcessView.{Owing}
-use Rattle.pt_carrier.specs.Ends.{one_more}
+use Rattle.pt_signal.specs.Boxes.{one_more}
 use Rattle.pt_shard.specs.Boxes.{put_out}
-use Rattle.pt_carrier.proofs.Boxes.{one_more_count}
+use Rattle.pt_signal.proofs.Boxes.{one_more_count}
 use Rattle.pt_shard.proofs.Boxes.{put_count}
-use Rattle.pt_carrier.proofs.Lists.{map-set_more, map-set_same, get_or-map_read, get_or-map_set_same, get_or-map_set_other}
+use Rattle.pt_signal.proofs.Lists.{map-set_more, map-set_same, get_or-map_read, get_or-map_set_same, get_or-map_set_other}
 use Rattle.pt_shard.specs.declared.stop.Stop.{Stop}
 use Rattle.pt_shard.specs.declared.stop.Stop.TheVariants.{Memory}
 use Rattle.pt_shard.specs.LettersState.{LettersState}

@@ -3,7 +3,7 @@ use Rattle.std.proofs.Common.{◌≡◌, ℕ, ◌≤◌, ◌==◌, ◌||◌, ◌
 use Rattle.std.specs.Prelude.{nat_le}
 use Rattle.pt_signal.specs.declared.pid.Pid.{Pid}
 use Rattle.pt_events.specs.Leaving.{outcome, start_after}
-use Rattle.pt_events.specs.declared.event.TheConstants.{MAX_STAMP}
+use Rattle.pt_signal.specs.declared.config.TheConstants.{MAX_STAMP}
 use Rattle.pt_events.proofs.Leaving.{leaves_each}
 use Rattle.pt_shard.specs.ShardState.{ShardState, past, phase_of}
 use Rattle.pt_shard.specs.Fit.{IsFit}

@@ -7,8 +7,9 @@ use Rattle.std.proofs.lemmas.List.{length-set, length-replicate, get_or-replicat
 use Rattle.pt_signal.specs.declared.pid.Pid.{Pid}
 use Rattle.pt_signal.specs.declared.letter.Letter.{Letter}
 use Rattle.pt_slots.specs.Calls.{IsEmpty}
-use Rattle.pt_shard.specs.declared.config.Config.{Config}
-use Rattle.pt_shard.specs.Opening.{IsInRange, fresh_shard}
+use Rattle.pt_signal.specs.declared.config.Config.{Config}
+use Rattle.pt_signal.specs.Settings.{IsInRange}
+use Rattle.pt_shard.specs.Opening.{fresh_shard}
 use Rattle.pt_shard.proofs.Vacancy.{next_birth}
 use Rattle.pt_shard.specs.Extends.{Extends}
 use Rattle.pt_shard.specs.Fit.{AreBetween, IsNextBirth}

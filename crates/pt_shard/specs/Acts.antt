@@ -18,7 +18,7 @@ use Rattle.pt_signal.specs.Process.{ProcessState, held, say, sent, handle}
 use Rattle.pt_events.specs.declared.event.Event.{Event}
 use Rattle.pt_events.specs.declared.event.Event.TheVariants.{Said, Took, Flag}
 use Rattle.pt_events.specs.Journal.{letter}
-use Rattle.pt_events.specs.declared.event.TheConstants.{MAX_STAMP}
+use Rattle.pt_signal.specs.declared.config.TheConstants.{MAX_STAMP}
 use Rattle.pt_process.specs.ProcessView.{ProcessView, Owing}
 use Rattle.pt_process.specs.Peers.{peers_held}
 use Rattle.pt_shard.specs.declared.fault.Fault.{Fault}

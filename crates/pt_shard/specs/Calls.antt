@@ -16,7 +16,7 @@ use Rattle.pt_signal.specs.declared.item.Pick.{Pick}
 use Rattle.pt_signal.specs.declared.signal.Signal.TheVariants.{Link, Unlink, Monitor, Demonitor}
 use Rattle.pt_events.specs.declared.event.Event.{Event}
 use Rattle.pt_events.specs.declared.event.Event.TheVariants.{Born, Said, Took, Refused}
-use Rattle.pt_events.specs.declared.event.TheConstants.{MAX_STAMP}
+use Rattle.pt_signal.specs.declared.config.TheConstants.{MAX_STAMP}
 use Rattle.pt_shard.specs.declared.fault.Fault.{Fault}
 use Rattle.pt_shard.specs.declared.fault.Fault.TheVariants.{Full, Memory, Worn, Gone, Myself, NoProc}
 use Rattle.pt_shard.specs.ShardState.{ShardState, lives, state_in, shard_after, written}

@@ -6,7 +6,7 @@ use Rattle.pt_signal.specs.declared.pid.Pid.{Pid}
 use Rattle.pt_events.specs.Journal.{clock, IsLocal, posts, gots}
 use Rattle.pt_shard.specs.ShardState.{ShardState, past, lives, box}
 use Rattle.pt_shard.specs.Known.{issued_in}
-use Rattle.pt_shard.specs.Opening.{IsInRange}
+use Rattle.pt_signal.specs.Settings.{IsInRange}
 use Rattle.pt_shard.specs.Begun.{IsBegun}
 
 -- from pids of desk d to pids of desk e

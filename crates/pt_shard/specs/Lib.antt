@@ -3,7 +3,6 @@ pub mod Begun
 pub mod ShardState
 pub mod Reading
 pub mod Opening
-pub mod Settings
 pub mod Known
 pub mod Extends
 pub mod Fit

@@ -10,10 +10,10 @@ use Rattle.pt_events.specs.declared.event.Event.TheVariants.{Came, Left}
 use Rattle.pt_events.specs.declared.event.Stamped.{Stamped}
 use Rattle.pt_events.specs.History.{Past, Phase, Start, living, life, is_living, state_of, sent_by}
 use Rattle.pt_events.specs.Journal.{events, letter}
-use Rattle.pt_events.specs.declared.event.TheConstants.{MAX_STAMP}
-pub use Rattle.pt_carrier.specs.Ends.{one_more}
+use Rattle.pt_signal.specs.declared.config.TheConstants.{MAX_STAMP}
+pub use Rattle.pt_signal.specs.Boxes.{one_more}
 pub use Rattle.pt_shard.specs.Boxes.{put_out}
-use Rattle.pt_shard.specs.declared.config.Config.{Config}
+use Rattle.pt_signal.specs.declared.config.Config.{Config}
 use Rattle.pt_shard.specs.declared.stop.Stop.{Stop}
 use Rattle.pt_shard.specs.declared.stop.Stop.TheVariants.{Memory, Worn}
 

@@ -2,7 +2,7 @@
 use Rattle.std.specs.Prelude.{◌≡◌}
 use Rattle.pt_slots.specs.State.{issued}
 use Rattle.pt_slots.specs.Offers.{OffersTheFree}
-use Rattle.pt_shard.specs.declared.config.Config.{Config}
+use Rattle.pt_signal.specs.declared.config.Config.{Config}
 use Rattle.pt_shard.specs.ShardState.{ShardState}
 use Rattle.pt_shard.specs.LedgerState.{Book}
 use Rattle.pt_shard.specs.Processes.{ProcessesState, process_at, vacant_at}

@@ -4,7 +4,7 @@ ghost use Rattle.std.specs.Prelude.{◌≡◌, true, ◌<◌, ◌≤◌, max, le
 ghost use Rattle.std.specs.Prelude.{IfSome, IsSome, is_some};
 ghost use Rattle.pt_signal.specs.declared.signal.Signal.{Signal};
 ghost use Rattle.pt_events.specs.declared.event.Event.{Event};
-ghost use Rattle.pt_carrier.specs.declared.ends.TheConstants.{MAX_DESKS};
+ghost use Rattle.pt_signal.specs.declared.config.TheConstants.{MAX_DESKS, MAX_STAMP};
 ghost use Rattle.pt_signal.specs.Process.{answer_of_dead, handle};
 ghost use Rattle.pt_process.specs.Outcome.{Accepts};
 ghost use Rattle.std.specs.List.{find};
@@ -13,7 +13,6 @@ ghost use Rattle.pt_signal.specs.Values.{fits, same_ref};
 ghost use Rattle.pt_process.specs.Peers.{peers_held};
 ghost use Rattle.pt_shard.specs.Sound.{Every};
 ghost use Rattle.pt_shard.specs.Processes.{in_place};
-ghost use Rattle.pt_events.specs.declared.event.TheConstants.{MAX_STAMP};
 ghost use Rattle.pt_shard.specs.Acts.{Acts, Tells, PreparesBirth, TakesIn, GivesBack, PreparesEnding, IsReadyToEnd};
 ghost use Rattle.pt_shard.specs.Acts.{EndsBy, taking, linking, unlinking, giving_up, ref_after};
 

@@ -53,22 +53,32 @@
 //!
 //! # What is proved
 //!
-//! Each call's contract says the whole of its answer over the journal alone (`specs/Calls`, `specs/ShardState`), the
-//! journal is always a lawful one (`specs/Fit`), and each live process is what the journal gives.
+//! - **Calls.** Each call answers exactly as its relation says, and a refusal changes nothing. (`Calls`)
+//! - **The journal.** A call's journal begins with the one before, and is a lawful journal of its desk. (`Fit`)
+//! - **Processes.** Each live process is what the journal gives. `process` lends a process that lives here, and no
+//!   other.
+//! - **Letters.** What an event sends waits in the outbox. `handle` and `handle_in_place` are one receipt.
+//! - **Pids.** A pid once known stays known, to its desk and to the others. (`Known`)
+//! - **Full.** A birth fails with `Full` exactly if each slot has a live process or has used its top version.
+//!   (`IsNextBirth`)
+//! - **Resuming.** `restart` empties the journal over the state that it leaves. Each process is what it was.
 #![tactic(auto)]
 
 mod acts;
-mod config;
 mod fault;
 mod laws;
 mod ledger;
 mod letters;
+mod origin;
 mod processes;
 mod shard;
 mod stop;
 
-pub use config::{Config, MAX_DESKS, MAX_LANE, MAX_SLOTS, MAX_STAMP, OpenError, Setting};
 pub use fault::Fault;
-pub use laws::{defaults_stand, known_to_others, limits_stand};
+pub use laws::{known_to_others, leaves_each};
+pub use pt_signal::{
+    Config, MAX_DESKS, MAX_LANE, MAX_SLOTS, MAX_STAMP, OpenError, Setting, defaults_stand,
+    limits_stand,
+};
 pub use shard::Shard;
 pub use stop::Stop;

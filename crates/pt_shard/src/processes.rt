@@ -9,7 +9,7 @@ ghost use Rattle.pt_slots.specs.Taken.{taken_slots};
 ghost use Rattle.pt_events.specs.History.{linked};
 ghost use Rattle.std.specs.Borrow.{sem};
 ghost use Rattle.std.specs.Option.{option_copied_mut};
-ghost use Rattle.pt_shard.specs.declared.config.TheConstants.{MAX_SLOTS};
+ghost use Rattle.pt_signal.specs.declared.config.TheConstants.{MAX_SLOTS};
 ghost use Rattle.pt_shard.specs.Processes.{living_at, seen_process, in_place, process_at, vacant_at, Changes, Ends, HasRoomFor};
 
 use pt_process::{Estate, Process};

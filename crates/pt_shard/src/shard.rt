@@ -11,7 +11,8 @@ ghost use Rattle.pt_shard.specs.InTurn.{IsInTurn};
 ghost use Rattle.pt_events.specs.History.{is_unborn};
 ghost use Rattle.pt_events.specs.Leaving.{outcome};
 ghost use Rattle.pt_signal.specs.declared.pid.Pid.{Pid};
-ghost use Rattle.pt_shard.specs.Opening.{IsInRange, fresh_shard};
+ghost use Rattle.pt_signal.specs.Settings.{IsInRange};
+ghost use Rattle.pt_shard.specs.Opening.{fresh_shard};
 ghost use Rattle.pt_shard.specs.Living.{living_in, living_count, living_pids};
 ghost use Rattle.pt_shard.specs.Known.{knows};
 ghost use Rattle.pt_shard.specs.Reading.{read_of};
@@ -21,7 +22,7 @@ ghost use Rattle.pt_shard.specs.Outbox.{sent_on, sent_on_some, holding, count_pe
 ghost use Rattle.pt_shard.specs.Calls.{Calls, Monitors, Bears, BearsChild, link_event, unlink_event, first_match};
 ghost use Rattle.pt_shard.specs.Calls.{take_event, demonitor_event, held_by, new_ref, Refuses};
 ghost use Rattle.pt_shard.specs.Plain.{IsPlainSignal};
-ghost use Rattle.pt_events.specs.declared.event.TheConstants.{MAX_STAMP};
+ghost use Rattle.pt_signal.specs.declared.config.TheConstants.{MAX_STAMP};
 
 use crate::acts::{
     ask, bounce, close_monitor, drop_link, end_by, keep_link, open_monitor, prepare_birth,

@@ -11,6 +11,10 @@
 //! Where standard input is a terminal, and with `--interactive`, there is a prompt, and the shell goes on behind such a
 //! line. Else it ends there, with the status 1. The status is 2 where the words are refused, and 3 where memory or a
 //! file was wanting.
+//!
+//! # What is proved
+//!
+//! - **It ends.** The program ends and goes wrong nowhere.
 #![tactic(auto)]
 
 use pt_session::{Fault, run};

@@ -1,3 +1,5 @@
 pub mod Values
 pub mod Process
 pub mod Text
+pub mod Settings
+pub mod Boxes

@@ -41,6 +41,15 @@
 //! plain slab with a vector of versions, at `u64` values, filling and old keys cost the same at 1,000
 //! slots, and `get` a quarter more, which is the test of the `Option`. At 65,000 slots `get` and removals
 //! with insertions cost a tenth to a quarter more, for the wider entries. The README has the figures.
+//!
+//! # What is proved
+//!
+//! - **Keys are unique.** `insert` gives the version after the slot's latest one, so no key is issued twice.
+//! - **Old keys stay dead.** A key whose value was removed finds nothing, for ever.
+//! - **Retirement.** A slot whose top version was removed is never used again.
+//! - **Full.** `insert` fails with `Full` exactly if each slot is taken or retired, and hands the value back.
+//! - **The next key.** `next` returns the key that `insert` will give, and `None` exactly if each slot is taken or
+//!   retired. A slot just freed is next.
 #![tactic(auto)]
 
 ghost use Rattle.std.specs.Prelude.{◌≡◌, ℕ, ◌<◌, ◌≤◌, ◌^◌, Some, IsSome, OnSome, IsOkAnd, OnOk, OnErr, is_some};

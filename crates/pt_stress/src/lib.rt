@@ -5,6 +5,10 @@
 //! `gather` and `settle` promise. Here the judge of histories, which shares with a desk no more than the values of
 //! `pt_signal`, sees that the histories of such runs are lawful, and that what it finds on its way is what is left
 //! over. One more node goes on three times from what its crowd settled to: its rounds are one history.
+//!
+//! # What is proved
+//!
+//! - **Tests.** Each test ends and goes wrong nowhere; that it passes is seen by its run.
 #![tactic(auto)]
 
 #[cfg(test)]

@@ -1,7 +1,8 @@
 -- The supervisors of a node that is gathered.
 use Rattle.std.proofs.Common.{◌≡◌, ℕ, ◌<◌, true, List, [], ◌∷◌, length, get_or, sym, ap, subst, ◌∙◌, arith}
 use Rattle.std.proofs.lemmas.List.{get_or-map, get_or_default, length-map}
-use Rattle.pt_laws.specs.JournalLaws.{JournalsSay, MergeIsThere}
+use Rattle.pt_events.specs.Locality.{JournalsSay}
+use Rattle.pt_laws.specs.JournalLaws.{MergeIsThere}
 use Rattle.pt_shard.specs.ShardState.{ShardState}
 use Rattle.pt_desk.specs.DeskState.{DeskState}
 use Rattle.pt_node.specs.Desks.{all_shards}

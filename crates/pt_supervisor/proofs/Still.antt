@@ -11,7 +11,8 @@ use Rattle.pt_signal.specs.Process.{held}
 use Rattle.pt_signal.proofs.Same.{same_pid_is}
 use Rattle.pt_events.specs.History.{Phase, unborn, living, ended, is_living, state_of, life, alive}
 use Rattle.pt_events.specs.Journal.{events}
-use Rattle.pt_laws.specs.JournalLaws.{JournalsSay, MergeIsThere}
+use Rattle.pt_events.specs.Locality.{JournalsSay}
+use Rattle.pt_laws.specs.JournalLaws.{MergeIsThere}
 use Rattle.pt_shard.specs.ShardState.{ShardState, phase_of, state_in, lives}
 use Rattle.pt_gathered.specs.Gathered.{begins}
 use Rattle.pt_gathered.proofs.StartStates.{said_here}

@@ -1,8 +1,8 @@
 -- The codes that calls answer. 0 is done, and each of the others has one meaning in every call.
 use Rattle.std.specs.Prelude.{ℕ, Option, Some, None, Result, Ok, Err}
-use Rattle.pt_shard.specs.declared.config.OpenError.{OpenError}
-use Rattle.pt_shard.specs.declared.config.OpenError.TheVariants.{Bounds, Memory as NoMemory}
-use Rattle.pt_shard.specs.declared.config.Setting.TheVariants.{Desks, Slots, TopVersion, Lane, Start}
+use Rattle.pt_signal.specs.declared.config.OpenError.{OpenError}
+use Rattle.pt_signal.specs.declared.config.OpenError.TheVariants.{Bounds, Memory as NoMemory}
+use Rattle.pt_signal.specs.declared.config.Setting.TheVariants.{Desks, Slots, TopVersion, Lane, Start}
 use Rattle.pt_shard.specs.declared.fault.Fault.{Fault}
 use Rattle.pt_shard.specs.declared.fault.Fault.TheVariants.{Full, Memory, Worn, Gone, Myself, NoProc}
 use Rattle.pt_shard.specs.declared.stop.Stop.{Stop}

@@ -20,7 +20,7 @@ use Rattle.pt_events.specs.declared.event.Event.TheVariants.{Born, Said, Came, T
 use Rattle.pt_events.specs.declared.event.Stamped.{Stamped}
 use Rattle.pt_gathered.specs.declared.left_over.LeftOver.{LeftOver}
 use Rattle.pt_accounts.specs.declared.account.Account.{Account}
-use Rattle.pt_shard.specs.declared.config.Config.{Config}
+use Rattle.pt_signal.specs.declared.config.Config.{Config}
 use Rattle.pt_table.specs.declared.types.PtPid.{PtPid}
 use Rattle.pt_table.specs.declared.types.PtRef.{PtRef}
 use Rattle.pt_table.specs.declared.types.PtIds.{PtIds}

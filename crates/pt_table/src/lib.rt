@@ -3,6 +3,13 @@
 //!
 //! `pt_c` exports it. It is a library of its own so that the gate proves it once: a static library keeps no checked
 //! crate, so what `pt_c` holds is proved again where its archive is built.
+//!
+//! # What is proved
+//!
+//! - **Structs and codes.** Each value crosses to its struct and back, and each refusal to its code. (`Crossing`,
+//!   `Codes`)
+//! - **Wake-ups.** `Woken` says who is named next. By no event does any other process get an item or exit.
+//!   (`NobodyIsMissed`)
 #![tactic(auto)]
 
 pub mod codes;

@@ -12,6 +12,10 @@
 //!
 //! A crate with tests is proved twice, and each proof first reads all crates below it; so all proved tests are in this
 //! crate. No function that owns a node returns early: what is dropped at each return costs most.
+//!
+//! # What is proved
+//!
+//! - **Tests.** Each test ends and goes wrong nowhere; that it passes is seen by its run.
 #![tactic(auto)]
 
 #[cfg(test)]

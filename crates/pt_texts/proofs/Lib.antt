@@ -1,3 +1,4 @@
+-- The lemmas that more than one function of the crate uses.
 pub mod OneMore
 pub mod Pieces
 pub mod Decimals

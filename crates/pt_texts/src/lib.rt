@@ -1,4 +1,11 @@
 //! Values and events read back from their printed texts.
+//!
+//! # What is proved
+//!
+//! - **Reading back.** A value, an event or a line of a printed history is parsed from its printed text, and from no
+//!   other text. (`parse_pid` to `parse_left_over`)
+//! - **No two alike.** No two values of a type print alike. (`no_two_print_alike`)
+//! - **Columns.** A refusal gives the column that the readers reach. (`Readers`)
 #![tactic(auto)]
 
 mod events;

@@ -1,7 +1,7 @@
 -- A node of one desk on which two processes exchanged a message each.
 use Rattle.std.proofs.Common.{◌≡◌, List, [], length, Ok, ap, sym, ◌∙◌, arith}
 use Rattle.std.proofs.lemmas.List.{get_or-map}
-use Rattle.pt_shard.specs.declared.config.Config.{Config}
+use Rattle.pt_signal.specs.declared.config.Config.{Config}
 use Rattle.pt_gathered.specs.Gathered.{GatheredState}
 use Rattle.pt_desk.specs.DeskState.{DeskState}
 use Rattle.pt_node.specs.Opening.{AreFresh}

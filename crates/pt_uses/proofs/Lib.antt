@@ -1,3 +1,4 @@
+-- The lemmas that more than one function of the crate uses.
 pub mod Calling
 pub mod Doings
 pub mod Retained

@@ -13,6 +13,19 @@
 //!
 //! What a recipe does to a desk keeps it a desk of its node (`IsStill`), so that [`gather`](pt_node::gather) takes it;
 //! what else it promises is what the calls of the desk promise.
+//!
+//! # What is proved
+//!
+//! - **Games.** A live monster takes at most 64 hits in a tick, oldest first, each as its number says, and exits
+//!   without health. (`Game`)
+//! - **Texts.** A receiver gets the text under its message's number, and `drop_lost` drops exactly the texts to
+//!   processes of this desk that have exited. (`Texts`)
+//! - **Epochs.** What `epochs` puts into its archive is one legal history, with nothing on its way at its end.
+//!   (`PassAsOne`)
+//! - **Until quiet.** A work `UntilQuiet` is done exactly after so many turns in a row that did nothing.
+//!   (`ends_behind_quiet_turns`)
+//! - **The first example.** `two_processes` is a question and its answer on a node of one desk, and nothing else
+//!   happened.
 #![tactic(auto)]
 
 pub mod desks_on_threads;

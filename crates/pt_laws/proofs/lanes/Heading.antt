@@ -5,10 +5,11 @@ use Rattle.pt_signal.specs.declared.ids.Ref.{Ref}
 use Rattle.pt_signal.specs.declared.letter.Letter.{Letter}
 use Rattle.pt_events.specs.History.{Past, Start, life, arrived, is_unborn, at_start}
 use Rattle.pt_events.specs.Journal.{Journals, LanesAgree, IsLocal, events}
-use Rattle.pt_laws.specs.Load.{one_if}
+use Rattle.pt_events.specs.Counting.{one_if}
 use Rattle.pt_laws.specs.BirthsAndEnds.{births}
 use Rattle.pt_laws.specs.Acts.{ActsMayCome}
-use Rattle.pt_laws.specs.MonitorLaws.{demonitors_and_downs, IsMadeOnce, HasOldRefs}
+use Rattle.pt_events.specs.OldRefs.{HasOldRefs}
+use Rattle.pt_laws.specs.MonitorLaws.{demonitors_and_downs, IsMadeOnce}
 use Rattle.pt_laws.specs.Headline.{IsHeadline}
 use Rattle.pt_laws.proofs.living.Acts.{local_acts}
 use Rattle.pt_laws.proofs.living.AfterEnd.{nothing_after_end}

@@ -15,7 +15,8 @@ use Rattle.pt_events.specs.declared.event.Event.TheVariants.{Born, Came}
 use Rattle.pt_signal.specs.Values.{same_pid, same_ref, without_first}
 use Rattle.pt_signal.specs.Process.{ProcessState, Verdict, drops, queues, ends, verdict, obey, Handled, handle, held, holds_any, link_exit, down, enter, enter_at, cut, cut_at, leave_at, without_ids, keep, same_watch, Sent, sent, estate, bounce}
 use Rattle.pt_events.specs.History.{Past, Start, Phase, unborn, living, ended, life, after, is_unborn, is_between, flying, got_sends, end_sends, live_or_end, gets, change, touches, sent_by, IsLegal, is_birth}
-use Rattle.pt_laws.specs.Load.{weight, weights, size, total_of, one_if, times, IsStart, pids, load, desk_sizes}
+use Rattle.pt_events.specs.Counting.{one_if}
+use Rattle.pt_laws.specs.Load.{weight, weights, size, total_of, times, IsStart, pids, load, desk_sizes}
 use Rattle.pt_signal.proofs.Same.{same_pid_is, same_pid_refl}
 use Rattle.pt_events.proofs.Phases.{after_born, each_branch}
 

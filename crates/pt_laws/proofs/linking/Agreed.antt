@@ -10,7 +10,8 @@ use Rattle.pt_events.specs.declared.event.Stamped.{Stamped}
 use Rattle.pt_signal.specs.Values.{same_pid}
 use Rattle.pt_signal.specs.Process.{held}
 use Rattle.pt_events.specs.History.{Past, Start, Phase, unborn, living, ended, life, state_of, alive, is_living, is_unborn, made_link, IsLegal}
-use Rattle.pt_laws.specs.Load.{IsQuiet, one_if}
+use Rattle.pt_events.specs.Counting.{one_if}
+use Rattle.pt_laws.specs.Load.{IsQuiet}
 use Rattle.pt_laws.specs.Watch.{said_to}
 use Rattle.pt_laws.specs.Links.{is_link, holds_id, IsKnownSaid, IsBornHome, IsNewTie, IsBornFree, LinksAgree}
 use Rattle.pt_events.specs.Journal.{Journals, events, of_desk, IsOf, IsHome, IsKnown, IsLocal, IsMerge}
@@ -18,7 +19,7 @@ use Rattle.pt_laws.specs.Resumed.{AllNewTo, IsLeftBy}
 use Rattle.pt_signal.proofs.Same.{same_pid_is}
 use Rattle.pt_events.proofs.Local.{AllHome}
 use Rattle.pt_events.proofs.Homes.{life_home}
-use Rattle.pt_laws.proofs.Merged.{AllLocal, head_local, tail_local, all_home}
+use Rattle.pt_events.proofs.Telling.{AllLocal, head_local, tail_local, all_home}
 use Rattle.pt_laws.proofs.living.Resumed.{over_alive, over_unborn, over_living, over_flying, over_legal}
 use Rattle.pt_events.proofs.Phases.{was_unborn}
 use Rattle.pt_laws.proofs.linking.Takings.{has, empty_entry}

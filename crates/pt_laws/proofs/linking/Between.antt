@@ -16,8 +16,7 @@ use Rattle.pt_events.specs.declared.event.Event.TheVariants.{Born, Said, Came, T
 use Rattle.pt_signal.specs.Values.{same_pid, without_first}
 use Rattle.pt_signal.specs.Process.{ProcessState, fresh, Verdict, verdict, obey, link_exit, down, holds_any, held, handle, say, one_id, Sent, sent, estate, bounce}
 use Rattle.pt_events.specs.History.{Past, Phase, unborn, living, ended, life, change, touches, newborn, linked, while_living, gets, leaves, live_or_end, is_between, got_sends, left_sends, end_sends}
-use Rattle.pt_laws.specs.Load.{one_if}
-use Rattle.pt_laws.specs.Watch.{count}
+use Rattle.pt_events.specs.Counting.{one_if, count}
 use Rattle.pt_signal.proofs.Same.{same_pid_refl}
 use Rattle.pt_signal.proofs.Handling.{living_answer, handle_answer}
 use Rattle.pt_events.proofs.Phases.{each_branch}

@@ -12,8 +12,7 @@ use Rattle.pt_signal.specs.declared.signal.Signal.{Signal}
 use Rattle.pt_signal.specs.declared.signal.Signal.TheVariants.{Link, Unlink, LinkExit}
 use Rattle.pt_signal.specs.Values.{same_pid, same_ref, same_link}
 use Rattle.pt_signal.specs.Process.{ProcessState, Verdict, drops, queues, ends, verdict, obey, holds_any, has_id, id_list, ids_of, without_ids, held, link_exit, down, handle}
-use Rattle.pt_laws.specs.Load.{one_if}
-use Rattle.pt_laws.specs.Watch.{count}
+use Rattle.pt_events.specs.Counting.{one_if, count}
 use Rattle.pt_signal.proofs.Same.{same_link_is}
 use Rattle.pt_laws.proofs.linking.Entries.{Keyed, cut_ids, held-enter-other, held-cut-other, held-removed, held-removed-other}
 

@@ -13,7 +13,7 @@ use Rattle.pt_events.specs.declared.event.Event.TheVariants.{Born, Said, Came, T
 use Rattle.pt_signal.specs.Values.{same_pid, same_link, without_first}
 use Rattle.pt_signal.specs.Process.{ProcessState, fresh, held, handle, say, one_id, Sent, sent}
 use Rattle.pt_events.specs.History.{Past, Phase, unborn, living, ended, life, state, state_of, is_living, is_unborn, is_between, flying, got_sends, left_sends, end_sends, live_or_end, gets, leaves, linked, newborn, while_living, is_the, is_this, made_link, makes_link, MaySay, MayBear, IsLegal}
-use Rattle.pt_laws.specs.Load.{one_if}
+use Rattle.pt_events.specs.Counting.{one_if}
 use Rattle.pt_laws.specs.Watch.{said_to, says_to}
 use Rattle.pt_laws.specs.Links.{is_link, IsNewTie, IsBornFree}
 use Rattle.pt_signal.proofs.Same.{same_pid_is, same_pid_refl}

@@ -21,7 +21,7 @@ use Rattle.pt_laws.specs.Words.{link_ids, ids_with, are_two, link_enters, link_l
 use Rattle.pt_signal.proofs.Same.{same_pid_is}
 use Rattle.pt_events.proofs.Phases.{each_branch}
 use Rattle.pt_laws.proofs.order.Filters.{filter_all, filter_nothing}
-use Rattle.pt_laws.proofs.living.Fields.{end_keeps, obey_keeps, down_keeps}
+use Rattle.pt_events.proofs.Fields.{end_keeps, obey_keeps, down_keeps}
 use Rattle.pt_laws.proofs.linking.Entries.{Keyed, entered, cut_ids, held-enter, held-enter-other, held-cut, held-cut-other, held-removed, held-removed-other, Keyed-enter, Keyed-cut, Keyed-removed}
 
 -- one entry ----------------------------------------------------------------------------------------

@@ -5,8 +5,7 @@ use Rattle.pt_signal.specs.declared.ids.Ids.{Ids}
 use Rattle.pt_signal.specs.declared.ids.LinkId.{LinkId}
 use Rattle.pt_signal.specs.Values.{same_link}
 use Rattle.pt_signal.specs.Process.{one_id}
-use Rattle.pt_laws.specs.Load.{one_if}
-use Rattle.pt_laws.specs.Watch.{count}
+use Rattle.pt_events.specs.Counting.{one_if, count}
 use Rattle.pt_signal.proofs.Same.{same_link_is, same_link_refl}
 use Rattle.pt_laws.proofs.monitoring.Counts.{count-append, count_narrower}
 use Rattle.pt_laws.proofs.linking.Entries.{entered, cut_ids}

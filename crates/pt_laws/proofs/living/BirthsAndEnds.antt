@@ -15,7 +15,7 @@ use Rattle.pt_signal.specs.Process.{ProcessState, Verdict, drops, queues, ends, 
 use Rattle.pt_events.specs.History.{Past, Start, Phase, unborn, living, ended, life, after, is_the, is_unborn, is_ended, is_living, reason_of, newborn, while_living, live_or_end, gets, leaves, is_birth}
 use Rattle.pt_events.specs.Journal.{MayHere}
 use Rattle.pt_laws.specs.Acts.{ActsMayCome}
-use Rattle.pt_laws.specs.Load.{one_if}
+use Rattle.pt_events.specs.Counting.{one_if}
 use Rattle.std.specs.Map.{lookup}
 use Rattle.pt_signal.proofs.Same.{same_pid_is}
 use Rattle.pt_events.proofs.Phases.{after_ended}

@@ -11,16 +11,18 @@ use Rattle.pt_events.specs.declared.event.Stamped.{Stamped}
 use Rattle.pt_events.specs.History.{Past, Start, state, state_of, is_this, makes_link, makes_ref, made_link, made_ref}
 use Rattle.pt_events.specs.Journal.{Journals, IsLocal, IsMerge, IsNewAt, IsLinkAt, IsNext, clock, events, of_desk}
 use Rattle.pt_laws.specs.Load.{IsStart}
-use Rattle.pt_laws.specs.Watch.{count, is_monitor, said_times}
+use Rattle.pt_events.specs.Counting.{count}
+use Rattle.pt_laws.specs.Watch.{is_monitor, said_times}
 use Rattle.pt_laws.specs.Resumed.{start_after, IsNewTo, IsNewLink, AllNewTo, MadeUpTo}
-use Rattle.pt_laws.specs.MonitorLaws.{HasOldRefs}
+use Rattle.pt_events.specs.OldRefs.{HasOldRefs}
 use Rattle.pt_signal.proofs.Same.{same_link_is, same_ref_is}
 use Rattle.pt_laws.proofs.living.Acts.{local_acts}
 use Rattle.pt_laws.proofs.monitoring.Downs.{opens, count_law}
-use Rattle.pt_laws.proofs.monitoring.MadeOnce.{clock_above, made_once_local, said_under}
-use Rattle.pt_laws.proofs.Merged.{AllLocal, head_local, tail_local}
+use Rattle.pt_events.proofs.Orders.{clock_above}
+use Rattle.pt_laws.proofs.monitoring.MadeOnce.{made_once_local, said_under}
+use Rattle.pt_events.proofs.Telling.{AllLocal, head_local, tail_local}
 use Rattle.pt_laws.proofs.living.StartAfter.{opened}
-use Rattle.pt_laws.proofs.lanes.Telling.{says}
+use Rattle.pt_events.proofs.Telling.{says}
 
 -- the number of what an event makes is its stamp ----------------------------------------
 

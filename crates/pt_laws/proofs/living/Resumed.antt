@@ -14,7 +14,8 @@ use Rattle.pt_events.specs.declared.event.Event.TheVariants.{Born, Said, Came, T
 use Rattle.pt_signal.specs.Values.{same_pid, same_ref, fits}
 use Rattle.pt_signal.specs.Process.{ProcessState, fresh, held}
 use Rattle.pt_events.specs.History.{Past, Start, Phase, unborn, living, ended, phase_or_unborn, at_start, life, after, alive, state, state_of, is_living, is_unborn, is_ended, flying, sent_by, got_sends, left_sends, is_between, made_link, made_ref, makes_link, makes_ref, May, MaySay, MayBear, IsLegal}
-use Rattle.pt_laws.specs.Load.{one_if, times, IsStart, IsQuiet, pids}
+use Rattle.pt_events.specs.Counting.{one_if}
+use Rattle.pt_laws.specs.Load.{times, IsStart, IsQuiet, pids}
 use Rattle.pt_laws.specs.Resumed.{outcome, start_after, IsNewTo, IsNewLink, AllNewTo, IsLeftBy}
 use Rattle.pt_signal.proofs.Same.{same_pid_is}
 use Rattle.pt_events.proofs.Phases.{after_ended}

@@ -8,7 +8,8 @@ use Rattle.pt_signal.specs.Values.{same_pid}
 use Rattle.pt_signal.specs.Process.{ProcessState, fresh, same_watch}
 use Rattle.pt_events.specs.History.{Past, Start, Phase, unborn, living, ended, life, state, state_of, at_start, is_unborn, IsLegal}
 use Rattle.pt_laws.specs.Load.{IsStart, IsQuiet, times, pids}
-use Rattle.pt_laws.specs.Watch.{count, is_monitor, said_times}
+use Rattle.pt_events.specs.Counting.{count}
+use Rattle.pt_laws.specs.Watch.{is_monitor, said_times}
 use Rattle.pt_laws.specs.Resumed.{outcome, start_after, AllNewTo, IsLeftBy}
 use Rattle.pt_laws.specs.MonitorLaws.{IsMadeOnce}
 use Rattle.pt_laws.specs.Words.{HasOneEntryEach, KeepsEachOnce}

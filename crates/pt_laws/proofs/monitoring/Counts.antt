@@ -8,8 +8,7 @@ use Rattle.pt_signal.specs.declared.signal.Signal.{Signal}
 use Rattle.pt_signal.specs.Values.{same_ref, without_first}
 use Rattle.pt_signal.specs.Process.{Sent}
 use Rattle.pt_events.specs.History.{is_between}
-use Rattle.pt_laws.specs.Load.{one_if}
-use Rattle.pt_laws.specs.Watch.{count}
+use Rattle.pt_events.specs.Counting.{one_if, count}
 
 abbrev pub is_down : Ref → Signal → Bool
 is_down m (Signal.Down n r) = same_ref m n

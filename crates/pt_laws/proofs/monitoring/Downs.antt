@@ -13,11 +13,11 @@ use Rattle.pt_signal.specs.Values.{same_pid, same_ref}
 use Rattle.pt_signal.specs.Process.{ProcessState, verdict, obey, holds_any, held, link_exit, down, handle, say}
 use Rattle.pt_events.specs.History.{Past, Start, Phase, unborn, living, ended, life, at_start, state, state_of, while_living, gets, items_of, arrives, arrived_since, is_living, MaySay}
 use Rattle.pt_laws.specs.Acts.{ActsMayCome}
-use Rattle.pt_laws.specs.Load.{one_if}
-use Rattle.pt_laws.specs.Watch.{count, is_monitor, is_demonitor, is_down_item, said_times}
+use Rattle.pt_events.specs.Counting.{one_if, count}
+use Rattle.pt_laws.specs.Watch.{is_monitor, is_demonitor, is_down_item, said_times}
 use Rattle.pt_signal.proofs.Same.{same_ref_is, same_ref_refl, same_pid_is}
 use Rattle.pt_events.proofs.Phases.{each_branch}
-use Rattle.pt_laws.proofs.living.Fields.{end_keeps, while_keeps, leaves_keeps, born_keeps}
+use Rattle.pt_events.proofs.Fields.{end_keeps, while_keeps, leaves_keeps, born_keeps}
 use Rattle.pt_laws.proofs.monitoring.Counts.{count-append, count_removed, count_found, count_removed_other}
 
 -- entries of the reference among those watched

@@ -11,12 +11,12 @@ use Rattle.pt_signal.specs.declared.signal.Signal.TheVariants.{LinkExit, Monitor
 use Rattle.pt_signal.specs.Values.{same_pid, same_ref, without_first}
 use Rattle.pt_signal.specs.Process.{ProcessState, verdict, holds_any, held, down, handle, say, keep, same_watch}
 use Rattle.pt_events.specs.History.{Past, Start, MaySay}
-use Rattle.pt_laws.specs.Load.{one_if}
-use Rattle.pt_laws.specs.Watch.{count, is_monitor, is_demonitor, is_open, opens_to, keeps}
+use Rattle.pt_events.specs.Counting.{one_if, count}
+use Rattle.pt_laws.specs.Watch.{is_monitor, is_demonitor, is_open, opens_to, keeps}
 use Rattle.pt_signal.proofs.Same.{same_ref_is, same_pid_is}
 use Rattle.pt_laws.proofs.monitoring.Counts.{is_down, count-append, count-without, count_removed, count_missing, count_other, count_pass, count_narrower, count_entry_other, count_entry_less, count_entry_found}
 use Rattle.pt_laws.proofs.monitoring.Downs.{opens}
-use Rattle.pt_laws.proofs.living.Fields.{obey_keeps, link_exit_keeps, down_keeps}
+use Rattle.pt_events.proofs.Fields.{obey_keeps, link_exit_keeps, down_keeps}
 
 -- how often the watch is kept -------------------------------------------------------------------
 

@@ -10,7 +10,8 @@ use Rattle.pt_signal.specs.Process.{ProcessState, fresh}
 use Rattle.pt_events.specs.History.{Past, Start, Phase, unborn, living, ended, life, at_start, state, state_of, is_living, arrived_since, alive, IsLegal}
 use Rattle.pt_laws.specs.Load.{IsQuiet}
 use Rattle.pt_laws.specs.Resumed.{outcome, AllNewTo, IsLeftBy}
-use Rattle.pt_laws.specs.Watch.{count, is_monitor, is_demonitor, is_down_item, said_times, said_to, is_open, open_in, kept_in}
+use Rattle.pt_events.specs.Counting.{count}
+use Rattle.pt_laws.specs.Watch.{is_monitor, is_demonitor, is_down_item, said_times, said_to, is_open, open_in, kept_in}
 use Rattle.pt_laws.specs.MonitorLaws.{demonitors_and_downs, times_made, QuietMonitorOver}
 use Rattle.pt_laws.proofs.living.Acts.{legal_acts}
 use Rattle.pt_laws.proofs.living.Resumed.{over_legal, over_living, over_end}

@@ -12,16 +12,14 @@ use Rattle.pt_events.specs.declared.event.Event.TheVariants.{Said}
 use Rattle.pt_events.specs.declared.event.Stamped.{Stamped}
 use Rattle.pt_events.specs.History.{Start}
 use Rattle.pt_events.specs.Journal.{IsLocal, IsNewAt, clock, events}
-use Rattle.pt_laws.specs.Load.{one_if}
+use Rattle.pt_events.specs.Counting.{one_if}
 use Rattle.pt_laws.specs.Watch.{is_monitor, says, said_times}
-use Rattle.pt_laws.specs.MonitorLaws.{IsMadeOnce, HasOldRefs}
+use Rattle.pt_events.specs.OldRefs.{HasOldRefs}
+use Rattle.pt_laws.specs.MonitorLaws.{IsMadeOnce}
 use Rattle.pt_signal.proofs.Same.{same_ref_is}
+use Rattle.pt_events.proofs.Orders.{clock_above}
 use Rattle.pt_laws.proofs.living.Acts.{local_acts}
 use Rattle.pt_laws.proofs.monitoring.Monitors.{said_once}
-
-pub clock_above : (start : Start) (low top d : ℕ) (journal : List Stamped) → IsLocal start low top d journal → low ≤ clock low journal
-clock_above start low top d [] h = omega arith
-clock_above start low top d (s ∷ journal) h = let ih = clock_above start low top d journal h.1 in let l = h.0.later in omega arith
 
 module _ (w : Pid) (m : Ref) where
   -- an event that makes m has the number of m as its stamp

@@ -15,11 +15,11 @@ use Rattle.pt_signal.specs.Values.{same_pid, same_ref, without_first}
 use Rattle.pt_signal.specs.Process.{ProcessState, say, Sent, sent}
 use Rattle.pt_events.specs.History.{Past, Start, Phase, unborn, living, ended, life, state, state_of, is_living, is_between, flying, landed, got_sends, left_sends, linked, newborn, while_living, leaves, touches, made_ref, makes_ref, MaySay, IsLegal}
 use Rattle.pt_laws.specs.Acts.{ActsMayCome}
-use Rattle.pt_laws.specs.Load.{one_if}
-use Rattle.pt_laws.specs.Watch.{count, is_monitor, is_demonitor, says, said_times, says_to, said_to, keeps, opens_to, open_in, kept_in}
+use Rattle.pt_events.specs.Counting.{one_if, count}
+use Rattle.pt_laws.specs.Watch.{is_monitor, is_demonitor, says, said_times, says_to, said_to, keeps, opens_to, open_in, kept_in}
 use Rattle.pt_signal.proofs.Same.{same_pid_is, same_pid_refl, same_ref_is}
 use Rattle.pt_events.proofs.Phases.{each_branch}
-use Rattle.pt_laws.proofs.living.Fields.{linked_keeps, say_keeps}
+use Rattle.pt_events.proofs.Fields.{linked_keeps, say_keeps}
 use Rattle.pt_laws.proofs.monitoring.Counts.{carries, is_down, count-append, count-landed, count_less}
 use Rattle.pt_laws.proofs.monitoring.Downs.{opens, count_law}
 use Rattle.pt_laws.proofs.living.Acts.{legal_acts}

@@ -8,7 +8,8 @@ use Rattle.pt_signal.specs.Values.{same_pid, same_ref}
 use Rattle.pt_signal.specs.Process.{Sent}
 use Rattle.pt_events.specs.History.{Past, Phase, unborn, living, ended, life, is_living, state_of, flying, arrived_since, IsLegal}
 use Rattle.pt_laws.specs.Load.{IsQuiet}
-use Rattle.pt_laws.specs.Watch.{count, is_monitor, is_demonitor, is_down_item, said_times, said_to, is_open, opens_to, open_in, kept_in}
+use Rattle.pt_events.specs.Counting.{count}
+use Rattle.pt_laws.specs.Watch.{is_monitor, is_demonitor, is_down_item, said_times, said_to, is_open, opens_to, open_in, kept_in}
 use Rattle.pt_signal.proofs.Same.{same_pid_is, same_pid_refl}
 use Rattle.pt_laws.proofs.monitoring.Counts.{count_missing, count_narrower}
 use Rattle.pt_laws.proofs.monitoring.Downs.{opens, count_law}

@@ -12,14 +12,13 @@ use Rattle.pt_events.specs.declared.event.Event.TheVariants.{Born, Said, Came, T
 use Rattle.pt_signal.specs.Values.{same_pid, same_ref, without_first}
 use Rattle.pt_signal.specs.Process.{ProcessState, verdict, held, holds_any, handle, say, same_watch, keep}
 use Rattle.pt_events.specs.History.{Past, Start, Phase, unborn, living, ended, life, state, after, is_living, state_of, while_living, gets}
-use Rattle.pt_laws.specs.Load.{one_if}
-use Rattle.pt_laws.specs.Watch.{count}
+use Rattle.pt_events.specs.Counting.{one_if, count}
 use Rattle.pt_laws.specs.Since.{standing}
 use Rattle.pt_laws.specs.Words.{watch_enters, watch_leaves, KeepsEachOnce}
 use Rattle.pt_signal.proofs.Same.{same_pid_is, same_ref_is}
 use Rattle.pt_events.proofs.Phases.{each_branch}
 use Rattle.pt_laws.proofs.order.Filters.{filter_all, all_stay, one_passes}
-use Rattle.pt_laws.proofs.living.Fields.{end_keeps, while_keeps, leaves_keeps, obey_keeps, link_exit_keeps, down_keeps, born_keeps, say_keeps}
+use Rattle.pt_events.proofs.Fields.{end_keeps, while_keeps, leaves_keeps, obey_keeps, link_exit_keeps, down_keeps, born_keeps, say_keeps}
 use Rattle.pt_laws.proofs.monitoring.Counts.{count-append, count-some, count_less}
 
 abbrev Watches : Type 0

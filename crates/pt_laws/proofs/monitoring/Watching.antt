@@ -10,8 +10,8 @@ use Rattle.pt_signal.specs.declared.signal.Signal.TheVariants.{Link, LinkExit, M
 use Rattle.pt_signal.specs.Values.{same_pid, same_ref}
 use Rattle.pt_signal.specs.Process.{ProcessState, handle, same_watch, Sent, sent, estate, bounce}
 use Rattle.pt_events.specs.History.{Phase, unborn, living, ended, gets, live_or_end, got_sends, end_sends, state_of}
-use Rattle.pt_laws.specs.Load.{one_if}
-use Rattle.pt_laws.specs.Watch.{count, is_monitor, is_demonitor, is_open, keeps, opens_to, open_in, kept_in}
+use Rattle.pt_events.specs.Counting.{one_if, count}
+use Rattle.pt_laws.specs.Watch.{is_monitor, is_demonitor, is_open, keeps, opens_to, open_in, kept_in}
 use Rattle.pt_signal.proofs.Same.{same_pid_is, same_pid_refl}
 use Rattle.pt_signal.proofs.Handling.{living_answer, handle_answer}
 use Rattle.pt_laws.proofs.monitoring.Counts.{carries, is_down, count-append, count-map, count-none, count_agree}

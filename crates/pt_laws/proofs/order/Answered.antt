@@ -14,8 +14,9 @@ use Rattle.pt_events.specs.declared.event.Event.TheVariants.{Said, Came, Left}
 use Rattle.pt_signal.specs.Values.{same_pid, same_ref, without_first}
 use Rattle.pt_signal.specs.Process.{ProcessState, verdict, obey, holds_any, held, link_exit, down, handle, Sent, sent, estate, bounce}
 use Rattle.pt_events.specs.History.{Past, Start, Phase, unborn, living, ended, life, state, is_living, is_unborn, is_ended, is_between, alive, flying, got_sends, left_sends, end_sends, items_of, arrives, arrived_since, MaySay, IsLegal}
-use Rattle.pt_laws.specs.Load.{one_if, IsQuiet}
-use Rattle.pt_laws.specs.Watch.{count, said_to}
+use Rattle.pt_events.specs.Counting.{one_if, count}
+use Rattle.pt_laws.specs.Load.{IsQuiet}
+use Rattle.pt_laws.specs.Watch.{said_to}
 use Rattle.pt_laws.specs.Asking.{is_question, is_answer}
 use Rattle.pt_signal.proofs.Same.{same_pid_is}
 use Rattle.pt_signal.proofs.Handling.{living_answer, handle_answer}

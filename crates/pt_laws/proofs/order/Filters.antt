@@ -2,8 +2,7 @@
 use Rattle.std.proofs.Common.{◌≡◌, ◌+◌, ◌≤◌, Bool, true, false, not, List, [], ◌∷◌, ◌++◌, filter, refl, sym, ap, ◌∙◌, arith, append-nil}
 use Rattle.std.specs.Map.{remove_entry}
 use Rattle.pt_signal.specs.Values.{without_first}
-use Rattle.pt_laws.specs.Load.{one_if}
-use Rattle.pt_laws.specs.Watch.{count}
+use Rattle.pt_events.specs.Counting.{one_if, count}
 
 module _ {X : Type 0} where
   pub filter_all : (xs : List X) → filter (λ x. true) xs ≡ xs

@@ -15,7 +15,8 @@ use Rattle.pt_events.specs.declared.event.Event.TheVariants.{Took}
 use Rattle.pt_signal.specs.Values.{same_pid, fits, without_first}
 use Rattle.pt_events.specs.History.{Past, Start, state, state_of, at_start, arrived, arrived_since, arrives}
 use Rattle.pt_laws.specs.Acts.{ActsMayCome}
-use Rattle.pt_laws.specs.Taken.{taken, TakePlace, is_among_places, free_of, first_fit, take_places, AllDistinct, AllArrivals}
+use Rattle.pt_events.specs.Takes.{taken}
+use Rattle.pt_laws.specs.Taken.{TakePlace, is_among_places, free_of, first_fit, take_places, AllDistinct, AllArrivals}
 use Rattle.pt_signal.proofs.Same.{same_pid_is}
 use Rattle.pt_laws.proofs.living.Since.{element_cases}
 use Rattle.pt_laws.proofs.order.Taken.{untaken, take_first, arrivals, left_waiting, takes as takes_mark, waits, waiting-append, all_untaken, take_first_waiting}

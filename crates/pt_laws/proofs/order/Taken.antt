@@ -1,25 +1,22 @@
 -- What waits are the arrivals that were not taken: each arrival has a mark that says whether it was.
-use Rattle.std.proofs.Common.{◌≡◌, Bool, true, false, cond, not, ◌&&◌, List, [], ◌∷◌, ◌++◌, Option, Some, None, map, filter, refl, sym, ap, ◌∙◌, append-nil}
+use Rattle.std.proofs.Common.{◌≡◌, Bool, true, false, cond, not, ◌&&◌, List, [], ◌∷◌, ◌++◌, map, filter, refl, sym, ap, ◌∙◌, append-nil}
 use Rattle.std.proofs.lemmas.List.{map-append}
 use Rattle.std.proofs.lemmas.List.Elements.{filter-append}
 use Rattle.std.proofs.lemmas.Bool.{false≢true}
-use Rattle.std.specs.Map.{lookup}
 use Rattle.pt_signal.specs.declared.pid.Pid.{Pid}
-use Rattle.pt_signal.specs.declared.ids.Ref.{Ref}
 use Rattle.pt_signal.specs.declared.item.Pick.{Pick}
 use Rattle.pt_signal.specs.declared.item.Item.{Item}
-use Rattle.pt_signal.specs.declared.reason.Reason.{Reason}
 use Rattle.pt_signal.specs.declared.signal.Signal.{Signal}
-use Rattle.pt_signal.specs.declared.signal.Signal.TheVariants.{Message, LinkExit, AliveSay}
 use Rattle.pt_events.specs.declared.event.Event.{Event}
 use Rattle.pt_events.specs.declared.event.Event.TheVariants.{Born, Said, Came, Took, Flag, Left}
-use Rattle.pt_signal.specs.Values.{same_pid, same_ref, fits, without_first}
-use Rattle.pt_signal.specs.Process.{ProcessState, Verdict, drops, queues, ends, verdict, obey, holds_any, held, link_exit, down, handle, say}
+use Rattle.pt_signal.specs.Values.{same_pid, fits, without_first}
+use Rattle.pt_signal.specs.Process.{handle, say}
 use Rattle.pt_events.specs.History.{Past, Start, Phase, unborn, living, ended, life, is_living, state_of, at_start, arrives, items_of, while_living, gets, state}
 use Rattle.pt_laws.specs.Acts.{ActsMayCome}
 use Rattle.pt_signal.proofs.Same.{same_pid_is}
 use Rattle.pt_events.proofs.Phases.{each_branch}
-use Rattle.pt_laws.proofs.living.Fields.{end_keeps, while_keeps, leaves_keeps, born_keeps, say_keeps}
+use Rattle.pt_signal.proofs.Handling.{handle_queues}
+use Rattle.pt_events.proofs.Fields.{end_keeps, while_keeps, leaves_keeps, born_keeps, say_keeps}
 
 -- an arrival, and whether it was taken
 abbrev pub Arrival : Type 0
@@ -46,29 +43,6 @@ arrivals start (e ∷ past) p = takes p e (arrivals start past p) ++ map untaken
 -- those that were not taken
 abbrev pub left_waiting : List Arrival → List Item
 left_waiting rs = map (λ r. r.0) (filter (λ r. not r.1) rs)
-
--- a signal adds its items at the end, and nothing else changes the waiting ones ----------------
-
-obeyed : (v : Verdict) (s : ProcessState) → (obey v s).state.waiting ≡ s.waiting ++ (obey v s).items
-obeyed drops s = sym (append-nil s.waiting)
-obeyed (queues item) s = refl
-obeyed (ends r) s = sym (append-nil s.waiting)
-
-link_exited : (b : Bool) (me : Pid) (s : ProcessState) (from : Pid) (r : Reason) → (link_exit b me s from r).state.waiting ≡ s.waiting ++ (link_exit b me s from r).items
-link_exited false me s from r = sym (append-nil s.waiting)
-link_exited true me s from r = obeyed (verdict true s.traps (same_pid from me) from r) _
-
-downed : (t : Option Pid) (s : ProcessState) (from : Pid) (m : Ref) (r : Reason) → (down t s from m r).state.waiting ≡ s.waiting ++ (down t s from m r).items
-downed None s from m r = sym (append-nil s.waiting)
-downed (Some t) s from m r = refl
-
-pub handle_queues : (me : Pid) (s : ProcessState) (from : Pid) (x : Signal) → (handle me s from x).state.waiting ≡ s.waiting ++ (handle me s from x).items
-handle_queues me s from (Message b) = refl
-handle_queues me s from (Signal.Exit r) = obeyed (verdict false s.traps (same_pid from me) from r) s
-handle_queues me s from (LinkExit ids r) = link_exited (holds_any (held s.links from) ids) me s from r
-handle_queues me s from (Signal.Down m r) = downed (lookup (same_ref m) s.watching) s from m r
-handle_queues me s from (AliveSay m x) = refl
-handle_queues me s from _ = sym (append-nil s.waiting)
 
 -- positions -----------------------------------------------------------------------------------
 

@@ -1,3 +1,4 @@
+-- `file_of`: its contract.
 use Rattle.std.proofs.Common.{◌∙◌, Some, ap}
 use Rattle.std.specs.Prelude.{codes}
 use Rattle.clap.specs.Words.{found_of}

@@ -1,3 +1,4 @@
+-- `options_of`: its clause `words`.
 use Rattle.std.proofs.Common.{◌∙◌, ap, inl, inr}
 use Rattle.std.proofs.lemmas.Result.{err_from_is_err_and}
 use Rattle.clap.specs.Simple.{app_of}

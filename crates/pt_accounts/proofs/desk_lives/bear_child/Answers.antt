@@ -1,3 +1,4 @@
+-- `bear_child`: its clause `observes`.
 use Rattle.std.proofs.Common.{Result, Ok, Err}
 use Rattle.std.specs.Prelude.{OnOk}
 use Rattle.pt_accounts.proofs.Told.{observed_born}

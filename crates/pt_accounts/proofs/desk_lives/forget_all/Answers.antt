@@ -1,3 +1,4 @@
+-- `forget_all`: its loop over `slot`.
 use Rattle.std.proofs.Common.{◌≡◌, ◌∙◌, List, set, get_or, length-set, ap, subst, arith}
 use Rattle.pt_accounts.specs.LifeState.{LifeState}
 use Rattle.pt_accounts.proofs.Forgetting.{forget_step}

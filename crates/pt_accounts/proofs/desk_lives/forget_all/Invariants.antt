@@ -1,3 +1,4 @@
+-- `forget_all`: what holds in its loop over `slot`.
 use Rattle.std.proofs.Common.{◌≡◌, ◌++◌, map, take, drop, length, List}
 use Rattle.pt_accounts.specs.LifeState.{LifeState}
 use Rattle.pt_accounts.specs.DeskLives.{forgotten}

@@ -1,3 +1,4 @@
+-- `grow`: what holds in its loop over `alloc`.
 use Rattle.std.proofs.Common.{◌≡◌, ◌+◌, ◌-◌, ℕ, length}
 use Rattle.pt_accounts.specs.Table.{slot_at}
 use Rattle.pt_accounts.proofs.desk_lives.grow.Given as goal

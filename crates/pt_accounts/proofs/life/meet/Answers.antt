@@ -1,3 +1,4 @@
+-- `meet`: its clause `state`.
 use Rattle.std.proofs.Common.{rules}
 use Rattle.pt_accounts.proofs.life.meet.Goals as goal
 

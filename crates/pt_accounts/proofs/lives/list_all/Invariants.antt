@@ -1,3 +1,4 @@
+-- `list_all`: what holds in its loop over `desk`.
 use Rattle.std.proofs.Common.{◌≡◌, ◌++◌, take}
 use Rattle.pt_accounts.specs.LivesState.{all_pids}
 use Rattle.pt_accounts.proofs.lives.list_all.Given as goal

@@ -1,3 +1,4 @@
+-- `add_reasons`: its loop over `place`.
 use Rattle.std.proofs.Common.{◌∷◌, [], ◌≤◌, Option, Some, None, ◌∙◌, ◌++◌, take, ap, sym, arith, append_assoc, length, option_to_list}
 use Rattle.std.proofs.lemmas.List.{take_more, length-append}
 use Rattle.pt_signal.specs.declared.reason.Reason.{Reason}

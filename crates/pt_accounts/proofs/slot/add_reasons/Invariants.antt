@@ -1,3 +1,4 @@
+-- `add_reasons`: what holds in its loop over `place`.
 use Rattle.std.proofs.Common.{◌≡◌, ◌+◌, ◌≤◌, ◌++◌, take, vec_len, vec_capacity}
 use Rattle.pt_accounts.specs.SlotState.{reasons_of}
 use Rattle.pt_accounts.proofs.slot.add_reasons.Given as goal

@@ -1,3 +1,4 @@
+-- `objection`: its clause `objects`.
 use Rattle.std.proofs.Common.{[], subst}
 use Rattle.pt_events.specs.Journal.{events}
 use Rattle.pt_judge.specs.Judge.{IsJudged}

@@ -1,3 +1,4 @@
+-- `hear_line`: its contract.
 use Rattle.std.proofs.Common.{sym, ◌∙◌}
 use Rattle.pt_auditor.proofs.Read.{heard_event, heard_letter}
 use Rattle.pt_auditor.proofs.line.hear_line.Goals as goal

@@ -1,3 +1,4 @@
+-- `pt_settle`: its contract.
 use Rattle.std.proofs.Common.{◌≡◌, Some, sym, ap, ◌∙◌}
 use Rattle.std.specs.Option.{option_map}
 use Rattle.pt_table.specs.Answers.{full, value_behind}

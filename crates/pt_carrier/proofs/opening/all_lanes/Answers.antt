@@ -1,3 +1,4 @@
+-- `all_lanes`: its loop over `d`.
 use Rattle.std.proofs.Common.{arith}
 use Rattle.std.proofs.lemmas.List.{map_push, length-map}
 use Rattle.pt_carrier.specs.Node.{lists}

@@ -1,3 +1,4 @@
+-- `all_lanes`: what holds in its loop over `d`.
 use Rattle.pt_carrier.specs.Node.{lists}
 use Rattle.pt_carrier.specs.Opening.{AreLanes}
 use Rattle.pt_carrier.proofs.opening.all_lanes.Given as goal

@@ -1,3 +1,4 @@
+-- `empty_columns`: what holds in its loop over `e`.
 use Rattle.std.proofs.Common.{◌≡◌, ℕ, [], slice_index_or, vec_len}
 use Rattle.pt_carrier.specs.Node.{lists}
 use Rattle.pt_carrier.proofs.opening.empty_columns.Given as goal

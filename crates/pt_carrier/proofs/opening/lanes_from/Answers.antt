@@ -1,8 +1,10 @@
+-- `lanes_from`: its loop over `e`.
 use Rattle.std.proofs.Common.{◌≡◌, ◌<◌, [], ◌∷◌, ◌++◌, length, get_or, set, arith, below_more, ap, ◌∙◌}
 use Rattle.std.proofs.lemmas.List.{get_or_append_left, get_or_push}
 use Rattle.pt_carrier.specs.Lanes.{Sending, new_sending, new_receiving}
 use Rattle.pt_carrier.specs.Node.{lists}
-use Rattle.pt_carrier.proofs.Lists.{each_push, get_or-map_set_same, get_or-map_set_other, lists_read}
+use Rattle.pt_signal.proofs.Lists.{get_or-map_set_same, get_or-map_set_other}
+use Rattle.pt_carrier.proofs.Lists.{each_push, lists_read}
 use Rattle.pt_carrier.proofs.opening.lanes_from.Goals as goal
 
 pub loop-e-preserved : goal.loop-e-preserved

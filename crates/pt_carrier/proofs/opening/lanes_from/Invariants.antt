@@ -1,3 +1,4 @@
+-- `lanes_from`: what holds in its loop over `e`.
 use Rattle.std.proofs.Common.{◌≡◌, ℕ, ◌<◌, ◌≤◌, [], ◌∷◌, ◌++◌, slice_index_or, vec_len}
 use Rattle.pt_carrier.specs.Lanes.{Sending, new_sending, new_receiving}
 use Rattle.pt_carrier.specs.Node.{lists}

@@ -1,7 +1,9 @@
+-- `pair_up`: its clauses `node`, `count` and `new`, and its loop over `d`, and what its call of `new` asks.
 use Rattle.std.proofs.Common.{◌≡◌, ◌<◌, [], length, get_or, arith, ap, ◌∙◌}
 use Rattle.pt_carrier.specs.Ends.{OutEnds, InEnds, out_ends, in_ends}
 use Rattle.pt_carrier.specs.Node.{lists}
-use Rattle.pt_carrier.proofs.Lists.{lists_read, each_push, get_or-map_set_other}
+use Rattle.pt_signal.proofs.Lists.{get_or-map_set_other}
+use Rattle.pt_carrier.proofs.Lists.{lists_read, each_push}
 use Rattle.pt_carrier.proofs.Making.{outs_made, ins_made, IsNode-made, IsNew-made}
 use Rattle.pt_carrier.proofs.opening.pair_up.Goals as goal
 

@@ -1,3 +1,4 @@
+-- `pair_up`: what holds in its loop over `d`.
 use Rattle.std.proofs.Common.{◌≡◌, ℕ, ◌<◌, ◌≤◌, [], slice_index_or, vec_len, vec_capacity}
 use Rattle.pt_carrier.specs.Ends.{OutEnds, InEnds, out_ends, in_ends}
 use Rattle.pt_carrier.specs.Node.{lists}

@@ -1,10 +1,11 @@
+-- `empty_all`: its clause `room`, and its loop over `outs`, and what its call of `empty_into` asks.
 use Rattle.std.proofs.Common.{◌≡◌, ◌≢◌, ⊎_elim, ◌+◌, ◌*◌, ◌<◌, [], ◌∷◌, ◌++◌, length, take, get_or, arith, ap, sym, refl, ◌∙◌, vec_len}
 use Rattle.std.proofs.lemmas.List.{get_or_push, get_or-take, take-take, take_at, length_push}
 use Rattle.std.proofs.lemmas.Bool.{cases_eq}
 use Rattle.pt_carrier.specs.Ends.{OutEnds, InEnds}
 use Rattle.pt_carrier.specs.Node.{places, entry}
 use Rattle.pt_carrier.specs.Reunion.{all_known}
-use Rattle.pt_carrier.proofs.Lists.{get_or-map_read}
+use Rattle.pt_signal.proofs.Lists.{get_or-map_read}
 use Rattle.pt_carrier.proofs.Places.{in_lanes, in_number}
 use Rattle.pt_carrier.proofs.Rooms.{HasRoom-same, room_list}
 use Rattle.pt_carrier.proofs.reunion.empty_all.Goals as goal

@@ -1,3 +1,4 @@
+-- `empty_all`: what holds in its loop over `outs`.
 use Rattle.std.proofs.Common.{◌≡◌, ℕ, ◌+◌, ◌*◌, ◌<◌, ◌≤◌, [], take, vec_len, slice_index_or}
 use Rattle.pt_carrier.specs.Node.{lists, entry}
 use Rattle.pt_carrier.specs.Reunion.{room_at, all_known}

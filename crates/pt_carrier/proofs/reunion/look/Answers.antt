@@ -1,3 +1,4 @@
+-- `look`: its clause `node`, and its loop over `e`, and what its call of `meet_at` asks.
 use Rattle.std.proofs.Common.{arith, sym, subst, ◌∙◌, below_more, inl, inr}
 use Rattle.pt_carrier.specs.Node.{IsNode}
 use Rattle.pt_carrier.specs.Reunion.{WholeAt}

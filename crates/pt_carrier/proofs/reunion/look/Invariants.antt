@@ -1,3 +1,4 @@
+-- `look`: what holds in its loop over `d` and `e`.
 use Rattle.std.proofs.Common.{◌≡◌, ℕ, ◌<◌, map}
 use Rattle.pt_carrier.specs.Node.{kept}
 use Rattle.pt_carrier.specs.Reunion.{WholeAt}

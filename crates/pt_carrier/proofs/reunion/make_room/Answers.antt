@@ -1,8 +1,9 @@
+-- `make_room`: its loop over `e` and `d`, and what its call of `known` asks.
 use Rattle.std.proofs.Common.{◌≡◌, ◌+◌, ◌*◌, [], ◌∷◌, ◌++◌, length, get_or, arith, ap, below_more}
 use Rattle.pt_carrier.specs.Ends.{OutEnds, InEnds}
 use Rattle.pt_carrier.specs.Node.{places, entry}
 use Rattle.pt_carrier.specs.Reunion.{VectorHasRoom, all_known}
-use Rattle.pt_carrier.proofs.Lists.{get_or-map_read}
+use Rattle.pt_signal.proofs.Lists.{get_or-map_read}
 use Rattle.pt_carrier.proofs.Places.{in_lanes}
 use Rattle.pt_carrier.proofs.Rooms.{HasRoom-before, HasRoom-push, next_row}
 use Rattle.pt_carrier.proofs.reunion.make_room.Goals as goal

@@ -1,3 +1,4 @@
+-- `make_room`: what holds in its loop over `d` and `e`.
 use Rattle.std.proofs.Common.{◌≡◌, ℕ, ◌+◌, ◌*◌, ◌<◌, length, vec_len}
 use Rattle.pt_carrier.specs.Node.{entry}
 use Rattle.pt_carrier.specs.Reunion.{VectorHasRoom, all_known}

@@ -1,3 +1,4 @@
+-- `meet_at`: its contract, and what its call of `meet` asks.
 use Rattle.std.proofs.Common.{◌≡◌, ◌≢◌, ◌<◌, get_or, ◌++◌, arith, ap, sym, ◌∙◌, subst}
 use Rattle.std.proofs.lemmas.List.{get_or-set_same, get_or-set_other, set-set}
 use Rattle.pt_carrier.specs.Ends.{OutEnds, InEnds}

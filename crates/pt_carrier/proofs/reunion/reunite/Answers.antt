@@ -1,3 +1,4 @@
+-- `reunite`: its clauses `node` and `ok`, and what its calls of `make_room` and `empty_all` ask.
 use Rattle.std.proofs.Common.{◌≡◌, ◌+◌, ◌*◌, [], ◌++◌, length, map, get_or, arith, ap, sym, subst, ◌∙◌}
 use Rattle.std.proofs.lemmas.List.{length-map}
 use Rattle.pt_carrier.specs.Node.{places, kept, IsNode, lists, entry}

@@ -1,3 +1,4 @@
+-- `name_of`: its contract.
 use Rattle.pt_chart.proofs.Calling.{named_at, named_nowhere}
 use Rattle.pt_chart.proofs.called.name_of.Goals as goal
 

@@ -1,3 +1,4 @@
+-- `names_of`: its loop over `column`.
 use Rattle.std.proofs.Common.{[], ◌∷◌, ◌++◌, map, ap, ◌∙◌, List, ℕ, arith}
 use Rattle.std.proofs.lemmas.List.{map-append}
 use Rattle.pt_chart.specs.declared.layout.Column.{Column}

@@ -1,3 +1,4 @@
+-- `names_of`: what holds in its loop over `column`.
 use Rattle.std.proofs.Common.{◌≡◌, map, take}
 use Rattle.pt_chart.specs.Drawing.{called_given, column_names}
 use Rattle.pt_chart.proofs.called.names_of.Given as goal

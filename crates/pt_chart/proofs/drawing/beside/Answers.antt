@@ -1,3 +1,4 @@
+-- `beside`: its loop over `stamped`.
 use Rattle.std.proofs.Common.{None, ap, ◌∙◌, arith}
 use Rattle.std.specs.Prelude.{max}
 use Rattle.pt_events.specs.declared.event.Stamped.{Stamped}

@@ -1,3 +1,4 @@
+-- `beside`: what holds in its loop over `stamped`.
 use Rattle.std.proofs.Common.{◌≡◌, take}
 use Rattle.pt_chart.specs.Drawing.{longest_beside}
 use Rattle.pt_chart.proofs.drawing.beside.Given as goal

@@ -1,3 +1,4 @@
+-- `chart`: its contract.
 use Rattle.std.proofs.Common.{map}
 use Rattle.std.specs.String.{string_bytes}
 use Rattle.pt_chart.specs.Drawing.{called_given}

@@ -1,3 +1,4 @@
+-- `count_of`: its loop over `row`.
 use Rattle.std.proofs.Common.{ap, ◌∙◌, arith}
 use Rattle.std.specs.Prelude.{max}
 use Rattle.pt_chart.proofs.Rows.{count_of_more}

@@ -1,3 +1,4 @@
+-- `count_of`: what holds in its loop over `row`.
 use Rattle.std.proofs.Common.{◌≡◌, take}
 use Rattle.pt_chart.specs.Rows.{count_of}
 use Rattle.pt_chart.proofs.drawing.count_of.Given as goal

@@ -1,3 +1,4 @@
+-- `drawing_of`: its contract.
 use Rattle.std.proofs.Common.{◌++◌, map, ap, ◌∙◌}
 use Rattle.pt_chart.specs.Drawing.{drawing_text, called_given, column_names, page_of}
 use Rattle.pt_chart.proofs.drawing.drawing_of.Goals as goal

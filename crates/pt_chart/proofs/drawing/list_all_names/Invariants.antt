@@ -1,3 +1,4 @@
+-- `list_all_names`: what holds in its loop over `place`.
 use Rattle.std.proofs.Common.{◌≡◌, ◌++◌, take}
 use Rattle.pt_chart.specs.Drawing.{each_numbered, name}
 use Rattle.pt_chart.proofs.drawing.list_all_names.Given as goal

@@ -1,3 +1,4 @@
+-- `list_bearings`: its loop over `at`.
 use Rattle.std.proofs.Common.{arith}
 use Rattle.pt_chart.specs.Drawing.{bears}
 use Rattle.pt_chart.proofs.Numbering.{one_more_event}

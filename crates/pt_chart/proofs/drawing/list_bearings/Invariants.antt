@@ -1,3 +1,4 @@
+-- `list_bearings`: what holds in its loop over `at`.
 use Rattle.std.proofs.Common.{◌≡◌, ◌++◌, take}
 use Rattle.pt_chart.specs.Drawing.{each_numbered, bears}
 use Rattle.pt_chart.proofs.drawing.list_bearings.Given as goal

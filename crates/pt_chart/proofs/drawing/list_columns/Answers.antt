@@ -1,3 +1,4 @@
+-- `list_columns`: its loop over `place`.
 use Rattle.std.proofs.Common.{rules, arith}
 use Rattle.pt_chart.proofs.Numbering.{one_more}
 use Rattle.pt_chart.specs.Drawing.{column}

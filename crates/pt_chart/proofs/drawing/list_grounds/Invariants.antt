@@ -1,3 +1,4 @@
+-- `list_grounds`: what holds in its loop over `place`.
 use Rattle.std.proofs.Common.{◌≡◌, ◌++◌, take}
 use Rattle.pt_chart.specs.Drawing.{each_numbered, ground}
 use Rattle.pt_chart.proofs.drawing.list_grounds.Given as goal

@@ -1,3 +1,4 @@
+-- `list_letters`: what holds in its loop over `place`.
 use Rattle.std.proofs.Common.{◌≡◌, ◌++◌, take}
 use Rattle.pt_chart.specs.Drawing.{each_numbered, letters}
 use Rattle.pt_chart.proofs.drawing.list_letters.Given as goal

@@ -1,3 +1,4 @@
+-- `list_letters_from`: its loop over `arrow`.
 use Rattle.std.proofs.Common.{None, rules, arith}
 use Rattle.std.specs.Prelude.{pos}
 use Rattle.pt_signal.specs.declared.signal.Signal.TheVariants.{Message}

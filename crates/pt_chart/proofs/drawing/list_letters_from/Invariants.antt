@@ -1,3 +1,4 @@
+-- `list_letters_from`: what holds in its loop over `arrow`.
 use Rattle.std.proofs.Common.{◌≡◌, ◌++◌, map, take}
 use Rattle.pt_chart.specs.declared.part.Part.TheVariants.{Letter}
 use Rattle.pt_chart.specs.Rows.{in_rows}

@@ -1,3 +1,4 @@
+-- `list_lines`: its loop over `at`.
 use Rattle.std.proofs.Common.{arith}
 use Rattle.pt_chart.specs.Drawing.{line_parts}
 use Rattle.pt_chart.proofs.Numbering.{nothing, one_more_event}

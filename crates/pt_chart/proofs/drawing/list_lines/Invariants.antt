@@ -1,3 +1,4 @@
+-- `list_lines`: what holds in its loop over `at`.
 use Rattle.std.proofs.Common.{◌≡◌, ◌++◌, take}
 use Rattle.pt_chart.specs.Drawing.{each_numbered, line_parts}
 use Rattle.pt_chart.proofs.drawing.list_lines.Given as goal

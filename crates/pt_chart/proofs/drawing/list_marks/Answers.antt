@@ -1,3 +1,4 @@
+-- `list_marks`: its loop over `at`.
 use Rattle.std.proofs.Common.{arith}
 use Rattle.pt_chart.specs.Drawing.{mark}
 use Rattle.pt_chart.proofs.Numbering.{one_more_event}

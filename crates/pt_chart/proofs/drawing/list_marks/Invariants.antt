@@ -1,3 +1,4 @@
+-- `list_marks`: what holds in its loop over `at`.
 use Rattle.std.proofs.Common.{◌≡◌, ◌++◌, take}
 use Rattle.pt_chart.specs.Drawing.{each_numbered, mark}
 use Rattle.pt_chart.proofs.drawing.list_marks.Given as goal

@@ -1,3 +1,4 @@
+-- `write_alive`: its contract.
 use Rattle.std.proofs.Common.{append_assoc}
 use Rattle.pt_chart.specs.Text.{alive_text}
 use Rattle.pt_chart.proofs.Writing.{reads_as}

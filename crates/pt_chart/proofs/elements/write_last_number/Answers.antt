@@ -1,3 +1,4 @@
+-- `write_last_number`: its contract.
 use Rattle.std.proofs.Common.{append_assoc}
 use Rattle.pt_chart.specs.Text.{last_number_text}
 use Rattle.pt_chart.proofs.Writing.{reads_as}

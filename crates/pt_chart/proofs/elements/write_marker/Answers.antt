@@ -1,3 +1,4 @@
+-- `write_marker`: its contract.
 use Rattle.std.proofs.Common.{append_assoc}
 use Rattle.pt_chart.specs.Text.{marker_text}
 use Rattle.pt_chart.proofs.Writing.{reads_as}

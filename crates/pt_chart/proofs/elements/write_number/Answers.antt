@@ -1,3 +1,4 @@
+-- `write_number`: its contract.
 use Rattle.std.proofs.Common.{append_assoc}
 use Rattle.pt_chart.specs.Text.{row_number_text}
 use Rattle.pt_chart.proofs.Writing.{reads_as}

@@ -1,3 +1,4 @@
+-- `write_shape`: its contract.
 use Rattle.std.proofs.Common.{append_assoc}
 use Rattle.pt_chart.specs.Text.{shape_text}
 use Rattle.pt_chart.proofs.Writing.{reads_as}

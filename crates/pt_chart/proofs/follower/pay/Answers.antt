@@ -1,3 +1,4 @@
+-- `pay`: its loop over `i`.
 use Rattle.std.proofs.Common.{rules}
 use Rattle.pt_signal.specs.Process.{sent}
 use Rattle.pt_chart.proofs.Rows.{paid}

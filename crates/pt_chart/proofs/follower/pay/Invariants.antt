@@ -1,3 +1,4 @@
+-- `pay`: what holds in its loop over `i`.
 use Rattle.std.proofs.Common.{◌≡◌, ◌++◌, take, map}
 use Rattle.pt_chart.specs.Chart.{sent_at}
 use Rattle.pt_chart.proofs.follower.pay.Given as goal

@@ -1,3 +1,4 @@
+-- `take_in`: its clause `reply`.
 use Rattle.pt_chart.proofs.Answering.{back_is}
 use Rattle.pt_chart.proofs.follower.take_in.Goals as goal
 

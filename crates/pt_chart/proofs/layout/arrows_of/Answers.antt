@@ -1,3 +1,4 @@
+-- `arrows_of`: its loop over `k`.
 use Rattle.std.proofs.Common.{None, ap, ◌∙◌, rules, arith, take, get_or}
 use Rattle.std.specs.Prelude.{pos, slice_get}
 use Rattle.pt_signal.specs.declared.signal.Signal.TheVariants.{Message}

@@ -1,3 +1,4 @@
+-- `arrows_of`: what holds in its loop over `k`.
 use Rattle.std.proofs.Common.{◌≡◌, ◌≤◌, [], take, length, vec_len}
 use Rattle.std.specs.Vec.{vec_capacity}
 use Rattle.pt_chart.specs.Chart.{arrows}

@@ -1,3 +1,4 @@
+-- `column_of`: its clause `column`.
 use Rattle.std.proofs.Common.{[], ap, ◌∙◌}
 use Rattle.std.specs.Prelude.{◌++◌}
 use Rattle.pt_chart.specs.Chart.{past_of, everyone, arrows, sent_of}

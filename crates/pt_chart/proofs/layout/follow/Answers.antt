@@ -1,3 +1,4 @@
+-- `follow`: its clauses `sent` and `ending`, and its loop over `at`.
 use Rattle.std.proofs.Common.{None, arith}
 use Rattle.pt_events.specs.declared.event.Stamped.{Stamped}
 use Rattle.pt_events.specs.declared.event.Event.TheVariants.{Born}

@@ -1,3 +1,4 @@
+-- `follow`: what holds in its loop over `at`.
 use Rattle.std.proofs.Common.{◌≡◌, take, length}
 use Rattle.pt_chart.specs.Chart.{past_of, MonitorsAnew}
 use Rattle.pt_chart.proofs.Tracing.{Traces}

@@ -1,3 +1,4 @@
+-- `join`: its contract.
 use Rattle.std.proofs.Common.{rules}
 use Rattle.pt_chart.proofs.layout.join.Goals as goal
 

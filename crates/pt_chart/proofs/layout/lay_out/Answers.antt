@@ -1,3 +1,4 @@
+-- `lay_out`: its clauses `layout` and `legal`, and its loop over `place`.
 use Rattle.std.proofs.Common.{◌∙◌, sym, subst, rules, arith}
 use Rattle.std.specs.Prelude.{All}
 use Rattle.std.proofs.lemmas.List.{take_all}

@@ -1,3 +1,4 @@
+-- `lay_out`: what holds in its loop over `place`.
 use Rattle.std.proofs.Common.{◌≡◌, ◌≤◌, take, map, length, vec_len}
 use Rattle.std.specs.Prelude.{All}
 use Rattle.std.specs.Vec.{vec_capacity}

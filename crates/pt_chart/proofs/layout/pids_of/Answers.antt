@@ -1,3 +1,4 @@
+-- `pids_of`: its loop over `stamped`.
 use Rattle.std.proofs.Common.{None, ap, sym, ◌∙◌, get_or, arith}
 use Rattle.pt_events.specs.declared.event.Stamped.{Stamped}
 use Rattle.pt_events.specs.declared.event.Event.TheVariants.{Born}

@@ -1,3 +1,4 @@
+-- `pids_of`: what holds in its loop over `stamped`.
 use Rattle.std.proofs.Common.{◌≡◌, take}
 use Rattle.pt_chart.specs.Chart.{everyone}
 use Rattle.pt_chart.proofs.layout.pids_of.Given as goal

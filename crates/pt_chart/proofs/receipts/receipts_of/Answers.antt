@@ -1,3 +1,4 @@
+-- `receipts_of`: its contract, and its loop over `at`.
 use Rattle.std.proofs.Common.{None, arith}
 use Rattle.pt_events.specs.declared.event.Stamped.{Stamped}
 use Rattle.pt_events.specs.declared.event.Event.TheVariants.{Born}

@@ -1,3 +1,4 @@
+-- `receipts_of`: what holds in its loop over `at`.
 use Rattle.pt_chart.proofs.Arrivals.{Queues}
 use Rattle.pt_chart.proofs.receipts.receipts_of.Given as goal
 

@@ -1,3 +1,4 @@
+-- `note_receipts`: what holds in its loop over `column`.
 use Rattle.std.proofs.Common.{take}
 use Rattle.pt_chart.specs.Rows.{follows_sending}
 use Rattle.pt_chart.specs.Standing.{Notes}

@@ -1,3 +1,4 @@
+-- `note_receipts_from`: what holds in its loop over `arrow`.
 use Rattle.std.proofs.Common.{take}
 use Rattle.std.specs.List.{list_any}
 use Rattle.pt_chart.specs.Rows.{comes_next}

@@ -1,3 +1,4 @@
+-- `noted`: its clauses `noted` and `each`.
 use Rattle.std.proofs.Common.{◌∙◌, ap, length, get_or, false}
 use Rattle.pt_chart.specs.Rows.{follows_sending}
 use Rattle.pt_chart.proofs.Rowing.{notes_told, written}

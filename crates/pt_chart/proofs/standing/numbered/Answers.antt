@@ -1,3 +1,4 @@
+-- `numbered`: its contract, and its loop over `at`.
 use Rattle.std.proofs.Common.{arith}
 use Rattle.pt_chart.proofs.Rowing.{numbers_next, numbered}
 use Rattle.pt_chart.proofs.standing.numbered.Goals as goal

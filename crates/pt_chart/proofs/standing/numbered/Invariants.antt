@@ -1,3 +1,4 @@
+-- `numbered`: what holds in its loop over `at`.
 use Rattle.pt_chart.proofs.Rowing.{Numbers}
 use Rattle.pt_chart.proofs.standing.numbered.Given as goal
 

@@ -1,3 +1,4 @@
+-- `rows_of`: its contract.
 use Rattle.std.proofs.Common.{◌∙◌, ap, false, get_or, length}
 use Rattle.std.specs.Vec.{vec_items}
 use Rattle.pt_chart.specs.Rows.{follows_sending}

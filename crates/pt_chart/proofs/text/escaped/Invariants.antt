@@ -1,3 +1,4 @@
+-- `escaped`: what holds in its loop over `byte`.
 use Rattle.std.proofs.Common.{◌≡◌, take}
 use Rattle.std.specs.String.{string_bytes}
 use Rattle.pt_chart.specs.Text.{escape}

@@ -1,3 +1,4 @@
+-- `write_parts`: what holds in its loop over `part`.
 use Rattle.std.proofs.Common.{◌≡◌, ◌++◌, map, take}
 use Rattle.std.specs.List.{flat_map}
 use Rattle.std.specs.String.{string_bytes}

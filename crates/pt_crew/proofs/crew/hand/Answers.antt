@@ -1,3 +1,4 @@
+-- `hand`: its clauses `bears` and `answers`.
 use Rattle.std.proofs.Common.{List, subst}
 use Rattle.pt_crew.specs.declared.births.Role.{Role}
 use Rattle.pt_crew.specs.Births.{bore, born}

@@ -1,3 +1,4 @@
+-- `stands_at`: its contract.
 use Rattle.std.proofs.Common.{sym, ap, ◌∙◌, slice_get}
 use Rattle.pt_crew.proofs.Places.{stands}
 use Rattle.pt_crew.proofs.hints.stands_at.Goals as goal

@@ -1,3 +1,4 @@
+-- `are_idle`: what holds in its loop over `place`.
 use Rattle.std.proofs.Common.{◌≡◌, ℕ, ◌<◌, true, get_or}
 use Rattle.pt_desk.specs.DeskState.{DeskState}
 use Rattle.pt_crew.specs.declared.crew.Crew.{Crew}

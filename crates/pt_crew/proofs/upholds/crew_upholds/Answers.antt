@@ -1,3 +1,4 @@
+-- `crew_upholds`: its clauses `step`, `work`, `receipt`, `enter`, `left`, `left_work` and `left_receipt`.
 use Rattle.pt_crew.proofs.Upholding.{step_upholds, work_upholds, receipt_upholds, enter_upholds, step_left, work_left, receipt_left}
 use Rattle.pt_crew.proofs.upholds.crew_upholds.Goals as goal
 

@@ -1,3 +1,4 @@
+-- `with_one_seat`: what its call of `of_words` asks.
 use Rattle.std.proofs.Common.{ℕ, ◌*◌, sym, ap, ◌∙◌}
 use Rattle.pt_directory.proofs.SeatSteps.{opens}
 use Rattle.pt_directory.proofs.directory.with_one_seat.Goals as goal

@@ -1,3 +1,4 @@
+-- `is_in_order`: its contract, and its loop over `event`.
 use Rattle.std.proofs.Common.{◌∙◌, sym}
 use Rattle.pt_events.proofs.InOrder.{goes_on, newest_here, stops}
 use Rattle.pt_events.proofs.journal.is_in_order.Goals as goal

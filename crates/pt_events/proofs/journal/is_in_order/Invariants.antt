@@ -1,3 +1,4 @@
+-- `is_in_order`: what holds in its loop over `event`.
 use Rattle.std.proofs.Common.{◌≡◌, reverse, take}
 use Rattle.pt_events.specs.JournalState.{IsInOrder}
 use Rattle.pt_events.proofs.InOrder.{newest_stamp}

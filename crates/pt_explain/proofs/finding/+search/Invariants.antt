@@ -1,3 +1,4 @@
+-- `+search`: what holds in its loop over `search`, `search_by` and `search_within`.
 use Rattle.std.proofs.Common.{◌+◌, ◌-◌, ◌*◌}
 use Rattle.pt_explain.proofs.finding.+search.Given as goal
 

@@ -1,3 +1,4 @@
+-- `journals_of`: what holds in its loop over `which`.
 use Rattle.std.proofs.Common.{take}
 use Rattle.pt_gathered.specs.History.{AreJournalsOf}
 use Rattle.pt_gathered.proofs.node.journals_of.Given as goal

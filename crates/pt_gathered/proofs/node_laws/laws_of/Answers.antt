@@ -1,3 +1,4 @@
+-- `laws_of`: its clauses `answers`, `questions` and `after`.
 use Rattle.std.proofs.Common.{subst}
 use Rattle.pt_gathered.specs.Gathered.{GatheredState}
 use Rattle.pt_gathered.specs.Settling.{NothingLeft}

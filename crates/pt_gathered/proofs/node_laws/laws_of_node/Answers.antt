@@ -1,3 +1,4 @@
+-- `laws_of_node`: its clauses `lanes`, `headline`, `legal`, `bounded`, `quiet`, `links`, `watches`, `answers`, `questions`, `again`, `whole`, `quiet_whole` and `after`.
 use Rattle.pt_gathered.proofs.Lawful.{lanes_agree, keeps_headline, legal_node, is_bounded, quiet_node, links_stand, watches_stand, answers_hold, questions_answered}
 use Rattle.pt_gathered.proofs.Beginnings.{begins_again}
 use Rattle.pt_gathered.proofs.Pasts.{legal_whole, quiet_whole, begins_after}

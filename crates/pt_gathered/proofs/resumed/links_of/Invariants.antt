@@ -1,3 +1,4 @@
+-- `links_of`: what holds in its loop over `link`.
 use Rattle.std.proofs.Common.{◌≡◌, ◌-◌, length, take, vec_len}
 use Rattle.pt_gathered.proofs.resumed.links_of.Given as goal
 

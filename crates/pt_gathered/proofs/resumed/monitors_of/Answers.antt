@@ -1,3 +1,4 @@
+-- `monitors_of`: its contract, and its loop over `monitor`.
 use Rattle.std.proofs.Common.{◌≡◌, ◌∷◌, ◌++◌, [], Some, None, take, vec_len, sym, ap, ◌∙◌}
 use Rattle.std.specs.Prelude.{slice_get}
 use Rattle.pt_gathered.proofs.StartStates.{copied_more, copied_all}

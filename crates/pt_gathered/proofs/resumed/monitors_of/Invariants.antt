@@ -1,3 +1,4 @@
+-- `monitors_of`: what holds in its loop over `monitor`.
 use Rattle.std.proofs.Common.{◌≡◌, ◌-◌, length, take, vec_len}
 use Rattle.pt_gathered.proofs.resumed.monitors_of.Given as goal
 

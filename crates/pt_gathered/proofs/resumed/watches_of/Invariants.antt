@@ -1,3 +1,4 @@
+-- `watches_of`: what holds in its loop over `watch`.
 use Rattle.std.proofs.Common.{◌≡◌, ◌-◌, length, take, vec_len}
 use Rattle.pt_gathered.proofs.resumed.watches_of.Given as goal
 

@@ -1,3 +1,4 @@
+-- `mark`: what holds in its loop over `k`.
 use Rattle.pt_gathered.specs.Waits.{Marks}
 use Rattle.pt_gathered.proofs.settling.mark.Given as goal
 

@@ -1,3 +1,4 @@
+-- `pass`: its clauses `runs` and `stops`, and its loop over `e`.
 use Rattle.std.proofs.Common.{◌≡◌, ℕ, ◌<◌, true, false, Ok, length, refl, subst, arith}
 use Rattle.pt_gathered.specs.Gathered.{GatheredState}
 use Rattle.pt_gathered.specs.Settling.{Moves, NothingTo, event_count}

@@ -1,3 +1,4 @@
+-- `pass`: what holds in its loop over `e`.
 use Rattle.std.proofs.Common.{◌≡◌, ◌<◌, length}
 use Rattle.std.specs.Bool.{MatchBool}
 use Rattle.pt_gathered.specs.Settling.{Runs, NothingBelow, event_count}

@@ -1,3 +1,4 @@
+-- `read_journals`: its clause `tables`, and its loop over `which`, and what its call of `read` asks.
 use Rattle.std.proofs.Common.{◌≡◌, ◌<◌, length, get_or, ap, ◌∙◌, arith}
 use Rattle.pt_accounts.specs.DeskLives.{ReadsOn}
 use Rattle.pt_gathered.proofs.Told.{may_go_on, tables_read, told_read, one_more_read}

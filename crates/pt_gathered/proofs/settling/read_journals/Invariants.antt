@@ -1,3 +1,4 @@
+-- `read_journals`: what holds in its loop over `which`.
 use Rattle.pt_gathered.specs.Tables.{AreTables}
 use Rattle.pt_gathered.proofs.Told.{AreReadBelow}
 use Rattle.pt_gathered.proofs.settling.read_journals.Given as goal

@@ -1,3 +1,4 @@
+-- `run_passes`: its clauses `refused`, `stops` and `nothing_left`, and its loop over `more`.
 use Rattle.std.proofs.Common.{◌+◌, length, refl, subst, arith}
 use Rattle.std.specs.Prelude.{⊤}
 use Rattle.std.specs.Bool.{MatchBool}

@@ -1,3 +1,4 @@
+-- `run_passes`: what holds in its loop over `more`.
 use Rattle.std.proofs.Common.{ℕ, ◌+◌, length, cond}
 use Rattle.std.specs.Prelude.{⊤}
 use Rattle.std.specs.Bool.{MatchBool}

@@ -1,3 +1,4 @@
+-- `settle_desk`: its clauses `order`, `waits` and `least`, and what its call of `settle_to` asks.
 use Rattle.std.proofs.Common.{◌<◌, true, false, get_or, length, set, sym, ap, ◌∙◌, subst, arith}
 use Rattle.std.proofs.lemmas.List.{length-set, get_or_default}
 use Rattle.pt_gathered.specs.Waits.{AreLeast, IsLeast, Marks}

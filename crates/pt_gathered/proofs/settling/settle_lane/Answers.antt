@@ -1,3 +1,4 @@
+-- `settle_lane`: its clauses `runs`, `stops`, `order`, `keeps` and `none`, and its loop over `k`.
 use Rattle.std.proofs.Common.{◌≡◌, ◌<◌, true, Ok, drop, length, refl, sym, ap, ◌∙◌, subst, add-one, arith}
 use Rattle.pt_gathered.specs.Settling.{Steps, Runs}
 use Rattle.pt_gathered.specs.Order.{ComesOnce}

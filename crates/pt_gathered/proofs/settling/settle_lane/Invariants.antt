@@ -1,3 +1,4 @@
+-- `settle_lane`: what holds in its loop over `k`.
 use Rattle.std.proofs.Common.{◌≡◌, ◌<◌, drop}
 use Rattle.std.specs.Bool.{MatchBool}
 use Rattle.pt_gathered.specs.Settling.{Runs, event_count}

@@ -1,3 +1,4 @@
+-- `settle_to`: its clauses `runs`, `stops`, `least` and `none`, and its loop over `d`, and what its call of `settle_lane` asks.
 use Rattle.std.proofs.Common.{◌≡◌, ℕ, ◌<◌, true, false, Ok, [], length, below_more, refl, subst, arith}
 use Rattle.pt_gathered.specs.Gathered.{GatheredState, over_in}
 use Rattle.pt_gathered.specs.Settling.{Moves, event_count}

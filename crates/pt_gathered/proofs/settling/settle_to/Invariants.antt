@@ -1,3 +1,4 @@
+-- `settle_to`: what holds in its loop over `d`.
 use Rattle.std.proofs.Common.{◌≡◌, ℕ, ◌<◌, []}
 use Rattle.std.specs.Bool.{MatchBool}
 use Rattle.pt_gathered.specs.Settling.{Runs, NothingTo, event_count}

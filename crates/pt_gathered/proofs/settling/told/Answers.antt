@@ -1,3 +1,4 @@
+-- `told`: its clause `told`.
 use Rattle.std.proofs.Common.{◌≡◌, sym, subst}
 use Rattle.std.proofs.lemmas.Result.{IfOk-weaker}
 use Rattle.pt_accounts.specs.LivesState.{Lives, AreLivesOf}

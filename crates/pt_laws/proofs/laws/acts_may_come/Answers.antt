@@ -1,3 +1,4 @@
+-- `acts_may_come`: its clauses `local` and `legal`.
 use Rattle.pt_laws.proofs.living.Acts.{local_acts, legal_acts}
 use Rattle.pt_laws.proofs.laws.acts_may_come.Goals as goal
 

@@ -1,3 +1,4 @@
+-- `answers_are_true`: its clauses `told` and `once`.
 use Rattle.pt_laws.proofs.order.Asking.{answers_true}
 use Rattle.pt_laws.proofs.order.Answered.{quiet_answers}
 use Rattle.pt_laws.proofs.laws.answers_are_true.Goals as goal

@@ -1,3 +1,4 @@
+-- `journals_have_one_merge`: its clauses `there` and `one`.
 use Rattle.std.proofs.Common.{◌∙◌, sym}
 use Rattle.pt_laws.proofs.lanes.Gathering.{merge_is_there}
 use Rattle.pt_laws.proofs.lanes.OneMerge.{one_merge}

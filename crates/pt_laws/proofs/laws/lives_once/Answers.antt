@@ -1,3 +1,4 @@
+-- `lives_once`: its clauses `once`, `after` and `closed`.
 use Rattle.pt_laws.proofs.living.AfterEnd.{nothing_after_end}
 use Rattle.pt_laws.proofs.living.BirthsAndEnds.{born_once, ended_once, stays_ended}
 use Rattle.pt_laws.proofs.laws.lives_once.Goals as goal

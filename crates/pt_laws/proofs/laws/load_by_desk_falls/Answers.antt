@@ -1,3 +1,4 @@
+-- `load_by_desk_falls`: its clauses `one`, `lowers` and `merge`.
 use Rattle.pt_laws.proofs.lanes.Load.{one_receipt}
 use Rattle.pt_laws.proofs.DeskLoads.{merge_load, receipt_lowers}
 use Rattle.pt_laws.proofs.laws.load_by_desk_falls.Goals as goal

@@ -1,3 +1,4 @@
+-- `merge_is_legal`: its contract.
 use Rattle.std.proofs.Common.{sym, subst, subst₂}
 use Rattle.pt_events.specs.Journal.{IsLocal, Agrees, posts, gots}
 use Rattle.pt_laws.proofs.Merged.{merged_legal, merged_refusals}

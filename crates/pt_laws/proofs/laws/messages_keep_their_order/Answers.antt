@@ -1,3 +1,4 @@
+-- `messages_keep_their_order`: its contract.
 use Rattle.pt_laws.proofs.order.Sender.{sender_front}
 use Rattle.pt_laws.proofs.laws.messages_keep_their_order.Goals as goal
 

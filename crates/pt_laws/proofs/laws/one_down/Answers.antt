@@ -1,3 +1,4 @@
+-- `one_down`: its clauses `down`, `made`, `local`, `empty` and `over`.
 use Rattle.std.proofs.Common.{[], refl, arith}
 use Rattle.pt_laws.proofs.lanes.Heading.{one_down}
 use Rattle.pt_laws.proofs.monitoring.MadeOnce.{made_once_local}

@@ -1,3 +1,4 @@
+-- `quiet_monitors`: its clauses `monitors`, `watches`, `over_monitors`, `since` and `over_watches`.
 use Rattle.std.proofs.Common.{◌≡◌, ℕ, ◌+◌, ◌++◌, [], refl, sym, ap, ◌∙◌, subst₂}
 use Rattle.pt_signal.specs.declared.pid.Pid.{Pid}
 use Rattle.pt_signal.specs.declared.ids.Ref.{Ref}

@@ -1,3 +1,4 @@
+-- `receipts_lower_the_load`: its clauses `falls`, `bounded`, `quiet`, `empty` and `oldest`.
 use Rattle.pt_laws.proofs.lanes.Load.{load_falls}
 use Rattle.pt_laws.proofs.lanes.Settled.{settled_bound, quiet_flights, flights_quiet}
 use Rattle.pt_laws.proofs.lanes.Emptied.{empty_is_quiet, oldest_may_come}

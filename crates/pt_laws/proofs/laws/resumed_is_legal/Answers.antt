@@ -1,3 +1,4 @@
+-- `resumed_is_legal`: its clauses `legal`, `same`, `start`, `twice`, `empty` and `again`.
 use Rattle.std.proofs.Common.{refl}
 use Rattle.pt_laws.proofs.living.Resumed.{resumed, same_life, same_end, same_flying, all_new, left_again}
 use Rattle.pt_laws.proofs.living.StartAfter.{is_start, one_entry_each, keeps_once}

@@ -1,3 +1,4 @@
+-- `stamps_make_new_ids`: its clauses `numbers`, `both`, `new` and `open`.
 use Rattle.pt_laws.proofs.living.NewIds.{stamps_number, both_number, stamps_are_new, old_refs}
 use Rattle.pt_laws.proofs.laws.stamps_make_new_ids.Goals as goal
 

@@ -1,3 +1,4 @@
+-- `taken_or_waiting`: its contract.
 use Rattle.pt_laws.proofs.order.Positions.{placed}
 use Rattle.pt_laws.proofs.laws.taken_or_waiting.Goals as goal
 

@@ -1,3 +1,4 @@
+-- `watches_are_kept_since`: its clauses `list` and `each`.
 use Rattle.std.proofs.Common.{[], List, sym, subst}
 use Rattle.std.specs.Prelude.{Contains, ◌↔◌}
 use Rattle.pt_signal.specs.declared.pid.Pid.{Pid}

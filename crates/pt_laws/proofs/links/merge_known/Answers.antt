@@ -1,3 +1,4 @@
+-- `merge_known`: its contract.
 use Rattle.pt_laws.proofs.linking.Agreed.{all_local, merge_known, merge_home}
 use Rattle.pt_laws.proofs.links.merge_known.Goals as goal
 

@@ -1,3 +1,4 @@
+-- `quiet_links`: its contract.
 use Rattle.pt_laws.proofs.linking.Agreed.{links_agree}
 use Rattle.pt_laws.proofs.links.quiet_links.Goals as goal
 

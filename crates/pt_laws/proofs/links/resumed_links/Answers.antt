@@ -1,3 +1,4 @@
+-- `resumed_links`: its clauses `over`, `merge` and `again`.
 use Rattle.std.proofs.Common.{ℕ, sym, subst₂}
 use Rattle.pt_events.specs.Journal.{Agrees, posts, gots, of_desk, events}
 use Rattle.pt_laws.proofs.Merged.{merged_legal, merged_refusals}

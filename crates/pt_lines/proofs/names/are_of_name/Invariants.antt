@@ -1,3 +1,4 @@
+-- `are_of_name`: what holds in its loop over `place`.
 use Rattle.std.proofs.Common.{◌≡◌, drop}
 use Rattle.std.specs.List.{list_all}
 use Rattle.pt_lines.specs.Names.{is_of_name}

@@ -1,3 +1,4 @@
+-- `value_in`: what holds in its loop over `place`.
 use Rattle.std.proofs.Common.{◌≡◌, drop, map, None}
 use Rattle.pt_lines.specs.Names.{value_after}
 use Rattle.pt_lines.proofs.names.value_in.Given as goal

@@ -1,3 +1,4 @@
+-- `number_behind`: what holds in its loop over `place`.
 use Rattle.std.proofs.Common.{◌≡◌, ◌≤◌, drop}
 use Rattle.pt_lines.specs.Numbers.{number_after_digits}
 use Rattle.pt_lines.proofs.numbers.number_behind.Given as goal

@@ -1,3 +1,4 @@
+-- `config_of`: what holds in its loop over `place`.
 use Rattle.std.proofs.Common.{◌≡◌, drop, map}
 use Rattle.pt_lines.specs.Settings.{with_settings}
 use Rattle.pt_lines.specs.Words.{told_word}

@@ -1,3 +1,4 @@
+-- `verb_in`: what holds in its loop over `place`.
 use Rattle.std.proofs.Common.{◌≡◌, drop, map}
 use Rattle.pt_lines.specs.Calls.{first_named, named_row}
 use Rattle.pt_lines.proofs.verb.verb_in.Given as goal

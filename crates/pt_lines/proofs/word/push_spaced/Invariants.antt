@@ -1,3 +1,4 @@
+-- `push_spaced`: what holds in its loop over `place`.
 use Rattle.std.proofs.Common.{◌≡◌, ◌++◌, drop, map}
 use Rattle.pt_lines.specs.Words.{spaced, told_word}
 use Rattle.pt_lines.proofs.word.push_spaced.Given as goal

@@ -1,3 +1,4 @@
+-- `words_of`: what holds in its loop over `place`.
 use Rattle.std.proofs.Common.{◌≡◌, ◌+◌, ◌≤◌, ◌++◌, drop, map}
 use Rattle.std.specs.Prelude.{slice_range}
 use Rattle.pt_lines.specs.Words.{told_word, words_behind, words_in}

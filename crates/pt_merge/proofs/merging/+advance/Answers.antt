@@ -1,3 +1,4 @@
+-- `+advance`: its clauses `played`, `one_half` and `other_half`, and what its call of `play` asks, and its checked operations.
 use Rattle.std.proofs.Common.{◌≡◌, ◌+◌, ◌<◌, List, ap, inl, inr, subst, sym, arith}
 use Rattle.std.proofs.lemmas.List.{get_or_read}
 use Rattle.std.proofs.Common.{◌^◌}

@@ -1,3 +1,4 @@
+-- `+advance`: what holds in its loop over `advance`.
 use Rattle.std.proofs.Common.{◌-◌}
 use Rattle.pt_merge.proofs.merging.+advance.Given as goal
 

@@ -1,3 +1,4 @@
+-- `+play_all`: its clauses `played` and `one_half`, and what its call of `play` asks.
 use Rattle.std.proofs.Common.{arith}
 use Rattle.pt_merge.specs.Race.{alone, middle}
 use Rattle.pt_merge.proofs.Race.{apart_written}

@@ -1,3 +1,4 @@
+-- `+play_all`: what holds in its loop over `play_all`.
 use Rattle.std.proofs.Common.{◌-◌}
 use Rattle.pt_merge.proofs.merging.+play_all.Given as goal
 

@@ -1,3 +1,4 @@
+-- `best_of_halves`: its contract.
 use Rattle.std.proofs.Common.{◌≡◌, sym, subst, true, false, arith}
 use Rattle.pt_merge.specs.Race.{next_key, winner_at, leads, middle, IsBest}
 use Rattle.pt_merge.proofs.Race.{best_played, best_one, best_other}

@@ -1,3 +1,4 @@
+-- `count`: what holds in its loop over `which`.
 use Rattle.std.proofs.Common.{ℕ, ◌<◌}
 use Rattle.pt_events.specs.JournalState.{IsInOrder}
 use Rattle.pt_merge.specs.Race.{desk_at, past_at}

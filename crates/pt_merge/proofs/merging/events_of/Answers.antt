@@ -1,3 +1,4 @@
+-- `events_of`: its contract.
 use Rattle.std.proofs.Common.{◌∙◌, ap, reverse, subst₂}
 use Rattle.pt_events.specs.JournalState.{IsInOrder}
 use Rattle.pt_merge.proofs.Race.{past_read, desk_read}

@@ -1,3 +1,4 @@
+-- `leads`: its contract.
 use Rattle.std.proofs.Common.{rules}
 use Rattle.pt_merge.proofs.merging.leads.Goals as goal
 

@@ -1,3 +1,4 @@
+-- `merge`: its contract, and its loop over `event`.
 use Rattle.std.proofs.Common.{sym, ap, ◌∙◌, subst, List, reverse}
 use Rattle.pt_events.specs.declared.event.Stamped.{Stamped}
 use Rattle.pt_merge.specs.Race.{TakesFirst}

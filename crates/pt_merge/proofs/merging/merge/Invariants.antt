@@ -1,3 +1,4 @@
+-- `merge`: what holds in its loop over `event`.
 use Rattle.std.proofs.Common.{◌≡◌, ◌<◌, length, reverse}
 use Rattle.pt_merge.specs.Merging.{AreApart}
 use Rattle.pt_merge.specs.Race.{next_key, winner_at, IsPlayed}

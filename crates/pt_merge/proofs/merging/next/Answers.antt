@@ -1,3 +1,4 @@
+-- `next`: its clause `takes`.
 use Rattle.std.proofs.Common.{sym, ◌∙◌, subst, length, List, ap}
 use Rattle.pt_merge.specs.declared.merging.Seat.{Seat}
 use Rattle.pt_merge.specs.Race.{TakesFirst, head_of, left_at}

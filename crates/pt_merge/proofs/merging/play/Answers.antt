@@ -1,3 +1,4 @@
+-- `play`: its clause `played`.
 use Rattle.std.proofs.Common.{subst, arith}
 use Rattle.std.proofs.lemmas.List.{get_or_read}
 use Rattle.pt_merge.specs.declared.merging.Seat.{Seat}

@@ -1,3 +1,4 @@
+-- `abandon`: what holds in its loop over `desk`.
 use Rattle.std.proofs.Common.{vec_len}
 use Rattle.pt_node.proofs.gathering.abandon.Given as goal
 

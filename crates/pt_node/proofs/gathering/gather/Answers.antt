@@ -1,3 +1,4 @@
+-- `gather`: its clauses `one`, `tables`, `gathered`, `accounted`, `seated`, `journals`, `reads`, `past` and `back`, and what its calls of `reunite`, `audit_all`, `of` and `make_whole` ask.
 use Rattle.std.proofs.Common.{◌≡◌, map, sym, ap, ◌∙◌, subst}
 use Rattle.std.specs.Arc.{arc_value}
 use Rattle.std.proofs.lemmas.Simd.{map-map}

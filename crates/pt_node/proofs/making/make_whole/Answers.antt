@@ -1,3 +1,4 @@
+-- `make_whole`: its loop over `outs`.
 use Rattle.std.proofs.Common.{◌≡◌, ◌++◌, ◌∙◌, List, length, map, reverse, ap, sym, subst, arith}
 use Rattle.std.specs.Arc.{arc_value}
 use Rattle.std.proofs.lemmas.List.{length-map, reverse-reverse}

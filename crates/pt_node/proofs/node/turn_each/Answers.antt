@@ -1,3 +1,4 @@
+-- `turn_each`: its loop over `d`.
 use Rattle.std.proofs.Common.{◌<◌, length, arith, ◌∙◌}
 use Rattle.std.proofs.lemmas.List.{length-set}
 use Rattle.pt_node.proofs.Calling.{called_desks, turns_more}

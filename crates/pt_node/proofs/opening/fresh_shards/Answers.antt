@@ -1,3 +1,4 @@
+-- `fresh_shards`: its loop over `number`.
 use Rattle.std.proofs.Common.{rules}
 use Rattle.pt_node.proofs.opening.fresh_shards.Goals as goal
 

@@ -1,3 +1,4 @@
+-- `fresh_shards`: what holds in its loop over `number`.
 use Rattle.std.proofs.Common.{◌≡◌, ℕ, ◌<◌, get_or, vec_len}
 use Rattle.pt_shard.specs.ShardState.{ShardState}
 use Rattle.pt_shard.specs.Opening.{fresh_shard}

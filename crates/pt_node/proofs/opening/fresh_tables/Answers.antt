@@ -1,3 +1,4 @@
+-- `fresh_tables`: its loop over `number`.
 use Rattle.std.proofs.Common.{◌≡◌, [], ◌∷◌, length, get_or, ap, ◌∙◌, below_more, arith}
 use Rattle.std.proofs.Math.ListN.{get_or-append}
 use Rattle.std.proofs.lemmas.List.{get_or_push}

@@ -1,3 +1,4 @@
+-- `fresh_tables`: what holds in its loop over `number`.
 use Rattle.std.proofs.Common.{◌≡◌, ℕ, ◌<◌, get_or, vec_len}
 use Rattle.pt_accounts.specs.DeskLives.{DeskTable}
 use Rattle.pt_node.specs.Opening.{fresh_table}

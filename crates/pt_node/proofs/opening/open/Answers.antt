@@ -1,6 +1,7 @@
+-- `open`: its clauses `accounted` and `seated`, and what its call of `make_whole` asks.
 use Rattle.std.proofs.Common.{◌≡◌, length, map, rules, arith}
 use Rattle.std.specs.Arc.{arc_value}
-use Rattle.pt_shard.specs.Opening.{IsInRange}
+use Rattle.pt_signal.specs.Settings.{IsInRange}
 use Rattle.pt_node.proofs.Fresh.{fresh_accounted, fresh_desks}
 use Rattle.pt_node.proofs.SeatsOf.{fresh_seated}
 use Rattle.pt_node.proofs.opening.open.Goals as goal

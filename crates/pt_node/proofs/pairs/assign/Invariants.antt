@@ -1,3 +1,4 @@
+-- `assign`: what holds in its loop over `desk`.
 use Rattle.std.proofs.Common.{◌≡◌, ◌+◌, ◌≤◌, ◌++◌, map, reverse, vec_len}
 use Rattle.std.specs.Vec.{vec_capacity}
 use Rattle.pt_node.proofs.pairs.assign.Given as goal

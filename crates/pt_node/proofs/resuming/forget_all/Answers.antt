@@ -1,3 +1,4 @@
+-- `forget_all`: its loop over `which`.
 use Rattle.std.proofs.Common.{◌≡◌, ℕ, zero, suc, ◌+◌, ◌<◌, List, [], ◌∷◌, ◌++◌, length, map, take, drop, set, get_or, sym, ap, ◌∙◌, arith}
 use Rattle.pt_accounts.specs.DeskLives.{DeskTable, all_forgotten}
 use Rattle.pt_node.proofs.resuming.forget_all.Goals as goal

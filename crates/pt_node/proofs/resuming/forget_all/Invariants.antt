@@ -1,3 +1,4 @@
+-- `forget_all`: what holds in its loop over `which`.
 use Rattle.std.proofs.Common.{◌≡◌, ◌++◌, map, take, drop}
 use Rattle.pt_accounts.specs.DeskLives.{all_forgotten}
 use Rattle.pt_node.proofs.resuming.forget_all.Given as goal

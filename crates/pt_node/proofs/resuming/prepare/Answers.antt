@@ -1,8 +1,9 @@
+-- `prepare`: its clauses `range`, `ended` and `capacity`, and what its calls of `fresh_seats` and `open` ask.
 use Rattle.std.proofs.Common.{◌<◌, ◌≤◌, sym, subst, ◌∙◌}
-use Rattle.pt_carrier.specs.declared.opening.TheConstants.{MAX_CAPACITY}
+use Rattle.pt_signal.specs.declared.config.TheConstants.{MAX_LANE}
 use Rattle.pt_directory.specs.Seats.{AreEnded}
-use Rattle.pt_shard.specs.declared.config.Config.{Config}
-use Rattle.pt_shard.specs.Opening.{IsInRange}
+use Rattle.pt_signal.specs.declared.config.Config.{Config}
+use Rattle.pt_signal.specs.Settings.{IsInRange}
 use Rattle.pt_gathered.specs.Quiet.{ends_of}
 use Rattle.pt_node.proofs.Prepared.{ended_here, range}
 use Rattle.pt_node.proofs.resuming.prepare.Goals as goal
@@ -23,4 +24,4 @@ fresh_seats-requires-clause-ended c =
 pub open-requires-clause-capacity : goal.open-requires-clause-capacity
 open-requires-clause-capacity c =
     let r = range c.args.quiet.now.gathered c.versions.ensures.gathered c.args.start c.requires.within in
-    subst (λ (k : Config). (1 ≤ k.lane) × (k.lane ≤ MAX_CAPACITY)) (sym c.config.ensures) (r.some_lane, r.lane)
+    subst (λ (k : Config). (1 ≤ k.lane) × (k.lane ≤ MAX_LANE)) (sym c.config.ensures) (r.some_lane, r.lane)

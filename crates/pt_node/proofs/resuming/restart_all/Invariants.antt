@@ -1,3 +1,4 @@
+-- `restart_all`: what holds in its loop over `shard`.
 use Rattle.std.proofs.Common.{◌≡◌, ◌+◌, ◌≤◌, ◌++◌, map, reverse, vec_len}
 use Rattle.std.specs.Vec.{vec_capacity}
 use Rattle.pt_shard.specs.Begun.{Every}

@@ -1,3 +1,4 @@
+-- `all_rounds`: its clauses `each`, `turns` and `rounds`, and its loop over `turn`.
 use Rattle.std.proofs.Common.{◌≡◌, ◌+◌, false, length, replicate, refl, ◌∙◌, subst, arith}
 use Rattle.pt_node.specs.Running.{HaveEnded, Round, Rounds, WorkRelation, Workers, begins_by}
 use Rattle.pt_node.proofs.GoingOn.{all_stay, all_go_on_then}

@@ -1,3 +1,4 @@
+-- `all_rounds`: what holds in its loop over `turn`.
 use Rattle.std.proofs.Common.{◌≡◌, ◌≤◌, false, length, replicate}
 use Rattle.pt_node.specs.Running.{AllGoOn, Rounds, begins_by}
 use Rattle.pt_node.proofs.Rounding.{AllSoFar}

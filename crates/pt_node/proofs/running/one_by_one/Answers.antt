@@ -1,3 +1,4 @@
+-- `one_by_one`: its clause `turns`, and its loop over `d`.
 use Rattle.std.proofs.Common.{◌<◌, length, refl, arith}
 use Rattle.pt_node.specs.Running.{WorkRelation, begins_by}
 use Rattle.pt_node.proofs.GoingOn.{all_stay, all_go_on_then, one_goes_on}

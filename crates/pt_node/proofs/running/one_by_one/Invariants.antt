@@ -1,3 +1,4 @@
+-- `one_by_one`: what holds in its loop over `d`.
 use Rattle.std.proofs.Common.{◌≡◌, ℕ, ◌<◌, ◌≤◌, length, get_or}
 use Rattle.pt_desk.specs.DeskState.{DeskState}
 use Rattle.pt_node.specs.Running.{AllGoOn, Works, begins_by}

@@ -1,3 +1,4 @@
+-- `one_round`: its clauses `desk` and `few`, and its loop over `d`, and what its call of `turn_at` asks.
 use Rattle.std.proofs.Common.{refl, sym, ◌∙◌, arith}
 use Rattle.std.proofs.lemmas.Bool.{both_ways}
 use Rattle.pt_node.specs.Running.{WorkRelation, Workers, begins_by}

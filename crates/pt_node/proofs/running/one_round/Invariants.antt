@@ -1,3 +1,4 @@
+-- `one_round`: what holds in its loop over `d`.
 use Rattle.std.proofs.Common.{◌≡◌, false}
 use Rattle.pt_node.specs.Running.{AllGoOn, HaveEnded, Round, begins_by}
 use Rattle.pt_node.proofs.running.one_round.Given as goal

@@ -1,3 +1,4 @@
+-- `one_turn`: its clauses `goes_on`, `takes` and `lets`.
 use Rattle.std.proofs.Common.{rules}
 use Rattle.pt_desk.proofs.Turning.{goes_on_then}
 use Rattle.pt_node.proofs.running.one_turn.Goals as goal

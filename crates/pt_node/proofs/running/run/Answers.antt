@@ -1,3 +1,4 @@
+-- `run`: its contract.
 use Rattle.pt_node.proofs.GoingOn.{still_desks, written}
 use Rattle.pt_node.proofs.running.run.Goals as goal
 

@@ -1,3 +1,4 @@
+-- `run_single`: its clauses `desks`, `rounds` and `turns`, and what its call of `all_rounds` asks.
 use Rattle.std.proofs.Common.{arith, rules}
 use Rattle.pt_node.proofs.GoingOn.{still_desks}
 use Rattle.pt_node.proofs.running.run_single.Goals as goal

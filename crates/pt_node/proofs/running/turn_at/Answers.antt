@@ -1,3 +1,4 @@
+-- `turn_at`: its clauses `each` and `turn`.
 use Rattle.std.proofs.Common.{arith}
 use Rattle.pt_node.specs.Running.{begins_by}
 use Rattle.pt_node.proofs.GoingOn.{all_stay, one_goes_on}

@@ -1,3 +1,4 @@
+-- `work_all`: its clauses `each` and `turns`.
 use Rattle.std.proofs.Common.{rules, subst, get_or}
 use Rattle.pt_desk.specs.DeskState.{GoesOn}
 use Rattle.pt_node.specs.Running.{Works, begins_by}

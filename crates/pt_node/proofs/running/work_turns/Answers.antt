@@ -1,3 +1,4 @@
+-- `work_turns`: its clauses `goes_on` and `turns`, and its loop over `turn`.
 use Rattle.std.proofs.Common.{◌≡◌, add-one, true, false, MatchBool, inr, sym, subst}
 use Rattle.pt_desk.proofs.Turning.{goes_on_then}
 use Rattle.pt_node.specs.Running.{TakesTurn, TakesTurns, WorkRelation, begins_by}

@@ -1,3 +1,4 @@
+-- `work_turns`: what holds in its loop over `turn`.
 use Rattle.pt_desk.specs.DeskState.{GoesOn}
 use Rattle.pt_node.specs.Running.{TakesTurns, begins_by}
 use Rattle.pt_node.proofs.running.work_turns.Given as goal

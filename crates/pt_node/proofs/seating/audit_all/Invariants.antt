@@ -1,3 +1,4 @@
+-- `audit_all`: what holds in its loop over `directory`.
 use Rattle.std.proofs.Common.{◌≡◌, map, reverse, vec_len}
 use Rattle.std.specs.Arc.{arc_value}
 use Rattle.pt_directory.specs.Seats.{join_seats}

@@ -1,3 +1,4 @@
+-- `fresh_seats`: its loop over `seat`.
 use Rattle.std.proofs.Common.{◌≡◌, ◌++◌, length, map, reverse, ap, ◌∙◌, arith}
 use Rattle.std.proofs.lemmas.List.{reverse-reverse}
 use Rattle.std.specs.Arc.{arc_value}

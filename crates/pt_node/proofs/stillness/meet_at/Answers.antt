@@ -1,3 +1,4 @@
+-- `meet_at`: its contract, and what its calls of `meet_itself` and `meet` ask.
 use Rattle.std.proofs.Common.{◌≡◌, ◌≢◌, ◌<◌, ◌++◌, get_or, ap, arith}
 use Rattle.pt_carrier.proofs.Lists.{set_parts, set_parts_back, front_read, back_read}
 use Rattle.pt_node.proofs.Meeting.{can_meet, one_meets, two_meet}

@@ -1,6 +1,7 @@
+-- `turn_each`: its loop over `d`.
 use Rattle.std.proofs.Common.{◌≡◌, ◌<◌, length, sym, ap, arith, ◌∙◌}
 use Rattle.std.proofs.lemmas.List.{length-set}
-use Rattle.pt_shard.specs.declared.config.Config.{Config}
+use Rattle.pt_signal.specs.declared.config.Config.{Config}
 use Rattle.pt_desk.specs.DeskState.{DeskState}
 use Rattle.pt_node.specs.Stillness.{both_rested}
 use Rattle.pt_node.proofs.Calling.{called_desks}

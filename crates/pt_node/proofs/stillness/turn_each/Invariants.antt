@@ -1,3 +1,4 @@
+-- `turn_each`: what holds in its loop over `d`.
 use Rattle.std.proofs.Common.{◌≡◌, length}
 use Rattle.pt_node.specs.Desks.{AreDesks}
 use Rattle.pt_node.specs.Stillness.{TurnEach}

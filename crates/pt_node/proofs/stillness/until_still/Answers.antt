@@ -1,3 +1,4 @@
+-- `until_still`: its clauses `node`, `rounds` and `lanes`, and its loop over `quiet`, and what its call of `turn_each` asks.
 use Rattle.std.proofs.Common.{◌≡◌, ℕ, ◌++◌, List, length, map, take, drop, None, inr, sym, ap, ◌∙◌, subst, arith}
 use Rattle.pt_carrier.proofs.Lists.{written}
 use Rattle.pt_desk.specs.DeskState.{DeskState}

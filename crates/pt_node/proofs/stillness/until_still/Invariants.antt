@@ -1,3 +1,4 @@
+-- `until_still`: what holds in its loop over `quiet`.
 use Rattle.std.proofs.Common.{◌≡◌, ℕ, ◌+◌, ◌-◌, ◌*◌, ◌<◌, ◌≤◌, None}
 use Rattle.pt_node.specs.Desks.{AreDesks}
 use Rattle.pt_node.specs.Stillness.{AreStill, Rounds}

@@ -1,3 +1,4 @@
+-- `take_each`: its clause `takes`, and its loop over `count`.
 use Rattle.std.proofs.Common.{◌≡◌, rules, Ok, Err, Some, None, inr, refl, sym, ap, subst, add-one, ◌∙◌, Result, Option}
 use Rattle.pt_signal.specs.declared.item.Item.{Item}
 use Rattle.pt_shard.specs.declared.fault.Fault.{Fault}

@@ -1,3 +1,4 @@
+-- `take_each`: what holds in its loop over `count`.
 use Rattle.pt_desk.specs.DeskState.{GoesOn}
 use Rattle.pt_node.specs.Taking.{TakesMany}
 use Rattle.pt_node.proofs.taking.take_each.Given as goal

@@ -1,3 +1,4 @@
+-- `next_woken`: what holds in its loop over `place`.
 use Rattle.std.proofs.Common.{◌≤◌, ◌-◌, length, max}
 use Rattle.pt_node.specs.Waking.{NobodyIn}
 use Rattle.pt_node.proofs.waking.next_woken.Given as goal

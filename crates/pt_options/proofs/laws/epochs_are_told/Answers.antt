@@ -1,3 +1,4 @@
+-- `epochs_are_told`: its contract.
 use Rattle.pt_options.proofs.Asking.{epochs_told}
 use Rattle.pt_options.proofs.laws.epochs_are_told.Goals as goal
 

@@ -1,3 +1,4 @@
+-- `explaining_takes_no_value`: its contract.
 use Rattle.pt_options.proofs.Asking.{explaining_alone}
 use Rattle.pt_options.proofs.laws.explaining_takes_no_value.Goals as goal
 

@@ -1,3 +1,4 @@
+-- `help_is_asked`: its contract.
 use Rattle.pt_options.proofs.Asking.{help_asked}
 use Rattle.pt_options.proofs.laws.help_is_asked.Goals as goal
 

@@ -1,3 +1,4 @@
+-- `wrong_epochs_are_refused`: its contract.
 use Rattle.pt_options.proofs.Asking.{epochs_refused}
 use Rattle.pt_options.proofs.laws.wrong_epochs_are_refused.Goals as goal
 

@@ -1,3 +1,4 @@
+-- `find`: its contract.
 use Rattle.std.proofs.Common.{sym, ◌∙◌}
 use Rattle.std.proofs.lemmas.Option.{slice_get-get_or}
 use Rattle.pt_process.proofs.FewLemmas.{first_from_position, first-within, first-lookup, lookup-no_place}

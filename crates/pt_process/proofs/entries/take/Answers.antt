@@ -1,3 +1,4 @@
+-- `take`: its clauses `value` and `rest`.
 use Rattle.std.proofs.Common.{sym, ap, ◌∙◌, Some}
 use Rattle.std.proofs.lemmas.Option.{slice_get-get_or}
 use Rattle.pt_process.proofs.MapLemmas.{remove_entry-absent}

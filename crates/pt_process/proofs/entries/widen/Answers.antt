@@ -1,3 +1,4 @@
+-- `widen`: its clauses `absent` and `room`, and its loop over `key`, and what its call of `push` asks.
 use Rattle.std.proofs.Common.{◌≡◌, ◌<◌, ◌∷◌, [], ◌++◌, ap, sym, ◌∙◌, arith, length, slice_get, get_or, take}
 use Rattle.std.proofs.lemmas.List.{take_more}
 use Rattle.std.specs.Map.{lookup}

@@ -1,3 +1,4 @@
+-- `widen`: what holds in its loop over `key`.
 use Rattle.std.proofs.Common.{◌≡◌, ◌+◌, ◌≤◌, take}
 use Rattle.pt_process.proofs.entries.widen.Given as goal
 

@@ -1,3 +1,4 @@
+-- `write`: its clause `entries`.
 use Rattle.std.proofs.Common.{sym, ap, ◌∙◌, Some}
 use Rattle.std.proofs.lemmas.Option.{slice_get-get_or}
 use Rattle.pt_process.proofs.MapLemmas.{set_value-absent}

@@ -1,3 +1,4 @@
+-- `take_out`: its clause `waiting`.
 use Rattle.std.proofs.Common.{◌≡◌, ◌+◌, ◌-◌, ◌<◌, ◌++◌, length, take, drop, ap, ◌∙◌, arith, length-drop, length-take, length-append}
 use Rattle.std.specs.List.{remove}
 use Rattle.std.proofs.lemmas.List.{with_items_is}

@@ -1,3 +1,4 @@
+-- `clear_gap`: its clauses `entries` and `absent`.
 use Rattle.std.proofs.Common.{◌≤◌, ◌∙◌, ap, arith, length}
 use Rattle.pt_process.specs.Gaps.{present}
 use Rattle.pt_process.proofs.GapLemmas.{present-cleared, lookup-closed, lookup-present}

@@ -1,3 +1,4 @@
+-- `drop_gaps`: its clauses `entries` and `closed`.
 use Rattle.std.proofs.Common.{ap, sym, ◌∙◌, is_some, length, rules}
 use Rattle.indexmap.proofs.CallerLemmas.{filter-RetainsPairs}
 use Rattle.pt_process.specs.Gaps.{present}

@@ -1,3 +1,4 @@
+-- `nth_present`: what holds in its loop over `at`.
 use Rattle.std.proofs.Common.{◌≡◌, drop, slice_get}
 use Rattle.pt_process.specs.Gaps.{present}
 use Rattle.pt_process.proofs.many.nth_present.Given as goal

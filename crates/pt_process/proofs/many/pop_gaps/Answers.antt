@@ -1,3 +1,4 @@
+-- `pop_gaps`: its loop over `places`.
 use Rattle.std.proofs.Common.{◌∙◌, ap, sym, arith, Some}
 use Rattle.pt_process.proofs.GapLemmas.{present-pop}
 use Rattle.pt_process.proofs.many.pop_gaps.Goals as goal

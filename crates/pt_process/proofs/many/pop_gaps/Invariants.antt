@@ -1,3 +1,4 @@
+-- `pop_gaps`: what holds in its loop over `places`.
 use Rattle.std.proofs.Common.{◌≡◌, ◌≤◌, length}
 use Rattle.std.specs.HashMap.{spare}
 use Rattle.std.specs.List.{IsDistinct}

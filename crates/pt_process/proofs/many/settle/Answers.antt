@@ -1,3 +1,4 @@
+-- `settle`: its clause `counted`, and its checked operations.
 use Rattle.std.proofs.Common.{rules}
 use Rattle.pt_process.proofs.many.settle.Goals as goal
 

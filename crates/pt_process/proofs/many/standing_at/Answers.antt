@@ -1,3 +1,4 @@
+-- `standing_at`: its contract.
 use Rattle.std.proofs.Common.{◌+◌, ◌++◌, drop, sym, ap, ◌∙◌}
 use Rattle.std.specs.Map.Iter.{deref_pair}
 use Rattle.std.specs.Option.{option_map, option_to_list}

@@ -1,3 +1,4 @@
+-- `take_value`: its clause `entries`.
 use Rattle.std.proofs.Common.{◌∙◌, ap, sym}
 use Rattle.pt_process.proofs.MapLemmas.{set_value-absent}
 use Rattle.pt_process.proofs.many.take_value.Goals as goal

@@ -1,3 +1,4 @@
+-- `call_those_on`: its loop over `process`.
 use Rattle.std.proofs.Common.{map, arith, None}
 use Rattle.std.specs.String.{string_bytes}
 use Rattle.pt_chart.specs.Drawing.{called_given}

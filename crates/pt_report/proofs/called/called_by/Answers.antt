@@ -1,3 +1,4 @@
+-- `called_by`: its loop over `desk`.
 use Rattle.std.proofs.Common.{[], map, rules, arith}
 use Rattle.std.specs.String.{string_bytes}
 use Rattle.pt_chart.specs.Drawing.{called_given}

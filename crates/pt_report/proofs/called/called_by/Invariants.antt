@@ -1,3 +1,4 @@
+-- `called_by`: what holds in its loop over `desk`.
 use Rattle.std.proofs.Common.{◌≡◌, map, take}
 use Rattle.std.specs.String.{string_bytes}
 use Rattle.pt_chart.specs.Drawing.{called_given, each_numbered}

@@ -1,3 +1,4 @@
+-- `drawing_of`: its contract.
 use Rattle.std.proofs.Common.{◌≡◌, map, ap, subst, ◌∙◌}
 use Rattle.std.specs.Prelude.{IfOk}
 use Rattle.std.specs.String.{string_bytes}

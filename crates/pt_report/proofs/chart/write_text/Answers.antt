@@ -1,3 +1,4 @@
+-- `write_text`: its contract.
 use Rattle.std.proofs.Common.{subst}
 use Rattle.std.specs.Io.KnownBytes.{Appends}
 use Rattle.pt_report.proofs.Writing.{appends_keeps, on_ok}

@@ -1,3 +1,4 @@
+-- `end_epoch`: its clause `fault`.
 use Rattle.std.proofs.Common.{sym, subst}
 use Rattle.pt_report.specs.Epochs.{IsOfEnd}
 use Rattle.pt_report.proofs.Passing.{stopped_of_end}

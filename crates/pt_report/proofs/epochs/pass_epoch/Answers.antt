@@ -1,3 +1,4 @@
+-- `pass_epoch`: its clause `fault`.
 use Rattle.std.proofs.lemmas.Result.{IfErr-weaker}
 use Rattle.pt_report.proofs.Passing.{of_end}
 use Rattle.pt_report.proofs.epochs.pass_epoch.Goals as goal

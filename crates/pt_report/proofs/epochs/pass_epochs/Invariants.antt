@@ -1,3 +1,4 @@
+-- `pass_epochs`: what holds in its loop over `epoch`.
 use Rattle.std.proofs.Common.{◌≡◌, List}
 use Rattle.pt_events.specs.declared.event.Stamped.{Stamped}
 use Rattle.pt_report.specs.Epochs.{PassEpochs, AreAt}

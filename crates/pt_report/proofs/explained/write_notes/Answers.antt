@@ -1,3 +1,4 @@
+-- `write_notes`: its contract.
 use Rattle.std.proofs.Common.{arith}
 use Rattle.pt_gathered.specs.Gathered.{begins, journals}
 use Rattle.pt_report.proofs.Accounts.{all_notes}

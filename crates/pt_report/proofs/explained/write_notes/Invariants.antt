@@ -1,3 +1,4 @@
+-- `write_notes`: what holds in its loop over `note`.
 use Rattle.std.proofs.Common.{take}
 use Rattle.std.specs.Io.KnownBytes.{Appends}
 use Rattle.pt_accounts.specs.LivesState.{InEveryMerge}

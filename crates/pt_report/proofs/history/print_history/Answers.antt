@@ -1,3 +1,4 @@
+-- `print_history`: its clause `untouched`.
 use Rattle.std.proofs.Common.{rules}
 use Rattle.pt_report.proofs.history.print_history.Goals as goal
 

@@ -1,3 +1,4 @@
+-- `write_events`: what holds in its loop over `event`.
 use Rattle.std.proofs.Common.{take}
 use Rattle.std.specs.Io.KnownBytes.{Appends}
 use Rattle.pt_report.specs.Lines.{lines}

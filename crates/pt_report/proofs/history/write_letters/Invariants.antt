@@ -1,3 +1,4 @@
+-- `write_letters`: what holds in its loop over `letter`.
 use Rattle.std.proofs.Common.{take}
 use Rattle.std.specs.Io.KnownBytes.{Appends}
 use Rattle.pt_report.specs.Lines.{left_lines}

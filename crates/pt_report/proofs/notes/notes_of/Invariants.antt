@@ -1,3 +1,4 @@
+-- `notes_of`: what holds in its loop over `pid`.
 use Rattle.std.proofs.Common.{◌≡◌, map, take}
 use Rattle.pt_report.specs.declared.notes.Note.{Note}
 use Rattle.pt_report.proofs.notes.notes_of.Given as goal

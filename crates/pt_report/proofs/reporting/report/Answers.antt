@@ -1,3 +1,4 @@
+-- `report`: its clauses `text`, `refused` and `untouched`.
 use Rattle.std.proofs.Common.{◌-◌, sym, ◌∙◌}
 use Rattle.std.proofs.lemmas.Result.{IfErr-weaker}
 use Rattle.pt_report.specs.Reports.{IsRun}

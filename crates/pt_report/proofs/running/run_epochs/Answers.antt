@@ -1,3 +1,4 @@
+-- `run_epochs`: its clauses `fault`, `node` and `told`, and what its call of `run_once` asks.
 use Rattle.std.proofs.Common.{◌≡◌, ◌-◌, Err, subst, inl, inr, rules}
 use Rattle.pt_report.specs.Epochs.{HasWritten, IsOfEpochs, PassEpochs, RunsOn, Staffed}
 use Rattle.pt_report.specs.Reports.{IsOfRun}

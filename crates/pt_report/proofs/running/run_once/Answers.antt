@@ -1,5 +1,6 @@
+-- `run_once`: its clause `runs`.
 use Rattle.std.proofs.Common.{◌≡◌, sym, ◌∙◌}
-use Rattle.pt_choices.specs.declared.Mode.TheVariants.{Single, Many}
+use Rattle.pt_render.specs.declared.choices.Mode.TheVariants.{Single, Many}
 use Rattle.pt_node.specs.Running.{always}
 use Rattle.pt_report.proofs.Attending.{all_do, attended, in_rounds}
 use Rattle.pt_report.proofs.running.run_once.Goals as goal

@@ -1,6 +1,7 @@
+-- `count_events`: what holds in its loop over `desk`.
 use Rattle.std.proofs.Common.{◌≡◌, ◌-◌, ◌^◌, length}
 use Rattle.std.specs.Prelude.{min}
-use Rattle.pt_laws.specs.Load.{below}
+use Rattle.pt_events.specs.Counting.{below}
 use Rattle.pt_gathered.specs.Gathered.{journals}
 use Rattle.pt_report.proofs.summary.count_events.Given as goal
 

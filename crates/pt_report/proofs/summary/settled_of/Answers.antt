@@ -1,3 +1,4 @@
+-- `settled_of`: its clauses `totalled` and `fault`.
 use Rattle.std.proofs.Common.{◌-◌, ◌^◌, ◌∙◌, ap, sym, subst, zero-add, rules}
 use Rattle.std.specs.Prelude.{min}
 use Rattle.pt_report.specs.Reports.{IsOfSummary}

@@ -1,3 +1,4 @@
+-- `write_accounts`: its contract.
 use Rattle.std.proofs.Common.{arith}
 use Rattle.pt_events.specs.Journal.{events}
 use Rattle.pt_gathered.specs.Gathered.{begins}

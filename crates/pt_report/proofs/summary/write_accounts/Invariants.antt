@@ -1,3 +1,4 @@
+-- `write_accounts`: what holds in its loop over `pid`.
 use Rattle.std.proofs.Common.{take}
 use Rattle.std.specs.Io.KnownBytes.{Appends}
 use Rattle.pt_accounts.specs.LivesState.{InEveryMerge}

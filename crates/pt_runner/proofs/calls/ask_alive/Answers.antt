@@ -1,3 +1,4 @@
+-- `ask_alive`: its clause `does`.
 use Rattle.std.proofs.Common.{[], ◌∷◌, ◌++◌, None, sym, ap, ◌∙◌}
 use Rattle.pt_runner.specs.Acting.{ref_got}
 use Rattle.pt_runner.proofs.Acting.{ask_no_room, ask_no_target, ask_at}

@@ -1,3 +1,4 @@
+-- `call`: its clause `performs`.
 use Rattle.std.proofs.Common.{subst, refl}
 use Rattle.pt_runner.specs.declared.calls.Progress.TheVariants.{Done}
 use Rattle.pt_script.specs.declared.values.Operation.TheVariants as operation

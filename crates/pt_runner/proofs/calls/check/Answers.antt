@@ -1,3 +1,4 @@
+-- `check`: its clause `does`.
 use Rattle.std.proofs.Common.{sym, ◌∙◌}
 use Rattle.pt_runner.specs.declared.calls.Progress.TheVariants.{Done}
 use Rattle.pt_runner.proofs.Acting.{take_passed, take_at, checked_came}

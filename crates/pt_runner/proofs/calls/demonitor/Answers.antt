@@ -1,3 +1,4 @@
+-- `demonitor`: its clause `does`.
 use Rattle.std.proofs.Common.{sym, ◌∙◌}
 use Rattle.pt_runner.proofs.Acting.{demonitor_passed, demonitor_at}
 use Rattle.pt_runner.proofs.calls.demonitor.Goals as goal

@@ -1,3 +1,4 @@
+-- `exit_signal`: its clause `does`.
 use Rattle.std.proofs.Common.{Some, refl, sym, ◌∙◌}
 use Rattle.pt_signal.specs.declared.pid.Pid.{Pid}
 use Rattle.pt_signal.specs.declared.signal.Signal.TheVariants.{Exit}

@@ -1,3 +1,4 @@
+-- `link`: its clause `does`.
 use Rattle.std.proofs.Common.{refl, sym, ◌∙◌}
 use Rattle.pt_shard.specs.Calls.{link_event}
 use Rattle.pt_desk.specs.Reaching.{has_link_to_make}

@@ -1,3 +1,4 @@
+-- `monitor`: its clause `does`.
 use Rattle.std.proofs.Common.{[], ◌∷◌, ◌++◌, None, sym, ap, ◌∙◌}
 use Rattle.pt_runner.specs.Acting.{ref_got}
 use Rattle.pt_runner.proofs.Acting.{no_room, no_target, monitor_at}

@@ -1,3 +1,4 @@
+-- `send`: its clause `does`.
 use Rattle.std.proofs.Common.{Bool, Option, Some, sym, subst, ap, w64, ◌∙◌}
 use Rattle.std.specs.Prelude.{ℤ}
 use Rattle.std.proofs.lemmas.Int.{to_z-of_z}

@@ -1,3 +1,4 @@
+-- `unlink`: its clause `does`.
 use Rattle.std.proofs.Common.{refl, sym, ◌∙◌}
 use Rattle.pt_shard.specs.Calls.{unlink_event}
 use Rattle.pt_runner.proofs.Acting.{passed_at, call_at}

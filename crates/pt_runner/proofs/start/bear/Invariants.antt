@@ -1,3 +1,4 @@
+-- `bear`: what holds in its loop over `top`.
 use Rattle.std.proofs.Common.{◌≡◌, vec_len, length}
 use Rattle.std.specs.Vec.{vec_capacity}
 use Rattle.pt_script.specs.Nodes.{config_of}

@@ -1,3 +1,4 @@
+-- `pids_of`: its contract, and its loop over `index`.
 use Rattle.std.proofs.Common.{List, Option, None, length, replicate, get_or, ap, ◌∙◌, arith}
 use Rattle.std.specs.Prelude.{fold}
 use Rattle.pt_signal.specs.declared.pid.Pid.{Pid}

@@ -1,3 +1,4 @@
+-- `pids_of`: what holds in its loop over `index`.
 use Rattle.std.proofs.Common.{◌≡◌, length, take, None, replicate}
 use Rattle.std.specs.Prelude.{fold}
 use Rattle.pt_runner.specs.Starting.{named_tops, put_pid}

@@ -1,3 +1,4 @@
+-- `runner_of`: its contract, and its loop over `index`.
 use Rattle.std.proofs.Common.{◌+◌, List, Vec, Global, Option, map, get_or, subst, sym, ap, ◌∙◌, arith}
 use Rattle.pt_signal.specs.declared.pid.Pid.{Pid}
 use Rattle.pt_script.specs.declared.values.Top.{Top}

@@ -1,3 +1,4 @@
+-- `runner_of`: what holds in its loop over `index`.
 use Rattle.pt_runner.proofs.Starting.{Listed}
 use Rattle.pt_runner.proofs.start.runner_of.Given as goal
 

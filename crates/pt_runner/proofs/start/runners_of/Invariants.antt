@@ -1,3 +1,4 @@
+-- `runners_of`: what holds in its loop over `desk`.
 use Rattle.pt_runner.specs.Starting.{AreRunners}
 use Rattle.pt_runner.proofs.start.runners_of.Given as goal
 

@@ -1,3 +1,4 @@
+-- `finish`: its clause `goes_on`.
 use Rattle.pt_desk.proofs.Turning.{goes_on_then}
 use Rattle.pt_scenes.proofs.jobs.finish.Goals as goal
 

@@ -1,3 +1,4 @@
+-- `hand`: its clause `goes_on`.
 use Rattle.pt_desk.proofs.Turning.{goes_on_then}
 use Rattle.pt_scenes.proofs.jobs.hand.Goals as goal
 

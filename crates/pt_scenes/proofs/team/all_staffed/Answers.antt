@@ -1,3 +1,4 @@
+-- `all_staffed`: its clauses `upholds` and `node`, and its loop over `place`.
 use Rattle.std.proofs.Common.{◌≡◌, ◌<◌, ◌++◌, ◌∷◌, [], List, length, set, sym, ap, subst, ◌∙◌, length-append, arith}
 use Rattle.std.proofs.lemmas.List.{length-set}
 use Rattle.pt_node.proofs.StillDesks.{still_desks}

@@ -1,3 +1,4 @@
+-- `all_staffed`: what holds in its loop over `place`.
 use Rattle.std.proofs.Common.{◌≡◌, length}
 use Rattle.pt_node.specs.Desks.{AreDesks}
 use Rattle.pt_crew.proofs.Runs.{FirstUphold}

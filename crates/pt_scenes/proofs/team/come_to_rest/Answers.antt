@@ -1,3 +1,4 @@
+-- `come_to_rest`: its clauses `upholds` and `still`.
 use Rattle.std.proofs.Common.{◌≡◌, false, List, Option, Some, None, is_some, sym, ◌∙◌, refl, subst}
 use Rattle.pt_desk.specs.DeskState.{DeskState}
 use Rattle.pt_crew.specs.declared.crew.Crew.{Crew}

@@ -1,3 +1,4 @@
+-- `play`: its contract.
 use Rattle.pt_scenes.proofs.team.play.Goals as goal
 
 pub returns : goal.returns

@@ -1,3 +1,4 @@
+-- `settled`: its clauses `desks` and `lawful`.
 use Rattle.std.proofs.Common.{ap, ◌∙◌}
 use Rattle.pt_gathered.specs.Gathered.{GatheredState}
 use Rattle.pt_scenes.proofs.team.settled.Goals as goal

@@ -1,3 +1,4 @@
+-- `staffed`: its clause `upholds`.
 use Rattle.pt_scenes.proofs.team.staffed.Goals as goal
 
 pub returns-clause-upholds : goal.returns-clause-upholds

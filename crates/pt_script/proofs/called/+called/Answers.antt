@@ -1,3 +1,4 @@
+-- `+called`: its contract.
 use Rattle.std.proofs.Common.{◌≡◌, ◌-◌, ◌<◌, Ok, [], ◌∷◌, ◌++◌, length, map, ap, sym, ◌∙◌, arith}
 use Rattle.std.specs.Prelude.{codes}
 use Rattle.std.specs.String.{string_bytes}

@@ -1,3 +1,4 @@
+-- `+called`: what holds in its loop over `name_process`, `name_spawn`, `name_spawns` and `name_spawns-loop-op`.
 use Rattle.std.proofs.Common.{◌≡◌, ◌+◌, ◌*◌, ◌++◌, map, take}
 use Rattle.std.specs.String.{string_bytes}
 use Rattle.serde_json.specs.View.{view}

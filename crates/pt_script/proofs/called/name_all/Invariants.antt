@@ -1,3 +1,4 @@
+-- `name_all`: what holds in its loop over `value`.
 use Rattle.std.proofs.Common.{◌≡◌, ◌++◌, map, take}
 use Rattle.std.specs.String.{string_bytes}
 use Rattle.serde_json.specs.View.{view}

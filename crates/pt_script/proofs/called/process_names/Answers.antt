@@ -1,3 +1,4 @@
+-- `process_names`: its contract.
 use Rattle.std.proofs.Common.{refl, sym, ◌∙◌}
 use Rattle.std.proofs.lemmas.Bool.{false≢true}
 use Rattle.serde_json.specs.View.{view}

@@ -1,3 +1,4 @@
+-- `+begun`: its contract.
 use Rattle.std.proofs.Common.{◌≡◌, ◌-◌, ◌<◌, Ok, length, map, ap, sym, ◌∙◌, arith}
 use Rattle.std.specs.Prelude.{codes, min}
 use Rattle.std.proofs.lemmas.List.{get_or-map, length-map}

@@ -1,3 +1,4 @@
+-- `+begun`: what holds in its loop over `begun`, `begun_by`, `begun_within` and `begun_within-loop-op`.
 use Rattle.std.proofs.Common.{◌≡◌, ◌+◌, ◌*◌, map, take}
 use Rattle.std.specs.Prelude.{min}
 use Rattle.serde_json.specs.View.{view}

@@ -1,3 +1,4 @@
+-- `numbers_are_places`: its contract.
 use Rattle.pt_script.proofs.Numbering.{numbers_are_places}
 use Rattle.pt_script.proofs.laws.numbers_are_places.Goals as goal
 

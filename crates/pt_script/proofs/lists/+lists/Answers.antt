@@ -1,3 +1,4 @@
+-- `+lists`: its clause `read`, and what its call of `read_process` asks.
 use Rattle.std.proofs.Common.{◌≡◌, ◌+◌, ◌<◌, ◌++◌, ◌∙◌, sym, ap, arith, Ok, rules, length, length-append, append_assoc, refl, [], ◌∷◌, set, map, vec_len}
 use Rattle.std.proofs.lemmas.Grind.{common_steps}
 use Rattle.pt_script.specs.Lists.{fresh_scope, list_from}

@@ -1,3 +1,4 @@
+-- `+lists`: what holds in its loop over `read_spawn`, `read_process`, `read_list`, `read_operation` and `read_list-loop-index`.
 use Rattle.std.proofs.Common.{◌≡◌, ◌+◌, ◌*◌, ◌≤◌, List, ◌++◌, map, drop, vec_len}
 use Rattle.serde_json.specs.View.{view}
 use Rattle.pt_script.specs.Plans.{Plan}

@@ -1,3 +1,4 @@
+-- `read_simple`: its clause `read`.
 use Rattle.std.proofs.Common.{◌≡◌, Ok, true, false, sym, ◌∙◌, rules, arith}
 use Rattle.std.specs.Prelude.{codes}
 use Rattle.std.specs.Str.{bytes_eq}

@@ -1,3 +1,4 @@
+-- `decimal`: its contract.
 use Rattle.std.proofs.Common.{sym, rules}
 use Rattle.pt_script.proofs.NumberFacts.{number_read, number_refused}
 use Rattle.pt_script.proofs.operation.decimal.Goals as goal

@@ -1,3 +1,4 @@
+-- `new_name`: its contract.
 use Rattle.std.proofs.Common.{rules}
 use Rattle.pt_script.proofs.operation.new_name.Goals as goal
 

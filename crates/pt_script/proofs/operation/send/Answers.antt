@@ -1,3 +1,4 @@
+-- `send`: its contract.
 use Rattle.std.proofs.Common.{◌≡◌, ℕ, Ok, Err, ◌∷◌, [], sym, refl}
 use Rattle.std.specs.Prelude.{codes}
 use Rattle.std.proofs.lemmas.Result.{err_from_is_err_and}

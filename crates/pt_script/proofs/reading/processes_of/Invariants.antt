@@ -1,3 +1,4 @@
+-- `processes_of`: what holds in its loop over `pending`.
 use Rattle.std.proofs.Common.{◌≡◌, map, drop}
 use Rattle.pt_script.specs.Steps.{each}
 use Rattle.pt_script.specs.Scopes.{naming}

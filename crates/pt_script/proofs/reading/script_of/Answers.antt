@@ -1,3 +1,4 @@
+-- `script_of`: what its call of `new` asks.
 use Rattle.std.proofs.Common.{◌≡◌, Ok, map, rules, arith}
 use Rattle.std.specs.Prelude.{codes}
 use Rattle.std.proofs.lemmas.Grind.{common_steps}

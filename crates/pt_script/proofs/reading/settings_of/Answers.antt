@@ -1,3 +1,4 @@
+-- `settings_of`: its clause `value`.
 use Rattle.std.proofs.Common.{◌≡◌, ℕ, Ok, ◌∷◌, [], sym, refl}
 use Rattle.std.specs.Prelude.{codes}
 use Rattle.serde_json.specs.Data.{Data}

@@ -1,3 +1,4 @@
+-- `first_line`: what holds in its loop over `end`.
 use Rattle.std.proofs.Common.{◌≡◌, ◌++◌, take, drop}
 use Rattle.pt_session.specs.Sessions.{line_in}
 use Rattle.pt_session.proofs.expecting.first_line.Given as goal

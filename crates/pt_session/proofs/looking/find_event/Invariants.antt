@@ -1,3 +1,4 @@
+-- `find_event`: what holds in its loop over `place`.
 use Rattle.std.proofs.Common.{◌≡◌, drop}
 use Rattle.pt_session.specs.Looking.{event_in}
 use Rattle.pt_session.proofs.looking.find_event.Given as goal

@@ -1,3 +1,4 @@
+-- `events_of`: what holds in its loop over `place`.
 use Rattle.std.proofs.Common.{◌≡◌, ◌++◌, drop}
 use Rattle.pt_session.specs.Stepping.{without_stamps}
 use Rattle.pt_session.proofs.looking_back.events_of.Given as goal

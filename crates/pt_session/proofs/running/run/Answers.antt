@@ -1,6 +1,6 @@
 -- Each step hears one line more, or ends the run.
 use Rattle.std.proofs.Common.{subst, Bool}
-use Rattle.pt_shard.specs.declared.config.TheConstants.Config.{DEFAULT}
+use Rattle.pt_signal.specs.declared.config.TheConstants.Config.{DEFAULT}
 use Rattle.pt_session.specs.Running.{SessionSteps, fresh_session}
 use Rattle.pt_session.specs.Sessions.{seen_session}
 use Rattle.pt_session.proofs.LineByLine.{more, ended}

@@ -1,4 +1,5 @@
-use Rattle.pt_shard.specs.declared.config.TheConstants.Config.{DEFAULT}
+-- `run`: what holds in its loop over `number`.
+use Rattle.pt_signal.specs.declared.config.TheConstants.Config.{DEFAULT}
 use Rattle.pt_session.specs.Running.{HasRun, fresh_session}
 use Rattle.pt_session.specs.Sessions.{seen_session}
 use Rattle.pt_session.proofs.running.run.Given as goal

@@ -1,7 +1,7 @@
 -- A line that was read is heard, and what is written of it stands behind the prompt.
 use Rattle.std.proofs.Common.{ap, ◌∙◌, subst, Bool}
 use Rattle.std.specs.Io.BufRead.{strip_last}
-use Rattle.pt_shard.specs.declared.config.TheConstants.Config.{DEFAULT}
+use Rattle.pt_signal.specs.declared.config.TheConstants.Config.{DEFAULT}
 use Rattle.pt_session.specs.Running.{ReadsLine}
 use Rattle.pt_session.specs.Sessions.{seen_session}
 use Rattle.pt_session.proofs.LineByLine.{passed}

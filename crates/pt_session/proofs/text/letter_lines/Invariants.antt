@@ -1,3 +1,4 @@
+-- `letter_lines`: what holds in its loop over `place`.
 use Rattle.std.proofs.Common.{◌≡◌, ◌++◌, drop}
 use Rattle.std.specs.Prelude.{string_bytes}
 use Rattle.pt_session.specs.Text.{letter_lines}

@@ -1,3 +1,4 @@
+-- `push_items`: what holds in its loop over `place`.
 use Rattle.std.proofs.Common.{◌≡◌, ◌++◌, drop}
 use Rattle.std.specs.Prelude.{string_bytes}
 use Rattle.pt_session.specs.Text.{more_items}

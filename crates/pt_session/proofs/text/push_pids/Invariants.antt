@@ -1,3 +1,4 @@
+-- `push_pids`: what holds in its loop over `place`.
 use Rattle.std.proofs.Common.{◌≡◌, ◌++◌, drop}
 use Rattle.std.specs.Prelude.{string_bytes}
 use Rattle.pt_session.specs.Text.{more_pids}

@@ -1,3 +1,4 @@
+-- `bounce`: its contract.
 use Rattle.std.proofs.Common.{rules}
 use Rattle.pt_shard.proofs.acts.bounce.Goals as goal
 

@@ -1,3 +1,4 @@
+-- `close_monitor`: its contract.
 use Rattle.std.proofs.Common.{rules}
 use Rattle.pt_shard.proofs.acts.close_monitor.Goals as goal
 

@@ -1,3 +1,4 @@
+-- `end_by`: its clauses `from`, `to` and `letters`, and what its call of `write_end` asks.
 use Rattle.pt_shard.proofs.acts.end_by.Goals as goal
 
 pub write_end-requires-clause-from : goal.write_end-requires-clause-from

@@ -1,3 +1,4 @@
+-- `keep_link`: its contract.
 use Rattle.std.proofs.Common.{rules}
 use Rattle.pt_shard.proofs.acts.keep_link.Goals as goal
 

@@ -1,3 +1,4 @@
+-- `take`: its contract.
 use Rattle.std.proofs.Common.{◌<◌, ◌^◌, [], ap, ◌∙◌, arith}
 use Rattle.pt_events.specs.declared.event.Event.TheVariants.{Took}
 use Rattle.pt_process.specs.ProcessView.{ProcessView}

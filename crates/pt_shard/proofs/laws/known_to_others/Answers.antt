@@ -1,3 +1,4 @@
+-- `known_to_others`: its contract.
 use Rattle.std.proofs.Common.{◌≡◌, ◌≢◌, ℕ, Bool, true, false, ◌&&◌, ◌==◌, refl, ◌∙◌, ap}
 use Rattle.std.proofs.lemmas.Bool.{eqb-true}
 use Rattle.pt_signal.specs.declared.pid.Pid.{Pid}

@@ -1,3 +1,4 @@
+-- `no_letters`: what holds in its loop over `e`.
 use Rattle.std.proofs.Common.{◌≡◌, replicate, [], map}
 use Rattle.pt_shard.specs.LettersState.{LettersState}
 use Rattle.pt_shard.proofs.ledger.no_letters.Given as goal

@@ -1,3 +1,4 @@
+-- `reserve_owed`: its clauses `letters` and `room`, and its loop over `i`, and what its call of `index_mut` asks, and its checked operations.
 use Rattle.std.proofs.Common.{◌≡◌, ◌<◌, ◌≤◌, ◌+◌, ◌∙◌, map, length, get_or, slice_get, take, refl, sym, ap, subst, arith}
 use Rattle.std.proofs.lemmas.List.{length-map, length-set, length-take, get_or-replicate, take_all}
 use Rattle.std.proofs.lemmas.List.Sums.{count_by-le-length}

@@ -1,3 +1,4 @@
+-- `reserve_owed`: what holds in its loop over `i`.
 use Rattle.std.proofs.Common.{◌≡◌, ◌<◌, ◌≤◌, ℕ, map, take, length}
 use Rattle.std.specs.Prelude.{slice_index_or, count_by}
 use Rattle.pt_process.specs.Peers.{peers_held}

@@ -1,3 +1,4 @@
+-- `Slots::capacity`: its clause `beyond`.
 use Rattle.std.proofs.Common.{arith}
 use Rattle.std.proofs.lemmas.List.{get_or_past}
 use Rattle.pt_slots.specs.State.{issued}

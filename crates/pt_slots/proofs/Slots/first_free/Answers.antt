@@ -1,3 +1,4 @@
+-- `Slots::first_free`: its contract, and its loop over `slot`, and what its call of `unreachable` asks, and its checked operations.
 use Rattle.std.proofs.Common.{arith, ◌≤◌}
 use Rattle.pt_slots.specs.State.{first_free}
 use Rattle.pt_slots.proofs.Counts.{first_free_within, first_free_later, first_free_here}

@@ -1,3 +1,4 @@
+-- `Slots::first_free`: what holds in its loop over `slot`.
 use Rattle.std.proofs.Common.{◌≤◌}
 use Rattle.pt_slots.specs.State.{first_free}
 use Rattle.pt_slots.proofs.Slots.first_free.Given as goal

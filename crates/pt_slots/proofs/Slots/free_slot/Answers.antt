@@ -1,3 +1,4 @@
+-- `Slots::free_slot`: its contract.
 use Rattle.std.proofs.Common.{arith, sym, ◌∙◌}
 use Rattle.pt_slots.proofs.Offers.{free_slot_offered, free_slot_first}
 use Rattle.pt_slots.proofs.Slots.free_slot.Goals as goal

@@ -1,3 +1,4 @@
+-- `Slots::get_mut`: its contract.
 use Rattle.std.proofs.Common.{refl, sym}
 use Rattle.pt_slots.proofs.Steps.{written}
 use Rattle.pt_slots.proofs.Slots.get_mut.Goals as goal

@@ -1,3 +1,4 @@
+-- `Slots::grow`: its contract.
 use Rattle.std.proofs.Common.{refl, rules, ap, arith, ◌≤◌, length}
 use Rattle.pt_slots.proofs.Slots.grow.Goals as goal
 

@@ -1,3 +1,4 @@
+-- `Slots::insert`: its clauses `cases` and `never_falls`, and the invariant of `self`, and what its call of `insert_reserved` asks.
 use Rattle.std.proofs.Common.{refl}
 use Rattle.pt_slots.proofs.Steps.{room_for_free, inserted_filled, sound_filled, never_falls}
 use Rattle.pt_slots.proofs.Slots.insert.Goals as goal

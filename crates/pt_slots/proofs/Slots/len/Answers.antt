@@ -1,3 +1,4 @@
+-- `Slots::len`: its clauses `count` and `slots`, and its checked operations.
 use Rattle.std.proofs.Common.{sym, ◌∙◌, arith}
 use Rattle.pt_slots.specs.State.{live_count}
 use Rattle.pt_slots.proofs.Counts.{taken_split}

@@ -1,3 +1,4 @@
+-- `Slots::new`: its contract.
 use Rattle.std.proofs.Common.{refl}
 use Rattle.pt_slots.proofs.Offers.{is_empty}
 use Rattle.pt_slots.proofs.Slots.new.Goals as goal

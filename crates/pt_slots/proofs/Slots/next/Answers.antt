@@ -1,3 +1,4 @@
+-- `Slots::next`: its clauses `key` and `offers`, and its checked operations.
 use Rattle.std.proofs.Common.{arith, ap, sym, ◌+◌, ◌<◌, ℕ, is_some, count_by, subst}
 use Rattle.pt_slots.specs.State.{issued, state}
 use Rattle.pt_slots.specs.Offers.{OffersTheFree}

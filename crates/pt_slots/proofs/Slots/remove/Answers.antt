@@ -1,3 +1,4 @@
+-- `Slots::remove`: its contract, and the invariant of `self`.
 use Rattle.std.proofs.Common.{sym, rules, ◌≡◌, get_or}
 use Rattle.pt_slots.proofs.Steps.{same_value, value_below_top, removed_freed, sound_freed}
 use Rattle.pt_slots.proofs.Slots.remove.Goals as goal

@@ -1,3 +1,4 @@
+-- `Slots::remove_last`: its contract, and the invariant of `self`, and what its call of `index_mut` asks, and its checked operations.
 use Rattle.std.proofs.Common.{refl, sym, ◌∙◌}
 use Rattle.pt_slots.proofs.Steps.{found, holds, same_value, removed_spent, sound_spent, retired_fits}
 use Rattle.pt_slots.proofs.Slots.remove_last.Goals as goal

@@ -1,3 +1,4 @@
+-- `Slots::value_mut`: its contract, and what its calls of `index_mut` and `value_mut` ask, and its checked operations.
 use Rattle.std.proofs.Common.{refl, ◌∙◌}
 use Rattle.pt_slots.proofs.Steps.{found, holds, same_value}
 use Rattle.pt_slots.proofs.Slots.value_mut.Goals as goal

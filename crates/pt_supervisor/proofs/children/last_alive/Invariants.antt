@@ -1,3 +1,4 @@
+-- `last_alive`: what holds in its loop over `place`.
 use Rattle.std.proofs.Common.{◌≡◌}
 use Rattle.pt_supervisor.specs.Children.{last_alive}
 use Rattle.pt_supervisor.proofs.children.last_alive.Given as goal

@@ -1,3 +1,4 @@
+-- `gathered_children_live`: its clauses `run`, `rounds`, `rests` and `live`.
 use Rattle.pt_node.specs.Running.{begins_by}
 use Rattle.pt_node.specs.declared.work.Standing.TheVariants.{Going}
 use Rattle.pt_crew.proofs.Runs.{run_upholds, rounds_uphold, rest_upholds}

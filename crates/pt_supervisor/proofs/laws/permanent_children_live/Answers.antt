@@ -1,3 +1,4 @@
+-- `permanent_children_live`: its clauses `stays` and `live`.
 use Rattle.std.proofs.lemmas.Option.{slice_get_within}
 use Rattle.pt_supervisor.proofs.Wanting.{heard_keeps, lives_when_wanted}
 use Rattle.pt_supervisor.proofs.laws.permanent_children_live.Goals as goal

@@ -1,3 +1,4 @@
+-- `quiet_children_live`: its clauses `nobody`, `step`, `work`, `receipt`, `enter`, `idle` and `live`.
 use Rattle.pt_crew.proofs.Upholding.{step_upholds, work_upholds, receipt_upholds, enter_upholds}
 use Rattle.pt_supervisor.specs.Keeping.{Keeps}
 use Rattle.pt_supervisor.proofs.Tending.{begins, upheld}

@@ -1,3 +1,4 @@
+-- `stopped_children_ended`: its clauses `left`, `left_work`, `receipt` and `ended`.
 use Rattle.pt_crew.proofs.Upholding.{step_left, work_left, receipt_left}
 use Rattle.pt_supervisor.specs.Keeping.{Keeps}
 use Rattle.pt_supervisor.proofs.Tending.{upheld}

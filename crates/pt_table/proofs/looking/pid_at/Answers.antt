@@ -1,3 +1,4 @@
+-- `pid_at`: its contract.
 use Rattle.pt_table.proofs.looking.pid_at.Goals as goal
 
 pub returns : goal.returns

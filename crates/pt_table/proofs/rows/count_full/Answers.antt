@@ -1,3 +1,4 @@
+-- `count_full`: its loop over `k`, and its checked operations.
 use Rattle.std.proofs.Common.{◌≡◌, ℕ, ◌+◌, ◌<◌, length, map, get_or, refl, sym, ap, ◌∙◌, arith, cond, []}
 use Rattle.std.proofs.lemmas.List.{length-map, length-append, get_or_default}
 use mir.Val.{bool_byte}

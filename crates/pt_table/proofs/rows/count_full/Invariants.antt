@@ -1,3 +1,4 @@
+-- `count_full`: what holds in its loop over `k`.
 use Rattle.std.proofs.Common.{◌≡◌, ℕ, List, ◌++◌, map, length}
 use Rattle.pt_desk.specs.DeskState.{DeskState}
 use Rattle.pt_table.specs.Answers.{HandlePlace, values}

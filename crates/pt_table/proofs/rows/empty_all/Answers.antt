@@ -1,3 +1,4 @@
+-- `empty_all`: its loop over `k`, and what its call of `unwrap` asks, and its checked operations.
 use Rattle.std.proofs.Common.{◌≡◌, ℕ, ◌+◌, ◌<◌, ◌++◌, ◌∷◌, [], length, map, get_or, refl, sym, ap, ◌∙◌, arith}
 use Rattle.std.proofs.lemmas.List.{length-map, length-append, get_or_default}
 use Rattle.pt_table.specs.Answers.{values}

@@ -1,3 +1,4 @@
+-- `spare_places`: what holds in its loop over `place`.
 use Rattle.std.proofs.Common.{◌≡◌, length}
 use Rattle.pt_table.proofs.rows.spare_places.Given as goal
 

@@ -1,3 +1,4 @@
+-- `no_two_print_alike`: its contract.
 use Rattle.std.proofs.Common.{refl}
 use Rattle.pt_texts.proofs.Parsed.{apart}
 use Rattle.pt_texts.proofs.Printed.{pid_reads, ref_reads, link_id_reads, ids_reads, reason_reads, body_reads, item_reads, pick_reads, signal_reads, letter_reads}

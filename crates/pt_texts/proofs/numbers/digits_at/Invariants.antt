@@ -1,3 +1,4 @@
+-- `digits_at`: what holds in its loop over `place`.
 use Rattle.std.proofs.Common.{◌≡◌, ◌≤◌, drop}
 use Rattle.pt_texts.specs.Numbers.{digits_at}
 use Rattle.pt_texts.proofs.numbers.digits_at.Given as goal

@@ -1,3 +1,4 @@
+-- `parse_body`: its contract.
 use Rattle.std.proofs.Common.{refl}
 use Rattle.pt_texts.proofs.Parsed.{parsed}
 use Rattle.pt_texts.proofs.Printed.{body_reads}

@@ -1,3 +1,4 @@
+-- `parse_event`: its contract.
 use Rattle.pt_texts.proofs.Parsed.{parsed}
 use Rattle.pt_texts.proofs.Told.{event_reads}
 use Rattle.pt_texts.proofs.parse.parse_event.Goals as goal

@@ -1,3 +1,4 @@
+-- `parse_ids`: its contract.
 use Rattle.pt_texts.proofs.Parsed.{parsed}
 use Rattle.pt_texts.proofs.Printed.{ids_reads}
 use Rattle.pt_texts.proofs.parse.parse_ids.Goals as goal

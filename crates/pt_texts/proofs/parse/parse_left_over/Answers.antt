@@ -1,3 +1,4 @@
+-- `parse_left_over`: its contract.
 use Rattle.pt_texts.proofs.Parsed.{parsed}
 use Rattle.pt_texts.proofs.Told.{left_over_reads}
 use Rattle.pt_texts.proofs.parse.parse_left_over.Goals as goal

@@ -1,3 +1,4 @@
+-- `parse_letter`: its contract.
 use Rattle.pt_texts.proofs.Parsed.{parsed}
 use Rattle.pt_texts.proofs.Printed.{letter_reads}
 use Rattle.pt_texts.proofs.parse.parse_letter.Goals as goal

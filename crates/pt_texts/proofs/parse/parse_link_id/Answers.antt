@@ -1,3 +1,4 @@
+-- `parse_link_id`: its contract.
 use Rattle.pt_texts.proofs.Parsed.{parsed}
 use Rattle.pt_texts.proofs.Printed.{link_id_reads}
 use Rattle.pt_texts.proofs.parse.parse_link_id.Goals as goal

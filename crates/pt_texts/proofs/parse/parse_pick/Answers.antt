@@ -1,3 +1,4 @@
+-- `parse_pick`: its contract.
 use Rattle.pt_texts.proofs.Parsed.{parsed}
 use Rattle.pt_texts.proofs.Printed.{pick_reads}
 use Rattle.pt_texts.proofs.parse.parse_pick.Goals as goal

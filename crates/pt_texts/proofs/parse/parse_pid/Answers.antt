@@ -1,3 +1,4 @@
+-- `parse_pid`: its contract.
 use Rattle.pt_texts.proofs.Parsed.{parsed}
 use Rattle.pt_texts.proofs.Printed.{pid_reads}
 use Rattle.pt_texts.proofs.parse.parse_pid.Goals as goal

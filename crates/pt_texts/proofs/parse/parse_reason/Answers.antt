@@ -1,3 +1,4 @@
+-- `parse_reason`: its contract.
 use Rattle.pt_texts.proofs.Parsed.{parsed}
 use Rattle.pt_texts.proofs.Printed.{reason_reads}
 use Rattle.pt_texts.proofs.parse.parse_reason.Goals as goal

@@ -1,3 +1,4 @@
+-- `parse_ref`: its contract.
 use Rattle.pt_texts.proofs.Parsed.{parsed}
 use Rattle.pt_texts.proofs.Printed.{ref_reads}
 use Rattle.pt_texts.proofs.parse.parse_ref.Goals as goal

@@ -1,3 +1,4 @@
+-- `parse_signal`: its contract.
 use Rattle.std.proofs.Common.{refl}
 use Rattle.pt_texts.proofs.Parsed.{parsed}
 use Rattle.pt_texts.proofs.Printed.{signal_reads}

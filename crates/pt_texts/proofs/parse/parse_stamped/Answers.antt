@@ -1,3 +1,4 @@
+-- `parse_stamped`: its contract.
 use Rattle.pt_texts.proofs.Parsed.{parsed}
 use Rattle.pt_texts.proofs.Told.{stamped_reads}
 use Rattle.pt_texts.proofs.parse.parse_stamped.Goals as goal

@@ -1,3 +1,4 @@
+-- `behind`: what holds in its loop over `place`.
 use Rattle.std.proofs.Common.{◌≡◌, ◌≤◌, drop, length}
 use Rattle.pt_texts.specs.Steps.{behind}
 use Rattle.pt_texts.proofs.steps.behind.Given as goal

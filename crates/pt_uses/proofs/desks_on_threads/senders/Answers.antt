@@ -1,3 +1,4 @@
+-- `senders`: its clause `node`, and its loop over `d`.
 use Rattle.std.proofs.Common.{arith, rules}
 use Rattle.pt_node.proofs.StillDesks.{still_desks}
 use Rattle.pt_uses.proofs.desks_on_threads.senders.Goals as goal

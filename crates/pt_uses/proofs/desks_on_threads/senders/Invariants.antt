@@ -1,3 +1,4 @@
+-- `senders`: what holds in its loop over `d`.
 use Rattle.std.proofs.Common.{◌≡◌, ◌≤◌, vec_len}
 use Rattle.std.specs.Vec.{vec_capacity}
 use Rattle.pt_node.specs.Desks.{AreDesks}

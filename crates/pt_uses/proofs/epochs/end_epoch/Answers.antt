@@ -1,3 +1,4 @@
+-- `end_epoch`: its contract.
 use Rattle.pt_uses.proofs.Archiving.{one_history}
 use Rattle.pt_uses.proofs.epochs.end_epoch.Goals as goal
 

@@ -1,3 +1,4 @@
+-- `epochs::epochs`: its contract, and its loop over `epoch`.
 use Rattle.std.proofs.Common.{suc, ◌+◌, ◌≡◌, subst, arith}
 use Rattle.pt_node.specs.Running.{AllWork, always, begins_by}
 use Rattle.pt_uses.specs.Epochs.{Epoch, PassAsOne}

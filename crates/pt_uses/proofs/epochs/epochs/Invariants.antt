@@ -1,3 +1,4 @@
+-- `epochs::epochs`: what holds in its loop over `epoch`.
 use Rattle.pt_node.specs.Running.{AllWork, always, begins_by}
 use Rattle.pt_uses.specs.Epochs.{PassAsOne}
 use Rattle.pt_uses.proofs.epochs.epochs.Given as goal

@@ -1,3 +1,4 @@
+-- `take_hit`: its clause `does`.
 use mir.Val.{SFits}
 use Rattle.std.proofs.Common.{inr, ℤ, w64, rules, refl, ap, ◌∙◌}
 use Rattle.std.proofs.lemmas.Int.{to_z-of_z}

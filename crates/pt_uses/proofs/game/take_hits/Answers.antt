@@ -1,3 +1,4 @@
+-- `take_hits`: its clause `does`, and its loop over `turn`.
 use Rattle.std.proofs.Common.{◌≡◌, ◌+◌, ◌-◌, ℤ, Bool, true, false, Ok, Err, rules, arith, subst}
 use Rattle.pt_shard.specs.ShardState.{ShardState}
 use Rattle.pt_uses.specs.Games.{TakesHit}

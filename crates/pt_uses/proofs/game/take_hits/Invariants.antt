@@ -1,3 +1,4 @@
+-- `take_hits`: what holds in its loop over `turn`.
 use Rattle.std.proofs.Common.{◌-◌, ℤ, Result}
 use Rattle.pt_shard.specs.declared.fault.Fault.{Fault}
 use Rattle.pt_shard.specs.ShardState.{ShardState}

@@ -1,3 +1,4 @@
+-- `tell`: its clause `does`.
 use Rattle.std.proofs.Common.{Some, sym, subst, ◌∙◌, w64}
 use Rattle.std.specs.Prelude.{ℤ}
 use Rattle.std.proofs.lemmas.Int.{to_z-of_z}

@@ -1,3 +1,4 @@
+-- `exchange`: its clause `does`.
 use Rattle.std.proofs.Common.{◌≡◌, inl, inr, Err, refl, rules}
 use Rattle.pt_uses.proofs.two_processes.exchange.Goals as goal
 

@@ -1,3 +1,4 @@
+-- `two_processes::two_processes`: its clause `exchanged`.
 use Rattle.std.proofs.Common.{◌≡◌, length, refl, arith}
 use Rattle.pt_uses.proofs.Exchanged.{has_exchanged}
 use Rattle.pt_uses.proofs.two_processes.two_processes.Goals as goal

@@ -1,3 +1,4 @@
+-- `ends_behind_quiet_turns`: its contract.
 use Rattle.pt_uses.proofs.Quieted.{ends_quietly}
 use Rattle.pt_uses.proofs.until_quiet.ends_behind_quiet_turns.Goals as goal
 

@@ -1,3 +1,4 @@
+-- `DeskLives::forget`: its clause `anew`, and the invariant of `self`.
 use Rattle.std.proofs.Common.{List, sym, subst}
 use Rattle.pt_accounts.specs.LifeState.{LifeState}
 use Rattle.pt_accounts.specs.DeskLives.{DeskTable, BeginsAnew}

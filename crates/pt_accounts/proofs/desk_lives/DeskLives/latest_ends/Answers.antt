@@ -1,3 +1,4 @@
+-- `DeskLives::latest_ends`: its loop over `slot`.
 use Rattle.std.proofs.Common.{◌≡◌, ◌∙◌, ◌++◌, ◌+◌, ◌<◌, ℕ, List, map, take, get_or, length, ap, sym, subst, append_assoc, option_to_list, arith}
 use Rattle.std.proofs.lemmas.List.{map-append}
 use Rattle.std.specs.Prelude.{filter_map}

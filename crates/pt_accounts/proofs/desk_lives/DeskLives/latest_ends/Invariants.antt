@@ -1,3 +1,4 @@
+-- `DeskLives::latest_ends`: what holds in its loop over `slot`.
 use Rattle.std.proofs.Common.{◌≡◌, ◌++◌, map, take}
 use Rattle.std.specs.Prelude.{filter_map}
 use Rattle.pt_accounts.specs.DeskLives.{latest_end}

@@ -1,3 +1,4 @@
+-- `DeskLives::list`: what holds in its loop over `slot`.
 use Rattle.std.proofs.Common.{◌≡◌, ◌++◌, take}
 use Rattle.pt_accounts.specs.DeskLives.{pids_in}
 use Rattle.pt_accounts.proofs.desk_lives.DeskLives.list.Given as goal

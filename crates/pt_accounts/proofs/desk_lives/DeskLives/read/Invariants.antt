@@ -1,3 +1,4 @@
+-- `DeskLives::read`: what holds in its loop over `place`.
 use Rattle.std.proofs.Common.{◌≡◌}
 use Rattle.pt_accounts.specs.DeskLives.{ReadsOn}
 use Rattle.pt_accounts.proofs.desk_lives.DeskLives.read.Given as goal

@@ -1,3 +1,4 @@
+-- `DeskLives::slot`: its clause `counted`.
 use Rattle.std.proofs.Common.{subst}
 use Rattle.pt_accounts.specs.DeskLives.{DeskTable}
 use Rattle.pt_accounts.specs.SlotState.{IsCountedUpTo}

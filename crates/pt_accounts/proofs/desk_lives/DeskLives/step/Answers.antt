@@ -1,3 +1,4 @@
+-- `DeskLives::step`: the invariant of `self`, and what its call of `observe` asks.
 use Rattle.std.proofs.Common.{◌≡◌, ◌+◌, sym, subst, arith}
 use Rattle.pt_accounts.specs.DeskLives.{DeskTable}
 use Rattle.pt_accounts.specs.SlotState.{SlotsAreCounted}

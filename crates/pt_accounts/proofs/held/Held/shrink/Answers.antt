@@ -1,3 +1,4 @@
+-- `Held::shrink`: its clause `state`.
 use Rattle.std.proofs.Common.{◌≡◌, length, ap, sym, ◌∙◌}
 use Rattle.std.proofs.lemmas.Bool.{eqb-true}
 use Rattle.pt_signal.specs.declared.reason.Reason.{Reason}

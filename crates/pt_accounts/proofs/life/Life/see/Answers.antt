@@ -1,3 +1,4 @@
+-- `Life::see`: its contract.
 use Rattle.std.proofs.Common.{rules}
 use Rattle.pt_accounts.proofs.life.Life.see.Goals as goal
 

@@ -1,3 +1,4 @@
+-- `Life::watching`: its contract.
 use Rattle.std.proofs.Common.{rules}
 use Rattle.pt_accounts.proofs.life.Life.watching.Goals as goal
 

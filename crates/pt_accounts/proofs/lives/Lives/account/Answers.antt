@@ -1,3 +1,4 @@
+-- `Lives::account`: its contract.
 use Rattle.std.proofs.Common.{◌∙◌, None, sym, subst, arith}
 use Rattle.pt_accounts.specs.DeskLives.{life_in}
 use Rattle.pt_accounts.specs.LivesState.{AreLivesOf}

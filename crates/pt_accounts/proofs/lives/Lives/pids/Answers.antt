@@ -1,3 +1,4 @@
+-- `Lives::pids`: its contract.
 use Rattle.std.proofs.Common.{◌≡◌, subst}
 use Rattle.pt_accounts.specs.LivesState.{Lives, all_pids}
 use Rattle.pt_accounts.proofs.NodePids.{all_listed}

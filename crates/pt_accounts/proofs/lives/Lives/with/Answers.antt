@@ -1,3 +1,4 @@
+-- `Lives::with`: its contract, and what its call of `read` asks.
 use Rattle.std.proofs.Common.{◌≡◌, ◌∙◌, ◌++◌, ◌∷◌, [], ap, sym, subst}
 use Rattle.pt_events.specs.Journal.{events}
 use Rattle.pt_accounts.specs.DeskLives.{DeskTable, IsJournalOver, IsReadUpTo, IsDeskJournal}

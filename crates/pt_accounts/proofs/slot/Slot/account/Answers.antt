@@ -1,3 +1,4 @@
+-- `Slot::account`: its contract, and what its call of `account` asks.
 use Rattle.std.proofs.Common.{◌≡◌, ◌∙◌, ◌-◌, ◌^◌, Some, None, ap, sym, subst, arith, vec_capacity}
 use Rattle.std.specs.Prelude.{IfSome}
 use Rattle.std.specs.Option.{option_map}

@@ -1,3 +1,4 @@
+-- `Slot::forget`: its contract, and the invariant of `self`, and what its calls of `add_reasons` and `add_reason` ask.
 use Rattle.std.proofs.Common.{◌≡◌, ◌∙◌, ◌++◌, ◌+◌, [], ap, sym, subst, arith, length, map, List, vec_capacity, option_to_list}
 use Rattle.std.proofs.lemmas.List.{length-append}
 use Rattle.pt_accounts.specs.LifeState.{LifeState}

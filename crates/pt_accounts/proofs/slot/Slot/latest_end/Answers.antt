@@ -1,3 +1,4 @@
+-- `Slot::latest_end`: its contract, and its checked operations.
 use Rattle.std.proofs.Common.{◌≡◌, ◌∙◌, ◌-◌, ap, sym, arith, length, vec_capacity}
 use Rattle.pt_accounts.specs.DeskLives.{latest_end}
 use Rattle.pt_accounts.specs.SlotState.{lives_of}

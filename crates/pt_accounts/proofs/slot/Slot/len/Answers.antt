@@ -1,3 +1,4 @@
+-- `Slot::len`: its clause `len`.
 use Rattle.std.proofs.Common.{◌≡◌, ap, arith, length}
 use Rattle.pt_accounts.specs.SlotState.{lives_of}
 use Rattle.pt_accounts.proofs.SlotLives.{length_lives}

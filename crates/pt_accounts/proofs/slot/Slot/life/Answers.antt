@@ -1,3 +1,4 @@
+-- `Slot::life`: its contract.
 use Rattle.std.proofs.Common.{◌-◌, subst, arith, inl, inr, refl, vec_capacity}
 use Rattle.std.specs.Option.{option_map}
 use Rattle.pt_accounts.specs.Table.{of_version}

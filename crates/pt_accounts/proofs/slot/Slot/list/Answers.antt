@@ -1,3 +1,4 @@
+-- `Slot::list`: its loop over `place`.
 use Rattle.std.proofs.Common.{◌≡◌, ◌∙◌, ◌++◌, ◌∷◌, [], ◌+◌, List, ap, sym, subst, arith, take, length, vec_capacity, append_assoc}
 use Rattle.pt_signal.specs.declared.pid.Pid.{Pid}
 use Rattle.pt_accounts.specs.LifeState.{LifeState}

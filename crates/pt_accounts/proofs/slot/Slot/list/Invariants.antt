@@ -1,3 +1,4 @@
+-- `Slot::list`: what holds in its loop over `place`.
 use Rattle.std.proofs.Common.{◌≡◌, ◌++◌, take}
 use Rattle.pt_accounts.specs.DeskLives.{pids_of}
 use Rattle.pt_accounts.proofs.slot.Slot.list.Given as goal

@@ -1,3 +1,4 @@
+-- `Slot::pop`: its contract, and the invariant of `self`.
 use Rattle.std.proofs.Common.{◌∙◌, vec_capacity}
 use Rattle.pt_accounts.proofs.SlotLives.{newest_lives, popped_lives, popped_slot}
 use Rattle.pt_accounts.proofs.slot.Slot.pop.Goals as goal

@@ -1,3 +1,4 @@
+-- `Slot::push`: its clause `added`, and the invariant of `self`.
 use Rattle.std.proofs.Common.{◌∙◌, ◌++◌, ◌∷◌, [], Some, List, ap, sym, subst, arith, vec_capacity}
 use Rattle.pt_accounts.specs.LifeState.{LifeState}
 use Rattle.pt_accounts.specs.SlotState.{IsSlot, lives_of}

@@ -1,3 +1,4 @@
+-- `Slot::see`: its clause `versions`, and the invariant of `self`, and what its call of `see` asks.
 use Rattle.std.proofs.Common.{◌≡◌, ◌∙◌, ◌==◌, ℕ, Some, cond, List, Result, Ok, Err, ap, sym, subst, arith, inl, inr, vec_capacity}
 use Rattle.std.specs.Prelude.{IfSome, OnOk}
 use Rattle.std.specs.Option.{option_map}

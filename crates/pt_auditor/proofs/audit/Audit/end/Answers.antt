@@ -1,3 +1,4 @@
+-- `Audit::end`: its contract.
 use Rattle.std.proofs.Common.{[], ◌∙◌, refl, sym, subst, append-nil, inl}
 use Rattle.pt_auditor.specs.Reading.{without_return, OneMore, IsFault}
 use Rattle.pt_auditor.proofs.Read.{nothing, line_over, faulty, why_is, concluded, concluded_open}

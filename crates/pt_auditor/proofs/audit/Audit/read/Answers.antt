@@ -1,3 +1,4 @@
+-- `Audit::read`: its contract, and its loop over `place`.
 use Rattle.std.proofs.Common.{◌+◌, ◌-◌, ◌^◌, ◌++◌, ◌∙◌, min, take, drop, get_or, refl, sym, subst, ap, length}
 use Rattle.std.proofs.lemmas.List.{take_all}
 use Rattle.pt_auditor.specs.declared.fault.Fault.{Fault}

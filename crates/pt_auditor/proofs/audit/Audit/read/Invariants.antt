@@ -1,3 +1,4 @@
+-- `Audit::read`: what holds in its loop over `place`.
 use Rattle.std.proofs.Common.{ℕ, List, ◌++◌, take}
 use Rattle.pt_auditor.specs.Hearings.{Heard}
 use Rattle.pt_auditor.specs.Reading.{IsRead}

@@ -1,3 +1,4 @@
+-- `Hearing::end`: its contract.
 use Rattle.std.proofs.Common.{refl, sym}
 use Rattle.pt_auditor.proofs.Heard.{all_told, verdict_is}
 use Rattle.pt_auditor.proofs.hearing.Hearing.end.Goals as goal

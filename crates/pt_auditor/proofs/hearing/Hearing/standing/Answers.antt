@@ -1,3 +1,4 @@
+-- `Hearing::standing`: its clause `told`.
 use Rattle.std.proofs.Common.{◌≡◌, [], ◌∙◌, sym, ap}
 use Rattle.pt_events.specs.History.{life}
 use Rattle.pt_events.specs.Journal.{events}

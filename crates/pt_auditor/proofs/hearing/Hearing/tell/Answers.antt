@@ -1,3 +1,4 @@
+-- `Hearing::tell`: its contract.
 use Rattle.pt_auditor.proofs.Heard.{one_letter, other_letter, comes_next, comes_not}
 use Rattle.pt_auditor.proofs.hearing.Hearing.tell.Goals as goal
 

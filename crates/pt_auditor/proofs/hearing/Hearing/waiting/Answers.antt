@@ -1,3 +1,4 @@
+-- `Hearing::waiting`: its contract.
 use Rattle.std.proofs.Common.{◌≡◌, Bool, true, false, cond, Some, None, List, length, refl, ap}
 use Rattle.pt_auditor.proofs.hearing.Hearing.waiting.Goals as goal
 

@@ -1,3 +1,4 @@
+-- `Ins::collect`: its clauses `some` and `first`.
 use Rattle.pt_carrier.proofs.Collecting.{collects, is_first}
 use Rattle.pt_carrier.proofs.ends.Ins.collect.Goals as goal
 

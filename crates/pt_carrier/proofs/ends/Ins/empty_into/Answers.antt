@@ -1,3 +1,4 @@
+-- `Ins::empty_into`: its loop over `d`.
 use Rattle.std.proofs.Common.{◌≡◌, ◌≢◌, ◌⊎◌, inl, inr, ℕ, ◌+◌, ◌*◌, ◌<◌, ◌≤◌, [], ◌++◌, length, map, get_or, set, arith, ap, sym, ◌∙◌, below_more}
 use Rattle.std.proofs.lemmas.List.{length-map, get_or-set_other}
 use Rattle.std.proofs.lemmas.Nat.{same_from_place}
@@ -5,7 +6,7 @@ use Rattle.pt_carrier.specs.Lanes.{Receiving}
 use Rattle.pt_carrier.specs.Ends.{InEnds}
 use Rattle.pt_carrier.specs.Node.{lists}
 use Rattle.pt_carrier.specs.Reunion.{room_of}
-use Rattle.pt_carrier.proofs.Lists.{get_or-map_read, get_or-map_set_same, get_or-map_set_other}
+use Rattle.pt_signal.proofs.Lists.{get_or-map_read, get_or-map_set_same, get_or-map_set_other}
 use Rattle.pt_carrier.proofs.ends.Ins.empty_into.Goals as goal
 
 pub loop-d-preserved : goal.loop-d-preserved

@@ -1,3 +1,4 @@
+-- `Ins::empty_into`: what holds in its loop over `d`.
 use Rattle.std.proofs.Common.{◌≡◌, ◌≢◌, ◌⊎◌, ℕ, ◌+◌, ◌*◌, ◌<◌, ◌≤◌, [], map, vec_len, slice_index_or}
 use Rattle.pt_carrier.specs.Lanes.{Receiving}
 use Rattle.pt_carrier.specs.Node.{lists}

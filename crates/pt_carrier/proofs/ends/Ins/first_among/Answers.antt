@@ -1,9 +1,11 @@
+-- `Ins::first_among`: its clauses `same`, `some` and `others`, and its loop over `d`.
 use Rattle.std.proofs.Common.{◌≡◌, ◌≢◌, ◌<◌, ◌≤◌, ◌⊎◌, inl, inr, length, map, [], ◌∙◌, ap, arith, get_or, set, refl, sym, below_more}
 use Rattle.std.proofs.lemmas.List.{length-map}
 use Rattle.std.proofs.lemmas.Grind.{elements}
 use Rattle.pt_carrier.specs.Lanes.{Receiving}
 use Rattle.pt_carrier.specs.Ends.{InEnds}
-use Rattle.pt_carrier.proofs.Lists.{map-set_same, get_or-map_read, length-map_same, get_or-map_set_same, get_or-map_set_other}
+use Rattle.pt_signal.proofs.Lists.{map-set_same, get_or-map_read, get_or-map_set_same, get_or-map_set_other}
+use Rattle.pt_carrier.proofs.Lists.{length-map_same}
 use Rattle.pt_carrier.proofs.Collecting.{IsPrefix-nil, nil_where_none}
 use Rattle.pt_carrier.proofs.ends.Ins.first_among.Goals as goal
 

@@ -1,3 +1,4 @@
+-- `Ins::first_among`: what holds in its loop over `d`.
 use Rattle.std.proofs.Common.{◌≡◌, ℕ, ◌<◌, ◌≤◌, ◌⊎◌, [], slice_index_or}
 use Rattle.pt_carrier.specs.Ends.{in_ends, ComeInTo, ShowNone}
 use Rattle.pt_carrier.proofs.ends.Ins.first_among.Given as goal

@@ -1,7 +1,8 @@
+-- `Ins::meet`: its contract, and what its call of `meet` asks.
 use Rattle.std.proofs.Common.{◌≡◌, List, [], length, get_or, ◌∙◌, ap, arith}
 use Rattle.pt_signal.specs.declared.letter.Letter.{Letter}
 use Rattle.pt_carrier.specs.Lanes.{Sending, Receiving}
-use Rattle.pt_carrier.proofs.Lists.{get_or-map_set_other, get_or-map_set_same}
+use Rattle.pt_signal.proofs.Lists.{get_or-map_set_other, get_or-map_set_same}
 use Rattle.pt_carrier.proofs.Meeting.{xs_within, ys_within, same_ring, same_from, same_to, outs_kept, ins_kept, is_whole}
 use Rattle.pt_carrier.proofs.ends.Ins.meet.Goals as goal
 

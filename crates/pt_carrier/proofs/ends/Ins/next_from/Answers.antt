@@ -1,3 +1,4 @@
+-- `Ins::next_from`: its clause `some`.
 use Rattle.std.proofs.Common.{rules}
 use Rattle.pt_carrier.proofs.ends.Ins.next_from.Goals as goal
 

@@ -1,8 +1,9 @@
+-- `Ins::pass`: its clauses `collects`, `place` and `others`.
 use Rattle.std.proofs.Common.{◌+◌, ◌%◌, ◌<◌, length, [], ◌∙◌, ap, arith, get_or, sym}
 use Rattle.std.proofs.lemmas.List.{length-map}
 use Rattle.pt_carrier.specs.Lanes.{Receiving}
 use Rattle.pt_carrier.specs.Ends.{InEnds}
-use Rattle.pt_carrier.proofs.Lists.{map-set_same, map-set_more, get_or-map_read, get_or-map_set_same, get_or-map_set_other}
+use Rattle.pt_signal.proofs.Lists.{map-set_same, map-set_more, get_or-map_read, get_or-map_set_same, get_or-map_set_other}
 use Rattle.pt_carrier.proofs.Collecting.{IsPrefix-is}
 use Rattle.pt_carrier.proofs.ends.Ins.pass.Goals as goal
 

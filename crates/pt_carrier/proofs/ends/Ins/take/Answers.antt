@@ -1,3 +1,4 @@
+-- `Ins::take`: its clause `collects`.
 use Rattle.std.proofs.Common.{rules}
 use Rattle.pt_carrier.proofs.ends.Ins.take.Goals as goal
 

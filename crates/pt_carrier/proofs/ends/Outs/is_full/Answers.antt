@@ -1,9 +1,10 @@
+-- `Outs::is_full`: its clauses `same`, `full`, `room` and `looks`.
 use Rattle.std.proofs.Common.{Bool, true, false, map, set, sym, ap, ◌∙◌, arith}
 use Rattle.std.specs.Bool.{OnTrue, OnFalse}
 use Rattle.std.proofs.lemmas.List.{map-set}
 use Rattle.pt_carrier.specs.Lanes.{Sending}
 use Rattle.pt_carrier.specs.Ends.{OutEnds}
-use Rattle.pt_carrier.proofs.Lists.{map-set_same, get_or-map_read}
+use Rattle.pt_signal.proofs.Lists.{map-set_same, get_or-map_read}
 use Rattle.pt_carrier.proofs.Posting.{lane_in, seen_now, full_at, place_at}
 use Rattle.pt_carrier.proofs.ends.Outs.is_full.Goals as goal
 

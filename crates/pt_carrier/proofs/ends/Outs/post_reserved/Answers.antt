@@ -1,7 +1,8 @@
+-- `Outs::post_reserved`: its clauses `same` and `posted`.
 use Rattle.std.proofs.Common.{ap, ◌∙◌}
 use Rattle.pt_carrier.specs.Lanes.{Sending}
 use Rattle.pt_carrier.specs.Ends.{OutEnds}
-use Rattle.pt_carrier.proofs.Lists.{map-set_same, map-set_more}
+use Rattle.pt_signal.proofs.Lists.{map-set_same, map-set_more}
 use Rattle.pt_carrier.proofs.Posting.{lane_in}
 use Rattle.pt_carrier.proofs.ends.Outs.post_reserved.Goals as goal
 

@@ -1,8 +1,9 @@
+-- `Outs::post_run`: its clauses `same`, `posted`, `full` and `looks`.
 use Rattle.std.proofs.Common.{map, set, sym, ap, ◌∙◌, arith}
 use Rattle.std.proofs.lemmas.List.{map-set}
 use Rattle.pt_carrier.specs.Lanes.{Sending}
 use Rattle.pt_carrier.specs.Ends.{OutEnds}
-use Rattle.pt_carrier.proofs.Lists.{map-set_same, map-set_longer, get_or-map_read}
+use Rattle.pt_signal.proofs.Lists.{map-set_same, map-set_longer, get_or-map_read}
 use Rattle.pt_carrier.proofs.Posting.{lane_in, seen_now, full_at}
 use Rattle.pt_carrier.proofs.ends.Outs.post_run.Goals as goal
 

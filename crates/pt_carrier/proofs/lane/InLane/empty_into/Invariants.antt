@@ -1,3 +1,4 @@
+-- `InLane::empty_into`: what holds in its loop over `k`.
 use Rattle.std.proofs.Common.{◌≡◌, ◌+◌, ◌≤◌, length, ◌++◌, vec_len}
 use Rattle.std.specs.Vec.{vec_capacity}
 use Rattle.pt_carrier.proofs.lane.InLane.empty_into.Given as goal

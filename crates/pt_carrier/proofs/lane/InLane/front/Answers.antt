@@ -1,3 +1,4 @@
+-- `InLane::front`: its contract.
 use Rattle.std.proofs.Common.{◌≡◌, [], ◌∷◌, subst}
 use mathlib.Core.List.{IsPrefix}
 use Rattle.rtrb.specs.Ring.{known_items}

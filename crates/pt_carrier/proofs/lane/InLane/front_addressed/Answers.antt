@@ -1,3 +1,4 @@
+-- `InLane::front_addressed`: its contract.
 use Rattle.std.proofs.Common.{◌≡◌, [], ◌∷◌, map, ap, refl, subst}
 use mathlib.Core.List.{IsPrefix}
 use Rattle.pt_carrier.specs.Lanes.{Receiving, on_lane}

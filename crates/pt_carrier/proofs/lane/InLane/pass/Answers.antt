@@ -1,3 +1,4 @@
+-- `InLane::pass`: its clause `passed`.
 use Rattle.std.proofs.Common.{◌≡◌, [], ◌∷◌, ◌++◌, ◌∙◌, map, ap, refl, subst}
 use Rattle.std.proofs.lemmas.List.{map-append}
 use Rattle.pt_signal.specs.declared.letter.Letter.{Letter}

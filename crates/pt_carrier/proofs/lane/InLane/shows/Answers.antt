@@ -1,3 +1,4 @@
+-- `InLane::shows`: its clause `looked`.
 use Rattle.rtrb.specs.Ring.{known_items}
 use Rattle.pt_carrier.specs.Lanes.{on_lane}
 use Rattle.pt_carrier.proofs.Lists.{IsPrefix-map}

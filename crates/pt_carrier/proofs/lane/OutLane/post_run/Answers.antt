@@ -1,3 +1,4 @@
+-- `OutLane::post_run`: its clause `posted`.
 use Rattle.std.proofs.Common.{◌≡◌, ◌++◌, map, length, take, sym, ap, ◌∙◌, subst}
 use Rattle.std.proofs.lemmas.List.{map-append}
 use Rattle.rtrb.specs.Ring.{sent}

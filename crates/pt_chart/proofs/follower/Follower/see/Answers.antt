@@ -1,3 +1,4 @@
+-- `Follower::see`: its clauses `state`, `sent` and `ending`.
 use Rattle.std.proofs.Common.{rules}
 use Rattle.pt_chart.proofs.follower.Follower.see.Goals as goal
 

@@ -1,3 +1,4 @@
+-- `Crew::admit`: its clause `admits`, and its loop over `place`.
 use Rattle.std.proofs.Common.{arith}
 use Rattle.pt_shard.specs.ShardState.{lives}
 use Rattle.pt_crew.proofs.Visiting.{none_entered, next_enters, all_entered}

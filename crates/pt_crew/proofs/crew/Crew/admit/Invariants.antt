@@ -1,3 +1,4 @@
+-- `Crew::admit`: what holds in its loop over `place`.
 use Rattle.pt_shard.specs.ShardState.{lives}
 use Rattle.pt_crew.specs.Crews.{KnowsDesk, HasRoom}
 use Rattle.pt_crew.proofs.Visiting.{Entering}

@@ -1,3 +1,4 @@
+-- `Crew::admit_one`: its clauses `admits` and `knows`.
 use Rattle.std.proofs.Common.{refl, sym}
 use Rattle.pt_shard.specs.ShardState.{lives, phase_of}
 use Rattle.pt_crew.proofs.Admitting.{denied, nobody_waits}

@@ -1,3 +1,4 @@
+-- `Crew::begin_again`: its clause `attends`, and its loop over `place`.
 use Rattle.std.proofs.Common.{◌+◌, List, [], drop, refl, sym, subst, ◌∙◌, append-nil, arith}
 use Rattle.pt_signal.specs.declared.pid.Pid.{Pid}
 use Rattle.pt_crew.specs.Crews.{queue, roles}

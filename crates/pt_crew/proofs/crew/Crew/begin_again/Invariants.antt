@@ -1,3 +1,4 @@
+-- `Crew::begin_again`: what holds in its loop over `place`.
 use Rattle.std.proofs.Common.{◌≡◌, drop}
 use Rattle.std.specs.Map.{keys_of}
 use Rattle.pt_crew.specs.Visiting.{AreSame}

@@ -1,3 +1,4 @@
+-- `Crew::enter`: its clauses `knows` and `room`.
 use Rattle.std.proofs.Common.{◌≡◌, true, Some, None, ap, sym, refl, arith}
 use Rattle.std.specs.Map.{lookup}
 use Rattle.pt_signal.specs.declared.pid.Pid.{Pid}

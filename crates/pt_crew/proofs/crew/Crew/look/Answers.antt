@@ -1,3 +1,4 @@
+-- `Crew::look`: its clauses `room`, `kept`, `longer`, `rest` and `knows`, and its loop over `self`.
 use Rattle.std.proofs.Common.{length, refl, reverse, ap, sym, ◌∙◌, arith}
 use Rattle.std.proofs.lemmas.List.{length-reverse}
 use Rattle.pt_crew.proofs.Reading.{look_next, on_ok}

@@ -1,3 +1,4 @@
+-- `Crew::look`: what holds in its loop over `self`.
 use Rattle.std.proofs.Common.{◌-◌, length}
 use Rattle.pt_crew.specs.Visiting.{AreSame}
 use Rattle.pt_crew.specs.Crews.{KeepsRest, KnowsDesk, HasRoom, queue, roles}

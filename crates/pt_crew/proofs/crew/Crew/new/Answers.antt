@@ -1,3 +1,4 @@
+-- `Crew::new`: its clause `attends`.
 use Rattle.std.proofs.Common.{rules}
 use Rattle.pt_crew.proofs.Waking.{nobody}
 use Rattle.pt_crew.proofs.crew.Crew.new.Goals as goal

@@ -1,3 +1,4 @@
+-- `Crew::round`: its clause `visits`, and its loop over `place`.
 use Rattle.std.proofs.Common.{arith, refl, ◌∙◌}
 use Rattle.pt_crew.specs.Crews.{queue}
 use Rattle.pt_crew.proofs.Visiting.{none_so_far, one_more, all_so_far}

@@ -1,3 +1,4 @@
+-- `Crew::round`: what holds in its loop over `place`.
 use Rattle.std.proofs.Common.{◌≡◌}
 use Rattle.pt_desk.specs.DeskState.{GoesOn}
 use Rattle.pt_crew.specs.Crews.{KnowsDesk, HasRoom, queue}

@@ -1,3 +1,4 @@
+-- `Crew::serve`: its clauses `knows`, `room` and `serves`.
 use Rattle.std.proofs.Common.{◌≡◌, ◌⊎◌, inl, List, ◌∷◌, true, false, Some, None, inr, ap, sym, subst, refl, ◌∙◌, append-nil, arith}
 use Rattle.pt_signal.specs.declared.pid.Pid.{Pid}
 use Rattle.pt_desk.proofs.Turning.{extends}

@@ -1,3 +1,4 @@
+-- `Crew::take_in`: its clauses `knows` and `room`.
 use Rattle.std.proofs.Common.{◌≡◌, true, false, Some, ap, sym, refl, ◌∙◌, arith}
 use Rattle.pt_signal.specs.Values.{same_pid}
 use Rattle.pt_desk.proofs.Turning.{extends}

@@ -1,3 +1,4 @@
+-- `Crew::wake`: its clauses `wakes`, `room`, `refused` and `keys`.
 use Rattle.std.proofs.Common.{◌≡◌, List, [], ◌∷◌, ◌++◌, Bool, true, cond, ap, sym, refl, ◌∙◌, append-nil, arith}
 use Rattle.pt_signal.specs.declared.pid.Pid.{Pid}
 use Rattle.pt_crew.proofs.Waking.{woken, same_back, same_queue, same_some, woken_queue}

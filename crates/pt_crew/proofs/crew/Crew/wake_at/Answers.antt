@@ -1,3 +1,4 @@
+-- `Crew::wake_at`: its clause `wakes`.
 use Rattle.std.proofs.Common.{slice_get, ap, sym, ◌∙◌}
 use Rattle.pt_crew.proofs.Beginning.{on_ok_then, woken_at}
 use Rattle.pt_crew.proofs.crew.Crew.wake_at.Goals as goal

@@ -1,3 +1,4 @@
+-- `Crew::work`: its clauses `attends` and `does`.
 use Rattle.pt_crew.specs.Crews.{members}
 use Rattle.pt_crew.proofs.Waking.{knows_later}
 use Rattle.pt_crew.proofs.crew.Crew.work.Goals as goal

@@ -1,3 +1,4 @@
+-- `CrewWork::step`: its contract, and its loop over `round`.
 use Rattle.std.proofs.Common.{arith, ◌∙◌, sym, subst}
 use Rattle.pt_shard.specs.ShardState.{ShardState}
 use Rattle.pt_crew.specs.Crews.{roles}

@@ -1,3 +1,4 @@
+-- `CrewWork::step`: what holds in its loop over `round`.
 use Rattle.std.proofs.Common.{◌≤◌}
 use Rattle.std.specs.Prelude.{max}
 use Rattle.pt_desk.specs.DeskState.{GoesOn}

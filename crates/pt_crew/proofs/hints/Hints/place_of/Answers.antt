@@ -1,3 +1,4 @@
+-- `Hints::place_of`: its clause `found`.
 use Rattle.std.proofs.Common.{is_some, ap, sym, ◌∙◌}
 use Rattle.indexmap.proofs.MapLemmas.{some_index}
 use Rattle.pt_signal.specs.Values.{same_pid}

@@ -1,3 +1,4 @@
+-- `Desk::ask_alive`: the invariant of `self`.
 use Rattle.std.proofs.Common.{Some}
 use Rattle.std.specs.Arc.{arc_value}
 use Rattle.pt_signal.specs.declared.signal.Signal.TheVariants.{AliveAsk}

@@ -1,3 +1,4 @@
+-- `Desk::demonitor`: the invariant of `self`.
 use Rattle.std.specs.Prelude.{is_some}
 use Rattle.std.specs.Arc.{arc_value}
 use Rattle.pt_shard.specs.Calls.{demonitor_event}

@@ -1,3 +1,4 @@
+-- `Desk::exit`: the invariant of `self`, and what its call of `tell_end` asks.
 use Rattle.std.proofs.Common.{◌≡◌, ◌+◌, Some, refl, sym, ap, ◌∙◌, subst, arith}
 use Rattle.std.specs.Arc.{arc_value}
 use Rattle.pt_events.specs.declared.event.Event.TheVariants.{Left}

@@ -1,3 +1,4 @@
+-- `Desk::handle`: its clauses `empty`, `here` and `near`, and the invariant of `self`, and what its calls of `hold_front` and `tell_ended` ask.
 use Rattle.std.proofs.Common.{◌≡◌, ◌<◌, Some, Ok, Err, sym, ap, ◌∙◌, subst, arith}
 use Rattle.std.specs.Arc.{arc_value}
 use Rattle.std.specs.Prelude.{IfSome}

@@ -1,3 +1,4 @@
+-- `Desk::handle_held`: the invariant of `self`, and what its call of `tell_ended` asks.
 use Rattle.std.proofs.Common.{◌≡◌, ◌<◌, None, sym, ap, ◌∙◌, subst, arith}
 use Rattle.std.specs.Prelude.{IfSome}
 use Rattle.std.specs.Arc.{arc_value}

@@ -1,3 +1,4 @@
+-- `Desk::journal`: its clauses `posted` and `collected`.
 use Rattle.std.proofs.Common.{subst}
 use Rattle.pt_desk.specs.DeskState.{IsDesk}
 use Rattle.pt_desk.proofs.Accounts.{posted_to_every, collected_from_every}

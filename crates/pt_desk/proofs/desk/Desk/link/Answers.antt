@@ -1,3 +1,4 @@
+-- `Desk::link`: its clause `goes_on`, and the invariant of `self`.
 use Rattle.std.proofs.Common.{subst}
 use Rattle.std.specs.Arc.{arc_value}
 use Rattle.pt_shard.specs.Calls.{link_event}

@@ -1,3 +1,4 @@
+-- `Desk::look`: its clauses `looks` and `goes_on`, and the invariant of `self`.
 use Rattle.std.proofs.Common.{◌≡◌, ◌+◌, max, true, Some, None, Ok, refl, sym, subst, arith}
 use Rattle.std.specs.Arc.{arc_value}
 use Rattle.pt_events.specs.declared.event.Event.TheVariants.{Refused}

@@ -1,3 +1,4 @@
+-- `Desk::meet`: its contract, and the invariant of `self` and `from`, and what its call of `meet` asks.
 use Rattle.std.proofs.Common.{refl}
 use Rattle.std.specs.Arc.{arc_value}
 use Rattle.pt_desk.proofs.Seating.{sight_of, met_whole}

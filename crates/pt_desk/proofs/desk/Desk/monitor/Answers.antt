@@ -1,3 +1,4 @@
+-- `Desk::monitor`: its clause `goes_on`, and the invariant of `self`.
 use Rattle.std.proofs.Common.{subst}
 use Rattle.std.specs.Arc.{arc_value}
 use Rattle.pt_desk.specs.DeskState.{GoesOn}

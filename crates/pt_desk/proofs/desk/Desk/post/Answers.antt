@@ -1,3 +1,4 @@
+-- `Desk::post`: its clause `posts`, and its loop over `to`.
 use Rattle.std.proofs.Common.{arith, rules}
 use Rattle.pt_desk.proofs.Posted.{below_next}
 use Rattle.pt_desk.proofs.desk.Desk.post.Goals as goal

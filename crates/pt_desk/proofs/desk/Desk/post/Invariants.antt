@@ -1,3 +1,4 @@
+-- `Desk::post`: what holds in its loop over `to`.
 use Rattle.std.proofs.Common.{◌≡◌, ◌-◌, ◌^◌, min}
 use Rattle.pt_desk.specs.Posting.{total}
 use Rattle.pt_desk.proofs.Posted.{PostsBelow}

@@ -1,3 +1,4 @@
+-- `Desk::post_run`: its clauses `names`, `to` and `some`, and the invariant of `self`, and what its call of `post_run` asks.
 use Rattle.std.proofs.Common.{◌<◌, [], length, take, get_or, sym, ap, ◌∙◌, subst, arith}
 use Rattle.std.specs.Arc.{arc_value}
 use Rattle.pt_carrier.specs.Lanes.{AllGo}

@@ -1,3 +1,4 @@
+-- `Desk::receive`: the invariant of `self`.
 use Rattle.pt_shard.specs.Calls.{take_event, first_match}
 use Rattle.std.specs.Arc.{arc_value}
 use Rattle.pt_desk.proofs.Calling.{calls_step, step_whole, own_take}

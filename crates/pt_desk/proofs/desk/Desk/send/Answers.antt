@@ -1,3 +1,4 @@
+-- `Desk::send`: its clause `goes_on`, and the invariant of `self`.
 use Rattle.std.proofs.Common.{Some, subst}
 use Rattle.std.specs.Arc.{arc_value}
 use Rattle.pt_signal.specs.declared.signal.Signal.TheVariants.{Message}

@@ -1,3 +1,4 @@
+-- `Desk::spawn`: the invariant of `self`.
 use Rattle.std.proofs.Common.{None}
 use Rattle.std.specs.Arc.{arc_value}
 use Rattle.pt_desk.proofs.Calling.{bears_step, step_whole}

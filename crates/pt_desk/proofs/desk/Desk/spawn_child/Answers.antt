@@ -1,3 +1,4 @@
+-- `Desk::spawn_child`: the invariant of `self`.
 use Rattle.pt_desk.proofs.Calling.{bears_child_step, step_whole}
 use Rattle.std.specs.Arc.{arc_value}
 use Rattle.pt_desk.proofs.Seating.{sight_of}

@@ -1,3 +1,4 @@
+-- `Desk::trap`: the invariant of `self`.
 use Rattle.std.proofs.Common.{Some}
 use Rattle.std.specs.Arc.{arc_value}
 use Rattle.pt_events.specs.declared.event.Event.TheVariants.{Flag}

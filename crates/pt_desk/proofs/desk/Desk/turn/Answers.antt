@@ -1,3 +1,4 @@
+-- `Desk::turn`: its clauses `goes_on` and `turns`, and its loop over `letter`.
 use Rattle.std.proofs.Common.{◌∷◌, Some, None, subst, Ok, inl, inr, refl, arith, rules}
 use Rattle.pt_desk.specs.Turns.{HandlesAtMostOne}
 use Rattle.pt_desk.proofs.Turning.{turn_goes_on}

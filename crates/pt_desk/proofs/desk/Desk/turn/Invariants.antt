@@ -1,3 +1,4 @@
+-- `Desk::turn`: what holds in its loop over `letter`.
 use Rattle.std.proofs.Common.{◌≡◌, List, length}
 use Rattle.pt_signal.specs.declared.letter.Letter.{Letter}
 use Rattle.pt_desk.specs.Turns.{HandlesAll}

@@ -1,3 +1,4 @@
+-- `Desk::unlink`: the invariant of `self`.
 use Rattle.pt_shard.specs.Calls.{unlink_event}
 use Rattle.std.specs.Arc.{arc_value}
 use Rattle.pt_desk.proofs.Calling.{calls_step, step_whole, own_unlink}

@@ -1,3 +1,4 @@
+-- `Directory::audit`: what its call of `load` asks.
 use Rattle.std.proofs.Common.{◌*◌, ◌<◌, sym, ap, ◌∙◌, arith, mul-pos}
 use Rattle.pt_directory.proofs.Loads.{audits}
 use Rattle.pt_directory.proofs.directory.Directory.audit.Goals as goal

@@ -1,3 +1,4 @@
+-- `Directory::ended`: what holds in its loop.
 use Rattle.pt_directory.proofs.directory.Directory.ended.Given as goal
 
 abbrev pub ghosts-store_death : goal.ghosts-store_death

@@ -1,3 +1,4 @@
+-- `Directory::join`: what its call of `join_seat` asks.
 use Rattle.std.proofs.Common.{◌*◌, ◌<◌, sym, ap, ◌∙◌, arith, mul-pos}
 use Rattle.pt_directory.proofs.SeatSteps.{joins}
 use Rattle.pt_directory.proofs.directory.Directory.join.Goals as goal

@@ -1,3 +1,4 @@
+-- `Directory::load_death`: what its call of `load` asks.
 use Rattle.std.proofs.Common.{◌*◌, sym, ap, ◌∙◌, arith}
 use Rattle.pt_directory.proofs.Words.{word_in, loads_death_as}
 use Rattle.pt_directory.proofs.directory.Directory.load_death.Goals as goal

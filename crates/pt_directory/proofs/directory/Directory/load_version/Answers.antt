@@ -1,3 +1,4 @@
+-- `Directory::load_version`: its contract, and what its call of `load` asks.
 use Rattle.std.proofs.Common.{ℕ, ◌*◌, sym, ap, ◌∙◌, subst, arith}
 use Rattle.atomic_table.specs.Table.{Allows}
 use Rattle.pt_directory.specs.Rule.{Ruled, LoadsVersion}

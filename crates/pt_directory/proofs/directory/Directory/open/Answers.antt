@@ -1,3 +1,4 @@
+-- `Directory::open`: its loop over `desk`, and what its calls of `split_seat` and `push_reserved` ask.
 use Rattle.std.proofs.Common.{◌≡◌, ◌+◌, ◌-◌, ◌*◌, ◌<◌, ◌∷◌, ap, ◌∙◌, arith, mul-pos}
 use Rattle.pt_directory.specs.Views.{fresh_view, up_from}
 use Rattle.pt_directory.specs.Rule.{one_home, other_homes}

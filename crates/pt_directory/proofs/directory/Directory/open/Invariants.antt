@@ -1,3 +1,4 @@
+-- `Directory::open`: what holds in its loop over `desk`.
 use Rattle.std.proofs.Common.{◌≡◌, ◌-◌, ◌≤◌, map, vec_capacity}
 use Rattle.pt_directory.specs.Views.{fresh_view, up_from}
 use Rattle.pt_directory.specs.Seats.{new_seat}

@@ -1,3 +1,4 @@
+-- `Directory::probe`: its clause `read`.
 use Rattle.pt_directory.proofs.Words.{probed}
 use Rattle.std.proofs.Common.{◌∙◌, arith}
 use Rattle.pt_directory.proofs.directory.Directory.probe.Goals as goal

@@ -1,3 +1,4 @@
+-- `Directory::probe`: what holds in its loop.
 use Rattle.pt_directory.proofs.directory.Directory.probe.Given as goal
 
 abbrev pub ghosts-load_version : goal.ghosts-load_version

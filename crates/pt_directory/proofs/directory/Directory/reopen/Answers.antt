@@ -1,3 +1,4 @@
+-- `Directory::reopen`: its clauses `seat`, `version` and `stamp`, and its loop over `entry`, and what its calls of `index_mut` and `ended` ask, and its checked operations.
 use Rattle.std.proofs.Common.{◌≡◌, ℕ, ◌<◌, List, map, get_or, take, set, sym, ap, ◌∙◌, arith}
 use Rattle.std.proofs.lemmas.List.{take_more}
 use Rattle.std.proofs.lemmas.List.Elements.{All-get_or}

@@ -1,3 +1,4 @@
+-- `Directory::reopen`: what holds in its loop over `entry`.
 use Rattle.std.proofs.Common.{◌≡◌, map, take}
 use Rattle.pt_directory.specs.Views.{up_from}
 use Rattle.pt_directory.specs.Seats.{reopened_seat}

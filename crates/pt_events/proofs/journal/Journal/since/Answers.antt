@@ -1,3 +1,4 @@
+-- `Journal::since`: its contract.
 use Rattle.std.proofs.Common.{◌≡◌, ◌-◌, leb, length, drop, reverse, subst, sym, ap, ◌∙◌, arith, rules}
 use Rattle.std.specs.List.Sorted.{IsNonDecreasingBy}
 use Rattle.std.proofs.lemmas.List.{take_all, length-drop, reverse-reverse}

@@ -1,3 +1,4 @@
+-- `Gathered::settle`: its clauses `refused_again` and `again`, and what its calls of `with` and `told` ask.
 use Rattle.std.proofs.Common.{length, refl, sym, ap, ◌∙◌, subst, le_refl}
 use Rattle.pt_gathered.specs.Gathered.{GatheredState}
 use Rattle.pt_gathered.specs.Settling.{NothingLeft}

@@ -1,3 +1,4 @@
+-- `Node::clock`: its contract, and its loop over `which`.
 use Rattle.std.proofs.Common.{◌≡◌, length, max, ap, ◌∙◌, arith}
 use Rattle.pt_gathered.specs.Gathered.{GatheredState}
 use Rattle.pt_gathered.specs.Quiet.{latest_below}

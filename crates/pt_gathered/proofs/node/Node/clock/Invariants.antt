@@ -1,3 +1,4 @@
+-- `Node::clock`: what holds in its loop over `which`.
 use Rattle.std.proofs.Common.{◌≡◌}
 use Rattle.pt_gathered.specs.Quiet.{latest_below}
 use Rattle.pt_gathered.proofs.node.Node.clock.Given as goal

@@ -1,3 +1,4 @@
+-- `Node::desks`: its clause `few`.
 use Rattle.std.proofs.Common.{◌≤◌, length, subst}
 use Rattle.pt_gathered.specs.Gathered.{GatheredState}
 use Rattle.pt_gathered.proofs.Agreeing.{few_desks}

@@ -1,3 +1,4 @@
+-- `Node::history`: its clauses `merge` and `legal`.
 use Rattle.std.proofs.Common.{◌≡◌, reverse, sym, subst}
 use Rattle.pt_events.specs.Journal.{IsMerge}
 use Rattle.pt_gathered.specs.Gathered.{GatheredState, journals}

@@ -1,3 +1,4 @@
+-- `Node::left_over`: its loop over `d`.
 use Rattle.std.proofs.Common.{◌++◌, length, sym, ap, ◌∙◌}
 use Rattle.pt_gathered.specs.LeftOvers.{left_from}
 use Rattle.pt_gathered.proofs.Places.{joined_more}

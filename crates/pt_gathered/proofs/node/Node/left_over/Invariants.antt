@@ -1,3 +1,4 @@
+-- `Node::left_over`: what holds in its loop over `d`.
 use Rattle.std.proofs.Common.{◌≡◌, length}
 use Rattle.pt_gathered.specs.LeftOvers.{joined_letters, left_from}
 use Rattle.pt_gathered.proofs.node.Node.left_over.Given as goal

@@ -1,3 +1,4 @@
+-- `Node::list_between`: its contract, and its loop over `letter`.
 use Rattle.std.proofs.Common.{◌≡◌, ◌+◌, ◌-◌, ◌++◌, map, drop, vec_len, sym, ap, ◌∙◌, arith}
 use Rattle.std.specs.Prelude.{slice_get}
 use Rattle.pt_gathered.specs.Gathered.{over_in}

@@ -1,3 +1,4 @@
+-- `Node::list_between`: what holds in its loop over `letter`.
 use Rattle.std.proofs.Common.{◌≡◌, ◌-◌, ◌≤◌, ◌++◌, length, map, drop, vec_len}
 use Rattle.pt_gathered.specs.Gathered.{over_in}
 use Rattle.pt_gathered.specs.LeftOvers.{from_to, left_between}

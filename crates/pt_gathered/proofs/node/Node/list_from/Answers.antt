@@ -1,3 +1,4 @@
+-- `Node::list_from`: its loop over `e`.
 use Rattle.std.proofs.Common.{◌++◌, append_assoc, sym, ap, ◌∙◌}
 use Rattle.pt_gathered.specs.LeftOvers.{left_from, left_between}
 use Rattle.pt_gathered.proofs.Places.{joined_more}

@@ -1,3 +1,4 @@
+-- `Node::list_from`: what holds in its loop over `e`.
 use Rattle.std.proofs.Common.{◌≡◌, ◌++◌}
 use Rattle.pt_gathered.specs.LeftOvers.{left_from}
 use Rattle.pt_gathered.proofs.node.Node.list_from.Given as goal

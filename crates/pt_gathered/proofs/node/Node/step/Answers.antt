@@ -1,3 +1,4 @@
+-- `Node::step`: its clauses `does`, `here`, `near`, `shards`, `posted` and `begun`, and the invariant of `self`, and what its calls of `handle` and `take_out` ask.
 use Rattle.std.proofs.Common.{◌≡◌, ◌<◌, true, [], length, get_or, set, sym, ap, ◌∙◌, refl, subst, arith}
 use Rattle.std.specs.Prelude.{slice_get, Ok, Err}
 use Rattle.std.proofs.lemmas.List.{set-get_or}

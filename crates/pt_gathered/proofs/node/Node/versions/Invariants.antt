@@ -1,3 +1,4 @@
+-- `Node::versions`: what holds in its loop over `which`.
 use Rattle.std.proofs.Common.{◌≡◌, ℕ, ◌<◌, false, get_or}
 use Rattle.pt_signal.specs.declared.pid.Pid.{Pid}
 use Rattle.pt_events.specs.History.{is_unborn}

@@ -1,3 +1,4 @@
+-- `Quiet::account`: its contract.
 use Rattle.std.proofs.Common.{◌≡◌, subst}
 use Rattle.pt_accounts.specs.LivesState.{InEveryMerge, account_in}
 use Rattle.pt_gathered.specs.Gathered.{begins, journals}

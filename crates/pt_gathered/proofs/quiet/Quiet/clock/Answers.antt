@@ -1,6 +1,7 @@
+-- `Quiet::clock`: its clauses `journals`, `shards` and `within`.
 use Rattle.std.proofs.Common.{ℕ, ◌<◌, ◌≤◌, length, get_or, sym, subst}
 use Rattle.pt_events.specs.Journal.{clock}
-use Rattle.pt_events.specs.declared.event.TheConstants.{MAX_STAMP}
+use Rattle.pt_signal.specs.declared.config.TheConstants.{MAX_STAMP}
 use Rattle.pt_shard.specs.ShardState.{ShardState}
 use Rattle.pt_shard.specs.Opening.{fresh_shard}
 use Rattle.pt_gathered.specs.Gathered.{journals}

@@ -1,3 +1,4 @@
+-- `Quiet::history`: its clauses `quiet` and `whole`.
 use Rattle.std.proofs.Common.{[], ◌++◌, reverse, sym, subst}
 use Rattle.std.specs.Prelude.{IfOk}
 use Rattle.std.proofs.lemmas.Result.{IfOk-weaker}

@@ -1,3 +1,4 @@
+-- `Quiet::kept`: its contract.
 use Rattle.std.proofs.Common.{◌≡◌, subst}
 use Rattle.std.specs.List.{list_any}
 use Rattle.pt_signal.specs.Values.{same_ref}

@@ -1,3 +1,4 @@
+-- `Quiet::latest_ends`: its loop over `which`.
 use Rattle.std.proofs.Common.{◌++◌, map, sym, ap, ◌∙◌, arith}
 use Rattle.pt_accounts.specs.DeskLives.{latest_ends}
 use Rattle.pt_gathered.proofs.Ends.{ends_more}

@@ -1,3 +1,4 @@
+-- `Quiet::latest_ends`: what holds in its loop over `which`.
 use Rattle.std.proofs.Common.{◌≡◌, take}
 use Rattle.pt_gathered.specs.Quiet.{ends_of}
 use Rattle.pt_gathered.proofs.quiet.Quiet.latest_ends.Given as goal

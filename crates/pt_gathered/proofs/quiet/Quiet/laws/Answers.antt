@@ -1,3 +1,4 @@
+-- `Quiet::laws`: its clauses `nothing_left`, `lanes`, `headline`, `quiet`, `links`, `watches`, `answers`, `questions`, `again`, `whole` and `after`.
 use Rattle.std.proofs.Common.{subst}
 use Rattle.pt_gathered.specs.Settling.{NothingLeft}
 use Rattle.pt_gathered.specs.Lawful.{LanesKeep, KeepsHeadline, IsQuietNode, LinksStand, WatchesStand, AnswersHold, QuestionsAnswered, BeginsAgain}

@@ -1,3 +1,4 @@
+-- `Quiet::linked`: its contract.
 use Rattle.std.proofs.Common.{◌≡◌, subst}
 use Rattle.pt_signal.specs.Process.{held}
 use Rattle.pt_events.specs.History.{state}

@@ -1,3 +1,4 @@
+-- `Quiet::pids`: its contract.
 use Rattle.std.proofs.Common.{subst}
 use Rattle.pt_accounts.specs.LivesState.{InEveryMerge, AreAllPids}
 use Rattle.pt_gathered.specs.Gathered.{begins, journals}

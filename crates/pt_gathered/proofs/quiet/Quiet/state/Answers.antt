@@ -1,3 +1,4 @@
+-- `Quiet::state`: its clauses `desk`, `born` and `new`, and its loop over `which`, and what its call of `with_process` asks.
 use Rattle.std.proofs.Common.{◌≡◌, ◌∷◌, ◌++◌, [], true, List, length, take, get_or, refl, sym, ap, ◌∙◌, subst, arith}
 use Rattle.pt_signal.specs.declared.pid.Pid.{Pid}
 use Rattle.pt_events.specs.History.{Phase, life, is_unborn, phase_or_unborn}

@@ -1,3 +1,4 @@
+-- `Quiet::state`: what holds in its loop over `which`.
 use Rattle.std.proofs.Common.{◌≡◌, take}
 use Rattle.pt_accounts.specs.LivesState.{InEveryMerge}
 use Rattle.pt_gathered.specs.Gathered.{begins, journals}

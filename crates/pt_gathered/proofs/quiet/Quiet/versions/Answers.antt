@@ -1,3 +1,4 @@
+-- `Quiet::versions`: its clauses `turns`, `later`, `gathered`, `count` and `told`.
 use Rattle.std.proofs.Common.{◌≡◌, ℕ, ◌<◌, length, get_or, subst, arith}
 use Rattle.pt_accounts.specs.DeskLives.{DeskTable}
 use Rattle.pt_shard.specs.ShardState.{ShardState}

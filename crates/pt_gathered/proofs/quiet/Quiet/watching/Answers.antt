@@ -1,3 +1,4 @@
+-- `Quiet::watching`: its contract.
 use Rattle.std.proofs.Common.{◌≡◌, subst, is_some}
 use Rattle.std.specs.Map.{lookup}
 use Rattle.pt_signal.specs.Values.{same_ref}

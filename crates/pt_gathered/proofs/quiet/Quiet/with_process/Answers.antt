@@ -1,3 +1,4 @@
+-- `Quiet::with_process`: its contract, and what its call of `unreachable` asks, and its checked operations.
 use Rattle.std.proofs.Common.{◌≡◌, ◌∷◌, ◌++◌, [], true, Some, None, get_or, sym, ap, ◌∙◌}
 use Rattle.std.proofs.lemmas.Result.{IfOk-weaker}
 use Rattle.pt_signal.specs.Process.{ProcessState}

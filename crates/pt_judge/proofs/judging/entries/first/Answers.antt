@@ -1,3 +1,4 @@
+-- `first`: its contract.
 use Rattle.std.proofs.Common.{◌≡◌, ◌<◌, ◌≤◌, length, get_or, subst, arith}
 use Rattle.pt_judge.specs.Places.{first_place}
 use Rattle.pt_judge.proofs.FirstPlaces.{found, none_found}

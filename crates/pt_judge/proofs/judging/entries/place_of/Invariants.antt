@@ -1,3 +1,4 @@
+-- `place_of`: what holds in its loop over `place`.
 use Rattle.std.proofs.Common.{◌≡◌, ◌+◌, drop}
 use Rattle.pt_judge.specs.Places.{first_place}
 use Rattle.pt_judge.proofs.judging.entries.place_of.Given as goal

@@ -1,3 +1,4 @@
+-- `take_out`: its contract.
 use Rattle.std.proofs.Common.{◌≤◌, length, subst, ap, ◌∙◌, arith}
 use Rattle.std.specs.List.{remove}
 use Rattle.pt_judge.specs.Places.{first_place}

@@ -1,3 +1,4 @@
+-- `ids_with`: its contract.
 use Rattle.std.proofs.Common.{◌∙◌, ap, sym}
 use Rattle.std.specs.Option.{option_map}
 use Rattle.pt_signal.specs.Values.{same_pid}

@@ -1,3 +1,4 @@
+-- `keeps`: its contract.
 use Rattle.std.proofs.Common.{◌∙◌, ap, is_some}
 use Rattle.pt_judge.proofs.FirstPlaces.{any_found}
 use Rattle.pt_judge.proofs.judging.links.keeps.Goals as goal

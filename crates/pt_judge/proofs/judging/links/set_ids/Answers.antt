@@ -1,3 +1,4 @@
+-- `set_ids`: its contract.
 use Rattle.std.proofs.Common.{◌≡◌, ◌<◌, ◌≤◌, ◌∙◌, ap, subst, set, length, get_or, arith}
 use Rattle.pt_signal.specs.Values.{same_pid}
 use Rattle.pt_judge.specs.Places.{first_place}

@@ -1,3 +1,4 @@
+-- `target_of`: its contract.
 use Rattle.std.proofs.Common.{◌∙◌, ap, sym}
 use Rattle.std.specs.Option.{option_map}
 use Rattle.pt_signal.specs.Values.{same_ref}

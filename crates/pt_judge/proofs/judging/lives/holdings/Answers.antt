@@ -1,3 +1,4 @@
+-- `holdings`: its contract.
 use Rattle.std.proofs.Common.{◌∙◌, ap, Some}
 use Rattle.std.specs.Option.{option_map}
 use Rattle.pt_events.specs.History.{state_of}

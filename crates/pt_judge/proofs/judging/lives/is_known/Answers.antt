@@ -1,3 +1,4 @@
+-- `is_known`: its contract.
 use Rattle.std.proofs.Common.{◌∙◌, ap, is_some}
 use Rattle.pt_judge.proofs.Lives.{found_known}
 use Rattle.pt_judge.proofs.judging.lives.is_known.Goals as goal

@@ -1,3 +1,4 @@
+-- `is_living`: its contract.
 use Rattle.std.proofs.Common.{◌∙◌, ap}
 use Rattle.pt_events.specs.History.{is_living, phase_or_unborn}
 use Rattle.pt_judge.proofs.Lives.{found_some, found_none}

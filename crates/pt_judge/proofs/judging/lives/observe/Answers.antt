@@ -1,3 +1,4 @@
+-- `observe`: its contract.
 use Rattle.std.proofs.Common.{◌≡◌, ◌∙◌, ◌++◌, ◌∷◌, [], sym, ap, subst, subst₂}
 use Rattle.pt_events.specs.History.{newborn, unborn}
 use Rattle.pt_judge.specs.Judging.{IsObserved, MayBeBorn}

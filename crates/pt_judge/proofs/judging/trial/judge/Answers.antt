@@ -1,3 +1,4 @@
+-- `judge`: its contract, and what its call of `after` asks.
 use Rattle.std.proofs.Common.{sym, ◌∙◌}
 use Rattle.pt_judge.proofs.Trial.{judged_some, judged_none}
 use Rattle.pt_judge.proofs.judging.trial.judge.Goals as goal

@@ -1,3 +1,4 @@
+-- `replay`: its contract.
 use Rattle.std.proofs.Common.{[]}
 use Rattle.pt_judge.proofs.Trial.{begins, from_nothing}
 use Rattle.pt_judge.proofs.judging.trial.replay.Goals as goal

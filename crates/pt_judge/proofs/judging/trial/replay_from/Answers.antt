@@ -1,3 +1,4 @@
+-- `replay_from`: its contract, and its loop over `place`.
 use Rattle.std.proofs.Common.{◌≡◌, ◌++◌, reverse, subst, take}
 use Rattle.std.proofs.lemmas.List.{take_all}
 use Rattle.pt_events.specs.History.{IsLegal}

@@ -1,3 +1,4 @@
+-- `replay_from`: what holds in its loop over `place`.
 use Rattle.pt_events.specs.History.{Start, Past, IsLegal}
 use Rattle.pt_judge.specs.Judge.{IsAfter}
 use Rattle.pt_judge.proofs.Trial.{IsAtPlace}

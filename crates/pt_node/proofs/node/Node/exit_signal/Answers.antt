@@ -1,3 +1,4 @@
+-- `Node::exit_signal`: the invariant of `self`.
 use Rattle.std.proofs.Common.{arith}
 use Rattle.pt_node.proofs.Calling.{called_desks}
 use Rattle.pt_node.proofs.node.Node.exit_signal.Goals as goal

@@ -1,3 +1,4 @@
+-- `Node::gather`: its clauses `still` and `past`.
 use Rattle.std.proofs.Common.{subst}
 use Rattle.pt_node.specs.Gathering.{Gathers}
 use Rattle.pt_node.specs.Pasts.{GathersPast}

@@ -1,3 +1,4 @@
+-- `Node::journal`: its clause `desk`.
 use Rattle.std.proofs.Common.{◌∙◌, arith}
 use Rattle.pt_node.proofs.Calling.{number_is}
 use Rattle.pt_node.proofs.node.Node.journal.Goals as goal

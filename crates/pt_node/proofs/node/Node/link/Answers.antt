@@ -1,3 +1,4 @@
+-- `Node::link`: its contract, and the invariant of `self`.
 use Rattle.std.proofs.Common.{arith, sym}
 use Rattle.pt_shard.specs.Calls.{Calls, link_event}
 use Rattle.pt_desk.specs.Reaching.{Reaches, has_link_to_make}

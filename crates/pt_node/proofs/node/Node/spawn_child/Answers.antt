@@ -1,3 +1,4 @@
+-- `Node::spawn_child`: its clause `home`, and the invariant of `self`.
 use Rattle.std.proofs.Common.{◌≡◌, true, arith, ◌∙◌, sym, subst}
 use Rattle.std.specs.Prelude.{IfOk}
 use Rattle.pt_signal.specs.declared.pid.Pid.{Pid}

@@ -1,3 +1,4 @@
+-- `Node::turn`: the invariant of `self`.
 use Rattle.std.proofs.Common.{arith}
 use Rattle.pt_node.proofs.Calling.{called_desks}
 use Rattle.pt_node.proofs.node.Node.turn.Goals as goal

@@ -1,3 +1,4 @@
+-- `Node::turn_until_still`: its clauses `stopped`, `handled`, `goes_on` and `bound`.
 use Rattle.std.proofs.Common.{◌≡◌, ◌-◌, ◌^◌, min, subst, arith}
 use Rattle.std.specs.Prelude.{IfSome}
 use Rattle.pt_node.specs.Desks.{AreWhole}

@@ -1,3 +1,4 @@
+-- `Node::unlink`: the invariant of `self`.
 use Rattle.std.proofs.Common.{arith}
 use Rattle.pt_node.proofs.Calling.{called_desks}
 use Rattle.pt_node.proofs.node.Node.unlink.Goals as goal

@@ -1,3 +1,4 @@
+-- `Entries+tuple2+J+K+V::has_first`: its contract.
 use Rattle.std.proofs.Common.{◌∙◌, ap, sym}
 use Rattle.std.specs.List.{list_any}
 use Rattle.std.specs.Map.{keys_of}

@@ -1,3 +1,4 @@
+-- `Entries::add`: the invariant of `self`.
 use Rattle.std.proofs.Common.{◌<◌, ap, sym, ◌∙◌, arith, length}
 use Rattle.std.specs.Map.{lookup}
 use Rattle.pt_process.specs.Held.{held_entries, held_room}

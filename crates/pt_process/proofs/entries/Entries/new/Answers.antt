@@ -1,3 +1,4 @@
+-- `Entries::new`: the invariant of `result`.
 use Rattle.std.proofs.Common.{arith}
 use Rattle.std.specs.List.{IsDistinct}
 use Rattle.pt_process.proofs.entries.Entries.new.Goals as goal

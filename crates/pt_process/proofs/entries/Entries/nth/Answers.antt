@@ -1,3 +1,4 @@
+-- `Entries::nth`: its clauses `entry`, `same` and `room`, and the invariant of `self`.
 use Rattle.std.proofs.Common.{Some, ap, sym, ◌∙◌, arith, slice_get}
 use Rattle.pt_process.specs.Held.{held_entries, held_room}
 use Rattle.pt_process.proofs.entries.Entries.nth.Goals.{in-Few, in-Many}

@@ -1,3 +1,4 @@
+-- `Entries::remove`: its clause `room`, and the invariant of `self`.
 use Rattle.std.proofs.Common.{ap, arith, length}
 use Rattle.pt_process.specs.Held.{held_room}
 use Rattle.pt_process.proofs.MapLemmas.{length-remove_entry}

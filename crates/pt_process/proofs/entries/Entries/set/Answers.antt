@@ -1,3 +1,4 @@
+-- `Entries::set`: the invariant of `self`.
 use Rattle.pt_process.proofs.FewLemmas.{set_held}
 use Rattle.pt_process.proofs.entries.Entries.set.Goals.{in-Few, in-Many}
 use Rattle.pt_process.proofs.entries.Entries.set.Goals as goal

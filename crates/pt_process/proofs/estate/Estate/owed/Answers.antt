@@ -1,3 +1,4 @@
+-- `Estate::owed`: its contract.
 use Rattle.std.proofs.Common.{arith}
 use Rattle.pt_process.proofs.EstateLemmas.{owed_down, owed_demonitor}
 use Rattle.pt_process.proofs.estate.Estate.owed.Goals as goal

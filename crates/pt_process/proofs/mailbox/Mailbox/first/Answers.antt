@@ -1,3 +1,4 @@
+-- `Mailbox::first`: its contract.
 use Rattle.std.proofs.Common.{sym, ◌∙◌}
 use Rattle.std.proofs.lemmas.Option.{slice_get-get_or}
 use Rattle.pt_signal.specs.Values.{fits}

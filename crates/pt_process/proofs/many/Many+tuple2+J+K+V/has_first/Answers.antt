@@ -1,3 +1,4 @@
+-- `Many+tuple2+J+K+V::has_first`: its contract.
 use Rattle.std.proofs.Common.{◌∙◌, ap}
 use Rattle.std.specs.List.{list_any}
 use Rattle.std.specs.Map.{keys_of}

@@ -1,3 +1,4 @@
+-- `Many::at`: its contract, and what its call of `unwrap` asks, and its checked operations.
 use Rattle.std.proofs.Common.{◌<◌, ◌≤◌, length, slice_get, sym, ap, ◌∙◌, arith, is_some}
 use Rattle.std.specs.Map.Iter.{deref_pair}
 use Rattle.std.specs.Option.{option_map}

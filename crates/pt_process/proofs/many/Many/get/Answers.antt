@@ -1,3 +1,4 @@
+-- `Many::get`: its contract.
 use Rattle.std.proofs.Common.{sym, ap, ◌∙◌}
 use Rattle.std.specs.Option.{option_flatten}
 use Rattle.std.specs.Map.{lookup}

@@ -1,3 +1,4 @@
+-- `Many::push`: its clauses `gone` and `entries`, and the invariant of `self`, and what its call of `clear_gap` asks.
 use Rattle.std.proofs.Common.{◌∷◌, [], ◌++◌, sym, ap, ◌∙◌, arith, length, length-append, Some}
 use Rattle.std.specs.Map.{lookup}
 use Rattle.indexmap.proofs.CallerLemmas.{insert_entry-new}

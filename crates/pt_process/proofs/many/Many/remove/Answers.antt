@@ -1,3 +1,4 @@
+-- `Many::remove`: its clauses `distinct`, `counted`, `value` and `rest`, and the invariant of `self`, and what its call of `settle` asks.
 use Rattle.std.proofs.Common.{◌≡◌, ◌+◌, None, sym, ap, ◌∙◌, arith, length, is_some, if◌then◌else◌}
 use Rattle.std.specs.Map.{lookup, remove_entry}
 use Rattle.std.proofs.lemmas.Map.{keys-set_value, length-set_value}

@@ -1,3 +1,4 @@
+-- `Many::set`: its contract, and the invariant of `self`, and what its call of `unwrap` asks, and its checked operations.
 use Rattle.std.proofs.Common.{sym, ap, ◌∙◌, arith, is_some, length, Some}
 use Rattle.std.specs.Map.{lookup, set_value}
 use Rattle.std.proofs.lemmas.Map.{length-set_value}

@@ -1,3 +1,4 @@
+-- `Many::with_room`: its clauses `entries` and `room`, and the invariant of `result`.
 use Rattle.std.proofs.Common.{sym, ap, arith, length}
 use Rattle.pt_process.specs.Gaps.{present}
 use Rattle.pt_process.proofs.many.Many.with_room.Goals as goal

@@ -1,3 +1,4 @@
+-- `Process::accept`: its contract.
 use Rattle.std.proofs.Common.{true, refl}
 use Rattle.pt_signal.specs.declared.signal.Signal.TheVariants.{AliveSay}
 use Rattle.pt_signal.specs.Process.{sent}

@@ -1,3 +1,4 @@
+-- `Process::add_kept`: its clause `state`, and what its call of `push` asks.
 use Rattle.std.proofs.Common.{◌≡◌, false, ◌∙◌, [], ap, sym, subst}
 use Rattle.std.specs.List.{list_any}
 use Rattle.std.specs.Map.{keys_of}

@@ -1,3 +1,4 @@
+-- `Process::add_link`: its clause `state`.
 use Rattle.std.proofs.Common.{rules}
 use Rattle.pt_process.proofs.process.Process.add_link.Goals as goal
 

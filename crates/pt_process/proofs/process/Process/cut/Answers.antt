@@ -1,3 +1,4 @@
+-- `Process::cut`: its contract.
 use Rattle.std.proofs.Common.{◌∙◌, refl, sym}
 use Rattle.pt_process.proofs.LinkLemmas.{cut_same, cut_other}
 use Rattle.pt_process.proofs.StateLemmas.{links_same, links_other}

@@ -1,3 +1,4 @@
+-- `Process::cut_ids`: its clause `state`.
 use Rattle.std.proofs.Common.{rules}
 use Rattle.pt_process.proofs.process.Process.cut_ids.Goals as goal
 

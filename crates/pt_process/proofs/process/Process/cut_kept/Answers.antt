@@ -1,3 +1,4 @@
+-- `Process::cut_kept`: its clause `state`.
 use Rattle.std.proofs.Common.{◌∙◌, [], ap}
 use Rattle.std.specs.Map.{keys_of}
 use Rattle.pt_signal.specs.Process.{ProcessState, same_watch}

@@ -1,3 +1,4 @@
+-- `Process::cut_link`: its clause `none`.
 use Rattle.std.proofs.Common.{◌∙◌, sym}
 use Rattle.pt_process.proofs.MapLemmas.{remove_entry-absent}
 use Rattle.pt_process.proofs.StateLemmas.{links_same, IfNone-from}

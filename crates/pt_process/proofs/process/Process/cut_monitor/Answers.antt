@@ -1,3 +1,4 @@
+-- `Process::cut_monitor`: its clause `none`.
 use Rattle.std.proofs.Common.{◌∙◌, sym}
 use Rattle.pt_process.proofs.MapLemmas.{remove_entry-absent}
 use Rattle.pt_process.proofs.StateLemmas.{watching_same, IfNone-from}

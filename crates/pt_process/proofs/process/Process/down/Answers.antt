@@ -1,3 +1,4 @@
+-- `Process::down`: its contract.
 use Rattle.std.proofs.Common.{rules}
 use Rattle.pt_process.proofs.process.Process.down.Goals as goal
 

@@ -1,3 +1,4 @@
+-- `Process::enter`: its contract.
 use Rattle.std.proofs.Common.{◌∙◌, refl, sym}
 use Rattle.pt_process.proofs.LinkLemmas.{enter_same, enter_other}
 use Rattle.pt_process.proofs.StateLemmas.{links_same, links_other}

@@ -1,3 +1,4 @@
+-- `Process::estate`: its contract.
 use Rattle.std.proofs.Common.{rules}
 use Rattle.pt_process.proofs.process.Process.estate.Goals as goal
 

@@ -1,3 +1,4 @@
+-- `Process::forget`: its contract.
 use Rattle.std.proofs.Common.{◌∙◌, refl, sym}
 use Rattle.pt_signal.specs.Process.{same_watch}
 use Rattle.pt_process.proofs.WatchLemmas.{without_first_same, without_first_other}

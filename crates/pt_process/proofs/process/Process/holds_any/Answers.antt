@@ -1,3 +1,4 @@
+-- `Process::holds_any`: its contract.
 use Rattle.std.proofs.Common.{rules}
 use Rattle.pt_process.proofs.process.Process.holds_any.Goals as goal
 

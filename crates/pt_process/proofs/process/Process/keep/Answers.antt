@@ -1,3 +1,4 @@
+-- `Process::keep`: its contract.
 use Rattle.std.proofs.Common.{◌∙◌, refl, sym}
 use Rattle.pt_process.proofs.LinkLemmas.{longer_other}
 use Rattle.pt_process.proofs.StateLemmas.{kept_same, kept_other, keep_same, keep_more}

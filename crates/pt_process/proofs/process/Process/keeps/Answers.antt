@@ -1,3 +1,4 @@
+-- `Process::keeps`: its contract.
 use Rattle.std.proofs.Common.{◌∙◌, ap, is_some}
 use Rattle.std.specs.List.{list_any}
 use Rattle.pt_signal.specs.Process.{same_watch}

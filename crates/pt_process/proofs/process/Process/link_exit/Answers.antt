@@ -1,3 +1,4 @@
+-- `Process::link_exit`: its contract, and what its call of `obey_link` asks.
 use Rattle.std.proofs.Common.{◌∙◌, refl, sym, subst}
 use Rattle.pt_signal.specs.Process.{Handled}
 use Rattle.pt_process.specs.Outcome.{Accepts}

@@ -1,3 +1,4 @@
+-- `Process::new`: its clause `state`.
 use Rattle.std.proofs.Common.{rules}
 use Rattle.pt_process.proofs.process.Process.new.Goals as goal
 

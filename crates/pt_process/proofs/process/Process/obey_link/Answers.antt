@@ -1,3 +1,4 @@
+-- `Process::obey_link`: its contract.
 use Rattle.std.proofs.Common.{◌≡◌, true, refl, sym, ap, subst, is_some}
 use Rattle.pt_signal.specs.Values.{same_pid}
 use Rattle.pt_signal.specs.Process.{held}

@@ -1,3 +1,4 @@
+-- `Process::owed_to`: its clause `to`.
 use Rattle.std.proofs.Common.{arith}
 use Rattle.pt_process.proofs.EstateLemmas.{peer_linked, peer_watcher, peer_watched}
 use Rattle.pt_process.proofs.process.Process.owed_to.Goals as goal

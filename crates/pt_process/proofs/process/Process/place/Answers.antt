@@ -1,3 +1,4 @@
+-- `Process::place`: its contract.
 use Rattle.std.proofs.Common.{sym, subst}
 use Rattle.pt_signal.specs.Values.{fits}
 use Rattle.pt_process.specs.Places.{IsFirstPlace}

@@ -1,3 +1,4 @@
+-- `Process::room`: its clause `ok`.
 use Rattle.std.proofs.Common.{rules}
 use Rattle.pt_process.proofs.process.Process.room.Goals as goal
 

@@ -1,3 +1,4 @@
+-- `Process::take`: its clause `rest`.
 use Rattle.std.proofs.Common.{ap, sym}
 use Rattle.pt_signal.specs.Values.{fits}
 use Rattle.pt_signal.specs.Process.{ProcessState}

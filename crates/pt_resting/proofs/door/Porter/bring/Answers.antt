@@ -1,3 +1,4 @@
+-- `Porter::bring`: its clauses `brings` and `goes_on`, and its loop over `place`.
 use Rattle.std.proofs.Common.{◌≡◌, sym, ◌∙◌}
 use Rattle.rtrb.specs.Ring.{received}
 use Rattle.pt_desk.proofs.Turning.{goes_on_then}

@@ -1,3 +1,4 @@
+-- `Porter::bring`: what holds in its loop over `place`.
 use Rattle.std.proofs.Common.{◌≡◌}
 use Rattle.rtrb.specs.Ring.{received}
 use Rattle.pt_desk.specs.DeskState.{GoesOn}

@@ -1,3 +1,4 @@
+-- `Actor::advance`: its contract.
 use Rattle.std.proofs.Common.{rules}
 use Rattle.pt_runner.proofs.runner.Actor.advance.Goals as goal
 

@@ -1,3 +1,4 @@
+-- `Actor::conclude`: its clause `behind`.
 use Rattle.std.proofs.Common.{sym, subst, refl}
 use Rattle.pt_runner.specs.declared.calls.Progress.{Progress}
 use Rattle.pt_runner.specs.Acting.{GoesBehind, acting}

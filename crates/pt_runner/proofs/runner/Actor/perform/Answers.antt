@@ -1,3 +1,4 @@
+-- `Actor::perform`: its clause `goes_on`.
 use Rattle.pt_desk.proofs.Turning.{goes_on_then}
 use Rattle.pt_runner.proofs.runner.Actor.perform.Goals as goal
 

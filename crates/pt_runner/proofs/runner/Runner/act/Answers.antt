@@ -1,3 +1,4 @@
+-- `Runner::act`: its clause `acts`.
 use Rattle.std.proofs.Common.{◌≡◌, ◌<◌, true, ℕ, List, length, ap, sym, subst, ◌∙◌, arith}
 use Rattle.std.proofs.lemmas.List.Elements.{All-get_or}
 use Rattle.pt_runner.specs.Waiting.{IsTrueOf, sleeps}

@@ -1,3 +1,4 @@
+-- `Runner::begin`: its clause `knows`.
 use Rattle.pt_runner.proofs.runner.Runner.begin.Goals as goal
 
 pub returns-clause-knows : goal.returns-clause-knows

@@ -1,3 +1,4 @@
+-- `Runner::begin_again`: its clauses `knows` and `attends`.
 use Rattle.std.proofs.Common.{inl, refl}
 use Rattle.pt_runner.proofs.Waiting.{knows_nothing}
 use Rattle.pt_runner.proofs.runner.Runner.begin_again.Goals as goal

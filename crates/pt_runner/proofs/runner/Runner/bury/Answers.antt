@@ -1,3 +1,4 @@
+-- `Runner::bury`: its clauses `table` and `abreast`.
 use Rattle.std.proofs.Common.{◌≡◌, ◌||◌, true, List, map, ap, sym, subst, ◌∙◌, rules}
 use Rattle.std.specs.List.{All, filter}
 use Rattle.std.proofs.lemmas.Fn.{filter_same}

@@ -1,3 +1,4 @@
+-- `Runner::do_next`: its clauses `acts` and `knows`.
 use Rattle.std.proofs.Common.{◌≡◌, ◌<◌, List, Option, length, map, set, ap, sym, subst, ◌∙◌, arith}
 use Rattle.pt_signal.specs.declared.pid.Pid.{Pid}
 use Rattle.pt_script.specs.declared.values.Operation.{Operation}

@@ -1,3 +1,4 @@
+-- `Runner::enter`: its clause `knows`.
 use Rattle.std.proofs.Common.{◌≡◌, ◌⊎◌, inl, inr, ℕ, ◌∷◌, ◌++◌, [], Vec, Global, None, Some, get_or, set, ap, ◌∙◌}
 use Rattle.std.specs.List.{All}
 use Rattle.pt_runner.specs.declared.runner.Runner.{Runner}

@@ -1,3 +1,4 @@
+-- `Runner::look`: its loop over `self`.
 use Rattle.std.proofs.Common.{ℕ, ◌+◌, List, reverse, ap, sym, subst, ◌∙◌}
 use Rattle.pt_runner.specs.Waiting.{KnowsOf}
 use Rattle.pt_runner.proofs.Waiting.{knows_looked}

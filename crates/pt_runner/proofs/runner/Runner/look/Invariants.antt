@@ -1,3 +1,4 @@
+-- `Runner::look`: what holds in its loop over `self`.
 use Rattle.std.proofs.Common.{◌≡◌, ◌-◌, length, vec_len}
 use Rattle.pt_runner.specs.Acting.{table}
 use Rattle.pt_runner.specs.Waiting.{RunnerKnows}

@@ -1,3 +1,4 @@
+-- `Runner::place`: its contract, and its loop over `actor`.
 use Rattle.std.proofs.Common.{◌≡◌, ◌<◌, true, false, List, Some, length, get_or, sym, ap, subst, ◌∙◌, rules}
 use Rattle.std.specs.Option.{option_map}
 use Rattle.pt_signal.specs.Values.{same_pid}

@@ -1,3 +1,4 @@
+-- `Runner::place`: what holds in its loop over `actor`.
 use Rattle.std.proofs.Common.{◌≡◌, None, take}
 use Rattle.std.specs.List.{find}
 use Rattle.pt_signal.specs.Values.{same_pid}

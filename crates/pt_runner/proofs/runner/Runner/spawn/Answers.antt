@@ -1,3 +1,4 @@
+-- `Runner::spawn`: its clauses `spawns` and `knows`.
 use Rattle.std.proofs.Common.{◌≡◌, ◌<◌, inr, inl, List, length, map, get_or, ap, sym, subst, refl, ◌∙◌, arith}
 use Rattle.pt_signal.specs.declared.pid.Pid.{Pid}
 use Rattle.pt_shard.specs.Calls.{BearsChild}

@@ -1,3 +1,4 @@
+-- `Runner::wake_all`: its clause `unmarked`, and its loop over `index`.
 use Rattle.std.proofs.Common.{◌<◌, length, refl, subst, ◌∙◌, arith}
 use Rattle.std.specs.List.{All}
 use Rattle.std.proofs.lemmas.List.{take_all}

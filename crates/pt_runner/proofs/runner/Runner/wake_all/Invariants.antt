@@ -1,3 +1,4 @@
+-- `Runner::wake_all`: what holds in its loop over `index`.
 use Rattle.std.proofs.Common.{◌≡◌, vec_len, vec_capacity, take}
 use Rattle.std.specs.List.{All}
 use Rattle.pt_runner.specs.Acting.{table}

@@ -1,3 +1,4 @@
+-- `RunnerWork::step`: its clauses `steps` and `idle`, and its loop over `index`.
 use Rattle.std.proofs.Common.{◌≡◌, length, subst, ◌∙◌, arith}
 use Rattle.pt_desk.proofs.Turning.{goes_on_then}
 use Rattle.pt_runner.specs.Acting.{EachActs, EachDoesNext, table, living}

@@ -1,3 +1,4 @@
+-- `RunnerWork::step`: what holds in its loop over `index`.
 use Rattle.std.proofs.Common.{◌≡◌, ◌≤◌, length, vec_len}
 use Rattle.pt_desk.specs.DeskState.{GoesOn, HasSameEnds}
 use Rattle.pt_runner.specs.Acting.{EachActs, table, living}

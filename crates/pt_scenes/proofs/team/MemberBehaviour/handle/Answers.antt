@@ -1,3 +1,4 @@
+-- `MemberBehaviour::handle`: its clause `answers`.
 use Rattle.std.proofs.Common.{◌≡◌, ℕ, Option, Some, Ok, refl, sym, subst}
 use Rattle.std.specs.Option.{option_map}
 use Rattle.pt_crew.specs.declared.behaviour.Next.{Next}

@@ -1,3 +1,4 @@
+-- `Crowd::new`: the invariant of `result`.
 use Rattle.std.proofs.Common.{ap, sym, ◌∙◌}
 use Rattle.std.specs.Prelude.{count_by, ◌==◌}
 use Rattle.std.proofs.lemmas.List.{get_or-replicate}

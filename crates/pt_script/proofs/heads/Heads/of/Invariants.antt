@@ -1,3 +1,4 @@
+-- `Heads::of`: what holds in its loop over `value`.
 use Rattle.std.proofs.Common.{◌≡◌, map, drop}
 use Rattle.serde_json.specs.View.{view}
 use Rattle.pt_script.specs.Steps.{each}

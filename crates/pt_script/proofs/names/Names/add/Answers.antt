@@ -1,3 +1,4 @@
+-- `Names::add`: its contract.
 use Rattle.std.proofs.lemmas.Map.Text.{hash_map_updates_str}
 use Rattle.pt_script.proofs.names.Names.add.Goals as goal
 

@@ -1,3 +1,4 @@
+-- `Ledger::next_out`: its clause `rest`.
 use Rattle.std.proofs.Common.{ap}
 use Rattle.pt_shard.proofs.Ledgers.{passed_letters}
 use Rattle.pt_shard.proofs.ledger.Ledger.next_out.Goals as goal

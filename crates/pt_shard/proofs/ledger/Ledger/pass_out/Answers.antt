@@ -1,3 +1,4 @@
+-- `Ledger::pass_out`: its contract.
 use Rattle.std.proofs.Common.{ap}
 use Rattle.pt_shard.proofs.Ledgers.{passed_letters}
 use Rattle.pt_shard.proofs.ledger.Ledger.pass_out.Goals as goal

@@ -1,3 +1,4 @@
+-- `Ledger::pending`: its loop over `e`.
 use Rattle.std.proofs.Common.{ap, arith}
 use Rattle.pt_shard.specs.Outbox.{count_held}
 use Rattle.pt_shard.proofs.Ledgers.{counted_more}

@@ -1,3 +1,4 @@
+-- `Ledger::pending`: what holds in its loop over `e`.
 use Rattle.std.proofs.Common.{◌≡◌, ◌+◌, ◌^◌, ◌-◌, min, take, length}
 use Rattle.std.specs.Prelude.{sum_by}
 use Rattle.pt_shard.specs.Outbox.{count_held}

@@ -1,3 +1,4 @@
+-- `Ledger::prepare_said`: its contract.
 use Rattle.std.proofs.Common.{◌<◌, ◌∙◌, sym, ap, subst, length, arith}
 use Rattle.pt_shard.specs.LedgerState.{Book, HasRoomAt}
 use Rattle.pt_shard.proofs.Ledgers.{same_letters, room_there, out_of_memory}

@@ -1,3 +1,4 @@
+-- `Ledger::put`: its clauses `book` and `rooms`.
 use Rattle.std.proofs.Common.{ap}
 use Rattle.pt_shard.proofs.Ledgers.{put_letters, put_rooms}
 use Rattle.pt_shard.proofs.ledger.Ledger.put.Goals as goal

@@ -1,3 +1,4 @@
+-- `Ledger::write_came`: its contract.
 use Rattle.std.proofs.Common.{rules}
 use Rattle.pt_shard.proofs.ledger.Ledger.write_came.Goals as goal
 

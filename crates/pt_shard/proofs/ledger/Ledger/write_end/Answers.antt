@@ -1,3 +1,4 @@
+-- `Ledger::write_end`: its clauses `to` and `room`, and its loop over `i`, and what its call of `put` asks.
 use Rattle.std.proofs.Common.{◌≡◌, ◌<◌, ◌≤◌, ◌+◌, Some, length, map, drop, subst, sym, refl, ap, ◌∙◌, get_or, arith, slice_get}
 use Rattle.std.proofs.lemmas.List.{length-map}
 use Rattle.std.proofs.lemmas.Option.{slice_get-map}

@@ -1,3 +1,4 @@
+-- `Ledger::write_end`: what holds in its loop over `i`.
 use Rattle.std.proofs.Common.{◌≡◌, map, take, drop}
 use Rattle.pt_events.specs.Journal.{letter}
 use Rattle.pt_shard.specs.LedgerState.{wrote, HasRoomToAll}

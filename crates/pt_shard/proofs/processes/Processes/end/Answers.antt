@@ -1,3 +1,4 @@
+-- `Processes::end`: its clause `ends`.
 use Rattle.pt_shard.proofs.Removals.{taken_out}
 use Rattle.pt_shard.proofs.processes.Processes.end.Goals as goal
 

@@ -1,3 +1,4 @@
+-- `Shard::ask_alive`: its clauses `does`, `extends` and `fit`, and the invariant of `self`.
 use Rattle.std.proofs.Common.{◌≡◌, true, Some, refl, sym, subst}
 use Rattle.pt_signal.specs.declared.ids.Ref.{Ref}
 use Rattle.pt_signal.specs.declared.signal.Signal.TheVariants.{AliveAsk}

@@ -1,3 +1,4 @@
+-- `Shard::demonitor`: its clauses `does`, `extends` and `fit`, and the invariant of `self`, and what its call of `close_monitor` asks.
 use Rattle.std.proofs.Common.{is_some, refl, subst}
 use Rattle.pt_shard.specs.Calls.{Calls, demonitor_event}
 use Rattle.pt_shard.specs.Extends.{Extends}

@@ -1,3 +1,4 @@
+-- `Shard::exit`: its clauses `near`, `does`, `fit`, `from`, `to`, `letters` and `extends`, and the invariant of `self`, and what its calls of `prepare_end`, `end` and `write_end` ask.
 use Rattle.std.proofs.Common.{◌<◌, ◌^◌, Ok, Some, refl, subst, arith}
 use Rattle.pt_events.specs.declared.event.Event.TheVariants.{Left}
 use Rattle.pt_process.specs.Peers.{peers_held}

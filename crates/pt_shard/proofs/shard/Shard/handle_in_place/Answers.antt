@@ -1,3 +1,4 @@
+-- `Shard::handle_in_place`: its clauses `does`, `extends`, `fit`, `near`, `lives` and `owes`, and the invariant of `self`, and what its calls of `prepare_ending` and `end_by` ask.
 use Rattle.std.proofs.Common.{◌≡◌, ◌+◌, ◌<◌, max, length, map, Ok, Some, None, sym, ap, ◌∙◌, refl, subst, arith}
 use Rattle.pt_events.specs.Journal.{letter}
 use Rattle.pt_shard.specs.ShardState.{ShardState, Handles, came_event}

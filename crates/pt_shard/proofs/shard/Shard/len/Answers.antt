@@ -1,3 +1,4 @@
+-- `Shard::len`: its contract.
 use Rattle.std.proofs.Common.{◌≡◌, ◌∙◌, subst}
 use Rattle.pt_shard.specs.Living.{living_count}
 use Rattle.pt_shard.specs.Whole.{parts_of}

@@ -1,3 +1,4 @@
+-- `Shard::lives_in`: its clause `only`.
 use Rattle.std.proofs.Common.{◌≡◌, true, Some, sym, ap, ◌∙◌, subst}
 use Rattle.pt_signal.specs.declared.pid.Pid.{Pid}
 use Rattle.pt_shard.specs.ShardState.{lives}

@@ -1,3 +1,4 @@
+-- `Shard::monitor`: its clauses `new`, `does`, `extends` and `fit`, and the invariant of `self`, and what its call of `open_monitor` asks.
 use Rattle.std.proofs.Common.{◌≡◌, true, Err, refl, sym, ◌∙◌, subst}
 use Rattle.pt_shard.specs.declared.fault.Fault.TheVariants.{Myself}
 use Rattle.pt_shard.specs.Known.{knows}

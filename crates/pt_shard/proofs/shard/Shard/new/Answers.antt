@@ -1,3 +1,4 @@
+-- `Shard::new`: its clause `fit`, and the invariant of `result`.
 use Rattle.std.proofs.Common.{◌<◌, sym, ap, ◌∙◌, subst, arith}
 use Rattle.pt_shard.specs.Opening.{fresh_shard}
 use Rattle.pt_shard.specs.Fit.{IsFit}

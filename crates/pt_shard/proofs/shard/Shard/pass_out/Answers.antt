@@ -1,3 +1,4 @@
+-- `Shard::pass_out`: its clause `fit`, and the invariant of `self`.
 use Rattle.std.proofs.Common.{sym, subst}
 use Rattle.pt_shard.specs.Whole.{parts_of, IsWhole}
 use Rattle.pt_shard.proofs.Standing.{moved_whole, less, less_boxes, less_boxed}

@@ -1,3 +1,4 @@
+-- `Shard::pids`: its loop over `slot`.
 use Rattle.std.proofs.Common.{◌++◌, ap, sym, ◌∙◌}
 use Rattle.std.specs.Prelude.{option_to_list}
 use Rattle.pt_shard.specs.Living.{living_in}

@@ -1,3 +1,4 @@
+-- `Shard::pids`: what holds in its loop over `slot`.
 use Rattle.std.proofs.Common.{◌≡◌}
 use Rattle.std.specs.List.{filter_map, range_with_len}
 use Rattle.pt_shard.specs.Living.{living_in}

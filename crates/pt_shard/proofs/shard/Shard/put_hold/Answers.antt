@@ -1,3 +1,4 @@
+-- `Shard::put_hold`: its clause `fit`, and the invariant of `self`.
 use Rattle.std.proofs.Common.{◌<◌, Some, sym, ap, ◌∙◌, subst}
 use Rattle.pt_shard.specs.ShardState.{ShardState}
 use Rattle.pt_shard.specs.Whole.{parts_of, IsWhole}

@@ -1,3 +1,4 @@
+-- `Shard::receive`: its clauses `does`, `extends` and `fit`, and the invariant of `self`.
 use Rattle.std.proofs.Common.{refl, subst}
 use Rattle.pt_shard.specs.Calls.{Calls, take_event, first_match}
 use Rattle.pt_shard.specs.Extends.{Extends}

@@ -1,3 +1,4 @@
+-- `Shard::refuse`: its clauses `extends` and `fit`, and the invariant of `self`.
 use Rattle.std.proofs.Common.{◌≡◌, ◌+◌, max, [], true, sym, subst}
 use Rattle.pt_events.specs.declared.event.Event.TheVariants.{Refused}
 use Rattle.pt_shard.specs.ShardState.{lives}

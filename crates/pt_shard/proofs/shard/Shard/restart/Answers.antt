@@ -1,3 +1,4 @@
+-- `Shard::restart`: its clauses `processes`, `known` and `fit`, and the invariant of `result`.
 use Rattle.std.proofs.Common.{◌≤◌, sym, subst}
 use Rattle.pt_shard.specs.ShardState.{ShardState}
 use Rattle.pt_shard.specs.Whole.{Parts, parts_of, IsWhole}

@@ -1,3 +1,4 @@
+-- `Shard::say`: its clauses `does`, `extends` and `fit`, and the invariant of `self`.
 use Rattle.std.proofs.Common.{◌≡◌, true, Some, refl, sym, subst}
 use Rattle.pt_events.specs.declared.event.Event.TheVariants.{Said}
 use Rattle.pt_shard.specs.Known.{knows}

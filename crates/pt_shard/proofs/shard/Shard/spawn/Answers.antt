@@ -1,3 +1,4 @@
+-- `Shard::spawn`: its clauses `does`, `known`, `extends` and `fit`, and the invariant of `self`.
 use Rattle.std.proofs.Common.{◌<◌, ◌^◌, Ok, None, [], sym, subst, arith}
 use Rattle.pt_events.specs.declared.event.Event.TheVariants.{Born}
 use Rattle.pt_shard.specs.Calls.{Bears}

@@ -1,3 +1,4 @@
+-- `Shard::spawn_child`: its clauses `does`, `fit`, `extends`, `lives`, `room` and `known`, and the invariant of `self`, and what its calls of `admit` and `link_parent` ask.
 use Rattle.std.proofs.Common.{◌≡◌, ℕ, ◌<◌, ◌≤◌, ◌^◌, max, true, false, Err, refl, sym, ◌∙◌, subst, arith}
 use Rattle.std.specs.Prelude.{IsSome, nat_le}
 use Rattle.std.proofs.lemmas.Bool.Decides.{nat_tests}

@@ -1,3 +1,4 @@
+-- `Shard::take_hold`: its clause `fit`, and the invariant of `self`.
 use Rattle.std.proofs.Common.{None, sym, subst}
 use Rattle.pt_shard.specs.Whole.{parts_of, IsWhole}
 use Rattle.pt_shard.proofs.Standing.{moved_whole}

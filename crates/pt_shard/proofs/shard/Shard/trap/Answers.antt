@@ -1,3 +1,4 @@
+-- `Shard::trap`: its clauses `does`, `extends` and `fit`, and the invariant of `self`.
 use Rattle.std.proofs.Common.{Some, refl, subst}
 use Rattle.pt_events.specs.declared.event.Event.TheVariants.{Flag}
 use Rattle.pt_shard.specs.ShardState.{state_in}

@@ -1,3 +1,4 @@
+-- `Shard::unlink`: its clauses `does`, `extends` and `fit`, and the invariant of `self`.
 use Rattle.std.proofs.Common.{◌≡◌, true, refl, sym, subst}
 use Rattle.pt_shard.specs.Known.{knows}
 use Rattle.pt_shard.specs.Calls.{Calls, unlink_event}

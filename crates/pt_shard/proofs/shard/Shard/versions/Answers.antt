@@ -1,3 +1,4 @@
+-- `Shard::versions`: its contract.
 use Rattle.std.proofs.Common.{◌≡◌, false, subst}
 use Rattle.pt_signal.specs.declared.pid.Pid.{Pid}
 use Rattle.pt_events.specs.History.{is_unborn}

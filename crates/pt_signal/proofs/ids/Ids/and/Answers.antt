@@ -1,3 +1,4 @@
+-- `Ids::and`: its contract.
 use Rattle.std.proofs.Common.{rules}
 use Rattle.pt_signal.proofs.ids.Ids.and.Goals as goal
 

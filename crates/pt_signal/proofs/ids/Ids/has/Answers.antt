@@ -1,3 +1,4 @@
+-- `Ids::has`: its contract.
 use Rattle.std.proofs.Common.{rules}
 use Rattle.pt_signal.proofs.ids.Ids.has.Goals as goal
 

@@ -1,3 +1,4 @@
+-- `Ids::of`: its contract.
 use Rattle.std.proofs.Common.{rules}
 use Rattle.pt_signal.proofs.ids.Ids.of.Goals as goal
 

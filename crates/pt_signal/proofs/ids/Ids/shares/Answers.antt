@@ -1,3 +1,4 @@
+-- `Ids::shares`: its contract.
 use Rattle.std.proofs.Common.{rules}
 use Rattle.pt_signal.proofs.ids.Ids.shares.Goals as goal
 

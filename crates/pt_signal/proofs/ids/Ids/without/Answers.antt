@@ -1,3 +1,4 @@
+-- `Ids::without`: its contract.
 use Rattle.std.proofs.Common.{rules}
 use Rattle.pt_signal.proofs.ids.Ids.without.Goals as goal
 

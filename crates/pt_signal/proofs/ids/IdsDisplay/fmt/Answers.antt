@@ -1,3 +1,4 @@
+-- `IdsDisplay::fmt`: its clause `writes`.
 use Rattle.std.proofs.Common.{append-nil}
 use Rattle.std.proofs.Output.{has_written_of_eq}
 use Rattle.pt_signal.specs.Text.{ids_text}

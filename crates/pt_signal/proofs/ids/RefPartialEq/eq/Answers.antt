@@ -1,3 +1,4 @@
+-- `RefPartialEq::eq`: its contract.
 use Rattle.std.proofs.Common.{rules}
 use Rattle.pt_signal.proofs.ids.RefPartialEq.eq.Goals as goal
 

@@ -1,3 +1,4 @@
+-- `BodyDisplay::fmt`: its clause `writes`.
 use Rattle.std.proofs.Common.{rules, append_assoc, append-nil}
 use Rattle.std.proofs.Output.{has_written_of_eq}
 use Rattle.pt_signal.specs.Text.{body_text}

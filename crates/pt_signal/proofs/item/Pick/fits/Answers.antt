@@ -1,3 +1,4 @@
+-- `Pick::fits`: its contract.
 use Rattle.std.proofs.Common.{rules}
 use Rattle.pt_signal.proofs.item.Pick.fits.Goals as goal
 

@@ -1,3 +1,4 @@
+-- `PickDisplay::fmt`: its clause `writes`.
 use Rattle.std.proofs.Output.{has_written_of_eq}
 use Rattle.pt_signal.specs.Text.{pick_text}
 use Rattle.pt_signal.proofs.item.PickDisplay.fmt.Goals as goal

@@ -1,3 +1,4 @@
+-- `PidDisplay::fmt`: its clause `writes`.
 use Rattle.std.proofs.Common.{append_assoc}
 use Rattle.std.proofs.Output.{has_written_of_eq}
 use Rattle.pt_signal.specs.Text.{pid_text}

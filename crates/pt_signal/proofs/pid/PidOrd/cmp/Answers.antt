@@ -1,3 +1,4 @@
+-- `PidOrd::cmp`: its contract.
 use Rattle.std.proofs.Common.{rules}
 use Rattle.pt_signal.proofs.pid.PidOrd.cmp.Goals as goal
 

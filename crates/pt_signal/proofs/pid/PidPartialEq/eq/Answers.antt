@@ -1,3 +1,4 @@
+-- `PidPartialEq::eq`: its contract.
 use Rattle.std.proofs.Common.{rules}
 use Rattle.pt_signal.proofs.pid.PidPartialEq.eq.Goals as goal
 

@@ -1,3 +1,4 @@
+-- `ReasonDisplay::fmt`: its clause `writes`.
 use Rattle.std.proofs.Common.{rules}
 use Rattle.std.proofs.Output.{has_written_of_eq}
 use Rattle.pt_signal.specs.Text.{reason_text}

@@ -1,3 +1,4 @@
+-- `Signal::answer_of_dead`: its contract.
 use Rattle.std.proofs.Common.{rules}
 use Rattle.pt_signal.proofs.signal.Signal.answer_of_dead.Goals as goal
 

@@ -1,3 +1,4 @@
+-- `Limit::allows`: its contract.
 use Rattle.std.proofs.Common.{rules, ◌≡◌, ℕ, List, ◌∷◌, [], ◌++◌, length, refl, ap, ◌∙◌, arith}
 use Rattle.std.proofs.lemmas.Fn.{filter_same}
 use Rattle.pt_supervisor.specs.Limits.{recent}

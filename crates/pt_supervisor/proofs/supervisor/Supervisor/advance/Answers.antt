@@ -1,3 +1,4 @@
+-- `Supervisor::advance`: its clause `supervises`.
 use Rattle.std.proofs.Common.{◌≡◌, length, None, refl, sym, ap, ◌∙◌, arith}
 use Rattle.pt_supervisor.specs.Children.{last_alive}
 use Rattle.pt_supervisor.specs.Hearing.{Standing}

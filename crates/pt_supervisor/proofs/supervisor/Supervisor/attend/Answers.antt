@@ -1,3 +1,4 @@
+-- `Supervisor::attend`: its clause `permanent`.
 use Rattle.std.proofs.Common.{sym, subst}
 use Rattle.pt_supervisor.specs.Children.{PermanentAreWanted}
 use Rattle.pt_supervisor.specs.Hearing.{Standing, standing}

@@ -1,3 +1,4 @@
+-- `Supervisor::handle`: its clauses `does`, `tends` and `bears`.
 use Rattle.std.proofs.Common.{true, false, refl}
 use Rattle.pt_crew.specs.Births.{born}
 use Rattle.pt_supervisor.specs.Hearing.{standing}

@@ -1,3 +1,4 @@
+-- `Supervisor::restart`: the invariant of `self`.
 use Rattle.std.proofs.Common.{arith}
 use Rattle.pt_supervisor.proofs.supervisor.Supervisor.restart.Goals as goal
 

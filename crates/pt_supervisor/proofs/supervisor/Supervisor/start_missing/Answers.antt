@@ -1,3 +1,4 @@
+-- `Supervisor::start_missing`: its clauses `goes_on`, `does` and `permanent`, and its loop over `place`.
 use Rattle.std.proofs.Common.{true, refl, ◌∙◌, ap, arith}
 use Rattle.pt_desk.proofs.Turning.{goes_on_then}
 use Rattle.pt_crew.specs.Births.{born}

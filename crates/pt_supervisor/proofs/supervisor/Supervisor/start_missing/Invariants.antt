@@ -1,3 +1,4 @@
+-- `Supervisor::start_missing`: what holds in its loop over `place`.
 use Rattle.std.proofs.Common.{◌≡◌, length}
 use Rattle.pt_desk.specs.DeskState.{GoesOn}
 use Rattle.pt_crew.specs.Births.{born, kept_roles}

@@ -1,3 +1,4 @@
+-- `LinesArchive::keep`: what holds in its loop over `event`.
 use Rattle.std.proofs.Common.{take}
 use Rattle.pt_uses.specs.Epochs.{AppendsLines}
 use Rattle.pt_uses.proofs.epochs.LinesArchive.keep.Given as goal

@@ -1,3 +1,4 @@
+-- `Game::see_to_all`: its clause `does`, and its loop over `place`.
 use Rattle.std.proofs.Common.{◌≡◌, length, Ok, Err, refl, ◌∙◌, rules, arith}
 use Rattle.indexmap.specs.IndexMap.{set_value_at}
 use Rattle.indexmap.proofs.CallerLemmas.{keys-with_value_at}

@@ -1,3 +1,4 @@
+-- `Game::see_to_all`: what holds in its loop over `place`.
 use Rattle.std.proofs.Common.{◌≡◌, Ok}
 use Rattle.indexmap.specs.IndexMap.{keys}
 use Rattle.pt_node.specs.Desks.{IsStill}

@@ -1,3 +1,4 @@
+-- `Texts::drop_lost`: its contract.
 use Rattle.std.proofs.Common.{◌≡◌, rules, Option, Some, None, refl, ◌∙◌}
 use Rattle.pt_uses.specs.declared.payloads.Sent.{Sent}
 use Rattle.pt_uses.specs.Payloads.{is_lost, keep_unless}

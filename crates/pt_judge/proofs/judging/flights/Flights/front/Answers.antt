@@ -1,3 +1,4 @@
+-- `Flights::front`: its contract.
 use Rattle.std.proofs.Common.{Some, slice_get, ap, ◌∙◌}
 use Rattle.pt_judge.proofs.Filed.{first_value}
 use Rattle.pt_judge.proofs.judging.flights.Flights.front.Goals as goal

@@ -1,3 +1,4 @@
+-- `Flights::oldest`: its contract.
 use Rattle.std.proofs.Common.{Some, ap, ◌∙◌}
 use Rattle.std.specs.List.{find}
 use Rattle.std.specs.Option.{option_map}

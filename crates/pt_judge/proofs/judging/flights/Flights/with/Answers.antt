@@ -1,3 +1,4 @@
+-- `Flights::with`: its contract, and the invariant of `result`.
 use Rattle.std.proofs.Common.{◌∷◌, [], ◌++◌, refl, ap, ◌∙◌}
 use Rattle.pt_signal.specs.Process.{sent}
 use Rattle.pt_judge.proofs.Filed.{with_values, with_filed}

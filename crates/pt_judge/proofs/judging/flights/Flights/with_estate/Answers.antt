@@ -1,3 +1,4 @@
+-- `Flights::with_estate`: its contract.
 use Rattle.std.proofs.Common.{◌≡◌, ◌++◌, ◌∙◌, map, List, ap, append_assoc}
 use Rattle.pt_signal.specs.declared.pid.Pid.{Pid}
 use Rattle.pt_signal.specs.declared.ids.Ids.{Ids}

@@ -1,3 +1,4 @@
+-- `Flights::with_receipt`: its contract.
 use Rattle.std.proofs.Common.{◌++◌, ◌∙◌, ap, append_assoc}
 use Rattle.pt_judge.specs.Judging.{answered, owed}
 use Rattle.pt_judge.proofs.judging.flights.Flights.with_receipt.Goals as goal

@@ -1,3 +1,4 @@
+-- `Flights::without_oldest`: its contract, and the invariant of `result`.
 use Rattle.std.proofs.Common.{sym, ap, ◌∙◌, subst₂}
 use Rattle.std.specs.Map.{values_of}
 use Rattle.pt_signal.specs.Values.{without_first}

@@ -1,3 +1,4 @@
+-- `Lives::born`: its contract.
 use Rattle.std.proofs.Common.{slice_get, ap, ◌∙◌}
 use Rattle.std.specs.Map.{keys_of}
 use Rattle.pt_judge.proofs.judging.lives.Lives.born.Goals as goal

@@ -1,3 +1,4 @@
+-- `Lives::shown`: its contract, and the invariant of `result`.
 use Rattle.std.proofs.Common.{◌≡◌, ◌∙◌, sym, ap, subst, arith}
 use Rattle.std.specs.Map.{keys_of}
 use Rattle.pt_signal.specs.declared.pid.Pid.{Pid}

@@ -1,3 +1,4 @@
+-- `Lives::with`: the invariant of `result`.
 use Rattle.std.proofs.Common.{◌≡◌, ◌∙◌, sym, ap, subst, is_some, false}
 use Rattle.std.specs.Map.{lookup, keys_of}
 use Rattle.indexmap.specs.IndexSet.{insert_key}

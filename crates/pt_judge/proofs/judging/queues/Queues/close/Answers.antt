@@ -1,3 +1,4 @@
+-- `Queues::close`: its contract.
 use Rattle.std.proofs.Common.{None, [], subst}
 use Rattle.pt_judge.specs.Filing.{Queued, IsQueued}
 use Rattle.pt_judge.proofs.Queued.{updated}

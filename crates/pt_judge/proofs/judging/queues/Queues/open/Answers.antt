@@ -1,3 +1,4 @@
+-- `Queues::open`: its contract.
 use Rattle.std.proofs.Common.{Some, ◌∷◌, [], subst}
 use Rattle.pt_judge.specs.Filing.{Queued, IsQueued}
 use Rattle.pt_judge.proofs.Queued.{updated}

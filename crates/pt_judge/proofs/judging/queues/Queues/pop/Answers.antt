@@ -1,3 +1,4 @@
+-- `Queues::pop`: its contract.
 use Rattle.std.proofs.Common.{drop, sym, ◌∙◌}
 use Rattle.pt_judge.specs.Filing.{queue_of}
 use Rattle.pt_judge.proofs.Queued.{closed}

@@ -1,3 +1,4 @@
+-- `Queues::pop_first`: its contract.
 use Rattle.std.proofs.Common.{◌≡◌, Some, [], nat_eq, drop, length, unwrap_or, ap, sym, ◌∙◌, subst}
 use Rattle.pt_judge.specs.Filing.{Queued, IsQueued, queue_of}
 use Rattle.pt_judge.proofs.Queued.{updated, own_queue, is_there}

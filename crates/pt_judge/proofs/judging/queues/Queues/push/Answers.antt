@@ -1,3 +1,4 @@
+-- `Queues::push`: its contract.
 use Rattle.std.proofs.Common.{◌≡◌, Some, ◌∷◌, [], ◌++◌, unwrap_or, ap, ◌∙◌, subst}
 use Rattle.pt_judge.specs.Filing.{Queued, IsQueued, queue_of}
 use Rattle.pt_judge.proofs.Queued.{updated, on_ok, is_there}

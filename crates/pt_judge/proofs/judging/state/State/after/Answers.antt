@@ -1,3 +1,4 @@
+-- `State::after`: its contract, and the invariant of `result`, and what its call of `observe` asks.
 use Rattle.std.proofs.Common.{◌≡◌, None, ◌++◌, ◌∙◌, sym, ap, subst}
 use Rattle.pt_events.specs.History.{landed}
 use Rattle.pt_judge.specs.Judging.{JudgeState, IsObserved, IsStep, judge_sends, known_state, cause}

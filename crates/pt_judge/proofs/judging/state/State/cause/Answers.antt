@@ -1,3 +1,4 @@
+-- `State::cause`: its clause `judged`.
 use Rattle.pt_judge.proofs.Trial.{judged_by}
 use Rattle.pt_judge.proofs.judging.state.State.cause.Goals as goal
 

@@ -1,3 +1,4 @@
+-- `State::may_say`: its contract.
 use Rattle.std.proofs.Common.{rules}
 use Rattle.pt_judge.proofs.judging.state.State.may_say.Goals as goal
 

@@ -1,3 +1,4 @@
+-- `State::with`: the invariant of `result`.
 use Rattle.std.proofs.Common.{◌≡◌, true, sym, subst}
 use Rattle.pt_events.specs.History.{at_start, is_unborn}
 use Rattle.pt_judge.specs.Judging.{JudgeState, ListsBorn, now_is}

@@ -1,0 +1,98 @@
+-- How a call is made, and how it is answered.
+use Rattle.std.specs.Prelude.{◌≡◌, ◌⊎◌, ℕ, cond, pos, Bool, true, false, is_some, Option, Some, None, Result, Ok, Err}
+use Rattle.pt_signal.specs.declared.pid.Pid.{Pid}
+use Rattle.pt_signal.specs.declared.ids.Ref.{Ref}
+use Rattle.pt_signal.specs.declared.item.Body.{Body}
+use Rattle.pt_signal.specs.declared.item.Item.{Item}
+use Rattle.pt_signal.specs.declared.item.Item.TheVariants.{User}
+use Rattle.pt_signal.specs.declared.signal.Signal.{Signal}
+use Rattle.pt_signal.specs.Values.{same_pid}
+use Rattle.pt_events.specs.declared.event.Event.TheVariants.{Said}
+use Rattle.pt_shard.specs.declared.fault.Fault.{Fault}
+use Rattle.pt_shard.specs.declared.fault.Fault.TheVariants.{NoProc}
+use Rattle.pt_shard.specs.Known.{knows}
+use Rattle.pt_shard.specs.ShardState.{lives}
+use Rattle.pt_shard.specs.Calls.{Calls, Monitors, demonitor_event}
+use Rattle.pt_desk.specs.DeskState.{DeskState}
+use Rattle.pt_desk.specs.Reaching.{Reaches, has_monitor_to_make}
+use Rattle.pt_crew.specs.Telling.{IfKnown}
+use Rattle.pt_crew.specs.declared.pending.Pending.{Pending}
+use Rattle.pt_crew.specs.declared.request.Request.{Request}
+
+abbrev pub is_who : Option Pid → Pid → Bool
+is_who None p = false
+is_who (Some q) p = same_pid q p
+
+-- the message speaks of the process
+abbrev pub speaks_of : Body → Pid → Bool
+speaks_of body p = is_who body.who p
+
+-- a request is a message that speaks of its own sender
+abbrev pub request_of : Item → Option Request
+request_of (User from body) =
+    cond (speaks_of body from) (Some (record { from = from; number = body.num; asks = body.kind })) None
+request_of _ = None
+
+-- the client asks under the number of its monitor
+abbrev pub request_message : Pid → Ref → ℕ → Body
+request_message client m asks = record { kind = asks; num = pos m.number; who = Some client }
+
+-- the answer is a message that speaks of its receiver, under the same number
+abbrev pub answer : Request → ℕ → Body
+answer r n = record { kind = n; num = r.number; who = Some r.from }
+
+-- the calls of a crew: a message, a monitor, and a monitor that is given up
+abbrev pub TellsServer : Pid → Pid → Body → DeskState → Result (Unit {0}) Fault → DeskState → Type 0
+TellsServer me to body old result new =
+    IfKnown (knows old.shard to)
+    (Reaches (lives old.shard me) me to
+    (Calls me (Some (Said me to (Signal.Message body))) (tt {0}) old.shard result new.shard) old result new) old result
+    new
+
+abbrev pub Watches : Pid → Pid → DeskState → Result Ref Fault → DeskState → Type 0
+Watches me to old result new =
+    IfKnown (knows old.shard to)
+    (Reaches (has_monitor_to_make old.shard me to) me to (Monitors me to old.shard result new.shard) old result new) old
+    result new
+
+abbrev pub Unwatches : Pid → Ref → DeskState → Result Bool Fault → DeskState → Type 0
+Unwatches me m old result new =
+    Calls me (demonitor_event old.shard me m false) (is_some (demonitor_event old.shard me m false)) old.shard result
+    new.shard
+
+-- the fault for which a request was not sent; none where the server was seen to have ended, since its DOWN comes
+abbrev pub refusal : Result (Unit {0}) Fault → Option Fault
+refusal (Ok done) = None
+refusal (Err NoProc) = None
+refusal (Err f) = Some f
+
+-- the monitor stands, and the request could not be sent: the monitor is given up, if that is not refused too
+pub record IsUnsent (me server : Pid) (asks : ℕ) (old : DeskState) (f : Fault) (new : DeskState) : Type 0 where
+  pub monitor : Ref
+  pub watching : DeskState
+  pub watches : Watches me server old (Ok monitor) watching
+  pub untold : DeskState
+  pub told : Result (Unit {0}) Fault
+  pub tells : TellsServer me server (request_message me monitor asks) watching told untold
+  pub refused : refusal told ≡ Some f
+  pub given_up : Result Bool Fault
+  pub gives_up : Unwatches me monitor untold given_up new
+
+-- the call is made: its monitor stands, and its request went out
+pub record IsMade (me server : Pid) (asks : ℕ) (old : DeskState) (p : Pending) (new : DeskState) : Type 0 where
+  pub watching : DeskState
+  pub watches : Watches me server old (Ok p.monitor) watching
+  pub told : Result (Unit {0}) Fault
+  pub tells : TellsServer me server (request_message me p.monitor asks) watching told new
+  pub asked : refusal told ≡ None
+  pub pending : p ≡ record {
+    client = me;
+    server = server;
+    monitor = p.monitor;
+    number = pos p.monitor.number;
+    waits = true;
+  }
+
+abbrev pub Asks : Pid → Pid → ℕ → DeskState → Result Pending Fault → DeskState → Type 0
+Asks me server asks old (Ok p) new = IsMade me server asks old p new
+Asks me server asks old (Err f) new = Watches me server old (Err f) new ⊎ IsUnsent me server asks old f new

@@ -1,0 +1,147 @@
+//! The side that asks.
+
+ghost use Rattle.std.specs.Prelude.{◌≡◌, ◌<◌, ◌^◌, pos};
+ghost use Rattle.pt_desk.specs.DeskState.{GoesOn};
+ghost use Rattle.pt_crew.specs.Visiting.{takes};
+ghost use Rattle.pt_crew.specs.Asking.{Asks, refusal};
+ghost use Rattle.pt_crew.specs.Ending.{Closes, EndsOnce, after_item, heard_by_call, is_answer_to_call, says_to_call};
+
+use crate::calls::{tell, unwatch, watch};
+use crate::request::speaks_of;
+use pt_node::{Body, Desk, Fault, Item, Pid, Reason, Ref};
+
+/// What an item is to a call.
+#[derive(Clone, Copy, Debug, PartialEq, Eq)]
+pub enum Heard {
+    /// Its answer. The call has ended.
+    Answer(u32),
+    /// Its server has ended, with this reason, and there is no answer. The call has ended.
+    Down(Reason),
+    /// Its answer or its `DOWN`, after it had ended: the item is done with, as one that `demonitor` with `flush` takes.
+    Late,
+    /// Nothing of this call.
+    NotMine,
+}
+
+/// A call that was made: whom it waits for, and whether it still does.
+///
+/// It ends once, by its answer or by the `DOWN` of its server, and says so by [`Pending::hear`].
+#[derive(Debug, Drop, PartialEq, Eq)]
+pub struct Pending {
+    client: Pid,
+    server: Pid,
+    monitor: Ref,
+    /// The number that the answer carries.
+    number: i64,
+    waits: bool,
+}
+
+impl Pending {
+    /// Asks a server: makes a monitor, and sends the request under its number (`gen_server:call` up to its `receive`).
+    ///
+    /// Refused as [`watch`] is, and nothing is asked then: as `NoProc` where the desk does not know the server, or sees
+    /// that it has ended, as `Myself`, `Gone`, `Worn` or `Memory`. Refused as `Worn` or `Memory` too where the request
+    /// could not be sent; the monitor is given up then, and where that is refused as well its `DOWN` may come, which
+    /// belongs to no call. Where the server is seen to have ended only as the request is sent, the call is made, and
+    /// ends by the `DOWN`.
+    pub fn ask(desk: &mut Desk, me: Pid, server: Pid, asks: u32) -> Result<Pending, Fault>
+        ensures does { Asks me server asks desk.old result desk.new }
+        ensures takes { takes desk.new.shard.journal ≡ takes desk.old.shard.journal }
+        ensures goes_on { GoesOn desk.old desk.new }
+    {
+        let monitor = watch(desk, me, server)?;
+        let number = number_of(monitor);
+        let body = Body {
+            kind: asks,
+            num: number,
+            who: Some(me),
+        };
+        if let Some(fault) = refusal(tell(desk, me, server, body)) {
+            let _ = unwatch(desk, me, monitor);
+            return Err(fault);
+        }
+        Ok(Pending {
+            client: me,
+            server,
+            monitor,
+            number,
+            waits: true,
+        })
+    }
+
+    /// Whether it still waits for its answer, or for the end of its server.
+    pub fn is_open(&self) -> bool
+        ensures { result ≡ self.now.waits }
+    {
+        self.waits
+    }
+
+    /// Hears an item that came to the client: whether it is the answer of this call, or its `DOWN`, or neither.
+    ///
+    /// Once it has ended it never ends again: what else comes of it is `Late`. As it ends its monitor is given up; a
+    /// refusal of that, for want of memory or stamps, is passed over, since a `DOWN` that comes then is `Late`.
+    pub fn hear(&mut self, desk: &mut Desk, item: Item) -> Heard
+        ensures heard { result ≡ heard_by_call self.old item }
+        ensures after { self.new ≡ after_item self.old item }
+        ensures closes { Closes self.old item desk.old desk.new }
+        ensures takes { takes desk.new.shard.journal ≡ takes desk.old.shard.journal }
+        ensures goes_on { GoesOn desk.old desk.new }
+    {
+        let Some(said) = self.says(item) else {
+            return Heard::NotMine;
+        };
+        if !self.waits {
+            return Heard::Late;
+        }
+        self.waits = false;
+        let _ = unwatch(desk, self.client, self.monitor);
+        said
+    }
+
+    /// What the item says to this call, while it is open.
+    fn says(&self, item: Item) -> Option<Heard>
+        ensures { result ≡ says_to_call self.now item }
+    {
+        match item {
+            Item::User(from, body) => self
+                .is_answer(from, body)
+                .then_some(Heard::Answer(body.kind)),
+            Item::Down(monitor, _, reason) => {
+                (monitor == self.monitor).then_some(Heard::Down(reason))
+            }
+            _ => None,
+        }
+    }
+
+    /// Whether the message is an answer of its server, under its number.
+    fn is_answer(&self, from: Pid, body: Body) -> bool
+        ensures { result ≡ is_answer_to_call self.now from body }
+    {
+        from == self.server && speaks_of(body, self.client) && body.num == self.number
+    }
+}
+
+/// The number of a reference, as a message carries it.
+fn number_of(monitor: Ref) -> i64
+    requires { monitor.number < 2 ^ 63 }
+    ensures { result ≡ pos monitor.number }
+{
+    monitor.number as i64
+}
+
+/// The fault for which a request was not sent. A server that is seen to have ended is none: its `DOWN` comes.
+fn refusal(told: Result<(), Fault>) -> Option<Fault>
+    ensures { result ≡ refusal told }
+{
+    match told {
+        Ok(()) => None,
+        Err(Fault::NoProc) => None,
+        Err(fault) => Some(fault),
+    }
+}
+
+/// Each call ends once, by its answer or by the end of its server, and never by both; and one to which neither comes
+/// stays open.
+pub fn calls_end_once()
+    ensures { EndsOnce }
+{}

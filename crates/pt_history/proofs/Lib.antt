@@ -1,0 +1,6 @@
+-- The lemmas that more than one function of the crate uses.
+pub mod Flags
+pub mod Peers
+pub mod MonitorsSince
+pub mod Examples
+pub mod EarlyLinks

@@ -1,5 +1,0 @@
-use Rattle.pt_laws.proofs.linking.Peers.{peers_since}
-use Rattle.pt_laws.proofs.laws.peers_are_linked_since.Goals as goal
-
-pub returns : goal.returns
-returns c start past p ok = peers_since start ok p past

@@ -1,5 +1,0 @@
-use Rattle.pt_events.proofs.Leaving as leaving
-use Rattle.pt_origin.proofs.laws.leaves_each.Goals as goal
-
-pub returns : goal.returns
-returns c = leaving.leaves_each

@@ -1,6 +1,0 @@
--- An origin owns nothing, so it may go to any thread.
-use denote.Param.Send.{IsSend}
-use Rattle.pt_origin.specs.contracts.origin.Origin.{the_row}
-
-pub send : IsSend the_row
-send = record { owned = λ d vs. ((λ vss. (tt, tt)), tt); leaving = λ k f vs. tt }

@@ -1,7 +1,0 @@
--- An origin owns nothing, so any thread may share it.
-use denote.Param.Send.{IsSync, part_keyless}
-use Rattle.pt_origin.specs.contracts.origin.Origin.{the_row}
-use Rattle.pt_origin.proofs.origin.Origin.TheSendSync.Send.{send}
-
-pub sync : IsSync the_row
-sync = record { shared = λ d b o κ q. part_keyless the_row send q d b o }

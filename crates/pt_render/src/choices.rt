@@ -1,0 +1,60 @@
+//! What can be asked for when a script is run: how its desks are run, for how many turns and epochs, and what is
+//! printed.
+//!
+//! Whoever reads a command line makes these values, and whoever runs a script takes them; neither knows of the other.
+
+ghost use Rattle.std.specs.Prelude.{◌≡◌};
+
+/// The most turns that can be asked for.
+pub const MOST_TURNS: u64 = 1_000_000;
+
+/// The most epochs that can be asked for.
+pub const MOST_EPOCHS: u64 = 1_000_000;
+
+/// The version of the programs, as `--version` prints it behind the program's name.
+pub const VERSION: &str = "0.1.0";
+
+/// How the desks are run.
+#[derive(Clone, Copy, Debug, PartialEq, Eq)]
+pub enum Mode {
+    /// All on the calling thread, in rounds: the same script gives the same history each time.
+    Single,
+    /// Each on a thread of its own.
+    Many,
+}
+
+/// What is printed.
+#[derive(Clone, Copy, Debug, PartialEq, Eq)]
+pub enum Show {
+    /// A line a process, once the letters on their way have come.
+    Summary,
+    /// A line an event, and a line a letter on its way.
+    History,
+    /// The events as a message sequence chart in SVG.
+    Chart,
+    /// The events, and the letters on their way, as a sequence diagram of Mermaid.
+    Mermaid,
+    /// The events, and the letters on their way, as JSON, an object a line.
+    Json,
+}
+
+/// What is asked for, the script apart.
+#[derive(Clone, Copy, Debug, PartialEq, Eq)]
+pub struct Options {
+    /// How the desks are run.
+    pub threads: Mode,
+    /// How many turns each desk takes in each epoch, 1,000,000 at most.
+    pub turns: u64,
+    /// How many epochs there are, 1 to 1,000,000. Between two of them the node is gathered, settled and resumed.
+    pub epochs: u64,
+    /// What is printed.
+    pub print: Show,
+    /// Whether a refusal, and each process of a summary, is explained in a second line.
+    pub explain: bool,
+}
+
+/// At most 1,000,000 turns and as many epochs can be asked for: other clauses cite these limits by their names alone.
+pub fn limits_stand()
+    ensures turns { MOST_TURNS ≡ 1000000 }
+    ensures epochs { MOST_EPOCHS ≡ 1000000 }
+{}

@@ -1,0 +1,50 @@
+//! What was before a journal, for clauses alone to read.
+//!
+//! A journal is read over a *start*: what each process was before its first event. A desk that goes on after its
+//! journal was handed over writes into an empty one, over the start that the old journal left behind. An [`Origin`]
+//! says which start that is; it takes no memory, since what the processes hold stands in the desk's slots.
+
+ghost use Rattle.std.specs.Prelude.{◌≡◌, []};
+ghost use Rattle.std.specs.Borrow.{ftrue};
+ghost use Rattle.pt_events.specs.History.{Start};
+ghost use Rattle.pt_events.specs.Journal.{events};
+ghost use Rattle.pt_events.specs.Leaving.{start_after};
+
+use pt_events::Journal;
+use std::marker::Model;
+
+/// What each process was before the first event of a journal.
+///
+/// It has no bytes and owns nothing; a clause reads the start as `start`.
+#[derive(Drop)]
+pub struct Origin {
+    pub ghost start: { Start },
+}
+
+impl Model for Origin {
+    ghost also_owns = { λ _. ftrue };
+}
+
+// It owns nothing, so it may go to any thread, and any thread may share it.
+unsafe impl Send for Origin {}
+
+unsafe impl Sync for Origin {}
+
+impl Origin {
+    /// Nothing was before.
+    pub fn new() -> Origin
+        ensures { result.start ≡ [] }
+    {
+        Origin {}
+    }
+
+    /// What the journal leaves behind: each process born before it or in it as it is after the last event; of one
+    /// that has ended its reason, and nothing that it held.
+    pub fn left_behind(&self, journal: &Journal) -> Origin
+        ensures { result.start ≡ start_after self.now.start (events journal.now.past) }
+    {
+        // the clause alone reads it
+        let _ = journal;
+        Origin {}
+    }
+}

@@ -1,0 +1,109 @@
+#!/usr/bin/env python3
+"""Counts what makes the sources and pages hard to read, and fails if a count is above its bound.
+
+    tools/form.py            prints each count beside its bound; status 1 if one is above it
+    tools/form.py --list     prints what was counted, too
+
+- words: names that the definitions (crates/*/specs) of two crates or more have
+- functions: functions of crates/*/src of more than 30 lines
+- prose: lines of the pages, outside of tables and code, of more than 300 letters
+- sentences: sentences of the pages, outside of tables and code, of more than 30 words
+"""
+from __future__ import annotations
+
+import argparse
+import re
+import sys
+from collections import defaultdict
+from collections.abc import Iterator
+from pathlib import Path
+
+ROOT = Path(__file__).resolve().parent.parent
+BOUNDS = {"words": 0, "functions": 14, "prose": 168, "sentences": 89}
+MOST_LINES = 30
+MOST_LETTERS = 300
+MOST_WORDS = 30
+# pages that tools write
+WRITTEN = {"API.md", "PROMISES.md"}
+
+DEFINITION = re.compile(r"(?:(?:abbrev|opaque|unfold|unfoldable|private|rec|mutual) )*(?:pub )?(?:(?:record|data|inductive) )?([A-Za-z_][\w'-]*)")
+NONE = ("use ", "pub use ", "mod ", "pub mod ", "module ", "--", " ")
+
+
+def words() -> list[str]:
+    """The names that two crates define."""
+    crates: dict[str, set[str]] = defaultdict(set)
+    for path in ROOT.glob("crates/*/specs/**/*.antt"):
+        for line in path.read_text().split("\n"):
+            found = None if line.startswith(NONE) else DEFINITION.match(line)
+            if found and found[1] != "pub" and ("pub " in line.split(":")[0] or "record " in line):
+                crates[found[1]].add(path.relative_to(ROOT).parts[1])
+    return [f"{word}: {', '.join(sorted(it))}" for word, it in sorted(crates.items()) if len(it) > 1]
+
+
+def functions() -> list[str]:
+    """The functions whose bodies have more than 30 lines."""
+    found = []
+    for path in sorted(ROOT.glob("crates/*/src/**/*.rt")):
+        lines = path.read_text().split("\n")
+        for at, line in enumerate(lines):
+            start = re.match(r"( *)(?:pub(?:\(\w+\))? )?(?:const )?(?:unsafe )?(?:extern \"C\" )?fn (\w+)", line)
+            if not start:
+                continue
+            # a body begins at the first line below that is a lone brace, or that ends with one
+            body = next((n for n in range(at, len(lines)) if lines[n] == start[1] + "{" or (n == at and line.endswith("{"))), None)
+            if body is None or any(lines[n] == "" or lines[n].startswith(start[1] + "}") for n in range(at, body)):
+                continue
+            end = next((n for n in range(body + 1, len(lines)) if lines[n] == start[1] + "}"), body)
+            if end - body - 1 > MOST_LINES:
+                found.append(f"{path.relative_to(ROOT)}:{at + 1}: {start[2]}: {end - body - 1} lines")
+    return found
+
+
+def pages() -> Iterator[tuple[str, list[str]]]:
+    """The pages, each with its lines outside of tables and code."""
+    for path in [ROOT / "README.md", *sorted(ROOT.glob("docs/*.md"))]:
+        if path.name in WRITTEN:
+            continue
+        lines, code = [], False
+        for line in path.read_text().split("\n"):
+            code = not code if line.startswith("```") else code
+            lines.append("" if code or line.startswith(("```", "    ", "|")) else line)
+        yield path.name, lines
+
+
+def prose() -> list[str]:
+    """The lines of more than 300 letters."""
+    return [f"{name}:{at + 1}: {len(line)} letters" for name, lines in pages() for at, line in enumerate(lines) if len(line) > MOST_LETTERS]
+
+
+def sentences() -> list[str]:
+    """The sentences of more than 30 words; a bullet, a heading and an empty line end one, and so does a colon."""
+    found = []
+    for name, lines in pages():
+        text = "\n".join(re.sub(r"^(\s*)([-*]|\d+\.) ", "\n\n", line) for line in lines)
+        for paragraph in re.split(r"\n\s*\n", text):
+            plain = re.sub(r"`[^`]*`", "x", re.sub(r"\s+", " ", paragraph)).strip()
+            for sentence in re.split(r"(?<=[.!?:;])[)*]* ", plain):
+                if len(sentence.split()) > MOST_WORDS:
+                    found.append(f"{name}: {sentence[:100]}")
+    return found
+
+
+def main() -> int:
+    reader = argparse.ArgumentParser(description="Counts what makes the sources and pages hard to read.")
+    reader.add_argument("--list", action="store_true", help="print what was counted, too")
+    words_given = reader.parse_args()
+    status = 0
+    for name, count in {"words": words, "functions": functions, "prose": prose, "sentences": sentences}.items():
+        found = count()
+        above = len(found) > BOUNDS[name]
+        print(f"{name}: {len(found)}, at most {BOUNDS[name]}{': too many' if above else ''}")
+        status = status or int(above)
+        if words_given.list or above:
+            print("".join(f"    {it}\n" for it in found), end="")
+    return status
+
+
+if __name__ == "__main__":
+    sys.exit(main())
