@@ -1,3 +1,4 @@
+-- `list_names_in`: what holds in its loop over `place`.
 use Rattle.std.proofs.Common.{◌≡◌, ◌++◌, take}
 use Rattle.pt_chart.specs.Drawing.{each_numbered, name_in}
 use Rattle.pt_chart.proofs.drawing.list_names_in.Given as goal
