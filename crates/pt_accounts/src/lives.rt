@@ -11,8 +11,7 @@ ghost use Rattle.pt_accounts.specs.LivesState.{Adds, Tell, AreAllPids, account_i
 
 use crate::Account;
 use crate::desk_lives::DeskLives;
-use pt_events::Journal;
-use pt_events::journals_tell_their_pids;
+use pt_events::{Journal, journals_tell_their_pids};
 use pt_signal::{Ids, Pid, Ref};
 use std::alloc::{AllocError, Global};
 use std::marker::Model;

@@ -35,7 +35,7 @@ use Rattle.pt_crew.specs.declared.crew.Tended.{Tended}
 use Rattle.pt_crew.specs.declared.crew.Tended.TheVariants.{Idle, Again, Done, Refused as Denied, Gone as Ended}
 use Rattle.pt_crew.specs.Births.{bore}
 use Rattle.pt_crew.specs.Visiting.{Answers, Roles, AreSame, AreWith, Scene, HandsTo, LeavesAs, StaysAs, ComesTo, SeesTo, EndsAs, TakesAs, VisitsOne, Visits}
-use Rattle.pt_crew.specs.Visiting.{Bears as BearsAs, handed_by, handed_as, left_as}
+use Rattle.pt_crew.specs.Visiting.{BearsChildren as BearsAs, handed_by, handed_as, left_as}
 use Rattle.pt_crew.specs.Crews.{CrewRounds, Aboard, EntersAll, StepsOn, CrewDoes, Enters, CrewWorks, roles, left, waiting}
 use Rattle.pt_crew.specs.Upholding.{Relation, IsLater, IsLeftAlone, ActsFor, ItemIsTaken, StandsFirst, AllFirst, IsUpheld, AllStand, StandsStill, AllStill, Upholds, child_by, children_by}
 use Rattle.pt_crew.proofs.Waking.{by_cases, elsewhere, there, same_some}

@@ -23,7 +23,7 @@ use Rattle.pt_accounts.specs.Pids.{IsBefore, IsBeforeAll, AreRising, IsIn}
 use Rattle.pt_accounts.specs.declared.account.Account.{Account}
 use Rattle.pt_accounts.specs.LivesState.{AreAllPids, InEveryMerge, account_at, account_in}
 use Rattle.pt_shard.specs.ShardState.{ShardState, past, phase_of}
-use Rattle.pt_shard.specs.Opening.{fresh as fresh_shard}
+use Rattle.pt_shard.specs.Opening.{fresh_shard}
 use Rattle.pt_shard.specs.Restart.{restarted}
 use Rattle.pt_gathered.specs.Gathered.{GatheredState, IsGathered, begins, journals, start_of}
 use Rattle.pt_gathered.proofs.Starts.{start_same, nobody_beyond}

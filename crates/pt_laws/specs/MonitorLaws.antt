@@ -10,6 +10,7 @@ use Rattle.pt_laws.specs.Acts.{ActsMayCome}
 use Rattle.pt_laws.specs.Load.{IsQuiet}
 use Rattle.pt_laws.specs.Resumed.{AllNewTo, IsLeftBy}
 use Rattle.pt_events.specs.Counting.{count}
+use Rattle.pt_events.specs.OldRefs.{HasOldRefs}
 use Rattle.pt_laws.specs.Watch.{is_monitor, is_demonitor, is_down_item, said_times, said_to, open_in, kept_in}
 
 -- how often w said Demonitor m, and the DOWNs of m that arrived at w

@@ -9,8 +9,8 @@ ghost use Rattle.pt_report.specs.declared.fault.ReportFault.TheVariants.{File, M
 
 use crate::epochs::pass_epochs;
 use crate::fault::ReportFault;
-use pt_render::{Mode, Options};
 use pt_node::{FreeGate, Gathered, Node, Stamped, abandon, open};
+use pt_render::{Mode, Options};
 use pt_runner::Runner;
 use pt_script::Script;
 use std::alloc::Global;

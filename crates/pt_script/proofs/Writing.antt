@@ -16,7 +16,7 @@ use Rattle.pt_script.specs.declared.values.Operation.{Operation}
 use Rattle.pt_script.specs.declared.values.Operation.TheVariants as operation
 use Rattle.pt_script.specs.Steps.{◌>>=◌}
 use Rattle.pt_script.specs.Members.{known_members, signed}
-use Rattle.pt_script.specs.Operations.{is_decimal, number as numeral, reason_written, process, new_tag, pick, pick_members, kind, tagged, plain, send, receive, check, link, unlink, demonitor, trap, exit, signal, pass}
+use Rattle.pt_script.specs.Operations.{is_decimal, number_read as numeral, reason_written, process, new_tag, pick, pick_members, kind, tagged, plain, send, receive, check, link, unlink, demonitor, trap, exit, signal, pass}
 use Rattle.pt_script.specs.Scopes.{Scope, can_ask, is_script_digit}
 use Rattle.pt_script.specs.Lists.{simple, with_monitor, with_ask}
 use Rattle.pt_script.specs.Writing.{Called, with, written_operation, IsCalled, CanPick, WritesReason, FitsSigned, IsNewTag, CanSay, scope_behind}

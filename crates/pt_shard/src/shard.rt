@@ -28,14 +28,13 @@ use crate::acts::{
     ask, bounce, close_monitor, drop_link, end_by, keep_link, open_monitor, prepare_birth,
     prepare_ending, set_flag, take, take_in, tell,
 };
-use crate::config::Config;
 use crate::fault::Fault;
 use crate::ledger::Ledger;
 use crate::processes::{Processes, new_process};
 use crate::stop::Stop;
 use pt_events::{Event, Journal};
 use pt_process::Process;
-use pt_signal::{Body, Ids, Item, Letter, Pick, Pid, Reason, Ref, Signal};
+use pt_signal::{Body, Config, Ids, Item, Letter, Pick, Pid, Reason, Ref, Signal};
 use std::alloc::{AllocError, Global};
 use std::marker::Model;
 
