@@ -1,6 +1,6 @@
 //! The chart, from its background to its foreground.
 
-ghost use Rattle.std.specs.Prelude.{◌≡◌, ◌==◌, ◌<◌, [], ◌∷◌, ◌++◌, IfOk, OnOk, length, map, position, slice_index};
+ghost use Rattle.std.specs.Prelude.{◌≡◌, ◌==◌, ◌/◌, ◌<◌, [], ◌∷◌, ◌++◌, IfOk, IfSome, OnOk, length, map, not, position, slice_index};
 ghost use Rattle.std.specs.Prelude.{string_bytes, cond, slice_index_or};
 ghost use Rattle.std.specs.Option.{option_map};
 ghost use Rattle.pt_signal.specs.Values.{same_pid};
@@ -521,12 +521,19 @@ fn block_of<'a>(rows: &[usize], events: &'a [Stamped], at: usize) -> &'a [Stampe
     requires within { at < length rows.now }
     ensures { result.now ≡ block rows.now events.now at }
 {
-    let number = rows[at] / BLOCK;
     let later = &events[at..];
-    match rows[at..].iter().position(|row| *row / BLOCK != number) {
+    match first_behind(&rows[at..], rows[at] / BLOCK) {
         Some(count) => &later[..count],
         None => later,
     }
+}
+
+/// The place of the first row that is not of the block with this number.
+fn first_behind(rows: &[usize], number: usize) -> Option<usize>
+    ensures place { result ≡ position (λ row. not (row / 40 == number)) rows.now }
+    ensures within { IfSome result (λ place. place < length rows.now) }
+{
+    rows.iter().position(|row| *row / BLOCK != number)
 }
 
 /// Whether an event names the process.
