@@ -7,8 +7,8 @@
 # threads: this script counts the events, desks and letters on their way of each by itself. So it is with a carriage
 # return before each line feed, without the last line feed, and cut into one file a desk. A stored one that is cut off
 # behind a line is legal as far as it goes: the auditor reports a letter on its way or nothing. Behind any byte, the last
-# line is at fault or none. selected.txt has what is printed of a history, and refused.txt histories that are not legal,
-# with the line at fault of each. The programs are bin/pt_run and bin/pt_audit, which are built first if they are not up
+# line is at fault or none. selected.txt has what is printed of a history, refused.txt histories that are not legal, with
+# the line at fault of each, and statuses.txt what is said beside a verdict. The programs are bin/pt_run and bin/pt_audit, which are built first if they are not up
 # to date.
 set -euo pipefail
 shopt -s nullglob
@@ -143,6 +143,22 @@ for wanted in "$work/wanted"/*; do
     audit "$name"
     is_same "$wanted" "$work/err/$name" "$name" "standard error"
     has_status "$name" 1
+done
+
+# What is said beside a verdict.
+mkdir "$work/said" "$work/statuses"
+: >"$work/desks/here"
+awk -v cases="$work/cases/" -v said="$work/said/" -v statuses="$work/statuses/" '
+    /^#/ { next }
+    /^== / { name = "said-" $2; print $3 > (statuses name); printf "" > (cases name); printf "" > (said name)
+        printf "" > (cases name ".args"); for (i = 4; i <= NF; i++) print $i > (cases name ".args"); next }
+    /^=> / { print substr($0, 4) > (said name); next }
+    name != "" && NF { print > (cases name) }' "$here/statuses.txt"
+for status in "$work/statuses"/*; do
+    name=$(basename "$status")
+    audit "$name"
+    is_same "$work/said/$name" "$work/err/$name" "$name" "standard error"
+    has_status "$name" "$(cat "$status")"
 done
 
 # What a history that is cut off leads to: it is legal, or its end is at fault.
