@@ -7,16 +7,16 @@ use Rattle.pt_signal.specs.declared.signal.Signal.TheVariants.{Link, Monitor, Al
 use Rattle.pt_events.specs.declared.event.Event.{Event}
 use Rattle.pt_events.specs.declared.event.Event.TheVariants.{Born, Said, Came, Took, Flag, Left, Refused}
 use Rattle.pt_events.specs.declared.event.Stamped.{Stamped}
-use Rattle.pt_events.specs.declared.event.TheConstants.{MAX_STAMP}
+use Rattle.pt_signal.specs.declared.config.TheConstants.{MAX_STAMP}
 use Rattle.pt_events.specs.History.{Past, Phase, unborn, living, ended, is_living, is_unborn, is_ended, reason_of, life}
-use Rattle.pt_events.specs.Journal.{events, IsOf, IsHome, IsLinkAt, IsNewAt, IsKnown}
+use Rattle.pt_events.specs.Journal.{events, IsHome, IsLinkAt, IsNewAt, IsKnown}
 use Rattle.pt_judge.specs.Judging.{JudgeState, now_is}
 use Rattle.pt_judge.specs.Judge.{IsAfter}
 use Rattle.pt_auditor.specs.declared.foreign.Foreign.{Foreign}
 use Rattle.pt_auditor.specs.declared.foreign.NoNode.{NoNode}
 use Rattle.pt_auditor.specs.declared.foreign.NoNode.TheVariants.{Desk, Stamp, OtherDesk, OtherId, Version, Unborn}
 use Rattle.pt_auditor.specs.Foreigners.{IsToDesk, IsNodeDesk, IsNodeStamp, IsKnownHere, is_newborn, top_of, IsFromNode, IsNoNode, IsJudgedForeign, AllFromNode, IsFirstForeign, IsOrigin}
-use Rattle.pt_auditor.specs.Foreigners.{is_to_desk, is_node_desk, is_node_stamp, is_of, is_home, is_link_at, is_new_at, has_ended, is_next_version, was_born, is_known, is_in_turn, no_node}
+use Rattle.pt_auditor.specs.Foreigners.{is_to_desk, is_node_desk, is_node_stamp, is_home, is_link_at, is_new_at, has_ended, is_next_version, was_born, is_known, is_in_turn, no_node, first_foreign}
 
 -- a test tells whether a fact holds
 abbrev pub Tells : Bool → Type 0 → Type 0
@@ -56,12 +56,13 @@ node_desk s = both (nat_lt s.desk 64) (is_to_desk s.event) (s.desk < 64) (IsToDe
 node_stamp : (n : ℕ) → Tells (is_node_stamp n) (IsNodeStamp n)
 node_stamp n = both (nat_lt 0 n) (nat_le n MAX_STAMP) (0 < n) (n ≤ MAX_STAMP) (below 0 n) (upto n MAX_STAMP)
 
-parent_of : (d : ℕ) (o : Option Pid) → Tells (is_of d o) (IsOf d o)
-parent_of d None = tt
-parent_of d (Some q) = same q.shard d
+alone : (b : Bool) (P : Type 0) → Tells b P → Tells b (P × Unit {0})
+alone true P p = (p, tt)
+alone false P p = λ h. p h.0
 
 home : (d : ℕ) (e : Event) → Tells (is_home d e) (IsHome d e)
-home d (Born p parent link) = both (p.shard == d) (is_of d parent) (p.shard ≡ d) (IsOf d parent) (same p.shard d) (parent_of d parent)
+home d (Born p None link) = alone (p.shard == d) (p.shard ≡ d) (same p.shard d)
+home d (Born p (Some q) link) = both (p.shard == d) (q.shard == d) (p.shard ≡ d) (q.shard ≡ d) (same p.shard d) (same q.shard d)
 home d (Said a b x) = same a.shard d
 home d (Came a b x) = same b.shard d
 home d (Took p k i) = same p.shard d
@@ -173,15 +174,8 @@ module _ (k : JudgeState) (past : Past) (after : IsAfter [] past k) where
 
 -- of a whole history --------------------------------------------------------------------------
 
--- the first that no node prints stays the first
-pub first_stays : (past : List Stamped) (s : Stamped) (o : Option Foreign) → is_some o ≡ true → IsOrigin past o → IsOrigin (s ∷ past) o
-first_stays past s None h g = absurd (cc)
-first_stays past s (Some f) h g = inl g
-
-pub none_before : (past : List Stamped) (o : Option Foreign) → is_some o ≡ false → IsOrigin past o → AllFromNode past
-none_before past None h g = g
-none_before past (Some f) h g = absurd (cc)
-
-pub is_first : (past : List Stamped) (s : Stamped) (n : ℕ) (why : NoNode) → AllFromNode past → n ≡ min (length past + 1) (2 ^ 64 - 1) → IsNoNode (events past) s why
-    → IsOrigin (s ∷ past) (Some (record { line = n; why = why }))
-is_first past s n why all e w = inr (all, e, w)
+pub origin_more : (past : List Stamped) (s : Stamped) (n : ℕ) (o : Option Foreign) (why : Option NoNode) → n ≡ min (length past + 1) (2 ^ 64 - 1) → IsOrigin past o → IsJudgedForeign (events past) s why
+    → IsOrigin (s ∷ past) (first_foreign o why n)
+origin_more past s n (Some f) why e g j = inl g
+origin_more past s n None (Some why) e g j = inr (g, e, j)
+origin_more past s n None None e g j = (j, g)

@@ -7,7 +7,7 @@ use Rattle.pt_signal.specs.declared.signal.Signal.TheVariants.{Link, Monitor, Al
 use Rattle.pt_events.specs.declared.event.Event.{Event}
 use Rattle.pt_events.specs.declared.event.Event.TheVariants.{Born, Said, Came, Took, Flag, Left, Refused}
 use Rattle.pt_events.specs.declared.event.Stamped.{Stamped}
-use Rattle.pt_events.specs.declared.event.TheConstants.{MAX_STAMP}
+use Rattle.pt_signal.specs.declared.config.TheConstants.{MAX_STAMP}
 use Rattle.pt_events.specs.History.{Past, is_living, reason_of}
 use Rattle.pt_events.specs.Journal.{events, IsHome, IsNewAt, IsKnown}
 use Rattle.pt_judge.specs.Judging.{JudgeState, now_is}
@@ -97,12 +97,9 @@ is_node_desk s = nat_lt s.desk 64 && is_to_desk s.event
 abbrev pub is_node_stamp : ℕ → Bool
 is_node_stamp n = nat_lt 0 n && nat_le n MAX_STAMP
 
-abbrev pub is_of : ℕ → Option Pid → Bool
-is_of d None = true
-is_of d (Some q) = q.shard == d
-
 abbrev pub is_home : ℕ → Event → Bool
-is_home d (Born p parent link) = (p.shard == d) && is_of d parent
+is_home d (Born p None link) = p.shard == d
+is_home d (Born p (Some q) link) = (p.shard == d) && (q.shard == d)
 is_home d (Said a b x) = a.shard == d
 is_home d (Came a b x) = b.shard == d
 is_home d (Took p k i) = p.shard == d
@@ -138,6 +135,12 @@ is_known s d _ = true
 abbrev pub is_in_turn : JudgeState → Event → Bool
 is_in_turn s (Born p parent link) = is_next_version s p
 is_in_turn s _ = true
+
+-- the first that no node prints, where the next event has this line and may have such a reason
+abbrev pub first_foreign : Option Foreign → Option NoNode → ℕ → Option Foreign
+first_foreign (Some f) why n = Some f
+first_foreign None (Some why) n = Some (record { line = n; why = why })
+first_foreign None None n = None
 
 abbrev pub no_node : JudgeState → Stamped → Option NoNode
 no_node k s =

@@ -1,10 +1,8 @@
 //! Why no node prints what may stand in a history.
 
 ghost use Rattle.std.specs.Prelude.{◌≡◌};
-ghost use Rattle.pt_events.specs.History.{Past};
-ghost use Rattle.pt_judge.specs.Judge.{IsAfter};
 ghost use Rattle.pt_auditor.specs.Foreigners.{is_node_desk, is_node_stamp, is_home, is_new_at, is_next_version};
-ghost use Rattle.pt_auditor.specs.Foreigners.{is_in_turn, is_known, no_node, was_born, IsJudgedForeign};
+ghost use Rattle.pt_auditor.specs.Foreigners.{is_in_turn, is_known, no_node, was_born};
 
 use pt_events::{Event, MAX_STAMP, Stamped};
 use pt_judge::State;
@@ -124,8 +122,7 @@ fn is_in_turn(state: &State, event: Event) -> bool
 
 /// Why no node prints the event next, if none does: the first reason that holds.
 pub(crate) fn no_node(state: &State, stamped: Stamped) -> Option<NoNode>
-    ensures is { result ≡ no_node state.now stamped }
-    ensures judged { (past : Past) → IsAfter [] past state.now → IsJudgedForeign past stamped result }
+    ensures { result ≡ no_node state.now stamped }
 {
     let Stamped { stamp, desk, event } = stamped;
     if !is_node_desk(stamped) {

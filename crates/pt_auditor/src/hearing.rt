@@ -1,11 +1,11 @@
 //! A history heard event by event.
 
-ghost use Rattle.std.specs.Prelude.{◌≡◌, ◌+◌, ◌-◌, ◌^◌, [], ◌∷◌, None, min, max, slice_get};
+ghost use Rattle.std.specs.Prelude.{◌≡◌, ◌+◌, ◌-◌, ◌^◌, [], None, min, max, slice_get};
 ghost use Rattle.std.specs.Map.{keys_of};
 ghost use Rattle.std.specs.Option.{option_map};
 ghost use Rattle.pt_judge.specs.Judging.{cause, known_state, now_is};
 ghost use Rattle.pt_auditor.specs.Hearings.{Heard, IsHeard, Hears, TellsLetter, EndsHearing, IsSunk, IsWithout, Objects, follows};
-ghost use Rattle.pt_auditor.specs.Foreigners.{IsOrigin};
+ghost use Rattle.pt_auditor.specs.Foreigners.{first_foreign, no_node, IsOrigin};
 ghost use Rattle.pt_auditor.specs.Standings.{StandingIsTrue, standing_of, waiting_of};
 
 use crate::against::contradiction;
@@ -106,18 +106,16 @@ fn objection(hearing: &Hearing, stamped: Stamped) -> Option<Objection>
 
 /// The first event that no node prints, where this one is heard next.
 fn foreign_with(hearing: &Hearing, stamped: Stamped) -> Option<Foreign>
-    ensures { (heard : Heard) → IsHeard heard hearing.now → heard.left ≡ []
-        → IsOrigin (stamped ∷ heard.events) result }
+    ensures { result ≡ first_foreign hearing.now.foreign (no_node hearing.now.state stamped)
+        (min (hearing.now.events + 1) (2 ^ 64 - 1)) }
 {
-    if hearing.foreign.is_some() {
-        return hearing.foreign;
-    }
-    match no_node(&hearing.state, stamped) {
-        Some(why) => Some(Foreign {
+    match (hearing.foreign, no_node(&hearing.state, stamped)) {
+        (Some(foreign), _) => Some(foreign),
+        (None, Some(why)) => Some(Foreign {
             line: one_more(hearing.events),
             why,
         }),
-        None => None,
+        (None, None) => None,
     }
 }
 
