@@ -122,7 +122,7 @@ slots_apart b (x ∷ slots) own i j p q at there same =
 -- a table -----------------------------------------------------------------------------------
 
 module _ (start : Start) (d : ℕ) (past : Past) (t : DeskTable) (is : IsTableOf start d past t) where
-  -- the life life_at a place is that of the pid of the place
+  -- the life at a place is that of the pid of the place
   pub life_at : (s j : ℕ) (l : LifeState) → slice_get (slot_at t.slots s) j ≡ Some l
       → (l.pid ≡ record { shard = d; slot = s; version = suc j }) × (l.phase ≡ life start past (record { shard = d; slot = s; version = suc j }))
   life_at s j l life_at =
@@ -203,7 +203,7 @@ own_start (b ∷ start) d own p h = go (same_pid p b.0) refl (own_start start d 
   where
     go : (t : Bool) → same_pid p b.0 ≡ t → (is_ended (at_start start p) ≡ true → p.shard ≡ d) → p.shard ≡ d
     go true e rest = ap (λ (q : Pid). q.shard) (same_pid_is p b.0 e) ∙ own.0
-    go false e rest = rest (rw e life_at h)
+    go false e rest = rest (rw e at h)
 
 pub old_ends : (s : ShardState) (v : Sight) → IsFit s → IsSeated s v → AreOldEnds (deaths_before v.before s.config.start) s.start s.config.slots s.config.start s.number
 old_ends s v fit seated = record {

@@ -45,7 +45,7 @@ slot_of_born known start slots low d old p (s ∷ journal) words h = go (is_birt
 
 module _ (s : ShardState) (o : OutEnds) (i : InEnds) (directory : DirectoryState) (seat : SeatState) (before : DeskTable) (whole : IsWhole s o i (sight_of directory seat before) seat) where
   module _ (p : Pid) (alive : lives s p ≡ true) (home : p.shard ≡ s.number) (n : ℕ) (later : s.clock < n) where
-    -- the seat seat_told of none of p's slot that is not earlier
+    -- the seat told of none of p's slot that is not earlier
     rises : (last_version (deaths_at p.shard p.slot (deaths_of s (sight_of directory seat before))) < p.version)
         × (last_stamp (deaths_at p.shard p.slot (deaths_of s (sight_of directory seat before))) ≤ clock s.config.start s.journal)
     rises = deaths_rise (deaths_before before s.config.start) s.start s.config.slots s.config.start s.config.top_version s.number (old_ends s (sight_of directory seat before) whole.0.fit whole.0.seated) s.journal whole.0.fit.local p alive
@@ -56,7 +56,7 @@ module _ (s : ShardState) (o : OutEnds) (i : InEnds) (directory : DirectoryState
     stamp_rises : last_stamp (deaths_at p.shard p.slot seat.deaths) < n
     stamp_rises = subst (λ (z : SeatState). last_stamp (deaths_at p.shard p.slot z.deaths) < n) (sym whole.1) (omega (arith, rises.1, later, whole.0.fit.clock_is))
 
-    -- so the end of a process that lives here may be seat_told
+    -- so the end of a process that lives here may be told
     pub may_tell : CanTell directory seat n p
     may_tell = record {
       name = ap (λ (z : SeatState). z.name) whole.1;
@@ -81,7 +81,7 @@ module _ (s : ShardState) (o : OutEnds) (i : InEnds) (directory : DirectoryState
       go (living t) e = letter_ends (is_ended_by (living t) l.to l.from l.signal) (ap is_living e)
       go (ended r t) e = tt
 
-  -- the sight and the seat after one more event, whose end was seat_told if it is one; the letters that wait may move too
+  -- the sight and the seat after one more event, whose end was told if it is one; the letters that wait may move too
   module _ (n : ℕ) (e : Event) (s' : ShardState) (same : SameJournal (written n e s) s') (seen : IsSeen seat.reads n e) (words : HasWordsAt s.config.slots e) where
     abbrev pub Sits : SeatState → Type 0
     Sits seat' = IsSeated s' (sight_of directory seat' before) × (seat' ≡ seat_of s' (sight_of directory seat' before))

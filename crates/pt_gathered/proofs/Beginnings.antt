@@ -4,7 +4,8 @@ use Rattle.std.specs.Map.{keys_of}
 use Rattle.std.proofs.lemmas.Bool.{cases_lt}
 use Rattle.std.proofs.lemmas.List.{get_or-map, length-map}
 use Rattle.pt_signal.specs.declared.pid.Pid.{Pid}
-use Rattle.pt_signal.specs.Values.{same_ref}
+use Rattle.pt_signal.specs.Values.{same_pid, same_ref}
+use Rattle.pt_signal.specs.Process.{same_watch}
 use Rattle.pt_events.specs.declared.event.Event.{Event}
 use Rattle.pt_events.specs.declared.event.Event.TheVariants.{Born}
 use Rattle.pt_events.specs.declared.event.Stamped.{Stamped}
@@ -20,7 +21,8 @@ use Rattle.pt_events.specs.Locality.{JournalsSay}
 use Rattle.pt_laws.specs.JournalLaws.{MergeIsThere}
 use Rattle.pt_laws.specs.LinkLaws.{MergeKnown, KnownAgain}
 use Rattle.pt_laws.specs.Resumed.{MadeUpTo}
-use Rattle.pt_laws.specs.ResumedLaws.{LeftAgain, StampsNumber, BothNumber, StampsAreNew, OldRefsResumed}
+use Rattle.pt_laws.specs.Words.{HasOneEntryEach, KeepsEachOnce}
+use Rattle.pt_laws.specs.ResumedLaws.{LeftAgain, ResumedStart, StampsNumber, BothNumber, StampsAreNew, OldRefsResumed}
 use Rattle.pt_laws.proofs.lanes.Load.{born_once}
 use Rattle.pt_shard.specs.ShardState.{ShardState, past}
 use Rattle.pt_shard.specs.Begun.{Every}
@@ -158,7 +160,7 @@ module _ (g : GatheredState) (whole : IsGathered g) (n : ℕ) where
 made_later : (low n : ℕ) (past : Past) → low ≤ n → MadeUpTo low past → MadeUpTo n past
 made_later low n past h made = (λ i k. made.0 i (omega (arith, h, k)), λ r k. made.1 r (omega (arith, h, k)))
 
-module _ (g : GatheredState) (whole : IsGathered g) (quiet : IsQuietNode g) (say : JournalsSay) (new : StampsAreNew) (again : LeftAgain) (known : MergeKnown) (known_again : KnownAgain) (stamps : StampsNumber) (both : BothNumber) (refs : OldRefsResumed) where
+module _ (g : GatheredState) (whole : IsGathered g) (quiet : IsQuietNode g) (say : JournalsSay) (new : StampsAreNew) (again : LeftAgain) (resumes : ResumedStart) (known : MergeKnown) (known_again : KnownAgain) (stamps : StampsNumber) (both : BothNumber) (refs : OldRefsResumed) where
   pub from_merge : (n : ℕ) → ((d : ℕ) → clock g.config.start (journals g d) ≤ n) → (x : ShardState) (merged : List Stamped) → IsMerge (journals g) merged
       → IsBeginningOf (events merged ++ whole.begun.past) n (start_of (map (restarted n) g.shards))
   from_merge n above x merged m =
@@ -173,6 +175,8 @@ module _ (g : GatheredState) (whole : IsGathered g) (quiet : IsQuietNode g) (say
       let j = known_again (begins g) b.past past b.left b.known b.home k.0 k.1 in
       let same = alike g whole n say x merged m in
       let old : HasOldRefs n (start_after (begins g) past) = refs (begins g) low top n (journals g) merged b.once b.refs here m above in
+      let one : HasOneEntryEach (start_after (begins g) past) = (resumes (begins g) past b.once q.0 q.1).1 b.entries in
+      let keeps : KeepsEachOnce (start_after (begins g) past) = (resumes (begins g) past b.once q.0 q.1).2 b.kept in
       let later : low ≤ n = subst (λ z. clock low z ≤ n) (past_end g whole (length g.shards) (omega arith)) (above (length g.shards)) in
       record {
         begun = record {
@@ -184,6 +188,8 @@ module _ (g : GatheredState) (whole : IsGathered g) (quiet : IsQuietNode g) (say
           once = once_left g whole n x;
           since = born_since g whole n above x;
           refs = λ w r. subst (λ (f : Phase). (count (λ e. same_ref r e.0) (state_of f).watching ≤ 1) × (n < r.number → count (λ e. same_ref r e.0) (state_of f).watching ≡ 0)) (sym (same w)) (old w r);
+          entries = λ p o. subst (λ (f : Phase). count (λ e. same_pid o e.0) (state_of f).links ≤ 1) (sym (same p)) (one p o);
+          kept = λ t w r. subst (λ (f : Phase). count (same_watch r w) (state_of f).kept ≤ 1) (sym (same t)) (keeps t w r);
         };
         past_is = refl;
       }

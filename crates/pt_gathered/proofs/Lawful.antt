@@ -14,10 +14,11 @@ use Rattle.pt_laws.specs.LoadLaws.{EmptyIsQuiet, HasDesks, LoadByDesk}
 use Rattle.pt_laws.specs.MonitorLaws.{QuietMonitorSince, QuietWatchOver}
 use Rattle.pt_laws.specs.Resumed.{AllNewTo}
 use Rattle.pt_laws.specs.ResumedLaws.{StampsAreNew}
+use Rattle.pt_laws.specs.Words.{EachHoldsSince}
 use Rattle.pt_shard.specs.ShardState.{ShardState}
 use Rattle.pt_gathered.specs.Gathered.{GatheredState, IsGathered, begins, journals, over}
 use Rattle.pt_gathered.specs.Settling.{load_of, Settles, NothingLeft}
-use Rattle.pt_gathered.specs.Lawful.{IsLegalNode, KeepsHeadline, IsQuietNode, IsBounded, LinksStand, WatchesStand, AnswersHold, QuestionsAnswered}
+use Rattle.pt_gathered.specs.Lawful.{IsLegalNode, KeepsHeadline, IsQuietNode, IsBounded, LinksStand, WatchesStand, HoldingsStand, AnswersHold, QuestionsAnswered}
 use Rattle.pt_gathered.proofs.Starts.{start_same, nobody_beyond}
 use Rattle.pt_gathered.proofs.Owned.{posts_same}
 use Rattle.pt_gathered.proofs.Agreeing.{local_at, local_as, at_map}
@@ -100,6 +101,9 @@ module _ (g : GatheredState) (whole : IsGathered g) where
         λ lives made. monitors (begins g) b.past (events merged) w t m b.left new q.0 q.1 lives made,
         λ gone. watches (begins g) b.past (events merged) w t m b.left new q.0 q.1 gone,
       )
+
+  pub holdings_stand : MergeLegal → EachHoldsSince → HoldingsStand g
+  holdings_stand legal law merged p m = law (begins g) (events merged) p (legal_node legal merged m).0 whole.begun.entries whole.begun.kept
 
   pub answers_hold : MergeLegal → AnswersAreTrue → AnswersHold g
   answers_hold legal law merged q t m x is arrived = law (begins g) (events merged) q t m x (legal_node legal merged is).0 arrived

@@ -9,7 +9,7 @@ use Rattle.pt_laws.specs.Load.{IsQuiet}
 use Rattle.pt_events.specs.Locality.{JournalsSay}
 use Rattle.pt_laws.specs.LinkLaws.{MergeKnown, KnownAgain}
 use Rattle.pt_laws.specs.Resumed.{AllNewTo}
-use Rattle.pt_laws.specs.ResumedLaws.{LeftAgain, StampsNumber, BothNumber, StampsAreNew, OldRefsResumed}
+use Rattle.pt_laws.specs.ResumedLaws.{LeftAgain, ResumedStart, StampsNumber, BothNumber, StampsAreNew, OldRefsResumed}
 use Rattle.pt_laws.proofs.living.Resumed.{over_legal, over_flying}
 use Rattle.pt_signal.specs.declared.config.Config.{Config}
 use Rattle.pt_shard.specs.Opening.{fresh_shard}
@@ -34,6 +34,8 @@ from_first low = record {
     once = λ p. refl;
     refs = λ w m. (omega arith, λ h. refl);
     since = λ p born. absurd (cc);
+    entries = λ p q. omega arith;
+    kept = λ t w m. omega arith;
   };
   past_is = refl;
 }
@@ -66,7 +68,7 @@ module _ (g : GatheredState) (whole : IsGathered g) where
         sym (over_flying [] (begins g) b.past b.left.legal b.left.quiet b.left.alike (events merged)) ∙ q.1,
       )
 
-  pub begins_after : IsQuietNode g → JournalsSay → StampsAreNew → LeftAgain → MergeKnown → KnownAgain → StampsNumber → BothNumber → OldRefsResumed → BeginsAgainAfter g
-  begins_after quiet say new again known known_again stamps both refs past merged n from m above =
+  pub begins_after : IsQuietNode g → JournalsSay → StampsAreNew → LeftAgain → ResumedStart → MergeKnown → KnownAgain → StampsNumber → BothNumber → OldRefsResumed → BeginsAgainAfter g
+  begins_after quiet say new again resumes known known_again stamps both refs past merged n from m above =
       subst (λ (p : Past). IsBeginningOf (events merged ++ p) n (start_of (map (restarted n) g.shards))) from.past_is
-      (from_merge g (record whole { begun = from.begun }) quiet say new again known known_again stamps both refs n above (fresh_shard g.config 0) merged m)
+      (from_merge g (record whole { begun = from.begun }) quiet say new again resumes known known_again stamps both refs n above (fresh_shard g.config 0) merged m)

@@ -6,6 +6,7 @@ use Rattle.pt_laws.specs.Load.{IsStart}
 use Rattle.pt_laws.specs.Links.{IsKnownSaid, IsBornHome}
 use Rattle.pt_events.specs.OldRefs.{HasOldRefs}
 use Rattle.pt_laws.specs.Resumed.{IsLeftBy, MadeUpTo}
+use Rattle.pt_laws.specs.Words.{HasOneEntryEach, KeepsEachOnce}
 
 -- a legal and quiet history, as desks make them, has left it behind, and what was made before is numbered up to low
 pub record IsBeginning (low : ℕ) (start : Start) : Type 0 where
@@ -19,3 +20,6 @@ pub record IsBeginning (low : ℕ) (start : Start) : Type 0 where
   pub refs : HasOldRefs low start
   -- whoever is there was born at a stamp that is not 0
   pub since : (p : Pid) → is_unborn (at_start start p) ≡ false → 0 < low
+  -- no process has two entries with one other, and none keeps a watch twice
+  pub entries : HasOneEntryEach start
+  pub kept : KeepsEachOnce start

@@ -15,6 +15,7 @@ use Rattle.pt_events.specs.Counting.{count}
 use Rattle.pt_laws.specs.Watch.{said_to, open_in, kept_in}
 use Rattle.pt_laws.specs.MonitorLaws.{demonitors_and_downs, times_made}
 use Rattle.pt_laws.specs.Asking.{IsAnswer, is_question, is_answer}
+use Rattle.pt_laws.specs.Words.{HoldsSince}
 use Rattle.pt_shard.specs.Restart.{restarted}
 use Rattle.pt_gathered.specs.Beginning.{IsBeginning}
 use Rattle.pt_gathered.specs.Gathered.{GatheredState, begins, journals, over, start_of}
@@ -63,6 +64,12 @@ abbrev pub WatchesStand : GatheredState → Type 0
 WatchesStand g =
     (merged : List Stamped) (w t : Pid) (m : Ref) → IsMerge (journals g) merged
     → StandsAt (begins g) (events merged) w t m
+
+-- the link ids that each process holds, and the watches that it keeps, came in or were there at the start, and have not
+-- gone since
+abbrev pub HoldingsStand : GatheredState → Type 0
+HoldingsStand g =
+    (merged : List Stamped) (p : Pid) → IsMerge (journals g) merged → HoldsSince (begins g) (events merged) p
 
 -- each answer that arrived since the start is true, and all that the asker had sent before it asked came before its
 -- question did

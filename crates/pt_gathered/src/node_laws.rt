@@ -3,7 +3,7 @@
 ghost use Rattle.pt_gathered.specs.Gathered.{GatheredState};
 ghost use Rattle.pt_gathered.specs.Settling.{Settles, NothingLeft};
 ghost use Rattle.pt_gathered.specs.Lawful.{LanesKeep, KeepsHeadline, IsLegalNode, IsQuietNode, IsBounded, LinksStand};
-ghost use Rattle.pt_gathered.specs.Lawful.{WatchesStand, AnswersHold, QuestionsAnswered, BeginsAgain};
+ghost use Rattle.pt_gathered.specs.Lawful.{WatchesStand, HoldingsStand, AnswersHold, QuestionsAnswered, BeginsAgain};
 ghost use Rattle.pt_gathered.specs.Pasts.{IsLegalWhole, IsQuietWhole, BeginsAgainAfter};
 
 use crate::gathered::Gathered;
@@ -15,6 +15,7 @@ pub fn laws_of(gathered: &Gathered)
     ensures lanes { LanesKeep gathered.now }
     ensures headline { KeepsHeadline gathered.now }
     ensures legal { IsLegalNode gathered.now }
+    ensures held { HoldingsStand gathered.now }
     ensures answers { AnswersHold gathered.now }
     ensures bounded { (new : GatheredState) → Settles gathered.now new → IsBounded gathered.now new }
     ensures quiet { NothingLeft gathered.now → IsQuietNode gathered.now }
@@ -34,6 +35,7 @@ pub(crate) fn laws_of_node(gathered: &Node)
     ensures lanes { LanesKeep gathered.now }
     ensures headline { KeepsHeadline gathered.now }
     ensures legal { IsLegalNode gathered.now }
+    ensures held { HoldingsStand gathered.now }
     ensures answers { AnswersHold gathered.now }
     ensures bounded { (new : GatheredState) → Settles gathered.now new → IsBounded gathered.now new }
     ensures quiet { NothingLeft gathered.now → IsQuietNode gathered.now }
@@ -50,6 +52,7 @@ pub(crate) fn laws_of_node(gathered: &Node)
     laws::load_by_desk_falls();
     laws::receipts_lower_the_load();
     laws::quiet_monitors();
+    laws::each_is_held_since();
     laws::stamps_make_new_ids();
     laws::answers_are_true();
     laws::resumed_is_legal();

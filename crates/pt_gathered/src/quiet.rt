@@ -18,7 +18,7 @@ ghost use Rattle.pt_gathered.specs.Tables.{IsTold};
 ghost use Rattle.pt_gathered.specs.Quiet.{AreBornLater, AreInTurn, IsSettled, latest_stamp, ends_of};
 ghost use Rattle.pt_gathered.specs.Settling.{NothingLeft};
 ghost use Rattle.pt_gathered.specs.Lawful.{LanesKeep, KeepsHeadline, IsQuietNode, LinksStand, WatchesStand};
-ghost use Rattle.pt_gathered.specs.Lawful.{AnswersHold, QuestionsAnswered, BeginsAgain};
+ghost use Rattle.pt_gathered.specs.Lawful.{HoldingsStand, AnswersHold, QuestionsAnswered, BeginsAgain};
 ghost use Rattle.pt_gathered.specs.Pasts.{GoesOnFrom, IsQuietWhole, BeginsAgainAfter};
 
 use crate::node::Node;
@@ -171,6 +171,7 @@ impl Quiet {
         ensures quiet { IsQuietNode self.now.gathered }
         ensures links { LinksStand self.now.gathered }
         ensures watches { WatchesStand self.now.gathered }
+        ensures held { HoldingsStand self.now.gathered }
         ensures answers { AnswersHold self.now.gathered }
         ensures questions { QuestionsAnswered self.now.gathered }
         ensures again { BeginsAgain self.now.gathered }

@@ -12,7 +12,7 @@ use Rattle.pt_events.specs.declared.event.Event.TheVariants.{Born, Said, Came}
 use Rattle.pt_signal.specs.Values.{same_pid}
 use Rattle.pt_signal.specs.Process.{id_list, has_id, held, same_watch}
 use Rattle.pt_events.specs.History.{Past, Start, Phase, at_start, life, state, state_of}
-use Rattle.pt_events.specs.History.{is_living}
+use Rattle.pt_events.specs.History.{is_living, IsLegal}
 use Rattle.pt_laws.specs.Acts.{ActsMayCome}
 use Rattle.pt_events.specs.Counting.{count}
 use Rattle.pt_laws.specs.Since.{standing, StandsSince}
@@ -60,19 +60,27 @@ HasOneEntryEach start = (p q : Pid) → count (λ e. same_pid q e.0) (state star
 
 -- the ids that p holds with q, in order of entry, are those that entered and have not left since; an ended process
 -- holds what it held at its end
+abbrev pub IdsAreSince : Start → Past → Pid → Pid → Type 0
+IdsAreSince start past p q =
+    ids_with (life start past p) q
+    ≡ standing (ids_with (at_start start p) q) (λ before. link_enters p q (life start before p))
+    (λ before. link_leaves p q (life start before p)) past
+
+abbrev pub IdIsSince : Start → Past → Pid → Pid → LinkId → Type 0
+IdIsSince start past p q i =
+    Contains (ids_with (life start past p) q) i
+    ↔ StandsSince (ids_with (at_start start p) q) (λ before. link_enters p q (life start before p))
+    (λ before. link_leaves p q (life start before p)) past i
+
 abbrev pub HeldSince : Type 0
 HeldSince =
     (start : Start) (past : Past) (p q : Pid) → ActsMayCome start past → HasOneEntryEach start
-    → ids_with (life start past p) q
-    ≡ standing (ids_with (at_start start p) q) (λ before. link_enters p q (life start before p))
-    (λ before. link_leaves p q (life start before p)) past
+    → IdsAreSince start past p q
 
 abbrev pub IsHeldSince : Type 0
 IsHeldSince =
     (start : Start) (past : Past) (p q : Pid) (i : LinkId) → ActsMayCome start past → HasOneEntryEach start
-    → Contains (ids_with (life start past p) q) i
-    ↔ StandsSince (ids_with (at_start start p) q) (λ before. link_enters p q (life start before p))
-    (λ before. link_leaves p q (life start before p)) past i
+    → IdIsSince start past p q i
 
 -- kept watches -------------------------------------------------------------------------------------
 
@@ -93,16 +101,36 @@ KeepsEachOnce start = (t w : Pid) (m : Ref) → count (same_watch m w) (state st
 
 -- the watches that t keeps, in order of coming, are those that came and were not given up since; an ended process keeps
 -- what it kept at its end
-abbrev pub KeptSince : Type 0
-KeptSince =
-    (start : Start) (past : Past) (t : Pid) → KeepsEachOnce start
-    → (state start past t).kept
+abbrev pub WatchesAreSince : Start → Past → Pid → Type 0
+WatchesAreSince start past t =
+    (state start past t).kept
     ≡ standing (state start [] t).kept (λ before. watch_enters t (life start before t))
     (λ before. watch_leaves t (life start before t)) past
 
-abbrev pub IsKeptSince : Type 0
-IsKeptSince =
-    (start : Start) (past : Past) (t w : Pid) (m : Ref) → KeepsEachOnce start
-    → Contains (state start past t).kept (m, w)
+abbrev pub WatchIsSince : Start → Past → Pid → Pid → Ref → Type 0
+WatchIsSince start past t w m =
+    Contains (state start past t).kept (m, w)
     ↔ StandsSince (state start [] t).kept (λ before. watch_enters t (life start before t))
     (λ before. watch_leaves t (life start before t)) past (m, w)
+
+abbrev pub KeptSince : Type 0
+KeptSince = (start : Start) (past : Past) (t : Pid) → KeepsEachOnce start → WatchesAreSince start past t
+
+abbrev pub IsKeptSince : Type 0
+IsKeptSince =
+    (start : Start) (past : Past) (t w : Pid) (m : Ref) → KeepsEachOnce start → WatchIsSince start past t w m
+
+-- what a process holds ------------------------------------------------------------------------------
+
+-- the link ids of p and the watches that it keeps came in, or were there at the start, and have not gone since
+pub record HoldsSince (start : Start) (past : Past) (p : Pid) : Type 0 where
+  pub ids : (q : Pid) → IdsAreSince start past p q
+  pub each_id : (q : Pid) (i : LinkId) → IdIsSince start past p q i
+  pub watches : WatchesAreSince start past p
+  pub each_watch : (w : Pid) (m : Ref) → WatchIsSince start past p w m
+
+-- so in each legal history over a start with one entry for each peer, at which no watch is kept twice
+abbrev pub EachHoldsSince : Type 0
+EachHoldsSince =
+    (start : Start) (past : Past) (p : Pid) → IsLegal start past → HasOneEntryEach start → KeepsEachOnce start
+    → HoldsSince start past p

@@ -2,7 +2,7 @@
 
 ghost use Rattle.pt_laws.specs.Acts.{LocalActs, LegalActs};
 ghost use Rattle.pt_laws.specs.BirthsAndEnds.{LivesOnce, StaysEnded, NothingAfterEnd, AliveUntilEnd};
-ghost use Rattle.pt_laws.specs.Words.{HeldSince, IsHeldSince, KeptSince, IsKeptSince};
+ghost use Rattle.pt_laws.specs.Words.{HeldSince, IsHeldSince, KeptSince, IsKeptSince, EachHoldsSince};
 ghost use Rattle.pt_laws.specs.JournalLaws.{MergeIsThere, MergeIsOne};
 ghost use Rattle.pt_laws.specs.Taken.{TakenByPosition};
 ghost use Rattle.pt_laws.specs.Laws.{CameOrFlies, SenderFront, MergeLegal};
@@ -51,6 +51,12 @@ pub fn links_are_held_since()
 pub fn watches_are_kept_since()
     ensures list { KeptSince }
     ensures each { IsKeptSince }
+{}
+
+/// Both hold of every process in a legal history over a start state at which no process has two entries with one other
+/// and none keeps a watch twice.
+pub fn each_is_held_since()
+    ensures { EachHoldsSince }
 {}
 
 /// The local journals of finitely many desks have a merge, and one only.

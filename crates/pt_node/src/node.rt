@@ -359,6 +359,7 @@ impl Node {
     /// it, and nobody is told. Refused as `NoDesk`, as `Unknown` where the receiver is no process that the node can
     /// have had, then as the desk refuses it: `Gone`, `NoProc` where the desk sees that the receiver has ended, `Worn`
     /// or `Memory`.
+    #[inline(always)]
     pub fn send(&mut self, from: Pid, to: Pid, body: Body) -> Result<(), NodeFault>
         ensures { CallsTo from.shard to
             (λ x r y.
@@ -524,6 +525,7 @@ impl Node {
     ///
     /// `Ok(None)` says that nothing fits; it has no event. Refused as `NoDesk`, then as the desk refuses it: `Gone`, or
     /// where an item fits, `Worn` or `Memory`.
+    #[inline(always)]
     pub fn receive(&mut self, p: Pid, pick: Pick) -> Result<Option<Item>, NodeFault>
         ensures { CallsAt p.shard
             (Inside (λ s r t. Calls p (take_event s p pick) (first_match s p pick) s r t)) self.old result self.new }
@@ -568,6 +570,7 @@ impl Node {
     /// handled, each staying at `u64::MAX` once it is reached, and why the first turn that stopped did.
     ///
     /// Each desk has its turn, whether one before it stopped or not.
+    #[inline(always)]
     pub fn turn_all(&mut self, budget: u32) -> Turned
         ensures { TurnsAll budget (length self.old) self.old result self.new }
     {

@@ -45,7 +45,7 @@ pub record Acting : Type 0 where
   pub begins : Bool
   -- how many operations of its list are behind it
   pub done : ℕ
-  -- what its monitors and asks ref_got, by tag
+  -- what its monitors and asks got, by tag
   pub references : List (Option Ref)
 
 pub record PidTable : Type 0 where

@@ -35,8 +35,8 @@ not_empty bs h = grind arith
 parsed : {E : Type 0} (bs : List ℕ) (r : Result ℕ E) → ParsesUnsigned 32 10 bs r → is_decimal bs ≡ true → OkIff r ((0 < length bs) × (digits_value 10 bs < 2 ^ 32)) (digits_value 10 bs)
 parsed bs r h d = parse_digits own 32 bs r h (all_digits bs d)
 
-pub number_read : (bs : List ℕ) (n : ℕ) → ParsesUnsigned {E = Unit {0}} 32 10 bs (Ok n) → is_decimal bs ≡ true → number_read bs ≡ Ok n
-number_read bs n h d =
+pub number_accepted : (bs : List ℕ) (n : ℕ) → ParsesUnsigned {E = Unit {0}} 32 10 bs (Ok n) → is_decimal bs ≡ true → number_read bs ≡ Ok n
+number_accepted bs n h d =
     let p = parsed {E = Unit {0}} bs (Ok n) h d in
     let small : digits_value 10 bs < 2 ^ 32 = p.0.1 in
     grind (arith, d, small, p.1)

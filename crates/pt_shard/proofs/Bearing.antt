@@ -142,7 +142,7 @@ module _ (a : Parts) (whole : IsWhole a) (key : Key) (r : ProcessView) (mid : Ta
       (lives_not (life a.book.start (past (shard_of a)) (previous child)) (previous child) (sym (whole.sound.processes (previous child)) ∙ none))
 
   module _ (parent : Option Pid) (link : Option LinkId) (table' : Table) where
-    -- the slots shard_after the birth
+    -- the slots after the birth
     pub record IsBirth : Type 0 where
       pub can : a.book.clock < 2 ^ 62
       pub home : IsOf a.processes.desk parent

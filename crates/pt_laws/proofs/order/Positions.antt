@@ -78,7 +78,7 @@ place_before n ps e (x ∷ xs) h =
 -- what is found -------------------------------------------------------------------------------------
 
 module _ (t : Item → Bool) where
-  -- a place that is found is at one of the positions, at none of the take_places, and its item passes
+  -- a place that is found is at one of the positions, at none of the places, and its item passes
   pub record Found (n : ℕ) (ps : List TakePlace) (xs : List Item) (e : TakePlace) : Type 0 where
     pub from : n ≤ e.0
     pub free : is_among_places e.0 ps ≡ false

@@ -2,9 +2,12 @@
 use Rattle.std.proofs.Common.{subst}
 use Rattle.pt_gathered.specs.Gathered.{GatheredState}
 use Rattle.pt_gathered.specs.Settling.{NothingLeft}
-use Rattle.pt_gathered.specs.Lawful.{AnswersHold, QuestionsAnswered}
+use Rattle.pt_gathered.specs.Lawful.{HoldingsStand, AnswersHold, QuestionsAnswered}
 use Rattle.pt_gathered.specs.Pasts.{BeginsAgainAfter}
 use Rattle.pt_gathered.proofs.node_laws.laws_of.Goals as goal
+
+pub returns-clause-held : goal.returns-clause-held
+returns-clause-held c = subst (λ (g : GatheredState). HoldingsStand g) c.node.ensures c.laws_of_node.ensures.held
 
 pub returns-clause-answers : goal.returns-clause-answers
 returns-clause-answers c = subst (λ (g : GatheredState). AnswersHold g) c.node.ensures c.laws_of_node.ensures.answers

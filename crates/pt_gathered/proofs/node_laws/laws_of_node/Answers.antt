@@ -1,5 +1,5 @@
--- `laws_of_node`: its clauses `lanes`, `headline`, `legal`, `bounded`, `quiet`, `links`, `watches`, `answers`, `questions`, `again`, `whole`, `quiet_whole` and `after`.
-use Rattle.pt_gathered.proofs.Lawful.{lanes_agree, keeps_headline, legal_node, is_bounded, quiet_node, links_stand, watches_stand, answers_hold, questions_answered}
+-- `laws_of_node`: its clauses `lanes`, `headline`, `legal`, `bounded`, `quiet`, `links`, `watches`, `held`, `answers`, `questions`, `again`, `whole`, `quiet_whole` and `after`.
+use Rattle.pt_gathered.proofs.Lawful.{lanes_agree, keeps_headline, legal_node, is_bounded, quiet_node, links_stand, watches_stand, holdings_stand, answers_hold, questions_answered}
 use Rattle.pt_gathered.proofs.Beginnings.{begins_again}
 use Rattle.pt_gathered.proofs.Pasts.{legal_whole, quiet_whole, begins_after}
 use Rattle.pt_gathered.proofs.node_laws.laws_of_node.Goals as goal
@@ -29,6 +29,10 @@ returns-clause-watches c none =
     let whole = c.desks-desks.ensures.gathered in
     watches_stand c.args.gathered.now whole (quiet_node c.args.gathered.now whole c.merge_is_legal.ensures c.receipts_lower_the_load.ensures.empty none) c.stamps_make_new_ids.ensures.new c.quiet_monitors.ensures.since c.quiet_monitors.ensures.over_watches
 
+pub returns-clause-held : goal.returns-clause-held
+returns-clause-held c =
+    holdings_stand c.args.gathered.now c.desks-desks.ensures.gathered c.merge_is_legal.ensures c.each_is_held_since.ensures
+
 pub returns-clause-answers : goal.returns-clause-answers
 returns-clause-answers c = answers_hold c.args.gathered.now c.desks-desks.ensures.gathered c.merge_is_legal.ensures c.answers_are_true.ensures.told
 
@@ -42,7 +46,7 @@ returns-clause-again c none =
     let whole = c.desks-desks.ensures.gathered in
     let quiet = quiet_node c.args.gathered.now whole c.merge_is_legal.ensures c.receipts_lower_the_load.ensures.empty none in
     let new = c.stamps_make_new_ids.ensures in
-    begins_again c.args.gathered.now whole quiet c.journals_tell_their_pids.ensures.journals new.new c.resumed_is_legal.ensures.again
+    begins_again c.args.gathered.now whole quiet c.journals_tell_their_pids.ensures.journals new.new c.resumed_is_legal.ensures.again c.resumed_is_legal.ensures.start
     c.merge_known.ensures c.resumed_links.ensures.again new.numbers new.both new.open c.journals_have_one_merge.ensures.there
 
 pub returns-clause-whole : goal.returns-clause-whole
@@ -58,5 +62,5 @@ returns-clause-after c none =
     let whole = c.desks-desks.ensures.gathered in
     let quiet = quiet_node c.args.gathered.now whole c.merge_is_legal.ensures c.receipts_lower_the_load.ensures.empty none in
     let new = c.stamps_make_new_ids.ensures in
-    begins_after c.args.gathered.now whole quiet c.journals_tell_their_pids.ensures.journals new.new c.resumed_is_legal.ensures.again
+    begins_after c.args.gathered.now whole quiet c.journals_tell_their_pids.ensures.journals new.new c.resumed_is_legal.ensures.again c.resumed_is_legal.ensures.start
     c.merge_known.ensures c.resumed_links.ensures.again new.numbers new.both new.open

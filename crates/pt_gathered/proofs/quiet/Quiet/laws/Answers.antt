@@ -1,7 +1,7 @@
 -- `Quiet::laws`: its clauses `nothing_left`, `lanes`, `headline`, `quiet`, `links`, `watches`, `answers`, `questions`, `again`, `whole` and `after`.
 use Rattle.std.proofs.Common.{subst}
 use Rattle.pt_gathered.specs.Settling.{NothingLeft}
-use Rattle.pt_gathered.specs.Lawful.{LanesKeep, KeepsHeadline, IsQuietNode, LinksStand, WatchesStand, AnswersHold, QuestionsAnswered, BeginsAgain}
+use Rattle.pt_gathered.specs.Lawful.{LanesKeep, KeepsHeadline, IsQuietNode, LinksStand, WatchesStand, HoldingsStand, AnswersHold, QuestionsAnswered, BeginsAgain}
 use Rattle.pt_gathered.specs.Pasts.{IsQuietWhole, BeginsAgainAfter}
 use Rattle.pt_gathered.specs.Quiet.{QuietState}
 use Rattle.pt_gathered.proofs.quiet.Quiet.laws.Goals as goal
@@ -23,6 +23,9 @@ returns-clause-links c = subst (λ (q : QuietState). LinksStand q.gathered) c.se
 
 pub returns-clause-watches : goal.returns-clause-watches
 returns-clause-watches c = subst (λ (q : QuietState). WatchesStand q.gathered) c.self.view_is (c.laws_of_node.ensures.watches c.self.invariant.nothing_left)
+
+pub returns-clause-held : goal.returns-clause-held
+returns-clause-held c = subst (λ (q : QuietState). HoldingsStand q.gathered) c.self.view_is c.laws_of_node.ensures.held
 
 pub returns-clause-answers : goal.returns-clause-answers
 returns-clause-answers c = subst (λ (q : QuietState). AnswersHold q.gathered) c.self.view_is c.laws_of_node.ensures.answers
