@@ -16,7 +16,7 @@ use Rattle.pt_script.proofs.ObjectFacts.{data_of-items_of}
 use Rattle.pt_explain.specs.declared.finding.Found.{Found}
 use Rattle.pt_explain.specs.declared.finding.Reached.{Reached}
 use Rattle.pt_explain.specs.declared.finding.Reached.TheVariants.{At, Before}
-use Rattle.pt_explain.specs.Places.{ComesTo, FindsProcess, list_in, spawned_in}
+use Rattle.pt_explain.specs.Places.{LeadsTo, FindsProcess, list_in, spawned_in}
 
 -- lists of a text
 pub items_given : (d : Data) (v : Bor (Vec Value Global)) → Some (items_view v.now.items) ≡ as_array d → map view v.now.items ≡ loose (list d)
@@ -45,7 +45,7 @@ pub found_first : (ds es : List Data) (left : ℕ) (found : Found) → Operation
 found_first ds es left found (lt, is) = (omega (arith, lt, length-append ds es), get_or_append_left ds es null left lt ∙ is)
 
 -- and one behind the first is found behind them
-pub found_behind : (ds es : List Data) (left more : ℕ) (r : Reached) → length ds ≤ left → more ≡ left - length ds → ComesTo es more r → ComesTo (ds ++ es) left r
+pub found_behind : (ds es : List Data) (left more : ℕ) (r : Reached) → length ds ≤ left → more ≡ left - length ds → LeadsTo es more r → LeadsTo (ds ++ es) left r
 found_behind ds es left more (At found) le is (lt, at) =
     (omega (arith, lt, is, le, length-append ds es), behind_at ds es left le null ∙ ap (λ n. get_or es n null) (sym is) ∙ at)
 found_behind ds es left more (Before rest) le is (none, left_is) =
@@ -55,7 +55,7 @@ found_behind ds es left more (Before rest) le is (none, left_is) =
 pub found_here : (d : Data) (ds : List Data) (left : ℕ) → left ≡ 0 → OperationStands (d ∷ ds) left d
 found_here d ds left is = subst (λ n. OperationStands (d ∷ ds) n d) (sym is) (omega arith, refl)
 
-pub passed_here : (d : Data) (ds : List Data) (left : ℕ) (r : Reached) → 0 < left → ComesTo ds (left - 1) r → ComesTo (d ∷ ds) left r
+pub passed_here : (d : Data) (ds : List Data) (left : ℕ) (r : Reached) → 0 < left → LeadsTo ds (left - 1) r → LeadsTo (d ∷ ds) left r
 passed_here d ds left r some h = found_behind (d ∷ []) ds left (left - 1) r (omega (arith, some)) refl h
 
 pub with_inside : (levels : ℕ) (d : Data) → (rest : List Data) × (processes_in levels d ≡ d ∷ rest)
@@ -88,8 +88,8 @@ pub among_spawns : (inside : Data → List Data) (n : ℕ) (ds : List Data) (lef
 among_spawns inside n ds left found h = subst (λ xs. OperationStands xs left (view found.value.now)) (sym (spawns_parts inside n ds)) (found_first (spawns_in inside (take n ds)) (spawns_in inside (drop n ds)) left found h)
 
 -- an operation that spawns, or not
-pub by_spawn : (levels : ℕ) (d : Data) (left : ℕ) (r : Reached) → is_spawn d ≡ true → ComesTo (processes_in levels d) left r → ComesTo (spawned_in levels d) left r
-by_spawn levels d left r is h = subst (λ (b : Bool). ComesTo (if b then processes_in levels d else []) left r) (sym is) h
+pub by_spawn : (levels : ℕ) (d : Data) (left : ℕ) (r : Reached) → is_spawn d ≡ true → LeadsTo (processes_in levels d) left r → LeadsTo (spawned_in levels d) left r
+by_spawn levels d left r is h = subst (λ (b : Bool). LeadsTo (if b then processes_in levels d else []) left r) (sym is) h
 
-pub by_other : (levels : ℕ) (d : Data) (left : ℕ) → is_spawn d ≡ false → ComesTo (spawned_in levels d) left (Before left)
-by_other levels d left is = subst (λ (b : Bool). ComesTo (if b then processes_in levels d else []) left (Before left)) (sym is) (omega arith, omega arith)
+pub by_other : (levels : ℕ) (d : Data) (left : ℕ) → is_spawn d ≡ false → LeadsTo (spawned_in levels d) left (Before left)
+by_other levels d left is = subst (λ (b : Bool). LeadsTo (if b then processes_in levels d else []) left (Before left)) (sym is) (omega arith, omega arith)

@@ -33,9 +33,9 @@ abbrev pub spawned_in : ℕ → Data → List Data
 spawned_in levels d = if is_spawn d then processes_in levels d else []
 
 -- the process behind so many of these; or they are no more, and so many are left to pass
-abbrev pub ComesTo : List Data → ℕ → Reached → Type 0
-ComesTo ds left (At found) = OperationStands ds left (view found.value.now)
-ComesTo ds left (Before more) = (length ds ≤ left) × (more ≡ left - length ds)
+abbrev pub LeadsTo : List Data → ℕ → Reached → Type 0
+LeadsTo ds left (At found) = OperationStands ds left (view found.value.now)
+LeadsTo ds left (Before more) = (length ds ≤ left) × (more ≡ left - length ds)
 
 -- the process with this number, if there is one
 abbrev pub FindsProcess : List Data → ℕ → Option Found → Type 0

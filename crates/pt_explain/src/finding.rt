@@ -5,7 +5,7 @@
 ghost use Rattle.std.specs.Prelude.{map};
 ghost use Rattle.serde_json.specs.View.{view};
 ghost use Rattle.pt_script.specs.Standing.{processes_in, processes_of, spawns_in};
-ghost use Rattle.pt_explain.specs.Places.{ComesTo, FindsProcess, spawned_in};
+ghost use Rattle.pt_explain.specs.Places.{LeadsTo, FindsProcess, spawned_in};
 
 use crate::scope::{is_spawn, list_at};
 use pt_script::limits::MAX_NESTING;
@@ -46,7 +46,7 @@ pub(crate) fn process_at<'a>(tops: &'a [Value], number: u32) -> Option<Found<'a>
 /// Looks at a process, and then at those that it spawns, down to so many levels.
 #[cycle(search)]
 fn search<'a>(value: &'a Value, levels: u32, left: u32) -> Reached<'a>
-    ensures { ComesTo (processes_in levels (view value.now)) left result }
+    ensures { LeadsTo (processes_in levels (view value.now)) left result }
 {
     if left == 0 {
         let depth = MAX_NESTING.saturating_sub(levels);
@@ -61,7 +61,7 @@ fn search<'a>(value: &'a Value, levels: u32, left: u32) -> Reached<'a>
 /// Looks at the spawns of a list.
 #[cycle(search)]
 fn search_within<'a>(list: &'a [Value], levels: u32, left: u32) -> Reached<'a>
-    ensures { ComesTo (spawns_in (processes_in levels) (map view list.now)) left result }
+    ensures { LeadsTo (spawns_in (processes_in levels) (map view list.now)) left result }
 {
     let mut left = left;
     for operation in list {
@@ -76,7 +76,7 @@ fn search_within<'a>(list: &'a [Value], levels: u32, left: u32) -> Reached<'a>
 /// Looks at an operation.
 #[cycle(search)]
 fn search_by<'a>(operation: &'a Value, levels: u32, left: u32) -> Reached<'a>
-    ensures { ComesTo (spawned_in levels (view operation.now)) left result }
+    ensures { LeadsTo (spawned_in levels (view operation.now)) left result }
 {
     if is_spawn(operation) {
         search(operation, levels, left)

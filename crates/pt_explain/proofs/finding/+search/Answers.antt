@@ -7,7 +7,7 @@ use Rattle.serde_json.specs.View.{view}
 use Rattle.pt_script.specs.Standing.{OperationStands, processes_in, spawns_in}
 use Rattle.pt_script.proofs.CalledFacts.{alone_at_last, one_more_spawns}
 use Rattle.pt_explain.specs.declared.finding.Reached.TheVariants.{At, Before}
-use Rattle.pt_explain.specs.Places.{ComesTo, list_in, spawned_in}
+use Rattle.pt_explain.specs.Places.{LeadsTo, list_in, spawned_in}
 use Rattle.pt_explain.proofs.Finding.{among_spawns, by_other, by_spawn, found_behind, found_here, inside_is, passed_here, with_inside}
 use Rattle.pt_explain.proofs.finding.+search.Goals as goal
 
@@ -22,7 +22,7 @@ search-returns-then-levels-eq0 t c =
     let d = view c.args.value.now in
     let some : 0 < c.args.left = omega (arith, c.if-left-eq0.false) in
     let is : processes_in c.args.levels d ≡ d ∷ [] = ap (λ n. processes_in n d) c.if-levels-eq0.true ∙ alone_at_last d in
-    subst (λ (ds : List Data). ComesTo ds c.args.left (Before (c.args.left - 1))) (sym is) (omega (arith, some), refl)
+    subst (λ (ds : List Data). LeadsTo ds c.args.left (Before (c.args.left - 1))) (sym is) (omega (arith, some), refl)
 
 pub search-returns : goal.search-returns
 search-returns t c =
@@ -30,9 +30,9 @@ search-returns t c =
     let some : 0 < c.args.left = omega (arith, c.if-left-eq0.false) in
     let deep : 0 < c.args.levels = omega (arith, c.if-levels-eq0.false) in
     let inside = spawns_in (processes_in (c.args.levels - 1)) in
-    subst (λ (ds : List Data). ComesTo ds c.args.left c.search_within.result) (sym (inside_is c.args.levels d deep))
+    subst (λ (ds : List Data). LeadsTo ds c.args.left c.search_within.result) (sym (inside_is c.args.levels d deep))
     (passed_here d (inside (list_in (codes "ops") d)) c.args.left c.search_within.result some
-    (subst (λ (ds : List Data). ComesTo (inside ds) (c.args.left - 1) c.search_within.result) c.list_at.ensures c.search_within.ensures))
+    (subst (λ (ds : List Data). LeadsTo (inside ds) (c.args.left - 1) c.search_within.result) c.list_at.ensures c.search_within.ensures))
 
 pub search_within-loop-operation-preserved : goal.search_within-loop-operation-preserved
 search_within-loop-operation-preserved t c =
@@ -44,7 +44,7 @@ search_within-loop-operation-preserved t c =
     let ds = spawns_in inside (take i (map view xs)) in
     let more : ds ++ spawned_in c.args.levels (view v) ≡ spawns_in inside (take (i + 1) (map view xs)) =
     one_more_spawns inside (map view xs) i (view v) (rw (length-map xs view) lt) (get_or-map view xs i v (view v) lt ∙ ap view (sym c.operation-item.is)) in
-    subst (λ (es : List Data). ComesTo es c.args.left (Before c.in-Before.more)) more
+    subst (λ (es : List Data). LeadsTo es c.args.left (Before c.in-Before.more)) more
     (found_behind ds (spawned_in c.args.levels (view v)) c.args.left c.loop-operation.left (Before c.in-Before.more) c.loop-operation.invariant.0 c.loop-operation.invariant.1 c.in-Before.ensures)
 
 pub search_within-returns-in-At : goal.search_within-returns-in-At
@@ -58,7 +58,7 @@ search_within-returns-in-At t c =
     let more : ds ++ spawned_in c.args.levels (view v) ≡ spawns_in inside (take (i + 1) (map view xs)) =
     one_more_spawns inside (map view xs) i (view v) (rw (length-map xs view) lt) (get_or-map view xs i v (view v) lt ∙ ap view (sym c.operation-item.is)) in
     among_spawns inside (i + 1) (map view xs) c.args.left c.in-At.found
-    (subst (λ (es : List Data). ComesTo es c.args.left (At c.in-At.found)) more
+    (subst (λ (es : List Data). LeadsTo es c.args.left (At c.in-At.found)) more
     (found_behind ds (spawned_in c.args.levels (view v)) c.args.left c.loop-operation.left (At c.in-At.found) c.loop-operation.invariant.0 c.loop-operation.invariant.1 c.in-At.ensures))
 
 pub search_within-returns : goal.search_within-returns
@@ -66,7 +66,7 @@ search_within-returns t c =
     let xs = c.args.list.now in
     let i = c.loop-operation.operation-index in
     let inside = processes_in c.args.levels in
-    subst (λ (ys : List Data). ComesTo (spawns_in inside ys) c.args.left (Before c.loop-operation.left)) (take_all i (map view xs) (omega (arith, c.loop-operation-test.false, length-map xs view))) c.loop-operation.invariant
+    subst (λ (ys : List Data). LeadsTo (spawns_in inside ys) c.args.left (Before c.loop-operation.left)) (take_all i (map view xs) (omega (arith, c.loop-operation-test.false, length-map xs view))) c.loop-operation.invariant
 
 pub search_by-returns-then-is_spawn : goal.search_by-returns-then-is_spawn
 search_by-returns-then-is_spawn t c =

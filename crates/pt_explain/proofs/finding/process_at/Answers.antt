@@ -6,7 +6,7 @@ use Rattle.serde_json.specs.View.{view}
 use Rattle.pt_script.specs.Standing.{OperationStands, processes_in, processes_of}
 use Rattle.pt_script.proofs.CalledFacts.{one_more_process}
 use Rattle.pt_explain.specs.declared.finding.Reached.TheVariants.{At, Before}
-use Rattle.pt_explain.specs.Places.{ComesTo}
+use Rattle.pt_explain.specs.Places.{LeadsTo}
 use Rattle.pt_explain.proofs.Finding.{among_processes, found_behind}
 use Rattle.pt_explain.proofs.finding.process_at.Goals as goal
 
@@ -19,7 +19,7 @@ loop-top-preserved c =
     let ds = processes_of (take i (map view xs)) in
     let more : ds ++ processes_in 63 (view v) ≡ processes_of (take (i + 1) (map view xs)) =
     one_more_process (map view xs) i (view v) (rw (length-map xs view) lt) (get_or-map view xs i v (view v) lt ∙ ap view (sym c.top-item.is)) in
-    subst (λ (es : List Data). ComesTo es c.args.number (Before c.in-Before.more)) more
+    subst (λ (es : List Data). LeadsTo es c.args.number (Before c.in-Before.more)) more
     (found_behind ds (processes_in 63 (view v)) c.args.number c.loop-top.left (Before c.in-Before.more) c.loop-top.invariant.0 c.loop-top.invariant.1 c.in-Before.ensures)
 
 pub returns-in-At : goal.returns-in-At
@@ -32,7 +32,7 @@ returns-in-At c =
     let more : ds ++ processes_in 63 (view v) ≡ processes_of (take (i + 1) (map view xs)) =
     one_more_process (map view xs) i (view v) (rw (length-map xs view) lt) (get_or-map view xs i v (view v) lt ∙ ap view (sym c.top-item.is)) in
     among_processes (i + 1) (map view xs) c.args.number c.in-At.found
-    (subst (λ (es : List Data). ComesTo es c.args.number (At c.in-At.found)) more
+    (subst (λ (es : List Data). LeadsTo es c.args.number (At c.in-At.found)) more
     (found_behind ds (processes_in 63 (view v)) c.args.number c.loop-top.left (At c.in-At.found) c.loop-top.invariant.0 c.loop-top.invariant.1 c.in-At.ensures))
 
 pub returns : goal.returns
