@@ -1,0 +1,25 @@
+-- Which texts are names.
+use Rattle.std.specs.Prelude.{ℕ, ◌-◌, ◌==◌, ◌&&◌, ◌||◌, Bool, false, List, ◌++◌, length, nat_le, nat_lt, slice_index}
+use Rattle.std.specs.Prelude.{replicate, if◌then◌else◌}
+use Rattle.std.specs.List.{list_all}
+
+abbrev pub is_letter : ℕ → Bool
+is_letter b = (nat_le 65 b && nat_le b 90) || (nat_le 97 b && nat_le b 122)
+
+abbrev pub is_digit : ℕ → Bool
+is_digit b = nat_le 48 b && nat_le b 57
+
+-- a letter, a digit, or `_`
+abbrev pub is_name_letter : ℕ → Bool
+is_name_letter b = is_letter b || is_digit b || (b == 95)
+
+abbrev pub begins_well : List ℕ → Bool
+begins_well text = is_letter (slice_index text 0) && list_all is_name_letter text
+
+-- 1 to 32 letters, digits and `_`, beginning with a letter
+abbrev pub is_name : List ℕ → Bool
+is_name text = if nat_lt 0 (length text) && nat_le (length text) 32 then begins_well text else false
+
+-- the text, and zeros up to 32 in all
+abbrev pub padded : List ℕ → List ℕ
+padded text = text ++ replicate (32 - length text) 0

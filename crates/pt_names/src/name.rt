@@ -1,0 +1,87 @@
+//! The name of a process.
+
+ghost use Rattle.std.specs.Prelude.{◌≡◌, ◌<◌, ◌≤◌, length, if◌then◌else◌, Some, None};
+ghost use Rattle.std.specs.List.{list_all};
+ghost use Rattle.pt_names.specs.Letters.{begins_well, is_digit, is_letter, is_name, is_name_letter, padded};
+
+use std::fmt;
+
+/// The most letters of a name.
+pub const MAX_LETTERS: usize = 32;
+
+/// The name of a process: 1 to 32 ASCII letters, digits and `_`, beginning with a letter, as names in scripts are.
+///
+/// It is a plain value: two names are equal exactly if their texts are.
+#[derive(Clone, Copy, Debug, PartialEq, Eq, Hash)]
+pub struct Name {
+    /// Its letters, and behind them zeros.
+    letters: [u8; 32],
+}
+
+impl Name {
+    /// The name with this text, or `None` if the text has not the form of a name.
+    pub fn new(text: &str) -> Option<Name>
+        ensures { result ≡ (if is_name text.now then Some (record { letters = padded text.now }) else None) }
+    {
+        let bytes = text.as_bytes();
+        if !is_name(bytes) {
+            return None;
+        }
+        let mut letters = [0; MAX_LETTERS];
+        letters[..bytes.len()].copy_from_slice(bytes);
+        Some(Name { letters })
+    }
+}
+
+impl fmt::Display for Name {
+    fn fmt<W: fmt::Write>(&self, f: &mut fmt::Formatter<W>) -> fmt::Result {
+        for letter in self.letters {
+            if letter != 0 {
+                let letter = char::from(letter);
+                write!(f, "{letter}")?;
+            }
+        }
+        Ok(())
+    }
+}
+
+fn is_name(bytes: &[u8]) -> bool
+    ensures { result ≡ is_name bytes.now }
+{
+    if 0 < bytes.len() && bytes.len() <= MAX_LETTERS {
+        begins_well(bytes)
+    } else {
+        false
+    }
+}
+
+fn begins_well(bytes: &[u8]) -> bool
+    requires { 0 < length bytes.now }
+    ensures { result ≡ begins_well bytes.now }
+{
+    is_letter(bytes[0]) && are_name_letters(bytes)
+}
+
+fn are_name_letters(bytes: &[u8]) -> bool
+    ensures { result ≡ list_all is_name_letter bytes.now }
+{
+    bytes.iter().all(|b| is_name_letter(*b))
+}
+
+fn is_letter(byte: u8) -> bool
+    ensures { result ≡ is_letter byte }
+{
+    (b'A' <= byte && byte <= b'Z') || (b'a' <= byte && byte <= b'z')
+}
+
+fn is_digit(byte: u8) -> bool
+    ensures { result ≡ is_digit byte }
+{
+    b'0' <= byte && byte <= b'9'
+}
+
+fn is_name_letter(byte: u8) -> bool
+    ensures { result ≡ is_name_letter byte }
+{
+    is_letter(byte) || is_digit(byte) || byte == b'_'
+}
