@@ -1,6 +1,6 @@
 -- Which texts are names.
-use Rattle.std.specs.Prelude.{ℕ, ◌-◌, ◌==◌, ◌&&◌, ◌||◌, Bool, false, List, ◌++◌, length, nat_le, nat_lt, slice_index}
-use Rattle.std.specs.Prelude.{replicate, if◌then◌else◌}
+use Rattle.std.specs.Prelude.{ℕ, ◌==◌, ◌&&◌, ◌||◌, Bool, false, List, ◌++◌, length, nat_le, nat_lt, slice_index}
+use Rattle.std.specs.Prelude.{replicate, drop, if◌then◌else◌}
 use Rattle.std.specs.List.{list_all}
 
 abbrev pub is_letter : ℕ → Bool
@@ -20,6 +20,6 @@ begins_well text = is_letter (slice_index text 0) && list_all is_name_letter tex
 abbrev pub is_name : List ℕ → Bool
 is_name text = if nat_lt 0 (length text) && nat_le (length text) 32 then begins_well text else false
 
--- the text, and zeros up to 32 in all
+-- the text, written over the first of 32 zeros
 abbrev pub padded : List ℕ → List ℕ
-padded text = text ++ replicate (32 - length text) 0
+padded text = text ++ drop (length text) (replicate 32 0)

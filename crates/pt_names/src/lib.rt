@@ -18,4 +18,4 @@ mod name;
 mod names;
 
 pub use name::{MAX_LETTERS, Name};
-pub use names::{Named, Names, RegisterError};
+pub use names::{Holder, Names, RegisterError};

@@ -1,6 +1,6 @@
 //! The name of a process.
 
-ghost use Rattle.std.specs.Prelude.{◌≡◌, ◌<◌, ◌≤◌, length, if◌then◌else◌, Some, None};
+ghost use Rattle.std.specs.Prelude.{◌≡◌, ◌<◌, ◌≤◌, length, if◌then◌else◌, Some, None, true};
 ghost use Rattle.std.specs.List.{list_all};
 ghost use Rattle.pt_names.specs.Letters.{begins_well, is_digit, is_letter, is_name, is_name_letter, padded};
 
@@ -24,13 +24,24 @@ impl Name {
         ensures { result ≡ (if is_name text.now then Some (record { letters = padded text.now }) else None) }
     {
         let bytes = text.as_bytes();
-        if !is_name(bytes) {
-            return None;
+        if is_name(bytes) {
+            Some(Name {
+                letters: padded(bytes),
+            })
+        } else {
+            None
         }
-        let mut letters = [0; MAX_LETTERS];
-        letters[..bytes.len()].copy_from_slice(bytes);
-        Some(Name { letters })
     }
+}
+
+/// The bytes, and zeros behind them.
+fn padded(bytes: &[u8]) -> [u8; MAX_LETTERS]
+    requires { length bytes.now ≤ 32 }
+    ensures { result ≡ padded bytes.now }
+{
+    let mut letters = [0; MAX_LETTERS];
+    letters[..bytes.len()].copy_from_slice(bytes);
+    letters
 }
 
 impl fmt::Display for Name {
@@ -46,7 +57,8 @@ impl fmt::Display for Name {
 }
 
 fn is_name(bytes: &[u8]) -> bool
-    ensures { result ≡ is_name bytes.now }
+    ensures form { result ≡ is_name bytes.now }
+    ensures short { result ≡ true → length bytes.now ≤ 32 }
 {
     if 0 < bytes.len() && bytes.len() <= MAX_LETTERS {
         begins_well(bytes)

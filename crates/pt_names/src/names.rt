@@ -1,8 +1,8 @@
 //! Who has which name.
 
-ghost use Rattle.std.specs.Prelude.{◌≡◌, length, AllocError};
-ghost use Rattle.std.specs.Option.{option_copied};
-ghost use Rattle.pt_names.specs.State.{named_of, pid_of};
+ghost use Rattle.std.specs.Prelude.{◌≡◌, length};
+ghost use Rattle.std.specs.Option.{option_map};
+ghost use Rattle.pt_names.specs.State.{holder_of, name_of};
 ghost use Rattle.pt_names.specs.Calls.{Checks, Forgets, IsNone, Registers, Unregisters};
 
 use crate::name::Name;
@@ -12,19 +12,19 @@ use std::alloc::Global;
 use std::marker::Model;
 use thiserror::Error;
 
-/// What is kept of a process that has a name.
+/// Who has a name.
 #[derive(Clone, Copy, Debug, PartialEq, Eq)]
-pub struct Named {
-    pub name: Name,
-    /// The monitor by which its end is heard of.
+pub struct Holder {
+    pub pid: Pid,
+    /// The monitor by which its exit is heard of.
     pub monitor: Ref,
 }
 
 /// Why a process was not registered. Nothing has changed then.
 #[derive(Clone, Copy, Debug, PartialEq, Eq, Error)]
 pub enum RegisterError {
-    /// Another process has the name: this one.
-    #[error("another process has the name")]
+    /// A process has the name: this one.
+    #[error("a process has the name")]
     Taken(Pid),
     /// The process has a name already: this one.
     #[error("the process has a name already")]
@@ -37,8 +37,8 @@ pub enum RegisterError {
 /// Which process has which name.
 #[derive(Drop)]
 pub struct Names {
-    pids: IndexMap<Name, Pid>,
-    named: IndexMap<Pid, Named>,
+    holders: IndexMap<Name, Holder>,
+    names: IndexMap<Pid, Name>,
 }
 
 impl Model for Names {
@@ -46,9 +46,9 @@ impl Model for Names {
 
     ghost Value = { NamesState };
 
-    ghost view = { λ s. state s.pids s.named };
+    ghost view = { λ s. state s.holders s.names };
 
-    ghost invariant = { λ s. IsSound (state s.pids s.named) };
+    ghost invariant = { λ s. IsSound (state s.holders s.names) };
 }
 
 impl Names {
@@ -57,46 +57,49 @@ impl Names {
         ensures { IsNone result }
     {
         Names {
-            pids: IndexMap::new(alloc),
-            named: IndexMap::new(alloc),
+            holders: IndexMap::new(alloc),
+            names: IndexMap::new(alloc),
         }
     }
 
     /// The process that has the name, or `None` if no process has it.
     pub fn whereis(&self, name: Name) -> Option<Pid>
-        ensures { result ≡ pid_of self.now name }
+        ensures { result ≡ option_map (λ h. h.pid) (holder_of self.now name) }
     {
-        self.pids.get(&name).copied()
+        match self.holders.get(&name) {
+            Some(holder) => Some(holder.pid),
+            None => None,
+        }
     }
 
-    /// The name of a process and its monitor, or `None` if it has no name.
-    pub fn named(&self, pid: Pid) -> Option<Named>
-        ensures { result ≡ named_of self.now pid }
+    /// The name of a process, or `None` if it has no name.
+    pub fn name_of(&self, pid: Pid) -> Option<Name>
+        ensures { result ≡ name_of self.now pid }
     {
-        self.named.get(&pid).copied()
+        self.names.get(&pid).copied()
     }
 
     /// How many names there are.
     pub fn len(&self) -> usize
-        ensures { result ≡ length self.now.pids }
+        ensures { result ≡ length self.now.holders }
     {
-        self.pids.len()
+        self.holders.len()
     }
 
-    /// Whether the process can have the name: `register` then fails for want of memory only.
+    /// Whether the process can have the name. If so, `register` fails only if there is no memory.
     pub fn check(&self, name: Name, pid: Pid) -> Result<(), RegisterError>
         ensures { Checks name pid self.now result }
     {
         if let Some(holder) = self.whereis(name) {
             return Err(RegisterError::Taken(holder));
         }
-        match self.named(pid) {
-            Some(named) => Err(RegisterError::HasName(named.name)),
+        match self.name_of(pid) {
+            Some(other) => Err(RegisterError::HasName(other)),
             None => Ok(()),
         }
     }
 
-    /// Gives a process a name, and keeps the monitor by which its end will be heard of.
+    /// Gives a process a name, and keeps the monitor by which its exit will be heard of.
     ///
     /// Fails with `Taken` if a process has the name, otherwise with `HasName` if the process has a name, and otherwise
     /// with `Memory` if there is no memory for one more. Then nothing has changed.
@@ -104,31 +107,35 @@ impl Names {
         ensures { Registers name pid monitor self.old result self.new }
     {
         self.check(name, pid)?;
-        if self.named.reserve(1).is_err() {
+        if self.names.reserve(1).is_err() {
             return Err(RegisterError::Memory);
         }
-        if self.pids.insert(name, pid).is_err() {
+        if self
+            .holders
+            .insert(name, Holder { pid, monitor })
+            .is_err()
+        {
             return Err(RegisterError::Memory);
         }
-        let _ = self.named.insert(pid, Named { name, monitor });
+        let _ = self.names.insert(pid, name);
         Ok(())
     }
 
     /// Takes a name away, and returns who had it, or `None` if no process has the name.
-    pub fn unregister(&mut self, name: Name) -> Option<Pid>
+    pub fn unregister(&mut self, name: Name) -> Option<Holder>
         ensures { Unregisters name self.old result self.new }
     {
-        let pid = self.pids.swap_remove(&name)?;
-        let _ = self.named.swap_remove(&pid);
-        Some(pid)
+        let holder = self.holders.swap_remove(&name)?;
+        let _ = self.names.swap_remove(&holder.pid);
+        Some(holder)
     }
 
-    /// Takes its name from a process that has ended, and returns it, or `None` if it has none.
+    /// Takes its name from a process that has exited, and returns it, or `None` if it has none.
     pub fn forget(&mut self, pid: Pid) -> Option<Name>
         ensures { Forgets pid self.old result self.new }
     {
-        let named = self.named.swap_remove(&pid)?;
-        let _ = self.pids.swap_remove(&named.name);
-        Some(named.name)
+        let name = self.names.swap_remove(&pid)?;
+        let _ = self.holders.swap_remove(&name);
+        Some(name)
     }
 }

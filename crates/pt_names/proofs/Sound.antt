@@ -1,0 +1,96 @@
+-- A name that is given or taken away leaves each name with one process, and each process with one name.
+use Rattle.std.proofs.Common.{◌≡◌, ℕ, cond, Bool, true, false, List, Option, Some, None, refl, sym, ◌∙◌, ap, subst}
+use Rattle.std.specs.Option.{option_map}
+use Rattle.std.proofs.lemmas.Slice.Eq.{bytes_eq-Decides}
+use Rattle.pt_signal.specs.declared.pid.Pid.{Pid}
+use Rattle.pt_signal.specs.declared.ids.Ref.{Ref}
+use Rattle.pt_signal.specs.Values.{same_pid}
+use Rattle.pt_signal.proofs.Same.{same_pid_refl, same_pid_is}
+use Rattle.pt_names.specs.declared.name.Name.{Name}
+use Rattle.pt_names.specs.declared.names.Holder.{Holder}
+use Rattle.pt_names.specs.State.{NamesState, holder_of, pid_of, name_of, same_name, IsSound}
+use Rattle.pt_names.specs.Calls.{IsFree, AreWith}
+
+same_name_is : (a b : Name) → same_name a b ≡ true → a ≡ b
+same_name_is a b h = let e = (bytes_eq-Decides a.letters b.letters).0 h in λ i. record { letters = e i }
+
+same_name_refl : (a : Name) → same_name a a ≡ true
+same_name_refl a = (bytes_eq-Decides a.letters a.letters).1 refl
+
+-- whichever it is of two
+by_test : {X : Type 0} (P : X → Type 0) (b : Bool) (x y : X) → (b ≡ true → P x) → (b ≡ false → P y) → P (cond b x y)
+by_test P true x y h k = h refl
+by_test P false x y h k = k refl
+
+at_true : {X : Type 0} (b : Bool) (x y : X) → b ≡ true → cond b x y ≡ x
+at_true b x y h = rw h refl
+
+at_false : {X : Type 0} (b : Bool) (x y : X) → b ≡ false → cond b x y ≡ y
+at_false b x y h = rw h refl
+
+unless : (b : Bool) → (b ≡ true → ⊥) → b ≡ false
+unless true h = absurd (h refl)
+unless false h = refl
+
+some_none : {X : Type 0} (o : Option X) (x : X) → o ≡ Some x → o ≡ None → ⊥
+some_none o x h k = cc
+
+pid_at : (o : Option Holder) (h : Holder) → o ≡ Some h → option_map (λ h. h.pid) o ≡ Some h.pid
+pid_at o h e = ap (option_map (λ h. h.pid)) e
+
+-- of two processes that have a name
+one_name : (s : NamesState) → IsSound s → (p q : Pid) (n : Name) → name_of s p ≡ Some n → name_of s q ≡ Some n → p ≡ q
+one_name s sound p q n a b =
+    let h : Some p ≡ Some q = sym (sound.has_process p n a) ∙ sound.has_process q n b in cc
+
+module _ (old new : NamesState) (sound : IsSound old) (n : Name) where
+  -- a free name was given to a process that had none
+  pub added : (p : Pid) (m : Ref) → IsFree n p old → AreWith n (Some (record { pid = p; monitor = m })) p (Some n) old new
+      → IsSound new
+  added p m free with_it = record {
+    has_name = λ a h e. by_test (λ o. o ≡ Some h → name_of new h.pid ≡ Some a) (same_name n a) (Some (record { pid = p; monitor = m })) (holder_of old a)
+        (λ same is.
+          let h_is : record { pid = p; monitor = m } ≡ h = cc in
+          let p_is : p ≡ h.pid = ap (λ h. h.pid) h_is in
+          with_it.names h.pid ∙ at_true (same_pid p h.pid) (Some n) (name_of old h.pid) (rw (← p_is) (same_pid_refl p)) ∙ ap Some (same_name_is n a same))
+        (λ other is.
+          let had = sound.has_name a h is in
+          with_it.names h.pid ∙ at_false (same_pid p h.pid) (Some n) (name_of old h.pid) (unless (same_pid p h.pid) (λ same.
+            some_none (name_of old h.pid) a had (ap (name_of old) (sym (same_pid_is p h.pid same)) ∙ free.name))) ∙ had)
+        (sym (with_it.holders a) ∙ e);
+    has_process = λ q a e. by_test (λ o. o ≡ Some a → pid_of new a ≡ Some q) (same_pid p q) (Some n) (name_of old q)
+        (λ same is.
+          let a_is : n ≡ a = cc in
+          ap (option_map (λ h. h.pid)) (with_it.holders a ∙ at_true (same_name n a) (Some (record { pid = p; monitor = m })) (holder_of old a) (rw (← a_is) (same_name_refl n)))
+          ∙ ap Some (same_pid_is p q same))
+        (λ other is.
+          let had = sound.has_process q a is in
+          ap (option_map (λ h. h.pid)) (with_it.holders a ∙ at_false (same_name n a) (Some (record { pid = p; monitor = m })) (holder_of old a) (unless (same_name n a) (λ same.
+            some_none (pid_of old a) q had (ap (λ b. pid_of old b) (sym (same_name_is n a same)) ∙ ap (option_map (λ h. h.pid)) free.holder)))) ∙ had)
+        (sym (with_it.names q) ∙ e);
+  }
+
+  -- a name was taken from the process that had it
+  pub removed : (p : Pid) → pid_of old n ≡ Some p → name_of old p ≡ Some n → AreWith n None p None old new → IsSound new
+  removed p holds has with_it = record {
+    has_name = λ a h e. by_test (λ o. o ≡ Some h → name_of new h.pid ≡ Some a) (same_name n a) None (holder_of old a)
+        (λ same is. cc)
+        (λ other is.
+          let had = sound.has_name a h is in
+          with_it.names h.pid ∙ at_false (same_pid p h.pid) None (name_of old h.pid) (unless (same_pid p h.pid) (λ same.
+            let had_p : name_of old p ≡ Some a = ap (name_of old) (same_pid_is p h.pid same) ∙ had in
+            let n_is : n ≡ a = cc in
+            let t : same_name n a ≡ true = rw (← n_is) (same_name_refl n) in
+            cc)) ∙ had)
+        (sym (with_it.holders a) ∙ e);
+    has_process = λ q a e. by_test (λ o. o ≡ Some a → pid_of new a ≡ Some q) (same_pid p q) None (name_of old q)
+        (λ same is. cc)
+        (λ other is.
+          let had = sound.has_process q a is in
+          ap (option_map (λ h. h.pid)) (with_it.holders a ∙ at_false (same_name n a) None (holder_of old a) (unless (same_name n a) (λ same.
+            let a_had_p : pid_of old a ≡ Some p = ap (λ b. pid_of old b) (sym (same_name_is n a same)) ∙ holds in
+            let p_is : p ≡ q = cc in
+            let t : same_pid p q ≡ true = rw (← p_is) (same_pid_refl p) in
+            cc))) ∙ had)
+        (sym (with_it.names q) ∙ e);
+  }
