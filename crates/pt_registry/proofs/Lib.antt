@@ -1,0 +1,1 @@
+-- The lemmas that more than one function of the crate uses.
