@@ -1,5 +1,5 @@
 -- Which texts are names.
-use Rattle.std.specs.Prelude.{ℕ, ◌==◌, ◌&&◌, ◌||◌, Bool, false, List, ◌++◌, length, nat_le, nat_lt, slice_index}
+use Rattle.std.specs.Prelude.{◌≡◌, ℕ, ◌==◌, ◌&&◌, ◌||◌, Bool, true, false, List, ◌++◌, length, nat_le, nat_lt, slice_index}
 use Rattle.std.specs.Prelude.{replicate, drop, if◌then◌else◌}
 use Rattle.std.specs.List.{list_all}
 
@@ -23,3 +23,7 @@ is_name text = if nat_lt 0 (length text) && nat_le (length text) 32 then begins_
 -- the text, written over the first of 32 zeros
 abbrev pub padded : List ℕ → List ℕ
 padded text = text ++ drop (length text) (replicate 32 0)
+
+-- two texts that are names give two names
+abbrev pub TellsTextsApart : Type 0
+TellsTextsApart = (a b : List ℕ) → is_name a ≡ true → is_name b ≡ true → padded a ≡ padded b → a ≡ b

@@ -6,7 +6,7 @@
 //! # What is proved
 //!
 //! - **Texts.** `Name::new` returns a name exactly if the text is 1 to 32 ASCII letters, digits and `_`, beginning with
-//!   a letter.
+//!   a letter. Different texts give different names. (`names_tell_texts_apart`)
 //! - **One process a name.** A name that a process has is not given to another: `register` fails with `Taken`. Who
 //!   registered first keeps it.
 //! - **One name a process.** `register` fails with `HasName` if the process has a name already.
@@ -17,5 +17,5 @@
 mod name;
 mod names;
 
-pub use name::{MAX_LETTERS, Name};
+pub use name::{MAX_LETTERS, Name, names_tell_texts_apart};
 pub use names::{Holder, Names, RegisterError};

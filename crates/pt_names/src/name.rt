@@ -2,7 +2,7 @@
 
 ghost use Rattle.std.specs.Prelude.{◌≡◌, ◌<◌, ◌≤◌, length, if◌then◌else◌, Some, None, true};
 ghost use Rattle.std.specs.List.{list_all};
-ghost use Rattle.pt_names.specs.Letters.{begins_well, is_digit, is_letter, is_name, is_name_letter, padded};
+ghost use Rattle.pt_names.specs.Letters.{TellsTextsApart, begins_well, is_digit, is_letter, is_name, is_name_letter, padded};
 
 use std::fmt;
 
@@ -97,3 +97,8 @@ fn is_name_letter(byte: u8) -> bool
 {
     is_letter(byte) || is_digit(byte) || byte == b'_'
 }
+
+/// Two different texts never give the same name. It does nothing: the law is its contract.
+pub fn names_tell_texts_apart()
+    ensures { TellsTextsApart }
+{}
