@@ -13,8 +13,8 @@ use Rattle.pt_signal.specs.Values.{same_pid}
 use Rattle.pt_signal.proofs.Same.{same_pid_refl, same_pid_is}
 use Rattle.pt_names.specs.declared.name.Name.{Name}
 use Rattle.pt_names.specs.declared.names.Holder.{Holder}
-use Rattle.pt_names.specs.State.{NamesState, state, holder_of, pid_of, name_of, same_name, IsSound}
-use Rattle.pt_names.specs.Calls.{IsFree, AreWith}
+use Rattle.pt_names.specs.State.{NamesState, state, holder_of, pid_of, name_at, same_name, IsOneToOne}
+use Rattle.pt_names.specs.Calls.{IsFree, NamesChange}
 
 same_name_is : (a b : Name) → same_name a b ≡ true → a ≡ b
 same_name_is a b h = let e = (bytes_eq-Decides a.letters b.letters).0 h in λ i. record { letters = e i }
@@ -54,60 +54,60 @@ pub registers : (hs hs' : IndexMap Name Holder (BuildHasherDefault FoldHasher))
     → ((a : Name) → lookup (same_name a) hs'.entries ≡ cond (same_name n a) (Some (record { pid = p; monitor = m })) (lookup (same_name a) hs.entries))
     → grown.entries ≡ ns.entries
     → ((q : Pid) → lookup (same_pid q) ns'.entries ≡ cond (same_pid p q) (Some n) (lookup (same_pid q) grown.entries))
-    → AreWith n (Some (record { pid = p; monitor = m })) p (Some n) (state hs ns) (state hs' ns')
+    → NamesChange n (Some (record { pid = p; monitor = m })) p (Some n) (state hs ns) (state hs' ns')
 registers hs hs' ns grown ns' n p m put same put' = record {
   holders = put;
   names = λ q. put' q ∙ ap (λ es. cond (same_pid p q) (Some n) (lookup (same_pid q) es)) same;
 }
 
-module _ (old new : NamesState) (sound : IsSound old) (n : Name) where
+module _ (old new : NamesState) (sound : IsOneToOne old) (n : Name) where
   -- a free name was given to a process that had none
-  pub added : (p : Pid) (m : Ref) → IsFree n p old → AreWith n (Some (record { pid = p; monitor = m })) p (Some n) old new
-      → IsSound new
+  pub added : (p : Pid) (m : Ref) → IsFree n p old → NamesChange n (Some (record { pid = p; monitor = m })) p (Some n) old new
+      → IsOneToOne new
   added p m free with_it = record {
-    has_name = λ a h e. by_test (λ o. o ≡ Some h → name_of new h.pid ≡ Some a) (same_name n a) (Some (record { pid = p; monitor = m })) (holder_of old a)
+    has_name = λ a h e. by_test (λ o. o ≡ Some h → name_at new h.pid ≡ Some a) (same_name n a) (Some (record { pid = p; monitor = m })) (holder_of old a)
         (λ same is.
-          let h_is : ◌≡◌ {A = Holder} (record { pid = p; monitor = m }) h = cc in
-          let p_is : p ≡ h.pid = ap (λ (x : Holder). x.pid) h_is in
-          with_it.names h.pid ∙ at_true (same_pid p h.pid) (Some n) (name_of old h.pid) (subst (λ (x : Pid). same_pid p x ≡ true) p_is (same_pid_refl p)) ∙ ap Some (same_name_is n a same))
+        let h_is : ◌≡◌ {A = Holder} (record { pid = p; monitor = m }) h = cc in
+        let p_is : p ≡ h.pid = ap (λ (x : Holder). x.pid) h_is in
+        with_it.names h.pid ∙ at_true (same_pid p h.pid) (Some n) (name_at old h.pid) (subst (λ (x : Pid). same_pid p x ≡ true) p_is (same_pid_refl p)) ∙ ap Some (same_name_is n a same))
         (λ other is.
-          let had = sound.has_name a h is in
-          with_it.names h.pid ∙ at_false (same_pid p h.pid) (Some n) (name_of old h.pid) (unless (same_pid p h.pid) (λ same.
-            some_none (name_of old h.pid) a had (ap (name_of old) (sym (same_pid_is p h.pid same)) ∙ free.name))) ∙ had)
+        let had = sound.has_name a h is in
+        with_it.names h.pid ∙ at_false (same_pid p h.pid) (Some n) (name_at old h.pid) (unless (same_pid p h.pid) (λ same.
+        some_none (name_at old h.pid) a had (ap (name_at old) (sym (same_pid_is p h.pid same)) ∙ free.name))) ∙ had)
         (sym (with_it.holders a) ∙ e);
-    has_process = λ q a e. by_test (λ o. o ≡ Some a → pid_of new a ≡ Some q) (same_pid p q) (Some n) (name_of old q)
+    has_process = λ q a e. by_test (λ o. o ≡ Some a → pid_of new a ≡ Some q) (same_pid p q) (Some n) (name_at old q)
         (λ same is.
-          let a_is : n ≡ a = cc in
-          ap (option_map (λ (x : Holder). x.pid)) (with_it.holders a ∙ at_true (same_name n a) (Some (record { pid = p; monitor = m })) (holder_of old a) (subst (λ (x : Name). same_name n x ≡ true) a_is (same_name_refl n)))
-          ∙ ap Some (same_pid_is p q same))
+        let a_is : n ≡ a = cc in
+        ap (option_map (λ (x : Holder). x.pid)) (with_it.holders a ∙ at_true (same_name n a) (Some (record { pid = p; monitor = m })) (holder_of old a) (subst (λ (x : Name). same_name n x ≡ true) a_is (same_name_refl n)))
+        ∙ ap Some (same_pid_is p q same))
         (λ other is.
-          let had = sound.has_process q a is in
-          ap (option_map (λ (x : Holder). x.pid)) (with_it.holders a ∙ at_false (same_name n a) (Some (record { pid = p; monitor = m })) (holder_of old a) (unless (same_name n a) (λ same.
-            some_none (pid_of old a) q had (ap (λ b. pid_of old b) (sym (same_name_is n a same)) ∙ ap (option_map (λ (x : Holder). x.pid)) free.holder)))) ∙ had)
+        let had = sound.has_process q a is in
+        ap (option_map (λ (x : Holder). x.pid)) (with_it.holders a ∙ at_false (same_name n a) (Some (record { pid = p; monitor = m })) (holder_of old a) (unless (same_name n a) (λ same.
+        some_none (pid_of old a) q had (ap (λ b. pid_of old b) (sym (same_name_is n a same)) ∙ ap (option_map (λ (x : Holder). x.pid)) free.holder)))) ∙ had)
         (sym (with_it.names q) ∙ e);
   }
 
   -- a name was taken from the process that had it
-  pub removed : (p : Pid) → pid_of old n ≡ Some p → name_of old p ≡ Some n → AreWith n None p None old new → IsSound new
+  pub removed : (p : Pid) → pid_of old n ≡ Some p → name_at old p ≡ Some n → NamesChange n None p None old new → IsOneToOne new
   removed p holds has with_it = record {
-    has_name = λ a h e. by_test (λ o. o ≡ Some h → name_of new h.pid ≡ Some a) (same_name n a) None (holder_of old a)
+    has_name = λ a h e. by_test (λ o. o ≡ Some h → name_at new h.pid ≡ Some a) (same_name n a) None (holder_of old a)
         (λ same is. cc)
         (λ other is.
-          let had = sound.has_name a h is in
-          with_it.names h.pid ∙ at_false (same_pid p h.pid) None (name_of old h.pid) (unless (same_pid p h.pid) (λ same.
-            let had_p : name_of old p ≡ Some a = ap (name_of old) (same_pid_is p h.pid same) ∙ had in
-            let n_is : n ≡ a = cc in
-            let t : same_name n a ≡ true = subst (λ (x : Name). same_name n x ≡ true) n_is (same_name_refl n) in
-            cc)) ∙ had)
+        let had = sound.has_name a h is in
+        with_it.names h.pid ∙ at_false (same_pid p h.pid) None (name_at old h.pid) (unless (same_pid p h.pid) (λ same.
+        let had_p : name_at old p ≡ Some a = ap (name_at old) (same_pid_is p h.pid same) ∙ had in
+        let n_is : n ≡ a = cc in
+        let t : same_name n a ≡ true = subst (λ (x : Name). same_name n x ≡ true) n_is (same_name_refl n) in
+        cc)) ∙ had)
         (sym (with_it.holders a) ∙ e);
-    has_process = λ q a e. by_test (λ o. o ≡ Some a → pid_of new a ≡ Some q) (same_pid p q) None (name_of old q)
+    has_process = λ q a e. by_test (λ o. o ≡ Some a → pid_of new a ≡ Some q) (same_pid p q) None (name_at old q)
         (λ same is. cc)
         (λ other is.
-          let had = sound.has_process q a is in
-          ap (option_map (λ (x : Holder). x.pid)) (with_it.holders a ∙ at_false (same_name n a) None (holder_of old a) (unless (same_name n a) (λ same.
-            let a_had_p : pid_of old a ≡ Some p = ap (λ b. pid_of old b) (sym (same_name_is n a same)) ∙ holds in
-            let p_is : p ≡ q = cc in
-            let t : same_pid p q ≡ true = subst (λ (x : Pid). same_pid p x ≡ true) p_is (same_pid_refl p) in
-            cc))) ∙ had)
+        let had = sound.has_process q a is in
+        ap (option_map (λ (x : Holder). x.pid)) (with_it.holders a ∙ at_false (same_name n a) None (holder_of old a) (unless (same_name n a) (λ same.
+        let a_had_p : pid_of old a ≡ Some p = ap (λ b. pid_of old b) (sym (same_name_is n a same)) ∙ holds in
+        let p_is : p ≡ q = cc in
+        let t : same_pid p q ≡ true = subst (λ (x : Pid). same_pid p x ≡ true) p_is (same_pid_refl p) in
+        cc))) ∙ had)
         (sym (with_it.names q) ∙ e);
   }

@@ -33,10 +33,10 @@ abbrev pub pid_of : NamesState → Name → Option Pid
 pid_of s n = option_map (λ h. h.pid) (holder_of s n)
 
 -- the name of the process
-abbrev pub name_of : NamesState → Pid → Option Name
-name_of s p = lookup (same_pid p) s.names
+abbrev pub name_at : NamesState → Pid → Option Name
+name_at s p = lookup (same_pid p) s.names
 
 -- each name is of one process, which has that name alone
-pub record IsSound (s : NamesState) : Type 0 where
-  pub has_name : (n : Name) (h : Holder) → holder_of s n ≡ Some h → name_of s h.pid ≡ Some n
-  pub has_process : (p : Pid) (n : Name) → name_of s p ≡ Some n → pid_of s n ≡ Some p
+pub record IsOneToOne (s : NamesState) : Type 0 where
+  pub has_name : (n : Name) (h : Holder) → holder_of s n ≡ Some h → name_at s h.pid ≡ Some n
+  pub has_process : (p : Pid) (n : Name) → name_at s p ≡ Some n → pid_of s n ≡ Some p

@@ -2,7 +2,8 @@
 
 ghost use Rattle.std.specs.Prelude.{◌≡◌, ◌<◌, ◌≤◌, length, if◌then◌else◌, Some, None, true};
 ghost use Rattle.std.specs.List.{list_all};
-ghost use Rattle.pt_names.specs.Letters.{TellsTextsApart, begins_well, is_digit, is_letter, is_name, is_name_letter, padded};
+ghost use Rattle.pt_names.specs.Letters.{TellsTextsApart, has_first_letter, is_first_letter, is_name_digit};
+ghost use Rattle.pt_names.specs.Letters.{is_name_letter, is_name_text, padded};
 
 use std::fmt;
 
@@ -21,7 +22,7 @@ pub struct Name {
 impl Name {
     /// The name with this text, or `None` if the text has not the form of a name.
     pub fn new(text: &str) -> Option<Name>
-        ensures { result ≡ (if is_name text.now then Some (record { letters = padded text.now }) else None) }
+        ensures { result ≡ (if is_name_text text.now then Some (record { letters = padded text.now }) else None) }
     {
         let bytes = text.as_bytes();
         if is_name(bytes) {
@@ -57,7 +58,7 @@ impl fmt::Display for Name {
 }
 
 fn is_name(bytes: &[u8]) -> bool
-    ensures form { result ≡ is_name bytes.now }
+    ensures form { result ≡ is_name_text bytes.now }
     ensures short { result ≡ true → length bytes.now ≤ 32 }
 {
     if 0 < bytes.len() && bytes.len() <= MAX_LETTERS {
@@ -69,7 +70,7 @@ fn is_name(bytes: &[u8]) -> bool
 
 fn begins_well(bytes: &[u8]) -> bool
     requires { 0 < length bytes.now }
-    ensures { result ≡ begins_well bytes.now }
+    ensures { result ≡ has_first_letter bytes.now }
 {
     is_letter(bytes[0]) && are_name_letters(bytes)
 }
@@ -81,13 +82,13 @@ fn are_name_letters(bytes: &[u8]) -> bool
 }
 
 fn is_letter(byte: u8) -> bool
-    ensures { result ≡ is_letter byte }
+    ensures { result ≡ is_first_letter byte }
 {
     (b'A' <= byte && byte <= b'Z') || (b'a' <= byte && byte <= b'z')
 }
 
 fn is_digit(byte: u8) -> bool
-    ensures { result ≡ is_digit byte }
+    ensures { result ≡ is_name_digit byte }
 {
     b'0' <= byte && byte <= b'9'
 }

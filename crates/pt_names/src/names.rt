@@ -2,7 +2,7 @@
 
 ghost use Rattle.std.specs.Prelude.{◌≡◌, length};
 ghost use Rattle.std.specs.Option.{option_map};
-ghost use Rattle.pt_names.specs.State.{holder_of, name_of};
+ghost use Rattle.pt_names.specs.State.{holder_of, name_at};
 ghost use Rattle.pt_names.specs.Calls.{Checks, Forgets, IsNone, Registers, Unregisters};
 
 use crate::name::Name;
@@ -42,13 +42,13 @@ pub struct Names {
 }
 
 impl Model for Names {
-    ghost use Rattle.pt_names.specs.State.{NamesState, state, IsSound};
+    ghost use Rattle.pt_names.specs.State.{NamesState, state, IsOneToOne};
 
     ghost Value = { NamesState };
 
     ghost view = { λ s. state s.holders s.names };
 
-    ghost invariant = { λ s. IsSound (state s.holders s.names) };
+    ghost invariant = { λ s. IsOneToOne (state s.holders s.names) };
 }
 
 impl Names {
@@ -74,7 +74,7 @@ impl Names {
 
     /// The name of a process, or `None` if it has no name.
     pub fn name_of(&self, pid: Pid) -> Option<Name>
-        ensures { result ≡ name_of self.now pid }
+        ensures { result ≡ name_at self.now pid }
     {
         self.names.get(&pid).copied()
     }
@@ -110,11 +110,7 @@ impl Names {
         if self.names.reserve(1).is_err() {
             return Err(RegisterError::Memory);
         }
-        if self
-            .holders
-            .insert(name, Holder { pid, monitor })
-            .is_err()
-        {
+        if self.holders.insert(name, Holder { pid, monitor }).is_err() {
             return Err(RegisterError::Memory);
         }
         let _ = self.names.insert(pid, name);

@@ -3,7 +3,7 @@ use Rattle.std.proofs.Common.{◌≡◌, ℕ, zero, suc, cond, Bool, true, false
 use Rattle.std.proofs.Common.{◌∙◌, ap}
 use Rattle.std.specs.List.{list_all}
 use Rattle.std.proofs.lemmas.Bool.{and_parts}
-use Rattle.pt_names.specs.Letters.{begins_well, is_name, is_name_letter, padded}
+use Rattle.pt_names.specs.Letters.{is_name_text, is_name_letter, padded}
 use Rattle.pt_names.proofs.name.names_tell_texts_apart.Goals as goal
 
 -- what stands in front of the first zero
@@ -31,7 +31,7 @@ cond_true : (b c : Bool) → cond b c false ≡ true → c ≡ true
 cond_true true c h = h
 cond_true false c h = cc
 
-stripped-padded : (text : List ℕ) → is_name text ≡ true → stripped (padded text) ≡ text
+stripped-padded : (text : List ℕ) → is_name_text text ≡ true → stripped (padded text) ≡ text
 stripped-padded text h =
     stripped-letters text (drop (length text) (replicate 32 0)) (and_parts _ _ (cond_true _ _ h)).1
     (stripped-zeros 32 (length text))
