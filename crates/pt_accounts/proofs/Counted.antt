@@ -37,7 +37,7 @@ shorter k i (x ∷ xs) h = go (fits k x) refl (shorter k i xs)
     go : (b : Bool) → fits k x ≡ b → (find (fits k) xs ≡ Some i → length (without_first (fits k) xs) + 1 ≡ length xs)
         → length (without_first (fits k) (x ∷ xs)) + 1 ≡ length (x ∷ xs)
     go true e ih = rw e (omega arith)
-    go false e ih = let l = ih (rw e life_at h) in rw e (omega arith)
+    go false e ih = let l = ih (rw e at h) in rw e (omega arith)
 
 obeyed_one : (v : Verdict) (s : ProcessState) → length (obey v s).items ≤ 1
 obeyed_one drops s = omega arith

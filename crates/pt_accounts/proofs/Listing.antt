@@ -134,7 +134,7 @@ born_listed start d slots past p told home born = go p.version (life_at slots p.
   where
     go : (v : ℕ) (o : Option LifeState) → p.version ≡ v → life_at slots p.slot p.version ≡ o → TableTells start past p o → IsIn p (pids_in slots)
     go v None n e t = let k : is_unborn (life start past p) ≡ true = ap is_unborn t.0 in absurd (both_ways _ born k)
-    go zero (Some l) n e t = let k : of_version (slot_at slots p.slot) 0 ≡ Some l = rw n life_at e in absurd (cc)
+    go zero (Some l) n e t = let k : of_version (slot_at slots p.slot) 0 ≡ Some l = rw n at e in absurd (cc)
     go (suc k) (Some l) n e t =
-        let at_k : slice_get (slot_at slots p.slot) k ≡ Some l = rw n life_at e in
+        let at_k : slice_get (slot_at slots p.slot) k ≡ Some l = rw n at e in
         subst (λ q. IsIn q (pids_in slots)) (ap (λ l. l.pid) t.0) (in_slots slots p.slot k l at_k)

@@ -46,9 +46,9 @@ module _ (m : Ref) where
     where
       go : (b : Bool) → same_ref m k.0 ≡ b → (c : Bool) → lookup (same_ref m) (k ∷ l) ≡ None → (lookup (same_ref m) l ≡ None → lookup (same_ref m) (remove_entry (same_ref n) l) ≡ None)
           → lookup (same_ref m) (cond c l (k ∷ remove_entry (same_ref n) l)) ≡ None
-      go true e c h ih = let z : Some k.1 ≡ None = rw e life_at h in absurd (cc)
-      go false e true h ih = rw e life_at h
-      go false e false h ih = rw e (ih (rw e life_at h))
+      go true e c h ih = let z : Some k.1 ≡ None = rw e at h in absurd (cc)
+      go false e true h ih = rw e at h
+      go false e false h ih = rw e (ih (rw e at h))
 
   pushed : (n : Ref) (t : Pid) (l : List (Ref × Pid)) → same_ref m n ≡ false → lookup (same_ref m) l ≡ None → lookup (same_ref m) (l ++ (n, t) ∷ []) ≡ None
   pushed n t [] d h = rw d refl
@@ -56,8 +56,8 @@ module _ (m : Ref) where
     where
       go : (b : Bool) → same_ref m k.0 ≡ b → cond (same_ref m k.0) (Some k.1) (lookup (same_ref m) l) ≡ None → (lookup (same_ref m) l ≡ None → lookup (same_ref m) (l ++ (n, t) ∷ []) ≡ None)
           → cond (same_ref m k.0) (Some k.1) (lookup (same_ref m) (l ++ (n, t) ∷ [])) ≡ None
-      go true e h ih = let z : Some k.1 ≡ None = rw e life_at h in absurd (cc)
-      go false e h ih = rw e (ih (rw e life_at h))
+      go true e h ih = let z : Some k.1 ≡ None = rw e at h in absurd (cc)
+      go false e h ih = rw e (ih (rw e at h))
 
   obeyed : (v : Verdict) (s : ProcessState) → IsClosed s → IsClosed (obey v s).state
   obeyed drops s h = h
@@ -119,8 +119,8 @@ module _ (m : Ref) where
   count_closed (k ∷ l) h = go (same_ref m k.0) refl (count_closed l)
     where
       go : (b : Bool) → same_ref m k.0 ≡ b → (count (λ e. same_ref m e.0) l ≡ 0 → lookup (same_ref m) l ≡ None) → lookup (same_ref m) (k ∷ l) ≡ None
-      go true e ih = let z : one_if true + count (λ e. same_ref m e.0) l ≡ 0 = rw e life_at h in absurd (omega arith)
-      go false e ih = let z : one_if false + count (λ e. same_ref m e.0) l ≡ 0 = rw e life_at h in rw e (ih (omega arith))
+      go true e ih = let z : one_if true + count (λ e. same_ref m e.0) l ≡ 0 = rw e at h in absurd (omega arith)
+      go false e ih = let z : one_if false + count (λ e. same_ref m e.0) l ≡ 0 = rw e at h in rw e (ih (omega arith))
 
 -- who sees the event -------------------------------------------------------------------------------
 

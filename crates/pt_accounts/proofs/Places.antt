@@ -50,7 +50,7 @@ seen_version xs (suc i) f x y n h e k zero = rw suc_zero refl
 seen_version xs (suc i) f x y n h e k (suc j) =
     let l : i < length xs = omega arith in
     let n : suc i - 1 ≡ i = omega arith in
-    let a : x ≡ get_or xs i x = rw n life_at e in
+    let a : x ≡ get_or xs i x = rw n at e in
     rw (n, suc_suc) (slice_get-set xs i j y l ∙ go (i == j) refl a)
   where
     go : (b : Bool) → (i == j) ≡ b → x ≡ get_or xs i x → cond (i == j) (Some y) (slice_get xs j) ≡ cond (i == j) (option_map f (slice_get xs j)) (slice_get xs j)
