@@ -7,8 +7,8 @@
 # threads: this script counts the events, desks and letters on their way of each by itself. So it is with a carriage
 # return before each line feed, without the last line feed, and cut into one file a desk. A stored one that is cut off
 # behind a line is legal as far as it goes: the auditor reports a letter on its way or nothing. Behind any byte, the last
-# line is at fault or none. selected.txt has what is printed of a history, and refused.txt histories that are not legal,
-# with the line at fault of each. The programs are bin/pt_run and bin/pt_audit, which are built first if they are not up
+# line is at fault or none. selected.txt has what is printed of a history, refused.txt histories that are not legal, with
+# the line at fault of each, and statuses.txt what is said beside a verdict. The programs are bin/pt_run and bin/pt_audit, which are built first if they are not up
 # to date.
 set -euo pipefail
 shopt -s nullglob
@@ -91,6 +91,21 @@ awk -v cases="$work/cases/" -v wanted="$work/wanted/" '
     /^=> / { print substr($0, 4) > (wanted name); name = ""; next }
     name != "" { gsub(/\\r/, "\r"); print > (cases name) }' "$here/refused.txt"
 
+# With --judge a history that no node prints is legal, and it is printed with one name a file if there are several.
+for wanted in "$work/wanted"/refused-*; do
+    grep -q '^legal, but of no node: ' "$wanted" || continue
+    name=$(basename "$wanted")-judged
+    cp "$work/cases/$(basename "$wanted")" "$work/cases/$name"
+    echo --judge >"$work/cases/$name.args"
+    counted "$work/cases/$name" >"$work/cases/$name.stdout"
+done
+printf '%s\n' '1@0 born <0.0.1>' '3@0 left <0.0.1> normal' >"$work/desks/first"
+printf '%s\n' '2@1 born <1.0.1>' '4@1 born <1.0.2>' >"$work/desks/second"
+: >"$work/cases/of_no_node-desks"
+printf '%s\n' first second >"$work/cases/of_no_node-desks.args"
+echo 'legal, but of no node: second: line 2: the version before it in the slot has not ended' \
+    >"$work/wanted/of_no_node-desks"
+
 # A line of a byte more than is read.
 printf '1@0 born <0.0.1>%1009s\n' '' >"$work/cases/refused-long"
 echo 'line 1: more than 1024 bytes' >"$work/wanted/refused-long"
@@ -128,6 +143,22 @@ for wanted in "$work/wanted"/*; do
     audit "$name"
     is_same "$wanted" "$work/err/$name" "$name" "standard error"
     has_status "$name" 1
+done
+
+# What is said beside a verdict.
+mkdir "$work/said" "$work/statuses"
+: >"$work/desks/here"
+awk -v cases="$work/cases/" -v said="$work/said/" -v statuses="$work/statuses/" '
+    /^#/ { next }
+    /^== / { name = "said-" $2; print $3 > (statuses name); printf "" > (cases name); printf "" > (said name)
+        printf "" > (cases name ".args"); for (i = 4; i <= NF; i++) print $i > (cases name ".args"); next }
+    /^=> / { print substr($0, 4) > (said name); next }
+    name != "" && NF { print > (cases name) }' "$here/statuses.txt"
+for status in "$work/statuses"/*; do
+    name=$(basename "$status")
+    audit "$name"
+    is_same "$work/said/$name" "$work/err/$name" "$name" "standard error"
+    has_status "$name" "$(cat "$status")"
 done
 
 # What a history that is cut off leads to: it is legal, or its end is at fault.

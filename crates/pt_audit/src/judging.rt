@@ -2,9 +2,9 @@
 
 use crate::asked::{Asked, Print};
 use crate::output::Output;
-use crate::refusal::{Refusal, wants_memory};
+use crate::refusal::{Refusal, unread, wants_memory};
 use crate::source::{PIECE, Source};
-use pt_auditor::{Audit, Fault, Hearing, Verdict};
+use pt_auditor::{Audit, Fault, Foreign, Hearing, Verdict};
 use pt_chart::chart;
 use pt_events::{Event, Stamped};
 use pt_render::{JsonEvent, JsonLeftOver, MERMAID_HEAD, MermaidEvent, MermaidLeftOver};
@@ -16,40 +16,97 @@ use std::io::{Read, Write};
 pub fn audit_pieces<R: Read + Drop>(alloc: Global, from: R) -> Result<Verdict, Refusal> {
     let mut from = from;
     let mut piece = vec![in alloc; 0u8; PIECE]?;
+    let audit = read_pieces(alloc, &mut from, piece.as_mut_slice())?;
+    Ok(audit.end(alloc)?)
+}
+
+fn read_pieces<R: Read>(alloc: Global, from: &mut R, piece: &mut [u8]) -> Result<Audit, Refusal> {
     let mut audit = Audit::new(alloc);
     for _ in 0..u64::MAX {
-        let count = from.read(piece.as_mut_slice())?;
-        if count == 0 {
-            return Ok(audit.end(alloc)?);
+        let bytes = read_piece(from, piece)?;
+        if bytes.len() == 0 {
+            return Ok(audit);
         }
-        audit = audit.read(alloc, &piece.as_slice()[..count])?;
+        audit = audit.read(alloc, bytes)?;
     }
-    Err(Refusal::File)
+    Err(Refusal::Memory)
+}
+
+/// The next bytes; none at the end.
+fn read_piece<'a, R: Read>(from: &mut R, piece: &'a mut [u8]) -> Result<&'a [u8], Refusal> {
+    match from.read(piece) {
+        Ok(count) => Ok(&piece[..count]),
+        Err(error) => Err(unread(0, error)),
+    }
 }
 
 /// Reads all files, merged by stamp and desk, and prints what is asked for before the verdict.
 pub fn audit_lines<R: Read + Drop, W: Write>(
     alloc: Global,
-    sources: Vec<Source<R>>,
+    sources: &mut [Source<R>],
     asked: &Asked,
     out: &mut Output<W>,
 ) -> Result<Verdict, Refusal> {
-    let mut sources = sources;
-    let mut audit = Audit::new(alloc);
+    begin(sources, asked, out)?;
+    let audit = audit_all(alloc, sources, asked, out)?;
+    finish(alloc, audit, asked, out)
+}
+
+/// Goes to the first line of each file.
+fn begin<R: Read + Drop, W: Write>(
+    sources: &mut [Source<R>],
+    asked: &Asked,
+    out: &mut Output<W>,
+) -> Result<(), Refusal> {
     print_head(asked, out)?;
     for place in 0..sources.len() {
         sources[place].advance()?;
     }
+    Ok(())
+}
+
+fn audit_all<R: Read + Drop, W: Write>(
+    alloc: Global,
+    sources: &mut [Source<R>],
+    asked: &Asked,
+    out: &mut Output<W>,
+) -> Result<Audit, Refusal> {
+    let mut audit = Audit::new(alloc);
     for _ in 0..u64::MAX {
-        let place = first_of(sources.as_slice());
+        let place = first_of(sources);
         if place >= sources.len() {
-            return conclude(alloc, audit, asked, out);
+            return Ok(audit);
         }
         audit = hear(alloc, audit, &sources[place], sources.len() > 1)?;
-        print_event(&sources[place], asked, out)?;
-        sources[place].advance()?;
+        note(audit.hearing(), &sources[place], asked, out);
+        go_on(&mut sources[place], asked, out)?;
     }
-    Err(Refusal::File)
+    Err(Refusal::Memory)
+}
+
+/// Notes whether no node prints the line, and whether it concerns the process that is asked for.
+fn note<R: Read + Drop, W: Write>(
+    hearing: &Hearing,
+    source: &Source<R>,
+    asked: &Asked,
+    out: &mut Output<W>,
+) {
+    if out.foreign.is_none() && hearing.foreign().is_some() {
+        out.foreign = Some((source.file(), source.number()));
+    }
+    if let Some(event) = source.event() {
+        out.met = out.met || asked.concerns(event);
+    }
+}
+
+/// Prints the line of the file, if it is asked for, and goes on to the next.
+fn go_on<R: Read + Drop, W: Write>(
+    source: &mut Source<R>,
+    asked: &Asked,
+    out: &mut Output<W>,
+) -> Result<(), Refusal> {
+    print_event(source, asked, out)?;
+    source.advance()
 }
 
 /// The place of the file whose line comes first, or how many files there are where none has a line.
@@ -79,10 +136,9 @@ fn hear<R: Read + Drop>(
         Ok(audit) => Ok(audit),
         Err(fault) => {
             if names_file && !wants_memory(fault) {
-                let name = String::from_str(alloc, source.name())?;
                 let line = source.number();
                 let why = fault.why;
-                Err(Refusal::InFile(name, Fault { line, why }))
+                Err(Refusal::InFile(source.file(), Fault { line, why }))
             } else {
                 Err(Refusal::from(fault))
             }
@@ -170,16 +226,51 @@ fn print_head<W: Write>(asked: &Asked, out: &mut Output<W>) -> Result<(), Refusa
     Ok(())
 }
 
+/// The line that no node prints, in its file where there are several.
+fn no_node<W: Write>(foreign: Foreign, asked: &Asked, out: &Output<W>) -> Refusal {
+    match out.foreign {
+        Some((place, line)) if asked.files.len() > 1 => {
+            let why = foreign.why;
+            Refusal::NoNodeInFile(place, Foreign { line, why })
+        }
+        _ => Refusal::NoNode(foreign),
+    }
+}
+
+/// Prints the verdict, unless no node prints such a history and the judge's verdict alone is not enough.
+pub fn conclude<W: Write>(
+    verdict: Verdict,
+    asked: &Asked,
+    out: &mut Output<W>,
+) -> Result<(), Refusal> {
+    match verdict.foreign {
+        Some(foreign) if !asked.judge => {
+            out.writer.flush()?;
+            return Err(no_node(foreign, asked, out));
+        }
+        _ => print_verdict(verdict, asked.print, out)?,
+    }
+    if asked.complete && (verdict.events == 0 || verdict.letters > 0) {
+        return Err(Refusal::Incomplete(verdict));
+    }
+    Ok(())
+}
+
 /// Prints the verdict of a history, in the form of what stands before it, and passes on what the writer holds back.
-pub fn print_verdict<W: Write>(
+fn print_verdict<W: Write>(
     verdict: Verdict,
     print: Print,
     out: &mut Output<W>,
 ) -> Result<(), Refusal> {
+    let verdict = Verdict {
+        foreign: None,
+        ..verdict
+    };
     let Verdict {
         events,
         desks,
         letters,
+        ..
     } = verdict;
     match print {
         Print::Chart => writeln!(out.writer, "<!-- {verdict} -->")?,
@@ -195,7 +286,7 @@ pub fn print_verdict<W: Write>(
 }
 
 /// The verdict on all that was heard, and before it what became of each process, or the chart, where that is asked for.
-fn conclude<W: Write>(
+fn finish<W: Write>(
     alloc: Global,
     audit: Audit,
     asked: &Asked,

@@ -4,11 +4,15 @@ use pt_events::Stamped;
 use std::alloc::Global;
 use std::io::Write;
 
-/// A writer, and the events that are to be drawn.
+/// A writer, the events that are to be drawn, and what was met on the way.
 #[derive(Drop)]
 pub struct Output<W> {
     pub writer: W,
     pub drawn: Vec<Stamped>,
+    /// The place of the file, and the number there, of the first line that no node prints.
+    pub foreign: Option<(usize, u64)>,
+    /// Whether an event concerned the process that is asked for.
+    pub met: bool,
 }
 
 impl<W: Write + Drop> Output<W> {
@@ -16,6 +20,8 @@ impl<W: Write + Drop> Output<W> {
         Output {
             writer,
             drawn: Vec::new(alloc),
+            foreign: None,
+            met: false,
         }
     }
 }

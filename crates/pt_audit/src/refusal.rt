@@ -1,7 +1,7 @@
 //! Why there is no verdict, or not all of it was printed.
 
 use clap::error::ErrorKind;
-use pt_auditor::{Fault, Objection, Why};
+use pt_auditor::{Fault, Foreign, Objection, Verdict, Why};
 use std::alloc::AllocError;
 use std::io;
 
@@ -15,10 +15,28 @@ pub enum Refusal {
     NoPid,
     /// The first line at fault.
     History(Fault),
-    /// The first line at fault among several files, by the name of its own and its number there.
-    InFile(String, Fault),
+    /// The first line at fault among several files: the place of its file, and its number there.
+    InFile(usize, Fault),
+    /// The history is legal, and no node prints this line.
+    NoNode(Foreign),
+    /// The same among several files.
+    NoNodeInFile(usize, Foreign),
+    /// The history is legal, and it has no event, or a letter is on its way.
+    Incomplete(Verdict),
     Memory,
-    File,
+    /// The file at the place was not read.
+    Unread(usize, io::Error),
+    /// The output was not written.
+    Unwritten(io::Error),
+}
+
+/// What is said where the file at the place was not read.
+pub fn unread(place: usize, error: io::Error) -> Refusal {
+    if error.kind() == io::ErrorKind::OutOfMemory {
+        Refusal::Memory
+    } else {
+        Refusal::Unread(place, error)
+    }
 }
 
 /// Whether the fault is that memory was wanting.
@@ -62,7 +80,7 @@ impl From<io::Error> for Refusal {
         if error.kind() == io::ErrorKind::OutOfMemory {
             Refusal::Memory
         } else {
-            Refusal::File
+            Refusal::Unwritten(error)
         }
     }
 }

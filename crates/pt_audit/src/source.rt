@@ -1,6 +1,6 @@
 //! One file of a history, line by line.
 
-use crate::refusal::Refusal;
+use crate::refusal::{Refusal, unread};
 use pt_auditor::MOST_LINE;
 use pt_events::Stamped;
 use pt_texts::{LeftOver, parse_left_over, parse_stamped};
@@ -14,7 +14,8 @@ pub const PIECE: usize = 65_536;
 #[derive(Drop)]
 pub struct Source<R> {
     reader: R,
-    name: String,
+    /// Its place among the files.
+    file: usize,
     piece: Vec<u8>,
     /// How many bytes of the piece were read, and the place of the next.
     filled: usize,
@@ -26,10 +27,10 @@ pub struct Source<R> {
 }
 
 impl<R: Read + Drop> Source<R> {
-    pub fn new(alloc: Global, name: &str, reader: R) -> Result<Source<R>, AllocError> {
+    pub fn new(alloc: Global, file: usize, reader: R) -> Result<Source<R>, AllocError> {
         Ok(Source {
             reader,
-            name: String::from_str(alloc, name)?,
+            file,
             piece: vec![in alloc; 0u8; PIECE]?,
             filled: 0,
             place: 0,
@@ -40,8 +41,9 @@ impl<R: Read + Drop> Source<R> {
         })
     }
 
-    pub fn name(&self) -> &str {
-        self.name.as_str()
+    /// The place of the file among all.
+    pub fn file(&self) -> usize {
+        self.file
     }
 
     /// Whether there is a line.
@@ -103,9 +105,16 @@ impl<R: Read + Drop> Source<R> {
         Ok(false)
     }
 
+    fn read_piece(&mut self) -> Result<usize, Refusal> {
+        match self.reader.read(self.piece.as_mut_slice()) {
+            Ok(count) => Ok(count),
+            Err(error) => Err(unread(self.file, error)),
+        }
+    }
+
     fn next_byte(&mut self) -> Result<Option<u8>, Refusal> {
         if self.place >= self.filled {
-            self.filled = self.reader.read(self.piece.as_mut_slice())?;
+            self.filled = self.read_piece()?;
             self.place = 0;
         }
         if self.place >= self.filled || self.place >= self.piece.len() {

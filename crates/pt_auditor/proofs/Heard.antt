@@ -1,5 +1,5 @@
 -- What a hearing knows after one event, or one letter, more.
-use Rattle.std.proofs.Common.{◌≡◌, ◌<◌, ◌≤◌, Bool, true, false, cond, Option, Some, None, List, [], ◌∷◌, length, slice_get, refl, ap, sym, ◌∙◌, subst, arith}
+use Rattle.std.proofs.Common.{◌≡◌, ◌+◌, ◌-◌, ◌^◌, min, max, ◌<◌, ◌≤◌, Bool, true, false, cond, Option, Some, None, List, [], ◌∷◌, length, slice_get, refl, ap, sym, ◌∙◌, subst, arith}
 use Rattle.std.specs.List.{find, list_any}
 use Rattle.std.specs.Option.{option_map}
 use Rattle.pt_signal.specs.declared.pid.Pid.{Pid}
@@ -22,7 +22,10 @@ use Rattle.pt_auditor.specs.declared.objection.Objection.TheVariants.{MayNot, Ot
 use Rattle.pt_auditor.specs.declared.hearing.Hearing.{Hearing}
 use Rattle.pt_auditor.specs.declared.hearing.Verdict.{Verdict}
 use Rattle.pt_auditor.specs.Objecting.{contradiction}
-use Rattle.pt_auditor.specs.Hearings.{Heard, IsHeard, IsObjection, IsMisfit, IsOldest, IsOfItsDesks, IsSunk, IsWithout, AllTold, newest, is_above, still, left_flying, with_letter, verdict_of}
+use Rattle.pt_auditor.specs.Hearings.{Heard, IsHeard, IsObjection, IsMisfit, IsOldest, IsOfItsDesks, IsSunk, IsWithout, AllTold, newest, is_above, still, left_flying, with_letter, IsVerdict, MayHear, LettersAreTold, with_event, capped_count}
+use Rattle.pt_auditor.specs.declared.foreign.Foreign.{Foreign}
+use Rattle.pt_auditor.specs.Foreigners.{IsOrigin, first_foreign, no_node}
+use Rattle.pt_auditor.proofs.Origins.{judged, origin_more}
 
 none_left : (left : List LeftOver) → length left ≡ 0 → left ≡ []
 none_left [] h = refl
@@ -48,6 +51,24 @@ module _ (t : Heard) (h : Hearing) (k : IsHeard t h) where
     flies = k.flies ∙ ap (still (left_flying t.events)) e;
   }
 
+  -- the first event that no node prints, after one event more
+  pub origin_after : (s : Stamped) → t.left ≡ [] → IsOrigin (s ∷ t.events) (first_foreign h.foreign (no_node h.state s) (min (h.events + 1) (2 ^ 64 - 1)))
+  origin_after s e = origin_more t.events s (min (h.events + 1) (2 ^ 64 - 1)) h.foreign (no_node h.state s) (omega (arith, k.count)) k.origin (judged h.state (events t.events) (state_after e) s)
+
+  -- one event more
+  pub one_event : (s : Stamped) (new : Hearing) → MayHear t s → IsAfter [] (s.event ∷ events t.events) new.state → new.last ≡ Some s → new.events ≡ min (h.events + 1) (2 ^ 64 - 1) → new.desks ≡ max h.desks (s.desk + 1) → new.letters ≡ 0
+      → new.foreign ≡ first_foreign h.foreign (no_node h.state s) (min (h.events + 1) (2 ^ 64 - 1)) → IsHeard (with_event s t) new
+  one_event s new m a l e d z f = record {
+    stands = record { legal = (m.2, k.stands.legal); rising = (m.1, k.stands.rising); told = subst (LettersAreTold (left_flying (s ∷ t.events))) (sym m.0) tt };
+    knows = record { links_made = a.links_made; refs_made = a.refs_made; alike = a.alike; flies = refl };
+    flies = a.flies ∙ ap (still (left_flying (s ∷ t.events))) (sym m.0);
+    last = l;
+    count = omega (arith, e, k.count);
+    desks = d ∙ ap (λ n. max n (s.desk + 1)) k.desks;
+    letters = z ∙ ap (λ left. capped_count (length left)) (sym m.0);
+    origin = subst (IsOrigin (s ∷ t.events)) (sym f) (origin_after s m.0);
+  }
+
   pub above : (s : Stamped) (o : Option Stamped) → IsSunk h.last s o → o ≡ None → is_above (newest t.events) s ≡ true
   above s None u z = subst (λ l. is_above l s ≡ true) k.last u
   above s (Some x) u z = absurd (cc)
@@ -71,6 +92,7 @@ module _ (t : Heard) (h : Hearing) (k : IsHeard t h) where
     count = w.count ∙ k.count;
     desks = w.desks ∙ k.desks;
     letters = omega (arith, w.letters, k.letters);
+    origin = subst (IsOrigin t.events) (sym w.foreign) k.origin;
   }
 
   pub other_letter : (l : LeftOver) (o : Option Signal) → IsOfItsDesks l → ¬ IsOldest h.state.flights l → o ≡ option_map (λ (f : Sent). f.signal) (find (is_between l.letter.from l.letter.to) h.state.flights)
@@ -84,8 +106,8 @@ module _ (t : Heard) (h : Hearing) (k : IsHeard t h) where
   pub all_told : slice_get h.state.flights 0 ≡ None → AllTold t
   all_told e = none_first (still (left_flying t.events) t.left) (subst (λ f. slice_get f 0 ≡ None) k.flies e)
 
-  pub verdict_is : (v : Verdict) → v.events ≡ h.events → v.desks ≡ h.desks → v.letters ≡ h.letters → v ≡ verdict_of t
-  verdict_is v e d l = λ i. record { events = (e ∙ k.count) i; desks = (d ∙ k.desks) i; letters = (l ∙ k.letters) i }
+  pub verdict_is : (v : Verdict) → v.events ≡ h.events → v.desks ≡ h.desks → v.letters ≡ h.letters → v.foreign ≡ h.foreign → IsVerdict t v
+  verdict_is v e d l f = record { events = e ∙ k.count; desks = d ∙ k.desks; letters = l ∙ k.letters; origin = subst (IsOrigin t.events) (sym f) k.origin }
 
 -- what may come next from the one to the other
 pub comes_next : (s : JudgeState) (a b : Pid) (x : Signal) (o : Option Cause) → o ≡ cause (known_state s) (Came a b x) → o ≡ None → find (is_between a b) s.flights ≡ Some (sent a b x)

@@ -1,3 +1,5 @@
 -- The lemmas that more than one function of the crate uses.
+pub mod Origins
 pub mod Heard
+pub mod Lengths
 pub mod Read

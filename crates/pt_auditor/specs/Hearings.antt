@@ -18,6 +18,7 @@ use Rattle.pt_auditor.specs.declared.objection.Objection.TheVariants.{Untold, Me
 use Rattle.pt_auditor.specs.declared.hearing.Hearing.{Hearing}
 use Rattle.pt_auditor.specs.declared.hearing.Verdict.{Verdict}
 use Rattle.pt_auditor.specs.Objecting.{contradiction}
+use Rattle.pt_auditor.specs.Foreigners.{IsOrigin}
 
 -- the events, the newest first, and the letters left over, the last told first
 pub record Heard : Type 0 where
@@ -88,6 +89,7 @@ pub record IsHeard (t : Heard) (h : Hearing) : Type 0 where
   pub count : h.events ≡ capped_count (length t.events)
   pub desks : h.desks ≡ desks_of t.events
   pub letters : h.letters ≡ capped_count (length t.left)
+  pub origin : IsOrigin t.events h.foreign
 
 -- the event may be heard next: no letter was told of, it is above the event before, and it may come
 abbrev pub MayHear : Heard → Stamped → Type 0
@@ -129,9 +131,12 @@ abbrev pub TellsLetter : Heard → LeftOver → Result Hearing Objection → Typ
 TellsLetter t l (Ok h) = IsHeard (with_letter l t) h
 TellsLetter t l (Err o) = IsMisfit t l o
 
--- the counts of what was heard
-abbrev pub verdict_of : Heard → Verdict
-verdict_of t = record { events = capped_count (length t.events); desks = desks_of t.events; letters = capped_count (length t.left) }
+-- the counts of what was heard, and the first event that no node prints, if there is one
+pub record IsVerdict (t : Heard) (v : Verdict) : Type 0 where
+  pub events : v.events ≡ capped_count (length t.events)
+  pub desks : v.desks ≡ desks_of t.events
+  pub letters : v.letters ≡ capped_count (length t.left)
+  pub origin : IsOrigin t.events v.foreign
 
 -- the letters told of are all that is on its way
 abbrev pub AllTold : Heard → Type 0
@@ -143,7 +148,7 @@ IsUntold t (Untold a b x) = slice_get (still (left_flying t.events) t.left) 0 �
 IsUntold t _ = ⊥
 
 abbrev pub EndsHearing : Heard → Result Verdict Objection → Type 0
-EndsHearing t (Ok v) = AllTold t × (v ≡ verdict_of t)
+EndsHearing t (Ok v) = AllTold t × IsVerdict t v
 EndsHearing t (Err o) = IsUntold t o
 
 -- what the functions of the crate say of one event
@@ -161,3 +166,4 @@ pub record IsWithout (a b : Pid) (old new : Hearing) : Type 0 where
   pub count : new.events ≡ old.events
   pub desks : new.desks ≡ old.desks
   pub letters : new.letters ≡ min (old.letters + 1) (2 ^ 64 - 1)
+  pub foreign : new.foreign ≡ old.foreign

@@ -1,4 +1,6 @@
+pub mod Foreigners
 pub mod Hearings
+pub mod Laws
 pub mod Objecting
 pub mod Reading
 pub mod Selecting

@@ -18,7 +18,7 @@ use Rattle.pt_auditor.specs.declared.audit.Audit.{Audit}
 use Rattle.pt_auditor.specs.declared.hearing.Hearing.{Hearing}
 use Rattle.pt_auditor.specs.declared.hearing.Verdict.{Verdict}
 use Rattle.pt_auditor.specs.Hearings.{Heard, IsStanding, IsHeard, MayHear, IsObjection, IsMisfit, AllTold, IsUntold}
-use Rattle.pt_auditor.specs.Hearings.{with_event, with_letter, verdict_of, capped_count}
+use Rattle.pt_auditor.specs.Hearings.{with_event, with_letter, IsVerdict, capped_count}
 
 -- the line without the carriage return that it ends with, if it does
 abbrev pub without_return : List ℕ → List ℕ
@@ -140,9 +140,9 @@ abbrev pub IsUnfinished : Heard → ℕ → Fault → Type 0
 IsUnfinished t count f = ((o : Objection) × (f.why ≡ Over o) × IsUntold t o) × (f.line ≡ capped_count (count + 1))
 
 abbrev pub Concludes : List ℕ → Result Verdict Fault → Type 0
-Concludes text (Ok v) = (t : Heard) × IsWholeText text t × AllTold t × (v ≡ verdict_of t)
+Concludes text (Ok v) = (t : Heard) × IsWholeText text t × AllTold t × IsVerdict t v
 Concludes text (Err f) = IsFaulty text f ⊎ ((t : Heard) × (w : IsWholeText text t) × IsUnfinished t (length w.lines) f)
 
 abbrev pub ClosesText : Heard → ℕ → Result Verdict Fault → Type 0
-ClosesText t count (Ok v) = AllTold t × (v ≡ verdict_of t)
+ClosesText t count (Ok v) = AllTold t × IsVerdict t v
 ClosesText t count (Err f) = ((o : Objection) × (f.why ≡ Over o) × IsUntold t o) × (f.line ≡ min (count + 1) (2 ^ 64 - 1))

@@ -16,11 +16,33 @@ use Rattle.pt_auditor.specs.declared.fault.Why.{Why}
 use Rattle.pt_auditor.specs.declared.fault.Why.TheVariants.{Unread, Event, Letter, Over, Long}
 use Rattle.pt_auditor.specs.declared.fault.Why.TheVariants as why
 use Rattle.pt_auditor.specs.declared.fault.Fault.{Fault}
+use Rattle.pt_auditor.specs.declared.foreign.Foreign.{Foreign}
+use Rattle.pt_auditor.specs.declared.foreign.NoNode.{NoNode}
+use Rattle.pt_auditor.specs.declared.foreign.NoNode.TheVariants as alien
 
-unfoldable pub verdict_text : Verdict → List ℕ
-verdict_text v =
+unfoldable pub no_node_text : NoNode → List ℕ
+no_node_text alien.Desk = codes "a node has desks 0 to 63"
+no_node_text alien.Stamp = codes "a node's stamps are from 1 to 4611686018427387904"
+no_node_text alien.OtherDesk = codes "the process is of another desk"
+no_node_text alien.OtherId = codes "what is new is not named by the desk and the stamp"
+no_node_text alien.Version = codes "the version before it in the slot has not ended"
+no_node_text alien.Unborn = codes "the receiver is of the same desk, and was not born"
+
+unfoldable pub foreign_text : Foreign → List ℕ
+foreign_text f = codes "line " ++ decimal f.line ++ codes ": " ++ no_node_text f.why
+
+unfoldable pub verdict_counts_text : Verdict → List ℕ
+verdict_counts_text v =
     codes "legal: " ++ decimal v.events ++ codes " events, " ++ decimal v.desks ++ codes " desks, " ++ decimal v.letters
     ++ codes " letters on their way"
+
+-- what is legal, or legal but of no node
+unfoldable pub verdict_text_of : Verdict → Option Foreign → List ℕ
+verdict_text_of v None = verdict_counts_text v
+verdict_text_of v (Some f) = codes "legal, but of no node: " ++ foreign_text f
+
+unfoldable pub verdict_text : Verdict → List ℕ
+verdict_text v = verdict_text_of v v.foreign
 
 unfoldable pub fate_text : Option Reason → List ℕ
 fate_text None = codes "alive"

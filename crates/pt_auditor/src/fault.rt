@@ -10,7 +10,7 @@ pub const MOST_LINE: usize = 1024;
 /// Why a line is at fault.
 #[derive(Clone, Copy, Debug, PartialEq, Eq)]
 pub enum Why {
-    /// It is no event and no letter left over: the column, from 1 on, up to which it could have been one.
+    /// It is no event and no letter left over: the column, from 1 on, of the first word that does not fit.
     Unread(usize),
     /// It is an event that may not stand there.
     Event(Stamped, Objection),

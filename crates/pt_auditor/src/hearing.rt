@@ -5,10 +5,12 @@ ghost use Rattle.std.specs.Map.{keys_of};
 ghost use Rattle.std.specs.Option.{option_map};
 ghost use Rattle.pt_judge.specs.Judging.{cause, known_state, now_is};
 ghost use Rattle.pt_auditor.specs.Hearings.{Heard, IsHeard, Hears, TellsLetter, EndsHearing, IsSunk, IsWithout, Objects, follows};
+ghost use Rattle.pt_auditor.specs.Foreigners.{first_foreign, no_node, IsOrigin};
 ghost use Rattle.pt_auditor.specs.Standings.{StandingIsTrue, standing_of, waiting_of};
 
 use crate::against::contradiction;
-use crate::{Objection, Standing};
+use crate::foreign::no_node;
+use crate::{Foreign, Objection, Standing};
 use pt_events::{Event, Stamped};
 use pt_judge::State;
 use pt_signal::{Letter, Pid};
@@ -28,6 +30,8 @@ pub struct Hearing {
     /// One more than the greatest desk of an event.
     desks: u16,
     letters: u64,
+    /// The first event that no node prints.
+    foreign: Option<Foreign>,
 }
 
 /// What a history comes to that may be as it is. Counts stop at the greatest number of 64 bits.
@@ -38,6 +42,8 @@ pub struct Verdict {
     pub desks: u16,
     /// The letters on their way at the end.
     pub letters: u64,
+    /// The first event that no node prints, if there is one.
+    pub foreign: Option<Foreign>,
 }
 
 /// One more, or the greatest number.
@@ -98,6 +104,21 @@ fn objection(hearing: &Hearing, stamped: Stamped) -> Option<Objection>
     }
 }
 
+/// The first event that no node prints, where this one is heard next.
+fn foreign_with(hearing: &Hearing, stamped: Stamped) -> Option<Foreign>
+    ensures { result ≡ first_foreign hearing.now.foreign (no_node hearing.now.state stamped)
+        (min (hearing.now.events + 1) (2 ^ 64 - 1)) }
+{
+    match (hearing.foreign, no_node(&hearing.state, stamped)) {
+        (Some(foreign), _) => Some(foreign),
+        (None, Some(why)) => Some(Foreign {
+            line: one_more(hearing.events),
+            why,
+        }),
+        (None, None) => None,
+    }
+}
+
 impl Hearing {
     /// Nothing was heard.
     pub fn new(alloc: Global) -> Hearing
@@ -109,6 +130,7 @@ impl Hearing {
             events: 0,
             desks: 0,
             letters: 0,
+            foreign: None,
         }
     }
 
@@ -122,6 +144,7 @@ impl Hearing {
         if let Some(objection) = objection(&self, stamped) {
             return Err(objection);
         }
+        let foreign = foreign_with(&self, stamped);
         let Hearing {
             state,
             events,
@@ -135,6 +158,7 @@ impl Hearing {
                 events: one_more(events),
                 desks: desks_with(desks, stamped.desk),
                 letters: 0,
+                foreign,
             }),
             Err(_) => Err(Objection::Memory),
         }
@@ -171,6 +195,7 @@ impl Hearing {
             events,
             desks,
             letters,
+            foreign,
         } = self;
         Hearing {
             state: state.without_oldest(from, to),
@@ -178,6 +203,7 @@ impl Hearing {
             events,
             desks,
             letters: one_more(letters),
+            foreign,
         }
     }
 
@@ -211,6 +237,13 @@ impl Hearing {
         }
     }
 
+    /// The first event that no node prints, if one was heard.
+    pub fn foreign(&self) -> Option<Foreign>
+        ensures { (heard : Heard) → IsHeard heard self.now → IsOrigin heard.events result }
+    {
+        self.foreign
+    }
+
     /// The verdict, where nothing is on its way that was not told of; else the oldest that is
     /// ([`Objection::Untold`]).
     pub fn end(&self) -> Result<Verdict, Objection>
@@ -222,6 +255,7 @@ impl Hearing {
                 events: self.events,
                 desks: self.desks,
                 letters: self.letters,
+                foreign: self.foreign,
             }),
         }
     }

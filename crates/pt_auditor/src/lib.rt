@@ -18,7 +18,12 @@
 //!   told before. (`Hearing::tell`)
 //! - **The verdict.** At the end nothing is on its way that was not told, or the oldest such letter is returned.
 //!   (`Hearing::end`)
+//! - **Of a node.** A verdict names the first event that no node prints: on another desk than its process, with an id
+//!   that is not its desk and stamp, or of a slot's version out of turn. Without such an event it names none.
+//!   (`Hearing::foreign`, `end`)
 //! - **Faults.** A fault names the first line at fault.
+//! - **Short lines.** Each event and each letter left over prints fewer bytes than a line may have.
+//!   (`lines_are_short`)
 //! - **Processes.** `standing` tells of the n-th process born its exit and how many items wait.
 //! - **Selection.** `Selection` says which events and processes were asked for.
 //! - **Texts.** A verdict, the line of a process and each fault print exactly as their text definitions give.
@@ -27,7 +32,9 @@
 mod against;
 mod audit;
 mod fault;
+mod foreign;
 mod hearing;
+mod laws;
 mod line;
 mod objection;
 mod selection;
@@ -36,7 +43,9 @@ mod text;
 
 pub use audit::Audit;
 pub use fault::{Fault, MOST_LINE, Why};
+pub use foreign::{Foreign, NoNode};
 pub use hearing::{Hearing, Verdict};
+pub use laws::lines_are_short;
 pub use objection::{Contradiction, Objection};
 pub use selection::Selection;
 pub use standing::Standing;

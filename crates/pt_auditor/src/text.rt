@@ -1,8 +1,8 @@
 //! What is printed of verdicts, processes and faults.
 
-#![tactic(auto, unfolding(crate::specs::Text::verdict_text, crate::specs::Text::fate_text, crate::specs::Text::standing_text, crate::specs::Text::any_signal_text, crate::specs::Text::any_item_text, crate::specs::Text::absence_text, crate::specs::Text::contradiction_text, crate::specs::Text::objection_text, crate::specs::Text::line_fault_text, crate::specs::Text::fault_text,))]
+#![tactic(auto, unfolding(crate::specs::Text::verdict_text, crate::specs::Text::verdict_text_of, crate::specs::Text::verdict_counts_text, crate::specs::Text::no_node_text, crate::specs::Text::foreign_text, crate::specs::Text::fate_text, crate::specs::Text::standing_text, crate::specs::Text::any_signal_text, crate::specs::Text::any_item_text, crate::specs::Text::absence_text, crate::specs::Text::contradiction_text, crate::specs::Text::objection_text, crate::specs::Text::line_fault_text, crate::specs::Text::fault_text,))]
 
-use crate::{Contradiction, Fault, Objection, Standing, Verdict, Why};
+use crate::{Contradiction, Fault, Foreign, NoNode, Objection, Standing, Verdict, Why};
 use pt_signal::{Item, Reason, Signal};
 use std::fmt;
 
@@ -95,6 +95,36 @@ impl fmt::Display for Absence {
     }
 }
 
+impl fmt::Display for NoNode {
+    ghost use Rattle.std.specs.Prelude.{Some};
+    ghost use Rattle.pt_auditor.specs.Text.{no_node_text};
+
+    ghost output = { λ w. Some (no_node_text w) };
+
+    fn fmt<W: fmt::Write>(&self, f: &mut fmt::Formatter<W>) -> fmt::Result {
+        f.write_str(match *self {
+            NoNode::Desk => "a node has desks 0 to 63",
+            NoNode::Stamp => "a node's stamps are from 1 to 4611686018427387904",
+            NoNode::OtherDesk => "the process is of another desk",
+            NoNode::OtherId => "what is new is not named by the desk and the stamp",
+            NoNode::Version => "the version before it in the slot has not ended",
+            NoNode::Unborn => "the receiver is of the same desk, and was not born",
+        })
+    }
+}
+
+impl fmt::Display for Foreign {
+    ghost use Rattle.std.specs.Prelude.{Some};
+    ghost use Rattle.pt_auditor.specs.Text.{foreign_text};
+
+    ghost output = { λ f. Some (foreign_text f) };
+
+    fn fmt<W: fmt::Write>(&self, f: &mut fmt::Formatter<W>) -> fmt::Result {
+        let Foreign { line, why } = *self;
+        write!(f, "line {line}: {why}")
+    }
+}
+
 impl fmt::Display for Verdict {
     ghost use Rattle.std.specs.Prelude.{Some};
     ghost use Rattle.pt_auditor.specs.Text.{verdict_text};
@@ -106,11 +136,15 @@ impl fmt::Display for Verdict {
             events,
             desks,
             letters,
+            foreign,
         } = *self;
-        write!(
-            f,
-            "legal: {events} events, {desks} desks, {letters} letters on their way"
-        )
+        match foreign {
+            Some(foreign) => write!(f, "legal, but of no node: {foreign}"),
+            None => write!(
+                f,
+                "legal: {events} events, {desks} desks, {letters} letters on their way"
+            ),
+        }
     }
 }
 

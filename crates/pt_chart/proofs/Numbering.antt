@@ -33,7 +33,7 @@ module _ {X Y : Type 0} (f : ℕ → X → List Y) where
       → after ≡ start ++ each_numbered f (take (i + 1) xs)
   one_more start before after xs i x h is b a = one_more_at start before after xs i x h b (a ∙ ap (λ y. before ++ f i y) (sym is))
 
-abbrev nothing : Stamped
+abbrev pub nothing : Stamped
 nothing = record { stamp = 0; desk = 0; event = Born (record { shard = 0; slot = 0; version = 0 }) None None }
 
 pub one_more_event : (f : ℕ → Stamped → List Part) (start before after : List Part) (events : List Stamped) (i : ℕ) → i < length events → before ≡ start ++ each_numbered f (take i events)

@@ -1,7 +1,7 @@
 -- Of what a chart is drawn, in order: the parts that stand behind come first.
-use Rattle.std.specs.Prelude.{◌≡◌, ◌==◌, ◌%◌, ◌+◌, ◌-◌, ◌||◌, ℕ, max, fold, cond, not, Bool, List, [], ◌∷◌, ◌++◌}
-use Rattle.std.specs.Prelude.{length, map, slice_index, position, unwrap_or, is_some, codes, Option, Some, None}
-use Rattle.std.specs.List.{flat_map, enumerate_from}
+use Rattle.std.specs.Prelude.{◌≡◌, ◌==◌, ◌/◌, ◌%◌, ◌+◌, ◌-◌, ◌||◌, ℕ, max, fold, cond, not, Bool, List, [], ◌∷◌, ◌++◌}
+use Rattle.std.specs.Prelude.{length, map, take, drop, slice_index, position, unwrap_or, is_some, codes, Option, Some, None}
+use Rattle.std.specs.List.{flat_map, enumerate_from, list_any}
 use Rattle.std.specs.Map.{lookup}
 use Rattle.std.specs.Option.{option_map}
 use Rattle.pt_signal.specs.declared.pid.Pid.{Pid}
@@ -18,7 +18,7 @@ use Rattle.pt_chart.specs.declared.page.Page.{Page}
 use Rattle.pt_chart.specs.declared.part.Part.{Part}
 use Rattle.pt_chart.specs.declared.part.Part.TheVariants as part
 use Rattle.pt_chart.specs.declared.part.Mark.TheVariants.{Bearing, Birth, Taking, Trapping, Refusal}
-use Rattle.pt_chart.specs.Chart.{IsLayout, IsLegalHistory, ShowsHistory}
+use Rattle.pt_chart.specs.Chart.{IsLayout, IsLegalHistory, ShowsHistory, named_columns}
 use Rattle.pt_chart.specs.Rows.{count_of, in_rows}
 use Rattle.pt_chart.specs.Text.{page_head, part_text}
 
@@ -93,9 +93,27 @@ end rows k c = end_mark rows k c.ended
 abbrev pub name : ℕ → ℕ → Column → List Part
 name row k c = part.Name row k c.pid ∷ []
 
--- the names of all processes, above the first row and again after each 40
-abbrev pub name_parts : List Column → ℕ → List Part
-name_parts cs row = cond (row % 40 == 0) (each_numbered (name row) cs) []
+-- the events of the block that begins with this one: it and those behind it in the same 40 rows
+abbrev pub block : List ℕ → List Stamped → ℕ → List Stamped
+block rows events i =
+    take (unwrap_or (position (λ r. not (r / 40 == slice_index rows i / 40)) (drop i rows)) (length (drop i events)))
+    (drop i events)
+
+-- an event of the block names the process
+abbrev pub is_in_block : List Stamped → Pid → Bool
+is_in_block events p = list_any (λ s. list_any (same_pid p) (named_columns s.event)) events
+
+abbrev pub name_in : List Stamped → ℕ → ℕ → Column → List Part
+name_in events row k c = cond (is_in_block events c.pid) (name row k c) []
+
+-- the names of all processes above the first row, and again after each 40 of those that an event of the block names
+abbrev pub name_parts : List Stamped → List Column → ℕ → List Part
+name_parts events cs row =
+    cond (row == 0) (each_numbered (name row) cs) (each_numbered (name_in events row) cs)
+
+abbrev pub names_due : List ℕ → List Stamped → List Column → ℕ → List Part
+names_due rows events cs i =
+    cond (slice_index rows i % 40 == 0) (name_parts (block rows events i) cs (slice_index rows i)) []
 
 -- the event stands in another row than the one before it, or is the first
 abbrev pub begins_row : List ℕ → ℕ → Bool
@@ -107,18 +125,18 @@ ends_row rows i = (length rows == i + 1) || not (slice_index rows i == slice_ind
 
 -- the line of an event, in its row
 abbrev pub line_part : List ℕ → ℕ → Stamped → Part
-line_part rows i s = part.Line (slice_index rows i) i s (begins_row rows i) (ends_row rows i)
+line_part rows i s = part.Line (slice_index rows i) s (begins_row rows i) (ends_row rows i)
 
 -- the line of an event; before the first one of a row the names, where they are due
-abbrev pub line_parts : List ℕ → List Column → ℕ → Stamped → List Part
-line_parts rows cs i s = cond (begins_row rows i) (name_parts cs (slice_index rows i)) [] ++ line_part rows i s ∷ []
+abbrev pub line_parts : List ℕ → List Stamped → List Column → ℕ → Stamped → List Part
+line_parts rows events cs i s = cond (begins_row rows i) (names_due rows events cs i) [] ++ line_part rows i s ∷ []
 
 -- what is drawn where the events stand in these rows
 abbrev pub drawn_in : List ℕ → List Stamped → List Column → List Part
 drawn_in rows events cs =
     each_numbered (ground cs) cs ++ each_numbered (column rows) cs ++ each_numbered (letters rows) cs ++ each_numbered (sayings rows) cs
     ++ each_numbered (bears rows cs) events ++ each_numbered (mark rows cs) events ++ each_numbered (end rows) cs
-    ++ each_numbered (line_parts rows cs) events
+    ++ each_numbered (line_parts rows events cs) events
 
 -- each ground, each process, each letter, what it says, the stroke of each birth, each event's mark, each end and each
 -- event's line: each once, and nothing else but names

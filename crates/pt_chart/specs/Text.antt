@@ -68,13 +68,13 @@ strip_text y width =
     codes "</title><rect y=\"" ++ decimal y ++ codes "\" width=\"" ++ decimal width
     ++ codes "\" height=\"24\"/></g>\n"
 
--- the number of the first event of a row, to the left of a point
+-- the stamp of the first event of a row, to the left of a point
 unfoldable pub row_number_text : Point → ℕ → List ℕ
 row_number_text at n =
     codes "<text class=\"number\" " ++ at_text at ++ codes " dy=\"4\" text-anchor=\"end\">" ++ decimal n
     ++ codes "</text>\n"
 
--- the number of the last one, to the right of it
+-- the stamp of the last one, to the right of it
 unfoldable pub last_number_text : Point → ℕ → List ℕ
 last_number_text at n =
     codes "<text class=\"number\" " ++ at_text at ++ codes " dy=\"4\">-" ++ decimal n ++ codes "</text>\n"
@@ -131,23 +131,23 @@ number_spot row = point 36 (y_of row)
 
 -- the begin of a row, whose title has the lines of its events; before a further one of these a line feed
 abbrev pub opening_text : ℕ → ℕ → Bool → List ℕ
-opening_text row i true = row_number_text (number_spot row) (capped (i + 1)) ++ codes "<g class=\"row\"><title>"
-opening_text row i false = codes "\n"
+opening_text row n true = row_number_text (number_spot row) n ++ codes "<g class=\"row\"><title>"
+opening_text row n false = codes "\n"
 
--- the number of the last event of a row, which its first one has already
+-- the stamp of the last event of a row, which its first one has already
 abbrev pub last_text : ℕ → ℕ → Bool → List ℕ
-last_text row i true = []
-last_text row i false = last_number_text (number_spot row) (capped (i + 1))
+last_text row n true = []
+last_text row n false = last_number_text (number_spot row) n
 
 -- the end of a row, behind the last line
 abbrev pub closing_text : Page → ℕ → ℕ → Bool → Bool → List ℕ
-closing_text p row i first true = strip_text (above (y_of row) 12) (width_of p) ++ last_text row i first
-closing_text p row i first false = []
+closing_text p row n first true = strip_text (above (y_of row) 12) (width_of p) ++ last_text row n first
+closing_text p row n first false = []
 
 -- the line of an event in the title of its row, of which it may be the first and the last
-abbrev pub line_text : Page → ℕ → ℕ → Stamped → Bool → Bool → List ℕ
-line_text p row i s first last =
-    opening_text row i first ++ escape (stamped_text s) ++ closing_text p row i first last
+abbrev pub line_text : Page → ℕ → Stamped → Bool → Bool → List ℕ
+line_text p row s first last =
+    opening_text row s.stamp first ++ escape (stamped_text s) ++ closing_text p row s.stamp first last
 
 -- a name of more characters than a column is wide is pressed into it
 abbrev pub fit_text : ℕ → List ℕ
@@ -297,4 +297,4 @@ part_text p names (Saying k a) = saying_text p k a
 part_text p names (Mark row m) = mark_text row m
 part_text p names (End row k r) = end_text row k r
 part_text p names (Name row k pid) = head_above_text row k (slice_index_or names k []) pid
-part_text p names (Line row i s first last) = line_text p row i s first last
+part_text p names (Line row s first last) = line_text p row s first last

@@ -1,13 +1,16 @@
 //! The chart, from its background to its foreground.
 
-ghost use Rattle.std.specs.Prelude.{◌≡◌, ◌==◌, ◌<◌, [], ◌∷◌, ◌++◌, IfOk, OnOk, length, map, position, slice_index};
-ghost use Rattle.std.specs.Prelude.{string_bytes};
+ghost use Rattle.std.specs.Prelude.{◌≡◌, ◌==◌, ◌/◌, ◌<◌, [], ◌∷◌, ◌++◌, IfOk, IfSome, OnOk, length, map, not, position, slice_index};
+ghost use Rattle.std.specs.Prelude.{string_bytes, cond, slice_index_or};
 ghost use Rattle.std.specs.Option.{option_map};
 ghost use Rattle.pt_signal.specs.Values.{same_pid};
-ghost use Rattle.pt_chart.specs.declared.part.Part.TheVariants.{Mark as MarkPart};
-ghost use Rattle.pt_chart.specs.Drawing.{IsChart, bears, begins_row, column, drawing_text, drawn, end, ends_row};
+ghost use Rattle.pt_chart.specs.declared.part.Part.TheVariants.{Mark as MarkPart, Name};
+ghost use Rattle.pt_chart.specs.Chart.{named_columns};
+ghost use Rattle.std.specs.List.{list_any};
+ghost use Rattle.pt_chart.specs.Drawing.{IsChart, bears, begins_row, block, column, drawing_text, drawn, end, ends_row};
+ghost use Rattle.pt_chart.specs.Drawing.{is_in_block, name_in, names_due};
 ghost use Rattle.pt_chart.specs.Drawing.{event_bearing, event_mark, called_given, ground, label_beside, letters, line_parts};
-ghost use Rattle.pt_chart.specs.Drawing.{longest_beside, mark, name, name_parts, column_names, each_numbered, page_of, place_in};
+ghost use Rattle.pt_chart.specs.Drawing.{longest_beside, mark, name, column_names, each_numbered, page_of, place_in};
 ghost use Rattle.pt_chart.specs.Drawing.{sayings, starts_desk};
 ghost use Rattle.pt_chart.specs.Rows.{count_of, in_rows};
 
@@ -24,8 +27,9 @@ use std::alloc::{AllocError, Global};
 ///
 /// The text has the ground and the life of each process, each letter's arrow and what it says, the stroke of each birth
 /// from the parent, each event's mark, each end, and each event's line in the title of its row, each once and in this
-/// order; the pids of the processes stand above the first row and again after each 40, and above the pid of a process
-/// the first name that is given to it, with XML's own characters escaped.
+/// order. The pids of the processes are above the first row. After each 40 rows the pids are repeated of those that an
+/// event in the next 40 rows names. Above a pid is the first name that is given to it, with XML's own characters escaped.
+/// A row has the stamp of its first event, and of its last one.
 pub fn chart(alloc: Global, events: &[Stamped], called: &[Called<'_>]) -> Result<String, AllocError>
     ensures { IfOk result (λ text. IsChart events.now (map called_given called.now) (string_bytes text)) }
 {
@@ -436,10 +440,11 @@ fn list_lines(
     parts: &mut Vec<Part>,
 ) -> Result<(), AllocError>
     requires { length rows.now ≡ length events.now }
-    ensures { OnOk result (parts.new.items ≡ parts.old.items ++ each_numbered (line_parts rows.now columns.now) events.now) }
+    ensures { OnOk result
+        (parts.new.items ≡ parts.old.items ++ each_numbered (line_parts rows.now events.now columns.now) events.now) }
 {
     for at in 0..events.len() {
-        list_line(rows, at, events[at], columns, parts)?;
+        list_line(rows, events, at, columns, parts)?;
     }
     Ok(())
 }
@@ -447,22 +452,24 @@ fn list_lines(
 /// The line of an event; before the first one of a row the names of the processes, where they are due.
 fn list_line(
     rows: &[usize],
+    events: &[Stamped],
     at: usize,
-    event: Stamped,
     columns: &[Column],
     parts: &mut Vec<Part>,
 ) -> Result<(), AllocError>
-    requires { at < length rows.now }
-    ensures { OnOk result (parts.new.items ≡ parts.old.items ++ line_parts rows.now columns.now at event) }
+    requires rows { length rows.now ≡ length events.now }
+    requires within { at < length rows.now }
+    ensures { (event : Stamped) → OnOk result
+        (parts.new.items
+        ≡ parts.old.items ++ line_parts rows.now events.now columns.now at (slice_index_or events.now at event)) }
 {
     let first = begins_row(rows, at);
     if first {
-        list_names(rows[at], columns, parts)?;
+        list_names(rows, events, at, columns, parts)?;
     }
     parts.push(Part::Line {
         row: rows[at],
-        at,
-        event,
+        event: events[at],
         first,
         last: ends_row(rows, at),
     })?;
@@ -484,14 +491,101 @@ fn ends_row(rows: &[usize], at: usize) -> bool
     rows.len() == at + 1 || rows[at] != rows[at + 1]
 }
 
-fn list_names(row: usize, columns: &[Column], parts: &mut Vec<Part>) -> Result<(), AllocError>
-    ensures { OnOk result (parts.new.items ≡ parts.old.items ++ name_parts columns.now row) }
+/// The names of the processes above the row of an event, where they are due: of all above the first row, and again after
+/// each 40 of those that an event in the next 40 names.
+fn list_names(
+    rows: &[usize],
+    events: &[Stamped],
+    at: usize,
+    columns: &[Column],
+    parts: &mut Vec<Part>,
+) -> Result<(), AllocError>
+    requires rows { length rows.now ≡ length events.now }
+    requires within { at < length rows.now }
+    ensures { OnOk result
+        (parts.new.items ≡ parts.old.items ++ names_due rows.now events.now columns.now at) }
 {
-    if row % BLOCK == 0 {
-        list_all_names(row, columns, parts)
-    } else {
-        Ok(())
+    let row = rows[at];
+    if row % BLOCK != 0 {
+        return Ok(());
     }
+    if row == 0 {
+        return list_all_names(row, columns, parts);
+    }
+    list_names_in(block_of(rows, events, at), row, columns, parts)
+}
+
+/// The event and those behind it in the same 40 rows.
+fn block_of<'a>(rows: &[usize], events: &'a [Stamped], at: usize) -> &'a [Stamped]
+    requires rows { length rows.now ≡ length events.now }
+    requires within { at < length rows.now }
+    ensures { result.now ≡ block rows.now events.now at }
+{
+    let later = &events[at..];
+    match first_behind(&rows[at..], rows[at] / BLOCK) {
+        Some(count) => &later[..count],
+        None => later,
+    }
+}
+
+/// The place of the first row that is not of the block with this number.
+fn first_behind(rows: &[usize], number: usize) -> Option<usize>
+    ensures place { result ≡ position (λ row. not (row / 40 == number)) rows.now }
+    ensures within { IfSome result (λ place. place < length rows.now) }
+{
+    rows.iter().position(|row| *row / BLOCK != number)
+}
+
+/// Whether an event names the process.
+fn is_named(pid: Pid, event: Event) -> bool
+    ensures { result ≡ list_any (same_pid pid) (named_columns event) }
+{
+    match event {
+        Event::Born(child, Some(parent), _) => pid == parent || pid == child,
+        Event::Said(from, to, _) | Event::Came(from, to, _) => pid == from || pid == to,
+        Event::Born(other, None, _)
+        | Event::Took(other, _, _)
+        | Event::Flag(other, _)
+        | Event::Left(other, _)
+        | Event::Refused(other, _) => pid == other,
+    }
+}
+
+fn is_in_block(block: &[Stamped], pid: Pid) -> bool
+    ensures { result ≡ is_in_block block.now pid }
+{
+    block.iter().any(|stamped| is_named(pid, stamped.event))
+}
+
+/// The names of the processes that an event of the block names.
+fn list_names_in(
+    block: &[Stamped],
+    row: usize,
+    columns: &[Column],
+    parts: &mut Vec<Part>,
+) -> Result<(), AllocError>
+    ensures { OnOk result (parts.new.items ≡ parts.old.items ++ each_numbered (name_in block.now row) columns.now) }
+{
+    for place in 0..columns.len() {
+        list_name_in(block, row, place, columns[place].pid, parts)?;
+    }
+    Ok(())
+}
+
+fn list_name_in(
+    block: &[Stamped],
+    row: usize,
+    column: usize,
+    pid: Pid,
+    parts: &mut Vec<Part>,
+) -> Result<(), AllocError>
+    ensures { OnOk result (parts.new.items
+        ≡ parts.old.items ++ cond (is_in_block block.now pid) (Name row column pid ∷ []) []) }
+{
+    if is_in_block(block, pid) {
+        parts.push(Part::Name { row, column, pid })?;
+    }
+    Ok(())
 }
 
 fn list_all_names(row: usize, columns: &[Column], parts: &mut Vec<Part>) -> Result<(), AllocError>

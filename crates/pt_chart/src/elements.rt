@@ -38,7 +38,7 @@ pub(crate) fn write_strip(y: u64, width: u64, text: &mut String) -> Result<(), A
     )
 }
 
-/// The number of the first event of a row.
+/// The stamp of the first event of a row.
 pub(crate) fn write_number(at: Point, number: u64, text: &mut String) -> Result<(), AllocError>
     ensures { OnOk result (string_bytes text.new ≡ string_bytes text.old ++ row_number_text at number) }
 {
@@ -49,7 +49,7 @@ pub(crate) fn write_number(at: Point, number: u64, text: &mut String) -> Result<
     )
 }
 
-/// The number of the last event of a row that has several.
+/// The stamp of the last event of a row that has several.
 pub(crate) fn write_last_number(at: Point, number: u64, text: &mut String) -> Result<(), AllocError>
     ensures { OnOk result (string_bytes text.new ≡ string_bytes text.old ++ last_number_text at number) }
 {

@@ -11,8 +11,9 @@
 //! Each process that is named is a column, by desk and then in order of first appearance, and the events stand in rows,
 //! in the order of the history: the births in front of every other event in one, a receipt beside its sending where it
 //! is the very next event, and each other event in a row of its own. The lines of its events are the title of a row,
-//! which a browser shows under the pointer. The pids of the processes stand above the first row and again after each
-//! 40, each below the name of its process, if one is given. An arrow goes from the row in which a letter was sent to
+//! which a browser shows under the pointer. A row has the stamp of its first event, and of its last. The pids of all
+//! processes are above the first row. After each 40 rows the pids are repeated of those that an event in the next 40
+//! rows names. Each pid is below the name of its process, if one is given. An arrow goes from the row in which a letter was sent to
 //! the row in which it came, and has a label with what the letter says: beside its sender, or beside its receiver where
 //! it is owed at an end or an answer, as several of these go out in one row. A letter that did not come has an open
 //! arrow. Messages, exits, links, monitors and questions each have a stroke of their own. A box is a birth, above it by

@@ -54,10 +54,9 @@ pub(crate) enum Part {
         column: usize,
         pid: Pid,
     },
-    /// The line of an event, which its row tells, and its number; it may be the first and the last one of its row.
+    /// The line of an event, which its row tells, and its stamp; it may be the first and the last one of its row.
     Line {
         row: usize,
-        at: usize,
         event: Stamped,
         first: bool,
         last: bool,

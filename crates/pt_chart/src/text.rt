@@ -86,14 +86,13 @@ fn write_part(
         }
         Part::Line {
             row,
-            at,
             event,
             first,
             last,
         } => {
-            write_opening(row, at, first, text)?;
+            write_opening(row, event.stamp, first, text)?;
             write_said(alloc, event, text)?;
-            write_closing(page, row, at, first, last, text)
+            write_closing(page, row, event.stamp, first, last, text)
         }
     }
 }
@@ -117,13 +116,13 @@ fn write_mark(alloc: Global, row: usize, mark: Mark, text: &mut String) -> Resul
 }
 
 /// The begin of a row, whose title has the lines of its events; before a further one of these a line feed.
-fn write_opening(row: usize, at: usize, first: bool, text: &mut String) -> Result<(), AllocError>
-    ensures { OnOk result (string_bytes text.new ≡ string_bytes text.old ++ opening_text row at first) }
+fn write_opening(row: usize, stamp: u64, first: bool, text: &mut String) -> Result<(), AllocError>
+    ensures { OnOk result (string_bytes text.new ≡ string_bytes text.old ++ opening_text row stamp first) }
 {
     if !first {
         return text.push_str("\n");
     }
-    write_number(number_spot(row), (at as u64).saturating_add(1), text)?;
+    write_number(number_spot(row), stamp, text)?;
     text.push_str("<g class=\"row\"><title>")
 }
 
@@ -139,29 +138,29 @@ fn write_said(alloc: Global, event: Stamped, text: &mut String) -> Result<(), Al
 fn write_closing(
     page: &Page,
     row: usize,
-    at: usize,
+    stamp: u64,
     first: bool,
     last: bool,
     text: &mut String,
 ) -> Result<(), AllocError>
     ensures { OnOk result
-        (string_bytes text.new ≡ string_bytes text.old ++ closing_text page.now row at first last) }
+        (string_bytes text.new ≡ string_bytes text.old ++ closing_text page.now row stamp first last) }
 {
     if !last {
         return Ok(());
     }
     write_strip(above(y(row), 12), page.width(), text)?;
-    write_last(row, at, first, text)
+    write_last(row, stamp, first, text)
 }
 
-/// The number of the last event of a row, where this is not its first one too.
-fn write_last(row: usize, at: usize, first: bool, text: &mut String) -> Result<(), AllocError>
-    ensures { OnOk result (string_bytes text.new ≡ string_bytes text.old ++ last_text row at first) }
+/// The stamp of the last event of a row, where this is not its first one too.
+fn write_last(row: usize, stamp: u64, first: bool, text: &mut String) -> Result<(), AllocError>
+    ensures { OnOk result (string_bytes text.new ≡ string_bytes text.old ++ last_text row stamp first) }
 {
     if first {
         return Ok(());
     }
-    write_last_number(number_spot(row), (at as u64).saturating_add(1), text)
+    write_last_number(number_spot(row), stamp, text)
 }
 
 /// Where the numbers of a row meet.

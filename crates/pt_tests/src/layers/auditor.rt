@@ -44,6 +44,7 @@ const WHOLE: Verdict = Verdict {
     events: 2,
     desks: 1,
     letters: 1,
+    foreign: None,
 };
 
 #[test]
