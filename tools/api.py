@@ -18,7 +18,7 @@ from pathlib import Path
 ROOT = Path(__file__).resolve().parent.parent
 PAGE = ROOT / "docs" / "API.md"
 # the crates whose calls a program makes; one that is not there is passed over
-CRATES = ("pt_node", "pt_crew", "pt_supervisor", "pt_resting", "pt_timers")
+CRATES = ("pt_node", "pt_crew", "pt_supervisor", "pt_resting", "pt_timers", "pt_names")
 
 HEAD = """# What a program calls
 
@@ -26,8 +26,8 @@ With this page you can look up each public type and call of a program, and when 
 It covers {crates}.
 
 Made from the sources by `tools/api.py`; the gate compares it. `use pt_node::{{..}}` has each name of the first section.
-Each crate above it has a section of its own. [RUNTIME](RUNTIME.md) explains crews, supervisors, calls and desks that
-rest. The documentation and the contract of each call are in the named file.
+Each other crate has a section of its own. [RUNTIME](RUNTIME.md) explains crews, supervisors, calls and desks that rest,
+[TIMERS](TIMERS.md) timers and names. The documentation and the contract of each call are in the named file.
 """
 
 ITEM = re.compile(r"pub (struct|enum|trait|fn|const) (\w+)")

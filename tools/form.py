@@ -19,7 +19,7 @@ from collections.abc import Iterator
 from pathlib import Path
 
 ROOT = Path(__file__).resolve().parent.parent
-BOUNDS = {"words": 0, "functions": 14, "prose": 66, "sentences": 37}
+BOUNDS = {"words": 0, "functions": 14, "prose": 0, "sentences": 0}
 MOST_LINES = 30
 MOST_LETTERS = 300
 MOST_WORDS = 30
@@ -65,10 +65,12 @@ def pages() -> Iterator[tuple[str, list[str]]]:
     for path in [ROOT / "README.md", *sorted(ROOT.glob("docs/*.md"))]:
         if path.name in WRITTEN:
             continue
-        lines, code = [], False
+        lines, code, indented = [], False, True
         for line in path.read_text().split("\n"):
             code = not code if line.startswith("```") else code
-            lines.append("" if code or line.startswith(("```", "    ", "|")) else line)
+            # after a line of prose, one that is indented as much continues a bullet
+            indented = line == "" or indented and line.startswith("    ")
+            lines.append("" if code or indented or line.startswith(("```", "|")) else line)
         yield path.name, lines
 
 
@@ -81,7 +83,7 @@ def sentences() -> list[str]:
     """The sentences of more than 30 words; a bullet, a heading and an empty line end one, and so does a colon."""
     found = []
     for name, lines in pages():
-        text = "\n".join(re.sub(r"^(\s*)([-*]|\d+\.) ", "\n\n", line) for line in lines)
+        text = "\n".join("" if line.startswith("#") else re.sub(r"^(\s*)([-*]|\d+\.) ", "\n\n", line) for line in lines)
         for paragraph in re.split(r"\n\s*\n", text):
             plain = re.sub(r"`[^`]*`", "x", re.sub(r"\s+", " ", paragraph)).strip()
             for sentence in re.split(r"(?<=[.!?:;])[)*]* ", plain):
