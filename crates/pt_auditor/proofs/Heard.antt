@@ -22,7 +22,7 @@ use Rattle.pt_auditor.specs.declared.objection.Objection.TheVariants.{MayNot, Ot
 use Rattle.pt_auditor.specs.declared.hearing.Hearing.{Hearing}
 use Rattle.pt_auditor.specs.declared.hearing.Verdict.{Verdict}
 use Rattle.pt_auditor.specs.Objecting.{contradiction}
-use Rattle.pt_auditor.specs.Hearings.{Heard, IsHeard, IsObjection, IsMisfit, IsOldest, IsOfItsDesks, IsSunk, IsWithout, AllTold, newest, is_above, still, left_flying, with_letter, IsVerdict, MayHear, AreTold, with_event, capped_count}
+use Rattle.pt_auditor.specs.Hearings.{Heard, IsHeard, IsObjection, IsMisfit, IsOldest, IsOfItsDesks, IsSunk, IsWithout, AllTold, newest, is_above, still, left_flying, with_letter, IsVerdict, MayHear, LettersAreTold, with_event, capped_count}
 use Rattle.pt_auditor.specs.declared.foreign.Foreign.{Foreign}
 use Rattle.pt_auditor.specs.Foreigners.{IsOrigin, first_foreign, no_node}
 use Rattle.pt_auditor.proofs.Origins.{judged, origin_more}
@@ -59,7 +59,7 @@ module _ (t : Heard) (h : Hearing) (k : IsHeard t h) where
   pub one_event : (s : Stamped) (new : Hearing) → MayHear t s → IsAfter [] (s.event ∷ events t.events) new.state → new.last ≡ Some s → new.events ≡ min (h.events + 1) (2 ^ 64 - 1) → new.desks ≡ max h.desks (s.desk + 1) → new.letters ≡ 0
       → new.foreign ≡ first_foreign h.foreign (no_node h.state s) (min (h.events + 1) (2 ^ 64 - 1)) → IsHeard (with_event s t) new
   one_event s new m a l e d z f = record {
-    stands = record { legal = (m.2, k.stands.legal); rising = (m.1, k.stands.rising); told = subst (AreTold (left_flying (s ∷ t.events))) (sym m.0) tt };
+    stands = record { legal = (m.2, k.stands.legal); rising = (m.1, k.stands.rising); told = subst (LettersAreTold (left_flying (s ∷ t.events))) (sym m.0) tt };
     knows = record { links_made = a.links_made; refs_made = a.refs_made; alike = a.alike; flies = refl };
     flies = a.flies ∙ ap (still (left_flying (s ∷ t.events))) (sym m.0);
     last = l;

@@ -65,7 +65,7 @@ fn write_drawing(
     text: &mut String,
 ) -> Result<(), AllocError>
     ensures { OnOk result (string_bytes text.new
-        ≡ string_bytes text.old ++ drawing_text page.now (map (λ n. n.now) name_parts.now) parts.now) }
+        ≡ string_bytes text.old ++ drawing_text page.now (map (λ n. n.now) names.now) parts.now) }
 {
     write_head(page, text)?;
     write_parts(alloc, page, names, parts, text)?;
