@@ -1,7 +1,7 @@
 #!/usr/bin/env bash
 # bench/run.sh [ROUNDS [PART..]]: builds the programs to measure, runs them in turn, so many rounds (5), and prints the tables
-# of bench/RESULTS.md. A PART is desk, growth, slots, lanes, threads, large, resting, judge, epochs, audit or bindings; with
-# none, all.
+# of bench/RESULTS.md. A PART is desk, growth, slots, lanes, threads, large, resting, judge, epochs, audit, scripts or bindings;
+# with none, all.
 #
 # It works in the folder that ROOM names (/tmp/pundewo-bench), never in the repository. Needed on the path: rt, cargo and
 # erl, and Debian's erlang-base, librust-slotmap-dev, librust-slab-dev, librust-indexmap-dev and
@@ -12,7 +12,7 @@ repository=$(dirname "$here")
 room=${ROOM:-/tmp/pundewo-bench}
 rounds=${1:-5}
 shift
-parts=${*:-desk growth slots lanes threads large resting judge epochs audit bindings}
+parts=${*:-desk growth slots lanes threads large resting judge epochs audit scripts bindings}
 ms=${MS:-20}
 raw=$room/raw
 wants() { [[ " $parts " == *" $1 "* ]]; }
@@ -59,6 +59,9 @@ build() {
         (cd "$room/crates/pt_audit" && rt run </dev/null >"$room/pt_audit.log" 2>&1) || echo "not built: pt_audit"
         for waiting in 0 100 10000; do "$here/history.py" 1000000 1000 "$waiting" >"$room/history-$waiting"; done
     fi
+    if wants scripts; then
+        (cd "$room/crates/pt_run" && rt run <stdin >"$room/pt_run.log" 2>&1) || echo "not built: pt_run"
+    fi
     (cd "$here/rust" && CARGO_TARGET_DIR="$room/rust" cargo build --release --offline --quiet) || echo "not built: rust"
     mkdir -p "$room/erlang" && erlc -o "$room/erlang" "$here"/erlang/*.erl || echo "not built: erlang"
 }
@@ -76,6 +79,15 @@ audited() {
     local seconds
     seconds=$({ TIMEFORMAT='%U %S' && time "$room/crates/pt_audit/out/pt_audit" "$room/history-$1" >/dev/null; } 2>&1)
     awk -v waiting="$1" '{ printf "plain audit waiting_%s %d\n", waiting, 1000000 / ($1 + $2) }' <<<"$seconds" >>"$raw"
+}
+
+# How many turns of a script with one process that only waits, on a desk of 65,536 slots, are taken in a second of
+# processor time, in so many epochs.
+waited() {
+    local seconds script=$room/waits.json
+    echo '{"format":1,"desks":1,"slots":65536,"processes":[{"name":"a","desk":0,"ops":[{"op":"receive"}]}]}' >"$script"
+    seconds=$({ TIMEFORMAT='%U %S' && time "$room/crates/pt_run/out/pt_run" "$script" --turns 1000000 --epochs "$1" >/dev/null; } 2>&1)
+    awk -v epochs="$1" '{ printf "plain scripts waits_%s %d\n", epochs, 1000000 * epochs / ($1 + $2 + 0.001) }' <<<"$seconds" >>"$raw"
 }
 
 # The kilobytes that a program has in memory when it is done, and had at most, and the pages that it was handed.
@@ -222,6 +234,9 @@ one_round() {
     fi
     if wants audit; then
         for waiting in 0 100 10000; do audited "$waiting"; done
+    fi
+    if wants scripts; then
+        for epochs in 1 2 3; do waited "$epochs"; done
     fi
     if wants bindings; then
         run plain "$desk" "$ms" ping_pong

@@ -145,6 +145,12 @@ table(
     [[by, it.replace("_", " "), figure((plain, by, it))] for by in ("judge", "audit") for it in works if (plain, by, it) in rates],
 )
 
+table(
+    "Scripts: turns a second while one process waits on a desk of 65,536 slots",
+    ["Epochs", "Turns"],
+    [[it.removeprefix("waits_"), figure((plain, "scripts", it))] for it in works if (plain, "scripts", it) in rates],
+)
+
 
 LIVE = [("10", "10"), ("1,000", "1000"), ("65,000", "65000")]
 table(

@@ -1,52 +1,86 @@
 #!/usr/bin/env python3
-"""Prints docs/API.md: what a program can use of `pt_node`, read off the sources.
+"""Prints docs/API.md: what a program can use of a node and of the crates over it, read off the sources.
 
     tools/api.py > docs/API.md      writes the page anew
-    tools/api.py --compare          says the first line that differs, with status 1
+    tools/api.py --compare          prints the first line that differs, with status 1
 
-A type or a call stands there with its signature, the first sentence of its documentation, and those that say when it
-is refused.
+The page has a section for each crate of `CRATES`. A type or a call is there with its signature, the first sentence of
+its documentation, and the sentences that say when it fails. A type also has the traits of these crates that it
+implements.
 """
+from __future__ import annotations
+
 import re
 import sys
+from collections.abc import Iterator
 from pathlib import Path
 
 ROOT = Path(__file__).resolve().parent.parent
-FRONT = ROOT / "crates/pt_node/src/lib.rt"
-PAGE = ROOT / "docs/API.md"
+PAGE = ROOT / "docs" / "API.md"
+# the crates whose calls a program makes; one that is not there is passed over
+CRATES = ("pt_node", "pt_crew", "pt_supervisor", "pt_resting", "pt_timers")
 
 HEAD = """# What a program calls
 
-Made from the sources by `tools/api.py`; the gate compares it. `use pt_node::{..}` has each name of this page; crews,
-supervisors and calls are in [RUNTIME](RUNTIME.md). The documentation and the contract of each call are in the named file.
+With this page you can look up each public type and call of a program, and when it fails.
+It covers {crates}.
+
+Made from the sources by `tools/api.py`; the gate compares it. `use pt_node::{{..}}` has each name of the first section.
+Each crate above it has a section of its own. [RUNTIME](RUNTIME.md) explains crews, supervisors, calls and desks that
+rest. The documentation and the contract of each call are in the named file.
 """
 
 ITEM = re.compile(r"pub (struct|enum|trait|fn|const) (\w+)")
 IMPL = re.compile(r"^impl(?:<[^>]*>)? (\w+)(?:<[^>]*>)? \{")
+IMPL_OF = re.compile(r"^impl(?:<[^>]*>)? (\w+)(?:<[^>]*>)? for (\w+)(?:<[^>]*>)? \{", re.M)
+EXPORT = re.compile(r"pub use (\w+(?:::\w+)*?)::(\{[^}]*\}|\w+);")
+FAILS = re.compile(r"(It is |They are )?[Rr]efused\b|(It )?[Ff]ails\b|`\w+` (where|if|exactly)\b|It is given back\b")
+
+Doc = list[str]
 
 
-def exports():
-    """The crate that each public name of `pt_node` comes from, in the order of its `pub use` lines."""
-    text = " ".join(line for line in FRONT.read_text().splitlines() if not line.startswith("//"))
-    for path, names in re.findall(r"pub use (\w+(?:::\w+)*?)::(\{[^}]*\}|\w+);", text):
-        crate = path.split("::")[0]
-        for name in re.findall(r"\w+", names):
-            yield (crate if crate.startswith("pt_") else "pt_node"), name
+def front(crate: str) -> Path:
+    return ROOT / "crates" / crate / "src" / "lib.rt"
 
 
-def sources(crate):
+def sources(crate: str) -> list[Path]:
     return sorted((ROOT / "crates" / crate / "src").rglob("*.rt"))
 
 
-def sentences(doc):
-    """The first sentence of a documentation, and those that say when the call is refused."""
+def exports(crate: str) -> Iterator[tuple[str, str]]:
+    """The crate that each public name of a crate comes from: those of its `pub use` lines, then those of its front."""
+    lines = front(crate).read_text().splitlines()
+    text = " ".join(line for line in lines if not line.startswith("//"))
+    for path, names in EXPORT.findall(text):
+        of = path.split("::")[0]
+        for name in re.findall(r"\w+", names):
+            yield (of if of.startswith("pt_") else crate), name
+    for line in lines:
+        found = ITEM.match(line)
+        if found:
+            yield crate, found[2]
+
+
+def parts(doc: Doc) -> list[str]:
+    """The sentences of a documentation, without its links."""
     text = re.sub(r"\[(`[^`]*`)\](?:\([^)]*\))?", r"\1", " ".join(doc))
-    parts = [part.strip() for part in re.split(r"(?<=[.])\s+(?=[A-Z`])", text) if part.strip()]
-    first = parts[:1]
-    return first + [part for part in parts[1:] if re.match(r"(It is |They are )?[Rr]efused\b", part)]
+    return [part.strip() for part in re.split(r"(?<=[.])\s+(?=[A-Z`])", text) if part.strip()]
 
 
-def signature(lines, start):
+def sentences(doc: Doc) -> list[str]:
+    """The first sentence of a documentation, and those that say when the call fails."""
+    found = parts(doc)
+    return found[:1] + [part for part in found[1:] if FAILS.match(part)]
+
+
+def heading(crate: str) -> str:
+    """The first sentence of a crate's head."""
+    lines = front(crate).read_text().splitlines()
+    head = [line.removeprefix("//!").strip() for line in lines if line.startswith("//!")]
+    return parts(head[:head.index("")] if "" in head else head)[0]
+
+
+def signature(lines: list[str], start: int) -> str:
     """The signature that begins in this line, on one line, without its contract."""
     words = []
     for line in lines[start:]:
@@ -56,26 +90,28 @@ def signature(lines, start):
         words.append(bare.rstrip("{").strip())
         if bare.endswith("{") or bare.endswith(";"):
             break
-    text = " ".join(words).rstrip(";")
+    text = " ".join(words).rstrip(";,")
     return re.sub(r"\(\s+", "(", re.sub(r",?\s+\)", ")", text)).removeprefix("pub ")
 
 
 class Item:
-    """A public item, with its documentation and what stands in it."""
+    """A public item, with its documentation and what it has: fields, variants or calls."""
 
-    def __init__(self, kind, name, doc, path, line):
-        self.kind, self.name, self.doc, self.path, self.line = kind, name, doc, path, line
-        self.calls = []
-
-    def text(self):
-        return "\n\n".join(" ".join(part) for part in ([self.line], sentences(self.doc)) if part)
+    def __init__(self, name: str, doc: Doc, path: Path, line: str) -> None:
+        self.name, self.doc, self.path, self.line = name, doc, path, line
+        self.calls: list[tuple[Doc, str]] = []
 
 
-def read(path):
-    """The public items of a file, those of its `impl` blocks under the type that they are of."""
-    items, calls = {}, []
+Calls = list[tuple[str, Doc, str]]
+
+
+def read(path: Path) -> tuple[dict[str, Item], Calls]:
+    """The public items of a file, and the calls of its `impl` blocks, each with the type that it is of."""
+    items: dict[str, Item] = {}
+    calls: Calls = []
     lines = path.read_text().splitlines()
-    doc, inside = [], None
+    doc: Doc = []
+    inside = None
     for at, line in enumerate(lines):
         bare = line.strip()
         if bare.startswith("///"):
@@ -83,13 +119,13 @@ def read(path):
             continue
         if line and not line.startswith((" ", "}", ")")):
             within = IMPL.match(line)
-            inside = within.group(1) if within else None
+            inside = within[1] if within else None
         found = ITEM.match(bare)
-        if found and found.group(1) == "fn" and inside and line.startswith("    "):
+        if found and found[1] == "fn" and inside and line.startswith("    "):
             calls.append((inside, doc, signature(lines, at)))
         elif found and not line.startswith(" "):
-            kind, name = found.groups()
-            item = Item(kind, name, doc, path, signature(lines, at) if kind in ("fn", "const") else name)
+            kind, name = found[1], found[2]
+            item = Item(name, doc, path, signature(lines, at) if kind in ("fn", "const") else name)
             item.calls = members(kind, lines, at)
             items[name] = item
         if not bare.startswith("#["):
@@ -97,9 +133,10 @@ def read(path):
     return items, calls
 
 
-def members(kind, lines, start):
+def members(kind: str, lines: list[str], start: int) -> list[tuple[Doc, str]]:
     """The public fields, variants or methods of the item that begins in this line, with their documentation."""
-    found, doc = [], []
+    found: list[tuple[Doc, str]] = []
+    doc: Doc = []
     if kind not in ("struct", "enum", "trait") or not lines[start].rstrip().endswith("{"):
         return found
     for at in range(start + 1, len(lines)):
@@ -117,56 +154,81 @@ def members(kind, lines, start):
     return found
 
 
-def find(crate, name, seen=()):
+def find(crate: str, name: str, seen: tuple[str, ...] = ()) -> Item | None:
     """The item of that name, and what its `impl` blocks have, in the crate or the one that it has it from."""
-    files = [(path, *read(path)) for path in sources(crate)]
-    for _, items, _ in files:
+    files = [read(path) for path in sources(crate)]
+    for items, _ in files:
         if name in items:
             item = items[name]
-            for _, _, calls in files:
+            for _, calls in files:
                 item.calls += [(doc, line) for of, doc, line in calls if of == name]
             return item
-    front = " ".join((ROOT / "crates" / crate / "src/lib.rt").read_text().split())
-    for path, names in re.findall(r"pub use (pt_\w+)(?:::\w+)*::(\{[^}]*\}|\w+);", front):
+    text = " ".join(front(crate).read_text().split())
+    for path, names in re.findall(r"pub use (pt_\w+)(?:::\w+)*::(\{[^}]*\}|\w+);", text):
         if name in re.findall(r"\w+", names) and path not in seen:
             return find(path, name, (*seen, crate))
-    for path, names in re.findall(r"pub use (pt_\w+)(?:::\w+)*::(\{[^}]*\}|\w+(?: as \w+)?);",
-                                  " ".join(p.read_text() for p in sources(crate)).replace("\n", " ")):
+    text = " ".join(path.read_text() for path in sources(crate)).replace("\n", " ")
+    for path, names in re.findall(r"pub use (pt_\w+)(?:::\w+)*::(\{[^}]*\}|\w+(?: as \w+)?);", text):
         was = re.search(r"(\w+) as " + name + r"\b", names)
         if was or name in re.findall(r"\w+", names):
-            found = find(path, was.group(1) if was else name, (*seen, crate))
+            found = find(path, was[1] if was else name, (*seen, crate))
             if found and was:
-                found.line = found.line.replace(was.group(1), name)
+                found.line = found.line.replace(was[1], name)
             return found
     return None
 
 
-def page():
-    out = [HEAD]
-    for crate, name in exports():
-        item = find(crate, name)
+def implemented(crates: list[str]) -> dict[tuple[str, str], list[str]]:
+    """The exported traits of these crates that each type implements, by the type's crate and name."""
+    owners = {crate: {name: of for of, name in exports(crate)} for crate in crates}
+    every = {name: of for crate in reversed(crates) for name, of in owners[crate].items()}
+    found: dict[tuple[str, str], list[str]] = {}
+    for crate in crates:
+        for path in sources(crate):
+            for trait, name in IMPL_OF.findall(path.read_text()):
+                of = owners[crate].get(name, every.get(name))
+                if of and trait in every:
+                    found.setdefault((of, name), []).append(f"`{trait}`")
+    return found
+
+
+def section(crate: str, traits: dict[tuple[str, str], list[str]]) -> Iterator[str]:
+    """The parts of a crate's section, with the traits that each type implements."""
+    yield f"## `{crate}`"
+    yield heading(crate)
+    for of, name in exports(crate):
+        item = find(of, name)
         if item is None:
-            sys.exit(f"{name} of {crate}: not found")
-        out.append(f"## `{item.line}`")
-        said = " ".join(sentences(item.doc))
-        out.append(f"{said} (`{item.path.relative_to(ROOT)}`)")
+            sys.exit(f"{name} of {of}: not found")
+        yield f"### `{item.line}`"
+        said = sentences(item.doc)
+        if (of, name) in traits:
+            said.append(f"Implements {' and '.join(sorted(traits[of, name]))}.")
+        yield f"{' '.join(said)} (`{item.path.relative_to(ROOT)}`)"
         if item.calls:
-            out.append("\n".join(f"- `{line}`" + (f": {' '.join(sentences(doc))}" if doc else "")
-                                 for doc, line in item.calls))
-        out.append("")
-    return "\n\n".join(part.rstrip("\n") for part in out if part).rstrip("\n") + "\n"
+            yield "\n".join(f"- `{line}`" + (f": {' '.join(sentences(doc))}" if doc else "") for doc, line in item.calls)
 
 
-def main():
+def page() -> str:
+    crates = [crate for crate in CRATES if front(crate).exists()]
+    names = [f"`{crate}`" for crate in crates]
+    traits = implemented(crates)
+    out = [HEAD.format(crates=f"{', '.join(names[:-1])} and {names[-1]}").rstrip("\n")]
+    for crate in crates:
+        out += section(crate, traits)
+    return "\n\n".join(out) + "\n"
+
+
+def main() -> None:
     made = page()
     if sys.argv[1:] != ["--compare"]:
         sys.stdout.write(made)
         return
-    stands = PAGE.read_text() if PAGE.exists() else ""
-    for number, (new, old) in enumerate(zip(made.splitlines(), stands.splitlines()), 1):
+    there = PAGE.read_text() if PAGE.exists() else ""
+    for number, (new, old) in enumerate(zip(made.splitlines(), there.splitlines()), 1):
         if new != old:
             sys.exit(f"docs/API.md:{number}: the sources say: {new}")
-    if made != stands:
+    if made != there:
         sys.exit("docs/API.md: the sources say more, or less: write it anew by tools/api.py > docs/API.md")
 
 

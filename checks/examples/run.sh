@@ -4,7 +4,8 @@
 #   checks/examples/run.sh
 #
 # NAME.json is a script, and NAME.json.args has the words that it is run with, one a line. NAME.json.stdout is what the
-# program must print; its status is then 0. In refused/ it must print nothing: NAME.json.stderr is what it must print on
+# program must print; its status is then 0, and it prints on standard error what NAME.json.stderr has, if there is one, and
+# else nothing. In refused/ it must print nothing: NAME.json.stderr is what it must print on
 # standard error, and NAME.json.status its status. An example without these files is wrong too. The program is
 # bin/pt_run, which is built first if it is not up to date.
 set -euo pipefail
@@ -32,6 +33,9 @@ for script in "$here"/*.json; do
     [ -f "$script.stdout" ] || { wrong "$name" "it has no .stdout"; continue; }
     run_script "$script" "$name"
     is_same "$script.stdout" "$work/out/$name" "$name" "what it prints"
+    said=/dev/null
+    [ ! -f "$script.stderr" ] || said=$script.stderr
+    is_same "$said" "$work/err/$name" "$name" "standard error"
     has_status "$name" 0
 done
 for script in "$here"/refused/*.json; do

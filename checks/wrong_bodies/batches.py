@@ -34,7 +34,6 @@ import tempfile
 from concurrent.futures import ThreadPoolExecutor
 from dataclasses import dataclass, field
 from pathlib import Path
-from threading import Lock
 
 HERE = Path(__file__).resolve().parent
 ROOT = HERE.parent.parent
@@ -56,6 +55,7 @@ class Function:
     path: str
     first: int
     last: int
+    has_loop: bool
 
 
 def parts_of(text: str) -> list[str]:
@@ -118,7 +118,8 @@ def functions_of(text: str, module: str) -> list[Function]:
             last = end_of(lines, at, start[1])
             # (the prover names a method by the module of its type, which may be another one)
             of = owner if start[1] else module
-            found.append(Function("::".join(it for it in (of, start[7]) if it), at, last))
+            has_loop = any(re.match(r" *(for|while|loop)\b", it) for it in lines[at : last + 1])
+            found.append(Function("::".join(it for it in (of, start[7]) if it), at, last, has_loop))
     return found
 
 
@@ -312,7 +313,7 @@ class Trials:
         self.texts = sources_of(crate)
         self.checks = 0
         self.seconds = 0.0
-        self.alone = Lock()
+        self.kept = ""
         for edit in edits:
             if edit.apply(self.texts) is None:
                 edit.verdict, edit.reason = "bad", "a text to be replaced is not in its file exactly once"
@@ -343,12 +344,25 @@ class Trials:
         return batch, texts
 
     def asked_for(self, changed: set[str]) -> list[str]:
-        """The functions to ask for: the changed ones and three short others, plain functions first; an empty list for all."""
+        """The functions to ask for: the changed ones and a short one of the others; an empty list for all."""
         files = [it for file, text in self.texts.items() for it in functions_of(text, module_of(file))]
         names = [it.path for it in files]
         free = [it for it in files if it.path not in changed and names.count(it.path) == 1 and it.last - it.first > 1]
-        free.sort(key=lambda it: (re.search(r"[A-Z]", it.path) is not None, it.last - it.first))
-        return [*sorted(changed), *(it.path for it in free[:3])] if changed and free else []
+        free.sort(key=lambda it: (re.search(r"[A-Z]", it.path) is not None, it.has_loop, it.last - it.first))
+        return [*sorted(changed), free[0].path] if changed and free else []
+
+    def try_all(self) -> None:
+        """Tries all edits: in batches as long as these decide something, and then one by one."""
+        with tempfile.TemporaryDirectory(prefix="wrong-bodies-kept-") as kept:
+            # (what one check proved of the functions that no edit changes serves the next ones; to keep it costs a little)
+            self.kept = kept if len(self.batches()) > 1 else ""
+            left = -1
+            while left != (left := sum(map(len, self.batches()))):
+                for batch in self.batches():
+                    self.try_batch(batch)
+            for edit in self.edits:
+                if not edit.verdict:
+                    self.try_alone(edit)
 
     def try_batch(self, batch: list[Edit]) -> None:
         """Tries a batch; what it does not decide keeps no verdict."""
@@ -419,6 +433,7 @@ class Trials:
             for file, text in texts.items():
                 Path(room, file).write_text(text)
             words = [str(self.kit.folder / "bin" / "rattle"), "check", *self.kit.words(self.crate)]
+            words += ["--incremental", self.kept] if self.kept else []
             for name in only:
                 # (a plain function by its whole name, a method by the end of its name)
                 words += ["--only", name if name[0].isupper() else f"{self.crate}::{name}"]
@@ -426,12 +441,11 @@ class Trials:
             text = ran.stdout.read() if ran.stdout else ""
             _, _, used = os.wait4(ran.pid, 0)
         seconds = used.ru_utime + used.ru_stime
-        with self.alone:
-            self.checks += 1
-            self.seconds += seconds
-            print(f"{self.crate}: check {self.checks}: {seconds:.0f} processor seconds", flush=True)
-            if self.logs:
-                (self.logs / f"{self.crate}.{self.checks}.log").write_text(text)
+        self.checks += 1
+        self.seconds += seconds
+        print(f"{self.crate}: check {self.checks}: {seconds:.0f} processor seconds", flush=True)
+        if self.logs:
+            (self.logs / f"{self.crate}.{self.checks}.log").write_text(text)
         unknown = re.search(r"^rattle: error: `.*` (has no function|fits).*", text, re.M)
         if unknown:
             raise Broken(f"{self.crate}: {unknown[0][:200]}")
@@ -501,15 +515,9 @@ def main() -> int:
 
 
 def try_all(pool: ThreadPoolExecutor, trials: list[Trials]) -> None:
-    """Tries all edits: in batches as long as these decide something, and then one by one."""
+    """Tries all edits, the crates side by side, the largest first."""
     trials.sort(key=lambda it: -sum(map(len, it.texts.values())))
-    left = -1
-    while left != (left := sum(len(batch) for it in trials for batch in it.batches())):
-        tasks = [pool.submit(it.try_batch, batch) for it in trials for batch in it.batches()]
-        for task in tasks:
-            task.result()
-    tasks = [pool.submit(it.try_alone, edit) for it in trials for edit in it.edits if not edit.verdict]
-    for task in tasks:
+    for task in [pool.submit(it.try_all) for it in trials]:
         task.result()
 
 

@@ -31,14 +31,14 @@ no_node_text alien.Unborn = codes "the receiver is of the same desk, and was not
 unfoldable pub foreign_text : Foreign → List ℕ
 foreign_text f = codes "line " ++ decimal f.line ++ codes ": " ++ no_node_text f.why
 
-unfoldable pub counts_text : Verdict → List ℕ
-counts_text v =
+unfoldable pub verdict_counts_text : Verdict → List ℕ
+verdict_counts_text v =
     codes "legal: " ++ decimal v.events ++ codes " events, " ++ decimal v.desks ++ codes " desks, " ++ decimal v.letters
     ++ codes " letters on their way"
 
 -- what is legal, or legal but of no node
 unfoldable pub verdict_text_of : Verdict → Option Foreign → List ℕ
-verdict_text_of v None = counts_text v
+verdict_text_of v None = verdict_counts_text v
 verdict_text_of v (Some f) = codes "legal, but of no node: " ++ foreign_text f
 
 unfoldable pub verdict_text : Verdict → List ℕ

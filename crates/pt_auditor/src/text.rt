@@ -1,6 +1,6 @@
 //! What is printed of verdicts, processes and faults.
 
-#![tactic(auto, unfolding(crate::specs::Text::verdict_text, crate::specs::Text::verdict_text_of, crate::specs::Text::counts_text, crate::specs::Text::no_node_text, crate::specs::Text::foreign_text, crate::specs::Text::fate_text, crate::specs::Text::standing_text, crate::specs::Text::any_signal_text, crate::specs::Text::any_item_text, crate::specs::Text::absence_text, crate::specs::Text::contradiction_text, crate::specs::Text::objection_text, crate::specs::Text::line_fault_text, crate::specs::Text::fault_text,))]
+#![tactic(auto, unfolding(crate::specs::Text::verdict_text, crate::specs::Text::verdict_text_of, crate::specs::Text::verdict_counts_text, crate::specs::Text::no_node_text, crate::specs::Text::foreign_text, crate::specs::Text::fate_text, crate::specs::Text::standing_text, crate::specs::Text::any_signal_text, crate::specs::Text::any_item_text, crate::specs::Text::absence_text, crate::specs::Text::contradiction_text, crate::specs::Text::objection_text, crate::specs::Text::line_fault_text, crate::specs::Text::fault_text,))]
 
 use crate::{Contradiction, Fault, Foreign, NoNode, Objection, Standing, Verdict, Why};
 use pt_signal::{Item, Reason, Signal};

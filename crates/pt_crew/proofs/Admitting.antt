@@ -6,7 +6,7 @@ use Rattle.pt_crew.specs.declared.crew.Crew.{Crew}
 use Rattle.pt_crew.specs.declared.births.Role.{Role}
 use Rattle.pt_crew.specs.Visiting.{AreSame, AreWith}
 use Rattle.pt_crew.specs.Crews.{roles, left, waiting, queue, IsSame, Aboard, EntersOne}
-use Rattle.pt_crew.specs.Parts.{aboard, AdmitsOf, AdmitsFirst, QueueIsLonger}
+use Rattle.pt_crew.specs.Parts.{aboard, AdmitsOf, AdmitsFirst, CanEnter, QueueIsLonger}
 use Rattle.pt_crew.proofs.Visiting.{same_roles}
 
 module _ {B : Type 0} (lives : Pid → Bool) (old mid new : Crew B) (room : IsSame old mid) where
@@ -16,9 +16,9 @@ module _ {B : Type 0} (lives : Pid → Bool) (old mid new : Crew B) (room : IsSa
   longer_from : QueueIsLonger (queue mid) (queue new) → QueueIsLonger (queue old) (queue new)
   longer_from l = (l.0, l.1 ∙ ap (λ (ps : List Pid). ps ++ l.0) room.queue)
 
-  pub denied : aboard new ≡ aboard mid → waiting new ≡ waiting mid → new.refused ≡ true → queue new ≡ queue mid → new.rounds ≡ mid.rounds → AdmitsFirst lives old new
-  denied same waits on stands rounds = record {
-    admits = inr (same ∙ same_aboard, waits ∙ room.rest.waiting, on);
+  pub denied : aboard new ≡ aboard mid → waiting new ≡ waiting mid → new.refused ≡ true → queue new ≡ queue mid → new.rounds ≡ mid.rounds → (CanEnter old → ⊥) → AdmitsFirst lives old new
+  denied same waits on stands rounds full = record {
+    admits = inr (same ∙ same_aboard, waits ∙ room.rest.waiting, on, full);
     longer = longer_from ([], stands ∙ sym (append-nil (queue mid)));
     rounds = rounds ∙ room.rest.rounds;
   }

@@ -1,5 +1,5 @@
 -- Processes that are come to, one after the other.
-use Rattle.std.proofs.Common.{◌≡◌, ◌⊎◌, inl, inr, ℕ, ◌+◌, ◌<◌, ◌≤◌, Bool, true, false, ◌||◌, cond, List, [], ◌∷◌, ◌++◌, length, Option, Some, None, refl, sym, ap, subst, ◌∙◌, append_assoc, append-nil, length-append, arith}
+use Rattle.std.proofs.Common.{◌≡◌, ◌⊎◌, inl, inr, ℕ, zero, suc, ◌+◌, ◌<◌, ◌≤◌, Bool, true, false, ◌||◌, cond, List, [], ◌∷◌, ◌++◌, length, Option, Some, None, refl, sym, ap, subst, ◌∙◌, append_assoc, append-nil, length-append, arith}
 use Rattle.std.specs.Prelude.{max, is_some}
 use Rattle.std.specs.List.{IsDistinct}
 use Rattle.std.specs.Option.{option_map}
@@ -8,16 +8,17 @@ use Rattle.pt_signal.specs.Values.{same_pid}
 use Rattle.pt_signal.proofs.Same.{same_pid_refl, same_pid_is}
 use Rattle.pt_events.specs.declared.event.Event.{Event}
 use Rattle.pt_events.specs.declared.event.Event.TheVariants.{Born, Said, Came, Took, Flag, Left, Refused}
-use Rattle.pt_shard.specs.ShardState.{ShardState, lives}
+use Rattle.pt_shard.specs.ShardState.{ShardState, lives, phase_of}
 use Rattle.pt_crew.specs.declared.crew.Member.{Member}
 use Rattle.pt_crew.specs.declared.crew.Crew.{Crew}
 use Rattle.pt_crew.specs.declared.crew.Tended.{Tended}
 use Rattle.pt_crew.specs.declared.crew.Tended.TheVariants.{Idle, Done, Refused as Denied}
 use Rattle.pt_crew.specs.Visiting.{Answers, Roles, AreSame, AreWith, Scene, StaysAs, BearsChildren, ComesTo, SeesTo, VisitsOne, Visits, again_as, left_as, is_refused}
-use Rattle.pt_crew.specs.Crews.{members, role, roles, queue, waiting, left, scene, IsSame, KeepsRest, Attends, CrewRounds, AreOnce, Aboard, EntersAll, StepsOn}
+use Rattle.pt_crew.specs.Crews.{members, role, roles, queue, waiting, left, scene, are_any, IsSame, KeepsRest, Attends, CrewRounds, AreOnce, Aboard, EntersAll, StepsOn}
+use Rattle.pt_crew.specs.Waking.{IsAwake, Members, has_work}
 use Rattle.pt_crew.specs.declared.births.Role.{Role}
 use Rattle.pt_crew.specs.Births.{bore}
-use Rattle.pt_crew.specs.Parts.{QueueIsLonger, WakesBy, Serves, Admits, AdmitsFirst, AdmitsOf, aboard, kept_as}
+use Rattle.pt_crew.specs.Parts.{QueueIsLonger, WakesBy, Serves, Admits, AdmitsFirst, AdmitsOf, CanEnter, aboard, kept_as}
 use Rattle.pt_crew.proofs.Waking.{by_cases, elsewhere, there, same_back}
 
 -- who reads what is new changes nobody ------------------------------------------------
@@ -68,6 +69,16 @@ rest_read old mid late new w l r n a b = record { waiting = w ∙ b.waiting ∙ 
 
 pub same_then : {B : Type 0} (old mid new : Roles B) → AreSame old mid → AreSame mid new → AreSame old new
 same_then old mid new a b q = b q ∙ a q
+
+-- whoever has something to do stands in the queue, whatever is marked
+same_member : {B : Type 0} (was now : Option (Member B)) (m : Member B) → was ≡ Some m → option_map role now ≡ option_map role was → (v : Member B) × (now ≡ Some v) × (v.next ≡ m.next)
+same_member was None m is same = absurd (let e : None ≡ Some (role m) = same ∙ ap (option_map role) is in cc)
+same_member was (Some v) m is same = let e : Some (role v) ≡ Some (role m) = same ∙ ap (option_map role) is in (v, refl, let k : role v ≡ role m = cc in ap (λ (r : _). r.1) k)
+
+pub awake_as : {B : Type 0} (old now : Crew B) (stands : List Pid) (d : ShardState) → AreSame (roles old) (roles now) → IsAwake (members now) stands d → IsAwake (members old) stands d
+awake_as old now stands d same awake p m is work =
+    let v = same_member (members old p) (members now p) m is (same p) in
+    awake p v.0 v.1 (ap (λ n. has_work n (phase_of d p)) v.2 ∙ work)
 
 -- of the crew nothing is changed but its queue
 pub record IsOf {B : Type 0} (old new : Crew B) : Type 0 where
@@ -252,13 +263,16 @@ module _ {B : Type 0} (answers : Answers B) where
     pub woken : List Pid
     pub queues : List (List Pid)
     pub rounds : CrewRounds answers queues (begun old woken d) (scene (queue now) now e)
+    pub first : Attends old d → IsAwake (members old) (queue old ++ woken) d
     pub count : length queues ≡ n
     pub once : Attends old d → AreOnce queues
     pub same : now.rounds ≡ old.rounds
 
-  pub none_yet : (old now : Crew B) (d : ShardState) → AreSame (roles old) (roles now) → QueueIsLonger (queue old) (queue now) → waiting now ≡ waiting old → left now ≡ [] → now.refused ≡ false → now.rounds ≡ old.rounds → Stepping 0 old d now d
-  none_yet old now d kept longer waits bare quiet same = record {
+  pub none_yet : (old now : Crew B) (d : ShardState) → AreSame (roles old) (roles now) → QueueIsLonger (queue old) (queue now) → waiting now ≡ waiting old → left now ≡ [] → now.refused ≡ false → now.rounds ≡ old.rounds
+      → (Attends old d → IsAwake (members now) (queue now) d) → Stepping 0 old d now d
+  none_yet old now d kept longer waits bare quiet same awake = record {
     woken = longer.0;
+    first = λ a. awake_as old now (queue old ++ longer.0) d kept (subst (λ (ps : List Pid). IsAwake (members now) ps d) longer.1 (awake a));
     queues = [];
     rounds = λ i. record { roles = λ q. kept q i; again = longer.1 i; born = waits i; left = bare i; refused = quiet i; desk = d };
     count = refl;
@@ -270,6 +284,7 @@ module _ {B : Type 0} (answers : Answers B) where
       → (Attends old d → IsDistinct same_pid (queue mid)) → new.rounds ≡ mid.rounds → Stepping (n + 1) old d new e
   next_round n old mid new d f e so visits once same = record {
     woken = so.woken;
+    first = so.first;
     queues = queue mid ∷ so.queues;
     rounds = (scene (queue mid) mid f, so.rounds, refl, visits);
     count = let c = so.count in omega (arith, c);
@@ -281,6 +296,7 @@ module _ {B : Type 0} (answers : Answers B) where
       → AreSame (roles late) (roles new) → QueueIsLonger (queue late) (queue new) → KeepsRest late new → StepsOn answers old d new e
   last_look n old mid late new d e so count admits kept longer rest = record {
     woken = so.woken;
+    first = so.first;
     queues = so.queues;
     last = scene (queue mid) mid e;
     rounds = so.rounds;
@@ -289,7 +305,7 @@ module _ {B : Type 0} (answers : Answers B) where
     entered = admits.entered;
     born = admits.born ∙ ap (λ (l : List (Role B)). admits.entered ++ l) (sym rest.waiting);
     enters = subst (λ (x : Aboard B). EntersAll (lives e) admits.entered (roles mid, left mid) x) still admits.enters;
-    told = elim admits.told [ inl h ↦ inl (rest.waiting ∙ h.0, rest.refused ∙ h.1) | inr h ↦ inr (rest.refused ∙ h) ];
+    told = rest.refused ∙ admits.told ∙ ap (λ (l : List (Role B)). mid.refused || are_any l) (sym rest.waiting);
     queue = longer_then (queue mid) (queue late) (queue new) admits.longer longer;
     desk = refl;
     same = rest.rounds ∙ admits.rounds ∙ so.same;
@@ -298,6 +314,24 @@ module _ {B : Type 0} (answers : Answers B) where
       still : aboard late ≡ aboard new
       still i = ((λ q. sym (kept q) i), sym rest.left i)
 
+-- whether somebody waits ------------------------------------------------------------------
+
+zero_or : (n : ℕ) → (n ≡ 0) ⊎ (0 < n)
+zero_or zero = inl refl
+zero_or (suc n) = inr (omega arith)
+
+any_last : {A : Type 0} (xs : List A) (x : A) → are_any (xs ++ x ∷ []) ≡ true
+any_last [] x = refl
+any_last (y ∷ xs) x = refl
+
+any_length : {A : Type 0} (xs : List A) → are_any xs ≡ true → 0 < length xs
+any_length [] any = absurd (cc)
+any_length (x ∷ xs) any = omega arith
+
+length_any : {A : Type 0} (xs : List A) → 0 < length xs → are_any xs ≡ true
+length_any [] some = absurd (omega (arith, some))
+length_any (x ∷ xs) some = refl
+
 -- those that were born enter ---------------------------------------------------------------
 
 module _ {B : Type 0} (lives : Pid → Bool) where
@@ -305,42 +339,58 @@ module _ {B : Type 0} (lives : Pid → Bool) where
   enters_then [] ss old mid new a b = subst (λ (x : Aboard B). EntersAll lives ss x new) a b
   enters_then (r ∷ rs) ss old mid new a b = (a.0, a.1, enters_then rs ss a.0 mid new a.2 b)
 
-  -- so many of those that were born entered, unless it was refused
+  -- so many of those that were born entered; where one was refused, more wait than are still to be looked at
   pub record Entering (n : ℕ) (old now : Crew B) : Type 0 where
     pub entered : List (Role B)
     pub born : waiting old ≡ entered ++ waiting now
     pub enters : EntersAll lives entered (aboard old) (aboard now)
-    pub told : ((n + length (waiting now) ≡ length (waiting old)) × (now.refused ≡ old.refused)) ⊎ (now.refused ≡ true)
+    pub none : n ≡ 0 → now ≡ old
+    pub first : CanEnter old → 0 < n → are_any entered ≡ true
+    pub told : ((n + length (waiting now) ≡ length (waiting old)) × (now.refused ≡ old.refused)) ⊎ ((now.refused ≡ true) × (length (waiting old) < n + length (waiting now)))
     pub longer : QueueIsLonger (queue old) (queue now)
     pub rounds : now.rounds ≡ old.rounds
 
   pub none_entered : (old : Crew B) → Entering 0 old old
-  none_entered old = record { entered = []; born = refl; enters = refl; told = inl (omega arith, refl); longer = ([], sym (append-nil (queue old))); rounds = refl }
+  none_entered old = record {
+    entered = [];
+    born = refl;
+    enters = refl;
+    none = λ z. refl;
+    first = λ room z. absurd (omega (arith, z));
+    told = inl (omega arith, refl);
+    longer = ([], sym (append-nil (queue old)));
+    rounds = refl;
+  }
 
   pub next_enters : (n : ℕ) (old mid new : Crew B) → n < length (waiting old) → Entering n old mid → AdmitsFirst lives mid new → Entering (n + 1) old new
-  next_enters n old mid new within so first = elim first.admits [ inl h ↦ go (waiting mid) refl h | inr h ↦ still h.0 h.1 (inr h.2) ]
+  next_enters n old mid new within so first = elim first.admits [ inl h ↦ go (waiting mid) refl h | inr h ↦ still h ]
     where
-      still : aboard new ≡ aboard mid → waiting new ≡ waiting mid
-          → ((n + 1 + length (waiting new) ≡ length (waiting old)) × (new.refused ≡ old.refused)) ⊎ (new.refused ≡ true) → Entering (n + 1) old new
-      still same waits told = record {
+      later : {X : Type 0} → n + 1 ≡ 0 → X
+      later z = absurd (omega (arith, z))
+
+      still : (aboard new ≡ aboard mid) × (waiting new ≡ waiting mid) × (new.refused ≡ true) × (CanEnter mid → ⊥) → Entering (n + 1) old new
+      still h = record {
         entered = so.entered;
-        born = so.born ∙ ap (λ (l : List (Role B)). so.entered ++ l) (sym waits);
-        enters = subst (λ (x : Aboard B). EntersAll lives so.entered (aboard old) x) (sym same) so.enters;
-        told = told;
+        born = so.born ∙ ap (λ (l : List (Role B)). so.entered ++ l) (sym h.1);
+        enters = subst (λ (x : Aboard B). EntersAll lives so.entered (aboard old) x) (sym h.0) so.enters;
+        none = λ z. later z;
+        first = λ room z. elim (zero_or n) [ inl none ↦ absurd (h.3 (subst (λ (c : Crew B). CanEnter c) (sym (so.none none)) room)) | inr more ↦ so.first room more ];
+        told = inr (h.2, let m = ap length h.1 in elim so.told [ inl k ↦ let c = k.0 in omega (arith, m, c) | inr k ↦ let c = k.1 in omega (arith, m, c) ]);
         longer = longer_then (queue old) (queue mid) (queue new) so.longer first.longer;
         rounds = first.rounds ∙ so.rounds;
       }
 
       go : (w : List (Role B)) → waiting mid ≡ w → AdmitsOf lives w mid new → Entering (n + 1) old new
-      go [] is h = still h.0 (h.1 ∙ sym is)
-          (elim so.told [ inl k ↦ absurd (let l = ap length is in let c = k.0 in omega (arith, l, c, within)) | inr k ↦ inr (h.2 ∙ k) ])
+      go [] is h = let l = ap length is in absurd (elim so.told [ inl k ↦ let c = k.0 in omega (arith, l, c, within) | inr k ↦ let c = k.1 in omega (arith, l, c, within) ])
       go (r ∷ rs) is h = record {
         entered = so.entered ++ r ∷ [];
         born = so.born ∙ ap (λ (l : List (Role B)). so.entered ++ l) is ∙ sym (append_assoc so.entered (r ∷ []) rs) ∙ ap (λ (l : List (Role B)). (so.entered ++ r ∷ []) ++ l) (sym h.1);
         enters = enters_then so.entered (r ∷ []) (aboard old) (aboard mid) (aboard new) so.enters (aboard new, h.0, refl);
+        none = λ z. later z;
+        first = λ room z. any_last so.entered r;
         told = elim so.told [
           | inl k ↦ inl (let l = ap length is in let c = k.0 in let m = ap length h.1 in omega (arith, l, c, m), h.2 ∙ k.1)
-          | inr k ↦ inr (h.2 ∙ k)
+          | inr k ↦ inr (h.2 ∙ k.0, let l = ap length is in let c = k.1 in let m = ap length h.1 in omega (arith, l, c, m))
         ];
         longer = longer_then (queue old) (queue mid) (queue new) so.longer first.longer;
         rounds = first.rounds ∙ so.rounds;
@@ -350,12 +400,16 @@ module _ {B : Type 0} (lives : Pid → Bool) where
   none_waits [] h = refl
   none_waits (r ∷ rs) h = absurd (omega (arith, h))
 
-  pub all_entered : (n : ℕ) (old now : Crew B) → length (waiting old) ≤ n → Entering n old now → Admits lives old now
+  pub all_entered : (n : ℕ) (old now : Crew B) → length (waiting old) ≡ n → Entering n old now → Admits lives old now
   all_entered n old now all so = record {
     entered = so.entered;
     born = so.born;
     enters = so.enters;
-    told = elim so.told [ inl h ↦ inl (none_waits (waiting now) (let c = h.0 in omega (arith, c, all)), h.1) | inr h ↦ inr h ];
+    first = λ room any. so.first room (let some = any_length (waiting old) any in omega (arith, all, some));
+    told = elim so.told [
+      | inl h ↦ h.1 ∙ or_none old.refused ∙ ap (λ (l : List (Role B)). old.refused || are_any l) (sym (none_waits (waiting now) (let c = h.0 in omega (arith, c, all))))
+      | inr h ↦ h.0 ∙ says old.refused ∙ ap (λ (b : Bool). old.refused || b) (sym (length_any (waiting now) (let c = h.1 in omega (arith, c, all))))
+    ];
     longer = so.longer;
     rounds = so.rounds;
   }

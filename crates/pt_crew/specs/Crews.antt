@@ -1,5 +1,5 @@
 -- What a crew knows, and what each of its calls does.
-use Rattle.std.specs.Prelude.{◌≡◌, ◌⊎◌, ⊤, ℕ, ◌+◌, ◌≤◌, max, cond, Bool, true, false, List, [], ◌∷◌, ◌++◌, length}
+use Rattle.std.specs.Prelude.{◌≡◌, ◌⊎◌, ⊤, ℕ, ◌+◌, ◌≤◌, max, cond, Bool, true, false, ◌||◌, List, [], ◌∷◌, ◌++◌, length}
 use Rattle.std.specs.Prelude.{Some, None, MatchBool, Result, Ok, Err}
 use Rattle.std.specs.List.{IsDistinct}
 use Rattle.std.specs.Option.{option_map}
@@ -128,12 +128,19 @@ abbrev pub EntersAll : {B : Type 0} → (Pid → Bool) → List (Role B) → Abo
 EntersAll lives [] old new = new ≡ old
 EntersAll {B} lives (r ∷ rs) old new = (mid : Aboard B) × EntersOne lives r old mid × EntersAll lives rs mid new
 
+-- somebody waits
+abbrev pub are_any : {A : Type 0} → List A → Bool
+are_any [] = false
+are_any (x ∷ xs) = true
+
 -- As many rounds as the crew makes in a step; then those that were born enter, all of them unless memory was refused;
 -- and whoever was woken meanwhile stands behind the queue.
 pub record StepsOn {B : Type 0} (answers : Answers B) (old : Crew B) (d : ShardState) (new : Crew B)
     (e : ShardState) : Type 0 where
   -- who stands behind the queue as the first round begins
   pub woken : List Pid
+  -- so each process that has something to do as the step begins is in the queue of the first round
+  pub first : Attends old d → IsAwake (members old) (queue old ++ woken) d
   pub queues : List (List Pid)
   pub last : Scene B
   pub rounds : CrewRounds answers queues
@@ -150,7 +157,8 @@ pub record StepsOn {B : Type 0} (answers : Answers B) (old : Crew B) (d : ShardS
   pub entered : List (Role B)
   pub born : last.born ≡ entered ++ waiting new
   pub enters : EntersAll (lives e) entered (last.roles, last.left) (roles new, left new)
-  pub told : ((waiting new ≡ []) × (new.refused ≡ last.refused)) ⊎ (new.refused ≡ true)
+  -- a call was refused in a round, or somebody could not enter
+  pub told : new.refused ≡ (last.refused || are_any (waiting new))
   pub queue : (later : List Pid) × (queue new ≡ last.again ++ later)
   pub desk : e ≡ last.desk
   pub same : new.rounds ≡ old.rounds

@@ -1,5 +1,5 @@
 -- What the parts of a step do. No public clause cites this module.
-use Rattle.std.specs.Prelude.{◌≡◌, ◌⊎◌, ◌+◌, ◌<◌, Bool, true, false, List, [], ◌∷◌, ◌++◌, length, Option, Some, None}
+use Rattle.std.specs.Prelude.{◌≡◌, ◌⊎◌, ◌+◌, ◌<◌, Bool, true, false, ◌||◌, List, [], ◌∷◌, ◌++◌, length, Option, Some, None}
 use Rattle.std.specs.Prelude.{ℕ, drop, vec_len, vec_capacity}
 use Rattle.std.specs.List.{list_any}
 use Rattle.std.specs.Map.{keys_of}
@@ -18,7 +18,7 @@ use Rattle.pt_crew.specs.Waking.{IsQueue, has_work}
 use Rattle.pt_crew.specs.Visiting.{Answers, AreSame, VisitsOne}
 use Rattle.pt_crew.specs.declared.births.Role.{Role}
 use Rattle.pt_crew.specs.Crews.{IsSame, KeepsRest, Aboard, EntersOne, EntersAll, members, queue, role, roles, left}
-use Rattle.pt_crew.specs.Crews.{waiting, scene}
+use Rattle.pt_crew.specs.Crews.{waiting, scene, are_any}
 
 -- what the queue of a crew is
 abbrev pub QueueHolds : {B : Type 0} → Crew B → Type 0
@@ -79,7 +79,7 @@ kept_as Gone m = None
 abbrev pub CanEnter : {B : Type 0} → Crew B → Type 0
 CanEnter c =
     (0 < spare c.members) × (c.queue.len + length c.members.entries < c.queue.cap)
-    × (vec_len c.left < vec_capacity c.left)
+    × (vec_len c.left < vec_capacity c.left) × (length c.members.entries < vec_len c.hints.places)
 
 -- it is of the crew and stands in the queue
 abbrev pub is_marked : {B : Type 0} → Option (Member B) → Bool
@@ -90,7 +90,7 @@ is_marked (Some m) = m.queued
 abbrev pub aboard : {B : Type 0} → Crew B → Aboard B
 aboard c = (roles c, left c)
 
--- the first of those that were born enters, if there is one, or it was refused for want of memory
+-- the first of those that were born enters, if there is one; it is refused only if there is no room for it
 abbrev pub AdmitsOf : {B : Type 0} → (Pid → Bool) → List (Role B) → Crew B → Crew B → Type 0
 AdmitsOf lives [] old new = (aboard new ≡ aboard old) × (waiting new ≡ []) × (new.refused ≡ old.refused)
 AdmitsOf lives (r ∷ rs) old new =
@@ -98,16 +98,17 @@ AdmitsOf lives (r ∷ rs) old new =
 
 pub record AdmitsFirst {B : Type 0} (lives : Pid → Bool) (old new : Crew B) : Type 0 where
   pub admits : AdmitsOf lives (waiting old) old new
-      ⊎ ((aboard new ≡ aboard old) × (waiting new ≡ waiting old) × (new.refused ≡ true))
+      ⊎ ((aboard new ≡ aboard old) × (waiting new ≡ waiting old) × (new.refused ≡ true) × (CanEnter old → ⊥))
   pub longer : QueueIsLonger (queue old) (queue new)
   pub rounds : new.rounds ≡ old.rounds
 
--- those that were born enter, the first ones, and all unless it was refused
+-- those that were born enter, the first ones: one at least if there is room for one, and all unless it was refused
 pub record Admits {B : Type 0} (lives : Pid → Bool) (old new : Crew B) : Type 0 where
   pub entered : List (Role B)
   pub born : waiting old ≡ entered ++ waiting new
   pub enters : EntersAll lives entered (aboard old) (aboard new)
-  pub told : ((waiting new ≡ []) × (new.refused ≡ old.refused)) ⊎ (new.refused ≡ true)
+  pub first : CanEnter old → are_any (waiting old) ≡ true → are_any entered ≡ true
+  pub told : new.refused ≡ (old.refused || are_any (waiting new))
   pub longer : QueueIsLonger (queue old) (queue new)
   pub rounds : new.rounds ≡ old.rounds
 

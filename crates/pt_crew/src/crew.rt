@@ -163,6 +163,7 @@ impl<B: Behaviour + Drop> Crew<B> {
     /// Whoever is not taken is dropped as the next step begins.
     pub fn take_left(&mut self) -> Option<Role<B>>
         ensures left { left self.old ≡ left self.new ++ option_to_list result }
+        ensures none { result ≡ None → left self.old ≡ [] }
         ensures attends { (d : ShardState) → Attends self.old d → Attends self.new d }
         ensures roles { AreSame (roles self.old) (roles self.new) }
         ensures queue { queue self.new ≡ queue self.old }
@@ -314,6 +315,7 @@ impl<B: Behaviour + Drop> Crew<B> {
     fn make_room(&mut self) -> Result<(), AllocError>
         ensures same { IsSame self.old self.new }
         ensures ok { OnOk result (CanEnter self.new) }
+        ensures succeeds { CanEnter self.old → IsOk result }
         ensures room { HasRoom self.old → HasRoom self.new }
     {
         self.members.reserve(1)?;

@@ -1,6 +1,6 @@
 //! Where the members of a crew stood last.
 
-ghost use Rattle.std.specs.Prelude.{◌≡◌, ◌<◌, ◌≤◌, ◌↔◌, IfSome, IsTrue, OnOk, Some, is_some, vec_len};
+ghost use Rattle.std.specs.Prelude.{◌≡◌, ◌<◌, ◌≤◌, ◌↔◌, IfSome, IsOk, IsTrue, OnOk, Some, is_some, vec_len};
 ghost use Rattle.indexmap.specs.IndexMap.{IndexMap, get, index_map_len, index_of_by};
 ghost use Rattle.pt_signal.specs.Values.{same_pid};
 
@@ -11,7 +11,7 @@ use std::alloc::{AllocError, Global};
 /// For each member of a crew a guess of its place in the map of the members, which saves the hash of its pid.
 ///
 /// A guess stands at the last bits of the member's slot. It may be wrong, since members move and two slots may end
-/// alike: so whoever reads one looks who stands there, and no contract speaks of what is guessed. It is public since a
+/// alike: so whoever reads one looks who stands there: a hint is a place where that member stands, or none. It is public since a
 /// crew has one; no call hands one out.
 #[derive(Drop)]
 pub struct Hints {
@@ -29,7 +29,8 @@ impl Hints {
     /// Makes room for the guesses of so many members: a power of two of them, as many as the last bits of a slot tell
     /// apart.
     pub fn grow(&mut self, members: usize) -> Result<(), AllocError>
-        ensures { OnOk result (members ≤ vec_len self.new.places) }
+        ensures ok { OnOk result (members ≤ vec_len self.new.places) }
+        ensures succeeds { members ≤ vec_len self.old.places → IsOk result }
     {
         if members <= self.places.len() {
             return Ok(());
@@ -47,11 +48,19 @@ impl Hints {
         ensures found { is_some result ≡ is_some (get same_pid members.now p) }
         ensures within { IfSome result (λ place. place < index_map_len members.now) }
     {
-        let place = self.guess(p.slot);
-        if stands_at(members, place, p) {
+        if let Some(place) = self.hint(members, p) {
             return Some(place);
         }
         self.look_up(members, p)
+    }
+
+    /// The place that was noted for p, if p is the member there.
+    #[inline(always)]
+    fn hint<V>(&self, members: &IndexMap<Pid, V>, p: Pid) -> Option<usize>
+        ensures { IfSome result (λ place. index_of_by (same_pid p) members.now ≡ Some place) }
+    {
+        let place = self.guess(p.slot);
+        stands_at(members, place, p).then_some(place)
     }
 
     /// The place of p among the members, which is noted.

@@ -21,9 +21,11 @@
 //!   else was. (`hands`)
 //! - **Behaviours decide.** What a behaviour answered is what its process does next: proceed, wait for a pick, or exit.
 //!   (`steps`)
-//! - **Rounds.** A step makes as many rounds as asked for. In each it runs each queued process once, in order.
+//! - **Rounds.** A step makes as many rounds as asked for. In each it runs each queued process once, in order. Each
+//!   process that has something to do as the step begins is in the first round. (`first`)
 //! - **Leaving.** A process leaves a crew only by its exit, and is handed over as it was. (`left`, `take_left`)
-//! - **Refusals.** If memory or the clock refuses a call, item and process stay, and `refused` says so.
+//! - **Refusals.** If memory or the clock refuses a call, item and process stay. `refused` says so, exactly then or if a
+//!   process that was born could not enter. (`told`)
 //! - **Invariants.** What a behaviour upholds by its answers, its crew keeps for all its processes, and through runs.
 //!   (`crew_upholds`, `runs_uphold`)
 //! - **Idle.** `is_idle` and `are_idle` say whether no process has anything to do.

@@ -10,7 +10,7 @@ use Rattle.pt_signal.specs.Values.{same_pid}
 use Rattle.pt_signal.proofs.Same.{same_pid_is}
 use Rattle.pt_events.specs.History.{Past, Start, at_start, is_ended, life}
 use Rattle.pt_accounts.specs.LifeState.{LifeState}
-use Rattle.pt_accounts.specs.Table.{Slots, TableTells, life_at, found, of_version, slot_at}
+use Rattle.pt_accounts.specs.Table.{Slots, TableTells, found, of_version, slot_at}
 use Rattle.pt_accounts.specs.DeskLives.{DeskTable, IsTableOf, latest_end, latest_ends}
 use Rattle.pt_directory.specs.declared.view.Death.{Death}
 use Rattle.pt_directory.specs.Seats.{death_of}
@@ -123,34 +123,34 @@ slots_apart b (x ∷ slots) own i j p q at there same =
 
 module _ (start : Start) (d : ℕ) (past : Past) (t : DeskTable) (is : IsTableOf start d past t) where
   -- the life at a place is that of the pid of the place
-  pub life_at : (s j : ℕ) (l : LifeState) → slice_get (slot_at t.slots s) j ≡ Some l
+  pub life_in_place : (s j : ℕ) (l : LifeState) → slice_get (slot_at t.slots s) j ≡ Some l
       → (l.pid ≡ record { shard = d; slot = s; version = suc j }) × (l.phase ≡ life start past (record { shard = d; slot = s; version = suc j }))
-  life_at s j l life_at =
+  life_in_place s j l at =
       let p : Pid = record { shard = d; slot = s; version = suc j } in
-      let there : found d t.slots p ≡ Some l = rw (eq-eqb d d refl) life_at in
+      let there : found d t.slots p ≡ Some l = rw (eq-eqb d d refl) at in
       let tells : TableTells start past p (Some l) = subst (TableTells start past p) there (is.1 p refl) in
       (ap (λ (x : LifeState). x.pid) tells.0, ap (λ (x : LifeState). x.phase) tells.0)
 
   -- each latest end is of a process of the desk that has ended
   pub ended_of : (s j : ℕ) (p : Pid) → IsEndAt (slot_at t.slots s) j p → (p ≡ record { shard = d; slot = s; version = suc j }) × (is_ended (life start past p) ≡ true)
   ended_of s j p e =
-      let l = life_at s j e.life e.at in
+      let l = life_in_place s j e.life e.at in
       let same = sym e.pid ∙ l.0 in
       (same, subst (λ q. is_ended (life start past q) ≡ true) (sym same) (ap is_ended (sym l.1) ∙ e.ends))
 
   pub latest_told : (k : ℕ) (p : Pid) → get_elem? (latest_ends t) k ≡ some p → (p.shard ≡ d) × (is_ended (life start past p) ≡ true)
-  latest_told k p life_at =
-      let a = from_slots t.slots k p life_at in
+  latest_told k p at =
+      let a = from_slots t.slots k p at in
       let b = latest_of (slot_at t.slots a.0) p a.1 in
       let c = ended_of a.0 b.0 p b.1 in
       (ap (λ (q : Pid). q.shard) c.0, c.1)
 
   pub latest_apart : (i j : ℕ) (p q : Pid) → get_elem? (latest_ends t) i ≡ some p → get_elem? (latest_ends t) j ≡ some q → p.slot ≡ q.slot → i ≡ j
-  latest_apart i j p q life_at there same =
+  latest_apart i j p q at there same =
       slots_apart 0 t.slots (λ s r e.
       let b = latest_of (slot_at t.slots s) r e in
       let c = ap (λ (z : Pid). z.slot) (ended_of s b.0 r b.1).0 in
-      omega (arith, c)) i j p q life_at there same
+      omega (arith, c)) i j p q at there same
 
   -- whoever has ended stands in the table
   stands : (p : Pid) → is_ended (life start past p) ≡ true → (o : Option LifeState) → TableTells start past p o → (l : LifeState) × (o ≡ Some l) × (is_ended l.phase ≡ true)
@@ -187,14 +187,14 @@ module _ (start : Start) (d : ℕ) (past : Past) (t : DeskTable) (is : IsTableOf
 
 module _ {A B : Type 0} (f : A → B) where
   pub from_map : (xs : List A) (k : ℕ) (y : B) → get_elem? (map f xs) k ≡ some y → (x : A) × (get_elem? xs k ≡ some x) × (f x ≡ y)
-  from_map [] k y life_at = absurd (at_nothing y k life_at)
-  from_map (x ∷ xs) zero y life_at = (x, refl, some-injective (f x) y life_at)
-  from_map (x ∷ xs) (suc k) y life_at = from_map xs k y life_at
+  from_map [] k y at = absurd (at_nothing y k at)
+  from_map (x ∷ xs) zero y at = (x, refl, some-injective (f x) y at)
+  from_map (x ∷ xs) (suc k) y at = from_map xs k y at
 
   pub to_map : (xs : List A) (k : ℕ) (x : A) → get_elem? xs k ≡ some x → get_elem? (map f xs) k ≡ some (f x)
-  to_map [] k x life_at = absurd (at_nothing x k life_at)
-  to_map (z ∷ xs) zero x life_at = ap (λ w. some (f w)) (some-injective z x life_at)
-  to_map (z ∷ xs) (suc k) x life_at = to_map xs k x life_at
+  to_map [] k x at = absurd (at_nothing x k at)
+  to_map (z ∷ xs) zero x at = ap (λ w. some (f w)) (some-injective z x at)
+  to_map (z ∷ xs) (suc k) x at = to_map xs k x at
 
 -- processes of the desk alone were there
 own_start : (start : Start) (d : ℕ) → Every (λ b. b.0.shard ≡ d) start → (p : Pid) → is_ended (at_start start p) ≡ true → p.shard ≡ d

@@ -89,9 +89,9 @@ module _ (s : ShardState) (o : OutEnds) (i : InEnds) (directory : DirectoryState
     abbrev v : Sight
     v = sight_of directory seat before
 
-    seat_told : (o : Option Pid) → ended_in s.start (past s) e ≡ o → seat_of (written n e s) v ≡ seat_told o n (seat_of s v)
-    seat_told None is = seat_written s v n e (written n e s).vacant is
-    seat_told (Some p) is = seat_ended s v n e p (written n e s).vacant is
+    seat_follows : (o : Option Pid) → ended_in s.start (past s) e ≡ o → seat_of (written n e s) v ≡ seat_told o n (seat_of s v)
+    seat_follows None is = seat_written s v n e (written n e s).vacant is
+    seat_follows (Some p) is = seat_ended s v n e p (written n e s).vacant is
 
     same_reads : (o : Option Pid) → sight_of directory (seat_told o n seat) before ≡ v
     same_reads None = refl
@@ -102,7 +102,7 @@ module _ (s : ShardState) (o : OutEnds) (i : InEnds) (directory : DirectoryState
         subst Sits (sym is)
         (subst (λ w. IsSeated s' w × (seat_told who n seat ≡ seat_of s' w)) (sym (same_reads who)) (
           same_seated (written n e s) s' v same (seated_written s v n e (written n e s).vacant whole.0.seated seen words),
-          ap (seat_told who n) whole.1 ∙ sym (same_seat (written n e s) s' v same ∙ seat_told who (sym ends)),
+          ap (seat_told who n) whole.1 ∙ sym (same_seat (written n e s) s' v same ∙ seat_follows who (sym ends)),
         ))
 
   -- so after a letter was handled

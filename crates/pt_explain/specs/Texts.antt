@@ -8,7 +8,8 @@ use Rattle.pt_explain.specs.declared.why.Scene.TheVariants as scene
 use Rattle.pt_explain.specs.declared.why.Why.{Why}
 use Rattle.pt_explain.specs.declared.why.Wrong.{Wrong}
 use Rattle.pt_explain.specs.declared.why.Wrong.TheVariants as wrong
-use Rattle.pt_script.specs.declared.limits.TheConstants.{MAX_BYTES, MAX_DEPTH, MAX_OPERATIONS, MAX_PROCESSES}
+use Rattle.pt_script.specs.declared.limits.TheConstants.{MAX_BYTES, MAX_DEPTH, MAX_FORMAT, MAX_OPERATIONS, MAX_PROCESSES}
+use Rattle.pt_explain.specs.declared.why.TheConstants.{OPERATIONS, PICKS, REASONS}
 
 -- a name, or an index where there is none
 abbrev pub member_text : Label → List ℕ
@@ -36,9 +37,10 @@ wrong_text wrong.NoFlag = codes "is neither true nor false"
 wrong_text wrong.NoText = codes "is no text"
 wrong_text wrong.NoList = codes "is no list"
 wrong_text wrong.NoName = codes "has not the form of a name"
-wrong_text wrong.NoReason = codes "is no reason"
-wrong_text wrong.NoPick = codes "is no object with one of the members of a pick"
-wrong_text wrong.NoOperation = codes "is no operation"
+wrong_text wrong.NoReason = codes "is no reason: there are " ++ REASONS.now
+wrong_text wrong.NoPick = codes "is no object with one of the members of a pick: there are " ++ PICKS.now
+wrong_text wrong.NoOperation = codes "is no operation: there are " ++ OPERATIONS.now
+wrong_text wrong.Later = codes "wants format " ++ decimal MAX_FORMAT
 wrong_text (wrong.OutOfRange least most) = codes "is not from " ++ decimal least ++ codes " to " ++ decimal most
 wrong_text wrong.OverSigned = codes "is above 9223372036854775807"
 wrong_text wrong.OverReasons = codes "has a number above 4294967295"
@@ -50,11 +52,12 @@ wrong_text wrong.OverOperations = codes "is one operation more than " ++ decimal
 wrong_text wrong.TooDeep = codes "is inside " ++ decimal MAX_DEPTH ++ codes " other spawns"
 wrong_text wrong.Refused = codes "is not as scripts are"
 
--- the member that is wrong, or all that is there
-abbrev pub subject_text : Option (Bor (List ℕ)) → List ℕ
-subject_text None = codes ": it "
-subject_text (Some member) = codes ": member " ++ member.now ++ codes " "
+-- the member that is wrong, and the word that it is, or all that is there
+abbrev pub subject_text : Option (Bor (List ℕ)) → Option (Bor (List ℕ)) → List ℕ
+subject_text None word = codes ": it "
+subject_text (Some member) None = codes ": member " ++ member.now ++ codes " "
+subject_text (Some member) (Some word) = codes ": member " ++ member.now ++ codes " (" ++ word.now ++ codes ") "
 
 -- one line, without its line feed
 unfoldable pub why_text : Why → List ℕ
-why_text w = where_text w.scene ++ subject_text w.member ++ wrong_text w.wrong
+why_text w = where_text w.scene ++ subject_text w.member w.word ++ wrong_text w.wrong

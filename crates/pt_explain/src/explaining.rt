@@ -1,15 +1,18 @@
 //! Why a script is refused, by the place of its fault.
 
-ghost use Rattle.std.specs.Prelude.{◌≡◌, IfOk, string_bytes};
+ghost use Rattle.std.specs.Prelude.{◌≡◌, ℕ, codes, IfOk, string_bytes, slice_index_or};
+ghost use Rattle.serde_json.specs.Data.{null};
+ghost use Rattle.serde_json.specs.View.{view};
+ghost use Rattle.pt_explain.specs.Places.{IsAtPlace, IsLabelOf, IsOfOperation, IsOfProcess, IsSaidOf, list_in};
 ghost use Rattle.pt_explain.specs.Texts.{why_text};
 ghost use Rattle.pt_explain.specs.declared.why.Why.{Why};
 
 use crate::finding::{Found, process_at};
 use crate::looking::{Flaw, flaw_in};
-use crate::scope::{Scope, is_own_name, is_spawn, list_at, text_at};
+use crate::scope::{Scope, is_own_name, is_spawn, list_at, text_at, word_at};
 use crate::tables::{PROCESS, SCRIPT, members_of};
 use crate::why::{Label, Scene, Why, Wrong};
-use pt_script::limits::{MAX_BYTES, MAX_DEPTH, MAX_PROCESSES};
+use pt_script::limits::{MAX_BYTES, MAX_DEPTH, MAX_FORMAT, MAX_PROCESSES};
 use pt_script::{Fault, Place};
 use serde_json::{Error, Value};
 use std::alloc::{AllocError, Global};
@@ -25,10 +28,10 @@ pub fn explain(
     fault: Fault,
     place: Place,
 ) -> Result<String, AllocError>
-    ensures text { IfOk result (λ s. (w : Why) × (string_bytes s ≡ why_text w)) }
+    ensures text { IfOk result (λ s. (w : Why) × (string_bytes s ≡ why_text w) × IsSaidOf bytes.now place w.scene) }
 {
     if MAX_BYTES < bytes.len() {
-        return text_of(alloc, in_script((None, Wrong::TooLong)));
+        return text_of(alloc, in_script(None, (None, Wrong::TooLong)));
     }
     match Value::from_slice(alloc, bytes) {
         Ok(value) => text_of(alloc, why_of(&value, fault, place)),
@@ -49,7 +52,9 @@ fn text_of(alloc: Global, why: Why<'_>) -> Result<String, AllocError>
 }
 
 /// Why bytes are no value, and where they cease to be one.
-fn no_value(bytes: &[u8], error: &Error) -> Why<'static> {
+fn no_value(bytes: &[u8], error: &Error) -> Why<'static>
+    ensures { (line column : ℕ) × (result.scene ≡ Scene.Text line column) }
+{
     let wrong = if from_utf8(bytes).is_err() {
         Wrong::NoUtf8
     } else if error.is_eof() {
@@ -63,27 +68,40 @@ fn no_value(bytes: &[u8], error: &Error) -> Why<'static> {
             column: error.column(),
         },
         member: None,
+        word: None,
         wrong,
     }
 }
 
 /// Why a value is no script.
-fn why_of(value: &Value, fault: Fault, place: Place) -> Why<'_> {
+fn why_of(value: &Value, fault: Fault, place: Place) -> Why<'_>
+    ensures { IsAtPlace (view value.now) place result.scene }
+{
     let scope = Scope::of(value);
     let Some(number) = place.process else {
-        return in_script(flaw_or(
-            flaw_in(fault, value, SCRIPT.as_slice(), &scope),
-            Wrong::Refused,
-        ));
+        let flaw = flaw_in(fault, value, SCRIPT.as_slice(), &scope);
+        return in_script(Some(value), flaw_or(flaw, Wrong::Refused));
     };
     match (process_at(scope.tops, number), place.op) {
         (Some(found), None) => in_process(fault, found, number, &scope),
         (Some(found), Some(index)) => in_operation(fault, found, number, index as usize, &scope),
-        (None, _) => Why {
-            scene: Scene::Process(Label::Index(number as usize)),
-            member: None,
-            wrong: Wrong::Refused,
-        },
+        (None, None) => in_nothing(Scene::Process(Label::Index(number as usize))),
+        (None, Some(index)) => in_nothing(Scene::Operation {
+            process: Label::Index(number as usize),
+            operation: Label::Index(index as usize),
+        }),
+    }
+}
+
+/// What is said where nothing is found.
+fn in_nothing(scene: Scene<'static>) -> Why<'static>
+    ensures { result.scene ≡ scene.entry }
+{
+    Why {
+        scene,
+        member: None,
+        word: None,
+        wrong: Wrong::Refused,
     }
 }
 
@@ -95,17 +113,31 @@ fn flaw_or(flaw: Option<Flaw<'_>>, wrong: Wrong) -> Flaw<'_> {
     }
 }
 
-fn in_script(flaw: Flaw<'_>) -> Why<'_> {
+/// Why a script is refused, its processes apart; without a value, whatever it is.
+fn in_script<'a>(value: Option<&'a Value>, flaw: Flaw<'a>) -> Why<'a>
+    ensures { result.scene ≡ Scene.Script }
+{
     let (member, wrong) = flaw;
     Why {
         scene: Scene::Script,
         member,
+        word: word_of(value, member, wrong),
         wrong,
     }
 }
 
+/// The word that a member is, where it has the form of a name. Of a member that is unknown its name is the wrong word.
+fn word_of<'a>(value: Option<&'a Value>, member: Option<&str>, wrong: Wrong) -> Option<&'a str> {
+    match wrong {
+        Wrong::Unknown => None,
+        _ => word_at(value?, member?),
+    }
+}
+
 /// What a process is called, or its number where it has no name.
-fn label_of(value: &Value, number: u32) -> Label<'_> {
+fn label_of(value: &Value, number: u32) -> Label<'_>
+    ensures { IsLabelOf (codes "name") (view value.now) number result }
+{
     match text_at(value, "name") {
         Some(name) if is_own_name(name) => Label::Name(name),
         _ => Label::Index(number as usize),
@@ -113,7 +145,9 @@ fn label_of(value: &Value, number: u32) -> Label<'_> {
 }
 
 /// Why a process is refused, its operations apart.
-fn in_process<'a>(fault: Fault, found: Found<'a>, number: u32, scope: &Scope<'_>) -> Why<'a> {
+fn in_process<'a>(fault: Fault, found: Found<'a>, number: u32, scope: &Scope<'_>) -> Why<'a>
+    ensures { IsOfProcess (view found.entry.value.now) number result.scene }
+{
     let (member, wrong) = if is_bounds(fault) && MAX_PROCESSES <= number as usize {
         (None, Wrong::OverProcesses)
     } else {
@@ -125,6 +159,7 @@ fn in_process<'a>(fault: Fault, found: Found<'a>, number: u32, scope: &Scope<'_>
     Why {
         scene: Scene::Process(label_of(found.value, number)),
         member,
+        word: word_of(Some(found.value), member, wrong),
         wrong,
     }
 }
@@ -152,7 +187,10 @@ fn in_operation<'a>(
     number: u32,
     index: usize,
     scope: &Scope<'_>,
-) -> Why<'a> {
+) -> Why<'a>
+    ensures { IsOfOperation (view found.entry.value.now) number
+        (slice_index_or (list_in (codes "ops") (view found.entry.value.now)) index null) index result.scene }
+{
     let process = label_of(found.value, number);
     let list = list_at(found.value, "ops");
     let (operation, (member, wrong)) = match list.get(index) {
@@ -165,12 +203,15 @@ fn in_operation<'a>(
     Why {
         scene: Scene::Operation { process, operation },
         member,
+        word: word_of(list.get(index), member, wrong),
         wrong,
     }
 }
 
 /// Which operation it is, or its index where it is none.
-fn label_of_operation(value: &Value, index: usize, format: u64) -> Label<'_> {
+fn label_of_operation(value: &Value, index: usize, format: u64) -> Label<'_>
+    ensures { IsLabelOf (codes "op") (view value.now) index result }
+{
     match text_at(value, "op") {
         Some(name) if members_of(name, format).is_some() => Label::Name(name),
         _ => Label::Index(index),
@@ -208,6 +249,7 @@ fn flaw_of_named<'a>(
     match members_of(name, scope.format) {
         Some(names) => flaw_in(fault, value, names, scope),
         None if is_bounds(fault) => None,
+        None if members_of(name, MAX_FORMAT).is_some() => Some((Some("op"), Wrong::Later)),
         None => Some((Some("op"), Wrong::NoOperation)),
     }
 }

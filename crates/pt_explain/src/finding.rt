@@ -2,6 +2,11 @@
 //!
 //! Processes are numbered in the order in which they begin in the text, a spawned one where its spawn stands.
 
+ghost use Rattle.std.specs.Prelude.{map};
+ghost use Rattle.serde_json.specs.View.{view};
+ghost use Rattle.pt_script.specs.Standing.{processes_in, processes_of, spawns_in};
+ghost use Rattle.pt_explain.specs.Places.{LeadsTo, FindsProcess, spawned_in};
+
 use crate::scope::{is_spawn, list_at};
 use pt_script::limits::MAX_NESTING;
 use serde_json::Value;
@@ -17,7 +22,7 @@ pub(crate) struct Found<'a> {
 
 /// Where a search has come to.
 #[derive(Clone, Copy)]
-enum Reached<'a> {
+pub(crate) enum Reached<'a> {
     /// The process was found.
     At(Found<'a>),
     /// So many processes more have to be passed before it.
@@ -25,10 +30,12 @@ enum Reached<'a> {
 }
 
 /// The process of this number, among those that the script begins with and those that they spawn.
-pub(crate) fn process_at<'a>(tops: &'a [Value], number: u32) -> Option<Found<'a>> {
+pub(crate) fn process_at<'a>(tops: &'a [Value], number: u32) -> Option<Found<'a>>
+    ensures { FindsProcess (processes_of (map view tops.now)) number result }
+{
     let mut left = number;
     for top in tops {
-        match search(top, 0, left) {
+        match search(top, MAX_NESTING, left) {
             Reached::At(found) => return Some(found),
             Reached::Before(more) => left = more,
         }
@@ -36,24 +43,29 @@ pub(crate) fn process_at<'a>(tops: &'a [Value], number: u32) -> Option<Found<'a>
     None
 }
 
-/// Looks at a process, and then at those that it spawns.
+/// Looks at a process, and then at those that it spawns, down to so many levels.
 #[cycle(search)]
-fn search<'a>(value: &'a Value, depth: u32, left: u32) -> Reached<'a> {
+fn search<'a>(value: &'a Value, levels: u32, left: u32) -> Reached<'a>
+    ensures { LeadsTo (processes_in levels (view value.now)) left result }
+{
     if left == 0 {
+        let depth = MAX_NESTING.saturating_sub(levels);
         return Reached::At(Found { value, depth });
     }
-    if MAX_NESTING <= depth {
+    if levels == 0 {
         return Reached::Before(left - 1);
     }
-    search_within(list_at(value, "ops"), depth + 1, left - 1)
+    search_within(list_at(value, "ops"), levels - 1, left - 1)
 }
 
 /// Looks at the spawns of a list.
 #[cycle(search)]
-fn search_within<'a>(list: &'a [Value], depth: u32, left: u32) -> Reached<'a> {
+fn search_within<'a>(list: &'a [Value], levels: u32, left: u32) -> Reached<'a>
+    ensures { LeadsTo (spawns_in (processes_in levels) (map view list.now)) left result }
+{
     let mut left = left;
     for operation in list {
-        match search_by(operation, depth, left) {
+        match search_by(operation, levels, left) {
             Reached::At(found) => return Reached::At(found),
             Reached::Before(more) => left = more,
         }
@@ -63,9 +75,11 @@ fn search_within<'a>(list: &'a [Value], depth: u32, left: u32) -> Reached<'a> {
 
 /// Looks at an operation.
 #[cycle(search)]
-fn search_by<'a>(operation: &'a Value, depth: u32, left: u32) -> Reached<'a> {
+fn search_by<'a>(operation: &'a Value, levels: u32, left: u32) -> Reached<'a>
+    ensures { LeadsTo (spawned_in levels (view operation.now)) left result }
+{
     if is_spawn(operation) {
-        search(operation, depth, left)
+        search(operation, levels, left)
     } else {
         Reached::Before(left)
     }

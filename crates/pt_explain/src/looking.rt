@@ -8,6 +8,7 @@ use crate::scope::{Scope, is_name, is_own_name};
 use crate::tables::{Kind, kind_of, kind_of_pick, may_miss};
 use crate::why::Wrong;
 use pt_script::Fault;
+use pt_script::limits::MAX_FORMAT;
 use serde_json::Value;
 
 /// A member that is wrong, and what is wrong with it; without a name, what is wrong with all that is there.
@@ -109,6 +110,7 @@ fn flaw_with(name: &'static str, wrong: Option<Wrong>) -> Option<Flaw<'static>> 
 fn flaw_of_pick(fault: Fault, pick: &Value, scope: &Scope<'_>) -> Option<Flaw<'static>> {
     match picked_by(pick, scope.format) {
         Some((name, kind, held)) => flaw_with(name, wrong_with(fault, kind, held, scope)),
+        None if picked_by(pick, MAX_FORMAT).is_some() => Some((Some("pick"), Wrong::Later)),
         None => Some((Some("pick"), Wrong::NoPick)),
     }
 }

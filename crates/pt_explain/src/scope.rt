@@ -1,5 +1,12 @@
 //! What stands around the place of a fault.
 
+ghost use Rattle.std.specs.Prelude.{◌≡◌, codes, map, option_map};
+ghost use Rattle.serde_json.specs.View.{view};
+ghost use Rattle.pt_script.specs.Members.{list};
+ghost use Rattle.pt_script.specs.Operations as operations;
+ghost use Rattle.pt_script.specs.Scripts.{loose};
+ghost use Rattle.pt_explain.specs.Places.{list_in, text_in};
+
 use serde_json::Value;
 
 /// What stands around an operation, or around the head of a process.
@@ -19,7 +26,9 @@ pub(crate) struct Scope<'a> {
 
 impl<'a> Scope<'a> {
     /// What stands around the processes that a script begins with.
-    pub(crate) fn of(script: &'a Value) -> Scope<'a> {
+    pub(crate) fn of(script: &'a Value) -> Scope<'a>
+        ensures { map view result.tops.now ≡ list_in (codes "processes") (view script.now) }
+    {
         Scope {
             format: whole_at(script, "format"),
             last_desk: whole_at(script, "desks").saturating_sub(1),
@@ -49,8 +58,35 @@ impl<'a> Scope<'a> {
 }
 
 /// The text that a member is.
-pub(crate) fn text_at<'a>(value: &'a Value, member: &str) -> Option<&'a str> {
+pub(crate) fn text_at<'a>(value: &'a Value, member: &str) -> Option<&'a str>
+    ensures { option_map (λ t. t.now) result ≡ text_in member.now (view value.now) }
+{
     value.get(member).and_then(Value::as_str)
+}
+
+/// The word that a member is, where it has the form of a name; of a pick, the name of its only member.
+pub(crate) fn word_at<'a>(value: &'a Value, member: &str) -> Option<&'a str> {
+    let text = match member {
+        "pick" => only_member(value.get(member)?),
+        "pick.from" => text_at(value.get("pick")?, "from"),
+        "pick.exit" => text_at(value.get("pick")?, "exit"),
+        "pick.down" => text_at(value.get("pick")?, "down"),
+        "pick.alive" => text_at(value.get("pick")?, "alive"),
+        _ => text_at(value, member),
+    };
+    match text {
+        Some(word) if is_name(word) => Some(word),
+        _ => None,
+    }
+}
+
+/// The name of the only member of an object.
+fn only_member(value: &Value) -> Option<&str> {
+    let mut names = value.as_object()?.keys();
+    match (names.next(), names.next()) {
+        (Some(name), None) => Some(name.as_str()),
+        _ => None,
+    }
 }
 
 /// The whole number that a member is, and 0 where it is none.
@@ -59,15 +95,28 @@ fn whole_at(value: &Value, member: &str) -> u64 {
 }
 
 /// The list that a member is, and an empty one where it is none.
-pub(crate) fn list_at<'a>(value: &'a Value, member: &str) -> &'a [Value] {
-    match value.get(member).and_then(Value::as_array) {
-        Some(list) => list.as_slice(),
+pub(crate) fn list_at<'a>(value: &'a Value, member: &str) -> &'a [Value]
+    ensures { map view result.now ≡ list_in member.now (view value.now) }
+{
+    match value.get(member) {
+        Some(held) => items_of(held),
+        None => &[],
+    }
+}
+
+fn items_of(value: &Value) -> &[Value]
+    ensures { map view result.now ≡ loose (list (view value.now)) }
+{
+    match value.as_array() {
+        Some(items) => items.as_slice(),
         None => &[],
     }
 }
 
 /// Whether it is a spawn, whatever else is in it.
-pub(crate) fn is_spawn(value: &Value) -> bool {
+pub(crate) fn is_spawn(value: &Value) -> bool
+    ensures { result ≡ operations.is_spawn (view value.now) }
+{
     match text_at(value, "op") {
         Some(operation) => operation == "spawn",
         None => false,

@@ -1,6 +1,6 @@
 //! What is wrong with a script, and its text.
 
-use pt_script::limits::{MAX_BYTES, MAX_DEPTH, MAX_OPERATIONS, MAX_PROCESSES};
+use pt_script::limits::{MAX_BYTES, MAX_DEPTH, MAX_FORMAT, MAX_OPERATIONS, MAX_PROCESSES};
 use std::fmt;
 
 /// What a script calls something, or its number where it has no name.
@@ -59,6 +59,14 @@ impl fmt::Display for Scene<'_> {
     }
 }
 
+// What there is where a word is wrong.
+const OPERATIONS: &str =
+    "send, receive, check, link, unlink, monitor, demonitor, trap, exit, signal, spawn, pass and, in format 2, alive";
+
+const PICKS: &str = "kind, from, exit, down and, in format 2, alive";
+
+const REASONS: &str = "normal, kill, killed, noproc, shutdown and other:N";
+
 /// What is wrong with it.
 #[derive(Clone, Copy)]
 pub(crate) enum Wrong {
@@ -79,6 +87,8 @@ pub(crate) enum Wrong {
     NoReason,
     NoPick,
     NoOperation,
+    /// A later format has it.
+    Later,
     OutOfRange { least: u64, most: u64 },
     OverSigned,
     OverReasons,
@@ -113,9 +123,13 @@ impl fmt::Display for Wrong {
             Wrong::NoText => f.write_str("is no text"),
             Wrong::NoList => f.write_str("is no list"),
             Wrong::NoName => f.write_str("has not the form of a name"),
-            Wrong::NoReason => f.write_str("is no reason"),
-            Wrong::NoPick => f.write_str("is no object with one of the members of a pick"),
-            Wrong::NoOperation => f.write_str("is no operation"),
+            Wrong::NoReason => write!(f, "is no reason: there are {REASONS}"),
+            Wrong::NoPick => write!(
+                f,
+                "is no object with one of the members of a pick: there are {PICKS}"
+            ),
+            Wrong::NoOperation => write!(f, "is no operation: there are {OPERATIONS}"),
+            Wrong::Later => write!(f, "wants format {MAX_FORMAT}"),
             Wrong::OutOfRange { least, most } => write!(f, "is not from {least} to {most}"),
             Wrong::OverSigned => f.write_str("is above 9223372036854775807"),
             Wrong::OverReasons => f.write_str("has a number above 4294967295"),
@@ -130,11 +144,13 @@ impl fmt::Display for Wrong {
     }
 }
 
-/// Why a script is refused: where, which member, and what is wrong with it; without a member, with all that is there.
+/// Why a script is refused: where, which member, the word that it is, where it has the form of a name, and what is wrong
+/// with it; without a member, with all that is there.
 #[derive(Clone, Copy)]
 pub(crate) struct Why<'a> {
     pub(crate) scene: Scene<'a>,
     pub(crate) member: Option<&'a str>,
+    pub(crate) word: Option<&'a str>,
     pub(crate) wrong: Wrong,
 }
 
@@ -148,11 +164,13 @@ impl fmt::Display for Why<'_> {
         let Why {
             scene,
             member,
+            word,
             wrong,
         } = self;
-        match member {
-            Some(member) => write!(f, "{scene}: member {member} {wrong}"),
-            None => write!(f, "{scene}: it {wrong}"),
+        match (member, word) {
+            (Some(member), Some(word)) => write!(f, "{scene}: member {member} ({word}) {wrong}"),
+            (Some(member), None) => write!(f, "{scene}: member {member} {wrong}"),
+            (None, _) => write!(f, "{scene}: it {wrong}"),
         }
     }
 }

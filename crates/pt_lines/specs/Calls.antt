@@ -2,6 +2,7 @@
 use Rattle.std.specs.Prelude.{ℕ, List, [], ◌∷◌, Option, Some, None, Result, Ok, codes}
 use Rattle.std.specs.Prelude.{if◌then◌else◌}
 use Rattle.std.specs.Str.{bytes_eq}
+use Rattle.pt_signal.specs.declared.pid.Pid.{Pid}
 use Rattle.pt_signal.specs.declared.config.Config.{Config}
 use Rattle.pt_lines.specs.declared.call.Call.{Call}
 use Rattle.pt_lines.specs.declared.call.Act.{Act}
@@ -9,6 +10,7 @@ use Rattle.pt_lines.specs.declared.call.Look.{Look}
 use Rattle.pt_lines.specs.declared.verb.Verb.{Verb}
 use Rattle.pt_lines.specs.declared.verb.DeskVerb.{DeskVerb}
 use Rattle.pt_lines.specs.declared.verb.ProcessVerb.{ProcessVerb}
+use Rattle.pt_lines.specs.declared.verb.PairVerb.{PairVerb}
 use Rattle.pt_lines.specs.declared.verb.LookVerb.{LookVerb}
 use Rattle.pt_lines.specs.declared.verb.Usage.{Usage}
 use Rattle.pt_lines.specs.declared.mistake.Mistake.{Mistake}
@@ -26,13 +28,13 @@ verbs =
     ∷ (codes "spawn_child", Verb.Process ProcessVerb.SpawnChild)
     ∷ (codes "send", Verb.Process ProcessVerb.Send)
     ∷ (codes "exit_signal", Verb.Process ProcessVerb.ExitSignal)
-    ∷ (codes "link", Verb.Process ProcessVerb.Link)
-    ∷ (codes "unlink", Verb.Process ProcessVerb.Unlink)
+    ∷ (codes "link", Verb.Pair PairVerb.Link)
+    ∷ (codes "unlink", Verb.Pair PairVerb.Unlink)
     ∷ (codes "trap", Verb.Process ProcessVerb.Trap)
     ∷ (codes "exit", Verb.Process ProcessVerb.Exit)
-    ∷ (codes "monitor", Verb.Process ProcessVerb.Monitor)
+    ∷ (codes "monitor", Verb.Pair PairVerb.Monitor)
     ∷ (codes "demonitor", Verb.Process ProcessVerb.Demonitor)
-    ∷ (codes "ask_alive", Verb.Process ProcessVerb.AskAlive)
+    ∷ (codes "ask_alive", Verb.Pair PairVerb.AskAlive)
     ∷ (codes "receive", Verb.Process ProcessVerb.Receive)
     ∷ (codes "turn", Verb.Desk DeskVerb.Turn)
     ∷ (codes "turn_all", Verb.Desk DeskVerb.TurnAll)
@@ -94,22 +96,25 @@ act_of_process names ProcessVerb.SpawnChild words end =
 act_of_process names ProcessVerb.Send words end = message_read names words end >>= λ x. Ok (Act.Send x.0 x.1 x.2)
 act_of_process names ProcessVerb.ExitSignal words end =
     of_three words end (pid_read names) (pid_read names) reason_read >>= λ x. Ok (Act.ExitSignal x.0 x.1 x.2)
-act_of_process names ProcessVerb.Link words end =
-    of_two words end (pid_read names) (pid_read names) >>= λ x. Ok (Act.Link x.0 x.1)
-act_of_process names ProcessVerb.Unlink words end =
-    of_two words end (pid_read names) (pid_read names) >>= λ x. Ok (Act.Unlink x.0 x.1)
 act_of_process names ProcessVerb.Trap words end =
     of_two words end (pid_read names) truth_of >>= λ x. Ok (Act.Trap x.0 x.1)
 act_of_process names ProcessVerb.Exit words end =
     of_two words end (pid_read names) reason_read >>= λ x. Ok (Act.Exit x.0 x.1)
-act_of_process names ProcessVerb.Monitor words end =
-    of_two words end (pid_read names) (pid_read names) >>= λ x. Ok (Act.Monitor x.0 x.1)
 act_of_process names ProcessVerb.Demonitor words end =
     of_three words end (pid_read names) (ref_of names) truth_of >>= λ x. Ok (Act.Demonitor x.0 x.1 x.2)
-act_of_process names ProcessVerb.AskAlive words end =
-    of_two words end (pid_read names) (pid_read names) >>= λ x. Ok (Act.AskAlive x.0 x.1)
 act_of_process names ProcessVerb.Receive words end =
     pid_and_pick names words end >>= λ x. Ok (Act.Receive x.0 x.1)
+
+-- the call of one process that names another
+abbrev pub pair_act : PairVerb → Pid × Pid → Act
+pair_act PairVerb.Link x = Act.Link x.0 x.1
+pair_act PairVerb.Unlink x = Act.Unlink x.0 x.1
+pair_act PairVerb.Monitor x = Act.Monitor x.0 x.1
+pair_act PairVerb.AskAlive x = Act.AskAlive x.0 x.1
+
+abbrev pub act_of_pair : Named → PairVerb → List Told → ℕ → Result Act Mistake
+act_of_pair names verb words end =
+    of_two words end (pid_read names) (pid_read names) >>= λ x. Ok (pair_act verb x)
 
 abbrev pub look_at_process : Named → LookVerb → List Told → ℕ → Result Look Mistake
 look_at_process names LookVerb.Alive words end = of_one words end (pid_read names) >>= λ p. Ok (Look.Alive p)
@@ -129,4 +134,5 @@ call_of defaults names Verb.Open words end = with_settings defaults words >>= λ
 call_of defaults names (Verb.Bare call) words end = of_none words end (Ok call)
 call_of defaults names (Verb.Desk verb) words end = call_of_desk names verb words end
 call_of defaults names (Verb.Process verb) words end = act_of_process names verb words end >>= λ a. Ok (Call.Act a)
+call_of defaults names (Verb.Pair verb) words end = act_of_pair names verb words end >>= λ a. Ok (Call.Act a)
 call_of defaults names (Verb.Look verb) words end = look_at_process names verb words end >>= λ l. Ok (Call.Look l)

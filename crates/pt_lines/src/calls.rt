@@ -12,7 +12,7 @@ use crate::call::{Act, Call, Look};
 use crate::mistake::Mistake;
 use crate::names::Names;
 use crate::settings::config_of;
-use crate::verb::{DeskVerb, LookVerb, ProcessVerb, Verb};
+use crate::verb::{DeskVerb, LookVerb, PairVerb, ProcessVerb, Verb};
 use crate::word::Word;
 use pt_signal::Config;
 
@@ -33,6 +33,7 @@ pub(crate) fn call_of(
         }
         Verb::Desk(verb) => call_of_desk(names, verb, words, end),
         Verb::Process(verb) => Ok(Call::Act(act_of_process(names, verb, words, end)?)),
+        Verb::Pair(verb) => Ok(Call::Act(act_of_pair(names, verb, words, end)?)),
         Verb::Look(verb) => Ok(Call::Look(look_at_process(names, verb, words, end)?)),
     }
 }
@@ -89,14 +90,6 @@ fn act_of_process(
             let (from, to, reason) = pids_and_reason(names, words, end)?;
             Ok(Act::ExitSignal(from, to, reason))
         }
-        ProcessVerb::Link => {
-            let (pid, to) = two_pids(names, words, end)?;
-            Ok(Act::Link(pid, to))
-        }
-        ProcessVerb::Unlink => {
-            let (pid, to) = two_pids(names, words, end)?;
-            Ok(Act::Unlink(pid, to))
-        }
         ProcessVerb::Trap => {
             let (pid, on) = pid_and_truth(names, words, end)?;
             Ok(Act::Trap(pid, on))
@@ -105,23 +98,32 @@ fn act_of_process(
             let (pid, reason) = pid_and_reason(names, words, end)?;
             Ok(Act::Exit(pid, reason))
         }
-        ProcessVerb::Monitor => {
-            let (pid, target) = two_pids(names, words, end)?;
-            Ok(Act::Monitor(pid, target))
-        }
         ProcessVerb::Demonitor => {
             let (pid, monitor, flush) = watch(names, words, end)?;
             Ok(Act::Demonitor(pid, monitor, flush))
-        }
-        ProcessVerb::AskAlive => {
-            let (pid, target) = two_pids(names, words, end)?;
-            Ok(Act::AskAlive(pid, target))
         }
         ProcessVerb::Receive => {
             let (pid, pick) = pid_and_pick(names, words, end)?;
             Ok(Act::Receive(pid, pick))
         }
     }
+}
+
+fn act_of_pair(
+    names: &Names,
+    verb: PairVerb,
+    words: &[Word<'_>],
+    end: usize,
+) -> Result<Act, Mistake>
+    ensures { result ≡ spec.act_of_pair names.now verb (map told_word words.now) end }
+{
+    let (pid, other) = two_pids(names, words, end)?;
+    Ok(match verb {
+        PairVerb::Link => Act::Link(pid, other),
+        PairVerb::Unlink => Act::Unlink(pid, other),
+        PairVerb::Monitor => Act::Monitor(pid, other),
+        PairVerb::AskAlive => Act::AskAlive(pid, other),
+    })
 }
 
 fn look_at_process(

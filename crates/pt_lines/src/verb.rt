@@ -14,6 +14,7 @@ pub enum Verb {
     Bare(Call),
     Desk(DeskVerb),
     Process(ProcessVerb),
+    Pair(PairVerb),
     Look(LookVerb),
 }
 
@@ -38,14 +39,19 @@ pub enum ProcessVerb {
     SpawnChild,
     Send,
     ExitSignal,
-    Link,
-    Unlink,
     Trap,
     Exit,
-    Monitor,
     Demonitor,
-    AskAlive,
     Receive,
+}
+
+/// A call of a process that names one other, and nothing else.
+#[derive(Clone, Copy)]
+pub enum PairVerb {
+    Link,
+    Unlink,
+    Monitor,
+    AskAlive,
 }
 
 /// A look at a process.
@@ -96,12 +102,12 @@ pub static CALLS: [Usage; 37] = [
         arguments: "FROM TO REASON",
     },
     Usage {
-        verb: Verb::Process(ProcessVerb::Link),
+        verb: Verb::Pair(PairVerb::Link),
         name: "link",
         arguments: "PID TO",
     },
     Usage {
-        verb: Verb::Process(ProcessVerb::Unlink),
+        verb: Verb::Pair(PairVerb::Unlink),
         name: "unlink",
         arguments: "PID TO",
     },
@@ -116,7 +122,7 @@ pub static CALLS: [Usage; 37] = [
         arguments: "PID REASON",
     },
     Usage {
-        verb: Verb::Process(ProcessVerb::Monitor),
+        verb: Verb::Pair(PairVerb::Monitor),
         name: "monitor",
         arguments: "PID TARGET",
     },
@@ -126,7 +132,7 @@ pub static CALLS: [Usage; 37] = [
         arguments: "PID REF FLUSH",
     },
     Usage {
-        verb: Verb::Process(ProcessVerb::AskAlive),
+        verb: Verb::Pair(PairVerb::AskAlive),
         name: "ask_alive",
         arguments: "PID TARGET",
     },

@@ -19,9 +19,10 @@ use Rattle.clap.specs.declared.error.kind.ErrorKind.TheVariants.{DisplayHelp, Di
 use Rattle.clap.proofs.OnLiterals.{clap_on_literals}
 use Rattle.clap.proofs.ValueTestLemmas.{accepts-Accepts, Accepts-accepts}
 use Rattle.pt_options.specs.Choosing.{Words, IsCommand, chosen_of, command_with, epochs_of, file_of, number_written, turns_of}
-use Rattle.pt_options.specs.Laws.{AskFor, DefaultsStand, FilesAreNamed, TurnsAreTold, WrongTurnsAreRefused, EpochsAreTold, WrongEpochsAreRefused, ModesAreTold, WrongModesAreRefused, PrintsAreTold, WrongPrintsAreRefused, HelpIsAsked, VersionIsAsked, ExplainingIsTold, ExplainingTakesNoValue, defaults}
+use Rattle.pt_options.specs.Laws.{AskFor, DefaultsStand, FilesAreNamed, TurnsAreTold, WrongTurnsAreRefused, EpochsAreTold, WrongEpochsAreRefused, ModesAreTold, WrongModesAreRefused, UntilsAreTold, WrongUntilsAreRefused, PrintsAreTold, WrongPrintsAreRefused, HelpIsAsked, VersionIsAsked, ExplainingIsTold, ExplainingTakesNoValue, defaults}
 use Rattle.pt_options.proofs.Reading.{false_unless}
 use Rattle.pt_render.specs.declared.choices.Mode.TheVariants.{Many}
+use Rattle.pt_render.specs.declared.choices.Until.TheVariants.{Quiet}
 use Rattle.pt_render.specs.declared.choices.Show.TheVariants.{Summary, Chart, Mermaid, Json}
 use Rattle.pt_render.specs.declared.choices.Options.{Options}
 use Rattle.pt_render.specs.declared.choices.TheConstants.{MOST_EPOCHS, MOST_TURNS}
@@ -32,6 +33,9 @@ at place text = record { ref_ptr = place; now = text }
 
 abbrev modes_at : ℕ × ℕ → ℕ × ℕ → ℕ × ℕ → Words
 modes_at a b c = record { ref_ptr = a; now = at b (codes "single") ∷ at c (codes "many") ∷ [] }
+
+abbrev untils_at : ℕ × ℕ → ℕ × ℕ → ℕ × ℕ → Words
+untils_at a b c = record { ref_ptr = a; now = at b (codes "turns") ∷ at c (codes "quiet") ∷ [] }
 
 abbrev shows_at : ℕ × ℕ → ℕ × ℕ → ℕ × ℕ → ℕ × ℕ → ℕ × ℕ → ℕ × ℕ → Words
 shows_at a b c d e f = record { ref_ptr = a; now = at b (codes "summary") ∷ at c (codes "history") ∷ at d (codes "chart") ∷ at e (codes "mermaid") ∷ at f (codes "json") ∷ [] }
@@ -68,11 +72,12 @@ five P (y ∷ z ∷ ys) t u v w x e each =
     (three (λ rest. P (at y.ref_ptr t ∷ at z.ref_ptr u ∷ rest)) ys v w x (ap (λ vs. tail_of (tail_of vs)) e) (each y.ref_ptr z.ref_ptr)))
 
 -- what holds of the command wherever its words stand holds of it
-of_command : (P : App → Type 0) → ((a b c d e f g i j : ℕ × ℕ) → P (command_with (modes_at a b c) (shows_at d e f g i j))) → (a : App) → IsCommand a → P a
+of_command : (P : App → Type 0) → ((a b c k l m d e f g i j : ℕ × ℕ) → P (command_with (modes_at a b c) (untils_at k l m) (shows_at d e f g i j))) → (a : App) → IsCommand a → P a
 of_command P each a is =
-    subst P (sym is.4)
-    (two (λ xs. P (command_with (record { ref_ptr = is.0.ref_ptr; now = xs }) is.1)) is.0.now (codes "single") (codes "many") is.2 (λ b c.
-    five (λ xs. P (command_with (modes_at is.0.ref_ptr b c) (record { ref_ptr = is.1.ref_ptr; now = xs }))) is.1.now (codes "summary") (codes "history") (codes "chart") (codes "mermaid") (codes "json") is.3 (λ e f g i j. each is.0.ref_ptr b c is.1.ref_ptr e f g i j)))
+    subst P (sym is.6)
+    (two (λ xs. P (command_with (record { ref_ptr = is.0.ref_ptr; now = xs }) is.1 is.2)) is.0.now (codes "single") (codes "many") is.3 (λ b c.
+    two (λ xs. P (command_with (modes_at is.0.ref_ptr b c) (record { ref_ptr = is.1.ref_ptr; now = xs }) is.2)) is.1.now (codes "turns") (codes "quiet") is.4 (λ l m.
+    five (λ xs. P (command_with (modes_at is.0.ref_ptr b c) (untils_at is.1.ref_ptr l m) (record { ref_ptr = is.2.ref_ptr; now = xs }))) is.2.now (codes "summary") (codes "history") (codes "chart") (codes "mermaid") (codes "json") is.5 (λ e f g i j. each is.0.ref_ptr b c is.1.ref_ptr l m is.2.ref_ptr e f g i j))))
 
 -- the three facts of words that are no fault
 abbrev Asks : List Text → Option Text → Options → App → Type 0
@@ -80,11 +85,11 @@ Asks words file options a = (name : Text) → (fault_of a (name ∷ words) ≡ [
 
 pub no_words : DefaultsStand
 unfolding clap_on_literals
-no_words = of_command (Asks [] None defaults) (λ a b c d e f g i j name. (refl, refl, refl))
+no_words = of_command (Asks [] None defaults) (λ a b c k l m d e f g i j name. (refl, refl, refl))
 
 hyphen_named : AskFor (codes "-" ∷ []) (Some (codes "-")) defaults
 unfolding clap_on_literals
-hyphen_named = of_command (Asks (codes "-" ∷ []) (Some (codes "-")) defaults) (λ a b c d e f g i j name. (refl, refl, refl))
+hyphen_named = of_command (Asks (codes "-" ∷ []) (Some (codes "-")) defaults) (λ a b c k l m d e f g i j name. (refl, refl, refl))
 
 not_dashes : (file : Text) → strip_byte 45 file ≡ None → bytes_eq file (45 ∷ 45 ∷ []) ≡ false
 not_dashes file plain = false_unless _ (λ e. let is : file ≡ 45 ∷ 45 ∷ [] = (bytes_eq-Decides file (45 ∷ 45 ∷ [])).0 e in let bad : Some (45 ∷ []) ≡ None = sym (ap (strip_byte 45) is) ∙ plain in cc)
@@ -100,24 +105,24 @@ plain_passes s h file plain = rw (not_dashes file plain, plain) (rw plain refl)
 abbrev behind : Text → Walk
 behind file = record { held = record { rows = []; pending = Some (codes "FILE", file ∷ []); skip = 0 }; waiting = idle; position = 2; is_trailing = false; stopped = None }
 
-file_walked : (modes shows : Words) (file : Text) → strip_byte 45 file ≡ None → walked (built (command_with modes shows)).top.rules [] (walk_from nothing_held) file ≡ behind file
+file_walked : (modes untils shows : Words) (file : Text) → strip_byte 45 file ≡ None → walked (built (command_with modes untils shows)).top.rules [] (walk_from nothing_held) file ≡ behind file
 unfolding walked
-file_walked modes shows file plain = ap (λ (m : Held × Step). after_step (built (command_with modes shows)).top.rules file (walk_from nothing_held) m.0 m.1) (plain_met (built (command_with modes shows)).top.rules nothing_held file plain)
+file_walked modes untils shows file plain = ap (λ (m : Held × Step). after_step (built (command_with modes untils shows)).top.rules file (walk_from nothing_held) m.0 m.1) (plain_met (built (command_with modes untils shows)).top.rules nothing_held file plain)
 
-file_passes : (modes shows : Words) (file : Text) → strip_byte 45 file ≡ None → walk_fault (built (command_with modes shows)).top [] (walk_from nothing_held) (file ∷ []) ≡ []
+file_passes : (modes untils shows : Words) (file : Text) → strip_byte 45 file ≡ None → walk_fault (built (command_with modes untils shows)).top [] (walk_from nothing_held) (file ∷ []) ≡ []
 unfolding walk_fault
-file_passes modes shows file plain =
-    let top = (built (command_with modes shows)).top in
+file_passes modes untils shows file plain =
+    let top = (built (command_with modes untils shows)).top in
     ap₂ (λ (f : Kinds) (m : Held × Step). or_else (or_else f (step_fault top 1 m.0 m.1)) []) (plain_passes top nothing_held file plain) (plain_met top.rules nothing_held file plain)
 
 pub file_named : FilesAreNamed
 unfolding defaults_fault
 file_named = (
   hyphen_named,
-  λ file plain. of_command (Asks (file ∷ []) (Some file) defaults) (λ a b c d e f g i j name. (
-    rw (file_passes (modes_at a b c) (shows_at d e f g i j) file plain, file_walked (modes_at a b c) (shows_at d e f g i j) file plain) refl,
-    rw (file_walked (modes_at a b c) (shows_at d e f g i j) file plain) refl,
-    rw (file_walked (modes_at a b c) (shows_at d e f g i j) file plain) refl,
+  λ file plain. of_command (Asks (file ∷ []) (Some file) defaults) (λ a b c k l m d e f g i j name. (
+    rw (file_passes (modes_at a b c) (untils_at k l m) (shows_at d e f g i j) file plain, file_walked (modes_at a b c) (untils_at k l m) (shows_at d e f g i j) file plain) refl,
+    rw (file_walked (modes_at a b c) (untils_at k l m) (shows_at d e f g i j) file plain) refl,
+    rw (file_walked (modes_at a b c) (untils_at k l m) (shows_at d e f g i j) file plain) refl,
   )),
 )
 
@@ -130,11 +135,11 @@ taken t ok =
 
 pub turns_told : TurnsAreTold
 unfolding clap_on_literals
-turns_told t ok = of_command (Asks ((codes "--turns=" ++ t) ∷ []) None (record defaults { turns = digits_value 10 (without_leading_plus t) })) (λ a b c d e f g i j name. (rw ok refl, refl, ap (λ (n : ℕ). record defaults { turns = n }) (taken t ok)))
+turns_told t ok = of_command (Asks ((codes "--turns=" ++ t) ∷ []) None (record defaults { turns = digits_value 10 (without_leading_plus t) })) (λ a b c k l m d e f g i j name. (rw ok refl, refl, ap (λ (n : ℕ). record defaults { turns = n }) (taken t ok)))
 
 pub turns_refused : WrongTurnsAreRefused
 unfolding clap_on_literals
-turns_refused t bad = of_command (λ x. (name : Text) → fault_of x (name ∷ (codes "--turns=" ++ t) ∷ []) ≡ ValueValidation ∷ []) (λ a b c d e f g i j name. rw bad refl)
+turns_refused t bad = of_command (λ x. (name : Text) → fault_of x (name ∷ (codes "--turns=" ++ t) ∷ []) ≡ ValueValidation ∷ []) (λ a b c k l m d e f g i j name. rw bad refl)
 
 -- and so is one of epochs
 taken_epochs : (t : Text) → is_unsigned_in 1 MOST_EPOCHS t ≡ true → epochs_of (number_written t) ≡ digits_value 10 (without_leading_plus t)
@@ -145,17 +150,17 @@ taken_epochs t ok =
 
 pub epochs_told : EpochsAreTold
 unfolding clap_on_literals
-epochs_told t ok = of_command (Asks ((codes "--epochs=" ++ t) ∷ []) None (record defaults { epochs = digits_value 10 (without_leading_plus t) })) (λ a b c d e f g i j name. (rw ok refl, refl, ap (λ (n : ℕ). record defaults { epochs = n }) (taken_epochs t ok)))
+epochs_told t ok = of_command (Asks ((codes "--epochs=" ++ t) ∷ []) None (record defaults { epochs = digits_value 10 (without_leading_plus t) })) (λ a b c k l m d e f g i j name. (rw ok refl, refl, ap (λ (n : ℕ). record defaults { epochs = n }) (taken_epochs t ok)))
 
 pub epochs_refused : WrongEpochsAreRefused
 unfolding clap_on_literals
-epochs_refused t bad = of_command (λ x. (name : Text) → fault_of x (name ∷ (codes "--epochs=" ++ t) ∷ []) ≡ ValueValidation ∷ []) (λ a b c d e f g i j name. rw bad refl)
+epochs_refused t bad = of_command (λ x. (name : Text) → fault_of x (name ∷ (codes "--epochs=" ++ t) ∷ []) ≡ ValueValidation ∷ []) (λ a b c k l m d e f g i j name. rw bad refl)
 
 pub modes_told : ModesAreTold
 unfolding clap_on_literals
 modes_told = (
-  of_command (Asks (codes "--threads=single" ∷ []) None defaults) (λ a b c d e f g i j name. (refl, refl, refl)),
-  of_command (Asks (codes "--threads=many" ∷ []) None (record defaults { threads = Many })) (λ a b c d e f g i j name. (refl, refl, refl)),
+  of_command (Asks (codes "--threads=single" ∷ []) None defaults) (λ a b c k l m d e f g i j name. (refl, refl, refl)),
+  of_command (Asks (codes "--threads=many" ∷ []) None (record defaults { threads = Many })) (λ a b c k l m d e f g i j name. (refl, refl, refl)),
 )
 
 another : (w t : Text) → t ≢ w → bytes_eq w t ≡ false
@@ -166,8 +171,8 @@ another w t other = false_unless _ (λ e. other (sym ((bytes_eq-Decides w t).0 e
 level_by_walk : (s : Shape) (names : List (Text × List Text)) (h : Held) (words : List Text) (entered : Bool) (below : Kinds) → walk_fault s names (walk_from h) words ≡ InvalidValue ∷ [] → level_fault s names h words entered below ≡ InvalidValue ∷ []
 level_by_walk s names h words entered below e = rw e refl
 
-refused_by_walk : (modes shows : Words) (word name : Text) → walk_fault (built (command_with modes shows)).top [] (walk_from nothing_held) (word ∷ []) ≡ InvalidValue ∷ [] → fault_of (command_with modes shows) (name ∷ word ∷ []) ≡ InvalidValue ∷ []
-refused_by_walk modes shows word name e = level_by_walk (built (command_with modes shows)).top [] nothing_held (word ∷ []) _ _ e
+refused_by_walk : (modes untils shows : Words) (word name : Text) → walk_fault (built (command_with modes untils shows)).top [] (walk_from nothing_held) (word ∷ []) ≡ InvalidValue ∷ [] → fault_of (command_with modes untils shows) (name ∷ word ∷ []) ≡ InvalidValue ∷ []
+refused_by_walk modes untils shows word name e = level_by_walk (built (command_with modes untils shows)).top [] nothing_held (word ∷ []) _ _ e
 
 -- whether a text is among the words of an argument, as the command tests it
 abbrev is_word : Words → Text → Bool
@@ -176,57 +181,74 @@ is_word words t = list_any (λ (name : Bor Text). same_text false name.now t) wo
 no_mode : (a b c : ℕ × ℕ) (t : Text) → t ≢ codes "single" → t ≢ codes "many" → is_word (modes_at a b c) t ≡ false
 no_mode a b c t single many = rw (another (codes "single") t single, another (codes "many") t many) refl
 
-mode_refused : (modes shows : Words) (t : Text) → is_word modes t ≡ false → walk_fault (built (command_with modes shows)).top [] (walk_from nothing_held) ((codes "--threads=" ++ t) ∷ []) ≡ InvalidValue ∷ []
+mode_refused : (modes untils shows : Words) (t : Text) → is_word modes t ≡ false → walk_fault (built (command_with modes untils shows)).top [] (walk_from nothing_held) ((codes "--threads=" ++ t) ∷ []) ≡ InvalidValue ∷ []
 unfolding clap_on_literals
-mode_refused modes shows t other = rw other refl
+mode_refused modes untils shows t other = rw other refl
 
 pub modes_refused : WrongModesAreRefused
-modes_refused t single many = of_command (λ x. (name : Text) → fault_of x (name ∷ (codes "--threads=" ++ t) ∷ []) ≡ InvalidValue ∷ []) (λ a b c d e f g i j name. refused_by_walk (modes_at a b c) (shows_at d e f g i j) (codes "--threads=" ++ t) name (mode_refused (modes_at a b c) (shows_at d e f g i j) t (no_mode a b c t single many)))
+modes_refused t single many = of_command (λ x. (name : Text) → fault_of x (name ∷ (codes "--threads=" ++ t) ∷ []) ≡ InvalidValue ∷ []) (λ a b c k l m d e f g i j name. refused_by_walk (modes_at a b c) (untils_at k l m) (shows_at d e f g i j) (codes "--threads=" ++ t) name (mode_refused (modes_at a b c) (untils_at k l m) (shows_at d e f g i j) t (no_mode a b c t single many)))
+
+no_until : (k l m : ℕ × ℕ) (t : Text) → t ≢ codes "turns" → t ≢ codes "quiet" → is_word (untils_at k l m) t ≡ false
+no_until k l m t turns quiet = rw (another (codes "turns") t turns, another (codes "quiet") t quiet) refl
+
+until_refused : (modes untils shows : Words) (t : Text) → is_word untils t ≡ false → walk_fault (built (command_with modes untils shows)).top [] (walk_from nothing_held) ((codes "--until=" ++ t) ∷ []) ≡ InvalidValue ∷ []
+unfolding clap_on_literals
+until_refused modes untils shows t other = rw other refl
+
+pub untils_refused : WrongUntilsAreRefused
+untils_refused t turns quiet = of_command (λ x. (name : Text) → fault_of x (name ∷ (codes "--until=" ++ t) ∷ []) ≡ InvalidValue ∷ []) (λ a b c k l m d e f g i j name. refused_by_walk (modes_at a b c) (untils_at k l m) (shows_at d e f g i j) (codes "--until=" ++ t) name (until_refused (modes_at a b c) (untils_at k l m) (shows_at d e f g i j) t (no_until k l m t turns quiet)))
+
+pub untils_told : UntilsAreTold
+unfolding clap_on_literals
+untils_told = (
+  of_command (Asks (codes "--until=turns" ∷ []) None defaults) (λ a b c k l m d e f g i j name. (refl, refl, refl)),
+  of_command (Asks (codes "--until=quiet" ∷ []) None (record defaults { until = Quiet })) (λ a b c k l m d e f g i j name. (refl, refl, refl)),
+)
 
 pub prints_told : PrintsAreTold
 unfolding clap_on_literals
 prints_told = (
-  of_command (Asks (codes "--print=summary" ∷ []) None (record defaults { print = Summary })) (λ a b c d e f g i j name. (refl, refl, refl)),
-  of_command (Asks (codes "--print=history" ∷ []) None defaults) (λ a b c d e f g i j name. (refl, refl, refl)),
-  of_command (Asks (codes "--print=chart" ∷ []) None (record defaults { print = Chart })) (λ a b c d e f g i j name. (refl, refl, refl)),
-  of_command (Asks (codes "--print=mermaid" ∷ []) None (record defaults { print = Mermaid })) (λ a b c d e f g i j name. (refl, refl, refl)),
-  of_command (Asks (codes "--print=json" ∷ []) None (record defaults { print = Json })) (λ a b c d e f g i j name. (refl, refl, refl)),
+  of_command (Asks (codes "--print=summary" ∷ []) None (record defaults { print = Summary })) (λ a b c k l m d e f g i j name. (refl, refl, refl)),
+  of_command (Asks (codes "--print=history" ∷ []) None defaults) (λ a b c k l m d e f g i j name. (refl, refl, refl)),
+  of_command (Asks (codes "--print=chart" ∷ []) None (record defaults { print = Chart })) (λ a b c k l m d e f g i j name. (refl, refl, refl)),
+  of_command (Asks (codes "--print=mermaid" ∷ []) None (record defaults { print = Mermaid })) (λ a b c k l m d e f g i j name. (refl, refl, refl)),
+  of_command (Asks (codes "--print=json" ∷ []) None (record defaults { print = Json })) (λ a b c k l m d e f g i j name. (refl, refl, refl)),
 )
 
 no_show : (a b c d e f : ℕ × ℕ) (t : Text) → t ≢ codes "summary" → t ≢ codes "history" → t ≢ codes "chart" → t ≢ codes "mermaid" → t ≢ codes "json" → is_word (shows_at a b c d e f) t ≡ false
 no_show a b c d e f t summary history chart mermaid json = rw (another (codes "summary") t summary, another (codes "history") t history, another (codes "chart") t chart, another (codes "mermaid") t mermaid, another (codes "json") t json) refl
 
-show_refused : (modes shows : Words) (t : Text) → is_word shows t ≡ false → walk_fault (built (command_with modes shows)).top [] (walk_from nothing_held) ((codes "--print=" ++ t) ∷ []) ≡ InvalidValue ∷ []
+show_refused : (modes untils shows : Words) (t : Text) → is_word shows t ≡ false → walk_fault (built (command_with modes untils shows)).top [] (walk_from nothing_held) ((codes "--print=" ++ t) ∷ []) ≡ InvalidValue ∷ []
 unfolding clap_on_literals
-show_refused modes shows t other = rw other refl
+show_refused modes untils shows t other = rw other refl
 
 pub prints_refused : WrongPrintsAreRefused
-prints_refused t summary history chart mermaid json = of_command (λ x. (name : Text) → fault_of x (name ∷ (codes "--print=" ++ t) ∷ []) ≡ InvalidValue ∷ []) (λ a b c d e f g i j name. refused_by_walk (modes_at a b c) (shows_at d e f g i j) (codes "--print=" ++ t) name (show_refused (modes_at a b c) (shows_at d e f g i j) t (no_show d e f g i j t summary history chart mermaid json)))
+prints_refused t summary history chart mermaid json = of_command (λ x. (name : Text) → fault_of x (name ∷ (codes "--print=" ++ t) ∷ []) ≡ InvalidValue ∷ []) (λ a b c k l m d e f g i j name. refused_by_walk (modes_at a b c) (untils_at k l m) (shows_at d e f g i j) (codes "--print=" ++ t) name (show_refused (modes_at a b c) (untils_at k l m) (shows_at d e f g i j) t (no_show d e f g i j t summary history chart mermaid json)))
 
 pub explaining_told : ExplainingIsTold
 unfolding clap_on_literals
-explaining_told = of_command (Asks (codes "--explain" ∷ []) None (record defaults { explain = true })) (λ a b c d e f g i j name. (refl, refl, refl))
+explaining_told = of_command (Asks (codes "--explain" ∷ []) None (record defaults { explain = true })) (λ a b c k l m d e f g i j name. (refl, refl, refl))
 
 pub explaining_alone : ExplainingTakesNoValue
 unfolding clap_on_literals
-explaining_alone t = of_command (λ x. (name : Text) → fault_of x (name ∷ (codes "--explain=" ++ t) ∷ []) ≡ TooManyValues ∷ []) (λ a b c d e f g i j name. refl)
+explaining_alone t = of_command (λ x. (name : Text) → fault_of x (name ∷ (codes "--explain=" ++ t) ∷ []) ≡ TooManyValues ∷ []) (λ a b c k l m d e f g i j name. refl)
 
 pub help_asked : HelpIsAsked
 unfolding clap_on_literals
 help_asked = (
-  of_command (λ x. (name : Text) → fault_of x (name ∷ codes "--help" ∷ []) ≡ DisplayHelp ∷ []) (λ a b c d e f g i j name. refl),
-  of_command (λ x. (name : Text) → fault_of x (name ∷ codes "-h" ∷ []) ≡ DisplayHelp ∷ []) (λ a b c d e f g i j name. refl),
+  of_command (λ x. (name : Text) → fault_of x (name ∷ codes "--help" ∷ []) ≡ DisplayHelp ∷ []) (λ a b c k l m d e f g i j name. refl),
+  of_command (λ x. (name : Text) → fault_of x (name ∷ codes "-h" ∷ []) ≡ DisplayHelp ∷ []) (λ a b c k l m d e f g i j name. refl),
 )
 
 pub version_asked : VersionIsAsked
 unfolding clap_on_literals
 version_asked = (
-  of_command (λ x. (name : Text) → fault_of x (name ∷ codes "--version" ∷ []) ≡ DisplayVersion ∷ []) (λ a b c d e f g i j name. refl),
-  of_command (λ x. (name : Text) → fault_of x (name ∷ codes "-V" ∷ []) ≡ DisplayVersion ∷ []) (λ a b c d e f g i j name. refl),
+  of_command (λ x. (name : Text) → fault_of x (name ∷ codes "--version" ∷ []) ≡ DisplayVersion ∷ []) (λ a b c k l m d e f g i j name. refl),
+  of_command (λ x. (name : Text) → fault_of x (name ∷ codes "-V" ∷ []) ≡ DisplayVersion ∷ []) (λ a b c k l m d e f g i j name. refl),
 )
 
 pub simple_and_free : (a : App) → IsCommand a → is_simple_and_free a ≡ true
-simple_and_free = of_command (λ a. is_simple_and_free a ≡ true) (λ a b c d e f g i j. refl)
+simple_and_free = of_command (λ a. is_simple_and_free a ≡ true) (λ a b c k l m d e f g i j. refl)
 
 pub simple : (a : App) → IsCommand a → is_simple a ≡ true
-simple = of_command (λ a. is_simple a ≡ true) (λ a b c d e f g i j. refl)
+simple = of_command (λ a. is_simple a ≡ true) (λ a b c k l m d e f g i j. refl)

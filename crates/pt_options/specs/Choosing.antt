@@ -20,6 +20,8 @@ use Rattle.pt_render.specs.declared.choices.Mode.TheVariants.{Single, Many}
 use Rattle.pt_render.specs.declared.choices.Options.{Options}
 use Rattle.pt_render.specs.declared.choices.Show.{Show}
 use Rattle.pt_render.specs.declared.choices.Show.TheVariants.{Summary, History, Chart, Mermaid, Json}
+use Rattle.pt_render.specs.declared.choices.Until.{Until}
+use Rattle.pt_render.specs.declared.choices.Until.TheVariants.{Turns, Quiet}
 use Rattle.pt_render.specs.declared.choices.TheConstants.{MOST_EPOCHS, MOST_TURNS}
 
 -- the words that an argument takes, where they stand in memory
@@ -53,6 +55,9 @@ epochs_rule = record (new_rule (codes "epochs")) {
   defaults = codes "1" ∷ [];
 }
 
+abbrev pub until_rule : Words → Rule
+until_rule untils = choice_rule (codes "until") untils (codes "turns")
+
 abbrev pub print_rule : Words → Rule
 print_rule shows = choice_rule (codes "print") shows (codes "history")
 
@@ -68,13 +73,15 @@ IsArgument rule arg = (rule_of arg ≡ rule) × (arg.global ≡ false)
 abbrev pub with_version : App → App
 with_version a = record a { top = record a.top { has_version = true } }
 
-abbrev pub command_with : Words → Words → App
-command_with modes shows =
+abbrev pub command_with : Words → Words → Words → App
+command_with modes untils shows =
     with_rule
     (with_rule
     (with_rule
     (with_rule
+    (with_rule
     (with_rule (with_rule (with_version (new_app (codes "pt_run"))) (new_rule (codes "FILE"))) (threads_rule modes)) turns_rule)
+    (until_rule untils))
     epochs_rule)
     (print_rule shows))
     explain_rule
@@ -82,14 +89,20 @@ command_with modes shows =
 -- the command line of the program
 abbrev pub IsCommand : App → Type 0
 IsCommand a =
-    (modes : Words) × (shows : Words) × (map (λ s. s.now) modes.now ≡ codes "single" ∷ codes "many" ∷ [])
+    (modes : Words) × (untils : Words) × (shows : Words)
+    × (map (λ s. s.now) modes.now ≡ codes "single" ∷ codes "many" ∷ [])
+    × (map (λ s. s.now) untils.now ≡ codes "turns" ∷ codes "quiet" ∷ [])
     × (map (λ s. s.now) shows.now
     ≡ codes "summary" ∷ codes "history" ∷ codes "chart" ∷ codes "mermaid" ∷ codes "json" ∷ [])
-    × (a ≡ command_with modes shows)
+    × (a ≡ command_with modes untils shows)
 
 abbrev pub mode_of : Option Text → Mode
 mode_of None = Single
 mode_of (Some t) = if bytes_eq t (codes "many") then Many else Single
+
+abbrev pub until_of : Option Text → Until
+until_of None = Turns
+until_of (Some t) = if bytes_eq t (codes "quiet") then Quiet else Turns
 
 abbrev pub show_of : Option Text → Show
 show_of None = History
@@ -118,6 +131,7 @@ abbrev pub chosen_of : List Row → Options
 chosen_of rows = record {
   threads = mode_of (first_of (codes "threads") rows);
   turns = turns_of (option_and_then number_written (one_of (codes "turns") rows));
+  until = until_of (first_of (codes "until") rows);
   epochs = epochs_of (option_and_then number_written (one_of (codes "epochs") rows));
   print = show_of (first_of (codes "print") rows);
   explain = is_told (first_of (codes "explain") rows);

@@ -11,10 +11,11 @@ use Rattle.pt_options.specs.Choosing.{IsCommand, chosen_of, file_of}
 use Rattle.pt_render.specs.declared.choices.Mode.TheVariants.{Single, Many}
 use Rattle.pt_render.specs.declared.choices.Options.{Options}
 use Rattle.pt_render.specs.declared.choices.Show.TheVariants.{Summary, History, Chart, Mermaid, Json}
+use Rattle.pt_render.specs.declared.choices.Until.TheVariants.{Turns, Quiet}
 use Rattle.pt_render.specs.declared.choices.TheConstants.{MOST_EPOCHS, MOST_TURNS}
 
 abbrev pub defaults : Options
-defaults = record { threads = Single; turns = 100; epochs = 1; print = History; explain = false }
+defaults = record { threads = Single; turns = 100; until = Turns; epochs = 1; print = History; explain = false }
 
 -- the words, behind the program's name, are no fault, and ask for this
 abbrev pub AskFor : List Text → Option Text → Options → Type 0
@@ -62,6 +63,15 @@ ModesAreTold =
 abbrev pub WrongModesAreRefused : Type 0
 WrongModesAreRefused =
     (t : Text) → t ≢ codes "single" → t ≢ codes "many" → FailWith ((codes "--threads=" ++ t) ∷ []) InvalidValue
+
+abbrev pub UntilsAreTold : Type 0
+UntilsAreTold =
+    AskFor (codes "--until=turns" ∷ []) None defaults
+    × AskFor (codes "--until=quiet" ∷ []) None (record defaults { until = Quiet })
+
+abbrev pub WrongUntilsAreRefused : Type 0
+WrongUntilsAreRefused =
+    (t : Text) → t ≢ codes "turns" → t ≢ codes "quiet" → FailWith ((codes "--until=" ++ t) ∷ []) InvalidValue
 
 abbrev pub PrintsAreTold : Type 0
 PrintsAreTold =

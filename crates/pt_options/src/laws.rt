@@ -1,7 +1,7 @@
 //! What the command line makes of words: each is the contract of a function that does nothing.
 
 ghost use Rattle.pt_options.specs.Laws.{DefaultsStand, FilesAreNamed, TurnsAreTold, WrongTurnsAreRefused, ModesAreTold};
-ghost use Rattle.pt_options.specs.Laws.{EpochsAreTold, WrongEpochsAreRefused};
+ghost use Rattle.pt_options.specs.Laws.{EpochsAreTold, UntilsAreTold, WrongEpochsAreRefused, WrongUntilsAreRefused};
 ghost use Rattle.pt_options.specs.Laws.{WrongModesAreRefused, PrintsAreTold, WrongPrintsAreRefused, HelpIsAsked};
 ghost use Rattle.pt_options.specs.Laws.{VersionIsAsked, ExplainingIsTold, ExplainingTakesNoValue};
 
@@ -44,6 +44,16 @@ pub fn modes_are_told()
 /// Any other text there is refused as a value that there is not.
 pub fn wrong_modes_are_refused()
     ensures { WrongModesAreRefused }
+{}
+
+/// `--until=turns` and `--until=quiet` ask for these.
+pub fn untils_are_told()
+    ensures { UntilsAreTold }
+{}
+
+/// Any other text there is refused as a value that there is not.
+pub fn wrong_untils_are_refused()
+    ensures { WrongUntilsAreRefused }
 {}
 
 /// `--print=summary`, `--print=history`, `--print=chart`, `--print=mermaid` and `--print=json` ask for these.

@@ -1,7 +1,8 @@
 //! The command line of the program that runs a script.
 //!
 //! ```text
-//! pt_run [FILE] [--threads single|many] [--turns N] [--epochs N] [--print summary|history|chart|mermaid|json] [--explain]
+//! pt_run [FILE] [--threads single|many] [--turns N] [--until turns|quiet] [--epochs N]
+//!     [--print summary|history|chart|mermaid|json] [--explain]
 //! ```
 //!
 //! [`options`] reads the words, and [`laws`] says what it makes of some. `FILE` is the script; without it, and for `-`,
@@ -25,10 +26,12 @@ pub mod laws;
 
 use clap::builder::ValueParser;
 use clap::{Arg, ArgAction, ArgMatches, Command};
-pub use pt_render::{MOST_EPOCHS, MOST_TURNS, Mode, Options, Show, VERSION};
+pub use pt_render::{MOST_EPOCHS, MOST_TURNS, Mode, Options, Show, Until, VERSION};
 use std::alloc::{AllocError, Global};
 
 static MODES: [&str; 2] = ["single", "many"];
+
+static UNTILS: [&str; 2] = ["turns", "quiet"];
 
 static SHOWS: [&str; 5] = ["summary", "history", "chart", "mermaid", "json"];
 
@@ -75,6 +78,13 @@ fn command<'a>(alloc: Global) -> Result<Command<'a>, AllocError>
             "Run all desks on one thread in rounds, or each on a thread of its own",
         ))?
         .arg(turns(alloc))?
+        .arg(choice(
+            alloc,
+            "until",
+            UNTILS.as_slice(),
+            "turns",
+            "End an epoch behind its turns, or take them again and again until nothing more can happen",
+        ))?
         .arg(epochs(alloc))?
         .arg(choice(
             alloc,
@@ -165,6 +175,7 @@ fn chosen(matches: &ArgMatches<'_>) -> Options
     Options {
         threads: mode_of(matches.get_str("threads")),
         turns: turns_of(matches.get_one::<u64>("turns")),
+        until: until_of(matches.get_str("until")),
         epochs: epochs_of(matches.get_one::<u64>("epochs")),
         print: show_of(matches.get_str("print")),
         explain: is_told(matches.get_str("explain")),
@@ -188,6 +199,16 @@ fn turns_of(number: Option<u64>) -> u64
     match number {
         Some(turns) => turns.min(MOST_TURNS),
         None => 100,
+    }
+}
+
+/// When an epoch ends, by its word; behind its turns without one.
+fn until_of(word: Option<&str>) -> Until
+    ensures { result ≡ spec.until_of (option_map (λ t. t.now) word.entry) }
+{
+    match word {
+        Some("quiet") => Until::Quiet,
+        _ => Until::Turns,
     }
 }
 

@@ -1,5 +1,5 @@
-//! What can be asked for when a script is run: how its desks are run, for how many turns and epochs, and what is
-//! printed.
+//! What can be asked for when a script is run: how its desks are run, for how many turns and epochs or until when, and
+//! what is printed.
 //!
 //! Whoever reads a command line makes these values, and whoever runs a script takes them; neither knows of the other.
 
@@ -21,6 +21,15 @@ pub enum Mode {
     Single,
     /// Each on a thread of its own.
     Many,
+}
+
+/// When an epoch ends.
+#[derive(Clone, Copy, Debug, PartialEq, Eq)]
+pub enum Until {
+    /// Once each desk has taken its turns.
+    Turns,
+    /// Once nothing more can happen: each desk takes its turns again and again until then, 1,000,000 in all at most.
+    Quiet,
 }
 
 /// What is printed.
@@ -45,6 +54,8 @@ pub struct Options {
     pub threads: Mode,
     /// How many turns each desk takes in each epoch, 1,000,000 at most.
     pub turns: u64,
+    /// When an epoch ends.
+    pub until: Until,
     /// How many epochs there are, 1 to 1,000,000. Between two of them the node is gathered, settled and resumed.
     pub epochs: u64,
     /// What is printed.

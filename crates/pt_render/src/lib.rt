@@ -26,6 +26,6 @@ mod json;
 mod labels;
 mod mermaid;
 
-pub use choices::{MOST_EPOCHS, MOST_TURNS, Mode, Options, Show, VERSION, limits_stand};
+pub use choices::{MOST_EPOCHS, MOST_TURNS, Mode, Options, Show, Until, VERSION, limits_stand};
 pub use json::{JsonEvent, JsonLeftOver};
 pub use mermaid::{MERMAID_HEAD, MermaidEvent, MermaidLeftOver};

@@ -1,32 +1,29 @@
 -- Runners that attend their desks do what their processes are to do next, in every turn.
-use Rattle.std.proofs.Common.{◌≡◌, ◌⊎◌, inl, inr, ℕ, zero, suc, ◌<◌, ◌≤◌, Bool, true, false, List, [], ◌∷◌, length, get_or, set, refl, sym, ap, subst, ◌∙◌, arith}
+use Rattle.std.proofs.Common.{◌≡◌, ◌⊎◌, inl, inr, ℕ, zero, suc, ◌<◌, ◌≤◌, Bool, true, false, List, [], ◌∷◌, length, get_or, set, get_or-set_other, get_or-set_same, ◌≢◌, refl, sym, ap, subst, ◌∙◌, arith}
 use Rattle.std.specs.Prelude.{MatchBool}
 use Rattle.std.proofs.lemmas.Bool.{cases_lt}
-use Rattle.std.proofs.lemmas.List.{get_or-map, length-map, length-set}
+use Rattle.std.proofs.lemmas.List.{get_or-map, get_or_default, length-map, length-set}
 use Rattle.pt_events.specs.declared.event.Stamped.{Stamped}
 use Rattle.pt_shard.specs.ShardState.{ShardState}
-use Rattle.pt_shard.specs.Restart.{restarted}
-use Rattle.pt_gathered.specs.Gathered.{GatheredState}
-use Rattle.pt_gathered.specs.Quiet.{latest_stamp}
 use Rattle.pt_desk.specs.DeskState.{DeskState}
 use Rattle.pt_desk.proofs.Turning.{turn_goes_on}
 use Rattle.pt_node.specs.NodeRunning.{ArePaired}
-use Rattle.pt_node.specs.Resuming.{Resumes}
+use Rattle.pt_node.specs.Stillness.{AllDesksGoOn, AreStill}
 use Rattle.pt_node.specs.Running.{AllWork, BeginRelation, InRounds, Round, Rounds, TakesOrEnds, TakesTurn, TakesTurns, Workers, Works, step_alone}
 use Rattle.pt_script.specs.Plans.{Whole}
 use Rattle.pt_render.specs.declared.choices.Options.{Options}
 use Rattle.pt_runner.specs.declared.runner.Runner.{Runner}
-use Rattle.pt_runner.specs.Acting.{RunnerDoes}
-use Rattle.pt_runner.specs.Waiting.{RunnerAttends, RunnerSteps}
-use Rattle.pt_runner.proofs.Waiting.{knows_later}
-use Rattle.pt_report.specs.Epochs.{CanBegin, PassEpochs, Staffed}
+use Rattle.pt_runner.specs.Acting.{RunnerDoes, table}
+use Rattle.pt_runner.specs.Waiting.{RunnersIdle, IsFresh, RunnerKnows, RunnerSteps}
+use Rattle.pt_runner.proofs.Waiting.{fresh_knows, idle_rests, knows_later}
+use Rattle.pt_report.specs.Epochs.{CanBegin, NothingCanHappen, PassEpochs, Staffed}
 use Rattle.pt_report.specs.Reports.{RunIsBegun}
 
 abbrev Pair : Type 0
 Pair = DeskState × Runner
 
 abbrev IsAttended : Pair → Type 0
-IsAttended p = RunnerAttends p.1 p.0.shard
+IsAttended p = RunnerKnows p.1 p.0.shard
 
 abbrev pub AllAttended : List Pair → Type 0
 AllAttended pairs = (d : ℕ) (x : Pair) → d < length pairs → IsAttended (get_or pairs d x)
@@ -35,13 +32,13 @@ AllAttended pairs = (d : ℕ) (x : Pair) → d < length pairs → IsAttended (ge
 
 turn_does : (budget : ℕ) (old new : Pair) → IsAttended old → TakesTurn (step_alone RunnerSteps) budget old new → TakesTurn (step_alone RunnerDoes) budget old new × IsAttended new
 turn_does budget old new attended h =
-    let so = h.step attended in
+    let so = h.step (inr (inr attended)) in
     let t = h.turn in
     let on = turn_goes_on h.stepped t.posted_desk t.last new.0 t.letters h.turned.stopped h.turned.handled budget t.posts t.handles t.ends in
     let r = h.worked in (
       record { stepped = h.stepped; worked = r; step = so.0; goes_on = h.goes_on; turned = h.turned; turn = t; hears = h.hears },
-      subst (λ (x : Runner). RunnerAttends x new.0.shard) (sym {A = Runner} h.hears)
-          (inr (inr (knows_later r.script.now.processes r.pids.items r.actors.items r.came.items r.read h.stepped.shard new.0.shard on.shard so.1))),
+      subst (λ (x : Runner). RunnerKnows x new.0.shard) (sym {A = Runner} h.hears)
+          (knows_later r.script.now.processes r.pids.items r.actors.items r.came.items r.read h.stepped.shard new.0.shard on.shard so.1),
     )
 
 turns_do : (lets : Runner → ℕ → Bool → Type 0) (budget count : ℕ) (old new : Pair) → IsAttended old → TakesTurns lets (step_alone RunnerSteps) budget count old new → TakesTurns lets (step_alone RunnerDoes) budget count old new × IsAttended new
@@ -51,12 +48,20 @@ turns_do lets budget (suc count) old new attended (last, took, begins, turn) =
     let next = turn_does budget last new before.1 turn in
     ((last, before.0, begins, next.0), next.1)
 
-works_do : (lets : Runner → ℕ → Bool → Type 0) (turns budget : ℕ) (old new : Pair) → IsAttended old → Works lets (step_alone RunnerSteps) turns budget old new → Works lets (step_alone RunnerDoes) turns budget old new
-works_do lets turns budget old new attended h = record { count = h.count; took = (turns_do lets budget h.count old new attended h.took).0; ends = h.ends }
+works_do : (lets : Runner → ℕ → Bool → Type 0) (turns budget : ℕ) (old new : Pair) → IsAttended old → Works lets (step_alone RunnerSteps) turns budget old new → Works lets (step_alone RunnerDoes) turns budget old new × IsAttended new
+works_do lets turns budget old new attended h =
+    let so = turns_do lets budget h.count old new attended h.took in
+    (record { count = h.count; took = so.0; ends = h.ends }, so.1)
 
 module _ (lets : BeginRelation Runner) where
   pub all_do : (turns budget : ℕ) (old new : List Pair) → AllAttended old → AllWork lets (step_alone RunnerSteps) turns budget old new → AllWork lets (step_alone RunnerDoes) turns budget old new
-  all_do turns budget old new attended h = λ d x lt. works_do (lets (get_or old d x).0.shard.number) turns budget (get_or old d x) (get_or new d x) (attended d x lt) (h d x lt)
+  all_do turns budget old new attended h = λ d x lt. (works_do (lets (get_or old d x).0.shard.number) turns budget (get_or old d x) (get_or new d x) (attended d x lt) (h d x lt)).0
+
+  -- and so they stand behind it
+  pub all_know : (turns budget : ℕ) (old new : List Pair) → AllAttended old → length new ≡ length old → AllWork lets (step_alone RunnerSteps) turns budget old new → AllAttended new
+  all_know turns budget old new attended same h = λ d x lt.
+      let within : d < length old = omega (arith, lt, same) in
+      (works_do (lets (get_or old d x).0.shard.number) turns budget (get_or old d x) (get_or new d x) (attended d x within) (h d x within)).1
 
   -- rounds ------------------------------------------------------------------------------------
 
@@ -111,39 +116,85 @@ module _ (lets : BeginRelation Runner) where
   pub in_rounds : (turns budget : ℕ) (old new : List Pair) → AllAttended old → InRounds lets (step_alone RunnerSteps) turns budget old new → InRounds lets (step_alone RunnerDoes) turns budget old new
   in_rounds turns budget old new attended (ended, h) = (ended, (rounds (length old) budget turns _ (new, ended) (attended, refl) h).0)
 
--- an epoch begins -----------------------------------------------------------------------------
+-- a run begins ------------------------------------------------------------------------------
 
-none_read : (journal : List Stamped) (read : ℕ) → journal ≡ [] → (read ≡ 0) ⊎ (length journal < read)
-none_read journal read bare =
-    let l = ap length bare in
-    elim (cases_lt 0 read) [ inl some ↦ inr (omega (arith, l, some)) | inr none ↦ inl (omega (arith, none)) ]
+module _ (desks : List DeskState) (runners : List Runner) (pairs : List Pair) (paired : ArePaired desks runners pairs) where
+  pub same_count : length runners ≡ length desks
+  same_count = omega (arith, length-map pairs (λ (p : Pair). p.1), length-map pairs (λ (p : Pair). p.0), ap length paired.seconds, ap length paired.firsts)
 
--- the runners of a node that begins attend their desks
-pub attended : (desks : List DeskState) (runners : List Runner) (pairs : List Pair) → CanBegin desks runners → ArePaired desks runners pairs → AllAttended pairs
-attended desks runners pairs (inl unread) paired = λ d x lt.
-    let at : get_or runners d x.1 ≡ (get_or pairs d x).1 = ap (λ (rs : List Runner). get_or rs d x.1) (sym paired.seconds) ∙ get_or-map (λ (p : Pair). p.1) pairs d x x.1 lt in
-    let within : d < length runners = omega (arith, lt, length-map pairs (λ (p : Pair). p.1), ap length paired.seconds) in
-    inl (subst (λ (r : Runner). r.read ≡ 0) at (unread d x.1 within))
-attended desks runners pairs (inr bare) paired = λ d x lt.
-    let at : get_or desks d x.0 ≡ (get_or pairs d x).0 = ap (λ (ds : List DeskState). get_or ds d x.0) (sym paired.firsts) ∙ get_or-map (λ (p : Pair). p.0) pairs d x x.0 lt in
-    let within : d < length desks = omega (arith, lt, length-map pairs (λ (p : Pair). p.0), ap length paired.firsts) in
-    let none : (get_or pairs d x).0.shard.journal ≡ [] = subst (λ (y : DeskState). y.shard.journal ≡ []) at (bare d x.0 within) in
-    elim (none_read (get_or pairs d x).0.shard.journal (get_or pairs d x).1.read none) [ inl e ↦ inl e | inr l ↦ inr (inl l) ]
+  pairs_count : length pairs ≡ length runners
+  pairs_count = omega (arith, length-map pairs (λ (p : Pair). p.1), ap length paired.seconds)
+
+  runner_at : (d : ℕ) (x : Pair) (r : Runner) → d < length pairs → get_or runners d r ≡ (get_or pairs d x).1
+  runner_at d x r lt = ap (λ (rs : List Runner). get_or rs d r) (sym paired.seconds) ∙ get_or-map (λ (p : Pair). p.1) pairs d x r lt
+
+  desk_at : (d : ℕ) (x : Pair) (y : DeskState) → d < length pairs → get_or desks d y ≡ (get_or pairs d x).0
+  desk_at d x y lt = ap (λ (ds : List DeskState). get_or ds d y) (sym paired.firsts) ∙ get_or-map (λ (p : Pair). p.0) pairs d x y lt
+
+  pub attended : CanBegin desks runners → AllAttended pairs
+  attended begins = λ d x lt.
+      let within : d < length runners = omega (arith, lt, pairs_count) in
+      subst (λ (y : DeskState). RunnerKnows (get_or pairs d x).1 y.shard) (desk_at d x x.0 lt)
+      (subst (λ (r : Runner). RunnerKnows r (get_or desks d x.0).shard) (runner_at d x x.1 lt) (begins d x.1 x.0 within))
+
+  pub can_begin : AllAttended pairs → CanBegin desks runners
+  can_begin all = λ d r y lt.
+      let x : Pair = (y, r) in
+      let within : d < length pairs = omega (arith, lt, pairs_count) in
+      subst (λ (q : Runner). RunnerKnows q (get_or desks d y).shard) (sym {A = Runner} (runner_at d x r within))
+      (subst (λ (z : DeskState). RunnerKnows (get_or pairs d x).1 z.shard) (sym {A = DeskState} (desk_at d x y within)) (all d x within))
+
+-- turns without steps change nothing of it
+pub rested_begins : (ran : Staffed) (desks : List DeskState) → length ran.1 ≡ length ran.0 → CanBegin ran.0 ran.1 → AllDesksGoOn ran.0 desks → CanBegin desks ran.1
+rested_begins ran desks same begins on = λ d r x lt.
+    let within : d < length ran.0 = omega (arith, lt, same) in
+    let q = get_or ran.1 d r in
+    knows_later q.script.now.processes q.pids.items q.actors.items q.came.items q.read (get_or ran.0 d x).shard (get_or desks d x).shard (on.each d x within).shard (begins d r x lt)
+
+-- where every runner is idle then, and no letter is on its way, nothing more can happen
+pub quiet : (s : Staffed) → CanBegin s.0 s.1 → AreStill s.0 → RunnersIdle s.1 s.0 → NothingCanHappen s
+quiet s begins still idle = record {
+  still = still;
+  rests = λ d r x lt. idle_rests (get_or s.1 d r) (get_or s.0 d x).shard (idle.each d r x (omega (arith, lt, idle.count))) (begins d r x lt);
+}
 
 -- the node that the script begins with
 pub begun_begins : (script : Whole) (first : Staffed) → RunIsBegun script first → CanBegin first.0 first.1
-begun_begins script first begun = inl (λ d r lt. (begun.runners.each d r (omega (arith, lt, begun.runners.counted))).unread)
-
--- a desk that goes on has an empty journal
-resumed_bare : (g : GatheredState) (desks : List DeskState) → Resumes g desks → (d : ℕ) (x : DeskState) → d < length desks → (get_or desks d x).shard.journal ≡ []
-resumed_bare g desks h d x lt =
-    let n = latest_stamp g in
-    let within : d < length g.shards = omega (arith, lt, length-map desks (λ (y : DeskState). y.shard), ap length h.shards, length-map g.shards (restarted n)) in
-    let at : (get_or desks d x).shard ≡ restarted n (get_or g.shards d x.shard) =
-    sym (get_or-map (λ (y : DeskState). y.shard) desks d x x.shard lt) ∙ ap (λ (ss : List ShardState). get_or ss d x.shard) h.shards ∙ get_or-map (restarted n) g.shards d x.shard x.shard within in
-    ap (λ (s : ShardState). s.journal) at
+begun_begins script first begun = λ d r x lt. fresh_knows (get_or first.1 d r) (get_or first.0 d x).shard (begun.runners.each d r (omega (arith, lt, begun.runners.counted))).fresh
 
 -- so a next epoch can begin
 pub epoch_begins : (options : Options) (budget n : ℕ) (first : Staffed) (histories : List Stamped) (now : Staffed) → CanBegin first.0 first.1 → PassEpochs options budget n first histories now → CanBegin now.0 now.1
 epoch_begins options budget zero first histories now begins passed = subst (λ (s : Staffed). CanBegin s.0 s.1) (sym {A = Staffed} passed.0) begins
-epoch_begins options budget (suc n) first histories now begins (mid, before, last, passed, epoch, joined) = inr (resumed_bare epoch.ends.settled now.0 epoch.ends.goes_on)
+epoch_begins options budget (suc n) first histories now begins (mid, before, last, passed, epoch, joined) = λ d r x lt.
+    fresh_knows (get_or now.1 d r) (get_or now.0 d x).shard (epoch.again.each d r (omega (arith, lt, epoch.again.count))).0
+
+-- runners begin again, one after the other ------------------------------------------------------
+
+-- so the first did
+pub record BeganAgain (old now : List Runner) (i : ℕ) : Type 0 where
+  pub count : length now ≡ length old
+  pub each : (d : ℕ) (r : Runner) → d < i → IsFresh (get_or now d r) × (table (get_or now d r) ≡ table (get_or old d r))
+  pub others : (d : ℕ) (r : Runner) → i ≤ d → get_or now d r ≡ get_or old d r
+
+pub none_began : (old : List Runner) → BeganAgain old old 0
+none_began old = record { count = refl; each = λ d r lt. absurd (omega (arith, lt)); others = λ d r le. refl }
+
+pub one_began : (old now : List Runner) (i : ℕ) (a b : Runner) → i < length now → a ≡ get_or now i a → IsFresh b → table b ≡ table a → BeganAgain old now i → BeganAgain old (set now i b) (i + 1)
+one_began old now i a b lt at fresh same h = record {
+  count = length-set now i b ∙ h.count;
+  each = λ d r le. elim (cases_lt d i) [
+    | inl before ↦
+        let apart : d ≢ i = λ e. absurd (omega (arith, e, before)) in
+        let kept : get_or (set now i b) d r ≡ get_or now d r = get_or-set_other now i d b r apart in
+        subst (λ (q : Runner). IsFresh q × (table q ≡ table (get_or old d r))) (sym {A = Runner} kept) (h.each d r before)
+    | inr not_before ↦
+        let is : d ≡ i = omega (arith, le, not_before) in
+        let put : get_or (set now i b) i r ≡ b = get_or-set_same now i b r lt in
+        let was : a ≡ get_or old i r = at ∙ get_or_default now i a r lt ∙ h.others i r (omega arith) in
+        subst (λ n. IsFresh (get_or (set now i b) n r) × (table (get_or (set now i b) n r) ≡ table (get_or old n r))) (sym is)
+        (subst (λ (q : Runner). IsFresh q × (table q ≡ table (get_or old i r))) (sym {A = Runner} put) (fresh, same ∙ ap table was))
+  ];
+  others = λ d r le.
+      let apart : d ≢ i = λ e. absurd (omega (arith, e, le)) in
+      get_or-set_other now i d b r apart ∙ h.others d r (omega (arith, le));
+}

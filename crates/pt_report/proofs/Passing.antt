@@ -29,7 +29,7 @@ use Rattle.pt_render.specs.declared.choices.Show.TheVariants.{Summary, History, 
 use Rattle.pt_report.specs.Lines.{line, lines, left_lines, form_head, history_text}
 use Rattle.pt_report.specs.declared.form.Form.{Form}
 use Rattle.pt_report.specs.declared.form.Form.TheVariants.{Lines, Diagram, Objects}
-use Rattle.pt_report.specs.Epochs.{Staffed, RunsOn, PassEpochs, AreAt, IsWrittenAs, HasWritten, IsOfEnd, IsOfEpoch, IsOfEpochs}
+use Rattle.pt_report.specs.Epochs.{Staffed, RunsEpoch, PassEpochs, AreAt, IsWrittenAs, HasWritten, IsOfEnd, IsOfEpoch, IsOfEpochs}
 use Rattle.pt_runner.specs.declared.runner.Runner.{Runner}
 use Rattle.pt_report.specs.Called.{called_by}
 use Rattle.pt_report.specs.Reports.{HasWrittenOf, RunIsBegun, IsNodeOf, IsOfRun, IsOfStart, IsRun, Reports, ReportShows, ReportTells}
@@ -37,14 +37,12 @@ use Rattle.pt_report.specs.Status.{IsOfPrint, stopped_fault}
 use Rattle.pt_report.specs.Summaries.{SummarizesAs}
 use Rattle.pt_report.specs.declared.fault.ReportFault.{ReportFault}
 use Rattle.pt_report.specs.declared.fault.ReportFault.TheVariants.{Script, Memory, Desk, File}
-use Rattle.pt_report.proofs.Settings.{same_settings}
+use Rattle.pt_report.proofs.Settings.{epoch_goes_on, same_settings}
 use Rattle.pt_report.proofs.Writing.{appends_nothing, appends_then}
 
 -- the settings of a node after an epoch are those before it, with other clocks
-gathered_settings : (options : Options) (budget : ℕ) (config : Config) (old ran : Staffed) (g : GatheredState) → AreDesksOf config old.0 → RunsOn options budget old ran → Gathers ran.0 g → g.config ≡ config
-gathered_settings options budget config old ran g node runs gathers =
-    same_settings config g.config runs.before runs.after
-    (subst (AreDesksOf config) (sym {A = List DeskState} runs.begun.firsts) node) (subst (AreDesksOf g.config) (sym {A = List DeskState} runs.ended.firsts) gathers.node) runs.each
+gathered_settings : (options : Options) (budget : ℕ) (config : Config) (old ran : Staffed) (g : GatheredState) → AreDesksOf config old.0 → RunsEpoch options budget old ran → Gathers ran.0 g → g.config ≡ config
+gathered_settings options budget config old ran g node runs gathers = same_settings config g.config old.0 ran.0 node gathers.node (epoch_goes_on options budget old ran runs)
 
 -- a node at an epoch's beginning, and its settings, the clocks apart
 abbrev HasSettings : Config → List DeskState → Type 0
@@ -54,12 +52,12 @@ settings_after : (options : Options) (budget : ℕ) (config : Config) (n : ℕ) 
 settings_after options budget config zero first histories now node passed = subst (λ (s : Staffed). HasSettings config s.0) (sym {A = Staffed} passed.0) node
 settings_after options budget config (suc n) first histories now node (mid, before, last, passed, epoch, joined) =
     let at = settings_after options budget config n first before mid node passed in
-    let same : epoch.ends.gathered.config ≡ at.0 = gathered_settings options budget at.0 mid (epoch.ran, now.1) epoch.ends.gathered at.1 epoch.runs epoch.ends.gathers in
+    let same : epoch.ends.gathered.config ≡ at.0 = gathered_settings options budget at.0 mid epoch.ran epoch.ends.gathered at.1 epoch.runs epoch.ends.gathers in
     let settled : epoch.ends.settled.config ≡ at.0 = epoch.ends.settles.config ∙ same in
     (record epoch.ends.settled.config { start = latest_stamp epoch.ends.settled }, epoch.ends.goes_on.node, ap (λ (c : Config). record c { start = 0 }) settled ∙ at.2)
 
 -- the node that a script was run on
-pub node_of : (options : Options) (script : Whole) (n : ℕ) (first : Staffed) (histories : List Stamped) (last ran : Staffed) (g : GatheredState) → RunIsBegun script first → PassEpochs options script.settings.budget n first histories last → RunsOn options script.settings.budget last ran → Gathers ran.0 g → IsRun n options script histories g ran.1
+pub node_of : (options : Options) (script : Whole) (n : ℕ) (first : Staffed) (histories : List Stamped) (last ran : Staffed) (g : GatheredState) → RunIsBegun script first → PassEpochs options script.settings.budget n first histories last → RunsEpoch options script.settings.budget last ran → Gathers ran.0 g → IsRun n options script histories g ran.1
 node_of options script n first histories last ran g begun passed runs gathers =
     let budget = script.settings.budget in
     let at = settings_after options budget (config_of script.settings) n first histories last (config_of script.settings, begun.node, refl) passed in (
@@ -214,7 +212,7 @@ pub stopped_of_end : (ran : List DeskState) (g last : GatheredState) (stop : Sto
 stopped_of_end ran g last StopMemory gathers stops = tt
 stopped_of_end ran g last StopWorn gathers stops = (g, gathers, last, stops)
 
-pub of_end : (options : Options) (budget : ℕ) (old ran : Staffed) (f : ReportFault) → RunsOn options budget old ran → IsOfEnd ran.0 f → IsOfEpoch options budget old f
+pub of_end : (options : Options) (budget : ℕ) (old ran : Staffed) (f : ReportFault) → RunsEpoch options budget old ran → IsOfEnd ran.0 f → IsOfEpoch options budget old f
 of_end options budget old ran Memory runs is = tt
 of_end options budget old ran (Desk Worn) runs is = (ran, runs, is)
 of_end options budget old ran (Desk Full) runs is = absurd is

@@ -1,5 +1,6 @@
 -- The epochs of a run: what each is, what goes on from it, and where its history goes.
-use Rattle.std.specs.Prelude.{◌≡◌, ◌⊎◌, ℕ, zero, suc, ◌+◌, ◌<◌, List, [], ◌++◌, length, Option, reverse, slice_index_or, ⊤}
+use Rattle.std.specs.Prelude.{◌≡◌, ◌⊎◌, ℕ, zero, suc, ◌+◌, ◌/◌, ◌<◌, List, [], ◌++◌, length, max, Option, reverse}
+use Rattle.std.specs.Prelude.{slice_index_or, ⊤}
 use Rattle.std.specs.Io.KnownBytes.{Appends}
 use Rattle.pt_events.specs.declared.event.Stamped.{Stamped}
 use Rattle.pt_events.specs.History.{IsLegal}
@@ -13,13 +14,19 @@ use Rattle.pt_desk.specs.DeskState.{DeskState}
 use Rattle.pt_node.specs.Gathering.{Gathers}
 use Rattle.pt_node.specs.NodeRunning.{RunsPaired}
 use Rattle.pt_node.specs.Resuming.{Resumes}
+use Rattle.pt_node.specs.Stillness.{AllDesksGoOn, AreStill, RunsRounds}
+use Rattle.pt_node.specs.declared.stillness.Rested.{Rested}
 use Rattle.pt_node.specs.Running.{AllWork, InRounds, always, step_alone}
 use Rattle.pt_render.specs.declared.choices.Mode.TheVariants.{Single}
 use Rattle.pt_render.specs.declared.choices.Options.{Options}
+use Rattle.pt_render.specs.declared.choices.TheConstants.{MOST_TURNS}
+use Rattle.pt_render.specs.declared.choices.Until.{Until}
+use Rattle.pt_render.specs.declared.choices.Until.TheVariants.{Turns, Quiet}
 use Rattle.pt_render.specs.declared.choices.Show.{Show}
 use Rattle.pt_render.specs.declared.choices.Show.TheVariants.{Summary, History, Chart, Mermaid, Json}
 use Rattle.pt_runner.specs.declared.runner.Runner.{Runner}
-use Rattle.pt_runner.specs.Acting.{RunnerDoes}
+use Rattle.pt_runner.specs.Acting.{RunnerDoes, table}
+use Rattle.pt_runner.specs.Waiting.{AllRest, IsFresh, RunnerKnows}
 use Rattle.pt_report.specs.Lines.{lines}
 use Rattle.pt_report.specs.declared.form.Form.{Form}
 use Rattle.pt_report.specs.declared.form.Form.TheVariants.{Lines, Diagram, Objects}
@@ -41,12 +48,56 @@ pub record RunsAs (options : Options) (budget : ℕ) (old new : List (DeskState 
 abbrev pub RunsOn : Options → ℕ → Staffed → Staffed → Type 0
 RunsOn options budget old new = RunsPaired (RunsAs options budget) old.0 old.1 new.0 new.1
 
--- What an epoch begins with, so that no runner knows of its desk what is not so: none has read a journal yet, or all
--- journals are empty.
+-- What a run begins with: what each runner knows of the desk at its place is true.
 abbrev pub CanBegin : List DeskState → List Runner → Type 0
 CanBegin desks runners =
-    ((d : ℕ) (r : Runner) → d < length runners → (slice_index_or runners d r).read ≡ 0)
-    ⊎ ((d : ℕ) (x : DeskState) → d < length desks → (slice_index_or desks d x).shard.journal ≡ [])
+    (d : ℕ) (r : Runner) (x : DeskState) → d < length runners
+    → RunnerKnows (slice_index_or runners d r) (slice_index_or desks d x).shard
+
+-- Desks were run so once, and then turned until no letter was on its way, or a turn was stopped.
+pub record RunsAndRests (options : Options) (budget : ℕ) (old new : Staffed) : Type 0 where
+  pub ran : Staffed
+  pub runs : RunsOn options budget old ran
+  pub rested : Rested
+  pub rests : RunsRounds (max budget 1) ran.0 rested new.0
+  pub goes_on : AllDesksGoOn ran.0 new.0
+  pub same : new.1 ≡ ran.1
+
+-- so they were, so many times
+abbrev pub RunsAgain : Options → ℕ → ℕ → Staffed → Staffed → Type 0
+RunsAgain options budget zero old new = new ≡ old
+RunsAgain options budget (suc n) old new =
+    (mid : Staffed) × RunsAgain options budget n old mid × RunsAndRests options budget mid new
+
+-- Nothing more can happen: no letter is on its way, and each process has ended, or waits for an item that has not come.
+pub record NothingCanHappen (s : Staffed) : Type 0 where
+  pub still : AreStill s.0
+  pub rests : (d : ℕ) (r : Runner) (x : DeskState) → d < length s.1
+      → AllRest (slice_index_or s.1 d r) (slice_index_or s.0 d x).shard
+
+-- how often desks are run at most: no desk takes more turns than can be asked for
+abbrev pub most_runs : Options → ℕ
+most_runs options = MOST_TURNS / max options.turns 1
+
+-- until nothing more can happen, or so often
+pub record RunsUntilQuiet (options : Options) (budget : ℕ) (old new : Staffed) : Type 0 where
+  pub count : ℕ
+  pub runs : RunsAgain options budget count old new
+  pub ends : NothingCanHappen new ⊎ (count ≡ most_runs options)
+
+-- an epoch's run, which ends as the options say
+abbrev pub RunsTo : Until → Options → ℕ → Staffed → Staffed → Type 0
+RunsTo Turns options budget old new = RunsOn options budget old new
+RunsTo Quiet options budget old new = RunsUntilQuiet options budget old new
+
+abbrev pub RunsEpoch : Options → ℕ → Staffed → Staffed → Type 0
+RunsEpoch options budget old new = RunsTo options.until options budget old new
+
+-- each runner begins again over a desk that was resumed: it knows nothing, and each of its processes goes on where it was
+pub record BeginAgain (old new : List Runner) : Type 0 where
+  pub count : length new ≡ length old
+  pub each : (d : ℕ) (r : Runner) → d < length old
+      → IsFresh (slice_index_or new d r) × (table (slice_index_or new d r) ≡ table (slice_index_or old d r))
 
 -- desks were gathered and settled, this is the history of all that, which is legal over what was before it, and the
 -- desks go on over what it leaves behind
@@ -60,12 +111,13 @@ pub record EndsEpoch (ran : List DeskState) (history : List Stamped) (next : Lis
   pub legal : IsLegal (begins settled) (events (reverse history))
   pub goes_on : Resumes settled next
 
--- an epoch: the desks were run, and go on from it with the runners as these were left
+-- an epoch: the desks were run, and go on from it with the runners, which begin again
 pub record PassesEpoch (options : Options) (budget : ℕ) (old : Staffed) (history : List Stamped)
     (new : Staffed) : Type 0 where
-  pub ran : List DeskState
-  pub runs : RunsOn options budget old (ran, new.1)
-  pub ends : EndsEpoch ran history new.0
+  pub ran : Staffed
+  pub runs : RunsEpoch options budget old ran
+  pub ends : EndsEpoch ran.0 history new.0
+  pub again : BeginAgain ran.1 new.1
 
 -- so many epochs, one after the other, and their histories in this order
 abbrev pub PassEpochs : Options → ℕ → ℕ → Staffed → List Stamped → Staffed → Type 0
@@ -113,7 +165,7 @@ IsOfEnd ran _ = ⊥
 -- a fault of an epoch
 abbrev pub IsOfEpoch : Options → ℕ → Staffed → ReportFault → Type 0
 IsOfEpoch options budget old Memory = ⊤
-IsOfEpoch options budget old (Desk Worn) = (ran : Staffed) × RunsOn options budget old ran × StopsWorn ran.0
+IsOfEpoch options budget old (Desk Worn) = (ran : Staffed) × RunsEpoch options budget old ran × StopsWorn ran.0
 IsOfEpoch options budget old _ = ⊥
 
 -- a fault of one of the epochs before the last, or of writing their histories

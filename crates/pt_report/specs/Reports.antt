@@ -26,7 +26,7 @@ use Rattle.pt_runner.specs.declared.runner.Runner.{Runner}
 use Rattle.pt_runner.specs.Starting.{StartBegins, AreRunners, BornUntil}
 use Rattle.pt_chart.specs.Drawing.{IsChart}
 use Rattle.pt_report.specs.Called.{called_by}
-use Rattle.pt_report.specs.Epochs.{Staffed, RunsOn, PassEpochs, HasWritten}
+use Rattle.pt_report.specs.Epochs.{Staffed, RunsEpoch, PassEpochs, HasWritten}
 use Rattle.pt_report.specs.Lines.{history_text}
 use Rattle.pt_report.specs.declared.form.Form.{Form}
 use Rattle.pt_report.specs.declared.form.Form.TheVariants.{Lines, Diagram, Objects}
@@ -53,7 +53,7 @@ pub record IsNodeOf (epochs : ℕ) (options : Options) (script : Whole) (histori
   pub last : Staffed
   pub passed : PassEpochs options script.settings.budget epochs first histories last
   pub ran : Staffed
-  pub runs : RunsOn options script.settings.budget last ran
+  pub runs : RunsEpoch options script.settings.budget last ran
   pub gathers : Gathers ran.0 g
 
 -- so it was, and these are its runners behind that

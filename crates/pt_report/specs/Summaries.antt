@@ -1,7 +1,7 @@
 -- What a summary prints.
-use Rattle.std.specs.Prelude.{◌≡◌, ℕ, ◌-◌, ◌^◌, ◌++◌, min, Bool, true, false, List, [], length, map, Option, Some}
+use Rattle.std.specs.Prelude.{◌≡◌, ℕ, ◌-◌, ◌^◌, ◌++◌, ◌==◌, min, Bool, true, false, List, [], length, map, Option, Some}
 use Rattle.std.specs.Prelude.{None, codes, string_bytes}
-use Rattle.std.specs.List.{flat_map}
+use Rattle.std.specs.List.{before_first, flat_map}
 use Rattle.std.specs.Io.KnownBytes.{Appends}
 use Rattle.pt_signal.specs.declared.pid.Pid.{Pid}
 use Rattle.pt_events.specs.History.{Past, Start}
@@ -50,10 +50,14 @@ abbrev pub Summarizes : GatheredState → Option (List ℕ) → Option (List ℕ
 Summarizes g old new =
     (q : QuietState) × (t : Totals) × Totalled g q t × AppendsAccounts (totals_text t ++ codes "\n") q old new
 
--- explained: what a process is at, or why it ended, stands on a line behind its own; which text that is, is left open
+-- a text up to its first line feed
+abbrev pub first_line : List ℕ → List ℕ
+first_line text = before_first (λ b. b == 10) text
+
+-- explained: what a process is at, or why it ended, is on a line after its own; which text that is, is left open
 abbrev pub noted_line : Start → Past → Note → List ℕ
 noted_line start past n =
-    account_line n.pid (account_in start past n.pid) ++ (codes "  " ++ string_bytes n.text ++ codes "\n")
+    account_line n.pid (account_in start past n.pid) ++ (codes "  " ++ first_line (string_bytes n.text) ++ codes "\n")
 
 abbrev pub noted_lines : Start → Past → List Note → List ℕ
 noted_lines start past notes = flat_map (noted_line start past) notes

@@ -4,7 +4,7 @@ ghost use Rattle.std.specs.Prelude.{◌≡◌, ◌≢◌, ◌⊎◌, ◌-◌, �
 ghost use Rattle.std.specs.Io.KnownBytes.{Appends};
 ghost use Rattle.pt_events.specs.declared.event.Stamped.{Stamped};
 ghost use Rattle.pt_report.specs.Epochs as spec;
-ghost use Rattle.pt_report.specs.Epochs.{CanBegin, EndsEpoch, HasWritten, IsOfEnd, IsOfEpoch, IsOfEpochs, PassEpochs};
+ghost use Rattle.pt_report.specs.Epochs.{BeginAgain, CanBegin, EndsEpoch, HasWritten, IsOfEnd, IsOfEpoch, IsOfEpochs, PassEpochs};
 ghost use Rattle.pt_report.specs.Epochs.{PassesEpoch};
 ghost use Rattle.pt_report.specs.Lines.{lines};
 ghost use Rattle.pt_report.specs.Status.{IsOfPrint};
@@ -13,7 +13,7 @@ ghost use Rattle.pt_report.specs.declared.fault.ReportFault.TheVariants.{File};
 use crate::fault::ReportFault;
 use crate::form::Form;
 use crate::history::write_events;
-use crate::running::run_once;
+use crate::running::run_epoch;
 use pt_node::{Node, Stamped};
 use pt_render::{Options, Show};
 use pt_runner::Runner;
@@ -95,8 +95,19 @@ fn pass_epoch<R: Threads + Sync>(
     ensures fault { IfErr result (IsOfEpoch options.now budget (node, runners.old.items)) }
 {
     let mut node = node;
-    run_once(rt, options, budget, &mut node, runners)?;
-    end_epoch(alloc, node)
+    run_epoch(rt, options, budget, &mut node, runners)?;
+    let ended = end_epoch(alloc, node)?;
+    begin_again(runners);
+    Ok(ended)
+}
+
+/// Lets every runner begin again over its desk, which was resumed.
+fn begin_again(runners: &mut Vec<Runner<'_>>)
+    ensures { BeginAgain runners.old.items runners.new.items }
+{
+    for index in 0..runners.len() {
+        runners[index].begin_again();
+    }
 }
 
 /// Ends an epoch: the node is gathered and settled, and goes on with empty journals. What they had comes back.

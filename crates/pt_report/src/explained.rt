@@ -5,7 +5,7 @@ ghost use Rattle.std.specs.Io.KnownBytes.{Appends};
 ghost use Rattle.pt_accounts.specs.LivesState.{InEveryMerge};
 ghost use Rattle.pt_gathered.specs.Gathered.{begins, journals};
 ghost use Rattle.pt_report.specs.Lines.{totals_text};
-ghost use Rattle.pt_report.specs.Summaries.{AppendsNotes, AreNotesOf, Explains, SummarizesAs, noted_line};
+ghost use Rattle.pt_report.specs.Summaries.{AppendsNotes, AreNotesOf, Explains, SummarizesAs, first_line, noted_line};
 ghost use Rattle.pt_report.specs.Reports.{IsOfSummary};
 ghost use Rattle.pt_report.specs.declared.fault.ReportFault.TheVariants.{File};
 
@@ -133,6 +133,16 @@ fn write_note<W: Write>(out: &mut W, quiet: &Quiet, note: &Note) -> io::Result<(
         Appends (W.contents out.old) (W.contents out.new) (noted_line (begins quiet.now.gathered) past note.now))) }
 {
     write_account(out, quiet, note.pid)?;
-    let text = note.text.as_str();
-    writeln!(out, "  {text}")
+    let line = first_line(note.text.as_str());
+    writeln!(out, "  {line}")
+}
+
+/// The first line of a text: a note is one line, whatever it repeats of a script.
+fn first_line(text: &str) -> &str
+    ensures { result.now ≡ first_line text.now }
+{
+    match text.split_once('\n') {
+        Some((line, _rest)) => line,
+        None => text,
+    }
 }

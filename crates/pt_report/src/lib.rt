@@ -59,4 +59,4 @@ mod totals;
 mod words;
 
 pub use fault::ReportFault;
-pub use reporting::report;
+pub use reporting::{report, report_left};

@@ -9,12 +9,19 @@ use crate::explained::summarize;
 use crate::fault::ReportFault;
 use crate::form::Form;
 use crate::history::print_history;
-use crate::running::run_script;
+use crate::running::{Busy, run_script};
+use pt_node::Gathered;
 use pt_render::{Options, Show};
 use pt_script::Script;
 use std::alloc::Global;
 use std::io::Write;
 use std::thread::Threads;
+
+/// Nobody has anything to do.
+const AT_REST: Busy = Busy {
+    idle: true,
+    alive: 0,
+};
 
 /// Reads a script from its bytes, runs it as the options say, and prints what happened.
 ///
@@ -33,7 +40,6 @@ use std::thread::Threads;
 /// or when the node is settled, between epochs or for a summary; and `Memory` that there was none. The writer is then
 /// as it was, or, where the history of more epochs than one is printed by lines, has those of the epochs that had passed. `File`
 /// tells that the writer failed, and nothing else tells it; some of the text may have been written.
-#[tactic(auto, using(crate::proofs::Faults::of_run, crate::proofs::Faults::of_print, crate::proofs::Faults::of_summary))]
 pub fn report<R: Threads + Sync, W: Write>(
     rt: &R,
     alloc: Global,
@@ -46,9 +52,52 @@ pub fn report<R: Threads + Sync, W: Write>(
     ensures untouched { IfErr result (λ f. f ≢ File → (out.new ≡ out.old)
         ⊎ HasWrittenOf script.now options.now (W.contents out.old) (W.contents out.new)) }
 {
+    let mut busy = AT_REST;
+    run_and_report(rt, alloc, options, script, out, &mut busy)
+}
+
+/// Reports as [`report`] does, and returns how many processes have operations left: 0 if the run came to rest.
+///
+/// A run is at rest if no letter is on its way, nothing happened in the last turn that a process has not seen, and each
+/// process has ended or waits for an item that has not come. Else all that are alive are counted.
+pub fn report_left<R: Threads + Sync, W: Write>(
+    rt: &R,
+    alloc: Global,
+    options: &Options,
+    script: &[u8],
+    out: &mut W,
+) -> Result<u64, ReportFault>
+    ensures text { OnOk result (Reports script.now options.now (W.contents out.old) (W.contents out.new)) }
+    ensures refused { IfErr result (IsRefusedAs script.now options.now) }
+    ensures untouched { IfErr result (λ f. f ≢ File → (out.new ≡ out.old)
+        ⊎ HasWrittenOf script.now options.now (W.contents out.old) (W.contents out.new)) }
+{
+    let mut busy = AT_REST;
+    match run_and_report(rt, alloc, options, script, out, &mut busy) {
+        Ok(()) => Ok(if busy.idle { 0 } else { busy.alive }),
+        Err(fault) => Err(fault),
+    }
+}
+
+/// Reads a script, runs it and prints what happened, and says what its processes had to do then.
+#[tactic(auto, using(crate::proofs::Faults::of_run, crate::proofs::Faults::of_print, crate::proofs::Faults::of_summary))]
+fn run_and_report<R: Threads + Sync, W: Write>(
+    rt: &R,
+    alloc: Global,
+    options: &Options,
+    script: &[u8],
+    out: &mut W,
+    busy: &mut Busy,
+) -> Result<(), ReportFault>
+    ensures text { OnOk result (Reports script.now options.now (W.contents out.old) (W.contents out.new)) }
+    ensures refused { IfErr result (IsRefusedAs script.now options.now) }
+    ensures untouched { IfErr result (λ f. f ≢ File → (out.new ≡ out.old)
+        ⊎ HasWrittenOf script.now options.now (W.contents out.old) (W.contents out.new)) }
+{
     let read = Script::from_bytes(alloc, script)?;
     let mut kept = Vec::new(alloc);
-    let (gathered, runners) = run_script(rt, alloc, options, &read, &mut kept, out)?;
+    let (gathered, runners, left) = run_script(rt, alloc, options, &read, &mut kept, out)?;
+    *busy = behind(left, &gathered);
     match options.print {
         Show::Summary => summarize(
             alloc,
@@ -63,5 +112,17 @@ pub fn report<R: Threads + Sync, W: Write>(
         Show::Mermaid => print_history(Form::Diagram, kept, &gathered, out),
         Show::Json => print_history(Form::Objects, kept, &gathered, out),
         Show::Chart => print_chart(alloc, script, runners.as_slice(), kept, &gathered, out),
+    }
+}
+
+/// What there is to do with the letters that are on their way: nobody is idle while there is one.
+fn behind(busy: Busy, gathered: &Gathered) -> Busy {
+    let still = match gathered.left_over() {
+        Ok(letters) => letters.is_empty(),
+        Err(_refused) => false,
+    };
+    Busy {
+        idle: busy.idle && still,
+        alive: busy.alive,
     }
 }

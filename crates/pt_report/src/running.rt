@@ -1,21 +1,31 @@
 //! A script is run.
 
-ghost use Rattle.std.specs.Prelude.{◌≡◌, ◌≢◌, ◌⊎◌, ◌-◌, [], List, OnOk, IfOk, IfErr};
+ghost use Rattle.std.specs.Prelude.{◌≡◌, ◌≢◌, ◌⊎◌, ◌-◌, [], List, true, OnOk, IfOk, IfErr};
 ghost use Rattle.pt_events.specs.declared.event.Stamped.{Stamped};
 ghost use Rattle.pt_report.specs.Epochs as spec;
-ghost use Rattle.pt_report.specs.Epochs.{CanBegin, HasWritten, RunsOn, Staffed};
+ghost use Rattle.pt_report.specs.Epochs.{CanBegin, HasWritten, NothingCanHappen, RunsAndRests, RunsEpoch, RunsOn};
+ghost use Rattle.pt_report.specs.Epochs.{RunsUntilQuiet, Staffed};
 ghost use Rattle.pt_report.specs.Reports.{RunIsBegun, IsOfRun, IsRun};
 ghost use Rattle.pt_report.specs.declared.fault.ReportFault.TheVariants.{File, Memory};
 
 use crate::epochs::pass_epochs;
 use crate::fault::ReportFault;
 use pt_node::{FreeGate, Gathered, Node, Stamped, abandon, open};
-use pt_render::{Mode, Options};
-use pt_runner::Runner;
+use pt_render::{MOST_TURNS, Mode, Options, Until};
+use pt_runner::{Runner, are_idle};
 use pt_script::Script;
 use std::alloc::Global;
 use std::io::Write;
 use std::thread::Threads;
+
+/// What the processes of a script had to do as its last epoch ended.
+#[derive(Clone, Copy)]
+pub(crate) struct Busy {
+    /// Whether nobody had anything to do.
+    pub(crate) idle: bool,
+    /// How many were alive.
+    pub(crate) alive: u64,
+}
 
 /// The node of a script, run as the options say and gathered in its last epoch, and the runners that ran it. The
 /// histories of the epochs before are in the writer or kept, as the options ask for.
@@ -27,7 +37,7 @@ pub(crate) fn run_script<'a, R: Threads + Sync, W: Write>(
     script: &'a Script,
     kept: &mut Vec<Stamped>,
     out: &mut W,
-) -> Result<(Gathered, Vec<Runner<'a>>), ReportFault>
+) -> Result<(Gathered, Vec<Runner<'a>>, Busy), ReportFault>
     requires { kept.old.items ≡ [] }
     ensures node { IfOk result (λ r. (histories : List Stamped)
         × IsRun (options.now.epochs - 1) options.now script.now histories r.0 r.1.items
@@ -65,7 +75,7 @@ fn run_epochs<'a, R: Threads + Sync, W: Write>(
     runners: Vec<Runner<'a>>,
     kept: &mut Vec<Stamped>,
     out: &mut W,
-) -> Result<(Gathered, Vec<Runner<'a>>), ReportFault>
+) -> Result<(Gathered, Vec<Runner<'a>>, Busy), ReportFault>
     requires begun { RunIsBegun script.now (node, runners.items) }
     requires empty { kept.old.items ≡ [] }
     ensures node { IfOk result (λ r. (histories : List Stamped)
@@ -81,15 +91,92 @@ fn run_epochs<'a, R: Threads + Sync, W: Write>(
     let mut runners = runners;
     let budget = script.budget();
     let mut node = pass_epochs(rt, alloc, options, budget, node, &mut runners, kept, out)?;
-    run_once(rt, options, budget, &mut node, &mut runners)?;
+    run_epoch(rt, options, budget, &mut node, &mut runners)?;
+    let busy = busy_in(&node, runners.as_slice());
     match node.gather() {
-        Ok(gathered) => Ok((gathered, runners)),
+        Ok(gathered) => Ok((gathered, runners, busy)),
         Err(_back) => Err(ReportFault::Memory),
     }
 }
 
+/// What the processes of a script have to do.
+fn busy_in(node: &Node, runners: &[Runner<'_>]) -> Busy {
+    let desks = node.desks();
+    let mut alive = 0u64;
+    for (desk, runner) in desks.iter().zip(runners) {
+        alive = alive.saturating_add(runner.alive(desk) as u64);
+    }
+    let idle = are_idle(runners, desks);
+    Busy { idle, alive }
+}
+
 /// Runs the desks for one epoch, as the options say.
-pub(crate) fn run_once<R: Threads + Sync>(
+pub(crate) fn run_epoch<R: Threads + Sync>(
+    rt: &R,
+    options: &Options,
+    budget: u32,
+    node: &mut Node,
+    runners: &mut Vec<Runner<'_>>,
+) -> Result<(), ReportFault>
+    requires { CanBegin node.old runners.old.items }
+    ensures runs { OnOk result
+        (RunsEpoch options.now budget (node.old, runners.old.items) (node.new, runners.new.items)) }
+    ensures fault { IfErr result (λ f. f ≡ Memory) }
+{
+    match options.until {
+        Until::Turns => run_once(rt, options, budget, node, runners),
+        Until::Quiet => run_until_quiet(rt, options, budget, node, runners),
+    }
+}
+
+/// Lets each desk take its turns again and again, until nothing more can happen, or all turns that can be asked for
+/// were taken.
+fn run_until_quiet<R: Threads + Sync>(
+    rt: &R,
+    options: &Options,
+    budget: u32,
+    node: &mut Node,
+    runners: &mut Vec<Runner<'_>>,
+) -> Result<(), ReportFault>
+    requires { CanBegin node.old runners.old.items }
+    ensures runs { OnOk result
+        (RunsUntilQuiet options.now budget (node.old, runners.old.items) (node.new, runners.new.items)) }
+    ensures fault { IfErr result (λ f. f ≡ Memory) }
+{
+    for _run in 0..MOST_TURNS / options.turns.max(1) {
+        if run_and_rest(rt, options, budget, node, runners)? {
+            return Ok(());
+        }
+    }
+    Ok(())
+}
+
+/// Lets each desk take its turns once, then brings every letter that is on its way to its receiver, and answers whether
+/// nothing more can happen.
+fn run_and_rest<R: Threads + Sync>(
+    rt: &R,
+    options: &Options,
+    budget: u32,
+    node: &mut Node,
+    runners: &mut Vec<Runner<'_>>,
+) -> Result<bool, ReportFault>
+    requires { CanBegin node.old runners.old.items }
+    ensures runs { IfOk result (λ quiet.
+        RunsAndRests options.now budget (node.old, runners.old.items) (node.new, runners.new.items)) }
+    ensures quiet { IfOk result (λ quiet. quiet ≡ true → NothingCanHappen (node.new, runners.new.items)) }
+    ensures begins { OnOk result (CanBegin node.new runners.new.items) }
+    ensures fault { IfErr result (λ f. f ≡ Memory) }
+{
+    run_once(rt, options, budget, node, runners)?;
+    let rested = node.turn_until_still(budget);
+    match rested.stopped {
+        Some(_stop) => Ok(false),
+        None => Ok(are_idle(runners.as_slice(), node.desks())),
+    }
+}
+
+/// Lets each desk take its turns once.
+fn run_once<R: Threads + Sync>(
     rt: &R,
     options: &Options,
     budget: u32,
@@ -98,6 +185,7 @@ pub(crate) fn run_once<R: Threads + Sync>(
 ) -> Result<(), ReportFault>
     requires { CanBegin node.old runners.old.items }
     ensures runs { OnOk result (RunsOn options.now budget (node.old, runners.old.items) (node.new, runners.new.items)) }
+    ensures begins { OnOk result (CanBegin node.new runners.new.items) }
     ensures fault { IfErr result (λ f. f ≡ Memory) }
 {
     match options.threads {

@@ -40,6 +40,20 @@ impl fmt::Display for Wanted<'_> {
     }
 }
 
+/// How often an operation was refused for memory or at the clock's limit, where it was.
+#[derive(Clone, Copy)]
+pub(crate) struct Refused(pub(crate) u64);
+
+impl fmt::Display for Refused {
+    fn fmt<W: fmt::Write>(&self, f: &mut fmt::Formatter<W>) -> fmt::Result {
+        match self.0 {
+            0 => Ok(()),
+            1 => f.write_str(", refused once"),
+            times => write!(f, ", refused {times} times"),
+        }
+    }
+}
+
 /// What an operation is called in a script.
 pub(crate) fn word_of(operation: Operation) -> &'static str {
     match operation {

@@ -1,5 +1,5 @@
 -- What a porter does with what came in at its door.
-use Rattle.std.specs.Prelude.{◌≡◌, ◌⊎◌, ⊤, Bool, true, false, List, [], ◌∷◌, ◌++◌, Some, Result, Ok, Err}
+use Rattle.std.specs.Prelude.{◌≡◌, ◌⊎◌, ⊤, ℕ, ◌≤◌, Bool, true, false, List, [], ◌∷◌, ◌++◌, length, Some, Result, Ok, Err}
 use Rattle.pt_signal.specs.declared.pid.Pid.{Pid}
 use Rattle.pt_signal.specs.declared.signal.Signal.TheVariants.{Message}
 use Rattle.pt_events.specs.declared.event.Event.TheVariants.{Said}
@@ -31,22 +31,25 @@ SendsOn me [] d e = e ≡ d
 SendsOn me (post ∷ posts) d e =
     (mid : DeskState) × (answer : Result ⊤ Fault) × PorterTells me post d answer mid × IsDone answer × SendsOn me posts mid e
 
--- nothing was sent on: none waited, or the desk refused it for another cause, and it stays
-abbrev pub KeepsFront : Pid → DeskState → DeskState → Type 0
-KeepsFront me d e =
-    (e ≡ d) ⊎ ((post : Post) × (answer : Result ⊤ Fault) × PorterTells me post d answer e × (IsDone answer → ⊥))
+-- nothing was sent on: none waits, or the desk refused the first that does for another cause, and it stays
+abbrev pub KeepsFront : Pid → List Post → DeskState → DeskState → Type 0
+KeepsFront me [] d e = e ≡ d
+KeepsFront me (post ∷ waits) d e = (answer : Result ⊤ Fault) × PorterTells me post d answer e × (IsDone answer → ⊥)
 
--- the first that waits is taken out and sent on, or stays; of what was taken out before and after
-abbrev pub BringsFirst : Pid → List Post → DeskState → Bool → List Post → DeskState → Type 0
-BringsFirst me before d true after e =
+-- the first that waits is taken out and sent on, or stays; of what was taken out before and after, and what waits then
+abbrev pub BringsFirst : Pid → List Post → DeskState → Bool → List Post → List Post → DeskState → Type 0
+BringsFirst me before d true after waits e =
     (post : Post) × (after ≡ before ++ post ∷ []) × SendsOn me (post ∷ []) d e
-BringsFirst me before d false after e = (after ≡ before) × KeepsFront me d e
+BringsFirst me before d false after waits e = (after ≡ before) × KeepsFront me waits d e
 
--- What was taken out of the way in, in its order, was sent on, each once, and nothing else was; what is refused for
--- want of memory or stamps, or since `me` has ended, stays in front of what waits.
-pub record Brings (me : Pid) (before : List Post) (d : DeskState) (after : List Post) (e : DeskState) : Type 0 where
+-- What was taken out of the way in, in its order, was sent on, each once, and nothing else was: as many as it may send
+-- on in a step, or fewer, if none waits then or the desk refuses the first that does. What is refused for want of memory
+-- or stamps, or since `me` has ended, stays in front of what waits.
+pub record Brings (me : Pid) (most : ℕ) (before : List Post) (d : DeskState) (after waits : List Post) (e : DeskState)
+    : Type 0 where
   pub posts : List Post
   pub taken : after ≡ before ++ posts
+  pub few : length posts ≤ most
   pub mid : DeskState
   pub sends : SendsOn me posts d mid
-  pub keeps : KeepsFront me mid e
+  pub keeps : ((length posts ≡ most) × (e ≡ mid)) ⊎ KeepsFront me waits mid e

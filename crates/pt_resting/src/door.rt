@@ -1,7 +1,9 @@
 //! The way in: messages from threads that have no desk.
 
-ghost use Rattle.std.specs.Prelude.{◌≡◌, [], ◌∷◌, ◌++◌, OnOk, IfOk, IfErr, false};
-ghost use Rattle.rtrb.specs.Ring.{IsPair, received, sent};
+ghost use Rattle.std.specs.Prelude.{◌≡◌, ◌<◌, ◌≤◌, ◌+◌, ◌==◌, ◌||◌, Bool, [], ◌∷◌, ◌++◌, OnOk, IfOk, IfErr, IsOk};
+ghost use Rattle.std.specs.Prelude.{length, max, not};
+ghost use Rattle.rtrb.specs.Ring.{IsPair, SameConsumer, SameProducer, consumer_capacity, known_free, known_items};
+ghost use Rattle.rtrb.specs.Ring.{producer_capacity, received, sent};
 ghost use Rattle.pt_desk.specs.DeskState.{DeskState, GoesOn};
 ghost use Rattle.pt_resting.specs.Bringing.{BringsFirst, Brings};
 
@@ -31,8 +33,13 @@ impl<'a> Door<'a> {
     /// Hands in a message, and rings at the desk. It is given back, and nothing has changed, exactly where as many wait
     /// as the way in has places.
     pub fn post(&mut self, post: Post) -> Result<(), Post>
-        ensures taken { OnOk result (sent self.new.ring ≡ sent self.old.ring ++ post ∷ []) }
-        ensures full { IfErr result (λ p. (p ≡ post) × (sent self.new.ring ≡ sent self.old.ring)) }
+        ensures taken { OnOk result ((sent self.new.ring ≡ sent self.old.ring ++ post ∷ [])
+            × (known_free self.old.ring ≤ known_free self.new.ring + 1)) }
+        ensures full { IfErr result (λ p. (p ≡ post) × (sent self.new.ring ≡ sent self.old.ring)
+            × (known_free self.new.ring ≡ 0)) }
+        ensures succeeds { 0 < known_free self.old.ring → IsOk result }
+        ensures ring { SameProducer self.old.ring self.new.ring }
+        ensures desk { (self.new.desk ≡ self.old.desk) × (self.new.bells ≡ self.old.bells) }
     {
         match self.ring.push(post) {
             Ok(()) => {
@@ -55,8 +62,6 @@ pub struct Porter<W> {
     ring: Consumer<Post>,
     me: Pid,
     most: u32,
-    /// Whether messages may have been left in the last step.
-    more: bool,
     work: W,
 }
 
@@ -70,8 +75,11 @@ pub fn way_in<'a, W: Drop>(
     most: u32,
     work: W,
 ) -> Result<(Door<'a>, Porter<W>), AllocError>
-    ensures { IfOk result (λ r. IsPair r.0.ring r.1.ring × (sent r.0.ring ≡ []) × (received r.1.ring ≡ [])
-        × (r.1.me ≡ me) × (r.1.work ≡ work)) }
+    ensures pair { IfOk result (λ r. IsPair r.0.ring r.1.ring) }
+    ensures door { IfOk result (λ r. (sent r.0.ring ≡ []) × (known_free r.0.ring ≡ places)
+        × (producer_capacity r.0.ring ≡ places) × (r.0.desk ≡ me.shard)) }
+    ensures porter { IfOk result (λ r. (received r.1.ring ≡ []) × (known_items r.1.ring ≡ [])
+        × (consumer_capacity r.1.ring ≡ places) × (r.1.me ≡ me) × (r.1.most ≡ max 1 most) × (r.1.work ≡ work)) }
 {
     let (producer, consumer) = RingBuffer::new(alloc, places as usize)?;
     let door = Door {
@@ -83,7 +91,6 @@ pub fn way_in<'a, W: Drop>(
         ring: consumer,
         me,
         most: most.max(1),
-        more: false,
         work,
     };
     Ok((door, porter))
@@ -109,14 +116,14 @@ impl<W> Porter<W> {
     #[tactic(auto, using(pt_node::proofs::GoingOn::stays))]
     fn bring_one(&mut self, desk: &mut Desk) -> bool
         ensures brings { BringsFirst self.old.me (received self.old.ring) desk.old result (received self.new.ring)
-            desk.new }
+            (known_items self.new.ring) desk.new }
+        ensures ring { SameConsumer self.old.ring self.new.ring }
         ensures me { self.old.me ≡ self.new.me }
         ensures most { self.old.most ≡ self.new.most }
         ensures work { self.old.work ≡ self.new.work }
         ensures goes_on { GoesOn desk.old desk.new }
     {
-        self.more = self.ring.slots() > 0;
-        if !self.more {
+        if self.ring.slots() == 0 {
             return false;
         }
         let post = *self.ring.peek_known();
@@ -129,10 +136,12 @@ impl<W> Porter<W> {
         }
     }
 
-    /// Sends on as many as it may in a step.
+    /// Sends on as many as it may in a step, and looks whether more wait.
     #[tactic(auto, using(pt_node::proofs::GoingOn::stays, pt_desk::proofs::Turning::goes_on_then))]
     fn bring(&mut self, desk: &mut Desk)
-        ensures brings { Brings self.old.me (received self.old.ring) desk.old (received self.new.ring) desk.new }
+        ensures brings { Brings self.old.me self.old.most (received self.old.ring) desk.old (received self.new.ring)
+            (known_items self.new.ring) desk.new }
+        ensures ring { SameConsumer self.old.ring self.new.ring }
         ensures me { self.old.me ≡ self.new.me }
         ensures most { self.old.most ≡ self.new.most }
         ensures work { self.old.work ≡ self.new.work }
@@ -143,15 +152,17 @@ impl<W> Porter<W> {
                 return;
             }
         }
+        let _more = self.ring.slots();
     }
 }
 
 impl<W: Work> Work for Porter<W> {
-    ghost does = { λ old d new e. (mid : DeskState) × Brings old.me (received old.ring) d (received new.ring) mid
-        × W.Work.does old.work mid new.work e × (new.me ≡ old.me) × (new.most ≡ old.most) };
+    ghost does = { λ old d new e. (mid : DeskState) × Brings old.me old.most (received old.ring) d (received new.ring)
+        (known_items new.ring) mid × SameConsumer old.ring new.ring × W.Work.does old.work mid new.work e
+        × (new.me ≡ old.me) × (new.most ≡ old.most) };
 
-    ghost hears = { λ old d turned new. W.Work.hears old.work d turned new.work
-        × (received new.ring ≡ received old.ring) × (new.me ≡ old.me) × (new.most ≡ old.most) };
+    ghost hears = { λ old d turned new. W.Work.hears old.work d turned new.work × (new.ring ≡ old.ring)
+        × (new.me ≡ old.me) × (new.most ≡ old.most) };
 
     #[tactic(auto, using(pt_node::proofs::GoingOn::stays, pt_desk::proofs::Turning::goes_on_then))]
     fn step(&mut self, desk: &mut Desk) {
@@ -164,8 +175,12 @@ impl<W: Work> Work for Porter<W> {
     }
 }
 
+/// A porter has something to do while it knows of a message that waits, or its work has.
 impl<W: Rests> Rests for Porter<W> {
+    ghost busy = { λ p answer. (own : Bool) × W.Rests.busy p.work own
+        × (answer ≡ (own || not (length (known_items p.ring) == 0))) };
+
     fn has_work(&self) -> bool {
-        self.more || self.work.has_work()
+        self.work.has_work() || self.ring.cached_slots() != 0
     }
 }

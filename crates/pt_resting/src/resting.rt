@@ -1,21 +1,30 @@
 //! A work that tells its bells when there is nothing to do.
 
-ghost use Rattle.std.specs.Prelude.{◌≡◌, Bool};
+ghost use Rattle.std.specs.Prelude.{◌≡◌, ◌==◌, ◌||◌, ⊤, Bool, None, length, not};
+ghost use Rattle.pt_crew.specs.Crews.{queue, waiting};
 
 use crate::bells::Bells;
 use pt_crew::{Behaviour, Crew};
 use pt_node::{Desk, Event, Pid, Stamped, Turned, Work};
 
 /// A work that knows whether it has something to do by itself, though nothing comes to its desk.
+///
+/// When it says so is its ghost member `busy`, of the work and its answer. A work that says nothing there promises
+/// nothing of its answer.
 pub trait Rests: Work {
+    ghost busy: { Self → Bool → Type 0 } = { λ _ _. ⊤ };
+
     /// Whether its next step has something to do, as far as it knows.
-    fn has_work(&self) -> bool;
+    fn has_work(&self) -> bool
+        ensures { busy self.now result };
 }
 
 /// A crew has something to do while somebody stands in its queue, or waits to enter.
 impl<B: Behaviour + Drop> Rests for Crew<B> {
+    ghost busy = { λ c answer. answer ≡ (not (length (queue c) == 0) || not (length (waiting c) == 0)) };
+
     fn has_work(&self) -> bool {
-        self.queued() > 0 || self.waiting() > 0
+        self.queued() != 0 || self.waiting() != 0
     }
 }
 
@@ -36,7 +45,8 @@ pub struct Resting<'a, W> {
 impl<'a, W: Rests> Resting<'a, W> {
     /// The work of a desk of the node whose bells these are.
     pub fn new(work: W, bells: &'a Bells) -> Resting<'a, W>
-        ensures { result.work ≡ work }
+        ensures work { result.work ≡ work }
+        ensures first { (result.clock ≡ None) × (result.posts ≡ 0) }
     {
         Resting {
             work,

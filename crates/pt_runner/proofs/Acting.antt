@@ -136,11 +136,6 @@ same_at xs i x y lt ex ey = ex ∙ get_or_default xs i x y lt ∙ sym ey
 pub with_child_same : (process : ℕ) (answer : Result Pid Fault) (plans : List Plan) (pids : List (Option Pid)) (xs ys : List Actor) → xs ≡ ys → with_born process answer (table_of plans pids xs) ≡ with_born process answer (table_of plans pids ys)
 with_child_same process answer plans pids xs ys e = ap (λ (zs : List Actor). with_born process answer (table_of plans pids zs)) e
 
-pub some_at : (xs : List Acting) (i : ℕ) → i < length xs → (a : Acting) × (get_or xs i a ≡ a)
-some_at [] i lt = absurd (omega (arith, lt))
-some_at (x ∷ xs) zero lt = (x, refl)
-some_at (x ∷ xs) (suc i) lt = some_at xs i (omega (arith, lt))
-
 -- those that stood there before a child was listed
 pub child_behind : (process : ℕ) (answer : Result Pid Fault) (t : PidTable) (i : ℕ) (d : Acting) → i < length t.actors → get_or (with_born process answer t).actors i d ≡ get_or t.actors i d
 child_behind process (Ok p) t i d lt = get_or_append_left t.actors (newborn_actor t.plans process p ∷ []) d i lt

@@ -26,6 +26,7 @@ use Rattle.pt_script.specs.declared.values.Top.{Top}
 use Rattle.pt_runner.specs.declared.runner.Actor.{Actor}
 use Rattle.pt_runner.specs.declared.runner.Runner.{Runner}
 use Rattle.pt_runner.specs.Acting.{Acting, acting, table, newborn_actor}
+use Rattle.pt_runner.specs.Waiting.{IsFresh}
 use Rattle.pt_runner.specs.Starting.{on, birth, StartBegins, IsRunnerOf, named_tops, put_pid, numbered_pids, starter, starters, is_on, AtNext, BirthsStop, BornUntil, BearsList, Starts}
 
 -- the desks of a node -----------------------------------------------------------------
@@ -217,10 +218,10 @@ module _ (w : Whole) (born : List Pid) (d i : ℕ) (t : Top) (p : Pid) (actors :
 
 -- the runner that has all that were listed
 pub runner_made : (w : Whole) (born : List Pid) (d i : ℕ) (actors : List Actor) (pids : List (Option Pid)) (r : Runner) → length born ≤ i → Listed w born d i actors → pids ≡ numbered_pids w born
-    → r.script.now ≡ w → r.read ≡ 0 → table r ≡ record { plans = w.processes; pids = pids; actors = map acting actors } → IsRunnerOf w born d r
-runner_made w born d i actors pids r all listed numbers script unread made = record {
+    → r.script.now ≡ w → IsFresh r → table r ≡ record { plans = w.processes; pids = pids; actors = map acting actors } → IsRunnerOf w born d r
+runner_made w born d i actors pids r all listed numbers script fresh made = record {
   script = script;
-  unread = unread;
+  fresh = fresh;
   table =
       made ∙ ap (λ (ps : List (Option Pid)). record { plans = w.processes; pids = ps; actors = map acting actors }) numbers
       ∙ ap (λ (xs : List Acting). record { plans = w.processes; pids = numbered_pids w born; actors = xs }) (listed ∙ ap (starters w.processes d) (named_all w born i all));

@@ -24,10 +24,10 @@ use Rattle.pt_desk.specs.Reaching.{IsReached, has_link_to_make, has_monitor_to_m
 use Rattle.pt_script.specs.declared.values.Operation.{Operation}
 use Rattle.pt_script.specs.declared.values.Operation.TheVariants.{Send, Receive, Check, Link, Unlink, Monitor, Demonitor, Alive, Trap, Exit, Signal as SendExit, Spawn, Pass}
 use Rattle.pt_runner.specs.declared.calls.Progress.{Progress}
-use Rattle.pt_runner.specs.declared.calls.Progress.TheVariants.{Done, Stays, Ends}
+use Rattle.pt_runner.specs.declared.calls.Progress.TheVariants.{Done, Waits, Stays, Ends}
 use Rattle.pt_runner.specs.declared.runner.Actor.{Actor}
 use Rattle.pt_runner.specs.declared.runner.Runner.{Runner}
-use Rattle.pt_runner.specs.Acting.{came_of, IsCall, CallsTarget, ReachesAt, Takes, taken_of, Demonitors, HasNoRoom, MonitorsAt, AsksAt, Performs, GoesBehind, Acting, PidTable, acting, table, advanced, set_acting, with_born, newborn_actor, next_of, Plays, Spawns, TriesSpawn, DoesOperation, ActsAt, EachActs, living, EachDoesNext, target_of, pid_if, pick_meant, reference_of}
+use Rattle.pt_runner.specs.Acting.{came_of, IsCall, CallsTarget, ReachesAt, Takes, taken_of, Demonitors, HasNoRoom, MonitorsAt, AsksAt, Performs, GoesBehind, Acting, PidTable, acting, table, advanced, ended_or_put_off, put_off, set_acting, with_born, newborn_actor, next_of, Plays, Spawns, TriesSpawn, DoesOperation, ActsAt, EachActs, living, EachDoesNext, target_of, pid_if, pick_meant, reference_of}
 use Rattle.pt_runner.specs.Stepping.{actor_of, child_of, IsStampOf, DoesOne, EachDoesOne, processes_here, ProcessesStep}
 
 -- one event ---------------------------------------------------------------------------------
@@ -178,16 +178,16 @@ first_of true b h = refl
 first_of false b h = h
 
 -- a receive, where what comes of it without an item ends nobody
-without_item : (p : Pid) (without : Progress) (old new : ShardState) → (without ≡ Done) ⊎ (without ≡ Stays) → DoesOne p old new [] → Leaves p without old new
+without_item : (p : Pid) (without : Progress) (old new : ShardState) → (without ≡ Done) ⊎ (without ≡ Waits) → DoesOne p old new [] → Leaves p without old new
 without_item p without old new (inl e) one = leaves_as p without Done old new e one
-without_item p without old new (inr e) one = leaves_as p without Stays old new e one
+without_item p without old new (inr e) one = leaves_as p without Waits old new e one
 
-taken_leaves : (p : Pid) (k : Pick) (without : Progress) (old new : ShardState) (answer : Result (Option Item) Fault) → (without ≡ Done) ⊎ (without ≡ Stays) → Calls p (take_event old p k) (first_match old p k) old answer new → Leaves p (taken_of without answer) old new
+taken_leaves : (p : Pid) (k : Pick) (without : Progress) (old new : ShardState) (answer : Result (Option Item) Fault) → (without ≡ Done) ⊎ (without ≡ Waits) → Calls p (take_event old p k) (first_match old p k) old answer new → Leaves p (taken_of without answer) old new
 taken_leaves p k without old new (Ok None) h c = without_item p without old new h (leaves p (take_event old p k) (first_match old p k) old new (Ok None) (take_own old p k) c)
 taken_leaves p k without old new (Ok (Some item)) h c = leaves p (take_event old p k) (first_match old p k) old new (Ok (Some item)) (take_own old p k) c
 taken_leaves p k without old new (Err fault) h c = leaves p (take_event old p k) (first_match old p k) old new (Err fault) (take_own old p k) c
 
-takes_leaves : (at : Option Pick) (p : Pid) (without : Progress) (old : ShardState) (progress : Progress) (new : ShardState) → (without ≡ Done) ⊎ (without ≡ Stays) → Takes at p without old progress new → Leaves p progress old new
+takes_leaves : (at : Option Pick) (p : Pid) (without : Progress) (old : ShardState) (progress : Progress) (new : ShardState) → (without ≡ Done) ⊎ (without ≡ Waits) → Takes at p without old progress new → Leaves p progress old new
 takes_leaves None p without old progress new h (is, same) = passed p progress old new is same
 takes_leaves (Some k) p without old progress new h (answer, calls, is) = leaves_as p progress (taken_of without answer) old new is (taken_leaves p k without old new answer h calls)
 
@@ -215,7 +215,7 @@ asks_leaves p (Some t) old references progress new after (inr (answer, calls, is
 performs_leaves : (pids : List (Option Pid)) (p : Pid) (o : Operation) (old : ShardState) (references : List (Option Ref)) (progress : Progress) (new : ShardState) (after : List (Option Ref)) → Performs pids p o old references progress new after → Leaves p progress old new
 performs_leaves pids p (Send to kind num who) old references progress new after h =
     reach_leaves (target_of old pids to) p (λ t. lives old p) (λ t. Some (Said p t (Message (record { kind = kind; num = num; who = pid_if pids who })))) old progress new (λ t h. h) (λ t. (refl, refl, λ d. refl)) h.0
-performs_leaves pids p (Receive pattern) old references progress new after h = takes_leaves (pick_meant pids references pattern) p Stays old progress new (inr refl) h.0
+performs_leaves pids p (Receive pattern) old references progress new after h = takes_leaves (pick_meant pids references pattern) p Waits old progress new (inr refl) h.0
 performs_leaves pids p (Check pattern) old references progress new after h = takes_leaves (pick_meant pids references pattern) p Done old progress new (inl refl) h.0
 performs_leaves pids p (Link to) old references progress new after h =
     reach_leaves (target_of old pids to) p (has_link_to_make old p) (link_event old p) old progress new (λ t. first_of (lives old p) _) (link_own old p) h.0
@@ -231,22 +231,28 @@ performs_leaves pids p Pass old references progress new after h = passed p progr
 
 -- how it goes on behind it
 
-advanced_case : (begins : Bool) (a : Acting) (done : ℕ) → (cond begins (record a { begins = false }) (record a { done = done })).pid ≡ a.pid
+advanced_case : (begins : Bool) (a : Acting) (done : ℕ) → (cond begins (record a { begins = false; refused = 0 }) (record a { done = done; refused = 0 })).pid ≡ a.pid
 advanced_case true a done = refl
 advanced_case false a done = refl
 
 advanced_pid : (a : Acting) → (advanced a).pid ≡ a.pid
 advanced_pid a = advanced_case a.begins a _
 
+ended_pid : (answer : Result (Unit {0}) Fault) (a : Acting) → (ended_or_put_off answer a).pid ≡ a.pid
+ended_pid (Ok x) a = refl
+ended_pid (Err f) a = refl
+
 behind_pid : (progress : Progress) (a : Acting) (old : ShardState) (b : Acting) (new : ShardState) → GoesBehind progress a old b new → b.pid ≡ a.pid
 behind_pid Done a old b new h = ap (λ (x : Acting). x.pid) h.0 ∙ advanced_pid a
+behind_pid Waits a old b new h = ap (λ (x : Acting). x.pid) h.0
 behind_pid Stays a old b new h = ap (λ (x : Acting). x.pid) h.0
-behind_pid (Ends reason) a old b new h = ap (λ (x : Acting). x.pid) h.0
+behind_pid (Ends reason) a old b new h = ap (λ (x : Acting). x.pid) h.1 ∙ ended_pid h.0 a
 
 then_behind : (progress : Progress) (a : Acting) (old between : ShardState) (b : Acting) (new : ShardState) → Leaves a.pid progress old between → GoesBehind progress a between b new → DoesOne a.pid old new []
 then_behind Done a old between b new one h = subst (λ (s : ShardState). DoesOne a.pid old s []) (sym h.1) one
+then_behind Waits a old between b new one h = subst (λ (s : ShardState). DoesOne a.pid old s []) (sym h.1) one
 then_behind Stays a old between b new one h = subst (λ (s : ShardState). DoesOne a.pid old s []) (sym h.1) one
-then_behind (Ends reason) a old between b new same (is, (answer, calls)) =
+then_behind (Ends reason) a old between b new same (answer, is, calls) =
     subst (λ (s : ShardState). DoesOne a.pid s new []) same (does_one a.pid (Some (Left a.pid reason)) (tt {0}) between new answer (refl, refl, λ d. refl) calls)
 
 -- a birth -------------------------------------------------------------------------------------
@@ -312,7 +318,7 @@ spawns_once process linked i a t u old new lt at h =
     (born_by h.answer, spawned a linked h.answer old h.between h.b new h.bears h.behind, ap pids_in h.table ∙ kept ∙ child_pids process h.answer t)
 
 tries_once : (process : ℕ) (linked : Bool) (i : ℕ) (a : Acting) (t u : PidTable) (old new : ShardState) → i < length t.actors → get_or t.actors i a ≡ a → TriesSpawn process linked i a t old u new → ActsOnce a.pid t old u new
-tries_once process linked i a t u old new lt at (inl (same, still)) = ([], inl (still, refl), ap pids_in same ∙ sym (append-nil (pids_in t)))
+tries_once process linked i a t u old new lt at (inl (same, still)) = ([], inl (still, refl), ap pids_in same ∙ set_pids i a (put_off a) t lt at refl ∙ sym (append-nil (pids_in t)))
 tries_once process linked i a t u old new lt at (inr h) = spawns_once process linked i a t u old new lt at h
 
 operation_once : (o : Operation) (i : ℕ) (a : Acting) (t u : PidTable) (old new : ShardState) → i < length t.actors → get_or t.actors i a ≡ a → DoesOperation o i a t old u new → ActsOnce a.pid t old u new

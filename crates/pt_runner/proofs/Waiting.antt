@@ -1,7 +1,7 @@
 -- What a runner knows of those that wait stays true, and who sleeps finds nothing.
-use Rattle.std.proofs.Common.{◌≡◌, ◌≢◌, ◌⊎◌, inl, inr, ℕ, zero, suc, ◌+◌, ◌-◌, ◌<◌, ◌≤◌, Bool, true, false, cond, ◌||◌, leb-true, List, [], ◌∷◌, ◌++◌, length, length-append, reverse, take, map, get_or, set, slice_get, Option, Some, None, Ok, refl, sym, ap, subst, ◌∙◌, append_assoc, append-nil, add-one, arith}
-use Rattle.std.specs.Prelude.{is_some}
-use Rattle.std.specs.List.{All, find, filter}
+use Rattle.std.proofs.Common.{◌≡◌, ◌≢◌, ◌⊎◌, inl, inr, ℕ, zero, suc, ◌+◌, ◌-◌, ◌<◌, ◌≤◌, Bool, true, false, cond, ◌||◌, ◌&&◌, ◌==◌, eqb-eq, leb-true, List, [], ◌∷◌, ◌++◌, length, length-append, reverse, take, map, get_or, set, slice_get, Option, Some, None, Ok, refl, sym, ap, subst, ◌∙◌, append_assoc, append-nil, add-one, arith}
+use Rattle.std.specs.Prelude.{is_some, not}
+use Rattle.std.specs.List.{All, find, filter, list_all}
 use Rattle.std.specs.Option.{option_map}
 use Rattle.std.proofs.lemmas.Bool.{cases_lt}
 use Rattle.std.proofs.lemmas.List.{get_or_default, length-reverse, take_all}
@@ -28,10 +28,11 @@ use Rattle.pt_script.specs.declared.values.Operation.{Operation}
 use Rattle.pt_script.specs.declared.values.Operation.TheVariants.{Receive}
 use Rattle.pt_script.specs.declared.values.Pattern.{Pattern}
 use Rattle.pt_script.specs.declared.values.Pattern.TheVariants.{Any, Kind, From, ExitOf, DownOf, AliveOf}
-use Rattle.pt_runner.specs.declared.calls.Progress.TheVariants.{Stays}
+use Rattle.pt_runner.specs.declared.calls.Progress.TheVariants.{Waits}
 use Rattle.pt_runner.specs.declared.runner.Actor.{Actor}
+use Rattle.pt_runner.specs.declared.runner.Runner.{Runner}
 use Rattle.pt_runner.specs.Acting.{Acting, ActsAt, DoesOperation, Plays, acting, pick_meant, set_acting}
-use Rattle.pt_runner.specs.Waiting.{FindsNothing, IsNoted, IsTrueOf, IsUnmarked, KnowsOf, WaitsSince, is_before, marked, since, sleeps}
+use Rattle.pt_runner.specs.Waiting.{RunnerAttends, FindsNothing, IsFresh, IsNoted, IsTrueOf, IsUnmarked, RunnerKnows, KnowsOf, WaitsSince, is_before, marked, since, sleeps, rests, idle_runner, ActorRests, AllRest}
 use Rattle.pt_runner.proofs.Acting.{table_of, acting_at, acting_within, set_actor, take_at}
 
 -- whom nothing came to ------------------------------------------------------------------------
@@ -218,10 +219,10 @@ skipped plans pids actors i a d lt is f =
     let t = table_of plans pids actors in
     let at : get_or (map acting actors) i (acting a) ≡ acting a = acting_at actors i a lt is in
     let plays : Plays pids (Receive f.pattern) (acting a) d (acting a) d = record {
-      progress = Stays;
+      progress = Waits;
       references = (acting a).references;
       between = d;
-      performs = (take_at (pick_meant pids a.references.items f.pattern) f.pick a.pid Stays d d (Ok None) Stays f.picks (nothing_taken a.pid f.pick d f.alive f.nothing) refl, refl);
+      performs = (take_at (pick_meant pids a.references.items f.pattern) f.pick a.pid Waits d d (Ok None) Waits f.picks (nothing_taken a.pid f.pick d f.alive f.nothing) refl, refl);
       behind = (refl, refl);
     } in
     let same : t ≡ set_acting i (acting a) t = sym (ap (λ (xs : List Acting). record { plans = plans; pids = pids; actors = xs }) (set_back (map acting actors) i (acting a) at)) in
@@ -231,6 +232,35 @@ skipped plans pids actors i a d lt is f =
       is = at;
       acts = subst (λ (o : Operation). DoesOperation o i (acting a) t d t d) (sym f.next) (acting a, plays, same);
     }
+
+-- nobody has anything to do -------------------------------------------------------------------------------
+
+both_of : (a b : Bool) → (a && b) ≡ true → (a ≡ true) × (b ≡ true)
+both_of true b h = (refl, h)
+both_of false b h = absurd (cc)
+
+rests_alive : (plans : List Plan) (pids : List (Option Pid)) (d : ShardState) (a : Actor) (s l : Bool) → (s ≡ true → FindsNothing plans pids (acting a) d) → (s || not l) ≡ true → l ≡ true → FindsNothing plans pids (acting a) d
+rests_alive plans pids d a true l finds h alive = finds refl
+rests_alive plans pids d a false true finds h alive = absurd (cc)
+rests_alive plans pids d a false false finds h alive = absurd (cc)
+
+each_rests : (plans : List Plan) (pids : List (Option Pid)) (came : List ℕ) (d : ShardState) (actors : List Actor) → All (λ a. sleeps came a ≡ true → FindsNothing plans pids (acting a) d) actors → list_all (rests came d) actors ≡ true → All (ActorRests plans pids d) actors
+each_rests plans pids came d [] finds h = All-nil (ActorRests plans pids d)
+each_rests plans pids came d (a ∷ actors) finds h =
+    let two = both_of (rests came d a) (list_all (rests came d) actors) h in
+    All-cons (ActorRests plans pids d) a actors
+    (λ alive. rests_alive plans pids d a (sleeps came a) (lives d a.pid) (All-head (λ x. sleeps came x ≡ true → FindsNothing plans pids (acting x) d) a actors finds) two.0 alive)
+    (each_rests plans pids came d actors (All-tail (λ x. sleeps came x ≡ true → FindsNothing plans pids (acting x) d) a actors finds) two.1)
+
+pub idle_rests : (r : Runner) (d : ShardState) → idle_runner r d ≡ true → RunnerKnows r d → AllRest r d
+idle_rests r d h k =
+    let plans = r.script.now.processes in
+    let two = both_of (r.read == length d.journal) (list_all (rests r.came.items d) r.actors.items) h in
+    let read : r.read ≡ length d.journal = eqb-eq r.read (length d.journal) two.0 in
+    each_rests plans r.pids.items r.came.items d r.actors.items
+    (All-weaker (IsTrueOf plans r.pids.items d) (λ a. sleeps r.came.items a ≡ true → FindsNothing plans r.pids.items (acting a) d)
+    (λ a t. λ so. asleep plans r.pids.items r.actors.items r.came.items r.read d a k read t so) r.actors.items k.waits)
+    two.1
 
 -- who ended is taken out --------------------------------------------------------------------------------
 
@@ -277,6 +307,16 @@ knows_nothing plans pids actors came d none = record {
   noted = λ p n w at le. ap (came_in p) (take_all (0 - w) [] (omega arith));
   waits = all_unmarked plans pids d actors none;
 }
+
+-- so a runner that knows nothing of any desk
+pub fresh_knows : (r : Runner) (d : ShardState) → IsFresh r → RunnerKnows r d
+fresh_knows r d fresh = subst (λ n. KnowsOf r.script.now.processes r.pids.items r.actors.items r.came.items n d) (sym fresh.unread) (knows_nothing r.script.now.processes r.pids.items r.actors.items r.came.items d fresh.unmarked)
+
+-- what a runner that attends a desk knows of it, where it has read no more than there is
+pub attends_knows : (r : Runner) (d : ShardState) → r.read ≤ length d.journal → RunnerAttends r d → RunnerKnows r d
+attends_knows r d within (inl fresh) = fresh_knows r d fresh
+attends_knows r d within (inr (inl shorter)) = absurd (omega (arith, within, shorter))
+attends_knows r d within (inr (inr knows)) = knows
 
 -- the event at the place is read
 pub knows_looked : (plans : List Plan) (pids : List (Option Pid)) (actors : List Actor) (came : List ℕ) (read : ℕ) (d : ShardState) (listed : List Stamped) (x : Stamped) → listed ≡ reverse d.journal → read < length listed → KnowsOf plans pids actors came read d

@@ -29,7 +29,7 @@ use Rattle.pt_script.specs.declared.values.Operation.TheVariants.{Spawn, Pass}
 use Rattle.pt_script.specs.declared.values.Pattern.{Pattern}
 use Rattle.pt_script.specs.declared.values.Pattern.TheVariants.{Any, Kind, From, ExitOf, DownOf, AliveOf}
 use Rattle.pt_runner.specs.declared.calls.Progress.{Progress}
-use Rattle.pt_runner.specs.declared.calls.Progress.TheVariants.{Done, Stays, Ends}
+use Rattle.pt_runner.specs.declared.calls.Progress.TheVariants.{Done, Waits, Stays, Ends}
 use Rattle.pt_runner.specs.declared.runner.Actor.{Actor}
 use Rattle.pt_runner.specs.declared.runner.Place.{Place}
 use Rattle.pt_runner.specs.declared.runner.Runner.{Runner}
@@ -45,6 +45,8 @@ pub record Acting : Type 0 where
   pub begins : Bool
   -- how many operations of its list are behind it
   pub done : ℕ
+  -- how often its next operation was refused for memory or at the clock's limit
+  pub refused : ℕ
   -- what its monitors and asks got, by tag
   pub references : List (Option Ref)
 
@@ -62,6 +64,7 @@ acting a = record {
   process = a.process;
   begins = a.begins;
   done = a.done;
+  refused = a.refused;
   references = a.references.items;
 }
 
@@ -70,7 +73,7 @@ table r = record { plans = r.script.now.processes; pids = r.pids.items; actors =
 
 -- where it is in its list
 abbrev pub place_of : Actor → Place
-place_of a = record { begins = a.begins; done = a.done }
+place_of a = record { begins = a.begins; done = a.done; refused = a.refused }
 
 abbrev pub plan_at : List Plan → ℕ → Plan
 plan_at plans process = slice_index_or plans process (record { trap = false; operations = [] })
@@ -82,6 +85,7 @@ newborn_actor plans process p = record {
   process = process;
   begins = (plan_at plans process).trap;
   done = 0;
+  refused = 0;
   references = [];
 }
 
@@ -91,7 +95,13 @@ next_of plans a = cond a.begins (Trap true) (slice_index_or (plan_at plans a.pro
 
 -- its next operation is behind it; the count stays at the greatest number, past every list
 abbrev pub advanced : Acting → Acting
-advanced a = cond a.begins (record a { begins = false }) (record a { done = min (a.done + 1) (2 ^ 64 - 1) })
+advanced a =
+    cond a.begins (record a { begins = false; refused = 0 })
+    (record a { done = min (a.done + 1) (2 ^ 64 - 1); refused = 0 })
+
+-- its next operation was refused once more, and is tried again; this count too stays at the greatest number
+abbrev pub put_off : Acting → Acting
+put_off a = record a { refused = min (a.refused + 1) (2 ^ 64 - 1) }
 
 -- what an operation names -----------------------------------------------------------------
 
@@ -218,7 +228,7 @@ abbrev pub Performs : List (Option Pid) → Pid → Operation → ShardState →
 Performs pids p (Send to kind num who) old references progress new after =
     Sends pids p to kind num who old progress new × (after ≡ references)
 Performs pids p (Receive pattern) old references progress new after =
-    Takes (pick_meant pids references pattern) p Stays old progress new × (after ≡ references)
+    Takes (pick_meant pids references pattern) p Waits old progress new × (after ≡ references)
 Performs pids p (Check pattern) old references progress new after =
     Takes (pick_meant pids references pattern) p Done old progress new × (after ≡ references)
 Performs pids p (Link to) old references progress new after =
@@ -242,13 +252,20 @@ Performs pids p (SendExit to reason) old references progress new after =
 Performs pids p (Spawn process linked) old references progress new after = ⊥
 Performs pids p Pass old references progress new after = IsPassed old progress new × (after ≡ references)
 
+-- a process that was to end, by the answer to that
+abbrev pub ended_or_put_off : Result (Unit {0}) Fault → Acting → Acting
+ended_or_put_off (Ok _) a = a
+ended_or_put_off (Err _) a = put_off a
+
 -- How a process goes on behind its operation: the next one comes, or it is tried again, or the process ends by the
 -- refusal. An end that is refused in its turn leaves the operation to be tried again.
 abbrev pub GoesBehind : Progress → Acting → ShardState → Acting → ShardState → Type 0
 GoesBehind Done a old b new = (b ≡ advanced a) × (new ≡ old)
-GoesBehind Stays a old b new = (b ≡ a) × (new ≡ old)
+GoesBehind Waits a old b new = (b ≡ a) × (new ≡ old)
+GoesBehind Stays a old b new = (b ≡ put_off a) × (new ≡ old)
 GoesBehind (Ends reason) a old b new =
-    (b ≡ a) × ((answer : Result (Unit {0}) Fault) × Calls a.pid (Some (Left a.pid reason)) (tt {0}) old answer new)
+    (answer : Result (Unit {0}) Fault) × (b ≡ ended_or_put_off answer a)
+    × Calls a.pid (Some (Left a.pid reason)) (tt {0}) old answer new
 
 -- A process does an operation that bears nobody.
 pub record Plays (pids : List (Option Pid)) (operation : Operation) (a : Acting) (old : ShardState) (b : Acting)
@@ -282,9 +299,10 @@ pub record Spawns (process : ℕ) (linked : Bool) (i : ℕ) (a : Acting) (t : Pi
   pub behind : GoesBehind (came_of answer) a between b new
   pub table : u ≡ set_acting i b (with_born process answer t)
 
--- without memory to list the child, nothing is done
+-- without memory to list the child, nothing is done, and it is tried again
 abbrev pub TriesSpawn : ℕ → Bool → ℕ → Acting → PidTable → ShardState → PidTable → ShardState → Type 0
-TriesSpawn process linked i a t old u new = ((u ≡ t) × (new ≡ old)) ⊎ Spawns process linked i a t old u new
+TriesSpawn process linked i a t old u new =
+    ((u ≡ set_acting i (put_off a) t) × (new ≡ old)) ⊎ Spawns process linked i a t old u new
 
 abbrev pub RunnerSpawns : ℕ → Bool → ℕ → PidTable → ShardState → PidTable → ShardState → Type 0
 RunnerSpawns process linked i t old u new =

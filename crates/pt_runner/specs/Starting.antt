@@ -14,6 +14,7 @@ use Rattle.pt_script.specs.Plans.{Plan, Whole}
 use Rattle.pt_script.specs.declared.values.Top.{Top}
 use Rattle.pt_runner.specs.declared.runner.Runner.{Runner}
 use Rattle.pt_runner.specs.Acting.{Acting, table, newborn_actor}
+use Rattle.pt_runner.specs.Waiting.{IsFresh}
 
 -- those of the processes that are of desk d
 abbrev pub on : ℕ → List Pid → List Pid
@@ -60,8 +61,8 @@ pub record IsRunnerOf (w : Whole) (born : List Pid) (d : ℕ) (r : Runner) : Typ
     pids = numbered_pids w born;
     actors = starters w.processes d (named_tops w born);
   }
-  -- it has read nothing of its desk's journal
-  pub unread : r.read ≡ 0
+  -- it has read nothing of its desk's journal, and nobody waits
+  pub fresh : IsFresh r
 
 -- one runner a desk, in their order
 pub record AreRunners (w : Whole) (born : List Pid) (desks : ℕ) (runners : List Runner) : Type 0 where

@@ -1,7 +1,7 @@
 -- What a runner knows of the processes that wait, by the events of the desk's journal that it read.
-use Rattle.std.specs.Prelude.{◌≡◌, ◌⊎◌, ℕ, ◌-◌, ◌<◌, ◌≤◌, Bool, false, true, List, ◌++◌, length, slice_get}
-use Rattle.std.specs.Prelude.{slice_set, take, leb, Option, Some, None}
-use Rattle.std.specs.List.{All}
+use Rattle.std.specs.Prelude.{◌≡◌, ◌⊎◌, ℕ, ◌-◌, ◌<◌, ◌≤◌, Bool, false, true, List, ◌++◌, length, slice_get, slice_index_or}
+use Rattle.std.specs.Prelude.{slice_set, take, leb, not, ◌&&◌, ◌||◌, ◌==◌, Option, Some, None}
+use Rattle.std.specs.List.{All, list_all}
 use Rattle.pt_signal.specs.declared.pid.Pid.{Pid}
 use Rattle.pt_signal.specs.declared.item.Pick.{Pick}
 use Rattle.pt_events.specs.declared.event.Event.{Event}
@@ -67,10 +67,15 @@ RunnerKnows r d = KnowsOf r.script.now.processes r.pids.items r.actors.items r.c
 abbrev pub IsAbreast : Runner → ShardState → Type 0
 IsAbreast r d = RunnerKnows r d × (r.read ≡ length d.journal)
 
--- What a step begins with: what the runner knows is true, or it has read nothing, or more than the journal has, as that
--- of a desk which goes on with an empty one. Then it forgets what it knows.
+-- it has read nothing, and lets each of its processes try its receive
+pub record IsFresh (r : Runner) : Type 0 where
+  pub unread : r.read ≡ 0
+  pub unmarked : All IsUnmarked r.actors.items
+
+-- What a step begins with: what the runner knows is true, or it knows nothing, or it has read more than the journal has,
+-- as that of a desk which goes on with an empty one. Then it forgets what it knows.
 abbrev pub RunnerAttends : Runner → ShardState → Type 0
-RunnerAttends r d = (r.read ≡ 0) ⊎ (length d.journal < r.read) ⊎ RunnerKnows r d
+RunnerAttends r d = IsFresh r ⊎ (length d.journal < r.read) ⊎ RunnerKnows r d
 
 -- A step of a runner that attends its desk: each of its processes does its next operation, and what the runner then
 -- knows is true, and stays so however the desk goes on.
@@ -87,6 +92,20 @@ is_before _ _ = false
 abbrev pub sleeps : List ℕ → Actor → Bool
 sleeps came a = is_before (slice_get came a.pid.slot) a.waits
 
+-- all was read, and each process has ended, or sleeps
+abbrev pub rests : List ℕ → ShardState → Actor → Bool
+rests came d a = sleeps came a || not (lives d a.pid)
+
+abbrev pub idle_runner : Runner → ShardState → Bool
+idle_runner r d = (r.read == length d.journal) && list_all (rests r.came.items d) r.actors.items
+
+-- a process has ended, or its next operation is a receive, and no item in its mailbox fits
+abbrev pub ActorRests : List Plan → List (Option Pid) → ShardState → Actor → Type 0
+ActorRests plans pids d a = lives d a.pid ≡ true → FindsNothing plans pids (acting a) d
+
+abbrev pub AllRest : Runner → ShardState → Type 0
+AllRest r d = All (ActorRests r.script.now.processes r.pids.items d) r.actors.items
+
 -- the place behind an event is noted at the slot of the process to which a signal came, or which left
 abbrev pub marked : Event → ℕ → List ℕ → List ℕ
 marked (Came a b x) n came = slice_set came b.slot n
@@ -95,3 +114,9 @@ marked _ n came = came
 
 abbrev pub HasSameRest : Runner → Runner → Type 0
 HasSameRest old new = (new.script ≡ old.script) × (new.read ≡ old.read) × (new.came ≡ old.came)
+
+-- so is each runner over the desk at its place
+pub record RunnersIdle (runners : List Runner) (desks : List DeskState) : Type 0 where
+  pub count : length runners ≡ length desks
+  pub each : (d : ℕ) (r : Runner) (x : DeskState) → d < length desks
+      → idle_runner (slice_index_or runners d r) (slice_index_or desks d x).shard ≡ true

@@ -23,7 +23,9 @@ use pt_script::{Operation, Pattern};
 pub(crate) enum Progress {
     /// It is done, or passed over.
     Done,
-    /// It is to be tried again.
+    /// No item fits: it is tried again once one may.
+    Waits,
+    /// It is refused for memory or at the clock's limit, and is to be tried again.
     Stays,
     /// It is refused, and its process is to end with this reason.
     Ends(Reason),

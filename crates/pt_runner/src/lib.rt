@@ -24,15 +24,20 @@
 //! without a pid, a pid that the desk does not know, or a tag without a reference comes on the desks of another node
 //! alone: such an operation is passed over. [`Runner::place`] tells where a process is in its list.
 //!
-//! A runner works with the desk that it was made for, and with the one of that number in a node that was resumed,
-//! where its next step comes before anything else happens there: then the journal is empty, or shorter than what it
-//! read, and it forgets what it knew.
+//! A runner works with the desk that it was made for, and with the desk of that number in a resumed node after
+//! [`Runner::begin_again`], which forgets what it read of the journal. It begins again by itself if the journal is
+//! shorter than what it read; a runner that has read no event cannot see that its desk was resumed.
 //!
 //! # Cost
 //!
 //! A step costs the operations that it does, the events that are new in the journal, and a look at a flag for each
-//! process of the script that waits. A birth under a number that has a pid already, and the first step over a resumed
-//! node, have each that waits try its receive again. A runner has eight bytes for each slot of its desk.
+//! process of the script that waits. A birth under a number that has a pid already, and beginning again, have each that
+//! waits try its receive once more. A runner has eight bytes for each slot of its desk; beginning again clears them.
+//!
+//! # What is put off
+//!
+//! An operation that is refused for memory or at the clock's limit is tried again in each step. [`Place::refused`] says
+//! how often the next operation of a process was refused so. [`are_idle`] says whether nobody has anything to do.
 //!
 //! # What is proved
 //!
@@ -44,11 +49,16 @@
 //! - **Operations.** What an operation does is one line a kind. (`Performs`)
 //! - **Attending.** All this holds if the runner attends its desk: it is new, or has taken each turn of it, or begins
 //!   again. (`RunnerAttends`)
-//! - **Places.** `place` tells where a process is in its list.
+//! - **Places.** `place` returns where a process is in its list, and how often its next operation was refused for memory
+//!   or at the clock's limit. (`GoesBehind`)
+//! - **Idle runners.** If a runner is idle, each of its processes has ended, or waits for an item that has not come.
+//!   (`AllRest`)
 #![tactic(auto)]
 
 mod calls;
+mod idle;
 mod runner;
 mod start;
 
+pub use idle::are_idle;
 pub use runner::{Place, Runner};

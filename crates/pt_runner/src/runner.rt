@@ -1,8 +1,8 @@
 //! The work of a script on one desk.
 
 ghost use Rattle.std.specs.Prelude.{◌≡◌, ◌≢◌, ◌⊎◌, ℕ, Bool, false, ◌<◌, ◌≤◌, ◌+◌, ◌++◌, ◌∷◌, ◌||◌, [], List, None, Some, Ok};
-ghost use Rattle.std.specs.Prelude.{map, slice_index_or, slice_set, vec_capacity, vec_len};
-ghost use Rattle.std.specs.List.{All, find};
+ghost use Rattle.std.specs.Prelude.{count_by, map, not, slice_index_or, slice_set, vec_capacity, vec_len};
+ghost use Rattle.std.specs.List.{All, find, list_all};
 ghost use Rattle.std.specs.Option.{option_map};
 ghost use Rattle.pt_signal.specs.Values.{same_pid};
 ghost use Rattle.pt_shard.specs.ShardState.{ShardState, lives};
@@ -12,10 +12,10 @@ ghost use Rattle.pt_script.specs.declared.values.Operation.{Operation};
 ghost use Rattle.pt_script.specs.declared.values.Pattern.{Pattern};
 ghost use Rattle.pt_runner.specs.declared.runner.Actor.{Actor};
 ghost use Rattle.pt_runner.specs.Acting.{Plays, GoesBehind, ActsAt, RunnerDoes, acting, table, newborn_actor, next_of};
-ghost use Rattle.pt_runner.specs.Acting.{advanced, living, place_of, with_born, RunnerSpawns};
+ghost use Rattle.pt_runner.specs.Acting.{advanced, living, place_of, put_off, with_born, RunnerSpawns};
 ghost use Rattle.pt_runner.specs.Stepping.{ProcessesStep, processes_here};
-ghost use Rattle.pt_runner.specs.Waiting.{RunnerAttends, HasSameRest, IsAbreast, IsTrueOf, IsUnmarked, RunnerKnows, RunnerSteps};
-ghost use Rattle.pt_runner.specs.Waiting.{marked, sleeps};
+ghost use Rattle.pt_runner.specs.Waiting.{RunnerAttends, HasSameRest, IsAbreast, IsFresh, IsTrueOf, IsUnmarked, RunnerKnows, RunnerSteps};
+ghost use Rattle.pt_runner.specs.Waiting.{AllRest, idle_runner, marked, rests, sleeps};
 
 use crate::calls::{Progress, References, call, pick_of, progress_of};
 use pt_node::{Desk, Event, Fault, Pid, Reason, Turned, Work};
@@ -32,6 +32,8 @@ pub(crate) struct Actor {
     begins: bool,
     /// How many operations of its list are behind it.
     done: usize,
+    /// How often its next operation was refused for memory or at the clock's limit.
+    refused: u64,
     references: References,
     /// Where its last operation was a receive that found nothing, how many events the journal had then.
     waits: Option<usize>,
@@ -52,6 +54,7 @@ impl Actor {
             process,
             begins,
             done: 0,
+            refused: 0,
             references: Vec::new(alloc),
             waits: None,
         }
@@ -75,6 +78,13 @@ impl Actor {
         ensures { result ≡ (sleeps came.now self.now || lives desk.now.shard self.now.pid) }
     {
         self.sleeps(came) || desk.alive_here(self.pid)
+    }
+
+    /// Whether it has ended, or waits and nothing has come to it since.
+    fn rests(&self, came: &[usize], desk: &Desk) -> bool
+        ensures { result ≡ (sleeps came.now self.now || not (lives desk.now.shard self.now.pid)) }
+    {
+        self.sleeps(came) || !desk.alive_here(self.pid)
     }
 
     /// Its next operation; behind the last one that is its exit.
@@ -103,6 +113,15 @@ impl Actor {
         } else {
             self.done = self.done.saturating_add(1);
         }
+        self.refused = 0;
+    }
+
+    /// Its next operation was refused once more, and is to be tried again.
+    fn put_off(&mut self)
+        ensures acting { acting self.new ≡ put_off (acting self.old) }
+        ensures waits { self.new.waits ≡ self.old.waits }
+    {
+        self.refused = self.refused.saturating_add(1);
     }
 
     /// Does a receive: with no item that fits it waits.
@@ -148,10 +167,23 @@ impl Actor {
         self.waits = None;
         match progress {
             Progress::Done => self.advance(),
-            Progress::Stays => {}
-            Progress::Ends(reason) => {
-                let _ = desk.exit(self.pid, reason);
-            }
+            Progress::Waits => {}
+            Progress::Stays => self.put_off(),
+            Progress::Ends(reason) => self.end(reason, desk),
+        }
+    }
+
+    /// Ends by the refusal of its operation, or tries that again where its end is refused.
+    fn end(&mut self, reason: Reason, desk: &mut Desk)
+        ensures behind { GoesBehind (Progress.Ends reason) (acting self.old) desk.old.shard (acting self.new)
+            desk.new.shard }
+        ensures waits { self.new.waits ≡ self.old.waits }
+        ensures ends { HasSameEnds desk.old desk.new }
+        ensures goes_on { GoesOn desk.old desk.new }
+    {
+        match desk.exit(self.pid, reason) {
+            Ok(()) => {}
+            Err(_refused) => self.put_off(),
         }
     }
 }
@@ -163,6 +195,9 @@ pub struct Place {
     pub begins: bool,
     /// How many operations of its list are behind it.
     pub done: usize,
+    /// How often its next operation was refused for memory or at the clock's limit, and is tried again: 0 where it was
+    /// not refused, or waits for an item. It stays at `u64::MAX`.
+    pub refused: u64,
 }
 
 /// The process of this number has this pid.
@@ -202,6 +237,7 @@ impl<'a> Runner<'a> {
     ) -> Runner<'a>
         ensures script { result.script.now ≡ script.now }
         ensures unread { result.read ≡ 0 }
+        ensures actors { result.actors.items ≡ actors.items }
         ensures table { table result ≡ record {
           plans = script.now.processes;
           pids = pids.items;
@@ -236,23 +272,51 @@ impl<'a> Runner<'a> {
                 return Some(Place {
                     begins: actor.begins,
                     done: actor.done,
+                    refused: actor.refused,
                 });
             }
         }
         None
     }
 
-    /// Goes on over the desk of the same number in a node that was resumed: it forgets what it read of a journal, and
-    /// lets every process that waits try its receive again. For what came to them while the node was settled stands in
-    /// no journal that is left.
+    /// How many of its processes are alive.
+    pub fn alive(&self, desk: &Desk) -> usize
+        ensures { result ≡ count_by (λ a. lives desk.now.shard a.pid) self.now.actors.items }
+    {
+        self.actors
+            .iter()
+            .filter(|actor| desk.alive_here(actor.pid))
+            .count()
+    }
+
+    /// Whether all that happened on its desk was read, and each of its processes has ended, or waits for an item and
+    /// had nothing come to it since. Then a step of a runner that knows its desk does nothing.
+    #[tactic(auto, using(crate::proofs::Waiting::idle_rests))]
+    pub fn is_idle(&self, desk: &Desk) -> bool
+        ensures idle { result ≡ idle_runner self.now desk.now.shard }
+        ensures rests { result ≡ true → RunnerKnows self.now desk.now.shard → AllRest self.now desk.now.shard }
+    {
+        self.read == desk.journal().events().len() && self.all_rest(desk)
+    }
+
+    fn all_rest(&self, desk: &Desk) -> bool
+        ensures { result ≡ list_all (rests self.now.came.items desk.now.shard) self.now.actors.items }
+    {
+        let came = self.came.as_slice();
+        self.actors.iter().all(|actor| actor.rests(came, desk))
+    }
+
+    /// Resumes over the desk of the same number in a node that was resumed: it forgets what it read of a journal, and
+    /// lets every process that waits try its receive again, since what came to them while the node was settled is in no
+    /// journal that is left.
     ///
-    /// Where each process is in its list stays, and so do the pids. It costs the number of its processes, and of the
-    /// slots of the desk; nothing is refused.
+    /// The place of each process in its list stays, and so do the pids. It costs the number of its processes, and of the
+    /// slots of the desk; it never fails.
     pub fn begin_again(&mut self)
         ensures table { table self.new ≡ table self.old }
+        ensures fresh { IsFresh self.new }
         ensures attends { (d : ShardState) → RunnerAttends self.new d }
         ensures knows { (d : ShardState) → RunnerKnows self.new d }
-        ensures waits { All IsUnmarked self.new.actors.items }
     {
         self.wake_all();
         self.came.as_mut_slice().fill(0);
@@ -272,16 +336,14 @@ impl<'a> Runner<'a> {
         }
     }
 
-    /// Forgets what it read where the desk has a new journal, as over a node that was resumed, or none was read.
+    /// Forgets what it read where the desk has a shorter journal, as over a node that was resumed.
     fn begin(&mut self, desk: &Desk)
         ensures table { table self.new ≡ table self.old }
         ensures knows { RunnerAttends self.old desk.now.shard → RunnerKnows self.new desk.now.shard }
     {
-        let events = desk.journal().events().len();
-        if 0 < self.read && self.read <= events {
-            return;
+        if desk.journal().events().len() < self.read {
+            self.begin_again();
         }
-        self.begin_again();
     }
 
     /// Reads what is new in the desk's journal.
@@ -353,6 +415,7 @@ impl<'a> Runner<'a> {
         ensures goes_on { GoesOn desk.old desk.new }
     {
         if self.actors.reserve(1).is_err() {
+            self.actors[index].conclude(Progress::Stays, desk);
             return;
         }
         let pid = self.actors[index].pid;

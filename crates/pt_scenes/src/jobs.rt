@@ -8,16 +8,19 @@
 
 ghost use Rattle.std.specs.Prelude.{◌≡◌};
 ghost use Rattle.pt_desk.specs.DeskState.{GoesOn};
+ghost use Rattle.pt_crew.specs.Ending.{EndsOnce};
 ghost use Rattle.pt_crew.specs.Visiting.{takes};
+ghost use Rattle.pt_supervisor.specs.Supervising.{PermanentLive, StaysWanted};
 
 use crate::stage;
 use crate::stage::{DESKS, Stage, first_of};
 use anyhow::Result;
 use pt_crew::{
-    Behaviour, Births, Heard, Next, Pending, Request, reply, request_of, unwatch, watch,
+    Behaviour, Births, Heard, Next, Pending, Request, calls_end_once, reply, request_of, unwatch,
+    watch,
 };
 use pt_node::{Desk, Fault, Item, Pick, Pid, Reason, Ref};
-use pt_supervisor::{Child, Limit, Restart, Start, Strategy, Supervisor};
+use pt_supervisor::{Child, Limit, Restart, Start, Strategy, Supervisor, permanent_children_live};
 use std::alloc::{AllocError, Global};
 use std::collections::VecDeque;
 use std::fmt;
@@ -260,6 +263,14 @@ impl Client {
         }
     }
 
+    /// Whether a call of it still waits for its answer.
+    fn waits(&self) -> bool {
+        match &self.call {
+            Some(call) => call.is_open(),
+            None => false,
+        }
+    }
+
     /// Asks for the job behind the last that was done, if there is one.
     #[tactic(auto, using(pt_node::proofs::GoingOn::stays))]
     fn ask_next(&mut self, desk: &mut Desk, me: Pid) -> Next
@@ -343,6 +354,8 @@ impl Behaviour for Actor {
 /// What came of it.
 #[derive(Clone, Copy, Debug)]
 pub struct Jobs {
+    /// How many calls of clients still wait.
+    open: u32,
     answered: u32,
     done: u32,
     crashed: u32,
@@ -353,8 +366,8 @@ impl Display for Jobs {
     fn fmt<W: Write>(&self, f: &mut Formatter<W>) -> fmt::Result {
         write!(
             f,
-            "jobs: {} were done and {} answered; {} crashes of workers, each job given out again; {} processes live",
-            self.done, self.answered, self.crashed, self.living
+            "jobs: {} were done and {} answered, {} calls are open; {} crashes of workers, each job given out again; {} processes live",
+            self.done, self.answered, self.open, self.crashed, self.living
         )
     }
 }
@@ -364,6 +377,7 @@ impl Jobs {
     fn add(&mut self, desk: u8, stage: &Stage<Actor>) {
         if let Some(Actor::Client(client)) = stage.crew().behaviour(first_of(desk)) {
             self.answered = self.answered.saturating_add(client.answered);
+            self.open = self.open.saturating_add(u32::from(client.waits()));
         }
         if let Some(Actor::Queue(queue)) = stage.crew().behaviour(QUEUE) {
             self.done = queue.done;
@@ -382,7 +396,17 @@ fn made_client(alloc: Global) -> Stage<Actor> {
 }
 
 /// Plays the scene.
-pub fn play(alloc: Global) -> Result<Jobs> {
+///
+/// Each call of a client or a worker ends once, by its answer or by the exit of the queue. Whatever a supervisor hears,
+/// each of its children stays one that is to live; so each of them lives, by all that it has heard, if it waits for any
+/// item.
+pub fn play(alloc: Global) -> Result<Jobs>
+    ensures calls { EndsOnce }
+    ensures wanted { StaysWanted }
+    ensures live { PermanentLive }
+{
+    calls_end_once();
+    permanent_children_live();
     let office = team(alloc, Staff::Office(alloc))?;
     let stages = [
         Stage::new(alloc, 8, Actor::Supervisor(office)),
@@ -392,6 +416,7 @@ pub fn play(alloc: Global) -> Result<Jobs> {
     ];
     let works = stage::play(alloc, 16, 100, stages)?;
     let mut jobs = Jobs {
+        open: 0,
         answered: 0,
         done: 0,
         crashed: 0,

@@ -11,16 +11,17 @@ ghost use Rattle.pt_node.specs.Stillness.{AreStill};
 ghost use Rattle.pt_crew.specs.Running.{AreIdle, UpholdsOn};
 ghost use Rattle.pt_supervisor.specs.Keeping.{AnswerAs, SupervisorBegins, Keeps};
 ghost use Rattle.pt_supervisor.specs.Gathering.{AllChildrenLive};
+ghost use Rattle.pt_supervisor.specs.Stopping.{StoppedChildrenEnded};
 ghost use Rattle.pt_scenes.specs.declared.team.Member.{Member};
 ghost use Rattle.pt_scenes.specs.Team.{AreTeams, boss_of};
 
 use crate::stage::{DESKS, first_of};
 use anyhow::{Result, bail};
-use pt_crew::{Behaviour, Births, Crew, Next, are_idle};
+use pt_crew::{Behaviour, Births, Crew, Next, Upheld, are_idle, crew_upholds, runs_uphold};
 use pt_node::{Account, Config, Desk, Fault, FreeGate, Item, Node, Pick, Pid, Quiet, Reason, open};
 use pt_supervisor::{
     Child, Limit, Restart, Start, Strategy, Supervised, Supervisor, gathered_children_live,
-    quiet_children_live,
+    quiet_children_live, stopped_children_ended,
 };
 use std::alloc::{AllocError, Global};
 use std::fmt::{self, Display, Formatter, Write};
@@ -80,6 +81,15 @@ impl Supervised for Member {
     ghost supervises = { λ b d me item next now e births h. h };
 }
 
+/// What a crew of members upholds: that each supervisor holds its children.
+impl Upheld for Member {
+    ghost use Rattle.pt_supervisor.proofs.Tending.{upheld as keeps_children};
+
+    ghost stands = { Keeps boss_of };
+
+    ghost upheld = { keeps_children boss_of (AnswerAs boss_of) (λ b d me item next now e births h. h) };
+}
+
 /// A supervisor of three permanent children, which starts each again by itself, a hundred times at most.
 fn team(alloc: Global) -> Result<Member, AllocError>
     ensures { IfOk result (λ b. SupervisorBegins (boss_of b) Next.Proceed) }
@@ -98,6 +108,7 @@ fn staffed(alloc: Global, desk: &mut Desk) -> Result<Crew<Member>>
     ensures goes_on { GoesOn desk.old desk.new }
 {
     quiet_children_live::<Member>();
+    crew_upholds::<Member>();
     let mut crew = Crew::new(alloc, 8);
     let boss = team(alloc)?;
     crew.enter(desk, boss, Next::Proceed)?;
@@ -133,7 +144,7 @@ fn come_to_rest(node: &mut Node, crews: &mut Vec<Crew<Member>>) -> Result<()>
     ensures upholds { IfOk result (λ _. AreTeams crews.old.items node.old → AreTeams crews.new.items node.new) }
     ensures still { IfOk result (λ _. AreIdle crews.new.items node.new × AreStill node.new) }
 {
-    gathered_children_live::<Member, FreeGate>(&FreeGate);
+    runs_uphold::<Member, FreeGate>(&FreeGate);
     if node.run_single(crews, 50, 1_024, &FreeGate).is_err() {
         bail!("the scene does not run");
     }
@@ -164,11 +175,14 @@ pub struct Teams {
     quiet: Quiet,
 }
 
-/// Plays the scene until all is still. Then each child that its supervisor wants alive lives.
+/// Plays the scene until all is still. Then each child that its supervisor wants alive lives. If a supervisor stops by
+/// itself, no child that it started lives on, unless the child sent it an exit signal.
 pub fn play(alloc: Global) -> Result<Teams>
-    ensures { IfOk result (λ t. AllChildrenLive boss_of t.crews.items t.quiet.gathered) }
+    ensures live { IfOk result (λ t. AllChildrenLive boss_of t.crews.items t.quiet.gathered) }
+    ensures stopped { StoppedChildrenEnded boss_of }
 {
     gathered_children_live::<Member, FreeGate>(&FreeGate);
+    stopped_children_ended::<Member>();
     let (mut node, mut crews) = opened(alloc)?;
     come_to_rest(&mut node, &mut crews)?;
     let quiet = settled(node)?;

@@ -221,6 +221,13 @@ fn run_all<R: Threads + Wait + Sync + Abort>(
     ran
 }
 
+/// The last work comes back from the run, with the work within.
+fn comes_back(rt: &impl Abort, works: &mut Vec<Relaying<'_>>) {
+    let last = works.pop().expect(rt, "a work");
+    assert_eq!(rt; last.work().work().me, first_of(DESKS - 1));
+    assert_eq!(rt; last.into_work().into_work().me, first_of(DESKS - 1));
+}
+
 /// Runs a node whose desks rest, while the messages are handed in; whoever hands one in rings the bells `rung`.
 fn play<'a, R: Threads + Wait + Sync + Abort>(
     rt: &R,
@@ -236,6 +243,7 @@ fn play<'a, R: Threads + Wait + Sync + Abort>(
     let mut works = vec![in alloc; first].expect(rt, "memory");
     push_others(rt, alloc, bells, notes, &mut works);
     assert!(rt; run_all(rt, plan, &mut node, &mut works, &mut door, bells, notes));
+    comes_back(rt, &mut works);
 }
 
 /// Each message wakes eight desks, one by the other; they rest in between, and for the second afterwards, in which

@@ -4,7 +4,7 @@ ghost use Rattle.std.specs.Prelude.{◌≡◌};
 ghost use Rattle.pt_node.specs.Desks.{AreDesks, IsStill};
 
 use pt_crew::{Behaviour, Births, Crew, Next, join, part, tell};
-use pt_node::{Body, Config, Desk, Item, Pick, Pid, Reason, Work, open};
+use pt_node::{Body, Config, Desk, Item, Pick, Pid, Reason, Takes, Work, open, take_each};
 use pt_uses::game::{Game, HIT};
 use pt_uses::payloads::Texts;
 use pt_uses::steps;
@@ -25,6 +25,7 @@ enum Play {
     Game,
     Texts,
     Crew,
+    Items,
 }
 
 /// Runs on a new node, and gathers it.
@@ -49,6 +50,7 @@ fn on_desk(rt: &impl Abort, alloc: Global, desk: &mut Desk, play: Play)
         Play::Game => fight(rt, alloc, desk),
         Play::Texts => write(rt, alloc, desk),
         Play::Crew => serve(rt, alloc, desk),
+        Play::Items => take(rt, desk),
     }
 }
 
@@ -160,6 +162,41 @@ fn leaves(rt: &impl Abort, crew: &mut Crew<Once>, desk: &mut Desk, p: Pid)
     assert_eq!(rt; left.next, Next::Stop(Reason::Other(3)));
 }
 
+/// Adds up the numbers of the messages that are taken.
+#[derive(Drop)]
+struct Sum {
+    numbers: i64,
+}
+
+impl Takes for Sum {
+    ghost use Rattle.std.specs.Prelude.{◌≡◌};
+
+    ghost takes = { λ _ d _ _ e. e ≡ d };
+
+    #[tactic(auto, using(pt_node::proofs::GoingOn::stays))]
+    fn take(&mut self, _desk: &mut Desk, item: Item) {
+        if let Item::User(_, body) = item {
+            self.numbers = self.numbers.saturating_add(body.num);
+        }
+    }
+}
+
+/// Of three items two are taken, and then the last one.
+fn take(rt: &impl Abort, desk: &mut Desk)
+    ensures { IsStill desk.old desk.new }
+{
+    let p = desk.spawn().expect(rt, "memory");
+    assert_eq!(rt; tell(desk, p, p, HELLO), Ok(()));
+    assert_eq!(rt; tell(desk, p, p, HELLO), Ok(()));
+    assert_eq!(rt; tell(desk, p, p, HELLO), Ok(()));
+    let _ = desk.turn(16);
+    let mut sum = Sum { numbers: 0 };
+    assert_eq!(rt; take_each(desk, p, Pick::Any, 2, &mut sum), Ok(2));
+    assert_eq!(rt; sum.numbers, 14);
+    assert_eq!(rt; take_each(desk, p, Pick::Any, 2, &mut sum), Ok(1));
+    assert_eq!(rt; sum.numbers, 21);
+}
+
 #[test]
 fn a_monster_is_hit(rt: HostRuntime) {
     played(&rt, rt.alloc(), Play::Game);
@@ -168,6 +205,11 @@ fn a_monster_is_hit(rt: HostRuntime) {
 #[test]
 fn a_text_comes_with_its_message(rt: HostRuntime) {
     played(&rt, rt.alloc(), Play::Texts);
+}
+
+#[test]
+fn items_are_taken_one_after_the_other(rt: HostRuntime) {
+    played(&rt, rt.alloc(), Play::Items);
 }
 
 #[test]

@@ -1,10 +1,12 @@
 //! The recipes of `pt_uses` that open a node themselves, or receive one.
 
-use pt_node::{Body, Config, FreeGate, Gathered, Node, Pid, Standing, Task};
+ghost use Rattle.pt_uses.specs.Quiet.{EndsQuietly};
+
+use pt_node::{Body, Config, FreeGate, Gathered, Node, Pid, Standing, Task, Work};
 use pt_uses::desks_on_threads::{Sender, ring};
 use pt_uses::epochs::{Lines, Plan, epochs};
 use pt_uses::two_processes::two_processes;
-use pt_uses::until_quiet::UntilQuiet;
+use pt_uses::until_quiet::{UntilQuiet, ends_behind_quiet_turns};
 use std::alloc::Global;
 use std::process::Abort;
 use std::thread::Threads;
@@ -95,8 +97,12 @@ fn a_node_goes_on_epoch_after_epoch(rt: HostRuntime) {
     goes_on(&rt, rt.alloc(), node, &mut works, &mut archive);
 }
 
-/// A sender sends in each of four turns, so none of them is quiet.
-fn ends(rt: &impl Abort, node: &mut Node, works: &mut Vec<UntilQuiet<Sender>>) {
+/// A sender sends in each of four turns, so none of them is quiet. At an open gate it would end only after three turns
+/// in a row that did nothing, or after its last.
+fn ends(rt: &impl Abort, node: &mut Node, works: &mut Vec<UntilQuiet<Sender>>)
+    ensures { EndsQuietly (⟦<Sender as Work>⟧.does, ⟦<Sender as Work>⟧.hears) }
+{
+    ends_behind_quiet_turns(&SENDER);
     assert!(rt; node.run_single(works, 4, 16, &FreeGate).is_ok());
     for work in works.as_slice() {
         assert!(rt; work.standing() == Standing::Going && work.quiet() == 0);

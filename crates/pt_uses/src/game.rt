@@ -18,6 +18,13 @@ pub const HIT: u32 = 1;
 /// How many hits a monster takes in a tick, and how many letters a turn handles.
 const BUDGET: u32 = 64;
 
+/// A monster takes up to 64 hits in a tick, and a turn handles up to 64 letters.
+///
+/// It does nothing: the law is its contract.
+pub fn budget_stands()
+    ensures { BUDGET ≡ 64 }
+{}
+
 /// The monsters of one desk, each with its health, in the order in which they came.
 #[derive(Drop)]
 pub struct Game {

@@ -17,7 +17,7 @@
 //! # What is proved
 //!
 //! - **Games.** A live monster takes at most 64 hits in a tick, oldest first, each as its number says, and exits
-//!   without health. (`Game`)
+//!   without health. (`Game`, `budget_stands`)
 //! - **Texts.** A receiver gets the text under its message's number, and `drop_lost` drops exactly the texts to
 //!   processes of this desk that have exited. (`Texts`)
 //! - **Epochs.** What `epochs` puts into its archive is one legal history, with nothing on its way at its end.

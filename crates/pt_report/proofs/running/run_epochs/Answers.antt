@@ -1,13 +1,13 @@
 -- `run_epochs`: its clauses `fault`, `node` and `told`, and what its call of `run_once` asks.
 use Rattle.std.proofs.Common.{◌≡◌, ◌-◌, Err, subst, inl, inr, rules}
-use Rattle.pt_report.specs.Epochs.{HasWritten, IsOfEpochs, PassEpochs, RunsOn, Staffed}
+use Rattle.pt_report.specs.Epochs.{HasWritten, IsOfEpochs, PassEpochs, RunsEpoch, Staffed}
 use Rattle.pt_report.specs.Reports.{IsOfRun}
 use Rattle.pt_report.proofs.Passing.{node_of, run_of_epochs}
 use Rattle.pt_report.proofs.Attending.{begun_begins, epoch_begins}
 use Rattle.pt_report.proofs.running.run_epochs.Goals as goal
 
-pub run_once-requires-after_bounds : goal.run_once-requires-after_bounds
-run_once-requires-after_bounds g c κs within =
+pub run_epoch-requires-after_bounds : goal.run_epoch-requires-after_bounds
+run_epoch-requires-after_bounds g c κs within =
     let options = c.args.options.now in
     let first : Staffed = (c.args.node, c.args.runners.items) in
     let last : Staffed = (c.in_ok-node.node, c.pass_epochs.new.runners.items) in
@@ -28,12 +28,12 @@ returns-in-Ok-clause-node g c =
     let options = c.args.options.now in
     let first : Staffed = (c.args.node, c.args.runners.items) in
     let last : Staffed = (c.in_ok-node.node, c.pass_epochs.new.runners.items) in
-    let ran : Staffed = (c.run_once.new.node, c.run_once.new.runners.items) in
+    let ran : Staffed = (c.run_epoch.new.node, c.run_epoch.new.runners.items) in
     let so = c.in_ok-node.ensures.passed in
     let same = c.budget-budget.ensures.budget in (
       so.0,
       node_of options c.args.script.now (options.epochs - 1) first so.0 last ran c.in-Ok.gathered c.requires.begun (subst (λ b. PassEpochs options b (options.epochs - 1) first so.0 last) same so.1)
-          (subst (λ b. RunsOn options b last ran) same c.in_ok-run_once.ensures.runs) c.in-Ok.ensures.gathers,
+          (subst (λ b. RunsEpoch options b last ran) same c.in_ok-run_epoch.ensures.runs) c.in-Ok.ensures.gathers,
       so.2,
     )
 

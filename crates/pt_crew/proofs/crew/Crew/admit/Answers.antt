@@ -20,4 +20,4 @@ loop-place-preserved g c =
 pub returns-clause-admits : goal.returns-clause-admits
 returns-clause-admits g c =
     let len = c.len-place-end.ensures in
-    all_entered (lives c.args.desk.now.shard) c.loop-place._place c.args.self.now c.loop-place.self (omega (arith, c.loop-place-test.false, len)) c.loop-place.invariant.so_far
+    all_entered (lives c.args.desk.now.shard) c.loop-place._place c.args.self.now c.loop-place.self (omega (arith, c.loop-place-test.false, c.loop-place.auto._place-end, len)) c.loop-place.invariant.so_far

@@ -1,12 +1,15 @@
 -- `Crew::admit_one`: its clauses `admits` and `knows`.
-use Rattle.std.proofs.Common.{refl, sym}
+use Rattle.std.proofs.Common.{refl, sym, ◌∙◌}
 use Rattle.pt_shard.specs.ShardState.{lives, phase_of}
 use Rattle.pt_crew.proofs.Admitting.{denied, nobody_waits}
+use Rattle.pt_crew.proofs.Room.{ok_not_err}
 use Rattle.pt_crew.proofs.Waking.{knows_is, living_born}
 use Rattle.pt_crew.proofs.crew.Crew.admit_one.Goals as goal
 
 pub returns-then-is_err-clause-admits : goal.returns-then-is_err-clause-admits
-returns-then-is_err-clause-admits g c = denied (lives c.args.desk.now.shard) c.args.self.now c.make_room.new.self _ c.make_room.ensures.same refl refl refl refl refl
+returns-then-is_err-clause-admits g c =
+    denied (lives c.args.desk.now.shard) c.args.self.now c.make_room.new.self _ c.make_room.ensures.same refl refl refl refl refl
+    (λ room. ok_not_err c.make_room.result (c.make_room.ensures.succeeds room) (sym c.is_err.ensures.value ∙ c.if-is_err.true))
 
 pub returns-then-is_err-clause-knows : goal.returns-then-is_err-clause-knows
 returns-then-is_err-clause-knows g c = λ k. knows_is c.args.self.now c.make_room.new.self c.args.desk.now.shard c.make_room.ensures.same k

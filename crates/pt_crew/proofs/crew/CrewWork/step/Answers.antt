@@ -14,7 +14,8 @@ loop-round-init g c =
     let answers = g.B.Behaviour.answers in
     let d = c.args.desk.now.shard in
     let rest = c.look.ensures.rest in
-    let none = none_yet answers c.args.self.now c.look.new.self d c.look.ensures.kept c.look.ensures.longer rest.waiting (rest.left ∙ c.clear.ensures.items) rest.refused rest.rounds in
+    let none = none_yet answers c.args.self.now c.look.new.self d c.look.ensures.kept c.look.ensures.longer rest.waiting (rest.left ∙ c.clear.ensures.items) rest.refused rest.rounds
+    (λ a. awake_all c.look.new.self d (c.look.ensures.room a.room).0 (c.look.ensures.knows a.knows)) in
     record {
       so_far = next_round answers 0 c.args.self.now c.look.new.self c.round.new.self d d c.round.new.desk.shard none c.round.ensures.visits (λ a. (c.look.ensures.knows a.knows).queued.once) c.round.ensures.same;
       low = omega arith;

@@ -1,5 +1,7 @@
 -- `Runner::begin`: its clause `knows`.
+use Rattle.std.proofs.Common.{arith}
+use Rattle.pt_runner.proofs.Waiting.{attends_knows}
 use Rattle.pt_runner.proofs.runner.Runner.begin.Goals as goal
 
-pub returns-clause-knows : goal.returns-clause-knows
-returns-clause-knows c = λ attends. c.begin_again.ensures.knows c.args.desk.now.shard
+pub returns-then-self-clause-knows : goal.returns-then-self-clause-knows
+returns-then-self-clause-knows c = λ attends. c.begin_again.ensures.knows c.args.desk.now.shard

@@ -9,4 +9,4 @@ returns-clause-knows c = λ d.
     knows_nothing r.script.now.processes r.pids.items r.actors.items _ d c.wake_all.ensures.unmarked
 
 pub returns-clause-attends : goal.returns-clause-attends
-returns-clause-attends c = λ d. inl refl
+returns-clause-attends c = λ d. inl (record { unread = refl; unmarked = c.wake_all.ensures.unmarked })

@@ -1,11 +1,11 @@
 -- `Runner::spawn`: its clauses `spawns` and `knows`.
-use Rattle.std.proofs.Common.{◌≡◌, ◌<◌, inr, inl, List, length, map, get_or, ap, sym, subst, refl, ◌∙◌, arith}
+use Rattle.std.proofs.Common.{◌≡◌, ◌<◌, inr, inl, List, length, get_or, set, ap, sym, subst, refl, ◌∙◌, arith}
 use Rattle.pt_signal.specs.declared.pid.Pid.{Pid}
 use Rattle.pt_shard.specs.Calls.{BearsChild}
 use Rattle.pt_runner.specs.declared.calls.Progress.{Progress}
 use Rattle.pt_runner.specs.declared.runner.Actor.{Actor}
 use Rattle.pt_runner.specs.Acting.{Acting, PidTable, GoesBehind, acting, table, with_born, set_acting}
-use Rattle.pt_runner.proofs.Acting.{acting_within, acting_at, same_at, some_at, table_of, set_actor, child_behind, with_child_same}
+use Rattle.pt_runner.proofs.Acting.{acting_within, acting_at, same_at, table_of, set_actor, child_behind, with_child_same}
 use Rattle.pt_runner.specs.Waiting.{KnowsOf}
 use Rattle.pt_runner.proofs.Waiting.{knows_later, knows_set, unmarked_true}
 use Rattle.pt_runner.proofs.runner.Runner.spawn.Goals as goal
@@ -47,10 +47,31 @@ returns-clause-spawns c =
 pub returns-then-is_err-clause-spawns : goal.returns-then-is_err-clause-spawns
 returns-then-is_err-clause-spawns c =
     let old = c.args.self.now in
+    let plans = old.script.now.processes in
+    let pids = old.pids.items in
     let first = old.actors.items in
-    let within : c.args.index < length first = omega (arith, c.requires, old.actors.ok.0) in
-    let there = some_at (map acting first) c.args.index (acting_within first c.args.index within) in
-    (there.0, there.1, inl (ap (λ (xs : List Actor). table_of old.script.now.processes old.pids.items xs) c.reserve.ensures.items, refl))
+    let i = c.args.index in
+    let a = c.index_mut-then-is_err.result.now in
+    let b = c.conclude-then-is_err.new.self in
+    let within : i < length first = omega (arith, c.requires, old.actors.ok.0) in
+    let there : a ≡ get_or first i a = c.index_mut-then-is_err.ensures.value ∙ ap (λ (xs : List Actor). get_or xs i a) c.reserve.ensures.items in
+    let off = c.conclude-then-is_err.ensures.behind in (
+      acting a,
+      acting_at first i a within there,
+      inl (ap (λ (xs : List Actor). table_of plans pids (set xs i b)) c.reserve.ensures.items ∙ set_actor plans pids first i b ∙ ap (λ (x : Acting). set_acting i x (table_of plans pids first)) off.0, off.1),
+    )
+
+pub returns-then-is_err-clause-knows : goal.returns-then-is_err-clause-knows
+returns-then-is_err-clause-knows c = λ k.
+    let r = c.args.self.now in
+    let plans = r.script.now.processes in
+    let first = c.args.desk.now.shard in
+    let last = c.conclude-then-is_err.new.desk.shard in
+    let reserved : KnowsOf plans r.pids.items c.reserve.new.self.items r.came.items r.read first =
+    subst (λ (xs : List Actor). KnowsOf plans r.pids.items xs r.came.items r.read first) (sym c.reserve.ensures.items) k in
+    knows_set plans r.pids.items c.reserve.new.self.items r.came.items r.read last c.args.index c.conclude-then-is_err.new.self
+    (knows_later plans r.pids.items c.reserve.new.self.items r.came.items r.read first last c.conclude-then-is_err.ensures.goes_on.shard reserved)
+    (unmarked_true plans r.pids.items last c.conclude-then-is_err.new.self c.conclude-then-is_err.ensures.waits)
 
 pub returns-clause-knows : goal.returns-clause-knows
 returns-clause-knows c = λ k.

@@ -1,10 +1,10 @@
--- `report`: its clauses `text`, `refused` and `untouched`.
+-- `run_and_report`: its clauses `text`, `refused` and `untouched`.
 use Rattle.std.proofs.Common.{◌-◌, sym, ◌∙◌}
 use Rattle.std.proofs.lemmas.Result.{IfErr-weaker}
 use Rattle.pt_report.specs.Reports.{IsRun}
 use Rattle.pt_report.proofs.Faults.{of_summary}
 use Rattle.pt_report.proofs.Passing.{chart_reported, history_reported, json_reported, mermaid_reported, summary_reported, untouched}
-use Rattle.pt_report.proofs.reporting.report.Goals as goal
+use Rattle.pt_report.proofs.reporting.run_and_report.Goals as goal
 
 pub returns-in-Summary-clause-text : goal.returns-in-Summary-clause-text
 returns-in-Summary-clause-text g c =
