@@ -1,6 +1,6 @@
 #!/usr/bin/env bash
 # bench/run.sh [ROUNDS [PART..]]: builds the programs to measure, runs them in turn, so many rounds (5), and prints the tables
-# of bench/RESULTS.md. A PART is desk, growth, slots, lanes, threads, large, resting, judge, epochs, audit, scripts or bindings;
+# of bench/RESULTS.md. A PART is desk, growth, slots, timers, lanes, threads, large, resting, judge, epochs, audit, scripts or bindings;
 # with none, all.
 #
 # It works in the folder that ROOM names (/tmp/pundewo-bench), never in the repository. Needed on the path: rt, cargo and
@@ -12,7 +12,7 @@ repository=$(dirname "$here")
 room=${ROOM:-/tmp/pundewo-bench}
 rounds=${1:-5}
 shift
-parts=${*:-desk growth slots lanes threads large resting judge epochs audit scripts bindings}
+parts=${*:-desk growth slots timers lanes threads large resting judge epochs audit scripts bindings}
 ms=${MS:-20}
 raw=$room/raw
 wants() { [[ " $parts " == *" $1 "* ]]; }
@@ -49,6 +49,7 @@ build() {
     copy_crates
     if wants desk || wants growth || wants bindings; then build_rattle pt_bench_desk; fi
     if wants slots; then build_rattle pt_bench_slots; fi
+    if wants timers; then build_rattle pt_bench_timers 1000 1; fi
     if wants lanes; then build_rattle pt_bench_lanes; fi
     if wants threads; then build_rattle pt_bench_threads hand way 1 1000; fi
     if wants large; then build_rattle pt_bench_large events 1000; fi
@@ -212,6 +213,10 @@ one_round() {
     if wants slots; then
         run plain "$room/rust/release/slots" "$ms"
         run plain "$room/crates/pt_bench_slots/out/pt_bench_slots" 40
+    fi
+    if wants timers; then
+        run plain "$room/crates/pt_bench_timers/out/pt_bench_timers"
+        (cd "$room/erlang" && run plain erl +S 1:1 +sbwt none -noshell -run timers main)
     fi
     if wants lanes; then
         run plain "$room/crates/pt_bench_lanes/out/pt_bench_lanes" 3

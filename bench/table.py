@@ -129,6 +129,17 @@ table(
         if (plain, "slotmap", it) in rates
     ],
 )
+TIMERS = {
+    "start": "start",
+    "again": "cancel one and start another",
+    "cancel": "cancel",
+    "fire": "fire the next",
+}
+table(
+    "Timers, 1,000,000 pending: nanoseconds of one call",
+    ["Workload", "`pt_timers`", "Erlang"],
+    [[name, *[time((plain, by, it), 1e9) for by in ("timers", "erlang-timers")]] for it, name in TIMERS.items()],
+)
 table(
     "Lanes",
     ["Workload", "Lanes", "bare ring", "crossbeam", "std", "to the ring", "to crossbeam", "to std"],

@@ -35,7 +35,7 @@ try_calls() {
     for file in "$here"/calls/*.rt.txt; do
         cp "$file" "$work/crates/pt_refused/src/$(basename "$file" .txt)"
     done
-    echo pt_refused: pt_{heap,signal,slots,process,carrier,history,shard,node,crew,supervisor,resting,script,runner,render,report} >>"$work/crates.txt"
+    echo pt_refused: pt_{heap,signal,slots,timers,names,process,carrier,history,shard,node,crew,supervisor,resting,script,runner,render,report} >>"$work/crates.txt"
     "$root/.ci/build" --in "$work" pt_refused
     env -i ASAN_OPTIONS=exitcode=99 timeout 3600 "$work/bin/pt_refused" >"$work/calls" 2>&1 </dev/null || status=$?
     awk -v CALLS="$here/calls.txt" -v STATUS="$status" -f "$here/judge.awk" "$work/calls"

@@ -1,0 +1,22 @@
+//! `pt_names`: a name that is given, found and forgotten.
+
+use pt_names::{Name, Names};
+use pt_signal::{Pid, Ref};
+
+#[test]
+fn a_name_is_given_and_forgotten(rt: HostRuntime) {
+    let line = Name::new("line_1").expect(&rt, "a name");
+    let pid = Pid {
+        shard: 0,
+        slot: 1,
+        version: 1,
+    };
+    let monitor = Ref { desk: 0, number: 1 };
+    let mut names = Names::new(rt.alloc());
+    assert_eq!(rt; names.register(line, pid, monitor), Ok(()));
+    assert_eq!(rt; names.whereis(line), Some(pid));
+    assert_eq!(rt; names.name_of(pid), Some(line));
+    assert_eq!(rt; names.forget(pid), Some(line));
+    assert_eq!(rt; names.unregister(line), None);
+    assert_eq!(rt; names.len(), 0);
+}
