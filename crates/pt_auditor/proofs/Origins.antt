@@ -24,8 +24,8 @@ Tells true P = P
 Tells false P = ¬ P
 
 tells : (b : Bool) (P : Type 0) → (b ≡ true → P) → (b ≡ false → ¬ P) → Tells b P
-tells true P yes no = yes refl
-tells false P yes no = no refl
+tells true P h k = h refl
+tells false P h k = k refl
 
 both : (a b : Bool) (P Q : Type 0) → Tells a P → Tells b Q → Tells (a && b) (P × Q)
 both true true P Q p q = (p, q)
