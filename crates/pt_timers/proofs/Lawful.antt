@@ -98,7 +98,7 @@ module _ {T : Type 0} where
   known_below (fire now x ∷ past) s (before, leads, does) u h =
       by-cond (λ f. is_known f ≡ true → u.number < s.started) (same_timer x.timer u) fired (fate_of u past)
       (λ same k.
-      let p : IsPending before x.timer = some-from _ _ does.was in
+      let p : IsPending before x.timer = some-from _ _ does.first.pending in
       let b : x.timer.number < before.started = known_below past before leads x.timer (pending_known past before leads x.timer p) in
       omega (arith, ap (λ x. x.number) (same-is x.timer u same)))
       (λ other k. let b : u.number < before.started = known_below past before leads u k in omega arith) h
@@ -115,7 +115,7 @@ module _ {T : Type 0} where
       (λ same. absurd (apart (body_of old t) (ap (body_of old) (same-is t u same) ∙ none) does.was)) (λ other. refl)
   ended (fire now x) old new u f does none below =
       by-cond (λ x. x ≡ f) (same_timer x.timer u) fired f
-      (λ same. absurd (apart (body_of old x.timer) (ap (body_of old) (same-is x.timer u same) ∙ none) (some-from _ _ does.was)))
+      (λ same. absurd (apart (body_of old x.timer) (ap (body_of old) (same-is x.timer u same) ∙ none) (some-from _ _ does.first.pending)))
       (λ other. refl)
 
   stays : (f : Fate T) → StaysSo f f
@@ -158,9 +158,9 @@ module _ {T : Type 0} where
   pub not_early : (past : List (Deed T)) (s : TimersState T) (now : ℕ) (f : Fired T) → Leads (fire now f ∷ past) s
       → (f.timer.at ≤ now) × (fate_of f.timer past ≡ pending f.body)
   not_early past s now f (before, leads, does) =
-      (does.due, pending-from (fate_of f.timer past) f.body (sym (are_pending past before leads f.timer) ∙ does.was))
+      (does.first.due, pending-from (fate_of f.timer past) f.body (sym (are_pending past before leads f.timer) ∙ does.first.pending))
 
   pub in_order : (past : List (Deed T)) (s : TimersState T) (now : ℕ) (f : Fired T) → Leads (fire now f ∷ past) s
       → (u : Timer) (body : T) → fate_of u past ≡ pending body → is_gt (timer_order f.timer u) ≡ false
   in_order past s now f (before, leads, does) u body e =
-      does.first u (some-from _ body (are_pending past before leads u ∙ ap body_as e))
+      does.first.first u (some-from _ body (are_pending past before leads u ∙ ap body_as e))

@@ -44,18 +44,26 @@ module _ {T : Type 0} where
   Cancels t old true new = Cancelled t old new
   Cancels t old false new = (body_of old t ≡ None) × (new ≡ old)
 
-  -- the timer was pending with this body, its time has come, and no other that was pending comes before it
+  -- the timer is pending with this body, its time has come, and no other that is pending comes before it
+  pub record IsFirstDue (now : ℕ) (t : Timer) (body : T) (s : TimersState T) : Type 0 where
+    pub due : t.at ≤ now
+    pub pending : body_of s t ≡ Some body
+    pub first : (u : Timer) → IsPending s u → is_gt (timer_order t u) ≡ false
+
+  -- each timer that is pending is due later
+  abbrev pub NoneDue : ℕ → TimersState T → Type 0
+  NoneDue now s = (u : Timer) → IsPending s u → now < u.at
+
+  -- the first timer that was due is pending no more
   pub record FiredAt (now : ℕ) (f : Fired T) (old new : TimersState T) : Type 0 where
-    pub due : f.timer.at ≤ now
-    pub was : body_of old f.timer ≡ Some f.body
-    pub first : (u : Timer) → IsPending old u → is_gt (timer_order f.timer u) ≡ false
+    pub first : IsFirstDue now f.timer f.body old
     pub pending : AreWith f.timer None old new
     pub started : new.started ≡ old.started
 
-  -- nothing fires only if each that is pending is due later
+  -- nothing fires only if none is due
   abbrev pub Fires : ℕ → TimersState T → Option (Fired T) → TimersState T → Type 0
   Fires now old (Some f) new = FiredAt now f old new
-  Fires now old None new = ((u : Timer) → IsPending old u → now < u.at) × (new ≡ old)
+  Fires now old None new = NoneDue now old × (new ≡ old)
 
   -- the earliest time of those that are pending
   abbrev pub IsNext : TimersState T → Option ℕ → Type 0

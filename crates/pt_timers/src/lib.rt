@@ -30,10 +30,10 @@
 //! - **Names are unique.** `start` returns a name that no timer had before, or fails and changes nothing. (`Starts`)
 #![tactic(auto)]
 
-ghost use Rattle.std.specs.Prelude.{◌≡◌, ℕ, Some, length, is_some};
-ghost use Rattle.std.specs.Option.{option_copied, option_map};
+ghost use Rattle.std.specs.Prelude.{◌≡◌, length, MatchOption};
+ghost use Rattle.std.specs.Option.{option_copied};
 ghost use Rattle.pt_timers.specs.State.{body_of};
-ghost use Rattle.pt_timers.specs.Calls.{Cancels, Fires, IsNext, IsNone, Starts};
+ghost use Rattle.pt_timers.specs.Calls.{Cancels, Fires, IsFirstDue, IsNext, IsNone, NoneDue, Starts};
 ghost use Rattle.pt_timers.specs.Laws.{IsLawful};
 
 use std::alloc::Global;
@@ -181,6 +181,19 @@ impl<T: Drop> Timers<T> {
         }
         let (timer, body) = self.pending.pop_first()?;
         Some(Fired { timer, body })
+    }
+
+    /// The timer that `pop_due` would fire, with its body. It stays pending.
+    ///
+    /// `cancel` takes it away once what it is for is done, so nothing is lost if that fails.
+    pub fn peek_due(&self, now: u64) -> Option<(Timer, &T)>
+        ensures { MatchOption result (NoneDue now self.now) (λ p. IsFirstDue now p.0 p.1.now self.now) }
+    {
+        let (timer, body) = self.pending.first_key_value()?;
+        if timer.at > now {
+            return None;
+        }
+        Some((*timer, body))
     }
 
     /// The earliest time of a pending timer, or `None` if none is pending.
