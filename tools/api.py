@@ -10,6 +10,7 @@ implements.
 """
 from __future__ import annotations
 
+import argparse
 import re
 import sys
 from collections.abc import Iterator
@@ -40,10 +41,12 @@ Doc = list[str]
 
 
 def front(crate: str) -> Path:
+    """The root file of a library."""
     return ROOT / "crates" / crate / "src" / "lib.rt"
 
 
 def sources(crate: str) -> list[Path]:
+    """The source files of a crate."""
     return sorted((ROOT / "crates" / crate / "src").rglob("*.rt"))
 
 
@@ -210,6 +213,7 @@ def section(crate: str, traits: dict[tuple[str, str], list[str]]) -> Iterator[st
 
 
 def page() -> str:
+    """The whole page."""
     crates = [crate for crate in CRATES if front(crate).exists()]
     names = [f"`{crate}`" for crate in crates]
     traits = implemented(crates)
@@ -220,8 +224,11 @@ def page() -> str:
 
 
 def main() -> None:
+    reader = argparse.ArgumentParser(description="Prints docs/API.md, or compares it.")
+    reader.add_argument("--compare", action="store_true", help="print the first line that differs, with status 1")
+    compare = reader.parse_args().compare
     made = page()
-    if sys.argv[1:] != ["--compare"]:
+    if not compare:
         sys.stdout.write(made)
         return
     there = PAGE.read_text() if PAGE.exists() else ""
@@ -232,4 +239,5 @@ def main() -> None:
         sys.exit("docs/API.md: the sources say more, or less: write it anew by tools/api.py > docs/API.md")
 
 
-main()
+if __name__ == "__main__":
+    main()

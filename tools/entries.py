@@ -8,6 +8,7 @@ line is 'N passed, M failed', and the status is 0 if nothing failed.
 """
 from __future__ import annotations
 
+import argparse
 import re
 import sys
 from pathlib import Path
@@ -41,6 +42,7 @@ def named(crate: str) -> set[str]:
 
 
 def main() -> int:
+    argparse.ArgumentParser(description="Shows entries of crates.txt that nothing names, and names without an entry.").parse_args()
     crates = listed()
     reasons = {match.groups() for match in KEPT.finditer((ROOT / "crates.txt").read_text())}
     entries = [(crate, entry) for crate, below in crates.items() for entry in below]

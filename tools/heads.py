@@ -27,6 +27,7 @@ def listed(names: list[str]) -> str:
 
 
 def once(names: list[str]) -> list[str]:
+    """The names in their order, each once."""
     return list(dict.fromkeys(names))
 
 

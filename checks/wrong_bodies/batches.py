@@ -238,6 +238,7 @@ class Kit:
 
 
 def kit_of(libraries: Path) -> Kit:
+    """The toolchain, the proved libraries and the lists of crates.txt."""
     rt = os.environ.get("RT", "rt")
     try:
         page = subprocess.run([rt, "doc"], capture_output=True, text=True, check=True).stdout.strip()
@@ -463,6 +464,7 @@ def within(name: str, functions: set[str]) -> bool:
 
 
 def first_error(text: str) -> str:
+    """The first line of an output that names an error, or else its last line."""
     lines = [it for it in text.split("\n") if "error" in it] or text.strip().split("\n")[-1:]
     return lines[0][:200]
 
