@@ -25,7 +25,8 @@ HEAD = """# What each crate promises
 With this page you can look up what you may rely on in each crate, and the function or clause that carries it.
 
 Made by `tools/promises.py` from the heads of the crates; the gate compares it. A name in brackets is a function, a type
-or a definition of the crate's `specs/`. [PROVED](PROVED.md) has the five promises of the whole table, what is only
+or a definition of the crate's `specs/`. A promise is said in short, and its clause has the premises: a crew's clauses ask
+that it attends its desk, for one. [PROVED](PROVED.md) has the five promises of the whole table, what is only
 tested, and what is not proved yet. [DEFINITIONS](DEFINITIONS.md) explains the words.
 """
 

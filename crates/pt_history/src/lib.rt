@@ -54,7 +54,8 @@
 //!   link was made since and not removed. (`trap_is_the_last_flag`, `peers_are_linked_since`)
 //! - **Open monitors.** A monitor is open if it was made and neither cancelled, delivered nor ended with its process.
 //!   (`monitors_are_open_since`)
-//! - **Early links.** A link to a process that is not born yet is answered. (`early_link_unknown`, `early_link_abroad`)
+//! - **Early links.** Two histories show why the law on links asks that a child is spawned before its parent links to it.
+//!   (`early_link_unknown`, `early_link_abroad`)
 //! - **Worked histories.** Some histories are shown legal and quiet by computing them. (`worked_histories`)
 #![tactic(auto)]
 

@@ -18,7 +18,7 @@
 //!
 //! - **JSON.** An event or a letter left over is written as the one line of JSON that its definition gives.
 //! - **Mermaid.** It is written as the line of a sequence diagram that its definition gives.
-//! - **Defaults.** `Options` has the defaults of the command line. (`limits_stand`)
+//! - **Limits.** At most 1,000,000 turns and 1,000,000 epochs can be asked for. (`limits_stand`)
 #![tactic(auto, unfolding(crate::specs::Json::body_members, crate::specs::Json::links_member, crate::specs::Json::signal_members, crate::specs::Json::item_members, crate::specs::Json::pick_json, crate::specs::Json::event_members, crate::specs::Json::letter_members, crate::specs::Json::left_over_members, crate::specs::Json::json_text, crate::specs::Json::json_left_over_text, crate::specs::Mermaid::column_name_text, crate::specs::Mermaid::pid_label, crate::specs::Mermaid::ref_label, crate::specs::Mermaid::body_label, crate::specs::Mermaid::signal_label, crate::specs::Mermaid::item_label, crate::specs::Mermaid::pick_label, crate::specs::Mermaid::scene_text, crate::specs::Mermaid::deed_text, crate::specs::Mermaid::mermaid_text, crate::specs::Mermaid::mermaid_left_over_text))]
 
 mod choices;

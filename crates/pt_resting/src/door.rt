@@ -21,7 +21,7 @@ pub struct Post {
     pub body: Body,
 }
 
-/// The end of a way in that a thread without a desk holds: a socket's reader, say, or a caller from C.
+/// The end of a way in that a thread without a desk holds: a socket's reader, say.
 #[derive(Drop)]
 pub struct Door<'a> {
     ring: Producer<Post>,
@@ -30,8 +30,8 @@ pub struct Door<'a> {
 }
 
 impl<'a> Door<'a> {
-    /// Hands in a message, and rings at the desk. It is given back, and nothing has changed, exactly where as many wait
-    /// as the way in has places.
+    /// Hands in a message, and rings at the desk. It is given back, and nothing has changed, if the door knows of no free
+    /// place: as many messages wait as the way in has places, by all that this end knows of the other.
     pub fn post(&mut self, post: Post) -> Result<(), Post>
         ensures taken { OnOk result ((sent self.new.ring ≡ sent self.old.ring ++ post ∷ [])
             × (known_free self.old.ring ≤ known_free self.new.ring + 1)) }

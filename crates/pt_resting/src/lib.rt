@@ -9,11 +9,11 @@
 //!
 //! - **The way in.** A message that a `Porter` took was sent, once and in order, or its receiver was seen to have
 //!   exited or is not known. (`Brings`)
-//! - **How many.** A step sends on at most as many as asked for, and fewer only if none is left or the desk refuses the
-//!   next one. (`few`, `keeps`)
+//! - **How many.** A step sends on at most as many as asked for, and fewer only if it knows of no more or the desk refuses
+//!   the next one. (`few`, `keeps`)
 //! - **Refusals.** A message that could not be sent for want of memory or stamps stays in front.
-//! - **Doors.** `Door::post` fails exactly if all places are taken. `way_in` makes as many places as asked for, at the
-//!   desk of the process that sends on.
+//! - **Doors.** `Door::post` fails only if the door knows of no free place. `way_in` makes as many places as asked for, at
+//!   the desk of the process that sends on.
 //! - **Work left.** A crew has work exactly while a process is queued or waits to enter; a porter also while it knows of
 //!   a message. (`busy`)
 //! - **The work within.** A `Resting` does what its work does.
