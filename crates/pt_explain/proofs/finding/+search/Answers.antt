@@ -8,7 +8,7 @@ use Rattle.pt_script.specs.Standing.{OperationStands, processes_in, spawns_in}
 use Rattle.pt_script.proofs.CalledFacts.{alone_at_last, one_more_spawns}
 use Rattle.pt_explain.specs.declared.finding.Reached.TheVariants.{At, Before}
 use Rattle.pt_explain.specs.Places.{LeadsTo, list_in, spawned_in}
-use Rattle.pt_explain.proofs.Finding.{among_spawns, by_other, by_spawn, found_behind, found_here, inside_is, passed_here, with_inside}
+use Rattle.pt_explain.proofs.Numbering.{among_spawns, by_other, by_spawn, found_behind, found_here, inside_is, passed_here, with_inside}
 use Rattle.pt_explain.proofs.finding.+search.Goals as goal
 
 pub search-returns-then-left-eq0 : goal.search-returns-then-left-eq0
