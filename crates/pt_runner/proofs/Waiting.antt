@@ -1,5 +1,5 @@
 -- What a runner knows of those that wait stays true, and who sleeps finds nothing.
-use Rattle.std.proofs.Common.{◌≡◌, ◌≢◌, ◌⊎◌, inl, inr, ℕ, zero, suc, ◌+◌, ◌-◌, ◌<◌, ◌≤◌, Bool, true, false, cond, ◌||◌, ◌&&◌, ◌==◌, eqb-eq, leb-true, List, [], ◌∷◌, ◌++◌, length, length-append, reverse, take, map, get_or, set, slice_get, Option, Some, None, Ok, refl, sym, ap, subst, ◌∙◌, append_assoc, append-nil, add-one, arith}
+use Rattle.std.proofs.Common.{◌≡◌, ◌≢◌, ◌⊎◌, inl, inr, ℕ, zero, suc, ◌+◌, ◌-◌, ◌<◌, ◌≤◌, Bool, true, false, cond, ◌||◌, ◌&&◌, ◌==◌, eqb-true, leb-true, List, [], ◌∷◌, ◌++◌, length, length-append, reverse, take, map, get_or, set, slice_get, Option, Some, None, Ok, refl, sym, ap, subst, ◌∙◌, append_assoc, append-nil, add-one, arith}
 use Rattle.std.specs.Prelude.{is_some, not}
 use Rattle.std.specs.List.{All, find, filter, list_all}
 use Rattle.std.specs.Option.{option_map}
@@ -256,7 +256,7 @@ pub idle_rests : (r : Runner) (d : ShardState) → idle_runner r d ≡ true → 
 idle_rests r d h k =
     let plans = r.script.now.processes in
     let two = both_of (r.read == length d.journal) (list_all (rests r.came.items d) r.actors.items) h in
-    let read : r.read ≡ length d.journal = eqb-eq r.read (length d.journal) two.0 in
+    let read : r.read ≡ length d.journal = eqb-true r.read (length d.journal) two.0 in
     each_rests plans r.pids.items r.came.items d r.actors.items
     (All-weaker (IsTrueOf plans r.pids.items d) (λ a. sleeps r.came.items a ≡ true → FindsNothing plans r.pids.items (acting a) d)
     (λ a t. λ so. asleep plans r.pids.items r.actors.items r.came.items r.read d a k read t so) r.actors.items k.waits)
