@@ -8,10 +8,10 @@ use Rattle.std.specs.List.{list_any}
 use Rattle.std.specs.Str.Parse.{digits_value, without_leading_plus}
 use Rattle.clap.specs.Words.{App, Text, fault_of, is_simple, is_simple_and_free, matches_of}
 use Rattle.clap.specs.Lexer.{strip_byte}
-use Rattle.clap.specs.Faults.{defaults_fault, level_fault, step_fault, walk_fault, word_fault}
+use Rattle.clap.specs.Faults.{check_fault, defaults_fault, level_fault, settle_fault, step_fault, walk_fault, word_fault}
 use Rattle.clap.specs.Kinds.{Kinds, or_else}
 use Rattle.clap.specs.Simple.{Shape, built}
-use Rattle.clap.specs.Walk.{Held, Rule, Step, Walk, after_step, idle, nothing_held, value, walk_from, walked, word_met}
+use Rattle.clap.specs.Walk.{finished, settled, walk, Held, Rule, Step, Walk, after_step, idle, nothing_held, value, walk_from, walked, word_met}
 use Rattle.clap.specs.ValueTests.{is_unsigned_in}
 use Rattle.clap.specs.Values.{same_text}
 use Rattle.clap.specs.declared.builder.value_parser.ValueParser.TheVariants.{Unsigned}
@@ -132,6 +132,15 @@ file_named = (
 level_by_walk : (k : ErrorKind) (s : Shape) (names : List (Text × List Text)) (h : Held) (words : List Text) (entered : Bool) (below : Kinds) → walk_fault s names (walk_from h) words ≡ k ∷ [] → level_fault s names h words entered below ≡ k ∷ []
 level_by_walk k s names h words entered below e = rw e refl
 
+-- what is looked at behind the words themselves, and where neither has a fault there is none
+abbrev behind_words : Shape → List (Text × List Text) → Held → List Text → Bool → Kinds → Kinds
+behind_words s names h words entered below =
+    let end = (walk s.rules names h words).held in
+    or_else below (or_else (settle_fault s.rules s.args_override_self end) (or_else (defaults_fault (settled s.rules end).rows s.rules) (check_fault s (finished s.rules end) entered)))
+
+level_passes : (s : Shape) (names : List (Text × List Text)) (h : Held) (words : List Text) (entered : Bool) (below : Kinds) → walk_fault s names (walk_from h) words ≡ [] → behind_words s names h words entered below ≡ [] → level_fault s names h words entered below ≡ []
+level_passes s names h words entered below words_pass rest = ap (λ (k : Kinds). or_else k (behind_words s names h words entered below)) words_pass ∙ rest
+
 refused_by_walk : (k : ErrorKind) (modes untils shows : Words) (word name : Text) → walk_fault (built (command_with modes untils shows)).top [] (walk_from nothing_held) (word ∷ []) ≡ k ∷ [] → fault_of (command_with modes untils shows) (name ∷ word ∷ []) ≡ k ∷ []
 refused_by_walk k modes untils shows word name e = level_by_walk k (built (command_with modes untils shows)).top [] nothing_held (word ∷ []) _ _ e
 
@@ -146,14 +155,13 @@ taken t ok =
     let is : is_unsigned_in 0 (2 ^ 64) t ≡ true = Accepts-accepts false (Unsigned 0 (2 ^ 64)) t (h.0, h.1, omega arith, omega (arith, h.1)) in
     rw is (omega (arith, h.3))
 
-turns_pass : (modes untils shows : Words) (t name : Text) → is_unsigned_in 0 MOST_TURNS t ≡ true → is_word modes (codes "single") ≡ true → is_word untils (codes "turns") ≡ true → is_word shows (codes "history") ≡ true
-    → fault_of (command_with modes untils shows) (name ∷ (codes "--turns=" ++ t) ∷ []) ≡ []
+turns_walk : (modes untils shows : Words) (t : Text) → is_unsigned_in 0 MOST_TURNS t ≡ true → walk_fault (built (command_with modes untils shows)).top [] (walk_from nothing_held) ((codes "--turns=" ++ t) ∷ []) ≡ []
 unfolding clap_on_literals
-turns_pass modes untils shows t name ok mode until show = rw (ok, mode, until, show) refl
+turns_walk modes untils shows t ok = rw ok refl
 
 pub turns_told : TurnsAreTold
 unfolding clap_on_literals
-turns_told t ok = of_command (Asks ((codes "--turns=" ++ t) ∷ []) None (record defaults { turns = digits_value 10 (without_leading_plus t) })) (λ a b c k l m d e f g i j name. (turns_pass (modes_at a b c) (untils_at k l m) (shows_at d e f g i j) t name ok refl refl refl, refl, ap (λ (n : ℕ). record defaults { turns = n }) (taken t ok)))
+turns_told t ok = of_command (Asks ((codes "--turns=" ++ t) ∷ []) None (record defaults { turns = digits_value 10 (without_leading_plus t) })) (λ a b c k l m d e f g i j name. (level_passes (built (command_with (modes_at a b c) (untils_at k l m) (shows_at d e f g i j))).top [] nothing_held ((codes "--turns=" ++ t) ∷ []) _ _ (turns_walk (modes_at a b c) (untils_at k l m) (shows_at d e f g i j) t ok) refl, refl, ap (λ (n : ℕ). record defaults { turns = n }) (taken t ok)))
 
 turns_wrong : (modes untils shows : Words) (t : Text) → is_unsigned_in 0 MOST_TURNS t ≡ false → walk_fault (built (command_with modes untils shows)).top [] (walk_from nothing_held) ((codes "--turns=" ++ t) ∷ []) ≡ ValueValidation ∷ []
 unfolding clap_on_literals
@@ -169,14 +177,13 @@ taken_epochs t ok =
     let is : is_unsigned_in 0 (2 ^ 64) t ≡ true = Accepts-accepts false (Unsigned 0 (2 ^ 64)) t (h.0, h.1, omega arith, omega (arith, h.1)) in
     rw is (omega (arith, h.2, h.3))
 
-epochs_pass : (modes untils shows : Words) (t name : Text) → is_unsigned_in 1 MOST_EPOCHS t ≡ true → is_word modes (codes "single") ≡ true → is_word untils (codes "turns") ≡ true → is_word shows (codes "history") ≡ true
-    → fault_of (command_with modes untils shows) (name ∷ (codes "--epochs=" ++ t) ∷ []) ≡ []
+epochs_walk : (modes untils shows : Words) (t : Text) → is_unsigned_in 1 MOST_EPOCHS t ≡ true → walk_fault (built (command_with modes untils shows)).top [] (walk_from nothing_held) ((codes "--epochs=" ++ t) ∷ []) ≡ []
 unfolding clap_on_literals
-epochs_pass modes untils shows t name ok mode until show = rw (ok, mode, until, show) refl
+epochs_walk modes untils shows t ok = rw ok refl
 
 pub epochs_told : EpochsAreTold
 unfolding clap_on_literals
-epochs_told t ok = of_command (Asks ((codes "--epochs=" ++ t) ∷ []) None (record defaults { epochs = digits_value 10 (without_leading_plus t) })) (λ a b c k l m d e f g i j name. (epochs_pass (modes_at a b c) (untils_at k l m) (shows_at d e f g i j) t name ok refl refl refl, refl, ap (λ (n : ℕ). record defaults { epochs = n }) (taken_epochs t ok)))
+epochs_told t ok = of_command (Asks ((codes "--epochs=" ++ t) ∷ []) None (record defaults { epochs = digits_value 10 (without_leading_plus t) })) (λ a b c k l m d e f g i j name. (level_passes (built (command_with (modes_at a b c) (untils_at k l m) (shows_at d e f g i j))).top [] nothing_held ((codes "--epochs=" ++ t) ∷ []) _ _ (epochs_walk (modes_at a b c) (untils_at k l m) (shows_at d e f g i j) t ok) refl, refl, ap (λ (n : ℕ). record defaults { epochs = n }) (taken_epochs t ok)))
 
 epochs_wrong : (modes untils shows : Words) (t : Text) → is_unsigned_in 1 MOST_EPOCHS t ≡ false → walk_fault (built (command_with modes untils shows)).top [] (walk_from nothing_held) ((codes "--epochs=" ++ t) ∷ []) ≡ ValueValidation ∷ []
 unfolding clap_on_literals
