@@ -1,5 +1,5 @@
 -- The process that has a number, among those of a text.
-use Rattle.std.proofs.Common.{◌≡◌, ℕ, Bool, true, false, zero, suc, ◌+◌, ◌-◌, ◌<◌, ◌≤◌, List, [], ◌∷◌, ◌++◌, map, length, length-append, get_or, take, drop, Option, Some, None, refl, sym, ap, subst, ◌∙◌, append_assoc, arith}
+use Rattle.std.proofs.Common.{◌≡◌, ℕ, Bool, true, false, zero, suc, ◌-◌, ◌<◌, ◌≤◌, List, [], ◌∷◌, ◌++◌, map, length, length-append, get_or, take, drop, Some, None, refl, sym, ap, subst, ◌∙◌, append_assoc, arith}
 use Rattle.std.specs.Prelude.{codes, if◌then◌else◌, Vec}
 use Rattle.std.proofs.lemmas.List.{get_or_append_left}
 use Rattle.std.specs.declared.alloc.Global.{Global}
@@ -16,7 +16,7 @@ use Rattle.pt_script.proofs.ObjectFacts.{data_of-items_of}
 use Rattle.pt_explain.specs.declared.finding.Found.{Found}
 use Rattle.pt_explain.specs.declared.finding.Reached.{Reached}
 use Rattle.pt_explain.specs.declared.finding.Reached.TheVariants.{At, Before}
-use Rattle.pt_explain.specs.Places.{LeadsTo, FindsProcess, list_in, spawned_in}
+use Rattle.pt_explain.specs.Places.{LeadsTo, list_in, spawned_in}
 
 -- lists of a text
 pub items_given : (d : Data) (v : Bor (Vec Value Global)) → Some (items_view v.now.items) ≡ as_array d → map view v.now.items ≡ loose (list d)
