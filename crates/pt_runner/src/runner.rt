@@ -291,7 +291,6 @@ impl<'a> Runner<'a> {
 
     /// Whether all that happened on its desk was read, and each of its processes has ended, or waits for an item and
     /// had nothing come to it since. Then a step of a runner that knows its desk does nothing.
-    #[tactic(auto, using(crate::proofs::Waiting::idle_rests))]
     pub fn is_idle(&self, desk: &Desk) -> bool
         ensures idle { result ≡ idle_runner self.now desk.now.shard }
         ensures rests { result ≡ true → RunnerKnows self.now desk.now.shard → AllRest self.now desk.now.shard }
