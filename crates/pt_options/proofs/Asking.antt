@@ -18,6 +18,7 @@ use Rattle.clap.specs.declared.builder.value_parser.ValueParser.TheVariants.{Uns
 use Rattle.clap.specs.declared.error.kind.ErrorKind.{ErrorKind}
 use Rattle.clap.specs.declared.error.kind.ErrorKind.TheVariants.{DisplayHelp, DisplayVersion, InvalidValue, TooManyValues, ValueValidation}
 use Rattle.clap.proofs.OnLiterals.{clap_on_literals}
+use Rattle.clap.proofs.FaultLemmas.{leaf_fault}
 use Rattle.clap.proofs.ValueTestLemmas.{accepts-Accepts, Accepts-accepts}
 use Rattle.pt_options.specs.Choosing.{Words, IsCommand, chosen_of, command_with, epochs_of, file_of, number_written, turns_of}
 use Rattle.pt_options.specs.Laws.{AskFor, DefaultsStand, FilesAreNamed, TurnsAreTold, WrongTurnsAreRefused, EpochsAreTold, WrongEpochsAreRefused, ModesAreTold, WrongModesAreRefused, UntilsAreTold, WrongUntilsAreRefused, PrintsAreTold, WrongPrintsAreRefused, HelpIsAsked, VersionIsAsked, ExplainingIsTold, ExplainingTakesNoValue, defaults}
@@ -144,6 +145,12 @@ level_passes s names h words entered below words_pass rest = ap (λ (k : Kinds).
 refused_by_walk : (k : ErrorKind) (modes untils shows : Words) (word name : Text) → walk_fault (built (command_with modes untils shows)).top [] (walk_from nothing_held) (word ∷ []) ≡ k ∷ [] → fault_of (command_with modes untils shows) (name ∷ word ∷ []) ≡ k ∷ []
 refused_by_walk k modes untils shows word name e = level_by_walk k (built (command_with modes untils shows)).top [] nothing_held (word ∷ []) _ _ e
 
+-- a command fails at nothing where the walk passes, and nothing behind it
+passes_by_walk : (modes untils shows : Words) (word name : Text) → walk_fault (built (command_with modes untils shows)).top [] (walk_from nothing_held) (word ∷ []) ≡ [] → behind_words (built (command_with modes untils shows)).top [] nothing_held (word ∷ []) false [] ≡ [] → fault_of (command_with modes untils shows) (name ∷ word ∷ []) ≡ []
+passes_by_walk modes untils shows word name words_pass rest =
+    let a = built (command_with modes untils shows) in
+    leaf_fault a nothing_held (word ∷ []) refl ∙ level_passes a.top [] nothing_held (word ∷ []) false [] words_pass rest
+
 -- whether a text is among the words of an argument, as the command tests it
 abbrev is_word : Words → Text → Bool
 is_word words t = list_any (λ (name : Bor Text). same_text false name.now t) words.now
@@ -161,7 +168,7 @@ turns_walk modes untils shows t ok = rw ok refl
 
 pub turns_told : TurnsAreTold
 unfolding clap_on_literals
-turns_told t ok = of_command (Asks ((codes "--turns=" ++ t) ∷ []) None (record defaults { turns = digits_value 10 (without_leading_plus t) })) (λ a b c k l m d e f g i j name. (level_passes (built (command_with (modes_at a b c) (untils_at k l m) (shows_at d e f g i j))).top [] nothing_held ((codes "--turns=" ++ t) ∷ []) _ _ (turns_walk (modes_at a b c) (untils_at k l m) (shows_at d e f g i j) t ok) refl, refl, ap (λ (n : ℕ). record defaults { turns = n }) (taken t ok)))
+turns_told t ok = of_command (Asks ((codes "--turns=" ++ t) ∷ []) None (record defaults { turns = digits_value 10 (without_leading_plus t) })) (λ a b c k l m d e f g i j name. (passes_by_walk (modes_at a b c) (untils_at k l m) (shows_at d e f g i j) (codes "--turns=" ++ t) name (turns_walk (modes_at a b c) (untils_at k l m) (shows_at d e f g i j) t ok) refl, refl, ap (λ (n : ℕ). record defaults { turns = n }) (taken t ok)))
 
 turns_wrong : (modes untils shows : Words) (t : Text) → is_unsigned_in 0 MOST_TURNS t ≡ false → walk_fault (built (command_with modes untils shows)).top [] (walk_from nothing_held) ((codes "--turns=" ++ t) ∷ []) ≡ ValueValidation ∷ []
 unfolding clap_on_literals
@@ -183,7 +190,7 @@ epochs_walk modes untils shows t ok = rw ok refl
 
 pub epochs_told : EpochsAreTold
 unfolding clap_on_literals
-epochs_told t ok = of_command (Asks ((codes "--epochs=" ++ t) ∷ []) None (record defaults { epochs = digits_value 10 (without_leading_plus t) })) (λ a b c k l m d e f g i j name. (level_passes (built (command_with (modes_at a b c) (untils_at k l m) (shows_at d e f g i j))).top [] nothing_held ((codes "--epochs=" ++ t) ∷ []) _ _ (epochs_walk (modes_at a b c) (untils_at k l m) (shows_at d e f g i j) t ok) refl, refl, ap (λ (n : ℕ). record defaults { epochs = n }) (taken_epochs t ok)))
+epochs_told t ok = of_command (Asks ((codes "--epochs=" ++ t) ∷ []) None (record defaults { epochs = digits_value 10 (without_leading_plus t) })) (λ a b c k l m d e f g i j name. (passes_by_walk (modes_at a b c) (untils_at k l m) (shows_at d e f g i j) (codes "--epochs=" ++ t) name (epochs_walk (modes_at a b c) (untils_at k l m) (shows_at d e f g i j) t ok) refl, refl, ap (λ (n : ℕ). record defaults { epochs = n }) (taken_epochs t ok)))
 
 epochs_wrong : (modes untils shows : Words) (t : Text) → is_unsigned_in 1 MOST_EPOCHS t ≡ false → walk_fault (built (command_with modes untils shows)).top [] (walk_from nothing_held) ((codes "--epochs=" ++ t) ∷ []) ≡ ValueValidation ∷ []
 unfolding clap_on_literals
