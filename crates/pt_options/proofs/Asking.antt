@@ -8,15 +8,17 @@ use Rattle.std.specs.List.{list_any}
 use Rattle.std.specs.Str.Parse.{digits_value, without_leading_plus}
 use Rattle.clap.specs.Words.{App, Text, fault_of, is_simple, is_simple_and_free, matches_of}
 use Rattle.clap.specs.Lexer.{strip_byte}
-use Rattle.clap.specs.Faults.{defaults_fault, level_fault, step_fault, walk_fault, word_fault}
+use Rattle.clap.specs.Faults.{check_fault, defaults_fault, level_fault, settle_fault, step_fault, walk_fault, word_fault}
 use Rattle.clap.specs.Kinds.{Kinds, or_else}
 use Rattle.clap.specs.Simple.{Shape, built}
-use Rattle.clap.specs.Walk.{Held, Rule, Step, Walk, after_step, idle, nothing_held, value, walk_from, walked, word_met}
+use Rattle.clap.specs.Walk.{finished, settled, walk, Held, Rule, Step, Walk, after_step, idle, nothing_held, value, walk_from, walked, word_met}
 use Rattle.clap.specs.ValueTests.{is_unsigned_in}
 use Rattle.clap.specs.Values.{same_text}
 use Rattle.clap.specs.declared.builder.value_parser.ValueParser.TheVariants.{Unsigned}
+use Rattle.clap.specs.declared.error.kind.ErrorKind.{ErrorKind}
 use Rattle.clap.specs.declared.error.kind.ErrorKind.TheVariants.{DisplayHelp, DisplayVersion, InvalidValue, TooManyValues, ValueValidation}
 use Rattle.clap.proofs.OnLiterals.{clap_on_literals}
+use Rattle.clap.proofs.FaultLemmas.{leaf_fault}
 use Rattle.clap.proofs.ValueTestLemmas.{accepts-Accepts, Accepts-accepts}
 use Rattle.pt_options.specs.Choosing.{Words, IsCommand, chosen_of, command_with, epochs_of, file_of, number_written, turns_of}
 use Rattle.pt_options.specs.Laws.{AskFor, DefaultsStand, FilesAreNamed, TurnsAreTold, WrongTurnsAreRefused, EpochsAreTold, WrongEpochsAreRefused, ModesAreTold, WrongModesAreRefused, UntilsAreTold, WrongUntilsAreRefused, PrintsAreTold, WrongPrintsAreRefused, HelpIsAsked, VersionIsAsked, ExplainingIsTold, ExplainingTakesNoValue, defaults}
@@ -126,6 +128,33 @@ file_named = (
   )),
 )
 
+-- A fault of the words themselves is the first one, whatever comes of the defaults. Where a word is refused for not being
+-- among those of its argument, those are variables, so that little is computed where the test is put in.
+level_by_walk : (k : ErrorKind) (s : Shape) (names : List (Text × List Text)) (h : Held) (words : List Text) (entered : Bool) (below : Kinds) → walk_fault s names (walk_from h) words ≡ k ∷ [] → level_fault s names h words entered below ≡ k ∷ []
+level_by_walk k s names h words entered below e = rw e refl
+
+-- what is looked at behind the words themselves, and where neither has a fault there is none
+abbrev behind_words : Shape → List (Text × List Text) → Held → List Text → Bool → Kinds → Kinds
+behind_words s names h words entered below =
+    let end = (walk s.rules names h words).held in
+    or_else below (or_else (settle_fault s.rules s.args_override_self end) (or_else (defaults_fault (settled s.rules end).rows s.rules) (check_fault s (finished s.rules end) entered)))
+
+level_passes : (s : Shape) (names : List (Text × List Text)) (h : Held) (words : List Text) (entered : Bool) (below : Kinds) → walk_fault s names (walk_from h) words ≡ [] → behind_words s names h words entered below ≡ [] → level_fault s names h words entered below ≡ []
+level_passes s names h words entered below words_pass rest = ap (λ (k : Kinds). or_else k (behind_words s names h words entered below)) words_pass ∙ rest
+
+refused_by_walk : (k : ErrorKind) (modes untils shows : Words) (word name : Text) → walk_fault (built (command_with modes untils shows)).top [] (walk_from nothing_held) (word ∷ []) ≡ k ∷ [] → fault_of (command_with modes untils shows) (name ∷ word ∷ []) ≡ k ∷ []
+refused_by_walk k modes untils shows word name e = level_by_walk k (built (command_with modes untils shows)).top [] nothing_held (word ∷ []) _ _ e
+
+-- a command fails at nothing where the walk passes, and nothing behind it
+passes_by_walk : (modes untils shows : Words) (word name : Text) → walk_fault (built (command_with modes untils shows)).top [] (walk_from nothing_held) (word ∷ []) ≡ [] → behind_words (built (command_with modes untils shows)).top [] nothing_held (word ∷ []) false [] ≡ [] → fault_of (command_with modes untils shows) (name ∷ word ∷ []) ≡ []
+passes_by_walk modes untils shows word name words_pass rest =
+    let a = built (command_with modes untils shows) in
+    leaf_fault a nothing_held (word ∷ []) refl ∙ level_passes a.top [] nothing_held (word ∷ []) false [] words_pass rest
+
+-- whether a text is among the words of an argument, as the command tests it
+abbrev is_word : Words → Text → Bool
+is_word words t = list_any (λ (name : Bor Text). same_text false name.now t) words.now
+
 -- a number in its range is the number that is taken
 taken : (t : Text) → is_unsigned_in 0 MOST_TURNS t ≡ true → turns_of (number_written t) ≡ digits_value 10 (without_leading_plus t)
 taken t ok =
@@ -133,13 +162,20 @@ taken t ok =
     let is : is_unsigned_in 0 (2 ^ 64) t ≡ true = Accepts-accepts false (Unsigned 0 (2 ^ 64)) t (h.0, h.1, omega arith, omega (arith, h.1)) in
     rw is (omega (arith, h.3))
 
+turns_walk : (modes untils shows : Words) (t : Text) → is_unsigned_in 0 MOST_TURNS t ≡ true → walk_fault (built (command_with modes untils shows)).top [] (walk_from nothing_held) ((codes "--turns=" ++ t) ∷ []) ≡ []
+unfolding clap_on_literals
+turns_walk modes untils shows t ok = rw ok refl
+
 pub turns_told : TurnsAreTold
 unfolding clap_on_literals
-turns_told t ok = of_command (Asks ((codes "--turns=" ++ t) ∷ []) None (record defaults { turns = digits_value 10 (without_leading_plus t) })) (λ a b c k l m d e f g i j name. (rw ok refl, refl, ap (λ (n : ℕ). record defaults { turns = n }) (taken t ok)))
+turns_told t ok = of_command (Asks ((codes "--turns=" ++ t) ∷ []) None (record defaults { turns = digits_value 10 (without_leading_plus t) })) (λ a b c k l m d e f g i j name. (passes_by_walk (modes_at a b c) (untils_at k l m) (shows_at d e f g i j) (codes "--turns=" ++ t) name (turns_walk (modes_at a b c) (untils_at k l m) (shows_at d e f g i j) t ok) refl, refl, ap (λ (n : ℕ). record defaults { turns = n }) (taken t ok)))
+
+turns_wrong : (modes untils shows : Words) (t : Text) → is_unsigned_in 0 MOST_TURNS t ≡ false → walk_fault (built (command_with modes untils shows)).top [] (walk_from nothing_held) ((codes "--turns=" ++ t) ∷ []) ≡ ValueValidation ∷ []
+unfolding clap_on_literals
+turns_wrong modes untils shows t bad = rw bad refl
 
 pub turns_refused : WrongTurnsAreRefused
-unfolding clap_on_literals
-turns_refused t bad = of_command (λ x. (name : Text) → fault_of x (name ∷ (codes "--turns=" ++ t) ∷ []) ≡ ValueValidation ∷ []) (λ a b c k l m d e f g i j name. rw bad refl)
+turns_refused t bad = of_command (λ x. (name : Text) → fault_of x (name ∷ (codes "--turns=" ++ t) ∷ []) ≡ ValueValidation ∷ []) (λ a b c k l m d e f g i j name. refused_by_walk ValueValidation (modes_at a b c) (untils_at k l m) (shows_at d e f g i j) (codes "--turns=" ++ t) name (turns_wrong (modes_at a b c) (untils_at k l m) (shows_at d e f g i j) t bad))
 
 -- and so is one of epochs
 taken_epochs : (t : Text) → is_unsigned_in 1 MOST_EPOCHS t ≡ true → epochs_of (number_written t) ≡ digits_value 10 (without_leading_plus t)
@@ -148,13 +184,20 @@ taken_epochs t ok =
     let is : is_unsigned_in 0 (2 ^ 64) t ≡ true = Accepts-accepts false (Unsigned 0 (2 ^ 64)) t (h.0, h.1, omega arith, omega (arith, h.1)) in
     rw is (omega (arith, h.2, h.3))
 
+epochs_walk : (modes untils shows : Words) (t : Text) → is_unsigned_in 1 MOST_EPOCHS t ≡ true → walk_fault (built (command_with modes untils shows)).top [] (walk_from nothing_held) ((codes "--epochs=" ++ t) ∷ []) ≡ []
+unfolding clap_on_literals
+epochs_walk modes untils shows t ok = rw ok refl
+
 pub epochs_told : EpochsAreTold
 unfolding clap_on_literals
-epochs_told t ok = of_command (Asks ((codes "--epochs=" ++ t) ∷ []) None (record defaults { epochs = digits_value 10 (without_leading_plus t) })) (λ a b c k l m d e f g i j name. (rw ok refl, refl, ap (λ (n : ℕ). record defaults { epochs = n }) (taken_epochs t ok)))
+epochs_told t ok = of_command (Asks ((codes "--epochs=" ++ t) ∷ []) None (record defaults { epochs = digits_value 10 (without_leading_plus t) })) (λ a b c k l m d e f g i j name. (passes_by_walk (modes_at a b c) (untils_at k l m) (shows_at d e f g i j) (codes "--epochs=" ++ t) name (epochs_walk (modes_at a b c) (untils_at k l m) (shows_at d e f g i j) t ok) refl, refl, ap (λ (n : ℕ). record defaults { epochs = n }) (taken_epochs t ok)))
+
+epochs_wrong : (modes untils shows : Words) (t : Text) → is_unsigned_in 1 MOST_EPOCHS t ≡ false → walk_fault (built (command_with modes untils shows)).top [] (walk_from nothing_held) ((codes "--epochs=" ++ t) ∷ []) ≡ ValueValidation ∷ []
+unfolding clap_on_literals
+epochs_wrong modes untils shows t bad = rw bad refl
 
 pub epochs_refused : WrongEpochsAreRefused
-unfolding clap_on_literals
-epochs_refused t bad = of_command (λ x. (name : Text) → fault_of x (name ∷ (codes "--epochs=" ++ t) ∷ []) ≡ ValueValidation ∷ []) (λ a b c k l m d e f g i j name. rw bad refl)
+epochs_refused t bad = of_command (λ x. (name : Text) → fault_of x (name ∷ (codes "--epochs=" ++ t) ∷ []) ≡ ValueValidation ∷ []) (λ a b c k l m d e f g i j name. refused_by_walk ValueValidation (modes_at a b c) (untils_at k l m) (shows_at d e f g i j) (codes "--epochs=" ++ t) name (epochs_wrong (modes_at a b c) (untils_at k l m) (shows_at d e f g i j) t bad))
 
 pub modes_told : ModesAreTold
 unfolding clap_on_literals
@@ -166,18 +209,6 @@ modes_told = (
 another : (w t : Text) → t ≢ w → bytes_eq w t ≡ false
 another w t other = false_unless _ (λ e. other (sym ((bytes_eq-Decides w t).0 e)))
 
--- A fault of the words themselves is the first one, whatever comes of the defaults. Where a word is refused for not being
--- among those of its argument, those are variables, so that little is computed where the test is put in.
-level_by_walk : (s : Shape) (names : List (Text × List Text)) (h : Held) (words : List Text) (entered : Bool) (below : Kinds) → walk_fault s names (walk_from h) words ≡ InvalidValue ∷ [] → level_fault s names h words entered below ≡ InvalidValue ∷ []
-level_by_walk s names h words entered below e = rw e refl
-
-refused_by_walk : (modes untils shows : Words) (word name : Text) → walk_fault (built (command_with modes untils shows)).top [] (walk_from nothing_held) (word ∷ []) ≡ InvalidValue ∷ [] → fault_of (command_with modes untils shows) (name ∷ word ∷ []) ≡ InvalidValue ∷ []
-refused_by_walk modes untils shows word name e = level_by_walk (built (command_with modes untils shows)).top [] nothing_held (word ∷ []) _ _ e
-
--- whether a text is among the words of an argument, as the command tests it
-abbrev is_word : Words → Text → Bool
-is_word words t = list_any (λ (name : Bor Text). same_text false name.now t) words.now
-
 no_mode : (a b c : ℕ × ℕ) (t : Text) → t ≢ codes "single" → t ≢ codes "many" → is_word (modes_at a b c) t ≡ false
 no_mode a b c t single many = rw (another (codes "single") t single, another (codes "many") t many) refl
 
@@ -186,7 +217,7 @@ unfolding clap_on_literals
 mode_refused modes untils shows t other = rw other refl
 
 pub modes_refused : WrongModesAreRefused
-modes_refused t single many = of_command (λ x. (name : Text) → fault_of x (name ∷ (codes "--threads=" ++ t) ∷ []) ≡ InvalidValue ∷ []) (λ a b c k l m d e f g i j name. refused_by_walk (modes_at a b c) (untils_at k l m) (shows_at d e f g i j) (codes "--threads=" ++ t) name (mode_refused (modes_at a b c) (untils_at k l m) (shows_at d e f g i j) t (no_mode a b c t single many)))
+modes_refused t single many = of_command (λ x. (name : Text) → fault_of x (name ∷ (codes "--threads=" ++ t) ∷ []) ≡ InvalidValue ∷ []) (λ a b c k l m d e f g i j name. refused_by_walk InvalidValue (modes_at a b c) (untils_at k l m) (shows_at d e f g i j) (codes "--threads=" ++ t) name (mode_refused (modes_at a b c) (untils_at k l m) (shows_at d e f g i j) t (no_mode a b c t single many)))
 
 no_until : (k l m : ℕ × ℕ) (t : Text) → t ≢ codes "turns" → t ≢ codes "quiet" → is_word (untils_at k l m) t ≡ false
 no_until k l m t turns quiet = rw (another (codes "turns") t turns, another (codes "quiet") t quiet) refl
@@ -196,7 +227,7 @@ unfolding clap_on_literals
 until_refused modes untils shows t other = rw other refl
 
 pub untils_refused : WrongUntilsAreRefused
-untils_refused t turns quiet = of_command (λ x. (name : Text) → fault_of x (name ∷ (codes "--until=" ++ t) ∷ []) ≡ InvalidValue ∷ []) (λ a b c k l m d e f g i j name. refused_by_walk (modes_at a b c) (untils_at k l m) (shows_at d e f g i j) (codes "--until=" ++ t) name (until_refused (modes_at a b c) (untils_at k l m) (shows_at d e f g i j) t (no_until k l m t turns quiet)))
+untils_refused t turns quiet = of_command (λ x. (name : Text) → fault_of x (name ∷ (codes "--until=" ++ t) ∷ []) ≡ InvalidValue ∷ []) (λ a b c k l m d e f g i j name. refused_by_walk InvalidValue (modes_at a b c) (untils_at k l m) (shows_at d e f g i j) (codes "--until=" ++ t) name (until_refused (modes_at a b c) (untils_at k l m) (shows_at d e f g i j) t (no_until k l m t turns quiet)))
 
 pub untils_told : UntilsAreTold
 unfolding clap_on_literals
@@ -223,7 +254,7 @@ unfolding clap_on_literals
 show_refused modes untils shows t other = rw other refl
 
 pub prints_refused : WrongPrintsAreRefused
-prints_refused t summary history chart mermaid json = of_command (λ x. (name : Text) → fault_of x (name ∷ (codes "--print=" ++ t) ∷ []) ≡ InvalidValue ∷ []) (λ a b c k l m d e f g i j name. refused_by_walk (modes_at a b c) (untils_at k l m) (shows_at d e f g i j) (codes "--print=" ++ t) name (show_refused (modes_at a b c) (untils_at k l m) (shows_at d e f g i j) t (no_show d e f g i j t summary history chart mermaid json)))
+prints_refused t summary history chart mermaid json = of_command (λ x. (name : Text) → fault_of x (name ∷ (codes "--print=" ++ t) ∷ []) ≡ InvalidValue ∷ []) (λ a b c k l m d e f g i j name. refused_by_walk InvalidValue (modes_at a b c) (untils_at k l m) (shows_at d e f g i j) (codes "--print=" ++ t) name (show_refused (modes_at a b c) (untils_at k l m) (shows_at d e f g i j) t (no_show d e f g i j t summary history chart mermaid json)))
 
 pub explaining_told : ExplainingIsTold
 unfolding clap_on_literals

@@ -1,9 +1,9 @@
 -- What a runner knows of those that wait stays true, and who sleeps finds nothing.
-use Rattle.std.proofs.Common.{◌≡◌, ◌≢◌, ◌⊎◌, inl, inr, ℕ, zero, suc, ◌+◌, ◌-◌, ◌<◌, ◌≤◌, Bool, true, false, cond, ◌||◌, ◌&&◌, ◌==◌, eqb-eq, leb-true, List, [], ◌∷◌, ◌++◌, length, length-append, reverse, take, map, get_or, set, slice_get, Option, Some, None, Ok, refl, sym, ap, subst, ◌∙◌, append_assoc, append-nil, add-one, arith}
+use Rattle.std.proofs.Common.{◌≡◌, ◌≢◌, ◌⊎◌, inl, inr, ℕ, zero, suc, ◌+◌, ◌-◌, ◌<◌, ◌≤◌, Bool, true, false, cond, ◌||◌, ◌&&◌, ◌==◌, leb-true, List, [], ◌∷◌, ◌++◌, length, length-append, reverse, take, map, get_or, set, slice_get, Option, Some, None, Ok, refl, sym, ap, subst, ◌∙◌, append_assoc, append-nil, add-one, arith}
 use Rattle.std.specs.Prelude.{is_some, not}
 use Rattle.std.specs.List.{All, find, filter, list_all}
 use Rattle.std.specs.Option.{option_map}
-use Rattle.std.proofs.lemmas.Bool.{cases_lt}
+use Rattle.std.proofs.lemmas.Bool.{cases_lt, eqb-true}
 use Rattle.std.proofs.lemmas.List.{get_or_default, length-reverse, take_all}
 use Rattle.std.proofs.lemmas.List.Elements.{All-nil, All-cons, All-head, All-tail, All-set, All-push, All-weaker}
 use Rattle.std.proofs.lemmas.List.Folds.{list_any-append}
@@ -252,15 +252,18 @@ each_rests plans pids came d (a ∷ actors) finds h =
     (λ alive. rests_alive plans pids d a (sleeps came a) (lives d a.pid) (All-head (λ x. sleeps came x ≡ true → FindsNothing plans pids (acting x) d) a actors finds) two.0 alive)
     (each_rests plans pids came d actors (All-tail (λ x. sleeps came x ≡ true → FindsNothing plans pids (acting x) d) a actors finds) two.1)
 
-pub idle_rests : (r : Runner) (d : ShardState) → idle_runner r d ≡ true → RunnerKnows r d → AllRest r d
-idle_rests r d h k =
+pub read_rests : (r : Runner) (d : ShardState) → r.read ≡ length d.journal → list_all (rests r.came.items d) r.actors.items ≡ true → RunnerKnows r d → AllRest r d
+read_rests r d read all k =
     let plans = r.script.now.processes in
-    let two = both_of (r.read == length d.journal) (list_all (rests r.came.items d) r.actors.items) h in
-    let read : r.read ≡ length d.journal = eqb-eq r.read (length d.journal) two.0 in
     each_rests plans r.pids.items r.came.items d r.actors.items
     (All-weaker (IsTrueOf plans r.pids.items d) (λ a. sleeps r.came.items a ≡ true → FindsNothing plans r.pids.items (acting a) d)
     (λ a t. λ so. asleep plans r.pids.items r.actors.items r.came.items r.read d a k read t so) r.actors.items k.waits)
-    two.1
+    all
+
+pub idle_rests : (r : Runner) (d : ShardState) → idle_runner r d ≡ true → RunnerKnows r d → AllRest r d
+idle_rests r d h k =
+    let two = both_of (r.read == length d.journal) (list_all (rests r.came.items d) r.actors.items) h in
+    read_rests r d (eqb-true r.read (length d.journal) two.0) two.1 k
 
 -- who ended is taken out --------------------------------------------------------------------------------
 

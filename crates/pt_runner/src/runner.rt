@@ -1,7 +1,7 @@
 //! The work of a script on one desk.
 
 ghost use Rattle.std.specs.Prelude.{◌≡◌, ◌≢◌, ◌⊎◌, ℕ, Bool, false, ◌<◌, ◌≤◌, ◌+◌, ◌++◌, ◌∷◌, ◌||◌, [], List, None, Some, Ok};
-ghost use Rattle.std.specs.Prelude.{count_by, map, not, slice_index_or, slice_set, vec_capacity, vec_len};
+ghost use Rattle.std.specs.Prelude.{count_by, map, not, slice_index_or, slice_set, true, vec_capacity, vec_len};
 ghost use Rattle.std.specs.List.{All, find, list_all};
 ghost use Rattle.std.specs.Option.{option_map};
 ghost use Rattle.pt_signal.specs.Values.{same_pid};
@@ -108,12 +108,12 @@ impl Actor {
         ensures acting { acting self.new ≡ advanced (acting self.old) }
         ensures waits { self.new.waits ≡ self.old.waits }
     {
+        self.refused = 0;
         if self.begins {
             self.begins = false;
         } else {
             self.done = self.done.saturating_add(1);
         }
-        self.refused = 0;
     }
 
     /// Its next operation was refused once more, and is to be tried again.
@@ -291,7 +291,6 @@ impl<'a> Runner<'a> {
 
     /// Whether all that happened on its desk was read, and each of its processes has ended, or waits for an item and
     /// had nothing come to it since. Then a step of a runner that knows its desk does nothing.
-    #[tactic(auto, using(crate::proofs::Waiting::idle_rests))]
     pub fn is_idle(&self, desk: &Desk) -> bool
         ensures idle { result ≡ idle_runner self.now desk.now.shard }
         ensures rests { result ≡ true → RunnerKnows self.now desk.now.shard → AllRest self.now desk.now.shard }

@@ -1,5 +1,5 @@
 -- `search` and what it calls: their contracts.
-use Rattle.std.proofs.Common.{◌≡◌, ◌+◌, ◌-◌, ◌<◌, ◌≤◌, List, ◌++◌, ◌∷◌, [], length, map, take, ap, sym, subst, ◌∙◌, refl, arith}
+use Rattle.std.proofs.Common.{◌≡◌, ◌+◌, ◌-◌, ◌<◌, List, ◌++◌, ◌∷◌, [], length, map, take, ap, sym, subst, ◌∙◌, refl, arith}
 use Rattle.std.specs.Prelude.{codes}
 use Rattle.std.proofs.lemmas.List.{get_or-map, length-map, take_all}
 use Rattle.serde_json.specs.Data.{Data}
@@ -8,7 +8,7 @@ use Rattle.pt_script.specs.Standing.{OperationStands, processes_in, spawns_in}
 use Rattle.pt_script.proofs.CalledFacts.{alone_at_last, one_more_spawns}
 use Rattle.pt_explain.specs.declared.finding.Reached.TheVariants.{At, Before}
 use Rattle.pt_explain.specs.Places.{LeadsTo, list_in, spawned_in}
-use Rattle.pt_explain.proofs.Finding.{among_spawns, by_other, by_spawn, found_behind, found_here, inside_is, passed_here, with_inside}
+use Rattle.pt_explain.proofs.Numbering.{among_spawns, by_other, by_spawn, found_behind, found_here, inside_is, passed_here, with_inside}
 use Rattle.pt_explain.proofs.finding.+search.Goals as goal
 
 pub search-returns-then-left-eq0 : goal.search-returns-then-left-eq0

@@ -3,11 +3,11 @@ use Rattle.std.proofs.Common.{◌≡◌, ◌+◌, ◌<◌, ◌≤◌, List, ◌+
 use Rattle.std.proofs.lemmas.List.{get_or-map, length-map, take_all}
 use Rattle.serde_json.specs.Data.{Data}
 use Rattle.serde_json.specs.View.{view}
-use Rattle.pt_script.specs.Standing.{OperationStands, processes_in, processes_of}
+use Rattle.pt_script.specs.Standing.{processes_in, processes_of}
 use Rattle.pt_script.proofs.CalledFacts.{one_more_process}
 use Rattle.pt_explain.specs.declared.finding.Reached.TheVariants.{At, Before}
 use Rattle.pt_explain.specs.Places.{LeadsTo}
-use Rattle.pt_explain.proofs.Finding.{among_processes, found_behind}
+use Rattle.pt_explain.proofs.Numbering.{among_processes, found_behind}
 use Rattle.pt_explain.proofs.finding.process_at.Goals as goal
 
 pub loop-top-preserved : goal.loop-top-preserved

@@ -1,7 +1,7 @@
 -- `items_of`: its contract.
-use Rattle.std.proofs.Common.{ap, sym, ◌∙◌, map}
+use Rattle.std.proofs.Common.{ap, ◌∙◌, map}
 use Rattle.serde_json.specs.View.{view}
-use Rattle.pt_explain.proofs.Finding.{items_given, none_given}
+use Rattle.pt_explain.proofs.Numbering.{items_given, none_given}
 use Rattle.pt_explain.proofs.scope.items_of.Goals as goal
 
 pub returns-in-Some : goal.returns-in-Some

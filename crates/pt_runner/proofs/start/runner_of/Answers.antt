@@ -29,7 +29,7 @@ loop-index-preserved c =
     elim c.if-pid-desk.branch [
       | then-pid-desk+in_ok-push w ↦
           subst (λ (xs : List Actor). Listed s born d (i + 1) xs × All IsUnmarked xs) (sym (ap items w.actors-is ∙ w.in_ok-push.ensures.items))
-          (listed_here s born d i t p actors here c.loop-index.invariant.0 w.new.result w.if-pid-desk.true w.new.ensures.acting, All-push IsUnmarked actors w.new.result w.new.ensures.waits c.loop-index.invariant.1)
+          (listed_here s born d i t p actors here c.loop-index.invariant.0 w.new.result w.if-pid-desk.true w.new.ensures.acting, All-push IsUnmarked actors w.new.result c.loop-index.invariant.1 w.new.ensures.waits)
       | else-pid-desk w ↦
           subst (λ (xs : List Actor). Listed s born d (i + 1) xs × All IsUnmarked xs) (sym (ap items w.actors-is)) (listed_beside s born d i t p actors here c.loop-index.invariant.0 w.if-pid-desk.false, c.loop-index.invariant.1)
     ]

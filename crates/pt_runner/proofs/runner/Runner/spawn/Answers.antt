@@ -19,8 +19,8 @@ returns-clause-spawns c =
     let actors = c.enter.new.self.actors.items in
     let i = c.args.index in
     let x = c.index.result.now in
-    let a = c.index_mut.result.now in
-    let b = c.conclude.new.self in
+    let a = c.index_mut-2.result.now in
+    let b = c.conclude-2.new.self in
     let t = table old in
     let reserved : c.reserve.new.self.items ≡ first = c.reserve.ensures.items in
     let listed : table c.enter.new.self ≡ with_born c.args.process r t = c.enter.ensures.table ∙ with_child_same c.args.process r plans old.pids.items c.reserve.new.self.items first reserved in
@@ -29,7 +29,7 @@ returns-clause-spawns c =
     let is : get_or t.actors i (acting a) ≡ acting a =
     sym (child_behind c.args.process r t i (acting a) (acting_within first i within))
     ∙ ap (λ (u : PidTable). get_or u.actors i (acting a)) (sym listed)
-    ∙ acting_at actors i a inside c.index_mut.ensures.value in
+    ∙ acting_at actors i a inside c.index_mut-2.ensures.value in
     let there : get_or t.actors i (acting x) ≡ acting x = acting_at first i x within (c.index.ensures ∙ ap (λ (xs : List Actor). get_or xs i x) reserved) in
     let mine : a.pid ≡ x.pid = ap (λ (z : Acting). z.pid) (same_at t.actors i (acting a) (acting x) (acting_within first i within) (sym is) (sym there)) in (
       acting a,
@@ -39,7 +39,7 @@ returns-clause-spawns c =
         between = c.spawn_child-answer.new.self.shard;
         b = acting b;
         bears = subst (λ (p : Pid). BearsChild p c.args.linked c.args.desk.now.shard r c.spawn_child-answer.new.self.shard) (sym mine) c.spawn_child-answer.ensures.does;
-        behind = subst (λ (x : Progress). GoesBehind x (acting a) c.spawn_child-answer.new.self.shard (acting b) c.conclude.new.desk.shard) c.progress_of.ensures c.conclude.ensures.behind;
+        behind = subst (λ (x : Progress). GoesBehind x (acting a) c.spawn_child-answer.new.self.shard (acting b) c.conclude-2.new.desk.shard) c.progress_of.ensures c.conclude-2.ensures.behind;
         table = set_actor c.enter.new.self.script.now.processes c.enter.new.self.pids.items actors i b ∙ ap (set_acting i (acting b)) listed;
       }),
     )
@@ -51,11 +51,11 @@ returns-then-is_err-clause-spawns c =
     let pids = old.pids.items in
     let first = old.actors.items in
     let i = c.args.index in
-    let a = c.index_mut-then-is_err.result.now in
-    let b = c.conclude-then-is_err.new.self in
+    let a = c.index_mut.result.now in
+    let b = c.conclude.new.self in
     let within : i < length first = omega (arith, c.requires, old.actors.ok.0) in
-    let there : a ≡ get_or first i a = c.index_mut-then-is_err.ensures.value ∙ ap (λ (xs : List Actor). get_or xs i a) c.reserve.ensures.items in
-    let off = c.conclude-then-is_err.ensures.behind in (
+    let there : a ≡ get_or first i a = c.index_mut.ensures.value ∙ ap (λ (xs : List Actor). get_or xs i a) c.reserve.ensures.items in
+    let off = c.conclude.ensures.behind in (
       acting a,
       acting_at first i a within there,
       inl (ap (λ (xs : List Actor). table_of plans pids (set xs i b)) c.reserve.ensures.items ∙ set_actor plans pids first i b ∙ ap (λ (x : Acting). set_acting i x (table_of plans pids first)) off.0, off.1),
@@ -66,12 +66,12 @@ returns-then-is_err-clause-knows c = λ k.
     let r = c.args.self.now in
     let plans = r.script.now.processes in
     let first = c.args.desk.now.shard in
-    let last = c.conclude-then-is_err.new.desk.shard in
+    let last = c.conclude.new.desk.shard in
     let reserved : KnowsOf plans r.pids.items c.reserve.new.self.items r.came.items r.read first =
     subst (λ (xs : List Actor). KnowsOf plans r.pids.items xs r.came.items r.read first) (sym c.reserve.ensures.items) k in
-    knows_set plans r.pids.items c.reserve.new.self.items r.came.items r.read last c.args.index c.conclude-then-is_err.new.self
-    (knows_later plans r.pids.items c.reserve.new.self.items r.came.items r.read first last c.conclude-then-is_err.ensures.goes_on.shard reserved)
-    (unmarked_true plans r.pids.items last c.conclude-then-is_err.new.self c.conclude-then-is_err.ensures.waits)
+    knows_set plans r.pids.items c.reserve.new.self.items r.came.items r.read last c.args.index c.conclude.new.self
+    (knows_later plans r.pids.items c.reserve.new.self.items r.came.items r.read first last c.conclude.ensures.goes_on.shard reserved)
+    (unmarked_true plans r.pids.items last c.conclude.new.self c.conclude.ensures.waits)
 
 pub returns-clause-knows : goal.returns-clause-knows
 returns-clause-knows c = λ k.
@@ -79,12 +79,12 @@ returns-clause-knows c = λ k.
     let e = c.enter.new.self in
     let first = c.args.desk.now.shard in
     let mid = c.spawn_child-answer.new.self.shard in
-    let last = c.conclude.new.desk.shard in
+    let last = c.conclude-2.new.desk.shard in
     let plans = e.script.now.processes in
     let reserved : KnowsOf r.script.now.processes r.pids.items c.reserve.new.self.items r.came.items r.read first =
     subst (λ (xs : List Actor). KnowsOf r.script.now.processes r.pids.items xs r.came.items r.read first) (sym c.reserve.ensures.items) k in
     let born = knows_later r.script.now.processes r.pids.items c.reserve.new.self.items r.came.items r.read first mid c.spawn_child-answer.ensures.goes_on.shard reserved in
     let entered : KnowsOf plans e.pids.items e.actors.items e.came.items e.read mid = c.enter.ensures.knows mid born in
-    knows_set plans e.pids.items e.actors.items e.came.items e.read last c.args.index c.conclude.new.self
-    (knows_later plans e.pids.items e.actors.items e.came.items e.read mid last c.conclude.ensures.goes_on.shard entered)
-    (unmarked_true plans e.pids.items last c.conclude.new.self c.conclude.ensures.waits)
+    knows_set plans e.pids.items e.actors.items e.came.items e.read last c.args.index c.conclude-2.new.self
+    (knows_later plans e.pids.items e.actors.items e.came.items e.read mid last c.conclude-2.ensures.goes_on.shard entered)
+    (unmarked_true plans e.pids.items last c.conclude-2.new.self c.conclude-2.ensures.waits)

@@ -1,5 +1,5 @@
 -- The process that has a number, among those of a text.
-use Rattle.std.proofs.Common.{◌≡◌, ℕ, Bool, true, false, zero, suc, ◌+◌, ◌-◌, ◌<◌, ◌≤◌, List, [], ◌∷◌, ◌++◌, map, length, length-append, get_or, take, drop, Option, Some, None, refl, sym, ap, subst, ◌∙◌, append_assoc, arith}
+use Rattle.std.proofs.Common.{◌≡◌, ℕ, Bool, true, false, zero, suc, ◌-◌, ◌<◌, ◌≤◌, List, [], ◌∷◌, ◌++◌, map, length, length-append, get_or, take, drop, Some, None, refl, sym, ap, subst, ◌∙◌, append_assoc, arith}
 use Rattle.std.specs.Prelude.{codes, if◌then◌else◌, Vec}
 use Rattle.std.proofs.lemmas.List.{get_or_append_left}
 use Rattle.std.specs.declared.alloc.Global.{Global}
@@ -16,7 +16,7 @@ use Rattle.pt_script.proofs.ObjectFacts.{data_of-items_of}
 use Rattle.pt_explain.specs.declared.finding.Found.{Found}
 use Rattle.pt_explain.specs.declared.finding.Reached.{Reached}
 use Rattle.pt_explain.specs.declared.finding.Reached.TheVariants.{At, Before}
-use Rattle.pt_explain.specs.Places.{LeadsTo, FindsProcess, list_in, spawned_in}
+use Rattle.pt_explain.specs.Places.{LeadsTo, list_in, spawned_in}
 
 -- lists of a text
 pub items_given : (d : Data) (v : Bor (Vec Value Global)) → Some (items_view v.now.items) ≡ as_array d → map view v.now.items ≡ loose (list d)
@@ -37,9 +37,11 @@ none_given (object ms) h = refl
 
 -- one that is found among the first is found among all
 behind_at : (ds es : List Data) (left : ℕ) → length ds ≤ left → (x : Data) → get_or (ds ++ es) left x ≡ get_or es (left - length ds) x
-behind_at [] es left le x = refl
+behind_at [] es left le x = let e : left ≡ left - length {A = Data} [] = omega arith in ap (λ n. get_or es n x) e
 behind_at (d ∷ ds) es zero le x = absurd (omega (arith, le))
-behind_at (d ∷ ds) es (suc left) le x = behind_at ds es left (omega (arith, le)) x
+behind_at (d ∷ ds) es (suc left) le x =
+    let e : left - length ds ≡ suc left - length (d ∷ ds) = omega arith in
+    behind_at ds es left (omega (arith, le)) x ∙ ap (λ n. get_or es n x) e
 
 pub found_first : (ds es : List Data) (left : ℕ) (found : Found) → OperationStands ds left (view found.value.now) → OperationStands (ds ++ es) left (view found.value.now)
 found_first ds es left found (lt, is) = (omega (arith, lt, length-append ds es), get_or_append_left ds es null left lt ∙ is)
