@@ -17,7 +17,7 @@ ghost use Rattle.pt_scenes.specs.Team.{AreTeams, boss_of};
 
 use crate::stage::{DESKS, first_of};
 use anyhow::{Result, bail};
-use pt_crew::{Behaviour, Births, Crew, Next, Upheld, are_idle, crew_upholds, runs_uphold};
+use pt_crew::{Behaviour, Births, Crew, Next, are_idle};
 use pt_node::{Account, Config, Desk, Fault, FreeGate, Item, Node, Pick, Pid, Quiet, Reason, open};
 use pt_supervisor::{
     Child, Limit, Restart, Start, Strategy, Supervised, Supervisor, gathered_children_live,
@@ -81,15 +81,6 @@ impl Supervised for Member {
     ghost supervises = { λ b d me item next now e births h. h };
 }
 
-/// What a crew of members upholds: that each supervisor holds its children.
-impl Upheld for Member {
-    ghost use Rattle.pt_supervisor.proofs.Tending.{upheld as keeps_children};
-
-    ghost stands = { Keeps boss_of };
-
-    ghost upheld = { keeps_children boss_of (AnswerAs boss_of) (λ b d me item next now e births h. h) };
-}
-
 /// A supervisor of three permanent children, which starts each again by itself, a hundred times at most.
 fn team(alloc: Global) -> Result<Member, AllocError>
     ensures { IfOk result (λ b. SupervisorBegins (boss_of b) Next.Proceed) }
@@ -108,7 +99,6 @@ fn staffed(alloc: Global, desk: &mut Desk) -> Result<Crew<Member>>
     ensures goes_on { GoesOn desk.old desk.new }
 {
     quiet_children_live::<Member>();
-    crew_upholds::<Member>();
     let mut crew = Crew::new(alloc, 8);
     let boss = team(alloc)?;
     crew.enter(desk, boss, Next::Proceed)?;
@@ -144,7 +134,7 @@ fn come_to_rest(node: &mut Node, crews: &mut Vec<Crew<Member>>) -> Result<()>
     ensures upholds { IfOk result (λ _. AreTeams crews.old.items node.old → AreTeams crews.new.items node.new) }
     ensures still { IfOk result (λ _. AreIdle crews.new.items node.new × AreStill node.new) }
 {
-    runs_uphold::<Member, FreeGate>(&FreeGate);
+    gathered_children_live::<Member, FreeGate>(&FreeGate);
     if node.run_single(crews, 50, 1_024, &FreeGate).is_err() {
         bail!("the scene does not run");
     }

@@ -9,6 +9,7 @@
 //! | `supervisors` | a supervisor and what it is made of, without a desk |
 //! | `recipes` | the recipes of `pt_uses` that open a node themselves |
 //! | `refusals` | the texts of the refusals that no program prints |
+//! | `upheld` | a behaviour that upholds something, and the laws of its crews |
 //!
 //! A crate with tests is proved twice, and each proof first reads all crates below it; so all proved tests are in this
 //! crate. No function that owns a node returns early: what is dropped at each return costs most.
@@ -30,3 +31,5 @@ mod recipes;
 mod refusals;
 #[cfg(test)]
 mod supervisors;
+#[cfg(test)]
+mod upheld;

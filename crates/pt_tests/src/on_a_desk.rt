@@ -3,8 +3,11 @@
 ghost use Rattle.std.specs.Prelude.{◌≡◌};
 ghost use Rattle.pt_node.specs.Desks.{AreDesks, IsStill};
 
+use crate::upheld::{Listener, never_stops};
 use pt_crew::{Behaviour, Births, Crew, Next, join, part, tell};
-use pt_node::{Body, Config, Desk, Item, Pick, Pid, Reason, Takes, Work, open, take_each};
+use pt_node::{
+    Body, Config, Desk, FreeGate, Item, Pick, Pid, Reason, Takes, Work, open, take_each,
+};
 use pt_uses::game::{Game, HIT};
 use pt_uses::payloads::Texts;
 use pt_uses::steps;
@@ -26,6 +29,7 @@ enum Play {
     Texts,
     Crew,
     Items,
+    Listener,
 }
 
 /// Runs on a new node, and gathers it.
@@ -51,6 +55,7 @@ fn on_desk(rt: &impl Abort, alloc: Global, desk: &mut Desk, play: Play)
         Play::Texts => write(rt, alloc, desk),
         Play::Crew => serve(rt, alloc, desk),
         Play::Items => take(rt, desk),
+        Play::Listener => listen(rt, alloc, desk),
     }
 }
 
@@ -197,6 +202,28 @@ fn take(rt: &impl Abort, desk: &mut Desk)
     assert_eq!(rt; sum.numbers, 21);
 }
 
+fn listen(rt: &impl Abort, alloc: Global, desk: &mut Desk)
+    ensures { IsStill desk.old desk.new }
+{
+    never_stops(&FreeGate);
+    let mut crew = Crew::new(alloc, 1);
+    hears(rt, &mut crew, desk);
+}
+
+/// A process that only listens waits for the next item after its step.
+fn hears(rt: &impl Abort, crew: &mut Crew<Listener>, desk: &mut Desk)
+    ensures { IsStill desk.old desk.new }
+{
+    let listener = Listener { heard: 0 };
+    let p = crew
+        .enter(desk, listener, Next::Proceed)
+        .expect(rt, "memory");
+    crew.step(desk);
+    assert_eq!(rt; crew.next(p), Some(Next::Wait(Pick::Any)));
+    let heard = crew.behaviour(p).map(|listener| listener.heard);
+    assert_eq!(rt; heard, Some(1));
+}
+
 #[test]
 fn a_monster_is_hit(rt: HostRuntime) {
     played(&rt, rt.alloc(), Play::Game);
@@ -210,6 +237,11 @@ fn a_text_comes_with_its_message(rt: HostRuntime) {
 #[test]
 fn items_are_taken_one_after_the_other(rt: HostRuntime) {
     played(&rt, rt.alloc(), Play::Items);
+}
+
+#[test]
+fn a_listener_never_asks_to_stop(rt: HostRuntime) {
+    played(&rt, rt.alloc(), Play::Listener);
 }
 
 #[test]

@@ -1,6 +1,4 @@
 -- `staffed`: its clause `upholds`.
-use Rattle.pt_supervisor.proofs.Tending.{begins}
-use Rattle.pt_scenes.specs.Team.{boss_of}
 use Rattle.pt_scenes.proofs.team.staffed.Goals as goal
 
 pub returns-clause-upholds : goal.returns-clause-upholds
@@ -9,7 +7,6 @@ returns-clause-upholds c =
     let crew = c.new-crew.result in
     record {
       attends = record { knows = c.enter.ensures.knows (c.new-crew.ensures.attends d).knows; room = c.enter.ensures.room (c.new-crew.ensures.attends d).room };
-      upholds = c.crew_upholds.ensures.enter c.in_ok-boss.boss _ crew c.enter.new.self d c.enter.new.desk.shard c.enter.result c.enter.ensures.does
-          (λ p x. begins (boss_of c.in_ok-boss.boss) _ p x c.in_ok-boss.ensures)
+      upholds = c.quiet_children_live.ensures.enter c.in_ok-boss.boss _ crew c.enter.new.self d c.enter.new.desk.shard c.enter.result c.enter.ensures.does c.in_ok-boss.ensures
           (c.quiet_children_live.ensures.nobody crew d c.new-crew.ensures.nobody c.new-crew.ensures.born);
     }
