@@ -71,17 +71,33 @@ fn audit_all<R: Read + Drop, W: Write>(
     asked: &Asked,
     out: &mut Output<W>,
 ) -> Result<Audit, Refusal> {
+    let several = sources.len() > 1;
     let mut audit = Audit::new(alloc);
     for _ in 0..u64::MAX {
         let place = first_of(sources);
         if place >= sources.len() {
             return Ok(audit);
         }
-        audit = hear(alloc, audit, &sources[place], sources.len() > 1)?;
-        note(audit.hearing(), &sources[place], asked, out);
-        go_on(&mut sources[place], asked, out)?;
+        audit = step(alloc, audit, &mut sources[place], several, asked, out)?;
     }
     Err(Refusal::Memory)
+}
+
+/// Hears the line of the file, prints it if it is asked for, and goes on to the next.
+fn step<R: Read + Drop, W: Write>(
+    alloc: Global,
+    audit: Audit,
+    source: &mut Source<R>,
+    several: bool,
+    asked: &Asked,
+    out: &mut Output<W>,
+) -> Result<Audit, Refusal> {
+    let audit = hear(alloc, audit, source, several)?;
+    note(audit.hearing(), source, asked, out);
+    match go_on(source, asked, out) {
+        Ok(()) => Ok(audit),
+        Err(refusal) => Err(refusal),
+    }
 }
 
 /// Notes whether no node prints the line, and whether it concerns the process that is asked for.
