@@ -1,4 +1,4 @@
--- A behaviour that only listens, and what its crew keeps: its processes never ask to stop.
+-- A behaviour that only listens never asks to stop, and its crew keeps that. No public clause cites this module.
 use Rattle.std.specs.Prelude.{◌≡◌, [], List}
 use Rattle.std.proofs.Common.{sym, ap, subst}
 use Rattle.pt_shard.specs.ShardState.{ShardState, phase_of}
