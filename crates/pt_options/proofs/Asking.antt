@@ -161,7 +161,7 @@ turns_walk modes untils shows t ok = rw ok refl
 
 pub turns_told : TurnsAreTold
 unfolding clap_on_literals
-turns_told t ok = of_command (Asks ((codes "--turns=" ++ t) ∷ []) None (record defaults { turns = digits_value 10 (without_leading_plus t) })) (λ a b c k l m d e f g i j name. (level_passes (built (command_with (modes_at a b c) (untils_at k l m) (shows_at d e f g i j))).top [] nothing_held ((codes "--turns=" ++ t) ∷ []) _ _ (turns_walk (modes_at a b c) (untils_at k l m) (shows_at d e f g i j) t ok) refl, refl, ap (λ (n : ℕ). record defaults { turns = n }) (taken t ok)))
+turns_told t ok = of_command (Asks ((codes "--turns=" ++ t) ∷ []) None (record defaults { turns = digits_value 10 (without_leading_plus t) })) (λ a b c k l m d e f g i j name. (level_passes (built (command_with (modes_at a b c) (untils_at k l m) (shows_at d e f g i j))).top [] nothing_held ((codes "--turns=" ++ t) ∷ []) false [] (turns_walk (modes_at a b c) (untils_at k l m) (shows_at d e f g i j) t ok) refl, refl, ap (λ (n : ℕ). record defaults { turns = n }) (taken t ok)))
 
 turns_wrong : (modes untils shows : Words) (t : Text) → is_unsigned_in 0 MOST_TURNS t ≡ false → walk_fault (built (command_with modes untils shows)).top [] (walk_from nothing_held) ((codes "--turns=" ++ t) ∷ []) ≡ ValueValidation ∷ []
 unfolding clap_on_literals
@@ -183,7 +183,7 @@ epochs_walk modes untils shows t ok = rw ok refl
 
 pub epochs_told : EpochsAreTold
 unfolding clap_on_literals
-epochs_told t ok = of_command (Asks ((codes "--epochs=" ++ t) ∷ []) None (record defaults { epochs = digits_value 10 (without_leading_plus t) })) (λ a b c k l m d e f g i j name. (level_passes (built (command_with (modes_at a b c) (untils_at k l m) (shows_at d e f g i j))).top [] nothing_held ((codes "--epochs=" ++ t) ∷ []) _ _ (epochs_walk (modes_at a b c) (untils_at k l m) (shows_at d e f g i j) t ok) refl, refl, ap (λ (n : ℕ). record defaults { epochs = n }) (taken_epochs t ok)))
+epochs_told t ok = of_command (Asks ((codes "--epochs=" ++ t) ∷ []) None (record defaults { epochs = digits_value 10 (without_leading_plus t) })) (λ a b c k l m d e f g i j name. (level_passes (built (command_with (modes_at a b c) (untils_at k l m) (shows_at d e f g i j))).top [] nothing_held ((codes "--epochs=" ++ t) ∷ []) false [] (epochs_walk (modes_at a b c) (untils_at k l m) (shows_at d e f g i j) t ok) refl, refl, ap (λ (n : ℕ). record defaults { epochs = n }) (taken_epochs t ok)))
 
 epochs_wrong : (modes untils shows : Words) (t : Text) → is_unsigned_in 1 MOST_EPOCHS t ≡ false → walk_fault (built (command_with modes untils shows)).top [] (walk_from nothing_held) ((codes "--epochs=" ++ t) ∷ []) ≡ ValueValidation ∷ []
 unfolding clap_on_literals
