@@ -144,7 +144,8 @@ fn run_until_quiet<R: Threads + Sync>(
     ensures fault { IfErr result (λ f. f ≡ Memory) }
 {
     for _run in 0..MOST_TURNS / options.turns.max(1) {
-        if run_and_rest(rt, options, budget, node, runners)? {
+        let quiet = run_and_rest(rt, options, budget, node, runners)?;
+        if quiet {
             return Ok(());
         }
     }

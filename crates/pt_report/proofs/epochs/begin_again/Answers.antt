@@ -4,7 +4,7 @@ use Rattle.pt_report.proofs.Attending.{none_began, one_began}
 use Rattle.pt_report.proofs.epochs.begin_again.Goals as goal
 
 pub loop-index-init : goal.loop-index-init
-loop-index-init c = (none_began c.args.runners.now.items, c.len.ensures)
+loop-index-init c = (none_began c.args.runners.now.items, c.len-index-end.ensures)
 
 pub loop-index-preserved : goal.loop-index-preserved
 loop-index-preserved c =

@@ -17,5 +17,5 @@ returns-in_err-ended-clause-fault g c =
     let f = c.in_err-ended.field-0.0 in
     let is : IsOfEpoch c.args.options.now c.args.budget (c.args.node, c.args.runners.now.items) f =
     of_end c.args.options.now c.args.budget (c.args.node, c.args.runners.now.items) (c.run_epoch.new.node, c.run_epoch.new.runners.items) f c.in_ok-run_epoch.ensures.runs c.in_err-ended.ensures.fault in
-    let told : c.from_residual.result ≡ Err f = search rules in
+    let told : c.from_residual-in_err-ended.result ≡ Err f = search rules in
     rw told is

@@ -6,6 +6,9 @@ use Rattle.pt_report.proofs.Passing.{node_of, run_of_epochs}
 use Rattle.pt_report.proofs.Attending.{begun_begins, epoch_begins}
 use Rattle.pt_report.proofs.running.run_epochs.Goals as goal
 
+pub pass_epochs-requires-clause-begins : goal.pass_epochs-requires-clause-begins
+pass_epochs-requires-clause-begins g c κs within = begun_begins c.args.script.now (c.args.node, c.args.runners.items) c.requires.begun
+
 pub run_epoch-requires-after_bounds : goal.run_epoch-requires-after_bounds
 run_epoch-requires-after_bounds g c κs within =
     let options = c.args.options.now in

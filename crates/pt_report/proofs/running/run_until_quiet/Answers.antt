@@ -1,6 +1,6 @@
 -- `run_until_quiet`: its clause `runs`, and its loop.
-use Rattle.std.proofs.Common.{◌≡◌, ℕ, suc, ◌+◌, true, inl, inr, refl, subst, arith}
-use Rattle.pt_report.specs.Epochs.{RunsAgain, Staffed}
+use Rattle.std.proofs.Common.{◌≡◌, ℕ, suc, ◌+◌, ◌/◌, true, inl, inr, refl, ap, subst, ◌∙◌, arith}
+use Rattle.pt_report.specs.Epochs.{RunsAgain, Staffed, most_runs}
 use Rattle.pt_report.proofs.running.run_until_quiet.Goals as goal
 
 pub loop-run-init : goal.loop-run-init
@@ -13,12 +13,15 @@ loop-run-preserved g c =
     let first : Staffed = (c.args.node.now, c.args.runners.now.items) in
     let mid : Staffed = (c.loop-run.node, c.loop-run.runners.items) in
     let last : Staffed = (c.run_and_rest.new.node, c.run_and_rest.new.runners.items) in
-    (subst (λ n. RunsAgain c.args.options.now c.args.budget n first last) next (mid, c.loop-run.invariant.0, c.in_ok-run_and_rest.ensures.runs), c.in_ok-run_and_rest.ensures.begins)
+    (subst (λ n. RunsAgain c.args.options.now c.args.budget n first last) next (mid, c.loop-run.invariant.0, c.in_ok-quiet.ensures.runs), c.in_ok-quiet.ensures.begins)
 
-pub returns-then-run_and_rest-clause-runs : goal.returns-then-run_and_rest-clause-runs
-returns-then-run_and_rest-clause-runs g c =
+pub returns-then-quiet-clause-runs : goal.returns-then-quiet-clause-runs
+returns-then-quiet-clause-runs g c =
     let mid : Staffed = (c.loop-run.node, c.loop-run.runners.items) in
-    record { count = suc c.loop-run._run; runs = (mid, c.loop-run.invariant.0, c.in_ok-run_and_rest.ensures.runs); ends = inl (c.in_ok-run_and_rest.ensures.quiet c.if-run_and_rest.true) }
+    record { count = suc c.loop-run._run; runs = (mid, c.loop-run.invariant.0, c.in_ok-quiet.ensures.runs); ends = inl (c.in_ok-quiet.ensures.quiet c.if-quiet.true) }
 
 pub returns-clause-runs : goal.returns-clause-runs
-returns-clause-runs g c = record { count = c.loop-run._run; runs = c.loop-run.invariant.0; ends = inr (?) }
+returns-clause-runs g c =
+    let most : 1000000 / c.max-run-end.result ≡ most_runs c.args.options.now = ap (λ n. 1000000 / n) c.max-run-end.ensures in
+    let all : c.loop-run._run ≡ 1000000 / c.max-run-end.result = omega (arith, c.loop-run-test.false, c.loop-run.auto._run-end) in
+    record { count = c.loop-run._run; runs = c.loop-run.invariant.0; ends = inr (all ∙ most) }
