@@ -1,8 +1,7 @@
 -- `first_line`: its contract.
 use Rattle.std.proofs.Common.{◌≡◌, ℕ, List, Some, None, take, length, ap, sym, ◌∙◌, arith}
 use Rattle.std.proofs.lemmas.List.{take_all}
-use Rattle.std.proofs.lemmas.Str.Pattern.{split_once_first}
-use Rattle.std.specs.Str.{IsSplitOnceResult}
+use Rattle.std.proofs.lemmas.Str.Pattern.{IsSplitOnceResult, split_once_first}
 use denote.Ref.{Bor}
 use Rattle.pt_report.specs.Summaries.{first_line}
 use Rattle.pt_report.proofs.explained.first_line.Goals as goal
@@ -14,7 +13,7 @@ whole : (text : List ℕ) → IsSplitOnceResult 10 text None → text ≡ first_
 whole text h = sym (ap (λ n. take n text) (split_once_first 10 text None h (omega arith)) ∙ take_all (length text) text (omega arith))
 
 pub returns-in-Some : goal.returns-in-Some
-returns-in-Some c = split_at c.args.text.now (c.in-Some.line, c.in-Some._rest) c.in-Some.ensures
+returns-in-Some c = split_at c.args.text.now (c.in-Some.line, c.in-Some._rest) c.in-Some.ensures.cases
 
 pub returns-in-None : goal.returns-in-None
-returns-in-None c = whole c.args.text.now c.in-None.ensures
+returns-in-None c = whole c.args.text.now c.in-None.ensures.cases
