@@ -29,7 +29,7 @@ use Rattle.pt_runner.specs.Acting.{RunnerDoes, table}
 use Rattle.pt_runner.specs.Waiting.{AllRest, IsFresh, RunnerKnows}
 use Rattle.pt_report.specs.Lines.{lines}
 use Rattle.pt_report.specs.declared.form.Form.{Form}
-use Rattle.pt_report.specs.declared.form.Form.TheVariants.{Lines, Diagram, Objects}
+use Rattle.pt_report.specs.declared.form.Form.TheVariants.{Lines, Objects}
 use Rattle.pt_report.specs.declared.fault.ReportFault.{ReportFault}
 use Rattle.pt_report.specs.declared.fault.ReportFault.TheVariants.{Memory, Desk, File}
 

@@ -1,5 +1,5 @@
 -- `begin_again`: its contract, and its loop.
-use Rattle.std.proofs.Common.{◌≡◌, ◌<◌, length, arith}
+use Rattle.std.proofs.Common.{◌<◌, length, arith}
 use Rattle.pt_report.proofs.Attending.{none_began, one_began}
 use Rattle.pt_report.proofs.epochs.begin_again.Goals as goal
 

@@ -1,6 +1,6 @@
 -- `pass_epoch`: its clauses `passes` and `fault`.
 use Rattle.std.proofs.Common.{◌≡◌, Err, rules}
-use Rattle.pt_report.specs.Epochs.{IsOfEpoch, Staffed}
+use Rattle.pt_report.specs.Epochs.{IsOfEpoch}
 use Rattle.pt_report.proofs.Passing.{of_end}
 use Rattle.pt_report.proofs.epochs.pass_epoch.Goals as goal
 

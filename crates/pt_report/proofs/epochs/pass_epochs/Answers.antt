@@ -1,5 +1,5 @@
 -- `pass_epochs`: its clauses `fault`, `told` and `untouched`, and its loop over `epoch`, and what its call of `next_epoch` asks.
-use Rattle.std.proofs.Common.{◌≡◌, ◌≢◌, ◌⊎◌, ℕ, suc, ◌+◌, ◌<◌, [], ◌++◌, subst, sym, refl, Err, inl, inr, arith, rules}
+use Rattle.std.proofs.Common.{◌≡◌, ◌≢◌, ◌⊎◌, suc, ◌+◌, [], ◌++◌, subst, sym, refl, Err, inl, inr, arith, rules}
 use Rattle.pt_report.specs.Epochs.{HasWritten, PassEpochs, IsOfEpochs, Staffed}
 use Rattle.pt_report.specs.declared.fault.ReportFault.TheVariants.{File}
 use Rattle.pt_report.proofs.Passing.{at_first, of_epoch, of_put, written}

@@ -1,7 +1,6 @@
 -- `run_and_rest`: its clauses `runs`, `begins` and `quiet`.
 use Rattle.std.proofs.Common.{◌≡◌, Bool, true, false, List, refl, subst}
 use Rattle.std.specs.Prelude.{MatchBool}
-use Rattle.pt_desk.specs.DeskState.{DeskState}
 use Rattle.pt_runner.specs.declared.runner.Runner.{Runner}
 use Rattle.pt_runner.specs.Waiting.{RunnersIdle}
 use Rattle.pt_report.specs.Epochs.{Staffed}

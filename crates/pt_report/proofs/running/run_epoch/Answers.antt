@@ -1,5 +1,5 @@
 -- `run_epoch`: its clause `runs`.
-use Rattle.std.proofs.Common.{◌≡◌, sym, subst}
+use Rattle.std.proofs.Common.{sym, subst}
 use Rattle.std.specs.Prelude.{OnOk}
 use Rattle.pt_render.specs.declared.choices.Until.{Until}
 use Rattle.pt_report.specs.Epochs.{RunsTo}

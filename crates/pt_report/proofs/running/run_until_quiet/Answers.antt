@@ -1,5 +1,5 @@
 -- `run_until_quiet`: its clause `runs`, and its loop.
-use Rattle.std.proofs.Common.{◌≡◌, ℕ, suc, ◌+◌, ◌/◌, true, inl, inr, refl, ap, subst, ◌∙◌, arith}
+use Rattle.std.proofs.Common.{◌≡◌, suc, ◌+◌, ◌/◌, inl, inr, refl, ap, subst, ◌∙◌, arith}
 use Rattle.pt_report.specs.Epochs.{RunsAgain, Staffed, most_runs}
 use Rattle.pt_report.proofs.running.run_until_quiet.Goals as goal
 
