@@ -38,7 +38,11 @@ class Fault(Exception):
 
 def functions_in(program: Path) -> set[str]:
     """The functions of this repository that a program has, without their type arguments."""
-    ran = subprocess.run(["nm", str(program)], stdout=subprocess.PIPE, stderr=subprocess.DEVNULL, text=True, check=False)
+    words = ["nm", str(program)]
+    try:
+        ran = subprocess.run(words, stdout=subprocess.PIPE, stderr=subprocess.DEVNULL, text=True, check=False)
+    except OSError as error:
+        raise Fault(f"'nm', which lists the functions of a program, does not run: {error}") from error
     if ran.returncode:
         raise Fault(f"{program} is no program that nm reads")
     names = (line.split(" ", 2)[2] for line in ran.stdout.splitlines() if line.count(" ") >= 2)
