@@ -1,14 +1,14 @@
-//! Desks and what is done with them, as a run takes them.
+//! Desks paired with their work, as a run takes them.
 
 ghost use Rattle.std.specs.Prelude.{◌≡◌, ◌≤◌, [], map, vec_len};
 ghost use Rattle.std.specs.Vec.{vec_capacity};
 
 use pt_desk::Desk;
 
-/// Gives each desk the work at its place, in order, as [`run`](crate::run) takes them.
+/// Pairs each desk with the work at its place, in order, as [`run`](crate::run) takes them.
 ///
-/// It takes no memory: the list of pairs is empty and has room for all of them. The other two lists are empty then, and
-/// keep their room for what [`release`] gives back.
+/// It takes no memory: the list of pairs must be empty, with room for all of them. After it the other two lists are
+/// empty, and keep their room for what [`release`] gives back.
 pub fn assign<W>(desks: &mut Vec<Desk>, works: &mut Vec<W>, pairs: &mut Vec<(Desk, W)>)
     requires as_many { vec_len works.old ≡ vec_len desks.old }
     requires room { (pairs.old.items ≡ []) × (vec_len desks.old ≤ vec_capacity pairs.old) }
@@ -25,9 +25,9 @@ pub fn assign<W>(desks: &mut Vec<Desk>, works: &mut Vec<W>, pairs: &mut Vec<(Des
     }
 }
 
-/// Takes the desks from their work, in order, as [`gather`](crate::gather) takes them.
+/// Parts the desks from their work, in order, as [`gather`](crate::gather) takes them.
 ///
-/// It takes no memory: the other two lists are empty and have room for all. The list of pairs is empty then.
+/// It takes no memory: the other two lists must be empty, with room for all. After it the list of pairs is empty.
 pub fn release<W>(pairs: &mut Vec<(Desk, W)>, desks: &mut Vec<Desk>, works: &mut Vec<W>)
     requires desks { (desks.old.items ≡ []) × (vec_len pairs.old ≤ vec_capacity desks.old) }
     requires works { (works.old.items ≡ []) × (vec_len pairs.old ≤ vec_capacity works.old) }

@@ -1,8 +1,8 @@
-//! Why a node does not run.
+//! Why a run of a node fails.
 
 use thiserror::Error;
 
-/// Why a node does not run. It and the works are as they were.
+/// Why a run of a node fails. The node and the works are as they were.
 #[derive(Clone, Copy, Debug, PartialEq, Eq, Error)]
 pub enum RunFault {
     /// There are not as many works as desks.

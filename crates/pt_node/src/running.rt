@@ -12,20 +12,20 @@ use pt_desk::Desk;
 use std::thread;
 use std::thread::Threads;
 
-/// What stands before and after each turn of each worker.
+/// What is called before and after each turn of each worker.
 ///
 /// The workers share one gate, so it is used from several threads at a time.
 ///
-/// What `before` may answer for a desk and a turn is the ghost member `lets`: what a run promises of the turns that its
-/// workers take is said in its terms.
+/// The ghost member `lets` says what `before` may return for a desk and a turn. A run states its promise about its
+/// workers' turns by it.
 pub trait Gate {
     ghost lets: { Self → ℕ → ℕ → Bool → Type 0 };
 
-    /// Whether the worker of that desk goes on with that turn, counted from 0; else it ends.
+    /// Whether the worker of that desk takes that turn, counted from 0. If not, the worker ends.
     fn before(&self, desk: u8, turn: u64) -> bool
         ensures { lets self.now desk turn result };
 
-    /// Told that the worker of that desk has done that turn.
+    /// Called after the worker of that desk has done that turn.
     fn after(&self, desk: u8, turn: u64);
 }
 
@@ -52,7 +52,7 @@ pub struct Ran<W> {
 }
 
 impl<W: Task> Ran<W> {
-    /// What the work of that desk says of itself after the run, or `None` where there is no such desk.
+    /// What the work of that desk says of itself after the run, or `None` if there is no such desk.
     pub fn standing(&self, desk: usize) -> Option<Standing>
         ensures there { (p : DeskState × W) → desk < length self.now.desks.items
             → result ≡ Some (W.standing (slice_index_or self.now.desks.items desk p).1) }
@@ -68,15 +68,22 @@ impl<W: Task> Ran<W> {
 
 /// Lets each desk's worker do up to `turns` turns on a thread of its own, and gives every desk back, in order.
 ///
-/// A worker's turn is `gate.before`, which may end it, the work's `step`, the desk's `turn` with that budget, the
-/// work's `turned`, which is told what that turn answered, and `gate.after`. It ends too, before `gate.before`, where
-/// its work is done or has failed. The desks are lent, so none moves into a thread; where no thread can be made the
-/// workers run one after another. When `run` returns every worker has ended. An empty list is given back.
+/// A worker's turn is five calls:
 ///
-/// Each desk that comes back is the one at its place in the list handed in, gone on. So the desks of one node are that
-/// still, and [`gather`](crate::gather) takes them. Each worker takes all its turns, or those before the first that did
-/// not begin: a turn of a desk that stops ends no worker. Its letter stays in the hold, and the worker's
-/// next turn goes on with it.
+/// - `gate.before`, which may end the worker;
+/// - the work's `step`;
+/// - the desk's `turn` with that budget;
+/// - the work's `turned`, which gets what that turn returned;
+/// - `gate.after`.
+///
+/// A worker also ends, before `gate.before`, if its work is done or has failed. The desks are lent, so none moves into
+/// a thread. If no thread can be made, the workers run one after another. When `run` returns, every worker has ended.
+/// An empty list is given back.
+///
+/// Each desk that comes back is the one at its place in the list that was passed, after its turns. So the desks of one
+/// node still are that, and [`gather`](crate::gather) takes them. Each worker takes all its turns, or all before the
+/// first that did not begin. If a desk's turn stops, its worker does not end: the letter stays in the hold, and the
+/// worker's next turn resumes with it.
 pub fn run<R: Threads + Sync, G: Gate + Sync, W: Task + Send>(
     rt: &R,
     desks: Vec<(Desk, W)>,
@@ -94,12 +101,12 @@ pub fn run<R: Threads + Sync, G: Gate + Sync, W: Task + Send>(
     Ran { desks }
 }
 
-/// The same turns on the calling thread, in rounds: each round is one turn of every worker that has not ended, from
-/// desk 0 upwards.
+/// Does the same turns on the calling thread, in rounds. Each round is one turn of every worker that has not ended,
+/// from desk 0 upwards.
 ///
-/// Each desk that comes back is the one at its place in the list handed in, gone on, and each worker takes the turns
-/// that [`run`] lets it take. A list of more than 64 desks is not of one node: its workers take all their turns one
-/// after another.
+/// Each desk that comes back is the one at its place in the list that was passed, after its turns. Each worker takes
+/// the turns that [`run`] lets it take. A list of more than 64 desks is not of one node: its workers take all their
+/// turns one after another.
 pub fn run_single<G: Gate, W: Task>(
     desks: Vec<(Desk, W)>,
     turns: u64,
@@ -123,7 +130,7 @@ pub fn run_single<G: Gate, W: Task>(
     Ran { desks }
 }
 
-/// All rounds, or those until every worker has ended.
+/// All rounds, or as many as there are until every worker has ended.
 fn all_rounds<G: Gate, W: Task>(desks: &mut Vec<(Desk, W)>, turns: u64, budget: u32, gate: &G)
     requires { length desks.old.items ≤ MAX_DESKS }
     ensures each { AllGoOn desks.old.items desks.new.items }
@@ -140,7 +147,7 @@ fn all_rounds<G: Gate, W: Task>(desks: &mut Vec<(Desk, W)>, turns: u64, budget: 
     }
 }
 
-/// A turn of every worker that has not ended, and whether one of them goes on.
+/// Gives a turn to every worker that has not ended, and returns whether one of them continues.
 fn one_round<G: Gate, W: Task>(
     desks: &mut Vec<(Desk, W)>,
     ended: &mut [bool; 64],
@@ -165,7 +172,7 @@ fn one_round<G: Gate, W: Task>(
     goes_on
 }
 
-/// A turn of the worker of desk d, if it has not ended.
+/// Gives a turn to the worker of desk d, if it has not ended.
 fn turn_at<G: Gate, W: Task>(
     desks: &mut Vec<(Desk, W)>,
     ended: &mut [bool; 64],
@@ -237,7 +244,7 @@ fn work_turns<G: Gate, W: Task>(pair: &mut (Desk, W), turns: u64, budget: u32, g
     }
 }
 
-/// One turn of a worker, or false where it ends.
+/// Does one turn of a worker, or returns false if it ends.
 fn one_turn<G: Gate, W: Task>(pair: &mut (Desk, W), turn: u64, budget: u32, gate: &G) -> bool
     ensures goes_on { GoesOn pair.old.0 pair.new.0 }
     ensures lets { begins_by W.standing (G.lets gate.now) pair.old.0.shard.number pair.old.1 turn result }
@@ -255,7 +262,7 @@ fn one_turn<G: Gate, W: Task>(pair: &mut (Desk, W), turn: u64, budget: u32, gate
     true
 }
 
-/// Whether the next turn of a worker begins: the gate is asked only where the work goes on.
+/// Whether the next turn of a worker begins. The gate is asked only if the work has more to do.
 fn turn_begins<G: Gate, W: Task>(work: &W, desk: u8, turn: u64, gate: &G) -> bool
     ensures { begins_by W.standing (G.lets gate.now) desk work.now turn result }
 {

@@ -1,4 +1,4 @@
-//! A node is turned until nothing waits in it.
+//! Turns of a node until no letter waits in it.
 
 ghost use Rattle.std.specs.Prelude.{◌≡◌, ◌<◌, length, map, Some, None};
 ghost use Rattle.pt_node.specs.Desks.{AreDesks, desk_kept};
@@ -8,12 +8,12 @@ ghost use Rattle.pt_node.specs.Looking.{AreMet, HaveLanes, MeetsAt};
 use pt_desk::Desk;
 use pt_shard::Stop;
 
-/// What came of turning a node until it is still.
+/// What [`Node::turn_until_still`](crate::Node::turn_until_still) returns.
 #[derive(Clone, Copy, Debug, PartialEq, Eq)]
 pub struct Rested {
-    /// How many letters were handled, staying at `u64::MAX` once it is reached.
+    /// The number of letters handled, staying at `u64::MAX` once it is reached.
     pub handled: u64,
-    /// The first turn that was stopped, which ended it; `None` where the node is still.
+    /// The first turn that was stopped, after whose round it ended; `None` if the node is still.
     pub stopped: Option<Stopped>,
 }
 
@@ -28,10 +28,10 @@ pub struct Stopped {
 
 /// Rounds of turns, each after a look at all lanes, until two in a row handled nothing, or a turn was stopped.
 ///
-/// One does not do: what a desk posts in it may be for a desk that had its turn before. In the second whatever stands
-/// in a lane would be handled, since its ends have looked at each other; so nothing stands there, and no lane was full.
+/// One such round is not enough: a desk may post in it for a desk that had its turn before. In the second each letter
+/// in a lane would be handled, since its ends have looked at each other. So no letter is there, and no lane was full.
 ///
-/// Behind a turn that was stopped it looks once more: only so it is sure that each letter which was handled had been
+/// After a turn that was stopped it looks once more. Only then is it sure that each letter which was handled had been
 /// posted.
 pub(crate) fn until_still(desks: &mut Vec<Desk>, budget: u32) -> Rested
     requires some { 0 < budget }
@@ -59,7 +59,7 @@ pub(crate) fn until_still(desks: &mut Vec<Desk>, budget: u32) -> Rested
     did
 }
 
-/// One turn of each desk, from desk 0 upwards. Each has its turn, whether one before it was stopped or not.
+/// Gives each desk one turn, from desk 0 upwards, whether a turn before it was stopped or not.
 fn turn_each(desks: &mut Vec<Desk>, budget: u32) -> Rested
     requires { AreDesks desks.old.items }
     ensures node { AreDesks desks.new.items }
@@ -104,7 +104,7 @@ fn at_desk(desk: u8, stopped: Option<Stop>) -> Option<Stopped>
     }
 }
 
-/// Looks at every lane from both its ends.
+/// Looks at every lane from both of its ends.
 fn look(desks: &mut [Desk])
     requires { AreDesks desks.old }
     ensures kept { map desk_kept desks.new ≡ map desk_kept desks.old }

@@ -1,4 +1,4 @@
-//! Items that are taken one after the other.
+//! Taking items one after the other.
 
 ghost use Rattle.std.specs.Prelude.{⊤};
 ghost use Rattle.pt_signal.specs.declared.item.Item.{Item};
@@ -9,24 +9,24 @@ use pt_desk::Desk;
 use pt_shard::Fault;
 use pt_signal::{Item, Pick, Pid};
 
-/// What is done with an item that was taken out of a mailbox.
+/// What a program does with an item that was taken out of a mailbox.
 ///
-/// It may call the desk, and promises what each call of a desk does. What else it may do is the ghost member `takes`,
-/// of itself and the desk before, the item, and the two after.
+/// It may call the desk, and promises what each call of a desk promises. The ghost member `takes` says what else it may
+/// do: it relates itself and the desk before, the item, and the two after.
 pub trait Takes {
     ghost takes: { Self → DeskState → Item → Self → DeskState → Type 0 } = { λ _ _ _ _ _. ⊤ };
 
-    /// The item was taken out of the mailbox.
+    /// Called with each item that was taken out of the mailbox.
     fn take(&mut self, desk: &mut Desk, item: Item)
         ensures takes { takes self.old desk.old item self.new desk.new }
         ensures goes_on { GoesOn desk.old desk.new };
 }
 
-/// Takes the items that fit out of the mailbox of p, oldest first and `most` at most, and hands each over as it is
-/// taken. It answers how many there were: fewer than `most` only where none is left that fits.
+/// Takes at most `most` matching items out of the mailbox of p, oldest first, and passes each to `to` as it is taken.
+/// It returns how many there were: fewer than `most` only if no matching item is left.
 ///
-/// Refused as [`Desk::receive`] refuses the next one: `Gone`, or where an item fits, `Worn` or `Memory`. What was taken
-/// before that was handed over, and stays taken.
+/// Fails as [`Desk::receive`] does for the next item: with `Gone`, and if an item matches, with `Worn` or `Memory`. The
+/// items taken before were passed to `to`, and stay taken.
 pub fn take_each<T: Takes>(
     desk: &mut Desk,
     p: Pid,

@@ -1,4 +1,4 @@
-//! Who has something new, by the events of a journal.
+//! The processes that have something new, read from the events of a journal.
 
 ghost use Rattle.std.specs.Prelude.{◌≡◌, MatchOption};
 ghost use Rattle.pt_node.specs.Waking as spec;
@@ -6,11 +6,11 @@ ghost use Rattle.pt_node.specs.Waking as spec;
 use pt_events::{Event, Stamped};
 use pt_signal::Pid;
 
-/// The next process to which a signal came, or which left, by the events from the place `at` on.
+/// The next process that got a signal, or exited, in the events from the place `at` on.
 ///
-/// It names them in order, and once for each such event: `at` is then the place behind it, and behind the last event
-/// where there is none. So whoever keeps the place is told of what is new alone, in time that grows with that. Nobody
-/// else got an item or ended by these events.
+/// It returns them in order, once for each such event. `at` is then the place after that event, or after the last event
+/// if there is none. So a caller that keeps the place gets only what is new, in time that grows with that. No other
+/// process got an item or exited by these events.
 pub fn next_woken(events: &[Stamped], at: &mut usize) -> Option<Pid>
     ensures { MatchOption result (spec.NoneIsWoken events.now at.old at.new)
         (λ p. spec.IsNextWoken events.now at.old at.new p) }
@@ -27,7 +27,7 @@ pub fn next_woken(events: &[Stamped], at: &mut usize) -> Option<Pid>
     None
 }
 
-/// To whom a signal came by the event, or who left by it.
+/// The process that got a signal by the event, or exited by it.
 fn woken_by(event: Event) -> Option<Pid>
     ensures { result ≡ spec.woken_by event }
 {

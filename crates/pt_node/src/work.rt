@@ -10,16 +10,17 @@ use pt_desk::{Desk, Turned};
 
 /// What a worker does with its desk in each of its turns, before the desk's own turn.
 ///
-/// What a step does about a refusal of the desk is its own matter. It promises what each call of a desk does: the desk
+/// A step may do what it likes about a failed call of the desk. It promises what each call of a desk promises: the desk
 /// stays the same desk of the same node, and its journal begins with the one before.
 ///
-/// What else a step may do is the ghost member `does`, of the work and the desk before it and the two after it: what a
-/// run promises of its workers is said in its terms. A work that says nothing there promises nothing else.
+/// The ghost member `does` says what else a step may do: it relates the work and the desk before and after. A run
+/// states its promise about its workers by it. A work that says nothing there promises nothing else.
 ///
-/// After the desk's turn it is told what that turn did. What it does then is the ghost member `hears`, of the work
-/// before it, the desk, what the turn answered and the work after it: a work that says nothing there stays as it was.
+/// After the desk's turn, `turned` gets what that turn did. The ghost member `hears` says what it does then: it relates
+/// the work before, the desk, what the turn returned and the work after. A work that says nothing there stays as it
+/// was.
 ///
-/// A work goes on for as many turns as it is asked for. One that can end by itself is a [`Task`].
+/// A work continues for as many turns as it is asked for. A work that can end by itself is a [`Task`].
 pub trait Work {
     ghost does: { Self → DeskState → Self → DeskState → Type 0 } = { λ _ _ _ _. ⊤ };
 
@@ -30,7 +31,8 @@ pub trait Work {
         ensures does { does self.old desk.old self.new desk.new }
         ensures goes_on { GoesOn desk.old desk.new };
 
-    /// Told what the turn of the desk did that followed the step. A work that needs nothing of it does nothing here.
+    /// Called after the desk's turn that followed the step, with what that turn did. A work that does not need this
+    /// does nothing here.
     fn turned(&mut self, desk: &Desk, turned: Turned)
         ensures { hears self.old desk.now turned self.new };
 }
@@ -40,19 +42,19 @@ pub trait Work {
 pub enum Standing {
     /// It has more to do.
     Going,
-    /// It has done all that it had to do.
+    /// It has done all its work.
     Done,
-    /// It cannot do what it had to do. Why is in the work itself, which the run gives back.
+    /// It cannot do its work. The reason is in the work itself, which the run gives back.
     Failed,
 }
 
-/// A work that can end: beside its step it says whether it goes on, is done, or has failed.
+/// A work that can end: beside its step it says whether it has more to do, is done, or has failed.
 ///
-/// A worker asks before each of its turns. Where the work is done or has failed, the worker ends, and its gate is not
-/// asked any more; so what the last step did still has its turn of the desk, and what comes to the desk later waits.
-/// [`Ran::standing`](crate::Ran::standing) tells afterwards what each says.
+/// A worker asks before each of its turns. If the work is done or has failed, the worker ends, and its gate is not
+/// asked again. So the desk still has its turn after the last step, and what arrives at the desk later waits.
+/// [`Ran::standing`](crate::Ran::standing) returns afterwards what each work says.
 ///
-/// What it says is the ghost member `standing`. Each [`Work`] is a task that goes on.
+/// What it says is the ghost member `standing`. Each [`Work`] is a task that always has more to do.
 pub trait Task {
     ghost does: { Self → DeskState → Self → DeskState → Type 0 } = { λ _ _ _ _. ⊤ };
 
@@ -65,11 +67,11 @@ pub trait Task {
         ensures does { does self.old desk.old self.new desk.new }
         ensures goes_on { GoesOn desk.old desk.new };
 
-    /// Told what the turn of the desk did that followed the step, as [`Work::turned`].
+    /// Called after the desk's turn that followed the step, with what that turn did, as [`Work::turned`].
     fn turned(&mut self, desk: &Desk, turned: Turned)
         ensures { hears self.old desk.now turned self.new };
 
-    /// Whether it goes on, is done, or has failed.
+    /// Whether it has more to do, is done, or has failed.
     fn standing(&self) -> Standing
         ensures { result ≡ standing self.now };
 }
