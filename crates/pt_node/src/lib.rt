@@ -44,7 +44,7 @@
 //! - The items taken and the items waiting are together those that arrived.
 //! - A monitor had at most one `DOWN`.
 //!
-//! # Going on
+//! # Resuming
 //!
 //! A journal grows with each event. So a program that runs for long gathers and settles its node from time to time, and
 //! writes out its history. [`resume`] then continues from the quiet node with empty journals, over what they left
