@@ -28,8 +28,8 @@ impl<B: Behaviour + Drop> Rests for Crew<B> {
     }
 }
 
-/// A work whose desk rests while there is nothing to do on it. That is if its last turn handled nothing, its step wrote
-/// no event, no letter waits in its outbox or its hold, and the work has nothing to do by itself.
+/// A work whose desk rests while there is nothing to do on it. It rests if its last turn handled nothing, its step
+/// wrote no event, no letter waits in outbox or hold, and the work has nothing to do by itself.
 ///
 /// It does what the work does, and nothing else to the desk.
 #[derive(Drop)]

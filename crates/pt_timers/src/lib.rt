@@ -22,7 +22,7 @@
 //! - **One fate.** Each timer that was started is pending, has fired or was cancelled. The last two are for ever.
 //!   (`timers_are_lawful`)
 //! - **Never early.** `pop_due` fires a timer only if its time is not above `now`, with the body it was started with,
-//!   and returns `None` only if no pending timer is due.
+//!   and returns `None` only if none is due.
 //! - **In order.** The earliest pending timer fires first. Timers of one time fire in the order in which they were
 //!   started.
 //! - **Cancelled for good.** `cancel` returns `true` exactly if the timer was pending, and it never fires then.
@@ -46,7 +46,7 @@ use thiserror::Error;
 /// The name of one timer: its time, and its place among all timers started.
 ///
 /// No other timer of its `Timers` ever has this name. Timers are ordered by time, and timers of one time in the order
-/// in which they were started. A program may ask for any pair of numbers.
+/// in which they were started. Any pair of numbers may be passed as a name.
 #[derive(Clone, Copy, Debug, PartialEq, Eq, Hash)]
 pub struct Timer {
     /// When it is due.
