@@ -1,4 +1,4 @@
-//! The table's values as what crosses, and the other way round.
+//! The table's values as the structs that cross, and the other way round.
 
 ghost use Rattle.std.specs.Prelude.{◌≡◌};
 ghost use Rattle.pt_table.specs.Crossing.{pid_crossed, pid_out, ref_in, ref_out, link_out, ids_out, reason_in, reason_out};
@@ -457,7 +457,7 @@ fn no_signal() -> PtSignal
     }
 }
 
-/// An event of which nothing but its stamp and its desk is told.
+/// An event with its stamp and its desk only.
 fn blank(stamp: u64, desk: u8) -> PtEvent
     ensures { result ≡ blank stamp desk }
 {
