@@ -1,4 +1,4 @@
-//! Calls that change a node which runs.
+//! Calls that change a running node.
 
 ghost use Rattle.pt_session.specs.Acting.{DoesAct};
 

@@ -1,4 +1,4 @@
-//! What a call answers.
+//! The answers of calls.
 
 use pt_accounts::Account;
 use pt_desk::Turned;
@@ -9,7 +9,7 @@ use pt_node::{NodeFault, Rested};
 use pt_shard::{OpenError, Stop};
 use pt_signal::{Ids, Item, Pid, Reason, Ref};
 
-/// What a call answers.
+/// The answers of calls.
 #[derive(Drop)]
 pub enum Answer {
     Opened(Result<(), OpenError>),
@@ -22,7 +22,7 @@ pub enum Answer {
     Rested(Rested),
     /// A number, or that the node has no such desk.
     Number(Option<u64>),
-    /// Whether it is so, or that the node has no such desk.
+    /// True or false, or that the node has no such desk.
     Truth(Option<bool>),
     Pid(Option<Pid>),
     Ids(Option<Ids>),
@@ -34,11 +34,11 @@ pub enum Answer {
     Events(Vec<Stamped>),
     Letters(Vec<LeftOver>),
     Pids(Vec<Pid>),
-    /// How many letters are left over.
+    /// The number of letters left over.
     LeftOver(u64),
-    /// How many letters were handled, or why settling stopped.
+    /// The number of letters handled, or why settling stopped.
     Handled(Result<u64, Stop>),
-    /// That a history is legal, or the first event that may not come, and why.
+    /// That a history is legal, or the first event that may not come next, and why.
     Judged(Result<(), (u64, Cause)>),
     Resumed,
     /// The node has no such desk.

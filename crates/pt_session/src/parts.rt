@@ -19,7 +19,7 @@ pub(crate) fn word_of_stop(stop: Stop) -> &'static str
     }
 }
 
-/// How many letters turns posted and handled.
+/// The numbers of letters that turns posted and handled.
 #[derive(Clone, Copy)]
 pub(crate) struct Turns {
     pub(crate) posted: u64,
@@ -54,7 +54,7 @@ impl fmt::Display for Then {
     }
 }
 
-/// How many letters were handled.
+/// The number of letters handled.
 #[derive(Clone, Copy)]
 pub(crate) struct Count(pub(crate) u64);
 
@@ -70,7 +70,7 @@ impl fmt::Display for Count {
     }
 }
 
-/// Which desk's turn stopped, and why.
+/// The desk whose turn stopped, and why.
 #[derive(Clone, Copy)]
 pub(crate) struct ThenAt(pub(crate) Stopped);
 
@@ -87,7 +87,7 @@ impl fmt::Display for ThenAt {
     }
 }
 
-/// How many items arrived in a mailbox, were taken, and wait.
+/// The numbers of items that arrived in a mailbox, were taken, and wait.
 #[derive(Clone, Copy)]
 pub(crate) struct Counts {
     pub(crate) arrived: u64,
@@ -111,7 +111,7 @@ impl fmt::Display for Counts {
     }
 }
 
-/// The event that may not come, and why.
+/// The event that may not come next, and why.
 #[derive(Clone, Copy)]
 pub(crate) struct Contradiction {
     pub(crate) place: u64,

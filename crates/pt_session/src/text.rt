@@ -52,7 +52,7 @@ pub(crate) fn text_of(alloc: Global, answer: &Answer) -> Result<String, AllocErr
     }
 }
 
-/// What `help` tells: a line a call, then what else a line may be.
+/// The text of `help`: a line for each call, then what else a line may be.
 pub(crate) fn help_text(alloc: Global) -> Result<String, AllocError> {
     let mut text = String::new(alloc);
     for place in 0..CALLS.len() {
@@ -341,7 +341,7 @@ fn items_text(alloc: Global, items: &[Item]) -> Result<String, AllocError>
     }
 }
 
-/// Adds each item behind a semicolon.
+/// Adds each item after a semicolon.
 fn push_items(text: &mut String, items: &[Item]) -> Result<(), AllocError>
     ensures { OnOk result (string_bytes text.new ≡ string_bytes text.old ++ spec.more_items items.now) }
 {
@@ -407,7 +407,7 @@ fn pids_text(alloc: Global, pids: &[Pid]) -> Result<String, AllocError>
     }
 }
 
-/// Adds each pid behind a space.
+/// Adds each pid after a space.
 fn push_pids(text: &mut String, pids: &[Pid]) -> Result<(), AllocError>
     ensures { OnOk result (string_bytes text.new ≡ string_bytes text.old ++ spec.more_pids pids.now) }
 {
