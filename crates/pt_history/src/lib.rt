@@ -48,8 +48,8 @@
 //! # Cost
 //!
 //! Adding an event takes constant time on average. `merge` takes two pieces of memory and for each event the logarithm
-//! of the number of journals. `replay` takes constant time for an event, beside a look through the letters in flight at
-//! each receipt, and through the lists of the one process that the event is of.
+//! of the number of journals. `replay` takes constant time for an event. Besides, it looks through the letters in
+//! flight at each receipt, and through the lists of the one process that the event is of.
 //!
 //! # What is proved
 //!
