@@ -3,8 +3,9 @@
 //!
 //! # What is proved
 //!
-//! - **The team.** On each desk every child that is to live does, once the node is gathered. (`AllChildrenLive`)
-//! - **The others.** Each scene ends and goes wrong nowhere. What they print is compared.
+//! - **The team.** On each desk every child that its supervisor wants alive is alive, once the node is gathered.
+//!   (`AllChildrenLive`)
+//! - **The others.** Each scene terminates without a fault. What they print is compared.
 #![tactic(auto)]
 
 mod bank;
