@@ -399,8 +399,8 @@ fn made_client(alloc: Global) -> Stage<Actor> {
 /// Plays the scene.
 ///
 /// Each call of a client or a worker ends once, by its answer or by the exit of the queue. For any item that a
-/// supervisor handles, each of its children stays one that it wants alive. So each child is alive, by all that the
-/// supervisor has heard, if it waits for any item.
+/// supervisor handles, each of its children stays one that it wants alive. So if it waits for any item, each child is
+/// alive, as far as it knows.
 pub fn play(alloc: Global) -> Result<Jobs>
     ensures calls { EndsOnce }
     ensures wanted { StaysWanted }

@@ -85,8 +85,8 @@ fn did_nothing(turned: &Turned) -> bool
     turned.posted == 0 && turned.handled == 0 && turned.stopped.is_none()
 }
 
-/// In a run at an open gate, such a worker ends only after the number of turns in a row that did nothing is enough, or
-/// it has taken all its turns. The function does nothing: its contract is the promise.
+/// In a run at an open gate, such a worker ends only after enough turns in a row that did nothing, or after all its
+/// turns. The function does nothing: its contract is the promise.
 pub fn ends_behind_quiet_turns<W: Work>(_work: &W)
     ensures { EndsQuietly (W.Work.does, W.Work.hears) }
 {}

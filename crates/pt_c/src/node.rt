@@ -29,8 +29,8 @@ use std::alloc::{AllocError, Global};
 
 /// Opens a node: each handle gets one of its desks, in order, as `open` makes them.
 ///
-/// The handles must be empty: it returns 10 if one is not. 11 to 15 say which setting is out of its range; for 11 it is
-/// the number of handles.
+/// The handles must be empty: it returns 10 if one is not. It returns 11 to 15 if a setting is out of its range; for 11
+/// this is the number of handles.
 #[unsafe(no_mangle)]
 pub extern "C" fn pt_open(alloc: Global, desks: &mut [DeskHandle], config: PtConfig) -> u32
     ensures { OpensAs config result (map (λ h. h.state) desks.old) (map (λ h. h.state) desks.new) }

@@ -103,7 +103,7 @@ impl Gathered {
 
     /// The events of all desks in the order of stamp, then desk: a legal history. It has each journal whole and in its
     /// order, and its letters in flight are the letters left over. Put after what the node continues from, it is such a
-    /// history from the very beginning on.
+    /// history from the very beginning on. Fails only if there is no memory.
     pub fn history(&self) -> Result<Vec<Stamped>, AllocError>
         ensures merge { IfOk result (λ h. IsMerge (journals self.now) (reverse h.items)) }
         ensures legal { IfOk result (λ h. LegalWithLeftOver (begins self.now) (reverse h.items) (over self.now)) }
@@ -116,7 +116,8 @@ impl Gathered {
     }
 
     /// The letters left over: by sending desk, then by receiving desk, and for each two desks the oldest first. These
-    /// are the one in the hold of the receiving desk, then those in the lane, then those in the outbox.
+    /// are the one in the hold of the receiving desk, then those in the lane, then those in the outbox. Fails only if
+    /// there is no memory.
     pub fn left_over(&self) -> Result<Vec<LeftOver>, AllocError>
         ensures { IfOk result (λ v. v.items ≡ all_left self.now) }
     {

@@ -15,9 +15,9 @@
 //!
 //! # What is left over
 //!
-//! A letter that was sent and did not arrive is in the hold of its receiver's desk, in the lane between the two, or in
-//! the outbox of its sender's desk. [`Gathered::left_over`] lists them by sending desk, then by receiving desk, oldest
-//! first. The letters that a desk sent to another are those that arrived there, in order, followed by those left over.
+//! A letter that was sent and did not arrive is in the hold of its receiver's desk, in the lane, or in the outbox of
+//! its sender's desk. [`Gathered::left_over`] lists them by sending desk, then by receiving desk, oldest first. The
+//! letters that a desk sent to another are those that arrived there, in order, followed by those left over.
 //!
 //! # The history
 //!

@@ -77,7 +77,7 @@ impl Quiet {
     }
 
     /// The events of all desks in the order of stamp, then desk: a legal history with no letter in flight. Put after
-    /// what the node continues from, it is such a history from the very beginning on.
+    /// what the node continues from, it is such a history from the very beginning on. Fails only if there is no memory.
     pub fn history(&self) -> Result<Vec<Stamped>, AllocError>
         ensures merge { IfOk result (λ h. IsMerge (journals self.now.gathered) (reverse h.items)) }
         ensures legal { IfOk result
@@ -119,7 +119,8 @@ impl Quiet {
         self.node.clock()
     }
 
-    /// The processes whose exit is the latest of their slot, by shard and slot, each with this stamp.
+    /// The processes whose exit is the latest of their slot, by shard and slot, each with this stamp. Fails only if
+    /// there is no memory.
     pub fn latest_ends(&self, stamp: u64) -> Result<Vec<(Pid, u64)>, AllocError>
         ensures { IfOk result (λ ends. ends.items ≡ ends_of stamp self.now.lives) }
     {

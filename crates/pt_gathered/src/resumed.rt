@@ -20,7 +20,7 @@ impl Quiet {
     /// The state that the node's history leads to, as the start of a history that continues from it. It has each
     /// process that was spawned. An exited one has its reason. A live one has its flag, its links, its open monitors,
     /// the watches that it keeps and the items that wait, each in order. No letter is in flight, and no id and no
-    /// reference is made.
+    /// reference is made. Fails only if there is no memory.
     ///
     /// So `pt_judge::replay_from` judges from it what happens on the desks once the node is resumed.
     pub fn state(&self) -> Result<State, AllocError>

@@ -86,7 +86,8 @@ impl Names {
         self.holders.len()
     }
 
-    /// Checks whether the process can have the name. If so, `register` fails only if there is no memory.
+    /// Checks whether the process can have the name. Fails with `Taken` or `HasName` as `register` would. If it
+    /// succeeds, `register` fails only if there is no memory.
     pub fn check(&self, name: Name, pid: Pid) -> Result<(), RegisterError>
         ensures { Checks name pid self.now result }
     {

@@ -405,7 +405,7 @@ impl Node {
     /// Nothing happens if p is the target, or holds a link with it. If the target is not alive when the link arrives,
     /// an exit signal with `noproc` goes back. Fails with `NoDesk`, or with `Unknown` if the target is no process that
     /// the node can have had. Then it fails as the desk's call does: with `Gone`, and if there is a link to make, with
-    /// `NoProc` (the desk sees that the target has exited), `Worn` or `Memory`.
+    /// `NoProc` (the target is seen to have exited), `Worn` or `Memory`.
     pub fn link(&mut self, p: Pid, to: Pid) -> Result<(), NodeFault>
         ensures { CallsTo p.shard to
             (λ x r y.

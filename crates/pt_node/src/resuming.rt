@@ -155,7 +155,7 @@ fn restart_all(old: Vec<Shard>, start: u64, shards: &mut Vec<Shard>)
     }
 }
 
-/// Each table forgets what the ended processes held.
+/// Makes each table forget what the exited processes held.
 fn forget_all(tables: &mut [DeskLives])
     ensures { tables.new ≡ map all_forgotten tables.old }
 {

@@ -275,7 +275,7 @@ impl Process {
         }
     }
 
-    /// Makes room, so that the next link needs no memory.
+    /// Makes room, so that the next link needs no memory. Fails only if there is none.
     pub fn room(&mut self) -> Result<(), AllocError>
         ensures me { self.new.me ≡ self.old.me }
         ensures state { self.new.state ≡ self.old.state }

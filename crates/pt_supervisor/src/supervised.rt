@@ -39,9 +39,9 @@ pub trait Supervised: Behaviour {
 /// In a node that is still, each child that its supervisor wants alive is alive, or unlinked itself from the
 /// supervisor. The function does nothing: its contract is the promise.
 ///
-/// What it needs of the crew holds for an empty crew (`nobody`). A step, a step with a turn, a receipt, and a new
-/// process that begins as it should keep it. A crew is idle if its queue is empty, and each process that has something
-/// to do is in the queue.
+/// What it needs of the crew holds for an empty crew (`nobody`). A step, a step with a turn, and a receipt keep it. So
+/// does spawning a process that begins as it should. A crew is idle if its queue is empty, and each process that has
+/// something to do is in the queue.
 pub fn quiet_children_live<B: Supervised + Drop>()
     ensures nobody { (c : Crew B) (d : ShardState) → ((p : Pid) → roles c p ≡ None) → waiting c ≡ []
         → Upholds (Keeps B.supervisor) c d }
