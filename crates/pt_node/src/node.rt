@@ -357,7 +357,7 @@ impl Node {
     ///
     /// It arrives after all that the sender sent this receiver before. If the receiver is not alive then, it is lost,
     /// and no process is notified. Fails with `NoDesk`, or with `Unknown` if the receiver is no process that the node
-    /// can have had. Then it fails as the desk's call does: with `Gone`, `NoProc` if the desk sees that the receiver
+    /// can have had. Else it fails as the desk's call does: with `Gone`, `NoProc` if the desk sees that the receiver
     /// has exited, `Worn` or `Memory`.
     #[inline(always)]
     pub fn send(&mut self, from: Pid, to: Pid, body: Body) -> Result<(), NodeFault>
@@ -383,7 +383,7 @@ impl Node {
     /// `kill` makes its receiver exit with the reason `killed`, whether it traps exits or not. A receiver that traps
     /// exits gets any other reason as an item. Any other receiver exits with that reason, except that `normal` has this
     /// effect only if it is the sender itself. Fails with `NoDesk`, or with `Unknown` if the receiver is no process
-    /// that the node can have had. Then it fails as the desk's call does: with `Gone`, `Worn` or `Memory`.
+    /// that the node can have had. Else it fails as the desk's call does: with `Gone`, `Worn` or `Memory`.
     pub fn exit_signal(&mut self, from: Pid, to: Pid, reason: Reason) -> Result<(), NodeFault>
         ensures { CallsTo from.shard to
             (Inside (λ s r t. Calls from (Some (Event.Said from to (Signal.Exit reason))) tt s r t)) self.old result
@@ -404,7 +404,7 @@ impl Node {
     ///
     /// Nothing happens if p is the target, or holds a link with it. If the target is not alive when the link arrives,
     /// an exit signal with `noproc` goes back. Fails with `NoDesk`, or with `Unknown` if the target is no process that
-    /// the node can have had. Then it fails as the desk's call does: with `Gone`, and if there is a link to make, with
+    /// the node can have had. Else it fails as the desk's call does: with `Gone`, and if there is a link to make, with
     /// `NoProc` (the target is seen to have exited), `Worn` or `Memory`.
     pub fn link(&mut self, p: Pid, to: Pid) -> Result<(), NodeFault>
         ensures { CallsTo p.shard to
@@ -427,7 +427,7 @@ impl Node {
     ///
     /// Nothing happens if there is none. From here on an exit signal that the link carries has no effect on p: it may
     /// still arrive, and is dropped. Fails with `NoDesk`, or with `Unknown` if the other is no process that the node
-    /// can have had. Then it fails as the desk's call does: with `Gone`, `Worn` or `Memory`.
+    /// can have had. Else it fails as the desk's call does: with `Gone`, `Worn` or `Memory`.
     pub fn unlink(&mut self, p: Pid, to: Pid) -> Result<(), NodeFault>
         ensures { CallsTo p.shard to
             (Inside (λ s r t. Calls p (unlink_event s p to) tt s r t)) self.old result self.new }
@@ -447,7 +447,7 @@ impl Node {
     /// will have.
     ///
     /// If the target is not alive when the monitor arrives, a DOWN with `noproc` goes back. Fails with `NoDesk`, or
-    /// with `Unknown` if the target is no process that the node can have had. Then it fails as the desk's call does:
+    /// with `Unknown` if the target is no process that the node can have had. Else it fails as the desk's call does:
     /// with `Gone`, `Myself` if w is the target, `NoProc` if the desk sees that the target has exited, `Worn` or
     /// `Memory`.
     pub fn monitor(&mut self, w: Pid, t: Pid) -> Result<Ref, NodeFault>
@@ -488,7 +488,7 @@ impl Node {
     /// returns the reference that the answer will have.
     ///
     /// The answer arrives as an item, after all that t sent p before; t may be p. Fails with `NoDesk`, or with
-    /// `Unknown` if t is no process that the node can have had. Then it fails as the desk's call does: with `Gone`,
+    /// `Unknown` if t is no process that the node can have had. Else it fails as the desk's call does: with `Gone`,
     /// `Worn` or `Memory`.
     pub fn ask_alive(&mut self, p: Pid, t: Pid) -> Result<Ref, NodeFault>
         ensures { CallsTo p.shard t
