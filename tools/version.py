@@ -18,6 +18,7 @@ SOURCE = "crates/pt_render/src/choices.rt"
 PLACES = {
     "CHANGELOG.md": r"^## (\S+)",
     "bindings/rust/Cargo.toml": r'^version = "(.*)"',
+    "bindings/python/pundewo/__init__.py": r'^__version__ = "(.*)"',
     "bench/rust/Cargo.toml": r'^version = "(.*)"',
     "checks/examples/version.json.stdout": r"^pt_run (\S+)",
     "checks/audit/selected.txt": r"^pt_audit (\S+)",
