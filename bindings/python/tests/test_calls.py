@@ -47,7 +47,7 @@ CALLS: dict[str, dict[str, dict[str, Domain]]] = {
     "History": {"events": {}, "left_over": {}, "close": {}},
     "": {"open_node": {"count": BYTE, "config": CONFIG}, "gather": {"desks": Desks()}},
 }
-ERRORS = {"Fault", "Unsettled", "Code"}
+ERRORS = {"Fault", "Unsettled", "Busy", "Code"}
 TYPES = {int: Ints, bool: Flag, typing.Sequence[p.Desk]: Desks}
 
 
