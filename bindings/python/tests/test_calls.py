@@ -47,7 +47,7 @@ CALLS: dict[str, dict[str, dict[str, Domain]]] = {
     "History": {"events": {}, "left_over": {}, "close": {}},
     "": {"open_node": {"count": BYTE, "config": CONFIG}, "gather": {"desks": Desks()}},
 }
-ERRORS = {"Fault", "Unsettled", "Code"}
+ERRORS = {"Fault", "Unsettled", "Busy", "Code"}
 TYPES = {int: Ints, bool: Flag, typing.Sequence[p.Desk]: Desks}
 
 
@@ -82,7 +82,7 @@ def back(word: Any) -> Any:
     """The value of what crosses."""
     if hasattr(word, "_obj"):
         return getattr(word._obj, "value", None)
-    kinds = {p.CPid: p._pid, p.CRef: p._ref, p.CBody: p._body, p.CReason: p._reason, p.CPick: p._pick,
+    kinds = {p.CPid: p.pid_of, p.CRef: p.ref_of, p.CBody: p.body_of, p.CReason: p.reason_of, p.CPick: p.pick_of,
              p.CConfig: lambda config: p.Config(*(getattr(config, field) for field, _ in config._fields_))}
     return kinds[type(word)](word) if type(word) in kinds else word
 

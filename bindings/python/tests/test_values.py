@@ -10,7 +10,7 @@ import random
 import unittest
 from typing import Any, Iterator
 
-import pundewo_values as v
+import pundewo.values as v
 from domains import SHAPES, Ints, Small, draw_fields
 
 ROUNDS = 30

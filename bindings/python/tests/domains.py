@@ -10,7 +10,7 @@ import fractions
 import random
 from typing import Any, Iterator
 
-import pundewo_values as v
+import pundewo.values as v
 
 
 class Index:

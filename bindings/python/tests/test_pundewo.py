@@ -5,6 +5,7 @@ import os
 import unittest
 
 import pundewo as p
+import pundewo.values as v
 from pundewo import Code, Config, Fault, Pick, Pid, Reason, Ref
 
 
@@ -242,7 +243,7 @@ class About(unittest.TestCase):
         p.lib.pt_about_sizes(sizes)
         self.assertEqual(list(sizes)[:-1], [c.sizeof(kind) for kind in kinds])
         wanted = [code.value for code in Code]
-        for names in (p.REASONS + ("other",), p.ITEMS, p.PICKS, p.SIGNALS, p.EVENTS):
+        for names in (v.REASONS + ("other",), v.ITEMS, v.PICKS, v.SIGNALS, v.EVENTS):
             wanted += range(len(names))
         self.assertEqual(sizes[-1], 4 * len(wanted))
         codes = (c.c_uint32 * len(wanted))()
