@@ -66,7 +66,8 @@
 //!   kept. (`Quiet::laws`)
 //! - **Answers.** Once settled, each question of a live process has its one answer, which is true.
 //! - **Accounts.** `Quiet` returns for each process what the definitions give for every merge of the journals.
-//! - **Settling that fails.** It keeps all that holds for a gathered node, and says why it stopped.
+//! - **Settling that fails.** It keeps all that holds for a gathered node, and its contract says where it stopped.
+//!   (`SettlingStops`)
 #![tactic(auto, unfolding(crate::specs::Text::left_over_text))]
 
 mod gathered;
