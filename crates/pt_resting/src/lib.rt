@@ -12,10 +12,10 @@
 //! - **How many.** A step sends on at most as many as asked for, and fewer only if it knows of no more or sending the
 //!   next one fails. (`few`, `keeps`)
 //! - **Refusals.** A message that could not be sent for want of memory or stamps stays in front.
-//! - **Doors.** `Door::post` fails only if the door knows of no free place. `way_in` makes as many places as asked for, at
-//!   the desk of the process that sends on.
-//! - **Work left.** A crew has work exactly while a process is queued or waits to enter; a porter also while it knows of
-//!   a message. (`busy`)
+//! - **Doors.** `Door::post` fails only if the door knows of no free place. `way_in` makes as many places as asked for,
+//!   at the desk of the process that sends on.
+//! - **Work left.** A crew has work exactly while a process is queued or waits to enter; a porter also while it knows
+//!   of a message. (`busy`)
 //! - **The work within.** A `Resting` does what its work does.
 #![tactic(auto)]
 
