@@ -62,7 +62,7 @@ fn other(account: Pid, order: i64) -> Pid {
 }
 
 /// Pays, and returns the new balance. Nothing is paid if there is not enough, or the receiver has exited.
-#[tactic(auto, using(pt_node::proofs::GoingOn::stays))]
+#[tactic(auto, using(pt_workers::proofs::GoingOn::stays))]
 fn pay(desk: &mut Desk, me: Pid, to: Pid, amount: i64, balance: i64) -> Option<i64>
     ensures takes { takes desk.new.shard.journal ≡ takes desk.old.shard.journal }
     ensures goes_on { GoesOn desk.old desk.new }
@@ -77,7 +77,7 @@ fn pay(desk: &mut Desk, me: Pid, to: Pid, amount: i64, balance: i64) -> Option<i
 }
 
 /// Spawns the teller of this account.
-#[tactic(auto, using(pt_node::proofs::GoingOn::stays))]
+#[tactic(auto, using(pt_workers::proofs::GoingOn::stays))]
 fn open(desk: &mut Desk, births: &mut Births<Clerk>, me: Pid) -> Next
     ensures takes { takes desk.new.shard.journal ≡ takes desk.old.shard.journal }
     ensures kept { kept_roles births.new ≡ kept_roles births.old }
@@ -93,7 +93,7 @@ fn open(desk: &mut Desk, births: &mut Births<Clerk>, me: Pid) -> Next
 
 impl Account {
     /// Does what an order says, or takes a payment.
-    #[tactic(auto, using(pt_node::proofs::GoingOn::stays))]
+    #[tactic(auto, using(pt_workers::proofs::GoingOn::stays))]
     fn hear(&mut self, desk: &mut Desk, me: Pid, body: Body)
         ensures takes { takes desk.new.shard.journal ≡ takes desk.old.shard.journal }
         ensures goes_on { GoesOn desk.old desk.new }
@@ -114,7 +114,7 @@ impl Account {
 
 impl Teller {
     /// Gives the next order, if there is one.
-    #[tactic(auto, using(pt_node::proofs::GoingOn::stays))]
+    #[tactic(auto, using(pt_workers::proofs::GoingOn::stays))]
     fn order(&mut self, desk: &mut Desk, me: Pid) -> Next
         ensures takes { takes desk.new.shard.journal ≡ takes desk.old.shard.journal }
         ensures goes_on { GoesOn desk.old desk.new }
@@ -134,7 +134,7 @@ impl Behaviour for Clerk {
 
     ghost answers = { λ _ _ _ _ _ _ _ _. ⊤ };
 
-    #[tactic(auto, using(pt_node::proofs::GoingOn::stays))]
+    #[tactic(auto, using(pt_workers::proofs::GoingOn::stays))]
     fn handle(
         &mut self,
         desk: &mut Desk,

@@ -55,7 +55,7 @@ fn seat(guest: Pid) -> usize
 }
 
 /// Passes a word on to a guest, if there is one, and returns the number of guests that it was passed on to.
-#[tactic(auto, using(pt_node::proofs::GoingOn::stays))]
+#[tactic(auto, using(pt_workers::proofs::GoingOn::stays))]
 fn pass(desk: &mut Desk, me: Pid, guest: Option<Pid>, word: i64) -> u32
     ensures takes { takes desk.new.shard.journal ≡ takes desk.old.shard.journal }
     ensures goes_on { GoesOn desk.old desk.new }
@@ -70,7 +70,7 @@ fn pass(desk: &mut Desk, me: Pid, guest: Option<Pid>, word: i64) -> u32
 }
 
 /// Passes a word on to all guests.
-#[tactic(auto, using(pt_node::proofs::GoingOn::stays, pt_desk::proofs::Turning::goes_on_then))]
+#[tactic(auto, using(pt_workers::proofs::GoingOn::stays, pt_desk::proofs::Turning::goes_on_then))]
 fn pass_to_all(desk: &mut Desk, me: Pid, guests: [Option<Pid>; 3], word: i64) -> u32
     ensures takes { takes desk.new.shard.journal ≡ takes desk.old.shard.journal }
     ensures goes_on { GoesOn desk.old desk.new }
@@ -82,7 +82,7 @@ fn pass_to_all(desk: &mut Desk, me: Pid, guests: [Option<Pid>; 3], word: i64) ->
 }
 
 /// Says the next word, and returns what the guest does next: it crashes when no word is left.
-#[tactic(auto, using(pt_node::proofs::GoingOn::stays))]
+#[tactic(auto, using(pt_workers::proofs::GoingOn::stays))]
 fn speak(desk: &mut Desk, me: Pid, words: &mut u32) -> Next
     ensures takes { takes desk.new.shard.journal ≡ takes desk.old.shard.journal }
     ensures goes_on { GoesOn desk.old desk.new }
@@ -97,7 +97,7 @@ fn speak(desk: &mut Desk, me: Pid, words: &mut u32) -> Next
 
 /// Handles an item of the room: it monitors a guest that joins, passes a word on to all, and removes a guest that is
 /// down.
-#[tactic(auto, using(pt_node::proofs::GoingOn::stays))]
+#[tactic(auto, using(pt_workers::proofs::GoingOn::stays))]
 fn receive(desk: &mut Desk, me: Pid, hall: &mut Hall, item: Option<Item>)
     ensures takes { takes desk.new.shard.journal ≡ takes desk.old.shard.journal }
     ensures goes_on { GoesOn desk.old desk.new }
@@ -120,7 +120,7 @@ fn receive(desk: &mut Desk, me: Pid, hall: &mut Hall, item: Option<Item>)
 }
 
 /// Sends a message to the room.
-#[tactic(auto, using(pt_node::proofs::GoingOn::stays))]
+#[tactic(auto, using(pt_workers::proofs::GoingOn::stays))]
 fn tell_room(desk: &mut Desk, me: Pid, kind: u32)
     ensures takes { takes desk.new.shard.journal ≡ takes desk.old.shard.journal }
     ensures goes_on { GoesOn desk.old desk.new }
@@ -143,7 +143,7 @@ impl Behaviour for Talker {
 
     ghost answers = { λ _ _ _ _ _ _ _ _. ⊤ };
 
-    #[tactic(auto, using(pt_node::proofs::GoingOn::stays))]
+    #[tactic(auto, using(pt_workers::proofs::GoingOn::stays))]
     fn handle(
         &mut self,
         desk: &mut Desk,

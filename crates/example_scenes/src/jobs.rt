@@ -90,7 +90,7 @@ impl Queue {
     }
 
     /// Handles an item: a worker that had a job has exited, a worker asks for its next job, or a client asks for one.
-    #[tactic(auto, using(pt_node::proofs::GoingOn::stays))]
+    #[tactic(auto, using(pt_workers::proofs::GoingOn::stays))]
     fn hear(&mut self, desk: &mut Desk, me: Pid, item: Option<Item>) -> Result<(), AllocError>
         ensures takes { takes desk.new.shard.journal ≡ takes desk.old.shard.journal }
         ensures goes_on { GoesOn desk.old desk.new }
@@ -125,7 +125,7 @@ impl Queue {
     }
 
     /// Lets a worker wait for the next job, since it is done with the one that it had.
-    #[tactic(auto, using(pt_node::proofs::GoingOn::stays))]
+    #[tactic(auto, using(pt_workers::proofs::GoingOn::stays))]
     fn line_up(&mut self, desk: &mut Desk, me: Pid, request: Request) -> Result<(), AllocError>
         ensures takes { takes desk.new.shard.journal ≡ takes desk.old.shard.journal }
         ensures goes_on { GoesOn desk.old desk.new }
@@ -138,7 +138,7 @@ impl Queue {
 
     /// Gives the next job to the worker that has waited longest. If that one has exited meanwhile, it is skipped: the
     /// job waits for the worker that is started in its place.
-    #[tactic(auto, using(pt_node::proofs::GoingOn::stays))]
+    #[tactic(auto, using(pt_workers::proofs::GoingOn::stays))]
     fn give_out(&mut self, desk: &mut Desk, me: Pid) -> Result<(), AllocError>
         ensures takes { takes desk.new.shard.journal ≡ takes desk.old.shard.journal }
         ensures goes_on { GoesOn desk.old desk.new }
@@ -182,7 +182,7 @@ fn hand(desk: &mut Desk, me: Pid, job: Request, request: Request) -> Option<Give
 }
 
 /// Asks the queue, for a job by its number or for the next one. Without a queue there is nothing to wait for.
-#[tactic(auto, using(pt_node::proofs::GoingOn::stays))]
+#[tactic(auto, using(pt_workers::proofs::GoingOn::stays))]
 fn ask(desk: &mut Desk, me: Pid, asks: u32, call: &mut Option<Pending>) -> Next
     ensures takes { takes desk.new.shard.journal ≡ takes desk.old.shard.journal }
     ensures goes_on { GoesOn desk.old desk.new }
@@ -197,7 +197,7 @@ fn ask(desk: &mut Desk, me: Pid, asks: u32, call: &mut Option<Pending>) -> Next
 }
 
 /// What an item means to a call; nothing if no call was made.
-#[tactic(auto, using(pt_node::proofs::GoingOn::stays))]
+#[tactic(auto, using(pt_workers::proofs::GoingOn::stays))]
 fn hear(desk: &mut Desk, item: Item, call: &mut Option<Pending>) -> Heard
     ensures takes { takes desk.new.shard.journal ≡ takes desk.old.shard.journal }
     ensures goes_on { GoesOn desk.old desk.new }
@@ -217,7 +217,7 @@ struct Worker {
 
 impl Worker {
     /// Asks for its first job. Then it does the job that it gets and asks for the next one, or crashes.
-    #[tactic(auto, using(pt_node::proofs::GoingOn::stays, pt_desk::proofs::Turning::goes_on_then))]
+    #[tactic(auto, using(pt_workers::proofs::GoingOn::stays, pt_desk::proofs::Turning::goes_on_then))]
     fn attend(&mut self, desk: &mut Desk, me: Pid, item: Option<Item>) -> Next
         ensures takes { takes desk.new.shard.journal ≡ takes desk.old.shard.journal }
         ensures goes_on { GoesOn desk.old desk.new }
@@ -246,7 +246,7 @@ struct Client {
 
 impl Client {
     /// Asks for its first job, and for the next one when the answer says that the last is done.
-    #[tactic(auto, using(pt_node::proofs::GoingOn::stays, pt_desk::proofs::Turning::goes_on_then))]
+    #[tactic(auto, using(pt_workers::proofs::GoingOn::stays, pt_desk::proofs::Turning::goes_on_then))]
     fn attend(&mut self, desk: &mut Desk, me: Pid, item: Option<Item>) -> Next
         ensures takes { takes desk.new.shard.journal ≡ takes desk.old.shard.journal }
         ensures goes_on { GoesOn desk.old desk.new }
@@ -273,7 +273,7 @@ impl Client {
     }
 
     /// Asks for the job after the last that was done, if there is one.
-    #[tactic(auto, using(pt_node::proofs::GoingOn::stays))]
+    #[tactic(auto, using(pt_workers::proofs::GoingOn::stays))]
     fn ask_next(&mut self, desk: &mut Desk, me: Pid) -> Next
         ensures takes { takes desk.new.shard.journal ≡ takes desk.old.shard.journal }
         ensures goes_on { GoesOn desk.old desk.new }
@@ -332,7 +332,7 @@ impl Behaviour for Actor {
 
     ghost answers = { λ _ _ _ _ _ _ _ _. ⊤ };
 
-    #[tactic(auto, using(pt_node::proofs::GoingOn::stays))]
+    #[tactic(auto, using(pt_workers::proofs::GoingOn::stays))]
     fn handle(
         &mut self,
         desk: &mut Desk,

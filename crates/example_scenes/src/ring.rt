@@ -44,7 +44,7 @@ fn behind(me: Pid) -> Pid {
 }
 
 /// Passes the number on.
-#[tactic(auto, using(pt_node::proofs::GoingOn::stays))]
+#[tactic(auto, using(pt_workers::proofs::GoingOn::stays))]
 fn hand_on(desk: &mut Desk, me: Pid, num: i64)
     ensures takes { takes desk.new.shard.journal ≡ takes desk.old.shard.journal }
     ensures goes_on { GoesOn desk.old desk.new }
@@ -61,7 +61,7 @@ fn hand_on(desk: &mut Desk, me: Pid, num: i64)
 
 impl Runner {
     /// Spawns the next process of its desk, or begins, if it has to.
-    #[tactic(auto, using(pt_node::proofs::GoingOn::stays))]
+    #[tactic(auto, using(pt_workers::proofs::GoingOn::stays))]
     fn proceed(&mut self, desk: &mut Desk, births: &mut Births<Runner>, me: Pid) -> Next
         ensures takes { takes desk.new.shard.journal ≡ takes desk.old.shard.journal }
         ensures kept { kept_roles births.new ≡ kept_roles births.old }
@@ -89,7 +89,7 @@ impl Behaviour for Runner {
 
     ghost answers = { λ _ _ _ _ _ _ _ _. ⊤ };
 
-    #[tactic(auto, using(pt_node::proofs::GoingOn::stays))]
+    #[tactic(auto, using(pt_workers::proofs::GoingOn::stays))]
     fn handle(
         &mut self,
         desk: &mut Desk,

@@ -36,7 +36,7 @@ impl<B: Behaviour + Drop> Stage<B> {
     }
 
     /// Lets the first process enter, if it has not yet. If the desk cannot spawn it, none enters.
-    #[tactic(auto, using(pt_node::proofs::GoingOn::stays))]
+    #[tactic(auto, using(pt_workers::proofs::GoingOn::stays))]
     fn begin(&mut self, desk: &mut Desk)
         ensures { GoesOn desk.old desk.new }
     {

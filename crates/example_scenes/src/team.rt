@@ -6,8 +6,8 @@ ghost use Rattle.pt_crew.specs.declared.behaviour.Next.{Next};
 ghost use Rattle.pt_desk.specs.DeskState.{GoesOn};
 ghost use Rattle.pt_gathered.specs.Gathered.{IsGathered};
 ghost use Rattle.pt_gathered.specs.Lawful.{LinksStand};
-ghost use Rattle.pt_node.specs.Desks.{AreDesks, all_shards};
-ghost use Rattle.pt_node.specs.Stillness.{AreStill};
+ghost use Rattle.pt_workers.specs.Desks.{AreDesks, all_shards};
+ghost use Rattle.pt_workers.specs.Stillness.{AreStill};
 ghost use Rattle.pt_crew.specs.Running.{AreIdle, UpholdsOn};
 ghost use Rattle.pt_supervisor.specs.Keeping.{AnswerAs, SupervisorBegins, Keeps};
 ghost use Rattle.pt_supervisor.specs.Gathering.{AllChildrenLive};
@@ -60,7 +60,7 @@ struct Member {
 impl Behaviour for Member {
     ghost answers = { AnswerAs boss_of };
 
-    #[tactic(auto, using(pt_node::proofs::GoingOn::stays))]
+    #[tactic(auto, using(pt_workers::proofs::GoingOn::stays))]
     fn handle(
         &mut self,
         desk: &mut Desk,

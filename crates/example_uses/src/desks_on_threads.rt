@@ -3,7 +3,7 @@
 
 ghost use Rattle.std.specs.Prelude.{◌≡◌, IfOk, vec_len};
 ghost use Rattle.pt_gathered.specs.Lawful.{KeepsHeadline};
-ghost use Rattle.pt_node.specs.Desks.{AreDesks};
+ghost use Rattle.pt_workers.specs.Desks.{AreDesks};
 
 use crate::RecipeError;
 use crate::steps::{gathered, tell};
@@ -26,7 +26,7 @@ impl Work for Sender {
 
     ghost does = { λ r old s new. SaysNext r old s new };
 
-    #[tactic(auto, using(pt_node::proofs::GoingOn::stays))]
+    #[tactic(auto, using(pt_workers::proofs::GoingOn::stays))]
     fn step(&mut self, desk: &mut Desk) {
         if let Ok(()) = tell(desk, self.me, self.to, 1, self.sent) {
             self.sent = self.sent.saturating_add(1);

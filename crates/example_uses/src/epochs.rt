@@ -8,7 +8,7 @@
 
 ghost use Rattle.std.specs.Prelude.{List, OnOk, IfOk};
 ghost use Rattle.pt_events.specs.declared.event.Stamped.{Stamped};
-ghost use Rattle.pt_node.specs.Running.{AllWork, always, begins_by};
+ghost use Rattle.pt_workers.specs.Running.{AllWork, always, begins_by};
 ghost use Rattle.example_uses.specs.Epochs.{Archives, IsArchived, Passes, PassAsOne};
 
 use pt_node::{FreeGate, Node, NodeBack, Quiet, Resting, RunFault, Stamped, Task, Unsettled};

@@ -4,7 +4,7 @@
 //! map by pid beside it, here the health of each monster. A monster with no health left exits.
 
 ghost use Rattle.std.specs.Prelude.{◌≡◌, []};
-ghost use Rattle.pt_node.specs.Desks.{IsStill};
+ghost use Rattle.pt_workers.specs.Desks.{IsStill};
 ghost use Rattle.example_uses.specs.Doing.{Repeats};
 ghost use Rattle.example_uses.specs.Games.{EndsIfSpent, MonsterEnters, SeesToMonster, SeesToAll, TakesHit, Ticks, entered, hit_by};
 

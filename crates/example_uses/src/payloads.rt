@@ -6,7 +6,7 @@
 
 ghost use Rattle.std.specs.Prelude.{◌≡◌, true, [], OnOk, OnErr};
 ghost use Rattle.pt_shard.specs.Known.{knows};
-ghost use Rattle.pt_node.specs.Desks.{IsStill};
+ghost use Rattle.pt_workers.specs.Desks.{IsStill};
 ghost use Rattle.example_uses.specs.Payloads.{LetsGo, SaysNumber, Stores, TakesTextOut, TakesText, is_lost, named_sender, next_text};
 ghost use Rattle.example_uses.specs.Payloads.{text_of};
 

@@ -3,7 +3,7 @@
 ghost use Rattle.std.specs.Prelude.{◌≡◌, IfOk};
 ghost use Rattle.pt_desk.specs.DeskState.{GoesOn, HasSameEnds};
 ghost use Rattle.pt_gathered.specs.Lawful.{KeepsHeadline, IsLegalNode};
-ghost use Rattle.pt_node.specs.Desks.{AreDesks};
+ghost use Rattle.pt_workers.specs.Desks.{AreDesks};
 ghost use Rattle.pt_node.specs.Gathering.{HasJournalsOf};
 ghost use Rattle.example_uses.specs.Telling.{SaysTo, plain_message, unheard};
 
@@ -12,7 +12,7 @@ use pt_node::{Body, Desk, Fault, Gathered, Pid, gather};
 use std::alloc::Global;
 
 /// Sends a message. If the desk does not know the receiver, the message is lost, as one to an exited process.
-#[tactic(auto, using(pt_node::proofs::GoingOn::stays))]
+#[tactic(auto, using(pt_workers::proofs::GoingOn::stays))]
 pub fn tell(desk: &mut Desk, from: Pid, to: Pid, kind: u32, num: i64) -> Result<(), Fault>
     ensures does { SaysTo from to (plain_message kind num) desk.old.shard result desk.new.shard }
     ensures ends { HasSameEnds desk.old desk.new }

@@ -5,7 +5,7 @@
 
 ghost use Rattle.std.specs.Prelude.{◌≡◌, IfOk, vec_len};
 ghost use Rattle.pt_gathered.specs.Lawful.{KeepsHeadline, IsLegalNode};
-ghost use Rattle.pt_node.specs.Desks.{AreDesks, IsStill};
+ghost use Rattle.pt_workers.specs.Desks.{AreDesks, IsStill};
 ghost use Rattle.example_uses.specs.Exchanges.{Exchanges, ExchangesOnFirst, HasExchanged};
 
 use crate::RecipeError;
@@ -42,7 +42,7 @@ pub fn two_processes(alloc: Global) -> Result<Gathered, RecipeError>
 }
 
 /// Does the exchange on desk 0, which stays a desk of its node.
-#[tactic(auto, using(pt_node::proofs::StillDesks::still_desks))]
+#[tactic(auto, using(pt_workers::proofs::StillDesks::still_desks))]
 fn play(desks: &mut Vec<Desk>) -> Result<(), Fault>
     requires { AreDesks desks.old.items }
     ensures desks { AreDesks desks.new.items }

@@ -2,7 +2,7 @@
 
 ghost use Rattle.std.specs.Prelude.{◌≡◌, ◌≤◌, [], map, length, IfOk, cond};
 ghost use Rattle.std.specs.Vec.{vec_capacity};
-ghost use Rattle.pt_node.specs.Desks.{AreDesks};
+ghost use Rattle.pt_workers.specs.Desks.{AreDesks};
 ghost use Rattle.pt_table.specs.Answers.{value_behind, values};
 ghost use Rattle.pt_c.specs.Nodes.{OpensAs, OpensMany, AreAllFull, GathersAs, Joins, SettlesAs, GivesUp, HandleTells, Writes};
 ghost use Rattle.pt_c.specs.Nodes.{IsHistoryOf, IsQuietHistoryOf};

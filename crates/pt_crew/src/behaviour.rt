@@ -11,7 +11,7 @@ ghost use Rattle.pt_crew.specs.Births.{bore, born, kept_roles};
 ghost use Rattle.pt_crew.specs.Visiting.{takes};
 
 use crate::births::Births;
-use pt_node::{Desk, Item, Pick, Pid, Reason};
+use pt_workers::{Desk, Item, Pick, Pid, Reason};
 
 /// What a process does next.
 #[derive(Clone, Copy, Debug, PartialEq, Eq)]

@@ -6,7 +6,7 @@ ghost use Rattle.pt_crew.specs.Births.{Bore, born, kept_roles};
 ghost use Rattle.pt_crew.specs.Visiting.{takes};
 
 use crate::behaviour::Next;
-use pt_node::{Desk, Fault, Pid};
+use pt_workers::{Desk, Fault, Pid};
 use std::alloc::Global;
 use std::collections::VecDeque;
 

@@ -15,14 +15,14 @@ ghost use Rattle.pt_desk.specs.Reaching.{Reaches, has_link_to_make, has_monitor_
 ghost use Rattle.pt_crew.specs.Telling.{IfKnown};
 ghost use Rattle.pt_crew.specs.Visiting.{takes};
 
-use pt_node::{Body, Desk, Fault, Pid, Reason, Ref};
+use pt_workers::{Body, Desk, Fault, Pid, Reason, Ref};
 
 /// Sends a message (`!`).
 ///
 /// Fails with `NoProc` if the desk does not know the target, and nothing has changed then. Else it fails as
 /// [`Desk::send`] does.
 #[inline(always)]
-#[tactic(auto, using(pt_node::proofs::GoingOn::stays, crate::proofs::Takes::sent_takes))]
+#[tactic(auto, using(pt_workers::proofs::GoingOn::stays, crate::proofs::Takes::sent_takes))]
 pub fn tell(desk: &mut Desk, me: Pid, to: Pid, body: Body) -> Result<(), Fault>
     ensures does { IfKnown (knows desk.old.shard to)
         (Reaches (lives desk.old.shard me) me to
@@ -41,7 +41,7 @@ pub fn tell(desk: &mut Desk, me: Pid, to: Pid, body: Body) -> Result<(), Fault>
 ///
 /// Fails with `NoProc` if the desk does not know the target, and nothing has changed then. Else it fails as
 /// [`Desk::monitor`] does.
-#[tactic(auto, using(pt_node::proofs::GoingOn::stays, crate::proofs::Takes::watched_takes))]
+#[tactic(auto, using(pt_workers::proofs::GoingOn::stays, crate::proofs::Takes::watched_takes))]
 pub fn watch(desk: &mut Desk, me: Pid, to: Pid) -> Result<Ref, Fault>
     ensures does { IfKnown (knows desk.old.shard to)
         (Reaches (has_monitor_to_make desk.old.shard me to) me to
@@ -59,7 +59,7 @@ pub fn watch(desk: &mut Desk, me: Pid, to: Pid) -> Result<Ref, Fault>
 ///
 /// Fails with `NoProc` if the desk does not know the target, and nothing has changed then. Else it fails as
 /// [`Desk::link`] does.
-#[tactic(auto, using(pt_node::proofs::GoingOn::stays, crate::proofs::Takes::linked_takes))]
+#[tactic(auto, using(pt_workers::proofs::GoingOn::stays, crate::proofs::Takes::linked_takes))]
 pub fn join(desk: &mut Desk, me: Pid, to: Pid) -> Result<(), Fault>
     ensures does { IfKnown (knows desk.old.shard to)
         (Reaches (has_link_to_make desk.old.shard me to) me to
@@ -78,7 +78,7 @@ pub fn join(desk: &mut Desk, me: Pid, to: Pid) -> Result<(), Fault>
 ///
 /// Fails with `NoProc` if the desk does not know the target, and nothing has changed then. Else it fails as
 /// [`Desk::exit_signal`] does.
-#[tactic(auto, using(pt_node::proofs::GoingOn::stays, crate::proofs::Takes::said_takes))]
+#[tactic(auto, using(pt_workers::proofs::GoingOn::stays, crate::proofs::Takes::said_takes))]
 pub fn bid_exit(desk: &mut Desk, me: Pid, to: Pid, reason: Reason) -> Result<(), Fault>
     ensures does { IfKnown (knows desk.old.shard to)
         (Calls me (Some (Event.Said me to (Signal.Exit reason))) tt desk.old.shard result desk.new.shard) desk.old
@@ -96,7 +96,7 @@ pub fn bid_exit(desk: &mut Desk, me: Pid, to: Pid, reason: Reason) -> Result<(),
 ///
 /// Fails with `NoProc` if the desk does not know the target, and nothing has changed then. Else it fails as
 /// [`Desk::unlink`] does.
-#[tactic(auto, using(pt_node::proofs::GoingOn::stays, crate::proofs::Takes::unlinked_takes))]
+#[tactic(auto, using(pt_workers::proofs::GoingOn::stays, crate::proofs::Takes::unlinked_takes))]
 pub fn part(desk: &mut Desk, me: Pid, to: Pid) -> Result<(), Fault>
     ensures does { IfKnown (knows desk.old.shard to)
         (Calls me (unlink_event desk.old.shard me to) tt desk.old.shard result desk.new.shard) desk.old result

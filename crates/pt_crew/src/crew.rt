@@ -21,7 +21,7 @@ use crate::behaviour::{Behaviour, Next};
 use crate::births::{Births, Role};
 use crate::hints::Hints;
 use indexmap::IndexMap;
-use pt_node::{Desk, Event, Fault, Item, Pid, Turned, Work};
+use pt_workers::{Desk, Event, Fault, Item, Pid, Turned, Work};
 use std::alloc::{AllocError, Global};
 use std::collections::VecDeque;
 

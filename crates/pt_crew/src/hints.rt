@@ -5,7 +5,7 @@ ghost use Rattle.indexmap.specs.IndexMap.{IndexMap, get, index_map_len, index_of
 ghost use Rattle.pt_signal.specs.Values.{same_pid};
 
 use indexmap::IndexMap;
-use pt_node::Pid;
+use pt_workers::Pid;
 use std::alloc::{AllocError, Global};
 
 /// For each member of a crew a guess of its place in the map of the members, which saves the hash of its pid.

@@ -1,7 +1,7 @@
 //! Processes that run code: the crew of a desk.
 //!
 //! What a process does with an item of its mailbox is a [`Behaviour`]. A [`Crew`] has the processes of one desk with
-//! their behaviours, and is the desk's [`Work`](pt_node::Work), so `pt_node::run` and `run_single` run it.
+//! their behaviours, and is the desk's [`Work`](pt_workers::Work), so `pt_workers::run` and `run_single` run it.
 //!
 //! # Calls that are answered
 //! Erlang's `gen_server:call`, as a monitor, a request, and the answer or the `DOWN`. A behaviour that asks keeps a

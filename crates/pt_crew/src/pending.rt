@@ -8,7 +8,7 @@ ghost use Rattle.pt_crew.specs.Ending.{Closes, EndsOnce, after_item, heard_by_ca
 
 use crate::calls::{tell, unwatch, watch};
 use crate::request::speaks_of;
-use pt_node::{Body, Desk, Fault, Item, Pid, Reason, Ref};
+use pt_workers::{Body, Desk, Fault, Item, Pid, Reason, Ref};
 
 /// What an item means to a call.
 #[derive(Clone, Copy, Debug, PartialEq, Eq)]

@@ -6,7 +6,7 @@ ghost use Rattle.pt_crew.specs.Visiting.{takes};
 ghost use Rattle.pt_crew.specs.Asking.{TellsServer, answer, request_of, speaks_of};
 
 use crate::calls::tell;
-use pt_node::{Body, Desk, Fault, Item, Pid};
+use pt_workers::{Body, Desk, Fault, Item, Pid};
 
 /// A request that arrived: who asks, under which number, and what.
 #[derive(Clone, Copy, Debug, PartialEq, Eq)]

@@ -1,14 +1,14 @@
 //! The crews of a node, each over the desk at its place.
 
 ghost use Rattle.std.specs.Prelude.{MatchBool};
-ghost use Rattle.pt_node.specs.Running.{begins_by};
-ghost use Rattle.pt_node.specs.declared.work.Standing.TheVariants.{Going};
+ghost use Rattle.pt_workers.specs.Running.{begins_by};
+ghost use Rattle.pt_workers.specs.declared.work.Standing.TheVariants.{Going};
 ghost use Rattle.pt_crew.specs.Running.{AreIdle, RestUpholds, RoundsUphold, RunUpholds};
 
 use crate::behaviour::Behaviour;
 use crate::crew::Crew;
 use crate::upholds::Upheld;
-use pt_node::{Desk, Gate};
+use pt_workers::{Desk, Gate};
 
 /// Whether there are as many crews as desks, and each is idle over the desk at its place: see [`Crew::is_idle`].
 pub fn are_idle<B: Behaviour + Drop>(crews: &[Crew<B>], desks: &[Desk]) -> bool

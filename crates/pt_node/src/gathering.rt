@@ -5,7 +5,7 @@ ghost use Rattle.std.specs.Vec.{vec_capacity};
 ghost use Rattle.pt_carrier.specs.Node.{lists};
 ghost use Rattle.pt_carrier.specs.declared.reunion.Cause.{Cause};
 ghost use Rattle.pt_gathered.specs.Lawful.{LanesKeep, KeepsHeadline, IsLegalNode, AnswersHold};
-ghost use Rattle.pt_node.specs.Desks.{AreDesks, desk_kept};
+ghost use Rattle.pt_workers.specs.Desks.{AreDesks, desk_kept};
 ghost use Rattle.pt_node.specs.Gathering.{Gathers, HasJournalsOf, ReadsAreTrue};
 ghost use Rattle.pt_node.specs.Pasts.{GathersPast};
 

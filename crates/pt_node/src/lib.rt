@@ -57,18 +57,11 @@
 //! - **Gathering.** `gather` returns the node with the journals as they were, or gives all desks back as they were.
 //! - **Resuming.** `resume` continues from a quiet node with empty journals, or gives it back as it was. Pids, versions
 //!   and clocks continue. (`AreResumed`)
-//! - **Running.** `run` and `run_single` return all desks, in order. What happened is the workers' turns, each one step
-//!   of the work and one turn of the desk. (`Running`)
-//! - **No worker stops early.** A worker takes all its turns, or all before the first that its work or its gate did not
-//!   let begin.
 //! - **The node's calls.** Each call of `Node` does what the call of the pid's desk does, and the other desks stay. It
 //!   has no precondition. (`CallsAt`, `CallsTo`)
 //! - **Until still.** `turn_until_still` terminates, and handles no more letters than the load before. (`IsWithinLoad`)
 //! - **Still.** It returns that the node is still exactly if no turn was stopped. Then no letter waits anywhere.
 //!   (`AreStill`)
-//! - **Wake-ups.** `next_woken` names each process that got a signal or exited, in order, once for each event.
-//! - **Taking.** `take_each` takes at most so many matching items, oldest first, passes each on and returns their
-//!   number.
 #![tactic(auto)]
 
 mod gathering;
@@ -77,21 +70,13 @@ mod node;
 mod node_fault;
 mod node_running;
 mod opening;
-mod pairs;
 mod resuming;
-mod run_fault;
-mod running;
 mod seating;
-mod stillness;
-mod taking;
-mod waking;
-mod work;
 
 pub use gathering::{DesksBack, abandon, gather};
 pub use node::{Node, NodeBack};
 pub use node_fault::NodeFault;
 pub use opening::open;
-pub use pairs::{assign, release};
 pub use pt_carrier::Cause;
 pub use pt_desk::{Desk, Turned};
 pub use pt_events::{Event, Journal, Stamped};
@@ -101,10 +86,8 @@ pub use pt_shard::{
     Config, Fault, MAX_DESKS, MAX_LANE, MAX_SLOTS, MAX_STAMP, OpenError, Setting, Stop,
 };
 pub use pt_signal::{Body, Ids, Item, Letter, LinkId, Pick, Pid, Reason, Ref, Signal};
+pub use pt_workers::{
+    FreeGate, Gate, Ran, Rested, RunFault, Standing, Stopped, Takes, Task, Work, assign,
+    next_woken, release, run, run_single, take_each,
+};
 pub use resuming::{Resting, resume};
-pub use run_fault::RunFault;
-pub use running::{FreeGate, Gate, Ran, run, run_single};
-pub use stillness::{Rested, Stopped};
-pub use taking::{Takes, take_each};
-pub use waking::next_woken;
-pub use work::{Standing, Task, Work};

@@ -13,16 +13,16 @@ ghost use Rattle.pt_shard.specs.Calls.{take_event, demonitor_event, held_by, new
 ghost use Rattle.pt_gathered.specs.Lawful.{LanesKeep, KeepsHeadline, IsLegalNode, AnswersHold};
 ghost use Rattle.pt_gathered.specs.Settling.{NothingLeft};
 ghost use Rattle.pt_desk.specs.Reaching.{Reaches, has_link_to_make, has_monitor_to_make};
-ghost use Rattle.pt_node.specs.Desks.{AreDesks, AreDesksOf, desk_kept};
+ghost use Rattle.pt_workers.specs.Desks.{AreDesks, AreDesksOf, desk_kept};
 ghost use Rattle.pt_node.specs.Gathering.{Gathers, HasJournalsOf, ReadsAreTrue};
 ghost use Rattle.pt_node.specs.Pasts.{GathersPast};
-ghost use Rattle.pt_node.specs.NodeRunning.{RunsNode};
-ghost use Rattle.pt_node.specs.Running.{AllWork, InRounds, begins_by};
+ghost use Rattle.pt_workers.specs.NodeRunning.{RunsNode};
+ghost use Rattle.pt_workers.specs.Running.{AllWork, InRounds, begins_by};
 ghost use Rattle.pt_node.specs.Node.{CallsAt, CallsTo, Inside, OpensNode, ReadsAt, TurnsAll, TurnsAt, node_answered};
 ghost use Rattle.pt_node.specs.Node.{both_turned};
 ghost use Rattle.pt_node.specs.Load.{IsWithinLoad};
 ghost use Rattle.pt_node.specs.Resuming.{Resumes};
-ghost use Rattle.pt_node.specs.Stillness.{AllDesksGoOn, AreStill, RunsRounds, StoppedAt, count_events};
+ghost use Rattle.pt_workers.specs.Stillness.{AllDesksGoOn, AreStill, RunsRounds, StoppedAt, count_events};
 
 use crate::gathering::{abandon, gather};
 use crate::making::look;
@@ -30,16 +30,13 @@ use crate::node_fault::NodeFault;
 use crate::node_running::{run_desks, run_desks_single};
 use crate::opening::open;
 use crate::resuming::{Resting, resume};
-use crate::run_fault::RunFault;
-use crate::running::Gate;
-use crate::stillness::{Rested, until_still};
-use crate::work::Task;
 use pt_desk::{Desk, Turned};
 use pt_events::Journal;
 use pt_gathered::{Gathered, Quiet};
 use pt_process::Process;
 use pt_shard::{Config, Fault, OpenError};
 use pt_signal::{Body, Ids, Item, Pick, Pid, Reason, Ref};
+use pt_workers::{Gate, Rested, RunFault, Task, until_still};
 use std::alloc::{AllocError, Global};
 use std::error::Error;
 use std::fmt;
@@ -62,7 +59,7 @@ pub struct Node {
 impl Model for Node {
     ghost use Rattle.std.specs.Prelude.{List};
     ghost use Rattle.pt_desk.specs.DeskState.{DeskState};
-    ghost use Rattle.pt_node.specs.Desks.{AreDesks};
+    ghost use Rattle.pt_workers.specs.Desks.{AreDesks};
 
     ghost Value = { List DeskState };
 

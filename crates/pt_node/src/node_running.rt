@@ -2,15 +2,12 @@
 
 ghost use Rattle.std.specs.Prelude.{◌≤◌, length};
 ghost use Rattle.pt_signal.specs.declared.config.TheConstants.{MAX_DESKS};
-ghost use Rattle.pt_node.specs.Desks.{AreDesks};
-ghost use Rattle.pt_node.specs.NodeRunning.{RunsNode};
-ghost use Rattle.pt_node.specs.Running.{AllWork, InRounds, begins_by};
+ghost use Rattle.pt_workers.specs.Desks.{AreDesks};
+ghost use Rattle.pt_workers.specs.NodeRunning.{RunsNode};
+ghost use Rattle.pt_workers.specs.Running.{AllWork, InRounds, begins_by};
 
-use crate::pairs::{assign, release};
-use crate::run_fault::RunFault;
-use crate::running::{Gate, Ran, run, run_single};
-use crate::work::Task;
 use pt_desk::Desk;
+use pt_workers::{Gate, Ran, RunFault, Task, assign, release, run, run_single};
 use std::alloc::Global;
 use std::thread::Threads;
 

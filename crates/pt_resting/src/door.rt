@@ -10,7 +10,7 @@ ghost use Rattle.pt_resting.specs.Bringing.{BringsFirst, Brings};
 use crate::bells::Bells;
 use crate::resting::Rests;
 use pt_crew::tell;
-use pt_node::{Body, Desk, Fault, Pid, Turned, Work};
+use pt_workers::{Body, Desk, Fault, Pid, Turned, Work};
 use rtrb::{Consumer, Producer, PushError, RingBuffer};
 use std::alloc::{AllocError, Global};
 
@@ -113,7 +113,7 @@ impl<W> Porter<W> {
     }
 
     /// Sends on the first message that waits, and returns whether it was taken out.
-    #[tactic(auto, using(pt_node::proofs::GoingOn::stays))]
+    #[tactic(auto, using(pt_workers::proofs::GoingOn::stays))]
     fn bring_one(&mut self, desk: &mut Desk) -> bool
         ensures brings { BringsFirst self.old.me (received self.old.ring) desk.old result (received self.new.ring)
             (known_items self.new.ring) desk.new }
@@ -137,7 +137,7 @@ impl<W> Porter<W> {
     }
 
     /// Sends on as many as it may in a step, and looks whether more wait.
-    #[tactic(auto, using(pt_node::proofs::GoingOn::stays, pt_desk::proofs::Turning::goes_on_then))]
+    #[tactic(auto, using(pt_workers::proofs::GoingOn::stays, pt_desk::proofs::Turning::goes_on_then))]
     fn bring(&mut self, desk: &mut Desk)
         ensures brings { Brings self.old.me self.old.most (received self.old.ring) desk.old (received self.new.ring)
             (known_items self.new.ring) desk.new }
@@ -164,7 +164,7 @@ impl<W: Work> Work for Porter<W> {
     ghost hears = { λ old d turned new. W.Work.hears old.work d turned new.work × (new.ring ≡ old.ring)
         × (new.me ≡ old.me) × (new.most ≡ old.most) };
 
-    #[tactic(auto, using(pt_node::proofs::GoingOn::stays, pt_desk::proofs::Turning::goes_on_then))]
+    #[tactic(auto, using(pt_workers::proofs::GoingOn::stays, pt_desk::proofs::Turning::goes_on_then))]
     fn step(&mut self, desk: &mut Desk) {
         self.bring(desk);
         self.work.step(desk);

@@ -1,7 +1,7 @@
 //! The gate of workers that rest.
 
 use crate::bells::Bells;
-use pt_node::Gate;
+use pt_workers::Gate;
 use std::sync::Wait;
 use std::time::Duration;
 

@@ -1,6 +1,6 @@
 //! The operations of a process, as calls of its desk.
 
-#![tactic(auto, using(pt_node::proofs::GoingOn::stays))]
+#![tactic(auto, using(pt_workers::proofs::GoingOn::stays))]
 
 ghost use Rattle.std.specs.Prelude.{◌≡◌, ◌≢◌, ℕ, Bool, ◌+◌, ◌<◌, ◌++◌, true, Some, IfSome, vec_len, vec_capacity};
 ghost use Rattle.pt_signal.specs.declared.signal.Signal.{Signal};

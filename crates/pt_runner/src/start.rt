@@ -4,7 +4,7 @@ ghost use Rattle.std.specs.Prelude.{◌≡◌, ◌≤◌, None, IfOk, length, ve
 ghost use Rattle.pt_shard.specs.Calls.{Bears};
 ghost use Rattle.pt_script.specs.Nodes.{config_of};
 ghost use Rattle.pt_desk.specs.DeskState.{GoesOn, IsDesk};
-ghost use Rattle.pt_node.specs.Desks.{AreDesksOf};
+ghost use Rattle.pt_workers.specs.Desks.{AreDesksOf};
 ghost use Rattle.pt_node.specs.Opening.{AreFresh};
 ghost use Rattle.pt_runner.specs.Starting.{Starts, BearsList, AreRunners, IsRunnerOf, numbered_pids};
 

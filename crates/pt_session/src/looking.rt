@@ -5,7 +5,7 @@ ghost use Rattle.std.specs.Option.{option_copied};
 ghost use Rattle.pt_shard.specs.Known.{knows};
 ghost use Rattle.pt_shard.specs.Outbox.{count_pending};
 ghost use Rattle.pt_node.specs.Node.{ReadsAt};
-ghost use Rattle.pt_node.specs.Stillness.{count_events};
+ghost use Rattle.pt_workers.specs.Stillness.{count_events};
 ghost use Rattle.pt_session.specs.Looking as spec;
 
 use crate::answer::Answer;

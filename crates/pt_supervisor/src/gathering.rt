@@ -1,7 +1,7 @@
 //! Supervisors in a node that runs, gets still and is gathered, as the contract of a function that does nothing.
 
-ghost use Rattle.pt_node.specs.Running.{begins_by};
-ghost use Rattle.pt_node.specs.declared.work.Standing.TheVariants.{Going};
+ghost use Rattle.pt_workers.specs.Running.{begins_by};
+ghost use Rattle.pt_workers.specs.declared.work.Standing.TheVariants.{Going};
 ghost use Rattle.pt_crew.specs.Running.{RestUpholds, RoundsUphold, RunUpholds};
 ghost use Rattle.pt_supervisor.specs.Keeping.{Keeps};
 ghost use Rattle.pt_supervisor.specs.Gathering.{GatheredChildrenLive};

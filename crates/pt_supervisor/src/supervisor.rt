@@ -132,7 +132,7 @@ impl<S> Supervisor<S> {
     ///
     /// If a call fails for want of memory or stamps, or the program fails to start a child, it proceeds, and tries
     /// again when it runs next. An item that is neither an exit signal of its parent nor of a child changes nothing.
-    #[tactic(auto, using(pt_node::proofs::GoingOn::stays, pt_desk::proofs::Turning::goes_on_then))]
+    #[tactic(auto, using(pt_workers::proofs::GoingOn::stays, pt_desk::proofs::Turning::goes_on_then))]
     pub fn handle<B: Drop>(
         &mut self,
         desk: &mut Desk,
@@ -162,7 +162,7 @@ impl<S> Supervisor<S> {
     }
 
     /// Takes in an exit, or begins to trap exits. Returns whether no call failed.
-    #[tactic(auto, using(pt_node::proofs::GoingOn::stays))]
+    #[tactic(auto, using(pt_workers::proofs::GoingOn::stays))]
     fn attend(&mut self, desk: &mut Desk, me: Pid, item: Option<Item>) -> bool
         ensures does { SupervisorAttends me item (standing self.old) desk.old result (standing self.new) desk.new }
         ensures permanent { PermanentAreWanted (standing self.old).children
@@ -234,7 +234,7 @@ impl<S> Supervisor<S> {
     }
 
     /// Ends the last of the children that are to end. If none is left, it exits, or starts the missing children.
-    #[tactic(auto, using(pt_node::proofs::GoingOn::stays))]
+    #[tactic(auto, using(pt_workers::proofs::GoingOn::stays))]
     fn advance<B: Drop>(&mut self, desk: &mut Desk, births: &mut Births<B>, me: Pid) -> Next
     where
         S: Start<B>,
