@@ -2,7 +2,7 @@
 
 ghost use Rattle.pt_session.specs.Acting.{DoesAct};
 
-use crate::answer::Answer;
+use pt_answers::Answer;
 use pt_lines::Act;
 use pt_node::Node;
 

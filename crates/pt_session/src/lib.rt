@@ -20,21 +20,18 @@
 #![tactic(auto)]
 
 mod acting;
-mod answer;
 mod complaint;
 mod expecting;
 mod looking;
 mod looking_back;
-mod parts;
 mod phase;
 mod running;
 mod session;
 mod stepping;
 mod telling;
-mod text;
 
-pub use answer::Answer;
 pub use complaint::{Complaint, State};
 pub use phase::Phase;
+pub use pt_answers::Answer;
 pub use running::{Fault, PROMPT, run};
 pub use session::{Heard, Session, answer_of, begin, hear, is_comparing, next_line};

@@ -8,7 +8,7 @@ ghost use Rattle.pt_node.specs.Node.{ReadsAt};
 ghost use Rattle.pt_workers.specs.Stillness.{count_events};
 ghost use Rattle.pt_session.specs.Looking as spec;
 
-use crate::answer::Answer;
+use pt_answers::Answer;
 use pt_events::Stamped;
 use pt_lines::Look;
 use pt_node::Node;

@@ -3,7 +3,7 @@
 ghost use Rattle.std.specs.Prelude.{◌≡◌, ◌++◌, codes, IfOk, OnOk, string_bytes};
 ghost use Rattle.pt_signal.specs.Text as signal_text;
 ghost use Rattle.pt_events.specs.Text.{stamped_text};
-ghost use Rattle.pt_session.specs.Text as spec;
+ghost use Rattle.pt_answers.specs.Text as spec;
 
 use crate::answer::Answer;
 use crate::parts::{Contradiction, Count, Counts, Then, ThenAt, Turns, word_of_stop};
@@ -19,7 +19,7 @@ use pt_signal::{Ids, Item, Pid, Reason, Ref};
 use std::alloc::{AllocError, Global};
 
 /// The lines of an answer.
-pub(crate) fn text_of(alloc: Global, answer: &Answer) -> Result<String, AllocError>
+pub fn text_of(alloc: Global, answer: &Answer) -> Result<String, AllocError>
     ensures { IfOk result (λ s. string_bytes s ≡ spec.answer_text answer.now) }
 {
     match answer {
@@ -53,7 +53,7 @@ pub(crate) fn text_of(alloc: Global, answer: &Answer) -> Result<String, AllocErr
 }
 
 /// The text of `help`: a line for each call, then what else a line may be.
-pub(crate) fn help_text(alloc: Global) -> Result<String, AllocError> {
+pub fn help_text(alloc: Global) -> Result<String, AllocError> {
     let mut text = String::new(alloc);
     for place in 0..CALLS.len() {
         text.push_str(CALLS[place].name)?;
