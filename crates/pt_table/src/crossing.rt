@@ -1,4 +1,4 @@
-//! The table's values as what crosses, and the other way round.
+//! The table's values as the structs that cross, and the other way round.
 
 ghost use Rattle.std.specs.Prelude.{◌≡◌, true};
 ghost use Rattle.pt_events.specs.declared.event.Event.TheVariants.{Born};
@@ -459,7 +459,7 @@ fn no_signal() -> PtSignal
     }
 }
 
-/// An event of which nothing but its stamp and its desk is told.
+/// An event with its stamp and its desk only.
 fn blank(stamp: u64, desk: u8) -> PtEvent
     ensures { result ≡ blank stamp desk }
 {
