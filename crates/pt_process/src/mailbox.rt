@@ -1,6 +1,6 @@
 //! The items that wait for a receive.
 
-ghost use Rattle.std.specs.Prelude.{◌≡◌, ◌+◌, ◌-◌, ◌*◌, ◌<◌, ◌≤◌, ◌++◌, ◌∷◌, [], take, drop, length, slice_get, Some};
+ghost use Rattle.std.specs.Prelude.{◌≡◌, ◌+◌, ◌-◌, ◌*◌, ◌<◌, ◌≤◌, ◌++◌, ◌∷◌, [], take, drop, length, slice_get, true, Some};
 ghost use Rattle.std.specs.Prelude.{OnOk, OnErr};
 ghost use Rattle.std.specs.List.{position, remove};
 ghost use Rattle.pt_signal.specs.Values.{fits};
@@ -66,7 +66,26 @@ impl Mailbox {
         Ok(())
     }
 
+    /// Whether it is seen at once that the oldest item fits: most takes are of the oldest, and `position` is a call.
+    ///
+    /// It looks for any item, for a kind and for a sender alone. Where it says no, the oldest may fit all the same.
+    #[inline(always)]
+    pub fn head_fits(&self, pick: Pick) -> bool
+        ensures { result ≡ true → position (fits pick) self.now ≡ Some 0 }
+    {
+        let Some(oldest) = self.as_slice().first() else {
+            return false;
+        };
+        match pick {
+            Pick::Any => true,
+            Pick::Kind(kind) => is_of_kind(oldest, kind),
+            Pick::From(from) => is_from(oldest, from),
+            _ => false,
+        }
+    }
+
     /// The place of the first item that fits.
+    #[inline(never)]
     pub fn position(&self, pick: Pick) -> Option<usize>
         ensures { result ≡ position (fits pick) self.now }
     {
