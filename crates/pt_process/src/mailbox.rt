@@ -1,7 +1,7 @@
 //! The items that wait for a receive.
 
-ghost use Rattle.std.specs.Prelude.{◌≡◌, ◌+◌, ◌-◌, ◌*◌, ◌<◌, ◌≤◌, ◌++◌, ◌∷◌, [], take, drop, length, slice_get, true, Some};
-ghost use Rattle.std.specs.Prelude.{OnOk, OnErr};
+ghost use Rattle.std.specs.Prelude.{◌≡◌, ◌+◌, ◌-◌, ◌*◌, ◌<◌, ◌≤◌, ◌++◌, ◌∷◌, [], take, drop, length, slice_get, Some};
+ghost use Rattle.std.specs.Prelude.{OnOk, OnErr, true};
 ghost use Rattle.std.specs.List.{position, remove};
 ghost use Rattle.pt_signal.specs.Values.{fits};
 ghost use Rattle.pt_process.specs.Places.{IsFirst};
