@@ -11,14 +11,14 @@ use Rattle.pt_desk.proofs.desk.Desk.link.Goals as goal
 
 pub invariant_of-self : goal.invariant_of-self
 invariant_of-self c =
-    let i = c.self-2.inside in
+    let i = c.self.inside in
     let s = i.shard in
-    step_whole s c.make_link.new.self i.outs i.ins (sight_of (arc_value i.directory) i.seat i.before) i.seat
-    (calls_step c.args.p (link_event s c.args.p c.args.to) tt s c.make_link.result c.make_link.new.self (own_link s c.args.p c.args.to) c.make_link.ensures.does) c.self-2.invariant c.make_link.ensures.fit
+    step_whole s c.link.new.self i.outs i.ins (sight_of (arc_value i.directory) i.seat i.before) i.seat
+    (calls_step c.args.p (link_event s c.args.p c.args.to) tt s c.link.result c.link.new.self (own_link s c.args.p c.args.to) c.link.ensures.does) c.self.invariant c.link.ensures.fit
 
 pub returns-clause-goes_on : goal.returns-clause-goes_on
 returns-clause-goes_on c =
-    let i = c.self-2.inside in
-    let new = of_parts c.make_link.new.self i.outs i.ins (sight_of (arc_value i.directory) i.seat i.before) in
-    goes_on_then c.args.self.now c.look.new.self new c.in_ok-look.ensures.goes_on
-    (subst (λ d. GoesOn d new) c.self-2.view_is (shard_goes_on i.shard c.make_link.new.self i.outs i.ins (sight_of (arc_value i.directory) i.seat i.before) c.make_link.ensures.extends))
+    let i = c.self.inside in
+    let new = of_parts c.link.new.self i.outs i.ins (sight_of (arc_value i.directory) i.seat i.before) in
+    goes_on_then c.args.self.now c.reach.new.self new c.in_ok-reach.ensures.goes_on
+    (subst (λ d. GoesOn d new) c.self.view_is (shard_goes_on i.shard c.link.new.self i.outs i.ins (sight_of (arc_value i.directory) i.seat i.before) c.link.ensures.extends))
