@@ -6,6 +6,7 @@ pub mod Reading
 pub mod Room
 pub mod Bearing
 pub mod Newborn
+pub mod Telling
 pub mod Takes
 pub mod Visiting
 pub mod Handing

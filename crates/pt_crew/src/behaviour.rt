@@ -36,8 +36,8 @@ pub trait Behaviour {
     /// Sees to one item, which was taken out of the mailbox of `me`, or to none where `me` was to proceed. It takes no
     /// other item out of a mailbox.
     ///
-    /// The calls of a desk in the form of [`tell`](crate::tell), [`watch`](crate::watch) and their like keep what is
-    /// asked here. The children that it bears ([`bear`](crate::bear)) enter the crew as the step ends.
+    /// The calls of a desk in the form of [`send`](crate::send), [`monitor`](crate::monitor) and their like keep what is
+    /// asked here. The children that it bears ([`spawn_child`](crate::spawn_child)) enter the crew as the step ends.
     fn handle(
         &mut self,
         desk: &mut Desk,

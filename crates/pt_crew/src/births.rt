@@ -1,4 +1,4 @@
-//! The children that behaviours bear.
+//! The children of behaviours.
 
 ghost use Rattle.std.specs.Prelude.{◌≡◌, [], ◌∷◌, length, MatchOption};
 ghost use Rattle.pt_desk.specs.DeskState.{GoesOn};
@@ -67,7 +67,7 @@ impl<B: Drop> Births<B> {
 /// The child enters the crew as the step ends. It is refused as [`Desk::spawn_child`] is, and for want of memory here;
 /// nothing has changed then.
 #[tactic(auto, using(crate::proofs::Bearing::bearing))]
-pub fn bear<B: Drop>(
+pub fn spawn_child<B: Drop>(
     desk: &mut Desk,
     births: &mut Births<B>,
     me: Pid,

@@ -1,7 +1,9 @@
 //! The calls of a desk for a behaviour: they ask nothing of their caller, and each is answered.
 //!
-//! A target that the desk does not know is answered as one that it sees to have ended. None of them takes an item out
-//! of a mailbox, so a behaviour that makes no other calls is what [`Behaviour`](crate::Behaviour) asks of it.
+//! A target that the desk does not know is refused as `Unknown`, as a [`Node`](pt_node::Node) refuses it. None of them
+//! takes an item out of a mailbox, so a behaviour that makes no other calls is what [`Behaviour`](crate::Behaviour) asks
+//! of it.
+#![tactic(auto, using(crate::proofs::Takes::calling))]
 
 ghost use Rattle.std.specs.Prelude.{◌≡◌, Some, false, is_some};
 ghost use Rattle.pt_signal.specs.declared.signal.Signal.{Signal};
@@ -11,109 +13,104 @@ ghost use Rattle.pt_shard.specs.ShardState.{lives, state_in};
 ghost use Rattle.pt_shard.specs.Calls.{Calls, Monitors, demonitor_event, link_event, unlink_event};
 ghost use Rattle.pt_desk.specs.DeskState.{GoesOn};
 ghost use Rattle.pt_desk.specs.Reaching.{Reaches, has_link_to_make, has_monitor_to_make};
+ghost use Rattle.pt_node.specs.Node.{node_answered};
 ghost use Rattle.pt_crew.specs.Telling.{IfKnown};
 ghost use Rattle.pt_crew.specs.Visiting.{takes};
 
-use pt_node::{Body, Desk, Fault, Pid, Reason, Ref};
+use pt_node::{Body, Desk, Fault, NodeFault, Pid, Reason, Ref};
 
 /// Sends a message (`!`).
 ///
-/// `NoProc` where the desk does not know the target, and nothing has changed then; else it is refused as
-/// [`Desk::send`] is.
+/// It is refused as `Unknown` if the desk does not know the target, and nothing has changed then;
+/// else as [`Desk::send`] is.
 #[inline(always)]
-#[tactic(auto, using(pt_node::proofs::GoingOn::stays, crate::proofs::Takes::sent_takes))]
-pub fn tell(desk: &mut Desk, me: Pid, to: Pid, body: Body) -> Result<(), Fault>
+pub fn send(desk: &mut Desk, me: Pid, to: Pid, body: Body) -> Result<(), NodeFault>
     ensures does { IfKnown (knows desk.old.shard to)
-        (Reaches (lives desk.old.shard me) me to
-        (Calls me (Some (Event.Said me to (Signal.Message body))) tt desk.old.shard result desk.new.shard) desk.old
-        result desk.new) desk.old result desk.new }
+        (λ r. Reaches (lives desk.old.shard me) me to
+        (Calls me (Some (Event.Said me to (Signal.Message body))) tt desk.old.shard r desk.new.shard) desk.old r
+        desk.new) desk.old result desk.new }
     ensures takes { takes desk.new.shard.journal ≡ takes desk.old.shard.journal }
     ensures goes_on { GoesOn desk.old desk.new }
 {
     if !desk.knows(to) {
-        return Err(Fault::NoProc);
+        return Err(NodeFault::Unknown);
     }
-    desk.send(me, to, body)
+    answered(desk.send(me, to, body))
 }
 
 /// Watches a process for its end (`monitor`).
 ///
-/// `NoProc` where the desk does not know the target, and nothing has changed then; else it is refused as
-/// [`Desk::monitor`] is.
-#[tactic(auto, using(pt_node::proofs::GoingOn::stays, crate::proofs::Takes::watched_takes))]
-pub fn watch(desk: &mut Desk, me: Pid, to: Pid) -> Result<Ref, Fault>
+/// It is refused as `Unknown` if the desk does not know the target, and nothing has changed then;
+/// else as [`Desk::monitor`] is.
+pub fn monitor(desk: &mut Desk, me: Pid, to: Pid) -> Result<Ref, NodeFault>
     ensures does { IfKnown (knows desk.old.shard to)
-        (Reaches (has_monitor_to_make desk.old.shard me to) me to
-        (Monitors me to desk.old.shard result desk.new.shard) desk.old result desk.new) desk.old result desk.new }
+        (λ r. Reaches (has_monitor_to_make desk.old.shard me to) me to
+        (Monitors me to desk.old.shard r desk.new.shard) desk.old r desk.new) desk.old result desk.new }
     ensures takes { takes desk.new.shard.journal ≡ takes desk.old.shard.journal }
     ensures goes_on { GoesOn desk.old desk.new }
 {
     if !desk.knows(to) {
-        return Err(Fault::NoProc);
+        return Err(NodeFault::Unknown);
     }
-    desk.monitor(me, to)
+    answered(desk.monitor(me, to))
 }
 
 /// Links itself with a process (`link`).
 ///
-/// `NoProc` where the desk does not know the target, and nothing has changed then; else it is refused as
-/// [`Desk::link`] is.
-#[tactic(auto, using(pt_node::proofs::GoingOn::stays, crate::proofs::Takes::linked_takes))]
-pub fn join(desk: &mut Desk, me: Pid, to: Pid) -> Result<(), Fault>
+/// It is refused as `Unknown` if the desk does not know the target, and nothing has changed then;
+/// else as [`Desk::link`] is.
+pub fn link(desk: &mut Desk, me: Pid, to: Pid) -> Result<(), NodeFault>
     ensures does { IfKnown (knows desk.old.shard to)
-        (Reaches (has_link_to_make desk.old.shard me to) me to
-        (Calls me (link_event desk.old.shard me to) tt desk.old.shard result desk.new.shard) desk.old result desk.new)
-        desk.old result desk.new }
-    ensures takes { takes desk.new.shard.journal ≡ takes desk.old.shard.journal }
-    ensures goes_on { GoesOn desk.old desk.new }
-{
-    if !desk.knows(to) {
-        return Err(Fault::NoProc);
-    }
-    desk.link(me, to)
-}
-
-/// Sends an exit signal (`exit/2`).
-///
-/// `NoProc` where the desk does not know the target, and nothing has changed then; else it is refused as
-/// [`Desk::exit_signal`] is.
-#[tactic(auto, using(pt_node::proofs::GoingOn::stays, crate::proofs::Takes::said_takes))]
-pub fn bid_exit(desk: &mut Desk, me: Pid, to: Pid, reason: Reason) -> Result<(), Fault>
-    ensures does { IfKnown (knows desk.old.shard to)
-        (Calls me (Some (Event.Said me to (Signal.Exit reason))) tt desk.old.shard result desk.new.shard) desk.old
+        (λ r. Reaches (has_link_to_make desk.old.shard me to) me to
+        (Calls me (link_event desk.old.shard me to) tt desk.old.shard r desk.new.shard) desk.old r desk.new) desk.old
         result desk.new }
     ensures takes { takes desk.new.shard.journal ≡ takes desk.old.shard.journal }
     ensures goes_on { GoesOn desk.old desk.new }
 {
     if !desk.knows(to) {
-        return Err(Fault::NoProc);
+        return Err(NodeFault::Unknown);
     }
-    desk.exit_signal(me, to, reason)
+    answered(desk.link(me, to))
+}
+
+/// Sends an exit signal (`exit/2`).
+///
+/// It is refused as `Unknown` if the desk does not know the target, and nothing has changed then;
+/// else as [`Desk::exit_signal`] is.
+pub fn exit_signal(desk: &mut Desk, me: Pid, to: Pid, reason: Reason) -> Result<(), NodeFault>
+    ensures does { IfKnown (knows desk.old.shard to)
+        (λ r. Calls me (Some (Event.Said me to (Signal.Exit reason))) tt desk.old.shard r desk.new.shard) desk.old
+        result desk.new }
+    ensures takes { takes desk.new.shard.journal ≡ takes desk.old.shard.journal }
+    ensures goes_on { GoesOn desk.old desk.new }
+{
+    if !desk.knows(to) {
+        return Err(NodeFault::Unknown);
+    }
+    answered(desk.exit_signal(me, to, reason))
 }
 
 /// Takes its link with a process away (`unlink`).
 ///
-/// `NoProc` where the desk does not know the target, and nothing has changed then; else it is refused as
-/// [`Desk::unlink`] is.
-#[tactic(auto, using(pt_node::proofs::GoingOn::stays, crate::proofs::Takes::unlinked_takes))]
-pub fn part(desk: &mut Desk, me: Pid, to: Pid) -> Result<(), Fault>
+/// It is refused as `Unknown` if the desk does not know the target, and nothing has changed then;
+/// else as [`Desk::unlink`] is.
+pub fn unlink(desk: &mut Desk, me: Pid, to: Pid) -> Result<(), NodeFault>
     ensures does { IfKnown (knows desk.old.shard to)
-        (Calls me (unlink_event desk.old.shard me to) tt desk.old.shard result desk.new.shard) desk.old result
+        (λ r. Calls me (unlink_event desk.old.shard me to) tt desk.old.shard r desk.new.shard) desk.old result
         desk.new }
     ensures takes { takes desk.new.shard.journal ≡ takes desk.old.shard.journal }
     ensures goes_on { GoesOn desk.old desk.new }
 {
     if !desk.knows(to) {
-        return Err(Fault::NoProc);
+        return Err(NodeFault::Unknown);
     }
-    desk.unlink(me, to)
+    answered(desk.unlink(me, to))
 }
 
 /// Gives a monitor up, and leaves a `DOWN` that has come where it is (`demonitor`).
 ///
 /// It answers whether the monitor was open. It is refused as [`Desk::demonitor`] is.
-#[tactic(auto, using(crate::proofs::Takes::unwatched_takes))]
-pub fn unwatch(desk: &mut Desk, me: Pid, monitor: Ref) -> Result<bool, Fault>
+pub fn demonitor(desk: &mut Desk, me: Pid, monitor: Ref) -> Result<bool, Fault>
     ensures does { Calls me (demonitor_event desk.old.shard me monitor false)
         (is_some (demonitor_event desk.old.shard me monitor false)) desk.old.shard result desk.new.shard }
     ensures takes { takes desk.new.shard.journal ≡ takes desk.old.shard.journal }
@@ -125,7 +122,6 @@ pub fn unwatch(desk: &mut Desk, me: Pid, monitor: Ref) -> Result<bool, Fault>
 /// Sets whether it traps exits, and answers whether it did (`process_flag(trap_exit, _)`).
 ///
 /// It is refused as [`Desk::trap`] is.
-#[tactic(auto, using(crate::proofs::Takes::flag_takes))]
 pub fn trap(desk: &mut Desk, me: Pid, on: bool) -> Result<bool, Fault>
     ensures does { Calls me (Some (Event.Flag me on)) (state_in desk.old.shard me).traps desk.old.shard result
         desk.new.shard }
@@ -133,4 +129,14 @@ pub fn trap(desk: &mut Desk, me: Pid, on: bool) -> Result<bool, Fault>
     ensures goes_on { GoesOn desk.old desk.new }
 {
     desk.trap(me, on)
+}
+
+/// The answer of the desk to a call whose target it knows.
+fn answered<A>(answer: Result<A, Fault>) -> Result<A, NodeFault>
+    ensures { result ≡ node_answered answer }
+{
+    match answer {
+        Ok(value) => Ok(value),
+        Err(fault) => Err(NodeFault::Refused(fault)),
+    }
 }

@@ -46,8 +46,8 @@ mod running;
 mod upholds;
 
 pub use behaviour::{Behaviour, Next};
-pub use births::{Births, Role, bear};
-pub use calls::{bid_exit, join, part, tell, trap, unwatch, watch};
+pub use births::{Births, Role, spawn_child};
+pub use calls::{demonitor, exit_signal, link, monitor, send, trap, unlink};
 pub use crew::Crew;
 pub use pending::{Heard, Pending, calls_end_once};
 pub use request::{Request, reply, request_of};

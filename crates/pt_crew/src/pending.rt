@@ -6,9 +6,9 @@ ghost use Rattle.pt_crew.specs.Visiting.{takes};
 ghost use Rattle.pt_crew.specs.Asking.{Asks, refusal};
 ghost use Rattle.pt_crew.specs.Ending.{Closes, EndsOnce, after_item, heard_by_call, is_answer_to_call, says_to_call};
 
-use crate::calls::{tell, unwatch, watch};
+use crate::calls::{demonitor, monitor, send};
 use crate::request::speaks_of;
-use pt_node::{Body, Desk, Fault, Item, Pid, Reason, Ref};
+use pt_node::{Body, Desk, Fault, Item, NodeFault, Pid, Reason, Ref};
 
 /// What an item is to a call.
 #[derive(Clone, Copy, Debug, PartialEq, Eq)]
@@ -39,31 +39,31 @@ pub struct Pending {
 impl Pending {
     /// Asks a server: makes a monitor, and sends the request under its number (`gen_server:call` up to its `receive`).
     ///
-    /// Refused as [`watch`] is, and nothing is asked then: as `NoProc` where the desk does not know the server, or sees
-    /// that it has ended, as `Myself`, `Gone`, `Worn` or `Memory`. Refused as `Worn` or `Memory` too where the request
-    /// could not be sent; the monitor is given up then, and where that is refused as well its `DOWN` may come, which
-    /// belongs to no call. Where the server is seen to have ended only as the request is sent, the call is made, and
-    /// ends by the `DOWN`.
-    pub fn ask(desk: &mut Desk, me: Pid, server: Pid, asks: u32) -> Result<Pending, Fault>
+    /// Refused as [`monitor`] is, and nothing is asked then: as `Unknown` where the desk does not know the server, as
+    /// `NoProc` where it sees that the server has ended, as `Myself`, `Gone`, `Worn` or `Memory`. Refused as `Worn` or
+    /// `Memory` too where the request could not be sent; the monitor is given up then, and where that is refused as well
+    /// its `DOWN` may come, which belongs to no call. Where the server is seen to have ended only as the request is
+    /// sent, the call is made, and ends by the `DOWN`.
+    pub fn ask(desk: &mut Desk, me: Pid, server: Pid, asks: u32) -> Result<Pending, NodeFault>
         ensures does { Asks me server asks desk.old result desk.new }
         ensures takes { takes desk.new.shard.journal ≡ takes desk.old.shard.journal }
         ensures goes_on { GoesOn desk.old desk.new }
     {
-        let monitor = watch(desk, me, server)?;
-        let number = number_of(monitor);
+        let reference = monitor(desk, me, server)?;
+        let number = number_of(reference);
         let body = Body {
             kind: asks,
             num: number,
             who: Some(me),
         };
-        if let Some(fault) = refusal(tell(desk, me, server, body)) {
-            let _ = unwatch(desk, me, monitor);
+        if let Some(fault) = refusal(send(desk, me, server, body)) {
+            let _ = demonitor(desk, me, reference);
             return Err(fault);
         }
         Ok(Pending {
             client: me,
             server,
-            monitor,
+            monitor: reference,
             number,
             waits: true,
         })
@@ -94,7 +94,7 @@ impl Pending {
             return Heard::Late;
         }
         self.waits = false;
-        let _ = unwatch(desk, self.client, self.monitor);
+        let _ = demonitor(desk, self.client, self.monitor);
         said
     }
 
@@ -130,12 +130,12 @@ fn number_of(monitor: Ref) -> i64
 }
 
 /// The fault for which a request was not sent. A server that is seen to have ended is none: its `DOWN` comes.
-fn refusal(told: Result<(), Fault>) -> Option<Fault>
+fn refusal(told: Result<(), NodeFault>) -> Option<NodeFault>
     ensures { result ≡ refusal told }
 {
     match told {
         Ok(()) => None,
-        Err(Fault::NoProc) => None,
+        Err(NodeFault::Refused(Fault::NoProc)) => None,
         Err(fault) => Some(fault),
     }
 }

@@ -9,7 +9,7 @@ ghost use Rattle.pt_resting.specs.Bringing.{BringsFirst, Brings};
 
 use crate::bells::Bells;
 use crate::resting::Rests;
-use pt_crew::tell;
+use pt_crew::send;
 use pt_node::{Body, Desk, Fault, Pid, Turned, Work};
 use rtrb::{Consumer, Producer, PushError, RingBuffer};
 use std::alloc::{AllocError, Global};
@@ -127,8 +127,8 @@ impl<W> Porter<W> {
             return false;
         }
         let post = *self.ring.peek_known();
-        match tell(desk, self.me, post.to, post.body) {
-            Ok(()) | Err(Fault::NoProc) => {
+        match send(desk, self.me, post.to, post.body) {
+            Ok(()) | Err(NodeFault::Unknown) | Err(NodeFault::Refused(Fault::NoProc)) => {
                 let _ = self.ring.pop_known();
                 true
             }

@@ -9,7 +9,7 @@ ghost use Rattle.pt_crew.specs.declared.behaviour.Next.{Next};
 use crate::children::{Child, is_process, last_alive, place_of};
 use crate::limit::Limit;
 use crate::restart::{Restart, Strategy};
-use pt_crew::{Births, Next, bear, bid_exit, trap};
+use pt_crew::{Births, Next, exit_signal, spawn_child, trap};
 use pt_node::{Desk, Fault, Item, Pick, Pid, Reason};
 
 /// What the children of a supervisor do.
@@ -250,7 +250,7 @@ impl<S> Supervisor<S> {
         ensures goes_on { GoesOn desk.old desk.new }
     {
         if let Some((pid, reason)) = last_alive(self.children.as_slice(), self.ending) {
-            return match bid_exit(desk, me, pid, reason) {
+            return match exit_signal(desk, me, pid, reason) {
                 Ok(()) => Next::Wait(Pick::ExitOf(pid)),
                 Err(_) => Next::Proceed,
             };
@@ -350,7 +350,7 @@ impl<S> Supervisor<S> {
         let Ok((behaviour, first)) = self.start.start(me, place) else {
             return false;
         };
-        let Ok(pid) = bear(desk, births, me, true, behaviour, first) else {
+        let Ok(pid) = spawn_child(desk, births, me, true, behaviour, first) else {
             return false;
         };
         self.children[place] = Child {
