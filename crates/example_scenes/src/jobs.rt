@@ -15,7 +15,10 @@ ghost use Rattle.pt_supervisor.specs.Supervising.{PermanentLive, StaysWanted};
 use crate::stage;
 use crate::stage::{DESKS, Stage, first_of};
 use anyhow::Result;
-use pt_crew::{Behaviour, Births, Heard, Next, Pending, Request, calls_end_once, demonitor, monitor, reply, request_of};
+use pt_crew::{
+    Behaviour, Births, Heard, Next, Pending, Request, calls_end_once, demonitor, monitor, reply,
+    request_of,
+};
 use pt_node::{Desk, Fault, Item, Pick, Pid, Reason, Ref};
 use pt_supervisor::{Child, Limit, Restart, Start, Strategy, Supervisor, permanent_children_live};
 use std::alloc::{AllocError, Global};

@@ -17,6 +17,7 @@ use Rattle.pt_crew.specs.declared.behaviour.Next.{Next}
 use Rattle.pt_crew.specs.declared.behaviour.Next.TheVariants.{Wait, Proceed, Stop}
 use Rattle.pt_crew.specs.declared.births.Role.{Role}
 use Rattle.pt_crew.specs.Births.{Bore}
+use Rattle.pt_node.specs.declared.node_fault.NodeFault.{NodeFault}
 use Rattle.pt_crew.specs.Telling.{IfKnown}
 use Rattle.pt_supervisor.specs.declared.children.Child.{Child}
 use Rattle.pt_supervisor.specs.declared.restart.Restart.{Restart}
@@ -108,16 +109,16 @@ nursery s = record {
 }
 
 -- it waits for the end of one whom it has told to end, and tries again where that was refused
-abbrev pub after_bid : Pid → Result (Unit {0}) Fault → Next
+abbrev pub after_bid : Pid → Result (Unit {0}) NodeFault → Next
 after_bid p (Ok done) = Wait (Pick.ExitOf p)
 after_bid p (Err f) = Proceed
 
 -- it tells one to end, by an exit signal
 pub record Bids {S B : Type 0} (me p : Pid) (reason : Reason) (old : SupervisorScene S B) (next : Next) (new : SupervisorScene S B)
     : Type 0 where
-  pub result : Result (Unit {0}) Fault
+  pub result : Result (Unit {0}) NodeFault
   pub signal : IfKnown (knows old.desk.shard p)
-      (Calls me (Some (Said me p (Signal.Exit reason))) (tt {0}) old.desk.shard result new.desk.shard) old.desk result
+      (λ r. Calls me (Some (Said me p (Signal.Exit reason))) (tt {0}) old.desk.shard r new.desk.shard) old.desk result
       new.desk
   pub next_is : next ≡ after_bid p result
   pub same : (new.start ≡ old.start) × (new.standing ≡ old.standing) × (new.born ≡ old.born)
