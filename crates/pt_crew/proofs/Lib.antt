@@ -9,6 +9,7 @@ pub mod Newborn
 pub mod Telling
 pub mod Takes
 pub mod Visiting
+pub mod Serving
 pub mod Handing
 pub mod Admitting
 pub mod Upholding

@@ -348,11 +348,11 @@ module _ {B : Type 0} (answers : Answers B) (stands : Relation B) (k : IsUpheld 
       out_now : (o : Option (B × Next)) (t : Tended)
           → ((role : B × Next) → o ≡ Some role → t ≡ Ended → (new.roles p ≡ None) × (is_unborn (phase_of new.desk p) ≡ false) × stands role.0 role.1 p new.desk)
           → AreGone new.roles (left_as p o t) new.desk
-      out_now None t out = tt
-      out_now (Some role) Idle out = tt
-      out_now (Some role) Again out = tt
-      out_now (Some role) Done out = tt
-      out_now (Some role) Denied out = tt
+      out_now o Idle out = tt
+      out_now o Again out = tt
+      out_now o Done out = tt
+      out_now o Denied out = tt
+      out_now None Ended out = tt
       out_now (Some role) Ended out = (out role refl refl, tt)
 
   visits_uphold : (ps : List Pid) (old new : Scene B) → Visits answers ps old new → Fine old → Fine new

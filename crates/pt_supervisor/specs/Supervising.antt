@@ -16,14 +16,16 @@ use Rattle.pt_desk.specs.DeskState.{DeskState}
 use Rattle.pt_crew.specs.declared.behaviour.Next.{Next}
 use Rattle.pt_crew.specs.declared.behaviour.Next.TheVariants.{Wait, Proceed, Stop}
 use Rattle.pt_crew.specs.declared.births.Role.{Role}
-use Rattle.pt_crew.specs.Births.{Bore}
+use Rattle.pt_crew.specs.declared.births.Births.{Births}
+use Rattle.pt_crew.specs.Births.{Bore, born}
 use Rattle.pt_node.specs.declared.node_fault.NodeFault.{NodeFault}
 use Rattle.pt_crew.specs.Telling.{IfKnown}
 use Rattle.pt_supervisor.specs.declared.children.Child.{Child}
 use Rattle.pt_supervisor.specs.declared.restart.Restart.{Restart}
 use Rattle.pt_supervisor.specs.Children.{AreStarted, NoneLives, PermanentAreWanted}
 use Rattle.pt_supervisor.specs.Children.{is_missing, last_alive}
-use Rattle.pt_supervisor.specs.Hearing.{Standing, heard}
+use Rattle.pt_supervisor.specs.declared.supervisor.Supervisor.{Supervisor}
+use Rattle.pt_supervisor.specs.Hearing.{Standing, heard, program_of, standing}
 
 -- the program's `Start`: it before, the supervisor, the place, what it answers, and it afterwards
 abbrev pub StartsOf : Type 0 → Type 0 → Type 1
@@ -98,6 +100,9 @@ pub record SupervisorScene (S B : Type 0) : Type 0 where
   pub standing : Standing
   pub desk : DeskState
   pub born : List (Role B)
+
+abbrev pub supervisor_scene : {S B : Type 0} → Supervisor S → DeskState → Births B → SupervisorScene S B
+supervisor_scene s d births = record { start = program_of s; standing = standing s; desk = d; born = born births }
 
 abbrev pub nursery : {S B : Type 0} → SupervisorScene S B → Nursery S B
 nursery s = record {
