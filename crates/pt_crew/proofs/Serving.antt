@@ -15,21 +15,21 @@ use Rattle.pt_crew.specs.declared.crew.Member.{Member}
 use Rattle.pt_crew.specs.declared.crew.Crew.{Crew}
 use Rattle.pt_crew.specs.declared.crew.Tended.{Tended}
 use Rattle.pt_crew.specs.declared.crew.Tended.TheVariants.{Idle, Again, Done, Refused, Gone}
-use Rattle.pt_crew.specs.Visiting.{Answers, BearsChildren, SeesTo, again_as, goes_behind, has_ended, is_refused, leaver, left_as}
+use Rattle.pt_crew.specs.Visiting.{Answers, BearsChildren, SeesTo, again_as, goes_behind, leaves_crew, is_refused, leaver, left_as}
 use Rattle.pt_crew.specs.Crews.{HasRoom, KnowsDesk, members, queue, role, roles, left, waiting, unmarked}
 use Rattle.pt_crew.specs.Births.{bore}
 use Rattle.pt_crew.specs.Waking.{IsQueue, Knows, Members, has_work}
-use Rattle.pt_crew.specs.Parts.{MemberTends, Puts, Serves, kept_as}
+use Rattle.pt_crew.specs.Parts.{MemberTends, PutsMember, Serves, kept_as}
 use Rattle.pt_crew.proofs.Waking.{changed, taken_out, put_back, there, some_none, same_some}
 use Rattle.pt_crew.proofs.Places.{written_at, held_at}
 use Rattle.pt_crew.proofs.Room.{bare, unmarked_set}
 use Rattle.pt_crew.proofs.Visiting.{serves_first, says_nothing}
 
 -- nothing is done
-pub stays_put : {B : Type 0} (p : Pid) (t : Tended) (c : Crew B) → (t ≡ Idle) ⊎ (t ≡ Done) → Puts p t c c
-stays_put p t c is = elim is [ inl e ↦ subst (λ (x : Tended). Puts p x c c) (sym e) (still Idle refl refl refl) | inr e ↦ subst (λ (x : Tended). Puts p x c c) (sym e) (still Done refl refl refl) ]
+pub stays_put : {B : Type 0} (p : Pid) (t : Tended) (c : Crew B) → (t ≡ Idle) ⊎ (t ≡ Done) → PutsMember p t c c
+stays_put p t c is = elim is [ inl e ↦ subst (λ (x : Tended). PutsMember p x c c) (sym e) (still Idle refl refl refl) | inr e ↦ subst (λ (x : Tended). PutsMember p x c c) (sym e) (still Done refl refl refl) ]
   where
-    still : (s : Tended) → goes_behind s ≡ false → has_ended s ≡ false → is_refused s ≡ false → Puts p s c c
+    still : (s : Tended) → goes_behind s ≡ false → leaves_crew s ≡ false → is_refused s ≡ false → PutsMember p s c c
     still s a b r = record {
       members = λ q. ap (λ (x : Bool). cond (x && same_pid p q) None (members c q)) (sym b);
       queue = sym (append-nil (queue c)) ∙ ap (λ (x : Bool). queue c ++ cond x (p ∷ []) []) (sym a);
@@ -43,7 +43,7 @@ stays_put p t c is = elim is [ inl e ↦ subst (λ (x : Tended). Puts p x c c) (
 
 -- the entry of p once it was come to
 abbrev entry_as : {B : Type 0} → Tended → Member B → Option (Member B)
-entry_as t w = cond (has_ended t) None (Some w)
+entry_as t w = cond (leaves_crew t) None (Some w)
 
 entry_is : {X : Type 0} (gone same : Bool) (mid old : Option X) (w : X) → mid ≡ cond same (Some w) old → cond (gone && same) None mid ≡ cond same (cond gone None (Some w)) old
 entry_is true true mid old w e = refl
@@ -126,7 +126,7 @@ pub record Came {B : Type 0} (p : Pid) (t : Tended) (old mid new : Crew B) (v m 
   pub left : left mid ≡ left old
   pub refused : mid.refused ≡ old.refused
   pub read : mid.read ≡ old.read
-  pub puts : Puts p t mid new
+  pub puts : PutsMember p t mid new
 
 module _ {B : Type 0} (p : Pid) (t : Tended) (old mid new : Crew B) (v m w : Member B) (c : Came p t old mid new v m w) where
   held : members old p ≡ Some v
@@ -136,7 +136,7 @@ module _ {B : Type 0} (p : Pid) (t : Tended) (old mid new : Crew B) (v m w : Mem
   entered q = ap (λ (x : IndexMap _ _ _). get same_pid x q) c.wrote ∙ (written_at old.members p c.place c.key v c.index c.value c.unique w).0 q
 
   stands : (q : Pid) → members new q ≡ cond (same_pid p q) (entry_as t w) (members old q)
-  stands q = c.puts.members q ∙ entry_is (has_ended t) (same_pid p q) (members mid q) (members old q) w (entered q)
+  stands q = c.puts.members q ∙ entry_is (leaves_crew t) (same_pid p q) (members mid q) (members old q) w (entered q)
 
   its_role : roles mid p ≡ Some (role m)
   its_role = ap (option_map role) (there (members old) (members mid) p (Some w) entered p (same_pid_refl p)) ∙ ap Some c.same

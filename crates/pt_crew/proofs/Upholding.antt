@@ -99,9 +99,6 @@ alone_event e d q none bare = (untouched e d q none, ap (λ (qs : List Pid). qs 
 pub same_pid_sym : (p q : Pid) → same_pid p q ≡ false → same_pid q p ≡ false
 same_pid_sym p q other = by_cases (same_pid q p) (λ same. let is = same_pid_is q p same in let back : same_pid p q ≡ true = ap (λ (x : Pid). same_pid x q) (sym is) ∙ same_pid_refl q in absurd (cc)) (λ no. no)
 
-later_event : (e : Event) (n : ℕ) (d f : ShardState) → f.start ≡ d.start → (s : Stamped) → f.journal ≡ s ∷ d.journal → IsLater d f
-later_event e n d f start s journal = record { start = start; more = s ∷ []; journal = journal }
-
 pub later_after : (e : Event) (d : ShardState) → IsLater d (shard_after e d)
 later_after e d = record { start = refl; more = _ ∷ []; journal = refl }
 

@@ -15,7 +15,7 @@ use Rattle.pt_crew.specs.declared.crew.Crew.{Crew}
 use Rattle.pt_crew.specs.declared.crew.Tended.{Tended}
 use Rattle.pt_crew.specs.declared.crew.Tended.TheVariants.{Idle, Again, Done, Refused, Gone}
 use Rattle.pt_crew.specs.Waking.{IsQueue, has_work}
-use Rattle.pt_crew.specs.Visiting.{Answers, AreSame, VisitsOne, again_as, has_ended, is_refused, left_as}
+use Rattle.pt_crew.specs.Visiting.{Answers, AreSame, VisitsOne, again_as, leaves_crew, is_refused, left_as}
 use Rattle.pt_crew.specs.declared.births.Role.{Role}
 use Rattle.pt_crew.specs.Crews.{IsSame, KeepsRest, Aboard, EntersOne, EntersAll, members, queue, role, roles, left}
 use Rattle.pt_crew.specs.Crews.{waiting, scene, are_any, unmarked, read_events, rounds_asked, was_refused}
@@ -82,8 +82,8 @@ CanEnter c =
     × (vec_len c.left < vec_capacity c.left) × (length c.members.entries < vec_len c.hints.places)
 
 -- p, which was come to, goes behind the queue, or leaves the crew, or stays as it is
-pub record Puts {B : Type 0} (p : Pid) (t : Tended) (old new : Crew B) : Type 0 where
-  pub members : (q : Pid) → members new q ≡ cond (has_ended t && same_pid p q) None (members old q)
+pub record PutsMember {B : Type 0} (p : Pid) (t : Tended) (old new : Crew B) : Type 0 where
+  pub members : (q : Pid) → members new q ≡ cond (leaves_crew t && same_pid p q) None (members old q)
   pub queue : queue new ≡ queue old ++ again_as p t
   pub left : left new ≡ left old ++ left_as p (roles old p) t
   pub refused : was_refused new ≡ (was_refused old || is_refused t)

@@ -132,16 +132,16 @@ abbrev pub again_as : Pid → Tended → List Pid
 again_as p t = cond (goes_behind t) (p ∷ []) []
 
 -- whoever has ended leaves, as it was
-abbrev pub has_ended : Tended → Bool
-has_ended Ended = true
-has_ended _ = false
+abbrev pub leaves_crew : Tended → Bool
+leaves_crew Ended = true
+leaves_crew _ = false
 
 abbrev pub leaver : {B : Type 0} → Pid → Option (B × Next) → List (Role B)
 leaver p None = []
 leaver p (Some role) = record { pid = p; behaviour = role.0; next = role.1 } ∷ []
 
 abbrev pub left_as : {B : Type 0} → Pid → Option (B × Next) → Tended → List (Role B)
-left_as p role t = cond (has_ended t) (leaver p role) []
+left_as p role t = cond (leaves_crew t) (leaver p role) []
 
 abbrev pub is_refused : Tended → Bool
 is_refused Refused = true

@@ -13,7 +13,7 @@ ghost use Rattle.pt_crew.specs.Crews.{AreBorn, Attends, Enters, HasRoom, IsSame,
 ghost use Rattle.pt_crew.specs.Crews.{crew_size, members, queue, read_events, roles, rounds_asked, scene, waiting};
 ghost use Rattle.pt_crew.specs.Crews.{was_refused};
 ghost use Rattle.pt_crew.specs.Parts.{Admits, AdmitsFirst, CanEnter, QueueIsLonger, Serves, MemberTends, Wakes, WakesAt};
-ghost use Rattle.pt_crew.specs.Parts.{Puts, WakesBy};
+ghost use Rattle.pt_crew.specs.Parts.{PutsMember, WakesBy};
 ghost use Rattle.pt_crew.specs.Parts.{is_marked, kept_as};
 ghost use Rattle.pt_crew.specs.Waking.{IsAwake};
 ghost use Rattle.pt_crew.specs.Running.{is_idle};
@@ -260,7 +260,7 @@ impl<B: Behaviour + Drop> Crew<B> {
         Ok(())
     }
 
-    /// Puts the process at that place into the queue, if there is one and it is not there.
+    /// PutsMember the process at that place into the queue, if there is one and it is not there.
     fn wake_at(&mut self, place: usize) -> Result<(), AllocError>
         ensures wakes { OnOk result (WakesAt place self.old self.new) }
         ensures refused { OnErr result (IsSame self.old self.new) }
@@ -273,7 +273,7 @@ impl<B: Behaviour + Drop> Crew<B> {
         self.wake(p)
     }
 
-    /// Puts p into the queue, if it is of the crew and not there.
+    /// PutsMember p into the queue, if it is of the crew and not there.
     #[inline(always)]
     fn wake(&mut self, p: Pid) -> Result<(), AllocError>
         ensures wakes { OnOk result (Wakes p self.old self.new) }
@@ -437,12 +437,12 @@ impl<B: Behaviour + Drop> Crew<B> {
         self.put(p, tended);
     }
 
-    /// Puts p, which was come to, behind the queue, or out of the crew, or leaves it as it is.
+    /// PutsMember p, which was come to, behind the queue, or out of the crew, or leaves it as it is.
     #[inline(always)]
     fn put(&mut self, p: Pid, tended: Tended)
         requires queue { self.old.queue.len < self.old.queue.cap }
         requires left { vec_len self.old.left < vec_capacity self.old.left }
-        ensures { Puts p tended self.old self.new }
+        ensures { PutsMember p tended self.old self.new }
     {
         match tended {
             Tended::Idle | Tended::Done => {}
@@ -451,28 +451,21 @@ impl<B: Behaviour + Drop> Crew<B> {
                 self.refused = true;
                 self.queue.push_back_reserved(p);
             }
-            Tended::Gone => self.leave(p),
+            Tended::Gone => {
+                if let Some(member) = self.members.swap_remove(&p) {
+                    let Member {
+                        behaviour,
+                        next,
+                        ..
+                    } = member;
+                    self.left.push_reserved(Role {
+                        pid: p,
+                        behaviour,
+                        next,
+                    });
+                }
+            }
         }
-    }
-
-    /// Takes p out of the crew, if it is there, and lists it as one who left.
-    fn leave(&mut self, p: Pid)
-        requires { vec_len self.old.left < vec_capacity self.old.left }
-        ensures { Puts p Tended.Gone self.old self.new }
-    {
-        let Some(member) = self.members.swap_remove(&p) else {
-            return;
-        };
-        let Member {
-            behaviour,
-            next,
-            ..
-        } = member;
-        self.left.push_reserved(Role {
-            pid: p,
-            behaviour,
-            next,
-        });
     }
 
     /// Sees to each that stands in the queue now.
