@@ -1,7 +1,7 @@
 -- One that was come to, and where it stands then.
 use Rattle.std.proofs.Common.{◌≡◌, ◌⊎◌, inl, inr, ℕ, ◌+◌, ◌<◌, Bool, true, false, ◌&&◌, ◌||◌, cond, List, [], ◌∷◌, ◌++◌, length, slice_get, Option, Some, None, refl, sym, ap, subst, ◌∙◌, append-nil, arith}
 use Rattle.std.specs.Option.{option_map}
-use Rattle.indexmap.specs.IndexMap.{IndexMap, get, index_of_by, with_value_at, IsUnique}
+use Rattle.indexmap.specs.IndexMap.{IndexMap, get, index_of_by, with_value_at, swap_remove_entry, IsUnique}
 use Rattle.pt_signal.specs.declared.pid.Pid.{Pid}
 use Rattle.pt_signal.specs.Values.{same_pid}
 use Rattle.pt_signal.proofs.Same.{same_pid_refl}
@@ -16,13 +16,13 @@ use Rattle.pt_crew.specs.declared.crew.Crew.{Crew}
 use Rattle.pt_crew.specs.declared.crew.Tended.{Tended}
 use Rattle.pt_crew.specs.declared.crew.Tended.TheVariants.{Idle, Again, Done, Refused, Gone}
 use Rattle.pt_crew.specs.Visiting.{Answers, BearsChildren, SeesTo, again_as, goes_behind, leaves_crew, is_refused, leaver, left_as}
-use Rattle.pt_crew.specs.Crews.{HasRoom, KnowsDesk, members, queue, role, roles, left, waiting, unmarked}
+use Rattle.pt_crew.specs.Crews.{HasRoom, KnowsDesk, members, queue, role, roles, left, waiting, unmarked, read_events, rounds_asked, was_refused}
 use Rattle.pt_crew.specs.Births.{bore}
 use Rattle.pt_crew.specs.Waking.{IsQueue, Knows, Members, has_work}
 use Rattle.pt_crew.specs.Parts.{MemberTends, PutsMember, Serves, kept_as}
 use Rattle.pt_crew.proofs.Waking.{changed, taken_out, put_back, there, some_none, same_some}
 use Rattle.pt_crew.proofs.Places.{written_at, held_at}
-use Rattle.pt_crew.proofs.Room.{bare, unmarked_set}
+use Rattle.pt_crew.proofs.Room.{bare, unmarked_set, unmarked_swap}
 use Rattle.pt_crew.proofs.Visiting.{serves_first, says_nothing}
 
 -- nothing is done
@@ -40,6 +40,22 @@ stays_put p t c is = elim is [ inl e ↦ subst (λ (x : Tended). PutsMember p x 
       rounds = refl;
       room = (refl, let l = ap (λ (x : Bool). length (cond x (p ∷ []) [])) a in omega (arith, l), omega arith);
     }
+
+-- it is taken out, and listed as it was
+pub taken_away : {B : Type 0} (p : Pid) (old new : Crew B) (m : Option (Member B)) → ((q : Pid) → members new q ≡ cond (same_pid p q) None (members old q)) → m ≡ members old p
+    → new.members.entries ≡ swap_remove_entry (same_pid p) old.members.entries → left new ≡ left old ++ leaver p (option_map role m)
+    → queue new ≡ queue old → new.queue.cap ≡ old.queue.cap → new.queue.len ≡ old.queue.len → waiting new ≡ waiting old → was_refused new ≡ was_refused old
+    → read_events new ≡ read_events old → rounds_asked new ≡ rounds_asked old → PutsMember p Gone old new
+taken_away p old new m out was entries gone stands cap len waits quiet reads rounds = record {
+  members = out;
+  queue = stands ∙ sym (append-nil (queue old));
+  left = gone ∙ ap (λ (o : Option (Member _)). left old ++ leaver p (option_map role o)) was;
+  refused = quiet ∙ says_nothing (was_refused old);
+  waiting = waits;
+  read = reads;
+  rounds = rounds;
+  room = (cap, omega (arith, len), let e = ap unmarked entries in let s = unmarked_swap (same_pid p) old.members.entries in omega (arith, e, s));
+}
 
 -- the entry of p once it was come to
 abbrev entry_as : {B : Type 0} → Tended → Member B → Option (Member B)

@@ -2,6 +2,7 @@
 use Rattle.std.specs.Prelude.{◌≡◌, ◌⊎◌, ⊤, ℕ, ◌+◌, ◌≤◌, max, cond, Bool, true, false, ◌||◌, List, [], ◌∷◌, ◌++◌, length}
 use Rattle.std.specs.Prelude.{Some, None, MatchBool, Result, Ok, Err}
 use Rattle.std.specs.List.{IsDistinct}
+use Rattle.std.specs.VecDeque.{deque_capacity, deque_len}
 use Rattle.std.specs.Option.{option_map}
 use Rattle.indexmap.specs.IndexMap.{get}
 use Rattle.pt_signal.specs.declared.pid.Pid.{Pid}
@@ -72,7 +73,7 @@ unmarked (e ∷ es) = cond e.1.queued 0 1 + unmarked es
 
 -- the queue has room for all members that do not stand in it
 abbrev pub HasRoom : {B : Type 0} → Crew B → Type 0
-HasRoom c = c.queue.len + unmarked c.members.entries ≤ c.queue.cap
+HasRoom c = deque_len c.queue + unmarked c.members.entries ≤ deque_capacity c.queue
 
 -- the crew is one of this desk: it is so as it is made, and whatever goes on with the desk leaves it so
 pub record Attends {B : Type 0} (c : Crew B) (d : ShardState) : Type 0 where

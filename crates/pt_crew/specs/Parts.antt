@@ -2,6 +2,7 @@
 use Rattle.std.specs.Prelude.{◌≡◌, ◌⊎◌, ◌+◌, ◌<◌, ◌≤◌, cond, Bool, true, false, ◌&&◌, ◌||◌, List, [], ◌∷◌, ◌++◌, length, Option, Some, None}
 use Rattle.std.specs.Prelude.{ℕ, drop, vec_len, vec_capacity}
 use Rattle.std.specs.List.{list_any}
+use Rattle.std.specs.VecDeque.{deque_capacity, deque_len}
 use Rattle.std.specs.Map.{keys_of}
 use Rattle.indexmap.specs.IndexMap.{spare}
 use Rattle.pt_signal.specs.declared.pid.Pid.{Pid}
@@ -78,7 +79,7 @@ kept_as Gone m = None
 -- there is room for one who enters, or leaves at once
 abbrev pub CanEnter : {B : Type 0} → Crew B → Type 0
 CanEnter c =
-    (0 < spare c.members) × (c.queue.len + length c.members.entries < c.queue.cap)
+    (0 < spare c.members) × (deque_len c.queue + length c.members.entries < deque_capacity c.queue)
     × (vec_len c.left < vec_capacity c.left) × (length c.members.entries < vec_len c.hints.places)
 
 -- p, which was come to, goes behind the queue, or leaves the crew, or stays as it is
@@ -90,7 +91,7 @@ pub record PutsMember {B : Type 0} (p : Pid) (t : Tended) (old new : Crew B) : T
   pub waiting : waiting new ≡ waiting old
   pub read : read_events new ≡ read_events old
   pub rounds : rounds_asked new ≡ rounds_asked old
-  pub room : (new.queue.cap ≡ old.queue.cap) × (new.queue.len ≡ old.queue.len + length (again_as p t))
+  pub room : (deque_capacity new.queue ≡ deque_capacity old.queue) × (deque_len new.queue ≡ deque_len old.queue + length (again_as p t))
       × (unmarked new.members.entries ≤ unmarked old.members.entries)
 
 -- it is of the crew and stands in the queue

@@ -4,6 +4,7 @@ ghost use Rattle.std.specs.Prelude.{◌≡◌, ◌≤◌, ◌++◌, OnOk, OnErr,
 ghost use Rattle.std.specs.Prelude.{◌<◌, option_to_list, vec_capacity, vec_len};
 ghost use Rattle.std.specs.Option.{option_copied, option_map};
 ghost use Rattle.std.specs.Map.{keys_of};
+ghost use Rattle.std.specs.VecDeque.{deque_capacity, deque_len};
 ghost use Rattle.pt_events.specs.History.{is_unborn};
 ghost use Rattle.pt_shard.specs.ShardState.{ShardState, lives, phase_of};
 ghost use Rattle.pt_desk.specs.DeskState.{GoesOn};
@@ -15,7 +16,7 @@ ghost use Rattle.pt_crew.specs.Crews.{was_refused};
 ghost use Rattle.pt_crew.specs.Parts.{Admits, AdmitsFirst, CanEnter, QueueIsLonger, Serves, MemberTends, Wakes, WakesAt};
 ghost use Rattle.pt_crew.specs.Parts.{PutsMember, WakesBy};
 ghost use Rattle.pt_crew.specs.Parts.{is_marked, kept_as};
-ghost use Rattle.pt_crew.specs.Waking.{IsAwake};
+ghost use Rattle.pt_crew.specs.Waking.{IsAwake, is_queued};
 ghost use Rattle.pt_crew.specs.Running.{is_idle};
 
 use crate::behaviour::{Behaviour, Next};
@@ -247,7 +248,7 @@ impl<B: Behaviour + Drop> Crew<B> {
     pub fn begin_again(&mut self) -> Result<(), AllocError>
         ensures attends { OnOk result ((d e : ShardState) → Attends self.old d → AreBorn (roles self.old) e
             → Attends self.new e) }
-        ensures all { OnOk result ((p : Pid) (m : Member B) → members self.new p ≡ Some m → m.queued ≡ true) }
+        ensures all { OnOk result ((p : Pid) (m : Member B) → members self.new p ≡ Some m → is_queued m ≡ true) }
         ensures ok { HasRoom self.old → IsOk result }
         ensures roles { AreSame (roles self.old) (roles self.new) }
         ensures longer { QueueIsLonger (queue self.old) (queue self.new) }
@@ -440,7 +441,7 @@ impl<B: Behaviour + Drop> Crew<B> {
     /// PutsMember p, which was come to, behind the queue, or out of the crew, or leaves it as it is.
     #[inline(always)]
     fn put(&mut self, p: Pid, tended: Tended)
-        requires queue { self.old.queue.len < self.old.queue.cap }
+        requires queue { deque_len self.old.queue < deque_capacity self.old.queue }
         requires left { vec_len self.old.left < vec_capacity self.old.left }
         ensures { PutsMember p tended self.old self.new }
     {

@@ -4,7 +4,7 @@ ghost use Rattle.std.specs.Prelude.{◌≡◌, ◌<◌, ◌^◌, pos};
 ghost use Rattle.pt_desk.specs.DeskState.{GoesOn};
 ghost use Rattle.pt_crew.specs.Visiting.{takes};
 ghost use Rattle.pt_crew.specs.Asking.{Asks, refusal};
-ghost use Rattle.pt_crew.specs.Ending.{Closes, EndsOnce, after_item, heard_by_call, is_answer_to_call, says_to_call};
+ghost use Rattle.pt_crew.specs.Ending.{Closes, EndsOnce, after_item, heard_by_call, is_answer_to_call, is_pending, says_to_call};
 
 use crate::calls::{demonitor, monitor, send};
 use crate::request::speaks_of;
@@ -71,7 +71,7 @@ impl Pending {
 
     /// Whether it still waits for its answer, or for the end of its server.
     pub fn is_open(&self) -> bool
-        ensures { result ≡ self.now.waits }
+        ensures { result ≡ is_pending self.now }
     {
         self.waits
     }
