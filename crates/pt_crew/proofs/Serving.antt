@@ -1,6 +1,7 @@
 -- One that was come to, and where it stands then.
 use Rattle.std.proofs.Common.{◌≡◌, ◌⊎◌, inl, inr, ℕ, ◌+◌, ◌<◌, Bool, true, false, ◌&&◌, ◌||◌, cond, List, [], ◌∷◌, ◌++◌, length, slice_get, Option, Some, None, refl, sym, ap, subst, ◌∙◌, append-nil, arith}
 use Rattle.std.specs.Option.{option_map}
+use Rattle.std.specs.VecDeque.{deque_capacity, deque_len}
 use Rattle.indexmap.specs.IndexMap.{IndexMap, get, index_of_by, with_value_at, swap_remove_entry, IsUnique}
 use Rattle.pt_signal.specs.declared.pid.Pid.{Pid}
 use Rattle.pt_signal.specs.Values.{same_pid}
@@ -25,28 +26,34 @@ use Rattle.pt_crew.proofs.Places.{written_at, held_at}
 use Rattle.pt_crew.proofs.Room.{bare, unmarked_set, unmarked_swap}
 use Rattle.pt_crew.proofs.Visiting.{serves_first, says_nothing}
 
+-- it stays in the crew
+pub placed : {B : Type 0} (p : Pid) (t s : Tended) (old new : Crew B) → t ≡ s → leaves_crew s ≡ false → new.members ≡ old.members → queue new ≡ queue old ++ again_as p s → left new ≡ left old
+    → was_refused new ≡ (was_refused old || is_refused s) → waiting new ≡ waiting old → read_events new ≡ read_events old → rounds_asked new ≡ rounds_asked old
+    → deque_capacity new.queue ≡ deque_capacity old.queue → deque_len new.queue ≡ deque_len old.queue + length (again_as p s) → PutsMember p t old new
+placed p t s old new is stays same stands gone says waits reads rounds cap len = subst (λ (x : Tended). PutsMember p x old new) (sym is) (record {
+  members = λ q. ap (λ (m : IndexMap _ _ _). get same_pid m q) same ∙ ap (λ (b : Bool). cond (b && same_pid p q) None (members old q)) (sym stays);
+  queue = stands;
+  left = gone ∙ sym (append-nil (left old)) ∙ ap (λ (b : Bool). left old ++ cond b (leaver p (roles old p)) []) (sym stays);
+  refused = says;
+  waiting = waits;
+  read = reads;
+  rounds = rounds;
+  room = (cap, len, let e = ap (λ (m : IndexMap _ _ _). unmarked m.entries) same in omega (arith, e));
+})
+
 -- nothing is done
 pub stays_put : {B : Type 0} (p : Pid) (t : Tended) (c : Crew B) → (t ≡ Idle) ⊎ (t ≡ Done) → PutsMember p t c c
-stays_put p t c is = elim is [ inl e ↦ subst (λ (x : Tended). PutsMember p x c c) (sym e) (still Idle refl refl refl) | inr e ↦ subst (λ (x : Tended). PutsMember p x c c) (sym e) (still Done refl refl refl) ]
-  where
-    still : (s : Tended) → goes_behind s ≡ false → leaves_crew s ≡ false → is_refused s ≡ false → PutsMember p s c c
-    still s a b r = record {
-      members = λ q. ap (λ (x : Bool). cond (x && same_pid p q) None (members c q)) (sym b);
-      queue = sym (append-nil (queue c)) ∙ ap (λ (x : Bool). queue c ++ cond x (p ∷ []) []) (sym a);
-      left = sym (append-nil (left c)) ∙ ap (λ (x : Bool). left c ++ cond x (leaver p (roles c p)) []) (sym b);
-      refused = says_nothing c.refused ∙ ap (λ (x : Bool). c.refused || x) (sym r);
-      waiting = refl;
-      read = refl;
-      rounds = refl;
-      room = (refl, let l = ap (λ (x : Bool). length (cond x (p ∷ []) [])) a in omega (arith, l), omega arith);
-    }
+stays_put p t c is = elim is [
+  | inl e ↦ placed p t Idle c c e refl refl (sym (append-nil (queue c))) refl (says_nothing (was_refused c)) refl refl refl refl (omega arith)
+  | inr e ↦ placed p t Done c c e refl refl (sym (append-nil (queue c))) refl (says_nothing (was_refused c)) refl refl refl refl (omega arith)
+]
 
 -- it is taken out, and listed as it was
-pub taken_away : {B : Type 0} (p : Pid) (old new : Crew B) (m : Option (Member B)) → ((q : Pid) → members new q ≡ cond (same_pid p q) None (members old q)) → m ≡ members old p
+pub taken_away : {B : Type 0} (p : Pid) (t : Tended) (old new : Crew B) (m : Option (Member B)) → t ≡ Gone → ((q : Pid) → members new q ≡ cond (same_pid p q) None (members old q)) → m ≡ members old p
     → new.members.entries ≡ swap_remove_entry (same_pid p) old.members.entries → left new ≡ left old ++ leaver p (option_map role m)
-    → queue new ≡ queue old → new.queue.cap ≡ old.queue.cap → new.queue.len ≡ old.queue.len → waiting new ≡ waiting old → was_refused new ≡ was_refused old
-    → read_events new ≡ read_events old → rounds_asked new ≡ rounds_asked old → PutsMember p Gone old new
-taken_away p old new m out was entries gone stands cap len waits quiet reads rounds = record {
+    → queue new ≡ queue old → deque_capacity new.queue ≡ deque_capacity old.queue → deque_len new.queue ≡ deque_len old.queue → waiting new ≡ waiting old → was_refused new ≡ was_refused old
+    → read_events new ≡ read_events old → rounds_asked new ≡ rounds_asked old → PutsMember p t old new
+taken_away p t old new m is out was entries gone stands cap len waits quiet reads rounds = subst (λ (x : Tended). PutsMember p x old new) (sym is) (record {
   members = out;
   queue = stands ∙ sym (append-nil (queue old));
   left = gone ∙ ap (λ (o : Option (Member _)). left old ++ leaver p (option_map role o)) was;
@@ -55,7 +62,7 @@ taken_away p old new m out was entries gone stands cap len waits quiet reads rou
   read = reads;
   rounds = rounds;
   room = (cap, omega (arith, len), let e = ap unmarked entries in let s = unmarked_swap (same_pid p) old.members.entries in omega (arith, e, s));
-}
+})
 
 -- the entry of p once it was come to
 abbrev entry_as : {B : Type 0} → Tended → Member B → Option (Member B)
@@ -177,7 +184,7 @@ module _ {B : Type 0} (p : Pid) (t : Tended) (old mid new : Crew B) (v m w : Mem
       (λ x x_is. born_later d e later p (k.born p v held))
       (still_awake p t m w e c.marked c.same tends) k)
 
-  pub room_for_it : mid.queue.len + 1 ≡ old.queue.len → mid.queue.cap ≡ old.queue.cap → HasRoom old → HasRoom new
+  pub room_for_it : deque_len mid.queue + 1 ≡ deque_len old.queue → deque_capacity mid.queue ≡ deque_capacity old.queue → HasRoom old → HasRoom new
   room_for_it len cap room =
       let s = unmarked_set old.members.entries c.place c.key v w c.value in
       let e = ap (λ (x : IndexMap _ _ _). unmarked x.entries) c.wrote in
