@@ -55,17 +55,17 @@ returns-then-is_err-clause-serves g c =
 pub returns-clause-serves : goal.returns-clause-serves
 returns-clause-serves g c =
     let came : Came c.in-Some.p c.tend-tended.result c.args.self.now _ c.put.new.self c.pair_mut-member.result.1.now c.tend-tended.new.member _ =
-    record { place = c.in-Some-place_of.place; key = c.pair_mut-member.result.0.now; index = c.in-Some-place_of.ensures.index; value = c.pair_mut-member.ensures.value; unique = c.pair_mut-member.ensures.unique; wrote = refl; same = refl; marked = c.goes_behind.ensures; gone = c.tend-tended.ensures.role; left = c.reserve.ensures.items; refused = refl; read = refl; puts = c.put.ensures } in
+    record { place = c.in-Some-place_of.place; key = c.pair_mut-member.result.0.now; index = c.in-Some-place_of.ensures.index; value = c.pair_mut-member.ensures.value; unique = c.pair_mut-member.ensures.unique; wrote = refl; same = refl; marked = c.goes_behind-member.ensures; gone = c.tend-tended.ensures.role; left = c.reserve.ensures.items; refused = refl; read = refl; puts = c.put.ensures } in
     serves_it _ _ _ _ _ _ _ _ came g.B.Behaviour.answers c.args.self.now.queue.items c.pop_front.new.self.items c.args.desk.now.shard c.tend-tended.new.desk.shard c.in-Some.ensures.items refl c.tend-tended.ensures.sees c.tend-tended.ensures.bears
 
 pub returns-clause-knows : goal.returns-clause-knows
 returns-clause-knows g c =
     let came : Came c.in-Some.p c.tend-tended.result c.args.self.now _ c.put.new.self c.pair_mut-member.result.1.now c.tend-tended.new.member _ =
-    record { place = c.in-Some-place_of.place; key = c.pair_mut-member.result.0.now; index = c.in-Some-place_of.ensures.index; value = c.pair_mut-member.ensures.value; unique = c.pair_mut-member.ensures.unique; wrote = refl; same = refl; marked = c.goes_behind.ensures; gone = c.tend-tended.ensures.role; left = c.reserve.ensures.items; refused = refl; read = refl; puts = c.put.ensures } in
+    record { place = c.in-Some-place_of.place; key = c.pair_mut-member.result.0.now; index = c.in-Some-place_of.ensures.index; value = c.pair_mut-member.ensures.value; unique = c.pair_mut-member.ensures.unique; wrote = refl; same = refl; marked = c.goes_behind-member.ensures; gone = c.tend-tended.ensures.role; left = c.reserve.ensures.items; refused = refl; read = refl; puts = c.put.ensures } in
     knows_it _ _ _ _ _ _ _ _ came c.pop_front.new.self.items c.args.desk.now.shard c.tend-tended.new.desk.shard c.tend-tended.ensures.goes_on.shard c.in-Some.ensures.items refl c.tend-tended.ensures.tends
 
 pub returns-clause-room : goal.returns-clause-room
 returns-clause-room g c =
     let came : Came c.in-Some.p c.tend-tended.result c.args.self.now _ c.put.new.self c.pair_mut-member.result.1.now c.tend-tended.new.member _ =
-    record { place = c.in-Some-place_of.place; key = c.pair_mut-member.result.0.now; index = c.in-Some-place_of.ensures.index; value = c.pair_mut-member.ensures.value; unique = c.pair_mut-member.ensures.unique; wrote = refl; same = refl; marked = c.goes_behind.ensures; gone = c.tend-tended.ensures.role; left = c.reserve.ensures.items; refused = refl; read = refl; puts = c.put.ensures } in
+    record { place = c.in-Some-place_of.place; key = c.pair_mut-member.result.0.now; index = c.in-Some-place_of.ensures.index; value = c.pair_mut-member.ensures.value; unique = c.pair_mut-member.ensures.unique; wrote = refl; same = refl; marked = c.goes_behind-member.ensures; gone = c.tend-tended.ensures.role; left = c.reserve.ensures.items; refused = refl; read = refl; puts = c.put.ensures } in
     room_for_it _ _ _ _ _ _ _ _ came c.in-Some.ensures.len c.in-Some.ensures.capacity
