@@ -7,9 +7,9 @@ use Rattle.pt_signal.specs.declared.pid.Pid.{Pid}
 use Rattle.pt_signal.specs.declared.ids.Ref.{Ref}
 use Rattle.pt_signal.specs.declared.config.TheConstants.{MAX_STAMP}
 use Rattle.pt_shard.specs.declared.fault.Fault.{Fault}
-use Rattle.pt_node.specs.declared.node_fault.NodeFault.{NodeFault}
-use Rattle.pt_node.specs.declared.node_fault.NodeFault.TheVariants.{Unknown}
-use Rattle.pt_node.specs.Node.{node_answered}
+use Rattle.pt_crew.specs.declared.call_fault.CallFault.{CallFault}
+use Rattle.pt_crew.specs.declared.call_fault.CallFault.TheVariants.{Unknown}
+use Rattle.pt_crew.specs.Telling.{call_answered}
 use Rattle.pt_shard.specs.ShardState.{ShardState}
 use Rattle.pt_shard.specs.Known.{knows}
 use Rattle.pt_shard.specs.Calls.{Monitors, Refuses}
@@ -31,10 +31,10 @@ reached : (looks : Bool) (w t : Pid) (call : Type 0) (old : DeskState) (m : Ref)
 reached true w t call old m new h = looked w t call old.shard m new.shard h.seen h.does
 reached false w t call old m new h = h.0
 
-abbrev node_fine : Ref → Result Ref NodeFault
+abbrev node_fine : Ref → Result Ref CallFault
 node_fine m = Ok m
 
-answered : (Does : Result Ref Fault → Type 0) (m : Ref) (answer : Result Ref Fault) → Does answer → node_fine m ≡ node_answered answer → Does (fine m)
+answered : (Does : Result Ref Fault → Type 0) (m : Ref) (answer : Result Ref Fault) → Does answer → node_fine m ≡ call_answered answer → Does (fine m)
 answered Does m (Ok n) h is = let same : n ≡ m = cc in subst (λ (k : Ref). Does (fine k)) same h
 answered Does m (Err f) h is = absurd (cc)
 

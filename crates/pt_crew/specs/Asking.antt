@@ -15,8 +15,8 @@ use Rattle.pt_shard.specs.ShardState.{lives}
 use Rattle.pt_shard.specs.Calls.{Calls, Monitors, demonitor_event}
 use Rattle.pt_desk.specs.DeskState.{DeskState}
 use Rattle.pt_desk.specs.Reaching.{Reaches, has_monitor_to_make}
-use Rattle.pt_node.specs.declared.node_fault.NodeFault.{NodeFault}
-use Rattle.pt_node.specs.declared.node_fault.NodeFault.TheVariants.{Refused}
+use Rattle.pt_crew.specs.declared.call_fault.CallFault.{CallFault}
+use Rattle.pt_crew.specs.declared.call_fault.CallFault.TheVariants.{Refused}
 use Rattle.pt_crew.specs.Telling.{IfKnown}
 use Rattle.pt_crew.specs.declared.pending.Pending.{Pending}
 use Rattle.pt_crew.specs.declared.request.Request.{Request}
@@ -44,13 +44,13 @@ abbrev pub answer : Request → ℕ → Body
 answer r n = record { kind = n; num = r.number; who = Some r.from }
 
 -- the calls of a crew: a message, a monitor, and a monitor that is given up
-abbrev pub SendsTo : Pid → Pid → Body → DeskState → Result (Unit {0}) NodeFault → DeskState → Type 0
+abbrev pub SendsTo : Pid → Pid → Body → DeskState → Result (Unit {0}) CallFault → DeskState → Type 0
 SendsTo me to body old result new =
     IfKnown (knows old.shard to)
     (λ r. Reaches (lives old.shard me) me to
     (Calls me (Some (Said me to (Signal.Message body))) (tt {0}) old.shard r new.shard) old r new) old result new
 
-abbrev pub Watches : Pid → Pid → DeskState → Result Ref NodeFault → DeskState → Type 0
+abbrev pub Watches : Pid → Pid → DeskState → Result Ref CallFault → DeskState → Type 0
 Watches me to old result new =
     IfKnown (knows old.shard to)
     (λ r. Reaches (has_monitor_to_make old.shard me to) me to (Monitors me to old.shard r new.shard) old r new) old
@@ -62,18 +62,18 @@ Unwatches me m old result new =
     new.shard
 
 -- the fault for which a request was not sent; none where the server was seen to have ended, since its DOWN comes
-abbrev pub refusal : Result (Unit {0}) NodeFault → Option NodeFault
+abbrev pub refusal : Result (Unit {0}) CallFault → Option CallFault
 refusal (Ok done) = None
 refusal (Err (Refused NoProc)) = None
 refusal (Err f) = Some f
 
 -- the monitor stands, and the request could not be sent: the monitor is given up, if that is not refused too
-pub record IsUnsent (me server : Pid) (asks : ℕ) (old : DeskState) (f : NodeFault) (new : DeskState) : Type 0 where
+pub record IsUnsent (me server : Pid) (asks : ℕ) (old : DeskState) (f : CallFault) (new : DeskState) : Type 0 where
   pub monitor : Ref
   pub watching : DeskState
   pub watches : Watches me server old (Ok monitor) watching
   pub untold : DeskState
-  pub told : Result (Unit {0}) NodeFault
+  pub told : Result (Unit {0}) CallFault
   pub tells : SendsTo me server (request_message me monitor asks) watching told untold
   pub refused : refusal told ≡ Some f
   pub given_up : Result Bool Fault
@@ -83,7 +83,7 @@ pub record IsUnsent (me server : Pid) (asks : ℕ) (old : DeskState) (f : NodeFa
 pub record IsMade (me server : Pid) (asks : ℕ) (old : DeskState) (p : Pending) (new : DeskState) : Type 0 where
   pub watching : DeskState
   pub watches : Watches me server old (Ok p.monitor) watching
-  pub told : Result (Unit {0}) NodeFault
+  pub told : Result (Unit {0}) CallFault
   pub tells : SendsTo me server (request_message me p.monitor asks) watching told new
   pub asked : refusal told ≡ None
   pub pending : p ≡ record {
@@ -94,6 +94,6 @@ pub record IsMade (me server : Pid) (asks : ℕ) (old : DeskState) (p : Pending)
     waits = true;
   }
 
-abbrev pub Asks : Pid → Pid → ℕ → DeskState → Result Pending NodeFault → DeskState → Type 0
+abbrev pub Asks : Pid → Pid → ℕ → DeskState → Result Pending CallFault → DeskState → Type 0
 Asks me server asks old (Ok p) new = IsMade me server asks old p new
 Asks me server asks old (Err f) new = Watches me server old (Err f) new ⊎ IsUnsent me server asks old f new

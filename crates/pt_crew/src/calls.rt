@@ -1,6 +1,6 @@
 //! The calls of a desk for a behaviour: they ask nothing of their caller, and each is answered.
 //!
-//! A target that the desk does not know is refused as `Unknown`, as a [`Node`](pt_node::Node) refuses it. None of them
+//! A target that the desk does not know is refused as `Unknown`, as a node refuses it. None of them
 //! takes an item out of a mailbox, so a behaviour that makes no other calls is what [`Behaviour`](crate::Behaviour) asks
 //! of it.
 #![tactic(auto, using(crate::proofs::Takes::calling))]
@@ -13,18 +13,18 @@ ghost use Rattle.pt_shard.specs.ShardState.{lives, state_in};
 ghost use Rattle.pt_shard.specs.Calls.{Calls, Monitors, demonitor_event, link_event, unlink_event};
 ghost use Rattle.pt_desk.specs.DeskState.{GoesOn};
 ghost use Rattle.pt_desk.specs.Reaching.{Reaches, has_link_to_make, has_monitor_to_make};
-ghost use Rattle.pt_node.specs.Node.{node_answered};
-ghost use Rattle.pt_crew.specs.Telling.{IfKnown};
+ghost use Rattle.pt_crew.specs.Telling.{IfKnown, call_answered};
 ghost use Rattle.pt_crew.specs.Visiting.{takes};
 
-use pt_node::{Body, Desk, Fault, NodeFault, Pid, Reason, Ref};
+use crate::call_fault::CallFault;
+use pt_node::{Body, Desk, Fault, Pid, Reason, Ref};
 
 /// Sends a message (`!`).
 ///
 /// It is refused as `Unknown` if the desk does not know the target, and nothing has changed then;
 /// else as [`Desk::send`] is.
 #[inline(always)]
-pub fn send(desk: &mut Desk, me: Pid, to: Pid, body: Body) -> Result<(), NodeFault>
+pub fn send(desk: &mut Desk, me: Pid, to: Pid, body: Body) -> Result<(), CallFault>
     ensures does { IfKnown (knows desk.old.shard to)
         (λ r. Reaches (lives desk.old.shard me) me to
         (Calls me (Some (Event.Said me to (Signal.Message body))) tt desk.old.shard r desk.new.shard) desk.old r
@@ -33,7 +33,7 @@ pub fn send(desk: &mut Desk, me: Pid, to: Pid, body: Body) -> Result<(), NodeFau
     ensures goes_on { GoesOn desk.old desk.new }
 {
     if !desk.knows(to) {
-        return Err(NodeFault::Unknown);
+        return Err(CallFault::Unknown);
     }
     answered(desk.send(me, to, body))
 }
@@ -42,7 +42,7 @@ pub fn send(desk: &mut Desk, me: Pid, to: Pid, body: Body) -> Result<(), NodeFau
 ///
 /// It is refused as `Unknown` if the desk does not know the target, and nothing has changed then;
 /// else as [`Desk::monitor`] is.
-pub fn monitor(desk: &mut Desk, me: Pid, to: Pid) -> Result<Ref, NodeFault>
+pub fn monitor(desk: &mut Desk, me: Pid, to: Pid) -> Result<Ref, CallFault>
     ensures does { IfKnown (knows desk.old.shard to)
         (λ r. Reaches (has_monitor_to_make desk.old.shard me to) me to
         (Monitors me to desk.old.shard r desk.new.shard) desk.old r desk.new) desk.old result desk.new }
@@ -50,7 +50,7 @@ pub fn monitor(desk: &mut Desk, me: Pid, to: Pid) -> Result<Ref, NodeFault>
     ensures goes_on { GoesOn desk.old desk.new }
 {
     if !desk.knows(to) {
-        return Err(NodeFault::Unknown);
+        return Err(CallFault::Unknown);
     }
     answered(desk.monitor(me, to))
 }
@@ -59,7 +59,7 @@ pub fn monitor(desk: &mut Desk, me: Pid, to: Pid) -> Result<Ref, NodeFault>
 ///
 /// It is refused as `Unknown` if the desk does not know the target, and nothing has changed then;
 /// else as [`Desk::link`] is.
-pub fn link(desk: &mut Desk, me: Pid, to: Pid) -> Result<(), NodeFault>
+pub fn link(desk: &mut Desk, me: Pid, to: Pid) -> Result<(), CallFault>
     ensures does { IfKnown (knows desk.old.shard to)
         (λ r. Reaches (has_link_to_make desk.old.shard me to) me to
         (Calls me (link_event desk.old.shard me to) tt desk.old.shard r desk.new.shard) desk.old r desk.new) desk.old
@@ -68,7 +68,7 @@ pub fn link(desk: &mut Desk, me: Pid, to: Pid) -> Result<(), NodeFault>
     ensures goes_on { GoesOn desk.old desk.new }
 {
     if !desk.knows(to) {
-        return Err(NodeFault::Unknown);
+        return Err(CallFault::Unknown);
     }
     answered(desk.link(me, to))
 }
@@ -77,7 +77,7 @@ pub fn link(desk: &mut Desk, me: Pid, to: Pid) -> Result<(), NodeFault>
 ///
 /// It is refused as `Unknown` if the desk does not know the target, and nothing has changed then;
 /// else as [`Desk::exit_signal`] is.
-pub fn exit_signal(desk: &mut Desk, me: Pid, to: Pid, reason: Reason) -> Result<(), NodeFault>
+pub fn exit_signal(desk: &mut Desk, me: Pid, to: Pid, reason: Reason) -> Result<(), CallFault>
     ensures does { IfKnown (knows desk.old.shard to)
         (λ r. Calls me (Some (Event.Said me to (Signal.Exit reason))) tt desk.old.shard r desk.new.shard) desk.old
         result desk.new }
@@ -85,7 +85,7 @@ pub fn exit_signal(desk: &mut Desk, me: Pid, to: Pid, reason: Reason) -> Result<
     ensures goes_on { GoesOn desk.old desk.new }
 {
     if !desk.knows(to) {
-        return Err(NodeFault::Unknown);
+        return Err(CallFault::Unknown);
     }
     answered(desk.exit_signal(me, to, reason))
 }
@@ -94,7 +94,7 @@ pub fn exit_signal(desk: &mut Desk, me: Pid, to: Pid, reason: Reason) -> Result<
 ///
 /// It is refused as `Unknown` if the desk does not know the target, and nothing has changed then;
 /// else as [`Desk::unlink`] is.
-pub fn unlink(desk: &mut Desk, me: Pid, to: Pid) -> Result<(), NodeFault>
+pub fn unlink(desk: &mut Desk, me: Pid, to: Pid) -> Result<(), CallFault>
     ensures does { IfKnown (knows desk.old.shard to)
         (λ r. Calls me (unlink_event desk.old.shard me to) tt desk.old.shard r desk.new.shard) desk.old result
         desk.new }
@@ -102,7 +102,7 @@ pub fn unlink(desk: &mut Desk, me: Pid, to: Pid) -> Result<(), NodeFault>
     ensures goes_on { GoesOn desk.old desk.new }
 {
     if !desk.knows(to) {
-        return Err(NodeFault::Unknown);
+        return Err(CallFault::Unknown);
     }
     answered(desk.unlink(me, to))
 }
@@ -132,11 +132,11 @@ pub fn trap(desk: &mut Desk, me: Pid, on: bool) -> Result<bool, Fault>
 }
 
 /// The answer of the desk to a call whose target it knows.
-fn answered<A>(answer: Result<A, Fault>) -> Result<A, NodeFault>
-    ensures { result ≡ node_answered answer }
+fn answered<A>(answer: Result<A, Fault>) -> Result<A, CallFault>
+    ensures { result ≡ call_answered answer }
 {
     match answer {
         Ok(value) => Ok(value),
-        Err(fault) => Err(NodeFault::Refused(fault)),
+        Err(fault) => Err(CallFault::Refused(fault)),
     }
 }

@@ -39,6 +39,7 @@
 
 mod behaviour;
 mod births;
+mod call_fault;
 mod calls;
 mod crew;
 mod hints;
@@ -49,6 +50,7 @@ mod upholds;
 
 pub use behaviour::{Behaviour, Next};
 pub use births::{Births, Role, spawn_child};
+pub use call_fault::CallFault;
 pub use calls::{demonitor, exit_signal, link, monitor, send, trap, unlink};
 pub use crew::Crew;
 pub use pending::{Heard, Pending, calls_end_once};

@@ -6,9 +6,10 @@ ghost use Rattle.pt_crew.specs.Visiting.{takes};
 ghost use Rattle.pt_crew.specs.Asking.{Asks, refusal};
 ghost use Rattle.pt_crew.specs.Ending.{Closes, EndsOnce, after_item, heard_by_call, is_answer_to_call, is_pending, says_to_call};
 
+use crate::call_fault::CallFault;
 use crate::calls::{demonitor, monitor, send};
 use crate::request::speaks_of;
-use pt_node::{Body, Desk, Fault, Item, NodeFault, Pid, Reason, Ref};
+use pt_node::{Body, Desk, Fault, Item, Pid, Reason, Ref};
 
 /// What an item is to a call.
 #[derive(Clone, Copy, Debug, PartialEq, Eq)]
@@ -44,7 +45,7 @@ impl Pending {
     /// `Memory` too where the request could not be sent; the monitor is given up then, and where that is refused as well
     /// its `DOWN` may come, which belongs to no call. Where the server is seen to have ended only as the request is
     /// sent, the call is made, and ends by the `DOWN`.
-    pub fn ask(desk: &mut Desk, me: Pid, server: Pid, asks: u32) -> Result<Pending, NodeFault>
+    pub fn ask(desk: &mut Desk, me: Pid, server: Pid, asks: u32) -> Result<Pending, CallFault>
         ensures does { Asks me server asks desk.old result desk.new }
         ensures takes { takes desk.new.shard.journal ≡ takes desk.old.shard.journal }
         ensures goes_on { GoesOn desk.old desk.new }
@@ -130,12 +131,12 @@ fn number_of(monitor: Ref) -> i64
 }
 
 /// The fault for which a request was not sent. A server that is seen to have ended is none: its `DOWN` comes.
-fn refusal(told: Result<(), NodeFault>) -> Option<NodeFault>
+fn refusal(told: Result<(), CallFault>) -> Option<CallFault>
     ensures { result ≡ refusal told }
 {
     match told {
         Ok(()) => None,
-        Err(NodeFault::Refused(Fault::NoProc)) => None,
+        Err(CallFault::Refused(Fault::NoProc)) => None,
         Err(fault) => Some(fault),
     }
 }

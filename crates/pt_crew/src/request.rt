@@ -5,8 +5,9 @@ ghost use Rattle.pt_desk.specs.DeskState.{GoesOn};
 ghost use Rattle.pt_crew.specs.Visiting.{takes};
 ghost use Rattle.pt_crew.specs.Asking.{SendsTo, answer, request_of, speaks_of};
 
+use crate::call_fault::CallFault;
 use crate::calls::send;
-use pt_node::{Body, Desk, Item, NodeFault, Pid};
+use pt_node::{Body, Desk, Item, Pid};
 
 /// A request that came: who asks, under which number, and what.
 #[derive(Clone, Copy, Debug, PartialEq, Eq)]
@@ -49,7 +50,7 @@ pub(crate) fn speaks_of(body: Body, pid: Pid) -> bool
 ///
 /// It is refused as [`send`] is, and the client has no answer then. Where the client has ended, that is `NoProc` or
 /// nothing, and either way there is nothing left to do.
-pub fn reply(desk: &mut Desk, me: Pid, request: Request, n: u32) -> Result<(), NodeFault>
+pub fn reply(desk: &mut Desk, me: Pid, request: Request, n: u32) -> Result<(), CallFault>
     ensures does { SendsTo me request.from (answer request n) desk.old result desk.new }
     ensures takes { takes desk.new.shard.journal ≡ takes desk.old.shard.journal }
     ensures goes_on { GoesOn desk.old desk.new }

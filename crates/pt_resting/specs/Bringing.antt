@@ -3,29 +3,29 @@ use Rattle.std.specs.Prelude.{◌≡◌, ◌⊎◌, ⊤, ℕ, ◌≤◌, Bool, t
 use Rattle.pt_signal.specs.declared.pid.Pid.{Pid}
 use Rattle.pt_shard.specs.declared.fault.Fault.TheVariants.{NoProc}
 use Rattle.pt_desk.specs.DeskState.{DeskState}
-use Rattle.pt_node.specs.declared.node_fault.NodeFault.{NodeFault}
-use Rattle.pt_node.specs.declared.node_fault.NodeFault.TheVariants.{Unknown, Refused}
+use Rattle.pt_crew.specs.declared.call_fault.CallFault.{CallFault}
+use Rattle.pt_crew.specs.declared.call_fault.CallFault.TheVariants.{Unknown, Refused}
 use Rattle.pt_crew.specs.Asking.{SendsTo}
 use Rattle.pt_resting.specs.declared.door.Post.{Post}
 
 -- the desk was asked to send the message of `me`, and answered so
-abbrev pub PorterTells : Pid → Post → DeskState → Result ⊤ NodeFault → DeskState → Type 0
+abbrev pub PorterTells : Pid → Post → DeskState → Result ⊤ CallFault → DeskState → Type 0
 PorterTells me post d answer e = SendsTo me post.to post.body d answer e
 
 -- it was sent, or its receiver is not known, or seen to have ended
-abbrev pub IsDone : Result ⊤ NodeFault → Type 0
+abbrev pub IsDone : Result ⊤ CallFault → Type 0
 IsDone answer = (answer ≡ Ok tt) ⊎ (answer ≡ Err Unknown) ⊎ (answer ≡ Err (Refused NoProc))
 
 -- these were sent on, in order
 abbrev pub SendsOn : Pid → List Post → DeskState → DeskState → Type 0
 SendsOn me [] d e = e ≡ d
 SendsOn me (post ∷ posts) d e =
-    (mid : DeskState) × (answer : Result ⊤ NodeFault) × PorterTells me post d answer mid × IsDone answer × SendsOn me posts mid e
+    (mid : DeskState) × (answer : Result ⊤ CallFault) × PorterTells me post d answer mid × IsDone answer × SendsOn me posts mid e
 
 -- nothing was sent on: none waits, or the desk refused the first that does for another cause, and it stays
 abbrev pub KeepsFront : Pid → List Post → DeskState → DeskState → Type 0
 KeepsFront me [] d e = e ≡ d
-KeepsFront me (post ∷ waits) d e = (answer : Result ⊤ NodeFault) × PorterTells me post d answer e × (IsDone answer → ⊥)
+KeepsFront me (post ∷ waits) d e = (answer : Result ⊤ CallFault) × PorterTells me post d answer e × (IsDone answer → ⊥)
 
 -- the first that waits is taken out and sent on, or stays; of what was taken out before and after, and what waits then
 abbrev pub BringsFirst : Pid → List Post → DeskState → Bool → List Post → List Post → DeskState → Type 0

@@ -9,8 +9,8 @@ ghost use Rattle.pt_resting.specs.Bringing.{BringsFirst, Brings};
 
 use crate::bells::Bells;
 use crate::resting::Rests;
-use pt_crew::send;
-use pt_node::{Body, Desk, Fault, NodeFault, Pid, Turned, Work};
+use pt_crew::{CallFault, send};
+use pt_node::{Body, Desk, Fault, Pid, Turned, Work};
 use rtrb::{Consumer, Producer, PushError, RingBuffer};
 use std::alloc::{AllocError, Global};
 
@@ -128,7 +128,7 @@ impl<W> Porter<W> {
         }
         let post = *self.ring.peek_known();
         match send(desk, self.me, post.to, post.body) {
-            Ok(()) | Err(NodeFault::Unknown) | Err(NodeFault::Refused(Fault::NoProc)) => {
+            Ok(()) | Err(CallFault::Unknown) | Err(CallFault::Refused(Fault::NoProc)) => {
                 let _ = self.ring.pop_known();
                 true
             }

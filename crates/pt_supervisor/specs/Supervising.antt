@@ -18,7 +18,7 @@ use Rattle.pt_crew.specs.declared.behaviour.Next.TheVariants.{Wait, Proceed, Sto
 use Rattle.pt_crew.specs.declared.births.Role.{Role}
 use Rattle.pt_crew.specs.declared.births.Births.{Births}
 use Rattle.pt_crew.specs.Births.{Bore, born}
-use Rattle.pt_node.specs.declared.node_fault.NodeFault.{NodeFault}
+use Rattle.pt_crew.specs.declared.call_fault.CallFault.{CallFault}
 use Rattle.pt_crew.specs.Telling.{IfKnown}
 use Rattle.pt_supervisor.specs.declared.children.Child.{Child}
 use Rattle.pt_supervisor.specs.declared.restart.Restart.{Restart}
@@ -114,14 +114,14 @@ nursery s = record {
 }
 
 -- it waits for the end of one whom it has told to end, and tries again where that was refused
-abbrev pub after_bid : Pid → Result (Unit {0}) NodeFault → Next
+abbrev pub after_bid : Pid → Result (Unit {0}) CallFault → Next
 after_bid p (Ok done) = Wait (Pick.ExitOf p)
 after_bid p (Err f) = Proceed
 
 -- it tells one to end, by an exit signal
 pub record Bids {S B : Type 0} (me p : Pid) (reason : Reason) (old : SupervisorScene S B) (next : Next) (new : SupervisorScene S B)
     : Type 0 where
-  pub result : Result (Unit {0}) NodeFault
+  pub result : Result (Unit {0}) CallFault
   pub signal : IfKnown (knows old.desk.shard p)
       (λ r. Calls me (Some (Said me p (Signal.Exit reason))) (tt {0}) old.desk.shard r new.desk.shard) old.desk result
       new.desk
