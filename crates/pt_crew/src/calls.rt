@@ -1,4 +1,4 @@
-//! The calls of a desk for a behaviour: they ask nothing of their caller, and each is answered.
+//! The calls of a desk for a behaviour: they have no precondition, and each returns an answer.
 //!
 //! A target that the desk does not know is refused as `Unknown`, as a node refuses it. None of them
 //! takes an item out of a mailbox, so a behaviour that makes no other calls is what [`Behaviour`](crate::Behaviour) asks
@@ -38,7 +38,7 @@ pub fn send(desk: &mut Desk, me: Pid, to: Pid, body: Body) -> Result<(), CallFau
     answered(desk.send(me, to, body))
 }
 
-/// Watches a process for its end (`monitor`).
+/// Monitors a process (`monitor`).
 ///
 /// It is refused as `Unknown` if the desk does not know the target, and nothing has changed then;
 /// else as [`Desk::monitor`] is.
@@ -90,7 +90,7 @@ pub fn exit_signal(desk: &mut Desk, me: Pid, to: Pid, reason: Reason) -> Result<
     answered(desk.exit_signal(me, to, reason))
 }
 
-/// Takes its link with a process away (`unlink`).
+/// Removes its link with a process (`unlink`).
 ///
 /// It is refused as `Unknown` if the desk does not know the target, and nothing has changed then;
 /// else as [`Desk::unlink`] is.
@@ -107,7 +107,7 @@ pub fn unlink(desk: &mut Desk, me: Pid, to: Pid) -> Result<(), CallFault>
     answered(desk.unlink(me, to))
 }
 
-/// Gives a monitor up, and leaves a `DOWN` that has come where it is (`demonitor`).
+/// Cancels a monitor, and leaves a `DOWN` that has arrived in the mailbox (`demonitor`).
 ///
 /// It answers whether the monitor was open. It is refused as [`Desk::demonitor`] is.
 pub fn demonitor(desk: &mut Desk, me: Pid, monitor: Ref) -> Result<bool, Fault>
@@ -119,7 +119,7 @@ pub fn demonitor(desk: &mut Desk, me: Pid, monitor: Ref) -> Result<bool, Fault>
     desk.demonitor(me, monitor, false)
 }
 
-/// Sets whether it traps exits, and answers whether it did (`process_flag(trap_exit, _)`).
+/// Sets whether it traps exits, and returns whether it did before (`process_flag(trap_exit, _)`).
 ///
 /// It is refused as [`Desk::trap`] is.
 pub fn trap(desk: &mut Desk, me: Pid, on: bool) -> Result<bool, Fault>

@@ -9,17 +9,17 @@ use crate::call_fault::CallFault;
 use crate::calls::send;
 use pt_node::{Body, Desk, Item, Pid};
 
-/// A request that came: who asks, under which number, and what.
+/// A request that arrived: who asks, under which number, and what.
 #[derive(Clone, Copy, Debug, PartialEq, Eq)]
 pub struct Request {
     pub from: Pid,
     /// The number of the client's reference, which the answer carries too.
     pub number: i64,
-    /// What is asked, by a number of the program's own.
+    /// What is asked, as a number of the program's own.
     pub asks: u32,
 }
 
-/// The request that the item is, or `None` where it is another: it is a message that speaks of its own sender.
+/// The request that the item is, or `None` if it is none. A request is a message that names its own sender.
 pub fn request_of(item: Item) -> Option<Request>
     ensures { result ≡ request_of item }
 {
@@ -36,7 +36,7 @@ pub fn request_of(item: Item) -> Option<Request>
     })
 }
 
-/// Whether the message speaks of this process.
+/// Whether the message names this process.
 pub(crate) fn speaks_of(body: Body, pid: Pid) -> bool
     ensures { result ≡ speaks_of body pid }
 {
