@@ -9,7 +9,7 @@ use Rattle.pt_signal.proofs.Same.{same_pid_refl}
 use Rattle.pt_events.specs.History.{is_unborn}
 use Rattle.pt_shard.specs.ShardState.{ShardState, phase_of}
 use Rattle.pt_shard.specs.Extends.{Extends}
-use Rattle.pt_node.proofs.Waiting.{born_later}
+use Rattle.pt_workers.proofs.Waiting.{born_later}
 use Rattle.pt_crew.specs.declared.births.Role.{Role}
 use Rattle.pt_crew.specs.declared.behaviour.Next.{Next}
 use Rattle.pt_crew.specs.declared.crew.Member.{Member}

@@ -27,7 +27,7 @@ use Rattle.std.specs.Prelude.{is_some}
 use Rattle.std.specs.List.{find}
 use Rattle.pt_signal.specs.Values.{fits}
 use Rattle.pt_events.specs.History.{Phase, unborn, living, ended, is_living, state_of}
-use Rattle.pt_node.proofs.GoingOn.{stays}
+use Rattle.pt_workers.proofs.GoingOn.{stays}
 use Rattle.pt_crew.proofs.Telling.{is_answered}
 use Rattle.pt_crew.specs.declared.behaviour.Next.TheVariants.{Wait}
 use Rattle.pt_crew.specs.Waking.{has_work}

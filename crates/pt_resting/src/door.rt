@@ -10,7 +10,7 @@ ghost use Rattle.pt_resting.specs.Bringing.{BringsFirst, Brings};
 use crate::bells::Bells;
 use crate::resting::Rests;
 use pt_crew::{CallFault, send};
-use pt_node::{Body, Desk, Fault, Pid, Turned, Work};
+use pt_workers::{Body, Desk, Fault, Pid, Turned, Work};
 use rtrb::{Consumer, Producer, PushError, RingBuffer};
 use std::alloc::{AllocError, Global};
 
