@@ -37,7 +37,7 @@ pub trait Behaviour {
     /// other item out of a mailbox.
     ///
     /// The calls of a desk in the form of [`send`](crate::send), [`monitor`](crate::monitor) and their like keep what is
-    /// asked here. The children that it bears ([`spawn_child`](crate::spawn_child)) enter the crew as the step ends.
+    /// required here. The children that it spawns ([`spawn_child`](crate::spawn_child)) enter the crew as the step ends.
     fn handle(
         &mut self,
         desk: &mut Desk,

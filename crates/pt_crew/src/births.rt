@@ -1,4 +1,4 @@
-//! The children of behaviours.
+//! The children that behaviours spawn.
 
 ghost use Rattle.std.specs.Prelude.{◌≡◌, [], ◌∷◌, length, MatchOption};
 ghost use Rattle.pt_desk.specs.DeskState.{GoesOn};

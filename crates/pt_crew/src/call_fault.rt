@@ -1,9 +1,9 @@
-//! Why a call of a behaviour is refused.
+//! Why a call of a behaviour fails.
 
 use pt_node::Fault;
 use thiserror::Error;
 
-/// Why a call of a behaviour is refused.
+/// Why a call of a behaviour fails.
 ///
 /// After each of them the desk is as it was, but for `Refused(Fault::NoProc)`, which its journal notes. `Unknown` comes
 /// first.
@@ -13,7 +13,7 @@ pub enum CallFault {
     /// has not issued its version.
     #[error("the target is not known")]
     Unknown,
-    /// The desk refused the call.
+    /// The call of the desk fails, for this reason.
     #[error("{0}")]
     Refused(Fault),
 }

@@ -1,8 +1,7 @@
 //! The calls of a desk for a behaviour: they ask nothing of their caller, and each is answered.
 //!
-//! A target that the desk does not know is refused as `Unknown`, as a node refuses it. None of them
-//! takes an item out of a mailbox, so a behaviour that makes no other calls is what [`Behaviour`](crate::Behaviour) asks
-//! of it.
+//! If the desk does not know a target, the call fails with `Unknown`, as that of a node does. None of them takes an
+//! item out of a mailbox. So a behaviour that makes no other calls meets what [`Behaviour`](crate::Behaviour) requires.
 #![tactic(auto, using(crate::proofs::Takes::calling))]
 
 ghost use Rattle.std.specs.Prelude.{◌≡◌, Some, false, is_some};
@@ -21,8 +20,8 @@ use pt_node::{Body, Desk, Fault, Pid, Reason, Ref};
 
 /// Sends a message (`!`).
 ///
-/// It is refused as `Unknown` if the desk does not know the target, and nothing has changed then;
-/// else as [`Desk::send`] is.
+/// Fails with `Unknown` if the desk does not know the target, and nothing has changed then. Else it fails as
+/// [`Desk::send`] does.
 #[inline(always)]
 pub fn send(desk: &mut Desk, me: Pid, to: Pid, body: Body) -> Result<(), CallFault>
     ensures does { IfKnown (knows desk.old.shard to)
@@ -40,8 +39,8 @@ pub fn send(desk: &mut Desk, me: Pid, to: Pid, body: Body) -> Result<(), CallFau
 
 /// Watches a process for its end (`monitor`).
 ///
-/// It is refused as `Unknown` if the desk does not know the target, and nothing has changed then;
-/// else as [`Desk::monitor`] is.
+/// Fails with `Unknown` if the desk does not know the target, and nothing has changed then. Else it fails as
+/// [`Desk::monitor`] does.
 pub fn monitor(desk: &mut Desk, me: Pid, to: Pid) -> Result<Ref, CallFault>
     ensures does { IfKnown (knows desk.old.shard to)
         (λ r. Reaches (has_monitor_to_make desk.old.shard me to) me to
@@ -57,8 +56,8 @@ pub fn monitor(desk: &mut Desk, me: Pid, to: Pid) -> Result<Ref, CallFault>
 
 /// Links itself with a process (`link`).
 ///
-/// It is refused as `Unknown` if the desk does not know the target, and nothing has changed then;
-/// else as [`Desk::link`] is.
+/// Fails with `Unknown` if the desk does not know the target, and nothing has changed then. Else it fails as
+/// [`Desk::link`] does.
 pub fn link(desk: &mut Desk, me: Pid, to: Pid) -> Result<(), CallFault>
     ensures does { IfKnown (knows desk.old.shard to)
         (λ r. Reaches (has_link_to_make desk.old.shard me to) me to
@@ -75,8 +74,8 @@ pub fn link(desk: &mut Desk, me: Pid, to: Pid) -> Result<(), CallFault>
 
 /// Sends an exit signal (`exit/2`).
 ///
-/// It is refused as `Unknown` if the desk does not know the target, and nothing has changed then;
-/// else as [`Desk::exit_signal`] is.
+/// Fails with `Unknown` if the desk does not know the target, and nothing has changed then. Else it fails as
+/// [`Desk::exit_signal`] does.
 pub fn exit_signal(desk: &mut Desk, me: Pid, to: Pid, reason: Reason) -> Result<(), CallFault>
     ensures does { IfKnown (knows desk.old.shard to)
         (λ r. Calls me (Some (Event.Said me to (Signal.Exit reason))) tt desk.old.shard r desk.new.shard) desk.old
@@ -92,8 +91,8 @@ pub fn exit_signal(desk: &mut Desk, me: Pid, to: Pid, reason: Reason) -> Result<
 
 /// Takes its link with a process away (`unlink`).
 ///
-/// It is refused as `Unknown` if the desk does not know the target, and nothing has changed then;
-/// else as [`Desk::unlink`] is.
+/// Fails with `Unknown` if the desk does not know the target, and nothing has changed then. Else it fails as
+/// [`Desk::unlink`] does.
 pub fn unlink(desk: &mut Desk, me: Pid, to: Pid) -> Result<(), CallFault>
     ensures does { IfKnown (knows desk.old.shard to)
         (λ r. Calls me (unlink_event desk.old.shard me to) tt desk.old.shard r desk.new.shard) desk.old result
@@ -109,7 +108,7 @@ pub fn unlink(desk: &mut Desk, me: Pid, to: Pid) -> Result<(), CallFault>
 
 /// Gives a monitor up, and leaves a `DOWN` that has come where it is (`demonitor`).
 ///
-/// It answers whether the monitor was open. It is refused as [`Desk::demonitor`] is.
+/// It returns whether the monitor was open. It fails as [`Desk::demonitor`] does.
 pub fn demonitor(desk: &mut Desk, me: Pid, monitor: Ref) -> Result<bool, Fault>
     ensures does { Calls me (demonitor_event desk.old.shard me monitor false)
         (is_some (demonitor_event desk.old.shard me monitor false)) desk.old.shard result desk.new.shard }
@@ -121,7 +120,7 @@ pub fn demonitor(desk: &mut Desk, me: Pid, monitor: Ref) -> Result<bool, Fault>
 
 /// Sets whether it traps exits, and answers whether it did (`process_flag(trap_exit, _)`).
 ///
-/// It is refused as [`Desk::trap`] is.
+/// It fails as [`Desk::trap`] does.
 pub fn trap(desk: &mut Desk, me: Pid, on: bool) -> Result<bool, Fault>
     ensures does { Calls me (Some (Event.Flag me on)) (state_in desk.old.shard me).traps desk.old.shard result
         desk.new.shard }

@@ -261,7 +261,7 @@ impl<B: Behaviour + Drop> Crew<B> {
         Ok(())
     }
 
-    /// PutsMember the process at that place into the queue, if there is one and it is not there.
+    /// Puts the process at that place into the queue, if there is one and it is not there yet.
     fn wake_at(&mut self, place: usize) -> Result<(), AllocError>
         ensures wakes { OnOk result (WakesAt place self.old self.new) }
         ensures refused { OnErr result (IsSame self.old self.new) }
@@ -274,7 +274,7 @@ impl<B: Behaviour + Drop> Crew<B> {
         self.wake(p)
     }
 
-    /// PutsMember p into the queue, if it is of the crew and not there.
+    /// Puts p into the queue, if it is of the crew and not there yet.
     #[inline(always)]
     fn wake(&mut self, p: Pid) -> Result<(), AllocError>
         ensures wakes { OnOk result (Wakes p self.old self.new) }
@@ -438,7 +438,7 @@ impl<B: Behaviour + Drop> Crew<B> {
         self.put(p, tended);
     }
 
-    /// PutsMember p, which was come to, behind the queue, or out of the crew, or leaves it as it is.
+    /// Puts p, which was come to, behind the queue, or out of the crew, or leaves it as it is.
     #[inline(always)]
     fn put(&mut self, p: Pid, tended: Tended)
         requires queue { deque_len self.old.queue < deque_capacity self.old.queue }

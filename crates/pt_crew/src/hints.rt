@@ -26,8 +26,8 @@ impl Hints {
         }
     }
 
-    /// Makes room for the guesses of so many members: a power of two of them, as many as the last bits of a slot tell
-    /// apart.
+    /// Makes room for the guesses of so many members: a power of two of them, as many as the last bits of a slot
+    /// distinguish.
     pub(crate) fn grow(&mut self, members: usize) -> Result<(), AllocError>
         ensures ok { OnOk result (members ≤ vec_len self.new.places) }
         ensures succeeds { members ≤ vec_len self.old.places → IsOk result }

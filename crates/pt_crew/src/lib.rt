@@ -15,11 +15,11 @@
 //!
 //! # What is proved
 //!
-//! - **No lost wake-up.** After each step, each live process with an item that it waits for is in the queue, and so is
-//!   each exited one that has not left. (`CrewDoes`, `awake`)
-//! - **Attending.** A crew attends a desk from its making on, and still after each step: each process to which something
-//!   came stands in the queue, or what brought it is still to be read. (`Attends`, `attends`)
-//! - **Each item once.** Each item taken was handed to the behaviour of its process, once and in order, and nothing
+//! - **No lost wake-up.** After each step, each live process with an item that it waits for is in the queue. So is each
+//!   exited one that has not left. (`CrewDoes`, `awake`)
+//! - **Attending.** A new crew attends its desk, and does so still after each step: each process to which something came
+//!   is in the queue, or what it got is not read yet. (`Attends`, `attends`)
+//! - **Each item once.** Each item taken was passed to the behaviour of its process, once and in order, and nothing
 //!   else was. (`hands`)
 //! - **Behaviours decide.** What a behaviour answered is what its process does next: proceed, wait for a pick, or exit.
 //!   (`steps`)

@@ -40,11 +40,10 @@ pub struct Pending {
 impl Pending {
     /// Asks a server: makes a monitor, and sends the request under its number (`gen_server:call` up to its `receive`).
     ///
-    /// Refused as [`monitor`] is, and nothing is asked then: as `Unknown` where the desk does not know the server, as
-    /// `NoProc` where it sees that the server has ended, as `Myself`, `Gone`, `Worn` or `Memory`. Refused as `Worn` or
-    /// `Memory` too where the request could not be sent; the monitor is given up then, and where that is refused as well
-    /// its `DOWN` may come, which belongs to no call. Where the server is seen to have ended only as the request is
-    /// sent, the call is made, and ends by the `DOWN`.
+    /// Fails as [`monitor`] does, and nothing is asked then: with `Unknown`, `Gone`, `Myself`, `NoProc`, `Worn` or
+    /// `Memory`. Fails with `Worn` or `Memory` too if the request could not be sent. The monitor is cancelled then. If
+    /// that fails as well, its `DOWN` may arrive, and belongs to no call. If the server is seen to have exited only as
+    /// the request is sent, the call is made, and ends by the `DOWN`.
     pub fn ask(desk: &mut Desk, me: Pid, server: Pid, asks: u32) -> Result<Pending, CallFault>
         ensures does { Asks me server asks desk.old result desk.new }
         ensures takes { takes desk.new.shard.journal ≡ takes desk.old.shard.journal }
@@ -130,7 +129,7 @@ fn number_of(monitor: Ref) -> i64
     monitor.number as i64
 }
 
-/// The fault for which a request was not sent. A server that is seen to have ended is none: its `DOWN` comes.
+/// The fault for which a request was not sent. That the server is seen to have exited is none: its `DOWN` arrives.
 fn refusal(told: Result<(), CallFault>) -> Option<CallFault>
     ensures { result ≡ refusal told }
 {

@@ -48,8 +48,8 @@ pub(crate) fn speaks_of(body: Body, pid: Pid) -> bool
 
 /// Answers a request: Erlang's `gen_server:reply`.
 ///
-/// It is refused as [`send`] is, and the client has no answer then. Where the client has ended, that is `NoProc` or
-/// nothing, and either way there is nothing left to do.
+/// It fails as [`send`] does, and the client gets no answer then. If the client has exited, it fails with `NoProc` or
+/// does nothing. Either way there is nothing left to do.
 pub fn reply(desk: &mut Desk, me: Pid, request: Request, n: u32) -> Result<(), CallFault>
     ensures does { SendsTo me request.from (answer request n) desk.old result desk.new }
     ensures takes { takes desk.new.shard.journal ≡ takes desk.old.shard.journal }
