@@ -1,11 +1,9 @@
 -- One that was born enters.
-use Rattle.std.proofs.Common.{◌≡◌, inl, inr, Bool, true, false, List, [], ◌∷◌, ◌++◌, Some, refl, sym, ap, subst, ◌∙◌, append-nil}
-use Rattle.std.specs.Prelude.{MatchBool}
+use Rattle.std.proofs.Common.{◌≡◌, inl, inr, Bool, true, List, [], ◌++◌, sym, ap, subst, ◌∙◌, append-nil}
 use Rattle.pt_signal.specs.declared.pid.Pid.{Pid}
 use Rattle.pt_crew.specs.declared.crew.Crew.{Crew}
 use Rattle.pt_crew.specs.declared.births.Role.{Role}
-use Rattle.pt_crew.specs.Visiting.{AreSame, AreWith}
-use Rattle.pt_crew.specs.Crews.{roles, left, waiting, queue, IsSame, Aboard, EntersOne}
+use Rattle.pt_crew.specs.Crews.{left, waiting, queue, IsSame}
 use Rattle.pt_crew.specs.Parts.{aboard, AdmitsOf, AdmitsFirst, CanEnter, QueueIsLonger}
 use Rattle.pt_crew.proofs.Visiting.{same_roles}
 

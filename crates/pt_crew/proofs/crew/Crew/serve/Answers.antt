@@ -1,5 +1,5 @@
 -- `Crew::serve`: its clauses `knows`, `room` and `serves`.
-use Rattle.std.proofs.Common.{◌≡◌, List, ◌∷◌, Some, None, refl, subst, arith}
+use Rattle.std.proofs.Common.{List, ◌∷◌, None, refl, subst, arith}
 use Rattle.pt_signal.specs.declared.pid.Pid.{Pid}
 use Rattle.pt_desk.proofs.Turning.{extends}
 use Rattle.pt_crew.specs.Crews.{members}
