@@ -1,11 +1,12 @@
 //! A work that reports to its bells when there is nothing to do.
 
-ghost use Rattle.std.specs.Prelude.{◌≡◌, ◌==◌, ◌||◌, ⊤, Bool, None, length, not};
+ghost use Rattle.std.specs.Prelude.{◌≡◌, ◌==◌, ◌||◌, ⊤, Bool, length, not};
 ghost use Rattle.pt_crew.specs.Crews.{queue, waiting};
 
 use crate::bells::Bells;
 use pt_crew::{Behaviour, Crew};
 use pt_workers::{Desk, Event, Pid, Stamped, Turned, Work};
+use std::marker::Model;
 
 /// A work that knows whether it has something to do by itself, though nothing arrives at its desk.
 ///
@@ -42,11 +43,17 @@ pub struct Resting<'a, W> {
     posts: u64,
 }
 
+/// Clauses see the work alone: what it reports to the bells wakes workers, and changes nothing.
+impl<'a, W> Model for Resting<'a, W> {
+    ghost Value = { W };
+
+    ghost view = { λ r. r.work };
+}
+
 impl<'a, W: Rests> Resting<'a, W> {
     /// The work of a desk of the node whose bells these are.
     pub fn new(work: W, bells: &'a Bells) -> Resting<'a, W>
-        ensures work { result.work ≡ work }
-        ensures first { (result.clock ≡ None) × (result.posts ≡ 0) }
+        ensures { result ≡ work }
     {
         Resting {
             work,
@@ -58,14 +65,14 @@ impl<'a, W: Rests> Resting<'a, W> {
 
     /// The work, to be read.
     pub fn work(&self) -> &W
-        ensures { result.now ≡ self.now.work }
+        ensures { result.now ≡ self.now }
     {
         &self.work
     }
 
     /// The work, as it is now.
     pub fn into_work(self) -> W
-        ensures { result ≡ self.entry.work }
+        ensures { result ≡ self.entry }
     {
         let Resting { work, .. } = self;
         work
@@ -103,9 +110,9 @@ fn targets_of(desk: &Desk, events: &[Stamped]) -> u64 {
 }
 
 impl<'a, W: Rests> Work for Resting<'a, W> {
-    ghost does = { λ old d new e. W.Work.does old.work d new.work e };
+    ghost does = { λ old d new e. W.Work.does old d new e };
 
-    ghost hears = { λ old d turned new. W.Work.hears old.work d turned new.work };
+    ghost hears = { λ old d turned new. W.Work.hears old d turned new };
 
     fn step(&mut self, desk: &mut Desk) {
         let before = desk.clock();

@@ -315,6 +315,10 @@ knows_nothing plans pids actors came d none = record {
 pub fresh_knows : (r : Runner) (d : ShardState) → IsFresh r → RunnerKnows r d
 fresh_knows r d fresh = subst (λ n. KnowsOf r.script.now.processes r.pids.items r.actors.items r.came.items n d) (sym fresh.unread) (knows_nothing r.script.now.processes r.pids.items r.actors.items r.came.items d fresh.unmarked)
 
+-- and so it stays however the desk goes on
+pub runner_knows_later : (r : Runner) (old new : ShardState) → Extends old new → RunnerKnows r old → RunnerKnows r new
+runner_knows_later r old new e k = knows_later r.script.now.processes r.pids.items r.actors.items r.came.items r.read old new e k
+
 -- what a runner that attends a desk knows of it, where it has read no more than there is
 pub attends_knows : (r : Runner) (d : ShardState) → r.read ≤ length d.journal → RunnerAttends r d → RunnerKnows r d
 attends_knows r d within (inl fresh) = fresh_knows r d fresh

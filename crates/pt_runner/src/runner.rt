@@ -2,9 +2,7 @@
 
 ghost use Rattle.std.specs.Prelude.{◌≡◌, ◌≢◌, ◌⊎◌, ℕ, Bool, false, ◌<◌, ◌≤◌, ◌+◌, ◌++◌, ◌∷◌, ◌||◌, [], List, None, Some, Ok};
 ghost use Rattle.std.specs.Prelude.{count_by, map, not, slice_index_or, slice_set, true, vec_capacity, vec_len};
-ghost use Rattle.std.specs.List.{All, find, list_all};
-ghost use Rattle.std.specs.Option.{option_map};
-ghost use Rattle.pt_signal.specs.Values.{same_pid};
+ghost use Rattle.std.specs.List.{All, list_all};
 ghost use Rattle.pt_shard.specs.ShardState.{ShardState, lives};
 ghost use Rattle.pt_desk.specs.DeskState.{GoesOn, HasSameEnds};
 ghost use Rattle.pt_script.specs.Plans.{Plan};
@@ -12,7 +10,7 @@ ghost use Rattle.pt_script.specs.declared.values.Operation.{Operation};
 ghost use Rattle.pt_script.specs.declared.values.Pattern.{Pattern};
 ghost use Rattle.pt_runner.specs.declared.runner.Actor.{Actor};
 ghost use Rattle.pt_runner.specs.Acting.{Plays, GoesBehind, ActsAt, RunnerDoes, acting, table, newborn_actor, next_of};
-ghost use Rattle.pt_runner.specs.Acting.{advanced, living, place_of, put_off, with_born, RunnerSpawns};
+ghost use Rattle.pt_runner.specs.Acting.{advanced, living, place_listed, put_off, with_born, RunnerSpawns};
 ghost use Rattle.pt_runner.specs.Stepping.{ProcessesStep, processes_here};
 ghost use Rattle.pt_runner.specs.Waiting.{RunnerAttends, HasSameRest, IsAbreast, IsFresh, IsTrueOf, IsUnmarked, RunnerKnows, RunnerSteps};
 ghost use Rattle.pt_runner.specs.Waiting.{AllRest, idle_runner, marked, rests, sleeps};
@@ -265,7 +263,7 @@ impl<'a> Runner<'a> {
     /// The place of the process in its list, or `None` if it was not spawned on this desk, or had exited as the last
     /// step began.
     pub fn place(&self, p: Pid) -> Option<Place>
-        ensures { result ≡ option_map place_of (find (λ a. same_pid a.pid p) self.now.actors.items) }
+        ensures { result ≡ place_listed (table self.now) p }
     {
         for actor in &self.actors {
             if actor.pid == p {
@@ -280,8 +278,9 @@ impl<'a> Runner<'a> {
     }
 
     /// The number of its processes that are alive.
+    #[tactic(auto, using(crate::proofs::Finding::counted_here))]
     pub fn alive(&self, desk: &Desk) -> usize
-        ensures { result ≡ count_by (λ a. lives desk.now.shard a.pid) self.now.actors.items }
+        ensures { result ≡ count_by (lives desk.now.shard) (processes_here self.now) }
     {
         self.actors
             .iter()
