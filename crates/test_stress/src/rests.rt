@@ -3,7 +3,7 @@
 ghost use Rattle.pt_desk.specs.DeskState.{GoesOn};
 
 use crate::board::DESKS;
-use pt_crew::tell;
+use pt_crew::send;
 use pt_node::{Body, Config, Desk, Item, Node, Pick, Pid, Turned, Work};
 use pt_resting::{Bells, Door, Porter, Post, RestGate, RestingWork, Rests, way_in};
 use std::alloc::Global;
@@ -102,7 +102,7 @@ impl<'a> Relay<'a> {
     {
         let next = self.me.shard.saturating_add(1);
         if next < DESKS {
-            let _ = tell(desk, self.me, first_of(next), body);
+            let _ = send(desk, self.me, first_of(next), body);
             return;
         }
         self.notes.note(u64::try_from(body.num).unwrap_or(0));
