@@ -2,6 +2,8 @@
 mod Accounts
 mod Attending
 mod Faults
+mod Noting
 mod Passing
+mod Rest
 mod Settings
 mod Writing
