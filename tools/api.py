@@ -36,7 +36,7 @@ ITEM = re.compile(r"pub (struct|enum|trait|fn|const) (\w+)")
 IMPL = re.compile(r"^impl(?:<[^>]*>)? (\w+)(?:<[^>]*>)? \{")
 IMPL_OF = re.compile(r"^impl(?:<[^>]*>)? (\w+)(?:<[^>]*>)? for (\w+)(?:<[^>]*>)? \{", re.M)
 EXPORT = re.compile(r"pub use (\w+(?:::\w+)*?)::(\{[^}]*\}|\w+);")
-FAILS = re.compile(r"(It is |They are )?[Rr]efused\b|(It )?[Ff]ails\b|`\w+` (where|if|exactly)\b|It is given back\b")
+FAILS = re.compile(r"(((Then |Else |If )?[Ii]t|They) )?((is|are) )?([Rr]efused|[Ff]ails?)\b|`\w+` (where|if|exactly)\b|It is given back\b")
 
 Doc = list[str]
 

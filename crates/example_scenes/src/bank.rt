@@ -1,4 +1,4 @@
-//! Four accounts on four desks, and a teller at each who has them transfer to each other: no money is made or lost.
+//! Four accounts on four desks, each with a teller, transfer money to each other: none is made or lost.
 
 ghost use Rattle.std.specs.Prelude.{◌≡◌};
 ghost use Rattle.pt_desk.specs.DeskState.{GoesOn};
@@ -14,26 +14,26 @@ use std::alloc::Global;
 use std::fmt;
 use std::fmt::{Display, Formatter, Write};
 
-/// The kind of a teller's order: pay so much to whom it names.
+/// The kind of a teller's order: pay so much to the account that it names.
 const PAY: u32 = 1;
 
-/// The kind of what one account pays to another.
+/// The kind of a payment from one account to another.
 const PAID: u32 = 2;
 
-/// What each account has at first.
+/// The money that each account has at first.
 const AT_FIRST: i64 = 1_000;
 
-/// How many orders each teller gives.
+/// The number of orders that each teller gives.
 const ORDERS: i64 = 100;
 
-/// An account: how much is on it, and how many orders it could not pay.
+/// An account: its balance, and the number of orders that it could not pay.
 #[derive(Drop)]
 struct Account {
     balance: i64,
     refused: u32,
 }
 
-/// A teller orders the account of its desk to pay, so many times still.
+/// A teller: it orders the account of its desk to pay, so many times more.
 #[derive(Drop)]
 struct Teller {
     account: Pid,
@@ -61,8 +61,8 @@ fn other(account: Pid, order: i64) -> Pid {
     first_of(account.shard.saturating_add(step) % DESKS)
 }
 
-/// Pays, and answers what is left; nothing is paid where there is not enough, or the receiver has ended.
-#[tactic(auto, using(pt_node::proofs::GoingOn::stays))]
+/// Pays, and returns the new balance. Nothing is paid if there is not enough, or the receiver has exited.
+#[tactic(auto, using(pt_workers::proofs::GoingOn::stays))]
 fn pay(desk: &mut Desk, me: Pid, to: Pid, amount: i64, balance: i64) -> Option<i64>
     ensures takes { takes desk.new.shard.journal ≡ takes desk.old.shard.journal }
     ensures goes_on { GoesOn desk.old desk.new }
@@ -76,8 +76,8 @@ fn pay(desk: &mut Desk, me: Pid, to: Pid, amount: i64, balance: i64) -> Option<i
     }
 }
 
-/// Bears the teller of this account.
-#[tactic(auto, using(pt_node::proofs::GoingOn::stays))]
+/// Spawns the teller of this account.
+#[tactic(auto, using(pt_workers::proofs::GoingOn::stays))]
 fn open(desk: &mut Desk, births: &mut Births<Clerk>, me: Pid) -> Next
     ensures takes { takes desk.new.shard.journal ≡ takes desk.old.shard.journal }
     ensures kept { kept_roles births.new ≡ kept_roles births.old }
@@ -92,8 +92,8 @@ fn open(desk: &mut Desk, births: &mut Births<Clerk>, me: Pid) -> Next
 }
 
 impl Account {
-    /// Does as an order says, or takes what was paid.
-    #[tactic(auto, using(pt_node::proofs::GoingOn::stays))]
+    /// Does what an order says, or takes a payment.
+    #[tactic(auto, using(pt_workers::proofs::GoingOn::stays))]
     fn hear(&mut self, desk: &mut Desk, me: Pid, body: Body)
         ensures takes { takes desk.new.shard.journal ≡ takes desk.old.shard.journal }
         ensures goes_on { GoesOn desk.old desk.new }
@@ -114,7 +114,7 @@ impl Account {
 
 impl Teller {
     /// Gives the next order, if there is one.
-    #[tactic(auto, using(pt_node::proofs::GoingOn::stays))]
+    #[tactic(auto, using(pt_workers::proofs::GoingOn::stays))]
     fn order(&mut self, desk: &mut Desk, me: Pid) -> Next
         ensures takes { takes desk.new.shard.journal ≡ takes desk.old.shard.journal }
         ensures goes_on { GoesOn desk.old desk.new }
@@ -134,7 +134,7 @@ impl Behaviour for Clerk {
 
     ghost answers = { λ _ _ _ _ _ _ _ _. ⊤ };
 
-    #[tactic(auto, using(pt_node::proofs::GoingOn::stays))]
+    #[tactic(auto, using(pt_workers::proofs::GoingOn::stays))]
     fn handle(
         &mut self,
         desk: &mut Desk,
@@ -156,7 +156,7 @@ impl Behaviour for Clerk {
     }
 }
 
-/// What came of it.
+/// The result of the scene.
 #[derive(Clone, Copy, Debug)]
 pub struct Bank {
     balances: [i64; 4],
@@ -176,7 +176,7 @@ impl Display for Bank {
 }
 
 impl Bank {
-    /// The account of that desk.
+    /// Adds the account of that desk.
     fn add(&mut self, desk: u8, stage: &Stage<Clerk>) {
         if let Some(Clerk::Account(account)) = stage.crew().behaviour(first_of(desk)) {
             self.balances[(desk % 4) as usize] = account.balance;

@@ -1,4 +1,4 @@
-//! A room on the first desk and a guest on each of the others, who joins it, says some words, and crashes.
+//! A room on the first desk, and on each of the others a guest that joins it, says some words, and crashes.
 
 ghost use Rattle.std.specs.Prelude.{◌≡◌, ◌<◌};
 ghost use Rattle.pt_desk.specs.DeskState.{GoesOn};
@@ -13,16 +13,16 @@ use std::alloc::Global;
 use std::fmt;
 use std::fmt::{Display, Formatter, Write};
 
-/// The kind of the message by which a guest joins.
+/// The kind of the message with which a guest joins.
 const JOIN: u32 = 1;
 
-/// The kind of the words that are said, to the room and by the room to its guests.
+/// The kind of a word, sent to the room and by the room to its guests.
 const SAY: u32 = 2;
 
-/// How many words each guest says.
+/// The number of words that each guest says.
 const WORDS: u32 = 5;
 
-/// A room: who is in it, how many words it has passed on, and how many guests have crashed.
+/// A room: its guests, the number of words that it has passed on, and the number of guests that have crashed.
 #[derive(Drop)]
 struct Hall {
     guests: [Option<Pid>; 3],
@@ -35,7 +35,7 @@ struct Hall {
 enum Talker {
     /// The room.
     Room(Hall),
-    /// A guest, and how many words it has still to say.
+    /// A guest, and the number of words that it still has to say.
     Guest { words: u32 },
 }
 
@@ -47,15 +47,15 @@ fn message(kind: u32, num: i64) -> Body {
     }
 }
 
-/// Where a guest of that desk stands in the list.
+/// The place of a guest of that desk in the list.
 fn seat(guest: Pid) -> usize
     ensures { result < 3 }
 {
     (guest.shard as usize + 2) % 3
 }
 
-/// Passes a word on to a guest, if there is one, and how many it was passed on to.
-#[tactic(auto, using(pt_node::proofs::GoingOn::stays))]
+/// Passes a word on to a guest, if there is one, and returns the number of guests that it was passed on to.
+#[tactic(auto, using(pt_workers::proofs::GoingOn::stays))]
 fn pass(desk: &mut Desk, me: Pid, guest: Option<Pid>, word: i64) -> u32
     ensures takes { takes desk.new.shard.journal ≡ takes desk.old.shard.journal }
     ensures goes_on { GoesOn desk.old desk.new }
@@ -70,7 +70,7 @@ fn pass(desk: &mut Desk, me: Pid, guest: Option<Pid>, word: i64) -> u32
 }
 
 /// Passes a word on to all guests.
-#[tactic(auto, using(pt_node::proofs::GoingOn::stays, pt_desk::proofs::Turning::goes_on_then))]
+#[tactic(auto, using(pt_workers::proofs::GoingOn::stays, pt_desk::proofs::Turning::goes_on_then))]
 fn pass_to_all(desk: &mut Desk, me: Pid, guests: [Option<Pid>; 3], word: i64) -> u32
     ensures takes { takes desk.new.shard.journal ≡ takes desk.old.shard.journal }
     ensures goes_on { GoesOn desk.old desk.new }
@@ -81,8 +81,8 @@ fn pass_to_all(desk: &mut Desk, me: Pid, guests: [Option<Pid>; 3], word: i64) ->
     first.saturating_add(second).saturating_add(third)
 }
 
-/// Says the next word, and what a guest does next: when none is left it crashes.
-#[tactic(auto, using(pt_node::proofs::GoingOn::stays))]
+/// Says the next word, and returns what the guest does next: it crashes when no word is left.
+#[tactic(auto, using(pt_workers::proofs::GoingOn::stays))]
 fn speak(desk: &mut Desk, me: Pid, words: &mut u32) -> Next
     ensures takes { takes desk.new.shard.journal ≡ takes desk.old.shard.journal }
     ensures goes_on { GoesOn desk.old desk.new }
@@ -95,8 +95,9 @@ fn speak(desk: &mut Desk, me: Pid, words: &mut u32) -> Next
     Next::Wait(Pick::Any)
 }
 
-/// What the room does with an item: who joins is watched, what is said goes to all, and who is down has left.
-#[tactic(auto, using(pt_node::proofs::GoingOn::stays))]
+/// Handles an item of the room: it monitors a guest that joins, passes a word on to all, and removes a guest that is
+/// down.
+#[tactic(auto, using(pt_workers::proofs::GoingOn::stays))]
 fn receive(desk: &mut Desk, me: Pid, hall: &mut Hall, item: Option<Item>)
     ensures takes { takes desk.new.shard.journal ≡ takes desk.old.shard.journal }
     ensures goes_on { GoesOn desk.old desk.new }
@@ -118,8 +119,8 @@ fn receive(desk: &mut Desk, me: Pid, hall: &mut Hall, item: Option<Item>)
     }
 }
 
-/// Tells the room something.
-#[tactic(auto, using(pt_node::proofs::GoingOn::stays))]
+/// Sends a message to the room.
+#[tactic(auto, using(pt_workers::proofs::GoingOn::stays))]
 fn tell_room(desk: &mut Desk, me: Pid, kind: u32)
     ensures takes { takes desk.new.shard.journal ≡ takes desk.old.shard.journal }
     ensures goes_on { GoesOn desk.old desk.new }
@@ -127,7 +128,7 @@ fn tell_room(desk: &mut Desk, me: Pid, kind: u32)
     let _ = tell(desk, me, first_of(0), message(kind, 0));
 }
 
-/// A guest joins, and says its first word.
+/// Lets a guest join, and say its first word.
 #[tactic(auto, using(pt_desk::proofs::Turning::goes_on_then))]
 fn join(desk: &mut Desk, me: Pid)
     ensures takes { takes desk.new.shard.journal ≡ takes desk.old.shard.journal }
@@ -142,7 +143,7 @@ impl Behaviour for Talker {
 
     ghost answers = { λ _ _ _ _ _ _ _ _. ⊤ };
 
-    #[tactic(auto, using(pt_node::proofs::GoingOn::stays))]
+    #[tactic(auto, using(pt_workers::proofs::GoingOn::stays))]
     fn handle(
         &mut self,
         desk: &mut Desk,
@@ -166,7 +167,7 @@ impl Behaviour for Talker {
     }
 }
 
-/// What came of it.
+/// The result of the scene.
 #[derive(Clone, Copy, Debug)]
 pub struct Chat {
     passed: u32,

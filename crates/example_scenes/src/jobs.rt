@@ -1,9 +1,9 @@
-//! A queue of jobs below a tree of supervisors: now and then a worker crashes, its supervisor starts another one, and
-//! the job that it had is given out again.
+//! A queue of jobs below a tree of supervisors. Now and then a worker crashes, its supervisor starts another one, and
+//! its job is given out again.
 //!
 //! On the first desk a supervisor has two children: the queue, and a supervisor of workers. On each of the others a
-//! client hands in jobs, one after the other. A client asks the queue for a job by a call, which is answered once the
-//! job is done; a worker asks for its next one, and so says that it is done with the last. The queue watches each
+//! client asks for jobs, one after the other. A client asks the queue for a job by a call, and gets the answer once the
+//! job is done. A worker asks for its next job, and so reports that it is done with the last. The queue monitors each
 //! worker that has a job.
 
 ghost use Rattle.std.specs.Prelude.{◌≡◌};
@@ -26,38 +26,39 @@ use std::collections::VecDeque;
 use std::fmt;
 use std::fmt::{Display, Formatter, Write};
 
-/// What a worker asks for. A client asks for a job by its number, from 1 on.
+/// The request of a worker. A client asks for a job by its number, from 1 on.
 const NEXT_JOB: u32 = 0;
 
-/// How many jobs each client hands in.
+/// The number of jobs that each client asks for.
 const JOBS: u32 = 10;
 
-/// How many jobs a worker does before it crashes at the next one.
+/// The number of jobs that a worker does before it crashes at the next one.
 const DOES: u32 = 4;
 
-/// Where the queue stands: it is born second on the first desk, right after its supervisor.
+/// The pid of the queue: it is spawned second on the first desk, right after its supervisor.
 const QUEUE: Pid = Pid {
     shard: 0,
     slot: 1,
     version: 1,
 };
 
-/// With what a worker crashes.
+/// The reason with which a worker crashes.
 const CRASH: Reason = Reason::Other(7);
 
-/// With what the queue crashes where there is no memory: whoever waits for it hears that, as its supervisor does.
+/// The reason with which the queue crashes if there is no memory. Each process that waits for it gets that, as does its
+/// supervisor.
 const NO_MEMORY: Reason = Reason::Other(8);
 
 /// A job that a worker has.
 #[derive(Clone, Copy)]
 struct Given {
-    /// The client's request, which is still to be answered.
+    /// The client's request, which is not answered yet.
     job: Request,
     worker: Pid,
     monitor: Ref,
 }
 
-/// A queue: the jobs that nobody has, the workers that wait for one, and the jobs that are given out.
+/// A queue: the jobs that no worker has, the workers that wait for one, and the jobs that are given out.
 #[derive(Drop)]
 struct Queue {
     jobs: VecDeque<Request>,
@@ -78,7 +79,7 @@ impl Queue {
         }
     }
 
-    /// Sees to an item, and then gives a job out, if one waits and a worker does.
+    /// Handles an item, and then gives out a job, if a job and a worker wait.
     #[tactic(auto, using(pt_desk::proofs::Turning::goes_on_then))]
     fn attend(&mut self, desk: &mut Desk, me: Pid, item: Option<Item>) -> Result<(), AllocError>
         ensures takes { takes desk.new.shard.journal ≡ takes desk.old.shard.journal }
@@ -88,8 +89,8 @@ impl Queue {
         self.give_out(desk, me)
     }
 
-    /// A worker has ended that had a job, a worker asks for the next one, or a client for one.
-    #[tactic(auto, using(pt_node::proofs::GoingOn::stays))]
+    /// Handles an item: a worker that had a job has exited, a worker asks for its next job, or a client asks for one.
+    #[tactic(auto, using(pt_workers::proofs::GoingOn::stays))]
     fn hear(&mut self, desk: &mut Desk, me: Pid, item: Option<Item>) -> Result<(), AllocError>
         ensures takes { takes desk.new.shard.journal ≡ takes desk.old.shard.journal }
         ensures goes_on { GoesOn desk.old desk.new }
@@ -105,7 +106,7 @@ impl Queue {
         }
     }
 
-    /// A worker has ended: the job that it had is the next one again.
+    /// Puts the job of an exited worker in front again.
     fn take_back(&mut self, monitor: Ref) -> Result<(), AllocError> {
         let Some(place) = self.given.iter().position(|given| given.monitor == monitor) else {
             return Ok(());
@@ -123,8 +124,8 @@ impl Queue {
         Some(self.given.swap_remove(place))
     }
 
-    /// A worker waits for the next job, and is done with the one that it had.
-    #[tactic(auto, using(pt_node::proofs::GoingOn::stays))]
+    /// Lets a worker wait for the next job, since it is done with the one that it had.
+    #[tactic(auto, using(pt_workers::proofs::GoingOn::stays))]
     fn line_up(&mut self, desk: &mut Desk, me: Pid, request: Request) -> Result<(), AllocError>
         ensures takes { takes desk.new.shard.journal ≡ takes desk.old.shard.journal }
         ensures goes_on { GoesOn desk.old desk.new }
@@ -135,9 +136,9 @@ impl Queue {
         Ok(self.idle.push_back(request)?)
     }
 
-    /// Gives the next job to the worker that has waited longest. One that has ended meanwhile is passed over: the job
-    /// waits for whoever is started in its place.
-    #[tactic(auto, using(pt_node::proofs::GoingOn::stays))]
+    /// Gives the next job to the worker that has waited longest. If that one has exited meanwhile, it is skipped: the
+    /// job waits for the worker that is started in its place.
+    #[tactic(auto, using(pt_workers::proofs::GoingOn::stays))]
     fn give_out(&mut self, desk: &mut Desk, me: Pid) -> Result<(), AllocError>
         ensures takes { takes desk.new.shard.journal ≡ takes desk.old.shard.journal }
         ensures goes_on { GoesOn desk.old desk.new }
@@ -156,7 +157,7 @@ impl Queue {
     }
 }
 
-/// A job is done: its client has the answer.
+/// Finishes a job: its client gets the answer.
 fn finish(desk: &mut Desk, me: Pid, given: Given)
     ensures takes { takes desk.new.shard.journal ≡ takes desk.old.shard.journal }
     ensures goes_on { GoesOn desk.old desk.new }
@@ -165,7 +166,7 @@ fn finish(desk: &mut Desk, me: Pid, given: Given)
     let _ = reply(desk, me, given.job, given.job.asks);
 }
 
-/// Hands a job to a worker that asks for one, and watches it, unless it has ended.
+/// Gives a job to a worker that asks for one, and monitors it, unless it has exited.
 fn hand(desk: &mut Desk, me: Pid, job: Request, request: Request) -> Option<Given>
     ensures takes { takes desk.new.shard.journal ≡ takes desk.old.shard.journal }
     ensures goes_on { GoesOn desk.old desk.new }
@@ -180,8 +181,8 @@ fn hand(desk: &mut Desk, me: Pid, job: Request, request: Request) -> Option<Give
     })
 }
 
-/// Asks the queue, for a job by its number or for the next one; without a queue there is nothing to wait for.
-#[tactic(auto, using(pt_node::proofs::GoingOn::stays))]
+/// Asks the queue, for a job by its number or for the next one. Without a queue there is nothing to wait for.
+#[tactic(auto, using(pt_workers::proofs::GoingOn::stays))]
 fn ask(desk: &mut Desk, me: Pid, asks: u32, call: &mut Option<Pending>) -> Next
     ensures takes { takes desk.new.shard.journal ≡ takes desk.old.shard.journal }
     ensures goes_on { GoesOn desk.old desk.new }
@@ -195,8 +196,8 @@ fn ask(desk: &mut Desk, me: Pid, asks: u32, call: &mut Option<Pending>) -> Next
     }
 }
 
-/// What an item says to a call; nothing where none was made.
-#[tactic(auto, using(pt_node::proofs::GoingOn::stays))]
+/// What an item means to a call; nothing if no call was made.
+#[tactic(auto, using(pt_workers::proofs::GoingOn::stays))]
 fn hear(desk: &mut Desk, item: Item, call: &mut Option<Pending>) -> Heard
     ensures takes { takes desk.new.shard.journal ≡ takes desk.old.shard.journal }
     ensures goes_on { GoesOn desk.old desk.new }
@@ -207,7 +208,7 @@ fn hear(desk: &mut Desk, item: Item, call: &mut Option<Pending>) -> Heard
     }
 }
 
-/// A worker: its call to the queue, and how many jobs it can still do.
+/// A worker: its call to the queue, and the number of jobs that it can still do.
 #[derive(Drop)]
 struct Worker {
     call: Option<Pending>,
@@ -215,8 +216,8 @@ struct Worker {
 }
 
 impl Worker {
-    /// Asks for its first job; does the one that it is given, and asks for the next; or crashes over it.
-    #[tactic(auto, using(pt_node::proofs::GoingOn::stays, pt_desk::proofs::Turning::goes_on_then))]
+    /// Asks for its first job. Then it does the job that it gets and asks for the next one, or crashes.
+    #[tactic(auto, using(pt_workers::proofs::GoingOn::stays, pt_desk::proofs::Turning::goes_on_then))]
     fn attend(&mut self, desk: &mut Desk, me: Pid, item: Option<Item>) -> Next
         ensures takes { takes desk.new.shard.journal ≡ takes desk.old.shard.journal }
         ensures goes_on { GoesOn desk.old desk.new }
@@ -236,7 +237,7 @@ impl Worker {
     }
 }
 
-/// A client: its call to the queue, and how many of its jobs are done.
+/// A client: its call to the queue, and the number of its jobs that are done.
 #[derive(Drop)]
 struct Client {
     call: Option<Pending>,
@@ -244,8 +245,8 @@ struct Client {
 }
 
 impl Client {
-    /// Asks for its first job; and for the next one as it hears that the last is done.
-    #[tactic(auto, using(pt_node::proofs::GoingOn::stays, pt_desk::proofs::Turning::goes_on_then))]
+    /// Asks for its first job, and for the next one when the answer says that the last is done.
+    #[tactic(auto, using(pt_workers::proofs::GoingOn::stays, pt_desk::proofs::Turning::goes_on_then))]
     fn attend(&mut self, desk: &mut Desk, me: Pid, item: Option<Item>) -> Next
         ensures takes { takes desk.new.shard.journal ≡ takes desk.old.shard.journal }
         ensures goes_on { GoesOn desk.old desk.new }
@@ -271,8 +272,8 @@ impl Client {
         }
     }
 
-    /// Asks for the job behind the last that was done, if there is one.
-    #[tactic(auto, using(pt_node::proofs::GoingOn::stays))]
+    /// Asks for the job after the last that was done, if there is one.
+    #[tactic(auto, using(pt_workers::proofs::GoingOn::stays))]
     fn ask_next(&mut self, desk: &mut Desk, me: Pid) -> Next
         ensures takes { takes desk.new.shard.journal ≡ takes desk.old.shard.journal }
         ensures goes_on { GoesOn desk.old desk.new }
@@ -309,7 +310,7 @@ impl Start<Actor> for Staff {
     }
 }
 
-/// A supervisor of two permanent children, which starts each again by itself, a hundred times at most.
+/// A supervisor of two permanent children, which starts each again by itself, at most a hundred times.
 fn team(alloc: Global, staff: Staff) -> Result<Supervisor<Staff>, AllocError> {
     let child = Child::new(Restart::Permanent);
     let children = vec![in alloc; child, child]?;
@@ -331,7 +332,7 @@ impl Behaviour for Actor {
 
     ghost answers = { λ _ _ _ _ _ _ _ _. ⊤ };
 
-    #[tactic(auto, using(pt_node::proofs::GoingOn::stays))]
+    #[tactic(auto, using(pt_workers::proofs::GoingOn::stays))]
     fn handle(
         &mut self,
         desk: &mut Desk,
@@ -351,10 +352,10 @@ impl Behaviour for Actor {
     }
 }
 
-/// What came of it.
+/// The result of the scene.
 #[derive(Clone, Copy, Debug)]
 pub struct Jobs {
-    /// How many calls of clients still wait.
+    /// The number of client calls that still wait.
     open: u32,
     answered: u32,
     done: u32,
@@ -373,7 +374,7 @@ impl Display for Jobs {
 }
 
 impl Jobs {
-    /// What the first process of a desk has to tell.
+    /// Adds what the first process of a desk reports.
     fn add(&mut self, desk: u8, stage: &Stage<Actor>) {
         if let Some(Actor::Client(client)) = stage.crew().behaviour(first_of(desk)) {
             self.answered = self.answered.saturating_add(client.answered);
@@ -397,9 +398,9 @@ fn made_client(alloc: Global) -> Stage<Actor> {
 
 /// Plays the scene.
 ///
-/// Each call of a client or a worker ends once, by its answer or by the exit of the queue. Whatever a supervisor hears,
-/// each of its children stays one that is to live; so each of them lives, by all that it has heard, if it waits for any
-/// item.
+/// Each call of a client or a worker ends once, by its answer or by the exit of the queue. For any item that a
+/// supervisor handles, each of its children stays one that it wants alive. So if it waits for any item, each child is
+/// alive, as far as it knows.
 pub fn play(alloc: Global) -> Result<Jobs>
     ensures calls { EndsOnce }
     ensures wanted { StaysWanted }

@@ -1,10 +1,16 @@
-//! Five scenes of processes that run code, each on four desks: a ring of a thousand processes, a bank whose sum stays,
-//! a chat whose guests crash, a queue of jobs below a tree of supervisors, and teams whose workers crash as they begin.
+//! Five scenes of processes that run code, each on four desks. They are:
+//!
+//! - a ring of a thousand processes;
+//! - a bank with a sum that stays;
+//! - a chat with guests that crash;
+//! - a queue of jobs below a tree of supervisors;
+//! - teams with workers that crash as they begin.
 //!
 //! # What is proved
 //!
-//! - **The team.** On each desk every child that is to live does, once the node is gathered. (`AllChildrenLive`)
-//! - **The others.** Each scene ends and goes wrong nowhere. What they print is compared.
+//! - **The team.** On each desk every child that its supervisor wants alive is alive, once the node is gathered.
+//!   (`AllChildrenLive`)
+//! - **The others.** Each scene terminates without a fault. What they print is compared.
 #![tactic(auto)]
 
 mod bank;

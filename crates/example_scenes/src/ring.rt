@@ -1,4 +1,4 @@
-//! A thousand processes in a ring over four desks hand a number on, one less each time.
+//! A thousand processes in a ring over four desks pass a number on, one less each time.
 
 ghost use Rattle.std.specs.Prelude.{◌≡◌};
 ghost use Rattle.pt_desk.specs.DeskState.{GoesOn};
@@ -14,13 +14,14 @@ use std::alloc::Global;
 use std::fmt;
 use std::fmt::{Display, Formatter, Write};
 
-/// How many processes each desk has.
+/// The number of processes of each desk.
 const EACH: u32 = 250;
 
-/// How often the number is handed on.
+/// How often the number is passed on.
 const HOPS: i64 = 1_000;
 
-/// One of the ring: how many it has still to bear, whether it begins, and how often it was handed the number.
+/// A process of the ring: the number of processes that it still has to spawn, whether it begins, and how often it got
+/// the number.
 #[derive(Drop)]
 struct Runner {
     to_bear: u32,
@@ -28,7 +29,7 @@ struct Runner {
     heard: u64,
 }
 
-/// Who stands behind this one: on the next desk, in the same slot, and behind the last desk in the next slot of the
+/// The process after this one: on the next desk, in the same slot, and after the last desk in the next slot of the
 /// first.
 fn behind(me: Pid) -> Pid {
     let next = me.shard.saturating_add(1);
@@ -42,8 +43,8 @@ fn behind(me: Pid) -> Pid {
     }
 }
 
-/// Hands the number on.
-#[tactic(auto, using(pt_node::proofs::GoingOn::stays))]
+/// Passes the number on.
+#[tactic(auto, using(pt_workers::proofs::GoingOn::stays))]
 fn hand_on(desk: &mut Desk, me: Pid, num: i64)
     ensures takes { takes desk.new.shard.journal ≡ takes desk.old.shard.journal }
     ensures goes_on { GoesOn desk.old desk.new }
@@ -59,8 +60,8 @@ fn hand_on(desk: &mut Desk, me: Pid, num: i64)
 }
 
 impl Runner {
-    /// Bears the next of its desk, or begins, where it is to.
-    #[tactic(auto, using(pt_node::proofs::GoingOn::stays))]
+    /// Spawns the next process of its desk, or begins, if it has to.
+    #[tactic(auto, using(pt_workers::proofs::GoingOn::stays))]
     fn proceed(&mut self, desk: &mut Desk, births: &mut Births<Runner>, me: Pid) -> Next
         ensures takes { takes desk.new.shard.journal ≡ takes desk.old.shard.journal }
         ensures kept { kept_roles births.new ≡ kept_roles births.old }
@@ -88,7 +89,7 @@ impl Behaviour for Runner {
 
     ghost answers = { λ _ _ _ _ _ _ _ _. ⊤ };
 
-    #[tactic(auto, using(pt_node::proofs::GoingOn::stays))]
+    #[tactic(auto, using(pt_workers::proofs::GoingOn::stays))]
     fn handle(
         &mut self,
         desk: &mut Desk,
@@ -117,7 +118,7 @@ fn desk_of(alloc: Global, begins: bool) -> Stage<Runner> {
     Stage::new(alloc, 256, first)
 }
 
-/// What came of it.
+/// The result of the scene.
 #[derive(Clone, Copy, Debug)]
 pub struct Ring {
     processes: u32,
@@ -136,14 +137,14 @@ impl Display for Ring {
 }
 
 impl Ring {
-    /// One more process, which was handed the number so often.
+    /// Adds a process, which got the number so often.
     fn add(&mut self, heard: u64) {
         self.processes = self.processes.saturating_add(1);
         self.least = self.least.min(heard);
         self.most = self.most.max(heard);
     }
 
-    /// The processes of one desk.
+    /// Adds the processes of one desk.
     fn add_desk(&mut self, desk: u8, stage: &Stage<Runner>) {
         for slot in 0..EACH {
             let p = Pid {

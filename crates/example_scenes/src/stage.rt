@@ -1,4 +1,4 @@
-//! A desk of a scene: its crew, into which the first process of the desk enters in the first step.
+//! A desk of a scene: its crew, which the desk's first process enters in the first step.
 
 ghost use Rattle.pt_desk.specs.DeskState.{GoesOn};
 
@@ -7,10 +7,10 @@ use pt_crew::{Behaviour, Crew, Next};
 use pt_node::{Config, Desk, FreeGate, Node, Pid, Turned, Work};
 use std::alloc::Global;
 
-/// How many desks a scene has.
+/// The number of desks of a scene.
 pub const DESKS: u8 = 4;
 
-/// The first process of a desk, which others name by where it is.
+/// The first process of a desk, which others name by its place.
 pub fn first_of(desk: u8) -> Pid {
     Pid {
         shard: desk,
@@ -19,7 +19,7 @@ pub fn first_of(desk: u8) -> Pid {
     }
 }
 
-/// The crew of a desk, and who is to enter it first.
+/// The crew of a desk, and the process that enters it first.
 #[derive(Drop)]
 pub struct Stage<B> {
     crew: Crew<B>,
@@ -27,7 +27,7 @@ pub struct Stage<B> {
 }
 
 impl<B: Behaviour + Drop> Stage<B> {
-    /// A desk on which this process enters first, and does something at its birth.
+    /// A desk on which this process enters first, and does something at its start.
     pub fn new(alloc: Global, rounds: u32, first: B) -> Stage<B> {
         Stage {
             crew: Crew::new(alloc, rounds),
@@ -35,8 +35,8 @@ impl<B: Behaviour + Drop> Stage<B> {
         }
     }
 
-    /// The first process enters, if it has not yet; where the desk refuses it, nobody does.
-    #[tactic(auto, using(pt_node::proofs::GoingOn::stays))]
+    /// Lets the first process enter, if it has not yet. If the desk cannot spawn it, none enters.
+    #[tactic(auto, using(pt_workers::proofs::GoingOn::stays))]
     fn begin(&mut self, desk: &mut Desk)
         ensures { GoesOn desk.old desk.new }
     {
@@ -66,7 +66,7 @@ impl<B: Behaviour + Drop> Work for Stage<B> {
     fn turned(&mut self, _desk: &Desk, _turned: Turned) {}
 }
 
-/// Plays a scene: so many rounds of turns over four desks, and what their crews are then.
+/// Plays a scene: so many rounds of turns over four desks. It returns what their crews are then.
 pub fn play<B: Behaviour + Drop>(
     alloc: Global,
     slots: u32,

@@ -1,13 +1,13 @@
-//! A supervisor on each desk, whose workers crash as they begin. The node comes to rest and is settled, and then each
-//! child that its supervisor wants alive lives, by the theorem on nodes that are still.
+//! A supervisor on each desk, whose workers crash as they begin. Once the node is still it is settled. Then each child
+//! that its supervisor wants alive is alive, by the theorem on nodes that are still.
 
 ghost use Rattle.std.specs.Prelude.{◌≡◌, IfOk, Ok};
 ghost use Rattle.pt_crew.specs.declared.behaviour.Next.{Next};
 ghost use Rattle.pt_desk.specs.DeskState.{GoesOn};
 ghost use Rattle.pt_gathered.specs.Gathered.{IsGathered};
 ghost use Rattle.pt_gathered.specs.Lawful.{LinksStand};
-ghost use Rattle.pt_node.specs.Desks.{AreDesks, all_shards};
-ghost use Rattle.pt_node.specs.Stillness.{AreStill};
+ghost use Rattle.pt_workers.specs.Desks.{AreDesks, all_shards};
+ghost use Rattle.pt_workers.specs.Stillness.{AreStill};
 ghost use Rattle.pt_crew.specs.Running.{AreIdle, UpholdsOn};
 ghost use Rattle.pt_supervisor.specs.Keeping.{AnswerAs, SupervisorBegins, Keeps};
 ghost use Rattle.pt_supervisor.specs.Gathering.{AllChildrenLive};
@@ -26,12 +26,12 @@ use pt_supervisor::{
 use std::alloc::{AllocError, Global};
 use std::fmt::{self, Display, Formatter, Write};
 
-/// How many workers of each desk crash before the others stay.
+/// The number of workers of each desk that crash before the others stay.
 const CRASHES: u32 = 5;
 
 const CRASH: Reason = Reason::Other(1);
 
-/// What the children are: workers, of whom so many crash before the others stay.
+/// The children: workers, of which so many crash before the others stay.
 #[derive(Clone, Copy, Drop)]
 struct Workers {
     crashes: u32,
@@ -51,7 +51,7 @@ impl Start<Member> for Workers {
     }
 }
 
-/// A supervisor, or a worker, which keeps what it is sent.
+/// A supervisor, or a worker, which keeps what it gets.
 #[derive(Drop)]
 struct Member {
     boss: Option<Supervisor<Workers>>,
@@ -60,7 +60,7 @@ struct Member {
 impl Behaviour for Member {
     ghost answers = { AnswerAs boss_of };
 
-    #[tactic(auto, using(pt_node::proofs::GoingOn::stays))]
+    #[tactic(auto, using(pt_workers::proofs::GoingOn::stays))]
     fn handle(
         &mut self,
         desk: &mut Desk,
@@ -81,7 +81,7 @@ impl Supervised for Member {
     ghost supervises = { λ b d me item next now e births h. h };
 }
 
-/// A supervisor of three permanent children, which starts each again by itself, a hundred times at most.
+/// A supervisor of three permanent children, which starts each again by itself, at most a hundred times.
 fn team(alloc: Global) -> Result<Member, AllocError>
     ensures { IfOk result (λ b. SupervisorBegins (boss_of b) Next.Proceed) }
 {
@@ -129,7 +129,7 @@ fn opened(alloc: Global) -> Result<(Node, Vec<Crew<Member>>)>
     Ok((node, crews?))
 }
 
-/// Runs the crews until nobody has anything to do, and no letter is on its way.
+/// Runs the crews until no process has anything to do, and no letter is in flight.
 fn come_to_rest(node: &mut Node, crews: &mut Vec<Crew<Member>>) -> Result<()>
     ensures upholds { IfOk result (λ _. AreTeams crews.old.items node.old → AreTeams crews.new.items node.new) }
     ensures still { IfOk result (λ _. AreIdle crews.new.items node.new × AreStill node.new) }
@@ -158,15 +158,15 @@ fn settled(node: Node) -> Result<Quiet>
     Ok(quiet)
 }
 
-/// The crews of a node that came to rest, and the node.
+/// The crews of a node that is still, and the settled node.
 #[derive(Drop)]
 pub struct Teams {
     crews: Vec<Crew<Member>>,
     quiet: Quiet,
 }
 
-/// Plays the scene until all is still. Then each child that its supervisor wants alive lives. If a supervisor stops by
-/// itself, no child that it started lives on, unless the child sent it an exit signal.
+/// Plays the scene until all is still. Then each child that its supervisor wants alive is alive. If a supervisor stops
+/// by itself, no child that it started is alive, unless the child sent it an exit signal.
 pub fn play(alloc: Global) -> Result<Teams>
     ensures live { IfOk result (λ t. AllChildrenLive boss_of t.crews.items t.quiet.gathered) }
     ensures stopped { StoppedChildrenEnded boss_of }
@@ -191,7 +191,7 @@ impl Teams {
         }
     }
 
-    /// Whether a child lives, by the history of the node.
+    /// Whether a child is alive, by the history of the node.
     fn lives(&self, child: &Child) -> bool {
         match child.pid {
             Some(pid) => matches!(self.quiet.account(pid), Some(Account { ended: None, .. })),
@@ -199,7 +199,7 @@ impl Teams {
         }
     }
 
-    /// How many children of a desk's supervisor are to live, and how many of these do.
+    /// The number of children that a desk's supervisor wants alive, and the number of these that are.
     fn counted(&self, desk: u8) -> (u32, u32) {
         let mut wanted: u32 = 0;
         let mut living: u32 = 0;

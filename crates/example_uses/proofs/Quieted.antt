@@ -1,8 +1,8 @@
 -- A worker that counts its quiet turns has taken as many, one after the other.
 use Rattle.std.proofs.Common.{◌≡◌, ℕ, zero, suc, ◌+◌, ◌≤◌, Bool, true, false, cond, leb, leb-true, inl, inr, refl, sym, ap, subst, ◌∙◌, min, arith}
 use Rattle.pt_desk.specs.DeskState.{DeskState}
-use Rattle.pt_node.specs.Running.{BeginsAs, TakesTurn, TakesTurns, WorkRelation, always, begins_by}
-use Rattle.pt_node.specs.declared.work.Standing.TheVariants.{Going, Done}
+use Rattle.pt_workers.specs.Running.{BeginsAs, TakesTurn, TakesTurns, WorkRelation, always, begins_by}
+use Rattle.pt_workers.specs.declared.work.Standing.TheVariants.{Going, Done}
 use Rattle.example_uses.specs.declared.until_quiet.UntilQuiet.{UntilQuiet}
 use Rattle.example_uses.specs.Quiet.{EndsQuietly, QuietTurns, did_nothing, quiet_standing, within}
 

@@ -13,7 +13,7 @@ use Rattle.pt_desk.specs.DeskState.{DeskState}
 use Rattle.pt_node.specs.Gathering.{Gathers}
 use Rattle.pt_node.specs.Pasts.{GoOnFrom}
 use Rattle.pt_node.specs.Resuming.{Resumes}
-use Rattle.pt_node.specs.NodeRunning.{RunsPaired}
+use Rattle.pt_workers.specs.NodeRunning.{RunsPaired}
 
 -- the history of a settled node, which is legal and quiet over what was before it, went into the archive
 pub record IsArchived {A : Type 0} (Keeps : A → List Stamped → A → Type 0) (g : GatheredState)

@@ -3,10 +3,10 @@ use Rattle.std.specs.Prelude.{◌≡◌, ℕ, zero, suc, ◌+◌, ◌-◌, ◌^�
 use Rattle.std.specs.Prelude.{if◌then◌else◌}
 use Rattle.pt_desk.specs.DeskState.{DeskState}
 use Rattle.pt_desk.specs.declared.turned.Turned.{Turned}
-use Rattle.pt_node.specs.Running.{HearRelation, StepRelation, TakesTurn, TakesTurns, WorkRelation, Works, always}
-use Rattle.pt_node.specs.Running.{begins_by}
-use Rattle.pt_node.specs.declared.work.Standing.{Standing}
-use Rattle.pt_node.specs.declared.work.Standing.TheVariants.{Going, Done}
+use Rattle.pt_workers.specs.Running.{HearRelation, StepRelation, TakesTurn, TakesTurns, WorkRelation, Works, always}
+use Rattle.pt_workers.specs.Running.{begins_by}
+use Rattle.pt_workers.specs.declared.work.Standing.{Standing}
+use Rattle.pt_workers.specs.declared.work.Standing.TheVariants.{Going, Done}
 use Rattle.example_uses.specs.declared.until_quiet.UntilQuiet.{UntilQuiet}
 
 -- the turn posted and handled nothing, and no letter stopped it

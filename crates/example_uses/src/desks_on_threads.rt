@@ -1,9 +1,9 @@
-//! Desks on threads: each desk has a worker, and afterwards the node is gathered. What a worker does in each of its
-//! turns is a `Work`; the desk's own turn follows by itself. Here each desk's process sends to that of the next desk.
+//! Desks on threads: each desk has a worker, and afterwards the node is gathered. A `Work` says what a worker does in
+//! each of its turns; the desk's own turn follows by itself. Here each desk's process sends to that of the next desk.
 
 ghost use Rattle.std.specs.Prelude.{◌≡◌, IfOk, vec_len};
 ghost use Rattle.pt_gathered.specs.Lawful.{KeepsHeadline};
-ghost use Rattle.pt_node.specs.Desks.{AreDesks};
+ghost use Rattle.pt_workers.specs.Desks.{AreDesks};
 
 use crate::RecipeError;
 use crate::steps::{gathered, tell};
@@ -13,7 +13,7 @@ use pt_node::{
 use std::alloc::Global;
 use std::thread::Threads;
 
-/// A process, to whom it sends, and how many messages it has sent: they are numbered 0, 1, 2 and so on.
+/// A process, its receiver, and the number of messages that it has sent. They are numbered 0, 1, 2 and so on.
 #[derive(Clone, Copy, Debug)]
 pub struct Sender {
     pub me: Pid,
@@ -26,7 +26,7 @@ impl Work for Sender {
 
     ghost does = { λ r old s new. SaysNext r old s new };
 
-    #[tactic(auto, using(pt_node::proofs::GoingOn::stays))]
+    #[tactic(auto, using(pt_workers::proofs::GoingOn::stays))]
     fn step(&mut self, desk: &mut Desk) {
         if let Ok(()) = tell(desk, self.me, self.to, 1, self.sent) {
             self.sent = self.sent.saturating_add(1);
@@ -36,7 +36,8 @@ impl Work for Sender {
     fn turned(&mut self, _desk: &Desk, _turned: Turned) {}
 }
 
-/// Opens a node, lets the first process of each desk send to that of the next for so many turns, and gathers the node.
+/// Opens a node, lets the first process of each desk send to that of the next desk for so many turns, and gathers the
+/// node.
 pub fn ring<R: Threads + Sync>(
     rt: &R,
     alloc: Global,
@@ -51,7 +52,7 @@ pub fn ring<R: Threads + Sync>(
     sent.and(node)
 }
 
-/// The desks with their senders, on threads.
+/// Runs the desks with their senders, on threads.
 fn send_round<R: Threads + Sync>(
     rt: &R,
     alloc: Global,
@@ -70,7 +71,7 @@ fn send_round<R: Threads + Sync>(
     Ok(())
 }
 
-/// A process on each desk, which sends to the one on the next.
+/// Spawns a process on each desk, which sends to the one on the next desk.
 fn senders(alloc: Global, desks: &mut Vec<Desk>) -> Result<Vec<Sender>, RecipeError>
     requires { AreDesks desks.old.items }
     ensures node { AreDesks desks.new.items }

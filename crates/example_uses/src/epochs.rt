@@ -1,15 +1,14 @@
-//! Epochs: a node that goes on for as long as is wanted, with journals that do not grow for ever. Every so many turns
-//! it is gathered and settled, its history goes into an archive, and it goes on with empty journals over what was
-//! reached.
+//! Epochs: a node that runs for as long as is wanted, with journals that do not grow for ever. Every so many turns it
+//! is gathered and settled, its history is put into an archive, and it is resumed with empty journals.
 //!
-//! Take it where a program does not end by itself. The archive is what happened from the very beginning: the histories
-//! of the epochs, one after the other, which together are one legal history, with nothing on its way at its end. Where
-//! something is refused nothing is lost: what comes back is the node as it stands there, and the program goes on from
-//! it, or gives it up.
+//! Take it if a program does not end by itself. The archive has what happened from the very beginning: the histories of
+//! the epochs, one after the other. Together they are one legal history, with no letter in flight at its end. If
+//! something fails, nothing is lost: the node comes back as it is then, and the program continues from it, or gives it
+//! up.
 
 ghost use Rattle.std.specs.Prelude.{List, OnOk, IfOk};
 ghost use Rattle.pt_events.specs.declared.event.Stamped.{Stamped};
-ghost use Rattle.pt_node.specs.Running.{AllWork, always, begins_by};
+ghost use Rattle.pt_workers.specs.Running.{AllWork, always, begins_by};
 ghost use Rattle.example_uses.specs.Epochs.{Archives, IsArchived, Passes, PassAsOne};
 
 use pt_node::{FreeGate, Node, NodeBack, Quiet, Resting, RunFault, Stamped, Task, Unsettled};
@@ -18,16 +17,16 @@ use std::io::Write;
 use std::thread::Threads;
 use std::{fmt, io};
 
-/// Where the history of each epoch goes.
+/// The archive that gets the history of each epoch.
 pub trait Archive {
     ghost keeps: { Self → List Stamped → Self → Type 0 };
 
-    /// Keeps the history of one epoch, whose oldest event comes first.
+    /// Keeps the history of one epoch, its oldest event first.
     fn keep(&mut self, history: &[Stamped]) -> io::Result<()>
         ensures { OnOk result (keeps self.old history.now self.new) };
 }
 
-/// An archive of text: a line an event, as it is printed.
+/// An archive of text: a line for each event, as it is printed.
 #[derive(Drop)]
 pub struct Lines<W: Drop> {
     pub out: W,
@@ -47,7 +46,7 @@ impl<W: Write + Drop> Archive for Lines<W> {
     }
 }
 
-/// How many epochs, and of each how many turns a desk takes, and how many letters a turn handles at most.
+/// The number of epochs, the turns that a desk takes in each, and the most letters that a turn handles.
 #[derive(Clone, Copy, Debug, PartialEq, Eq)]
 pub struct Plan {
     pub epochs: u64,
@@ -55,18 +54,18 @@ pub struct Plan {
     pub budget: u32,
 }
 
-/// Why the node stands still, and the node as it is there.
+/// Why the epochs stopped, and the node as it is then.
 #[derive(Drop)]
 pub enum Halted {
-    /// It did not run.
+    /// The run failed.
     Running(Node, RunFault),
     /// There was no memory to gather it.
     Gathering(NodeBack),
-    /// A letter did not come to its receiver.
+    /// A letter was not delivered.
     Settling(Unsettled),
-    /// Its history was not kept: there was no memory for it, or the archive refused it.
+    /// Its history was not kept: there was no memory for it, or the archive failed.
     Archiving(Quiet),
-    /// There was no memory to go on.
+    /// There was no memory to resume it.
     Resuming(Resting),
 }
 
@@ -84,9 +83,10 @@ impl fmt::Display for Halted {
 
 /// Runs the node for so many epochs, each desk with its work on a thread of its own.
 ///
-/// What the epochs put into the archive, all of it in order, put behind what the node goes on from, which is nothing
-/// where it was opened, is one legal history from the very beginning on. Nothing is on its way at its end, and the node
-/// that comes back goes on from it. Refused as [`Halted`] says; what earlier epochs put into the archive stays there.
+/// The histories that the epochs put into the archive, in order, follow what the node continues from, which is nothing
+/// if it was just opened. Together they are one legal history from the very beginning on. No letter is in flight at its
+/// end, and the node that comes back continues from it. Fails as [`Halted`] says; what earlier epochs put into the
+/// archive stays there.
 pub fn epochs<R: Threads + Sync, W: Task + Send, A: Archive>(
     rt: &R,
     alloc: Global,
@@ -130,7 +130,7 @@ fn one_epoch<R: Threads + Sync, W: Task + Send, A: Archive>(
     }
 }
 
-/// Ends an epoch: what happened in it goes into the archive, and the node goes on with empty journals.
+/// Ends an epoch: puts its history into the archive, and resumes the node with empty journals.
 pub fn end_epoch<A: Archive>(alloc: Global, node: Node, archive: &mut A) -> Result<Node, Halted>
     ensures { IfOk result (λ next. (history : List Stamped)
         × Archives A.keeps history node archive.old next archive.new) }
@@ -152,7 +152,7 @@ pub fn end_epoch<A: Archive>(alloc: Global, node: Node, archive: &mut A) -> Resu
     }
 }
 
-/// The history of the quiet node goes into the archive.
+/// Puts the history of the quiet node into the archive.
 fn archived<A: Archive>(quiet: &Quiet, archive: &mut A) -> io::Result<()>
     ensures { OnOk result ((history : List Stamped)
         × IsArchived A.keeps quiet.now.gathered history archive.old archive.new) }

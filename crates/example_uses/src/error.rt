@@ -1,28 +1,28 @@
-//! Why a recipe fails, as an error of one's own into which `?` turns those of a node.
+//! Why a recipe fails: an error of the program's own, and `?` turns the errors of a node into it.
 
 use pt_node::{Fault, NodeBack, NodeFault, OpenError, RunFault, Stop};
 use std::alloc::{AllocError, AllocFailed};
 use thiserror::Error;
 
-/// Why a recipe that opens a node gives none back.
+/// Why a recipe that opens a node returns none.
 #[derive(Clone, Copy, Debug, PartialEq, Eq, Error)]
 pub enum RecipeError {
     /// The node was not opened.
     #[error("the node does not open: {0}")]
     Open(#[from] OpenError),
-    /// A desk refused a call.
+    /// A call of a desk failed.
     #[error("a call is refused: {0}")]
     Call(#[from] Fault),
     /// A letter was not handled.
     #[error("a turn stopped: {0}")]
     Turn(#[from] Stop),
-    /// A node refused a call.
+    /// A call of a node failed.
     #[error("a call is refused: {0}")]
     Node(#[from] NodeFault),
     /// The node did not run.
     #[error("the node does not run: {0}")]
     Run(#[from] RunFault),
-    /// There was no memory beside the desks'.
+    /// There was no memory outside of the desks.
     #[error("there was no memory")]
     Memory,
 }

@@ -1,12 +1,12 @@
-//! Payloads: what does not fit into a message is kept beside the table, and the message's `num` names it.
+//! Payloads: data that does not fit into a message is kept beside the table, and the message's `num` names it.
 //!
 //! Take it for texts, buffers or anything owned. A message is a kind, a number and perhaps a pid, so the sender puts
-//! the payload into a slab and sends its key; the receiver takes it out by the number that came. A message to a
-//! process that has ended, or that ends before it takes it, leaves its payload here: `drop_lost` lets such payloads go.
+//! the payload into a slab and sends its key. The receiver takes it out by the number of the message. If the receiver
+//! has exited, or exits before it takes the message, the payload stays here: `drop_lost` drops such payloads.
 
 ghost use Rattle.std.specs.Prelude.{◌≡◌, true, [], OnOk, OnErr};
 ghost use Rattle.pt_shard.specs.Known.{knows};
-ghost use Rattle.pt_node.specs.Desks.{IsStill};
+ghost use Rattle.pt_workers.specs.Desks.{IsStill};
 ghost use Rattle.example_uses.specs.Payloads.{LetsGo, SaysNumber, Stores, TakesTextOut, TakesText, is_lost, named_sender, next_text};
 ghost use Rattle.example_uses.specs.Payloads.{text_of};
 
@@ -18,7 +18,7 @@ use std::alloc::Global;
 /// The kind of the messages that name a text.
 pub const TEXT: u32 = 3;
 
-/// A text on its way, and whom it was sent to.
+/// A text in flight, and its receiver.
 #[derive(Drop)]
 pub struct Sent {
     pub to: Pid,
@@ -32,7 +32,7 @@ pub struct Texts {
 }
 
 impl Texts {
-    /// No text was sent.
+    /// No texts.
     pub fn new(alloc: Global) -> Texts
         ensures { result.kept.slots ≡ [] }
     {
@@ -41,7 +41,7 @@ impl Texts {
         }
     }
 
-    /// Sends a message that names this text, and answers its number. After a refusal nothing more is kept than before.
+    /// Sends a message that names this text, and returns its number. If it fails, no more is kept than before.
     pub fn send(
         &mut self,
         desk: &mut Desk,
@@ -62,7 +62,7 @@ impl Texts {
         Ok(self.kept.insert_reserved(Sent { to, text }))
     }
 
-    /// Takes the oldest message with a text out of the mailbox of p, and answers its sender and the text.
+    /// Takes the oldest message with a text out of the mailbox of p, and returns its sender and the text.
     pub fn receive(&mut self, desk: &mut Desk, p: Pid) -> Result<Option<(Pid, String)>, Fault>
         ensures does { TakesText self.old.kept p desk.old.shard result desk.new.shard }
         ensures taken { OnOk result (TakesTextOut (named_sender (next_text desk.old.shard p)) self.old.kept self.new.kept) }
@@ -73,7 +73,7 @@ impl Texts {
         Ok(self.take(item))
     }
 
-    /// Takes out the text that an item names, and answers who sent it and the text.
+    /// Takes out the text that an item names, and returns its sender and the text.
     fn take(&mut self, item: Option<Item>) -> Option<(Pid, String)>
         ensures text { result ≡ text_of self.old.kept (named_sender item) }
         ensures taken { TakesTextOut (named_sender item) self.old.kept self.new.kept }
@@ -91,7 +91,8 @@ impl Texts {
         Some((from, text))
     }
 
-    /// Lets the texts go that nobody can receive any more: those whose receiver was born on this desk and has ended.
+    /// Drops the texts that no process can receive any more: those whose receiver was spawned on this desk and has
+    /// exited.
     pub fn drop_lost(&mut self, desk: &Desk)
         ensures { LetsGo (is_lost desk.now.shard) self.old.kept self.new.kept }
     {
@@ -99,7 +100,7 @@ impl Texts {
     }
 }
 
-/// Whether p was born on this desk and has ended.
+/// Whether p was spawned on this desk and has exited.
 fn is_lost(desk: &Desk, p: Pid) -> bool
     ensures { result ≡ is_lost desk.now.shard p }
 {

@@ -1,11 +1,11 @@
-//! Two processes that exchange a message each: the first thing to write over a node.
+//! Two processes that send each other a message: the first program to write over a node.
 //!
-//! Take it where one thread has a node of one desk. Each call of a process is made by the program; nothing arrives
-//! before a turn. Whatever became of the calls, the desks are gathered in the end.
+//! Take it if one thread has a node of one desk. The program makes each call of a process, and nothing arrives before a
+//! turn. The desks are gathered in the end, also if a call failed.
 
 ghost use Rattle.std.specs.Prelude.{◌≡◌, IfOk, vec_len};
 ghost use Rattle.pt_gathered.specs.Lawful.{KeepsHeadline, IsLegalNode};
-ghost use Rattle.pt_node.specs.Desks.{AreDesks, IsStill};
+ghost use Rattle.pt_workers.specs.Desks.{AreDesks, IsStill};
 ghost use Rattle.example_uses.specs.Exchanges.{Exchanges, ExchangesOnFirst, HasExchanged};
 
 use crate::RecipeError;
@@ -41,8 +41,8 @@ pub fn two_processes(alloc: Global) -> Result<Gathered, RecipeError>
     Ok(gathered)
 }
 
-/// The exchange on desk 0, which stays a desk of its node.
-#[tactic(auto, using(pt_node::proofs::StillDesks::still_desks))]
+/// Does the exchange on desk 0, which stays a desk of its node.
+#[tactic(auto, using(pt_workers::proofs::StillDesks::still_desks))]
 fn play(desks: &mut Vec<Desk>) -> Result<(), Fault>
     requires { AreDesks desks.old.items }
     ensures desks { AreDesks desks.new.items }
@@ -52,7 +52,7 @@ fn play(desks: &mut Vec<Desk>) -> Result<(), Fault>
     exchange(&mut desks[0])
 }
 
-/// Ping asks, pong answers.
+/// Lets ping ask and pong answer.
 pub fn exchange(desk: &mut Desk) -> Result<(), Fault>
     ensures does { Exchanges desk.old result desk.new }
     ensures still { IsStill desk.old desk.new }

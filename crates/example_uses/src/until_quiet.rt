@@ -1,8 +1,8 @@
-//! Workers that end by themselves: each once nothing has come to its desk, or gone from it, for some turns.
+//! Workers that end by themselves: each ends once no letter has arrived at its desk, or left it, for some turns.
 //!
-//! A run takes as many turns as it is asked for. Where it is to end with what there is to do, each desk gets such a
-//! worker, and the run as many turns as there can be. What comes to a desk whose worker has ended waits there:
-//! [`Node::turn_until_still`](pt_node::Node::turn_until_still) brings it.
+//! A run takes as many turns as it is asked for. If it is to end when the work is done, each desk gets such a worker,
+//! and the run as many turns as there can be. What arrives at a desk whose worker has ended waits there:
+//! [`Node::turn_until_still`](pt_node::Node::turn_until_still) delivers it.
 
 ghost use Rattle.std.specs.Prelude.{◌≡◌};
 ghost use Rattle.example_uses.specs.Quiet.{EndsQuietly, did_nothing};
@@ -10,18 +10,18 @@ ghost use Rattle.example_uses.specs.Quiet.{EndsQuietly, did_nothing};
 use pt_node::{Desk, Standing, Task, Turned, Work};
 
 /// A work that is done once so many turns in a row have neither posted nor handled a letter of its desk, and were not
-/// stopped. In all else it is the work within.
+/// stopped. Else it does what the work within does.
 #[derive(Clone, Copy, Debug)]
 pub struct UntilQuiet<W> {
     work: W,
-    /// How many turns in a row did nothing, the last among them.
+    /// The number of turns in a row, up to the last one, that did nothing.
     quiet: u64,
-    /// How many of them are enough.
+    /// The number of them that is enough.
     enough: u64,
 }
 
 impl<W> UntilQuiet<W> {
-    /// The work, until so many turns in a row have done nothing.
+    /// This work, until so many turns in a row have done nothing.
     pub fn new(work: W, enough: u64) -> UntilQuiet<W>
         ensures { result ≡ record { work = work; quiet = 0; enough = enough } }
     {
@@ -39,7 +39,7 @@ impl<W> UntilQuiet<W> {
         &self.work
     }
 
-    /// How many turns in a row did nothing, the last among them.
+    /// The number of turns in a row, up to the last one, that did nothing.
     pub fn quiet(&self) -> u64
         ensures { result ≡ self.now.quiet }
     {
@@ -85,8 +85,8 @@ fn did_nothing(turned: &Turned) -> bool
     turned.posted == 0 && turned.handled == 0 && turned.stopped.is_none()
 }
 
-/// A run at an open gate ends such a worker only behind as many turns in a row that did nothing as were enough for it,
-/// unless it has taken all its turns. It does nothing.
+/// In a run at an open gate, such a worker ends only after enough turns in a row that did nothing, or after all its
+/// turns. The function does nothing: its contract is the promise.
 pub fn ends_behind_quiet_turns<W: Work>(_work: &W)
     ensures { EndsQuietly (W.Work.does, W.Work.hears) }
 {}

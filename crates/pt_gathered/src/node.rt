@@ -1,4 +1,4 @@
-//! The desks of a node without their lanes, and the letters left over: a gathered node, but for what is told of its
+//! The desks of a node without their lanes, and the letters left over: a gathered node without the tables of its
 //! processes.
 
 ghost use Rattle.pt_signal.specs.declared.config.TheConstants.{MAX_DESKS};
@@ -73,8 +73,8 @@ impl Lane {
 
 /// The desks of a node without their lanes, and the letters left over.
 ///
-/// For any two desks, what the one posted to the other is what came from it there, each receipt stamped above its
-/// letter, and then the letters left over between the two.
+/// For any two desks, the letters that one posted to the other are those that arrived there, followed by those left
+/// over between the two. Each receipt is stamped above its letter.
 #[derive(Drop)]
 pub(crate) struct Node {
     alloc: Global,
@@ -111,7 +111,7 @@ impl Node {
         }
     }
 
-    /// How many desks the node has.
+    /// The number of desks of the node.
     pub fn desks(&self) -> u8
         ensures count { result ≡ length self.now.shards }
         ensures few { length self.now.shards ≤ MAX_DESKS }
@@ -120,8 +120,8 @@ impl Node {
         self.config.desks
     }
 
-    /// What happened on a desk, as it was when the desk was handed in or as settling left it; `None` exactly where
-    /// the node has no desk of that number.
+    /// What happened on a desk, as it was when the desk was gathered, or as settling left it. `None` exactly if the
+    /// node has no desk of that number.
     pub fn journal(&self, desk: u8) -> Option<&Journal>
         ensures some { IfSome result
             (λ j. (desk < length self.now.shards) × (j.now.desk ≡ desk) × (j.now.past ≡ journals self.now desk)) }
@@ -135,8 +135,8 @@ impl Node {
         }
     }
 
-    /// The events of all desks in the order of stamp, then desk: a legal history, in which each journal stands whole
-    /// and in its order, and in which the letters left over are those on their way.
+    /// The events of all desks in the order of stamp, then desk: a legal history. It has each journal whole and in its
+    /// order, and its letters in flight are the letters left over.
     pub fn history(&self) -> Result<Vec<Stamped>, AllocError>
         ensures merge { IfOk result (λ h. IsMerge (journals self.now) (reverse h.items)) }
         ensures legal { IfOk result (λ h. LegalWithLeftOver (begins self.now) (reverse h.items) (over self.now)) }
@@ -147,8 +147,8 @@ impl Node {
         Ok(history)
     }
 
-    /// The letters left over: by sending desk, then by receiving desk, and for each two desks the oldest first, which
-    /// is the one in the hold of the receiving desk, then those in the lane, then those in the outbox.
+    /// The letters left over: by sending desk, then by receiving desk, and for each two desks the oldest first. These
+    /// are the one in the hold of the receiving desk, then those in the lane, then those in the outbox.
     pub fn left_over(&self) -> Result<Vec<LeftOver>, AllocError>
         ensures { IfOk result (λ v. v.items ≡ all_left self.now) }
     {
@@ -196,7 +196,7 @@ impl Node {
         self.config
     }
 
-    /// The greatest stamp, or the number above which stamps began where nothing happened.
+    /// The greatest stamp, or the number above which stamps began if nothing happened.
     pub fn clock(&self) -> u64
         ensures { result ≡ latest_stamp self.now }
     {
@@ -215,7 +215,8 @@ impl Node {
         (config, shards)
     }
 
-    /// What holds of whoever was born on a desk: it is of one of its slots, and those before it there have ended.
+    /// What holds for each process spawned on a desk: it is of one of its slots, and those before it in that slot have
+    /// exited.
     pub fn versions(&self)
         ensures { AreInTurn self.now.shards }
     {
@@ -246,7 +247,7 @@ impl Node {
         )
     }
 
-    /// How many letters are left over from desk d to desk e.
+    /// The number of letters left over from desk d to desk e.
     pub fn count_over(&self, d: u8, e: u8) -> u128
         requires { (d < length self.now.shards) × (e < length self.now.shards) }
         ensures { result ≡ length (over_in self.now.shards self.now.lanes d e) }
@@ -260,7 +261,7 @@ impl Node {
         )
     }
 
-    /// How many letters wait in the outbox of desk d for desk e.
+    /// The number of letters that wait in the outbox of desk d for desk e.
     pub fn count_out(&self, d: u8, e: u8) -> usize
         requires { (d < length self.now.shards) × (e < length self.now.shards) }
         ensures { result ≡ length (box_at self.now.shards d e) }
@@ -268,7 +269,7 @@ impl Node {
         self.shards[usize::from(d)].count_out(e)
     }
 
-    /// The first letter left over from desk d to desk e, if there is one, comes to its receiver.
+    /// Delivers the first letter left over from desk d to desk e, if there is one.
     pub fn step(&mut self, d: u8, e: u8) -> Result<bool, Stop>
         requires { (d < length self.old.shards) × (e < length self.old.shards) }
         ensures does { Steps d e self.old result self.new }
@@ -358,7 +359,7 @@ fn merged(alloc: Global, journals: &[&Journal]) -> Result<Vec<Stamped>, AllocErr
     merge(alloc, journals)
 }
 
-/// Takes the oldest letter left over from desk d to desk e out.
+/// Takes out the oldest letter left over from desk d to desk e.
 fn take_out(config: Config, shards: &mut Vec<Shard>, lanes: &mut Vec<Lane>, d: u8, e: u8)
     requires within { (d < length shards.old.items) × (e < length shards.old.items) }
     requires lanes { length lanes.old.items ≡ length shards.old.items * length shards.old.items }
@@ -379,7 +380,7 @@ fn take_out(config: Config, shards: &mut Vec<Shard>, lanes: &mut Vec<Lane>, d: u
     let _ = shards[usize::from(d)].next_out(e);
 }
 
-/// How many letters are left over from desk d to desk e.
+/// The number of letters left over from desk d to desk e.
 fn count_of(config: Config, shards: &[Shard], lanes: &[Lane], d: u8, e: u8) -> u128
     requires within { (d < length shards.now) × (e < length shards.now) }
     requires lanes { length lanes.now ≡ length shards.now * length shards.now }

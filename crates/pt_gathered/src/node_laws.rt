@@ -10,7 +10,8 @@ use crate::gathered::Gathered;
 use crate::node::Node;
 use pt_laws::{laws, links};
 
-/// What the laws of histories say of a node whose desks were gathered. It does nothing.
+/// What the laws of histories say of a node whose desks were gathered. The function does nothing: its contract is the
+/// promise.
 pub fn laws_of(gathered: &Gathered)
     ensures lanes { LanesKeep gathered.now }
     ensures headline { KeepsHeadline gathered.now }
@@ -30,7 +31,7 @@ pub fn laws_of(gathered: &Gathered)
     laws_of_node(gathered.node());
 }
 
-/// The same of a node without its tables.
+/// The same for a node without its tables.
 pub(crate) fn laws_of_node(gathered: &Node)
     ensures lanes { LanesKeep gathered.now }
     ensures headline { KeepsHeadline gathered.now }

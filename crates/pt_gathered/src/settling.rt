@@ -1,4 +1,4 @@
-//! The letters left over come to their receivers.
+//! Delivering the letters left over.
 
 ghost use Rattle.std.specs.Prelude.{◌≡◌, ℕ, ◌<◌, ◌≤◌, length, [], OnOk, IfOk, IfErr};
 ghost use Rattle.pt_shard.specs.declared.stop.Stop.TheVariants.{Memory};
@@ -23,7 +23,7 @@ use std::alloc::AllocError;
 use std::error::Error;
 use std::fmt;
 
-/// A node whose settling was refused, with what was handled so far.
+/// A node whose settling failed, with what was handled so far.
 #[derive(Drop)]
 pub struct Unsettled {
     /// Why.
@@ -49,30 +49,34 @@ impl fmt::Display for Unsettled {
 impl Error for Unsettled {}
 
 impl Gathered {
-    /// Brings the letters left over to their receivers, pass by pass, until there are none.
+    /// Delivers the letters left over, pass by pass, until there are none.
     ///
-    /// In a pass, for each receiving desk from 0 and each sending desk from 0, the letters come that are left over
-    /// between the two when it is come to them, oldest first; what is sent meanwhile comes at a later place of the same
-    /// pass, or in a later one. Each journal gets receipts alone, and no more of them all than the load of the history
-    /// before. The merge of the journals is then legal and quiet: links stand at both ends or at neither, and each
-    /// monitor of a live process was given up, had its one `DOWN`, or is open and kept. Each answer to the question
-    /// whether a process is alive is true, and each such question of a live process has its one answer.
+    /// A pass visits each receiving desk from 0, and for it each sending desk from 0. It delivers the letters that are
+    /// left over between the two at that moment, oldest first. What is sent meanwhile is delivered later in the same
+    /// pass, or in a later one. Each journal gets receipts alone, and all together no more than the load of the history
+    /// before. The merge of the journals is then legal and quiet. Links are at both ends or at neither. Each monitor of
+    /// a live process was cancelled, had its one `DOWN`, or is open and kept. Each answer to the question whether a
+    /// process is alive is true, and each such question of a live process has its one answer.
     ///
     /// Once no letter is left over, each journal is read once, from its first event to its last, for what the quiet
-    /// node tells of its processes; what was before it is not read anew.
+    /// node returns of its processes. What was before it is not read again.
     ///
-    /// Where a receipt is refused, as `Worn` where its stamp would pass the limit of clocks, else as `Memory`, the node
-    /// comes back with what was handled so far, of which all holds that holds of a gathered node; settling it again
-    /// goes on from there. Where the reading of the journals finds no memory, the fault is `Memory` too, and no letter
-    /// is left over in the node that comes back; settling that again changes nothing of it, and reads the journals
-    /// on from where it stopped.
+    /// Fails with `Worn` if a receipt's stamp would pass the limit of clocks, else with `Memory` if there is none for a
+    /// receipt. The node then comes back with what was handled so far, and all holds for it that holds for a gathered
+    /// node. Settling it again resumes from there. Fails with `Memory` too if reading the journals finds none, and no
+    /// letter is left over in the node that comes back. Settling that again changes nothing of the node, and resumes
+    /// reading the journals at the place that it had reached.
     ///
-    /// A letter costs what its receipt costs, and tests. Where it is the only one of its pass there are three for each
-    /// desk, each of one mark or of one count: whether letters may be left over to the desk, whether the desk has any
-    /// for the receiver in its outbox, and whether the receiver now has any for the desk. That is 192 in a node of 64,
-    /// and a dozen for where the letter itself stands; letters of the same pass share the first 64, and those that come
-    /// to the same desk in it the others too. Besides, each lane is looked at once in full, when its desk is first come
-    /// to.
+    /// A letter costs what its receipt costs, and tests. If it is the only one of its pass, there are three tests for
+    /// each desk, each of one mark or of one count:
+    ///
+    /// - whether letters may be left over to the desk;
+    /// - whether the desk has any for the receiver in its outbox;
+    /// - whether the receiver now has any for the desk.
+    ///
+    /// That is 192 in a node of 64, and a dozen for the place of the letter itself. Letters of the same pass share the
+    /// first 64, and letters of that pass to the same desk share the others too. Besides, each lane is looked at once
+    /// in full, when its desk is first visited.
     pub fn settle(self) -> Result<Quiet, Unsettled>
         ensures order { IfOk result (λ q. (count : ℕ) × Passes (length self.shards) count self q.gathered) }
         ensures runs { IfOk result (λ q. Runs self 0 q.gathered q.handled) }
@@ -125,7 +129,7 @@ impl Gathered {
     }
 }
 
-/// One pass after the other, until no letter is left over; how many letters were handled.
+/// Makes one pass after the other, until no letter is left over, and returns the number of letters handled.
 fn run_passes(gathered: &mut Node) -> Result<u64, Stop>
     ensures order { IfOk result
         (λ handled. (count : ℕ) × Passes (length gathered.old.shards) count gathered.old gathered.new) }
@@ -147,8 +151,8 @@ fn run_passes(gathered: &mut Node) -> Result<u64, Stop>
     Ok(handled)
 }
 
-/// What is told of the processes once each journal is read to its end, from where its table stands; where there is no
-/// memory, the tables as far as they came.
+/// Reads each journal to its end, from the place that its table has reached, and returns what they say of the
+/// processes. If there is no memory, it returns the tables as far as they came.
 fn told(node: &Node, lives: Vec<DeskLives>) -> Result<Lives, Vec<DeskLives>>
     requires { AreTables node.now.shards lives.items }
     ensures told { IfOk result (λ lives. AreLivesOf (begins node.now) (journals node.now) lives) }
@@ -164,7 +168,7 @@ fn told(node: &Node, lives: Vec<DeskLives>) -> Result<Lives, Vec<DeskLives>>
     }
 }
 
-/// Reads each journal to its end, from where its table stands.
+/// Reads each journal to its end, from the place that its table has reached.
 fn read_journals(node: &Node, lives: &mut Vec<DeskLives>) -> Result<(), AllocError>
     requires { AreTables node.now.shards lives.old.items }
     ensures tables { AreTables node.now.shards lives.new.items }
@@ -178,10 +182,10 @@ fn read_journals(node: &Node, lives: &mut Vec<DeskLives>) -> Result<(), AllocErr
     Ok(())
 }
 
-/// One pass: each receiving desk, from desk 0.
+/// One pass: visits each receiving desk, from desk 0.
 ///
-/// A desk that is not marked in `waits` has nothing left over to it. In `least` stands how many letters an outbox has
-/// to hold for a desk so that any can be left over between the two: 0 until that desk was come to, and 1 from then on,
+/// A desk that is not marked in `waits` has nothing left over to it. `least` has how many letters an outbox has to hold
+/// for a desk so that any can be left over between the two. It is 0 until that desk was visited, and 1 from then on,
 /// since all letters to it then wait in outboxes.
 fn pass(
     gathered: &mut Node,
@@ -215,7 +219,7 @@ fn pass(
     Ok(moved)
 }
 
-/// The letters to desk e, if it is marked.
+/// Delivers the letters to desk e, if it is marked.
 fn settle_desk(
     gathered: &mut Node,
     e: u8,
@@ -263,7 +267,7 @@ fn mark(gathered: &Node, d: u8, waits: &mut [bool; 64])
     }
 }
 
-/// The letters to desk e: each sending desk, from desk 0.
+/// Delivers the letters to desk e, from each sending desk, from desk 0.
 fn settle_to(gathered: &mut Node, e: u8, least: usize, handled: &mut u64) -> Result<bool, Stop>
     requires desk { e < length gathered.old.shards }
     requires least { IsLeast e least gathered.old }
@@ -291,7 +295,8 @@ fn settle_to(gathered: &mut Node, e: u8, least: usize, handled: &mut u64) -> Res
     Ok(moved)
 }
 
-/// The letters that are now left over from desk d to desk e: none where the outbox holds fewer than `least` for it.
+/// Delivers the letters that are now left over from desk d to desk e: none if the outbox holds fewer than `least` for
+/// it.
 fn settle_lane(
     gathered: &mut Node,
     d: u8,

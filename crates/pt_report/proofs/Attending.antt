@@ -6,9 +6,9 @@ use Rattle.std.proofs.lemmas.List.{get_or-map, get_or_default, length-map, lengt
 use Rattle.pt_events.specs.declared.event.Stamped.{Stamped}
 use Rattle.pt_desk.specs.DeskState.{DeskState}
 use Rattle.pt_desk.proofs.Turning.{turn_goes_on}
-use Rattle.pt_node.specs.NodeRunning.{ArePaired}
-use Rattle.pt_node.specs.Stillness.{AllDesksGoOn, AreStill}
-use Rattle.pt_node.specs.Running.{AllWork, BeginRelation, InRounds, Round, Rounds, TakesOrEnds, TakesTurn, TakesTurns, Workers, Works, step_alone}
+use Rattle.pt_workers.specs.NodeRunning.{ArePaired}
+use Rattle.pt_workers.specs.Stillness.{AllDesksGoOn, AreStill}
+use Rattle.pt_workers.specs.Running.{AllWork, BeginRelation, InRounds, Round, Rounds, TakesOrEnds, TakesTurn, TakesTurns, Workers, Works, step_alone}
 use Rattle.pt_script.specs.Plans.{Whole}
 use Rattle.pt_render.specs.declared.choices.Options.{Options}
 use Rattle.pt_runner.specs.declared.runner.Runner.{Runner}

@@ -1,4 +1,4 @@
-//! A script is run.
+//! Running a script.
 
 ghost use Rattle.std.specs.Prelude.{◌≡◌, ◌≢◌, ◌⊎◌, ◌-◌, [], ◌==◌, ◌&&◌, cond, length, List, true, OnOk, IfOk, IfErr};
 ghost use Rattle.pt_events.specs.declared.event.Stamped.{Stamped};
@@ -20,7 +20,7 @@ use std::io::Write;
 use std::thread::Threads;
 
 /// The node of a script, run as the options say and gathered in its last epoch, the runners that ran it, and how many
-/// processes have operations left. The histories of the epochs before are in the writer or kept, as the options ask for.
+/// processes have operations left. The histories of the epochs before are in the writer or kept, as the options say.
 #[tactic(auto, using(crate::proofs::Faults::told_of_start))]
 pub(crate) fn run_script<'a, R: Threads + Sync, W: Write>(
     rt: &R,
@@ -137,8 +137,8 @@ pub(crate) fn run_epoch<R: Threads + Sync>(
     }
 }
 
-/// Lets each desk take its turns again and again, one at least each time, until nothing more can happen, or all turns
-/// that can be asked for were taken.
+/// Lets each desk take its turns again and again, one at least each time, until nothing more can happen, or the largest
+/// number of turns was taken.
 fn run_until_quiet<R: Threads + Sync>(
     rt: &R,
     options: &Options,
@@ -179,8 +179,8 @@ fn most_runs(options: &Options) -> u64
     (MOST_TURNS / options.turns.max(1)).max(1)
 }
 
-/// Lets each desk take its turns once, then brings every letter that is on its way to its receiver, and answers whether
-/// nothing more can happen.
+/// Lets each desk take its turns once, then delivers every letter in flight, and returns whether nothing more can
+/// happen.
 fn run_and_rest<R: Threads + Sync>(
     rt: &R,
     options: &Options,

@@ -12,7 +12,7 @@ ghost use Rattle.pt_resting.specs.Views.{taken_out, work_of};
 use crate::bells::Bells;
 use crate::resting::Rests;
 use pt_crew::tell;
-use pt_node::{Body, Desk, Fault, Pid, Turned, Work};
+use pt_workers::{Body, Desk, Fault, Pid, Turned, Work};
 use rtrb::{Consumer, Producer, PushError, RingBuffer};
 use std::alloc::{AllocError, Global};
 
@@ -23,7 +23,7 @@ pub struct Post {
     pub body: Body,
 }
 
-/// The end of a way in that a thread without a desk holds: a socket's reader, say.
+/// The end of a way in that a thread without a desk holds, as a socket's reader.
 #[derive(Drop)]
 pub struct Door<'a> {
     ring: Producer<Post>,
@@ -32,8 +32,8 @@ pub struct Door<'a> {
 }
 
 impl<'a> Door<'a> {
-    /// Hands in a message, and rings at the desk. It is given back, and nothing has changed, if the door knows of no free
-    /// place: as many messages wait as the way in has places, by all that this end knows of the other.
+    /// Posts a message, and rings at the desk. Fails with the message, and nothing has changed, if the door knows of no
+    /// free place. Then as many messages wait as the way in has places, by all that this end knows of the other.
     pub fn post(&mut self, post: Post) -> Result<(), Post>
         ensures taken { OnOk result ((handed_in self.new ≡ handed_in self.old ++ post ∷ [])
             × (known_places self.old ≤ known_places self.new + 1)) }
@@ -52,11 +52,11 @@ impl<'a> Door<'a> {
     }
 }
 
-/// The work of a desk that sends on what came in at a door, as a process of the desk, before it does the work that it
+/// The work of a desk that sends on the messages of a door, as a process of the desk, before it does the work that it
 /// was made with.
 ///
-/// A message that it took out of the way in was sent, or its receiver was seen to have ended or is not known. Where the
-/// desk refuses it for want of memory or stamps, or since the process has ended, it stays where it is, in front of the
+/// A message that it took out of the way in was sent, or its receiver was seen to have exited or is not known. If the
+/// call fails for want of memory or stamps, or since the sending process has exited, the message stays in front of the
 /// others.
 #[derive(Drop)]
 pub struct Porter<W> {
@@ -66,8 +66,8 @@ pub struct Porter<W> {
     work: W,
 }
 
-/// A way in with so many places, for messages that the process `me` of that desk sends on, at most `most` in a step
-/// (0 is taken as 1); and the work of the desk with it. Refused where there is no memory.
+/// Makes a way in with so many places, for messages that the process `me` of that desk sends on, at most `most` in a
+/// step (0 is taken as 1). It returns the door, and the work of the desk with it. Fails if there is no memory.
 pub fn way_in<'a, W: Drop>(
     alloc: Global,
     bells: &'a Bells,
@@ -105,7 +105,7 @@ impl<W> Porter<W> {
         &self.work
     }
 
-    /// The work, as it is now; what waits in the way in is given up.
+    /// The work, as it is now. The messages that wait in the way in are dropped.
     pub fn into_work(self) -> W
         ensures { result ≡ work_of self }
     {
@@ -113,8 +113,8 @@ impl<W> Porter<W> {
         work
     }
 
-    /// Sends on the first message that waits, and whether it was taken out.
-    #[tactic(auto, using(pt_node::proofs::GoingOn::stays))]
+    /// Sends on the first message that waits, and returns whether it was taken out.
+    #[tactic(auto, using(pt_workers::proofs::GoingOn::stays))]
     fn bring_one(&mut self, desk: &mut Desk) -> bool
         ensures brings { BringsFirst self.old.me (received self.old.ring) desk.old result (received self.new.ring)
             (known_items self.new.ring) desk.new }
@@ -138,7 +138,7 @@ impl<W> Porter<W> {
     }
 
     /// Sends on as many as it may in a step, and looks whether more wait.
-    #[tactic(auto, using(pt_node::proofs::GoingOn::stays, pt_desk::proofs::Turning::goes_on_then))]
+    #[tactic(auto, using(pt_workers::proofs::GoingOn::stays, pt_desk::proofs::Turning::goes_on_then))]
     fn bring(&mut self, desk: &mut Desk)
         ensures brings { Brings self.old.me self.old.most (received self.old.ring) desk.old (received self.new.ring)
             (known_items self.new.ring) desk.new }
@@ -165,7 +165,7 @@ impl<W: Work> Work for Porter<W> {
     ghost hears = { λ old d turned new. W.Work.hears (work_of old) d turned (work_of new) × HasSameEnd old new
         × (sender new ≡ sender old) × (most_of new ≡ most_of old) };
 
-    #[tactic(auto, using(pt_node::proofs::GoingOn::stays, pt_desk::proofs::Turning::goes_on_then))]
+    #[tactic(auto, using(pt_workers::proofs::GoingOn::stays, pt_desk::proofs::Turning::goes_on_then))]
     fn step(&mut self, desk: &mut Desk) {
         self.bring(desk);
         self.work.step(desk);

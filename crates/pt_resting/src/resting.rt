@@ -1,17 +1,17 @@
-//! A work that tells its bells when there is nothing to do.
+//! A work that reports to its bells when there is nothing to do.
 
 ghost use Rattle.std.specs.Prelude.{◌≡◌, ◌==◌, ◌||◌, ⊤, Bool, length, not};
 ghost use Rattle.pt_crew.specs.Crews.{queue, waiting};
 
 use crate::bells::Bells;
 use pt_crew::{Behaviour, Crew};
-use pt_node::{Desk, Event, Pid, Stamped, Turned, Work};
+use pt_workers::{Desk, Event, Pid, Stamped, Turned, Work};
 use std::marker::Model;
 
-/// A work that knows whether it has something to do by itself, though nothing comes to its desk.
+/// A work that knows whether it has something to do by itself, though nothing arrives at its desk.
 ///
-/// When it says so is its ghost member `busy`, of the work and its answer. A work that says nothing there promises
-/// nothing of its answer.
+/// The ghost member `busy` says when it does: it relates the work and the answer. A work that says nothing there
+/// promises nothing of its answer.
 pub trait Rests: Work {
     ghost busy: { Self → Bool → Type 0 } = { λ _ _. ⊤ };
 
@@ -20,7 +20,7 @@ pub trait Rests: Work {
         ensures { busy self.now result };
 }
 
-/// A crew has something to do while somebody stands in its queue, or waits to enter.
+/// A crew has something to do while a process is in its queue, or waits to enter.
 impl<B: Behaviour + Drop> Rests for Crew<B> {
     ghost busy = { λ c answer. answer ≡ (not (length (queue c) == 0) || not (length (waiting c) == 0)) };
 
@@ -29,8 +29,8 @@ impl<B: Behaviour + Drop> Rests for Crew<B> {
     }
 }
 
-/// A work whose desk rests while nothing is to be done on it: where its last turn handled nothing, its step wrote no
-/// event, no letter waits in its outbox or its hold, and the work has nothing to do by itself.
+/// A work whose desk rests while there is nothing to do on it. It rests if its last turn handled nothing, its step
+/// wrote no event, no letter waits in outbox or hold, and the work has nothing to do by itself.
 ///
 /// It does what the work does, and nothing else to the desk.
 #[derive(Drop)]
@@ -39,11 +39,11 @@ pub struct Resting<'a, W> {
     bells: &'a Bells,
     /// The desk's clock as the last step ended; none before the first.
     clock: Option<u64>,
-    /// To which desks letters may wait in the outbox.
+    /// The desks for which letters may wait in the outbox.
     posts: u64,
 }
 
-/// Clauses see the work alone: what it tells the bells wakes workers, and changes nothing.
+/// Clauses see the work alone: what it reports to the bells wakes workers, and changes nothing.
 impl<'a, W> Model for Resting<'a, W> {
     ghost Value = { W };
 
@@ -84,7 +84,7 @@ fn bit(desk: u8) -> u64 {
     if desk < 64 { 1 << desk } else { 0 }
 }
 
-/// To which desks an event may send letters: whoever has ended owes some to any.
+/// The desks to which an event may send letters. An exit may send some to any.
 fn targets(desk: &Desk, event: &Event) -> u64 {
     match event {
         Event::Said(_, to, _) => bit(to.shard),
@@ -100,7 +100,7 @@ fn targets(desk: &Desk, event: &Event) -> u64 {
     }
 }
 
-/// To which desks these events may send letters.
+/// The desks to which these events may send letters.
 fn targets_of(desk: &Desk, events: &[Stamped]) -> u64 {
     let mut posts = 0;
     for stamped in events {

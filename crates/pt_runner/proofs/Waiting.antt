@@ -20,9 +20,9 @@ use Rattle.pt_events.specs.History.{Phase, unborn, living, ended, is_living, is_
 use Rattle.pt_shard.specs.ShardState.{ShardState, lives, phase_of}
 use Rattle.pt_shard.specs.Calls.{Calls, CanWriteIf, after_if, first_match, take_event}
 use Rattle.pt_shard.specs.Extends.{Extends}
-use Rattle.pt_node.specs.Waking.{came_in, came_to}
-use Rattle.pt_node.proofs.Unread.{Oldest, oldest}
-use Rattle.pt_node.proofs.Waiting.{finds_nothing_later, neither}
+use Rattle.pt_workers.specs.Waking.{came_in, came_to}
+use Rattle.pt_workers.proofs.Unread.{Oldest, oldest}
+use Rattle.pt_workers.proofs.Waiting.{finds_nothing_later, neither}
 use Rattle.pt_script.specs.Plans.{Plan}
 use Rattle.pt_script.specs.declared.values.Operation.{Operation}
 use Rattle.pt_script.specs.declared.values.Operation.TheVariants.{Receive}

@@ -7,12 +7,12 @@
 //! | `nodes` | what a running node returns about its desks and processes |
 //! | `on_a_desk` | crews and recipes that are called on a desk |
 //! | `supervisors` | a supervisor and what it is made of, without a desk |
-//! | `recipes` | the recipes of `example_uses` that open a node themselves |
 //! | `refusals` | the texts of the refusals that no program prints |
 //! | `upheld` | a behaviour that upholds something, and the laws of its crews |
 //!
-//! A crate with tests is proved twice, and each proof first reads all crates below it; so all proved tests are in this
-//! crate. No function that owns a node returns early: what is dropped at each return costs most.
+//! A crate with tests is proved twice, and each proof first reads all crates below it. So these tests are in one crate,
+//! but for those of recipes that open a node themselves (`test_recipes`): one check would take more than three gigabytes.
+//! No function that owns a node returns early: what is dropped at each return costs most.
 //!
 //! # What is proved
 //!
@@ -25,8 +25,6 @@ mod layers;
 mod nodes;
 #[cfg(test)]
 mod on_a_desk;
-#[cfg(test)]
-mod recipes;
 #[cfg(test)]
 mod refusals;
 #[cfg(test)]

@@ -1,7 +1,7 @@
 //! Crews and recipes that work on a desk, each on a node of its own.
 
 ghost use Rattle.std.specs.Prelude.{◌≡◌};
-ghost use Rattle.pt_node.specs.Desks.{AreDesks, IsStill};
+ghost use Rattle.pt_workers.specs.Desks.{AreDesks, IsStill};
 
 use crate::upheld::{Listener, never_stops};
 use example_uses::game::{Game, HIT};
@@ -39,7 +39,7 @@ fn played(rt: &impl Abort, alloc: Global, play: Play) {
     let _node = steps::gathered(alloc, desks).ok().expect(rt, "memory");
 }
 
-#[tactic(auto, using(pt_node::proofs::StillDesks::still_desks))]
+#[tactic(auto, using(pt_workers::proofs::StillDesks::still_desks))]
 fn on_first(rt: &impl Abort, alloc: Global, desks: &mut Vec<Desk>, play: Play)
     requires { AreDesks desks.old.items }
     ensures { AreDesks desks.new.items }
@@ -110,7 +110,7 @@ impl Behaviour for Once {
 
     ghost answers = { λ _ _ _ _ _ _ _ _. ⊤ };
 
-    #[tactic(auto, using(pt_node::proofs::GoingOn::stays))]
+    #[tactic(auto, using(pt_workers::proofs::GoingOn::stays))]
     fn handle(
         &mut self,
         _desk: &mut Desk,
@@ -178,7 +178,7 @@ impl Takes for Sum {
 
     ghost takes = { λ _ d _ _ e. e ≡ d };
 
-    #[tactic(auto, using(pt_node::proofs::GoingOn::stays))]
+    #[tactic(auto, using(pt_workers::proofs::GoingOn::stays))]
     fn take(&mut self, _desk: &mut Desk, item: Item) {
         if let Item::User(_, body) = item {
             self.numbers = self.numbers.saturating_add(body.num);

@@ -1,7 +1,7 @@
 //! What a behaviour upholds, its crew keeps: the processes of this crew never ask to stop.
 
-ghost use Rattle.pt_node.specs.Running.{begins_by};
-ghost use Rattle.pt_node.specs.declared.work.Standing.TheVariants.{Going};
+ghost use Rattle.pt_workers.specs.Running.{begins_by};
+ghost use Rattle.pt_workers.specs.declared.work.Standing.TheVariants.{Going};
 ghost use Rattle.pt_crew.specs.Running.{RestUpholds, RunUpholds};
 ghost use Rattle.test_calls.specs.Patient.{Listens, NeverStops};
 
@@ -17,7 +17,7 @@ pub(crate) struct Listener {
 impl Behaviour for Listener {
     ghost answers = { Listens };
 
-    #[tactic(auto, using(pt_node::proofs::GoingOn::stays))]
+    #[tactic(auto, using(pt_workers::proofs::GoingOn::stays))]
     fn handle(
         &mut self,
         _desk: &mut Desk,

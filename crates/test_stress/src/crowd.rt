@@ -97,7 +97,7 @@ impl<'a> Crowd<'a> {
     }
 
     /// A call of one process that names another one.
-    #[tactic(auto, using(pt_node::proofs::GoingOn::stays))]
+    #[tactic(auto, using(pt_workers::proofs::GoingOn::stays))]
     fn call_on(&mut self, desk: &mut Desk, me: Pid, to: Pid, drawn: u64)
         requires { knows desk.old.shard to ≡ true }
         ensures { GoesOn desk.old desk.new }
@@ -124,7 +124,7 @@ impl<'a> Crowd<'a> {
     }
 
     /// A call of one process that names no other one.
-    #[tactic(auto, using(pt_node::proofs::GoingOn::stays))]
+    #[tactic(auto, using(pt_workers::proofs::GoingOn::stays))]
     fn call_alone(&mut self, desk: &mut Desk, me: Pid, drawn: u64)
         ensures { GoesOn desk.old desk.new }
     {
@@ -151,7 +151,7 @@ impl<'a> Crowd<'a> {
     }
 
     /// A call of one process.
-    #[tactic(auto, using(pt_node::proofs::GoingOn::stays))]
+    #[tactic(auto, using(pt_workers::proofs::GoingOn::stays))]
     fn call(&mut self, desk: &mut Desk, me: Pid)
         ensures { GoesOn desk.old desk.new }
     {
@@ -171,7 +171,7 @@ impl<'a> Work for Crowd<'a> {
 
     ghost does = { λ _ _ _ _. ⊤ };
 
-    #[tactic(auto, using(pt_node::proofs::GoingOn::stays))]
+    #[tactic(auto, using(pt_workers::proofs::GoingOn::stays))]
     fn step(&mut self, desk: &mut Desk) {
         let me = self.draw(desk.number());
         if self.made < FIRST || !desk.alive_here(me) {

@@ -96,7 +96,7 @@ fn first_of(desk: u8) -> Pid {
 }
 
 impl<'a> Relay<'a> {
-    #[tactic(auto, using(pt_node::proofs::GoingOn::stays))]
+    #[tactic(auto, using(pt_workers::proofs::GoingOn::stays))]
     fn hand_on(&self, desk: &mut Desk, body: Body)
         ensures { GoesOn desk.old desk.new }
     {
@@ -114,7 +114,7 @@ impl<'a> Work for Relay<'a> {
 
     ghost does = { λ _ _ _ _. ⊤ };
 
-    #[tactic(auto, using(pt_node::proofs::GoingOn::stays, pt_desk::proofs::Turning::goes_on_then))]
+    #[tactic(auto, using(pt_workers::proofs::GoingOn::stays, pt_desk::proofs::Turning::goes_on_then))]
     fn step(&mut self, desk: &mut Desk) {
         self.notes.turns.fetch_add(1, Ordering::SeqCst);
         if let Ok(Some(Item::User(_, body))) = desk.receive(self.me, Pick::Any) {

@@ -1,6 +1,6 @@
 //! A crowd on threads whose node goes on from round to round: all rounds, one after the other, are one history.
 
-ghost use Rattle.pt_node.specs.Desks.{AreDesks};
+ghost use Rattle.pt_workers.specs.Desks.{AreDesks};
 
 use crate::board::Board;
 use crate::crowd::Crowd;

@@ -1,6 +1,6 @@
 //! Crowds that run on threads, and what their histories are.
 
-ghost use Rattle.pt_node.specs.Desks.{AreDesks};
+ghost use Rattle.pt_workers.specs.Desks.{AreDesks};
 
 use crate::board::{Board, DESKS};
 use crate::crowd::Crowd;

@@ -1,7 +1,7 @@
 -- `all_staffed`: its clauses `upholds` and `node`, and its loop over `place`.
 use Rattle.std.proofs.Common.{◌≡◌, ◌<◌, ◌++◌, ◌∷◌, [], List, length, set, sym, ap, subst, ◌∙◌, length-append, arith}
 use Rattle.std.proofs.lemmas.List.{length-set}
-use Rattle.pt_node.proofs.StillDesks.{still_desks}
+use Rattle.pt_workers.proofs.StillDesks.{still_desks}
 use Rattle.pt_crew.specs.declared.crew.Crew.{Crew}
 use Rattle.pt_crew.proofs.Runs.{FirstUphold, one_more}
 use Rattle.pt_supervisor.specs.Keeping.{Keeps}

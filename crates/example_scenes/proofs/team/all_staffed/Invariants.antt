@@ -1,6 +1,6 @@
 -- `all_staffed`: what holds in its loop over `place`.
 use Rattle.std.proofs.Common.{◌≡◌, length}
-use Rattle.pt_node.specs.Desks.{AreDesks}
+use Rattle.pt_workers.specs.Desks.{AreDesks}
 use Rattle.pt_crew.proofs.Runs.{FirstUphold}
 use Rattle.pt_supervisor.specs.Keeping.{Keeps}
 use Rattle.example_scenes.specs.Team.{boss_of}

@@ -1,6 +1,6 @@
 -- `senders`: its clause `node`, and its loop over `d`.
 use Rattle.std.proofs.Common.{arith, rules}
-use Rattle.pt_node.proofs.StillDesks.{still_desks}
+use Rattle.pt_workers.proofs.StillDesks.{still_desks}
 use Rattle.example_uses.proofs.desks_on_threads.senders.Goals as goal
 
 pub returns-in_err-me-clause-node : goal.returns-in_err-me-clause-node

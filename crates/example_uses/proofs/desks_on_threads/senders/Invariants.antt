@@ -1,7 +1,7 @@
 -- `senders`: what holds in its loop over `d`.
 use Rattle.std.proofs.Common.{◌≡◌, ◌≤◌, vec_len}
 use Rattle.std.specs.Vec.{vec_capacity}
-use Rattle.pt_node.specs.Desks.{AreDesks}
+use Rattle.pt_workers.specs.Desks.{AreDesks}
 use Rattle.example_uses.proofs.desks_on_threads.senders.Given as goal
 
 abbrev pub invariant-loop-d : goal.invariant-loop-d

@@ -1,6 +1,6 @@
 -- `epochs::epochs`: its contract, and its loop over `epoch`.
 use Rattle.std.proofs.Common.{suc, ◌+◌, ◌≡◌, subst, arith}
-use Rattle.pt_node.specs.Running.{AllWork, always, begins_by}
+use Rattle.pt_workers.specs.Running.{AllWork, always, begins_by}
 use Rattle.example_uses.specs.Epochs.{Epoch, PassAsOne}
 use Rattle.example_uses.proofs.Archiving.{none_passed, one_more}
 use Rattle.example_uses.proofs.epochs.epochs.Goals as goal

@@ -1,5 +1,5 @@
 -- `epochs::epochs`: what holds in its loop over `epoch`.
-use Rattle.pt_node.specs.Running.{AllWork, always, begins_by}
+use Rattle.pt_workers.specs.Running.{AllWork, always, begins_by}
 use Rattle.example_uses.specs.Epochs.{PassAsOne}
 use Rattle.example_uses.proofs.epochs.epochs.Given as goal
 

@@ -2,7 +2,7 @@
 use Rattle.std.proofs.Common.{◌-◌, ℤ, Result}
 use Rattle.pt_shard.specs.declared.fault.Fault.{Fault}
 use Rattle.pt_shard.specs.ShardState.{ShardState}
-use Rattle.pt_node.specs.Desks.{IsStill}
+use Rattle.pt_workers.specs.Desks.{IsStill}
 use Rattle.example_uses.specs.Doing.{Repeats}
 use Rattle.example_uses.specs.Games.{TakesHit}
 use Rattle.example_uses.proofs.game.take_hits.Given as goal

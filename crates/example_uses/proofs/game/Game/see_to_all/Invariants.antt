@@ -1,7 +1,7 @@
 -- `Game::see_to_all`: what holds in its loop over `place`.
 use Rattle.std.proofs.Common.{◌≡◌, Ok}
 use Rattle.indexmap.specs.IndexMap.{keys}
-use Rattle.pt_node.specs.Desks.{IsStill}
+use Rattle.pt_workers.specs.Desks.{IsStill}
 use Rattle.example_uses.specs.Doing.{AtEach}
 use Rattle.example_uses.specs.Games.{SeesToAt}
 use Rattle.example_uses.proofs.game.Game.see_to_all.Given as goal
