@@ -2,7 +2,6 @@
 mod Accounts
 mod Attending
 mod Faults
-mod Noting
 mod Passing
 mod Rest
 mod Settings

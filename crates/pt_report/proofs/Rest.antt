@@ -2,6 +2,7 @@
 use Rattle.std.proofs.Common.{◌≡◌, inl, inr, ℕ, ◌+◌, ◌-◌, ◌^◌, ◌<◌, ◌≤◌, ◌==◌, ◌&&◌, Bool, true, false, cond, List, [], ◌∷◌, length, get_or, take, refl, sym, ap, ◌∙◌, arith}
 use Rattle.std.specs.Prelude.{MatchBool, count_by, min, sum_by}
 use Rattle.std.specs.List.{zip}
+use Rattle.std.proofs.lemmas.Bool.{eqb-true}
 use Rattle.std.proofs.lemmas.List.{take_all}
 use Rattle.std.proofs.lemmas.List.Sums.{sum_by_more}
 use Rattle.std.proofs.lemmas.Slice.Zip.{get_or-zip, length-zip}
@@ -38,10 +39,15 @@ module _ (s : Staffed) (g : GatheredState) (begins : CanBegin s.0 s.1) where
     none_left = none;
   }
 
+  -- a list with an element is not empty
+  one_left : (x : LeftOver) (xs : List LeftOver) (b : Bool) → (length (x ∷ xs) == 0) ≡ b → (n : ℕ) → n ≡ cond b 0 (alive_in s) → n ≡ alive_in s
+  one_left x xs true is n told = let none = eqb-true (length (x ∷ xs)) 0 is in absurd (omega (arith, none))
+  one_left x xs false is n told = told
+
   by_left : (left : List LeftOver) → all_left g ≡ left → (idle : Bool) → MatchBool idle (RunnersIdle s.1 s.0) (RunnersIdle s.1 s.0 → ⊥) → (n : ℕ) → n ≡ cond (idle && (length left == 0)) 0 (alive_in s) → IsLeft s g n
   by_left left is false busy n told = inr (λ rest. busy rest.idle, told)
   by_left [] is true idle n told = inl (came idle is, told)
-  by_left (x ∷ xs) is true idle n told = inr (λ rest. absurd (let e : [] ≡ x ∷ xs = sym rest.none_left ∙ is in cc), told)
+  by_left (x ∷ xs) is true idle n told = inr (λ rest. absurd (let e : [] ≡ x ∷ xs = sym rest.none_left ∙ is in cc), one_left x xs (length (x ∷ xs) == 0) refl n told)
 
   -- what is told of a run that has ended
   pub left_is : (idle : Bool) → MatchBool idle (RunnersIdle s.1 s.0) (RunnersIdle s.1 s.0 → ⊥) → (alive n : ℕ) → alive ≡ alive_in s → n ≡ cond (idle && (length (all_left g) == 0)) 0 alive → IsLeft s g n

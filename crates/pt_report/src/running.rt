@@ -106,7 +106,7 @@ fn left_of(idle: bool, alive: u64, gathered: &Gathered) -> Result<u64, AllocErro
 }
 
 /// How many processes of the script are alive, staying at the greatest number.
-#[tactic(auto, using(crate::proofs::Rest::one_more, crate::proofs::Rest::all_counted))]
+#[tactic(auto, using(crate::proofs::Rest::all_counted))]
 fn alive_in(desks: &[Desk], runners: &[Runner<'_>]) -> u64
     ensures { result ≡ spec.alive_in (desks.now, runners.now) }
 {
