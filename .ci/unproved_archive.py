@@ -7,7 +7,7 @@ The toolchain builds a library only from proved sources, but `rt try` compiles a
 program of pt_c's sources that calls each export in a branch that never runs, and has `rt try`'s compiler write it, with
 a `clang` before the toolchain's own that keeps the module. Then it makes the exports external, adds for each a function
 in C that has its name and C's calling convention, and compiles both. The checks that `rt try` adds stay: an overflow, an
-index out of bounds or a bad access stops the program.
+index out of bounds or a bad access stops the program. The archive has the symbol `pt_c_is_not_proved`.
 
 It leans on the toolchain's inside: how a module names functions, and how it passes structs (two words as two words, more
 by a pointer). If another toolchain does that in another way, this says so and makes nothing.
@@ -170,7 +170,7 @@ typedef struct { uint32_t slots; uint32_t top_version; uint32_t lane; uint64_t s
 
 def shim(all_exports: list[Export]) -> str:
     """The functions that C calls."""
-    text = STRUCTS
+    text = STRUCTS + "const char pt_c_is_not_proved = 1;\n"
     for it in all_exports:
         parts = [crossing(*parameter) for parameter in it.parameters]
         outer, inner, words = (", ".join(word for part in parts for word in part[at]) or "void" for at in range(3))

@@ -1,7 +1,7 @@
 """The proved process table of Pundewo, for Python.
 
-A node is a set of desks. Each desk has processes, keeps a journal of what happened on it, and belongs to one thread at a
-time. `open_node` makes the desks, `Desk.turn` moves letters between them, `gather` brings them together, and
+A node is a set of desks. Each desk has processes, keeps a journal of what happened on it, and belongs to one thread at
+a time. `open_node` makes the desks, `Desk.turn` moves letters between them, `gather` brings them together, and
 `Gathered.settle` delivers the letters that are left over.
 
 A call checks each argument before it calls the library. A value of a wrong type is a TypeError and a number out of its
@@ -18,9 +18,9 @@ from threading import Lock
 from typing import Any, Callable, Iterator, Optional, Sequence, TypeVar
 
 from ._library import (
-    CAccount, CBody, CConfig, CEvent, CHandle, CIds, CItem, CLeftOver, CPick, CPid, CReason, CRef, CSignal, CTurned,
-    body_of, c_body, c_pick, c_pid, c_reason, c_ref, event_of, ids_of, item_of, left_over_of, lib, own, pick_of, pid_of,
-    reason_of, ref_of,
+    BUILD, CAccount, CBody, CConfig, CEvent, CHandle, CIds, CItem, CLeftOver, CPick, CPid, CReason, CRef, CSignal,
+    CTurned, body_of, c_body, c_pick, c_pid, c_reason, c_ref, event_of, ids_of, item_of, left_over_of, lib, own, pick_of,
+    pid_of, reason_of, ref_of,
 )
 from .values import (
     ANY, KILL, KILLED, NOPROC, NORMAL, SHUTDOWN, U8, U32, U64, Account, Body, Code, Config, Event, Ids, Item, LeftOver,
@@ -30,8 +30,8 @@ from .values import (
 __version__ = "0.1.0"
 
 __all__ = [
-    "ANY", "KILL", "KILLED", "NOPROC", "NORMAL", "SHUTDOWN", "Account", "Body", "Busy", "Code", "Config", "Desk", "Event",
-    "Fault", "Gathered", "History", "Ids", "Item", "LeftOver", "LinkId", "Pick", "Pid", "Quiet", "Reason", "Ref",
+    "ANY", "BUILD", "KILL", "KILLED", "NOPROC", "NORMAL", "SHUTDOWN", "Account", "Body", "Busy", "Code", "Config", "Desk",
+    "Event", "Fault", "Gathered", "History", "Ids", "Item", "LeftOver", "LinkId", "Pick", "Pid", "Quiet", "Reason", "Ref",
     "Signal", "Turned", "Unsettled", "gather", "open_node",
 ]
 

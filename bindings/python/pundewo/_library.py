@@ -90,6 +90,9 @@ def load() -> c.CDLL:
 
 lib = load()
 
+# The name and the version of the library, and whether it was proved.
+BUILD = c.string_at(c.addressof(c.c_char.in_dll(lib, "pundewo_build"))).decode()
+
 
 def _declare() -> None:
     p, flag, size = c.POINTER, c.c_bool, c.c_size_t

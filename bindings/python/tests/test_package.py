@@ -71,6 +71,7 @@ class Package(unittest.TestCase):
 
     def test_it_has_a_version_and_types(self):
         self.assertRegex(p.__version__, r"^\d+\.\d+\.\d+$")
+        self.assertTrue(p.BUILD.startswith(f"pundewo {p.__version__}, "))
         self.assertTrue(Path(p.__file__).with_name("py.typed").exists())
         for name in p.__all__:
             self.assertTrue(hasattr(p, name), name)

@@ -60,6 +60,18 @@ use std::ptr::null_mut;
 use std::sync::atomic::{AtomicU64, Ordering};
 use std::sync::{Mutex, MutexGuard, PoisonError};
 
+/// The name and the version of the library, and whether it was proved.
+///
+/// ```
+/// assert!(pundewo::build().starts_with("pundewo "));
+/// ```
+#[must_use]
+pub fn build() -> &'static str {
+    // SAFETY: the library has a text there that ends with a zero, and nothing changes it.
+    let text = unsafe { std::ffi::CStr::from_ptr(&raw const raw::pundewo_build) };
+    text.to_str().unwrap_or("pundewo")
+}
+
 const OK: u32 = 0;
 const NOTHING: u32 = 8;
 

@@ -10,8 +10,8 @@ ghost use Rattle.pt_gathered.specs.LeftOvers.{all_left};
 ghost use Rattle.pt_gathered.specs.Pasts.{GoesOnFrom};
 ghost use Rattle.pt_gathered.specs.Tables.{AreTables};
 
+use crate::at_rest::{AtRest, Lane};
 use crate::left_over::LeftOver;
-use crate::node::{Lane, Node};
 use crate::node_laws::laws_of_node;
 use pt_accounts::DeskLives;
 use pt_events::{Journal, Stamped};
@@ -27,7 +27,7 @@ use std::marker::Model;
 /// For each desk it also keeps what became of the processes that were there before the desk's journal.
 #[derive(Drop)]
 pub struct Gathered {
-    node: Node,
+    node: AtRest,
     lives: Vec<DeskLives>,
 }
 
@@ -57,26 +57,26 @@ impl Gathered {
         ensures { result ≡ record { config = config; shards = shards.items; lanes = lanes.items } }
     {
         Gathered {
-            node: Node::of(alloc, config, shards, lanes),
+            node: AtRest::of(alloc, config, shards, lanes),
             lives,
         }
     }
 
-    pub(crate) fn with(node: Node, lives: Vec<DeskLives>) -> Gathered
+    pub(crate) fn with(node: AtRest, lives: Vec<DeskLives>) -> Gathered
         requires { AreTables node.shards lives.items }
         ensures { result ≡ node }
     {
         Gathered { node, lives }
     }
 
-    pub(crate) fn apart(self) -> (Node, Vec<DeskLives>)
+    pub(crate) fn apart(self) -> (AtRest, Vec<DeskLives>)
         ensures node { result.0 ≡ self }
         ensures tables { AreTables self.shards result.1.items }
     {
         (self.node, self.lives)
     }
 
-    pub(crate) fn node(&self) -> &Node
+    pub(crate) fn node(&self) -> &AtRest
         ensures { result.now ≡ self.now }
     {
         &self.node

@@ -70,17 +70,17 @@
 //!   (`SettlingStops`)
 #![tactic(auto, unfolding(crate::specs::Text::left_over_text))]
 
+mod at_rest;
 mod gathered;
 mod left_over;
-mod node;
 mod node_laws;
 mod quiet;
 mod resumed;
 mod settling;
 
+pub use at_rest::Lane;
 pub use gathered::Gathered;
 pub use left_over::LeftOver;
-pub use node::Lane;
 pub use node_laws::laws_of;
 pub use pt_accounts::{Account, DeskLives};
 pub use quiet::Quiet;

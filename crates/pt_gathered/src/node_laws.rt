@@ -6,8 +6,8 @@ ghost use Rattle.pt_gathered.specs.Lawful.{LanesKeep, KeepsHeadline, IsLegalNode
 ghost use Rattle.pt_gathered.specs.Lawful.{WatchesStand, HoldingsStand, AnswersHold, QuestionsAnswered, BeginsAgain};
 ghost use Rattle.pt_gathered.specs.Pasts.{IsLegalWhole, IsQuietWhole, BeginsAgainAfter};
 
+use crate::at_rest::AtRest;
 use crate::gathered::Gathered;
-use crate::node::Node;
 use pt_laws::{laws, links};
 
 /// What the laws of histories say of a node whose desks were gathered. The function does nothing: its contract is the
@@ -32,7 +32,7 @@ pub fn laws_of(gathered: &Gathered)
 }
 
 /// The same for a node without its tables.
-pub(crate) fn laws_of_node(gathered: &Node)
+pub(crate) fn laws_of_node(gathered: &AtRest)
     ensures lanes { LanesKeep gathered.now }
     ensures headline { KeepsHeadline gathered.now }
     ensures legal { IsLegalNode gathered.now }

@@ -21,7 +21,7 @@ ghost use Rattle.pt_gathered.specs.Lawful.{LanesKeep, KeepsHeadline, IsQuietNode
 ghost use Rattle.pt_gathered.specs.Lawful.{HoldingsStand, AnswersHold, QuestionsAnswered, BeginsAgain};
 ghost use Rattle.pt_gathered.specs.Pasts.{GoesOnFrom, IsQuietWhole, BeginsAgainAfter};
 
-use crate::node::Node;
+use crate::at_rest::AtRest;
 use crate::node_laws::laws_of_node;
 use pt_accounts::{Account, DeskLives, Lives};
 use pt_events::Stamped;
@@ -36,7 +36,7 @@ use std::marker::Model;
 /// memory.
 #[derive(Drop)]
 pub struct Quiet {
-    node: Node,
+    node: AtRest,
     handled: u64,
     lives: Lives,
 }
@@ -52,7 +52,7 @@ impl Model for Quiet {
 }
 
 impl Quiet {
-    pub(crate) fn of(node: Node, handled: u64, lives: Lives) -> Quiet
+    pub(crate) fn of(node: AtRest, handled: u64, lives: Lives) -> Quiet
         requires { IsSettled node lives }
         ensures { result ≡ record { gathered = node; handled = handled; lives = lives } }
     {
@@ -63,7 +63,7 @@ impl Quiet {
         }
     }
 
-    pub(crate) fn node(&self) -> &Node
+    pub(crate) fn node(&self) -> &AtRest
         ensures { result.now ≡ self.now.gathered }
     {
         &self.node

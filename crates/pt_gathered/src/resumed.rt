@@ -92,6 +92,7 @@ fn holding_of(alloc: Global, process: &Process) -> Result<Holding, AllocError>
     })
 }
 
+#[tactic(auto, using(crate::proofs::StartStates::copied_more, crate::proofs::StartStates::copied_all))]
 fn links_of(alloc: Global, process: &Process) -> Result<Vec<(Pid, Ids)>, AllocError>
     ensures { IfOk result (λ links. links.items ≡ process.now.state.links) }
 {
@@ -102,6 +103,7 @@ fn links_of(alloc: Global, process: &Process) -> Result<Vec<(Pid, Ids)>, AllocEr
     Ok(links)
 }
 
+#[tactic(auto, using(crate::proofs::StartStates::copied_more, crate::proofs::StartStates::copied_all))]
 fn monitors_of(alloc: Global, process: &Process) -> Result<Vec<(Ref, Pid)>, AllocError>
     ensures { IfOk result (λ monitors. monitors.items ≡ process.now.state.watching) }
 {
@@ -112,6 +114,7 @@ fn monitors_of(alloc: Global, process: &Process) -> Result<Vec<(Ref, Pid)>, Allo
     Ok(monitors)
 }
 
+#[tactic(auto, using(crate::proofs::StartStates::copied_more, crate::proofs::StartStates::copied_all))]
 fn watches_of(alloc: Global, process: &Process) -> Result<Vec<(Ref, Pid)>, AllocError>
     ensures { IfOk result (λ watches. watches.items ≡ process.now.state.kept) }
 {

@@ -288,7 +288,7 @@ impl Node {
     ///
     /// Fails only if there is no memory: the node then comes back as it was. Only what the two ends of a lane know of
     /// each other may be more, which no call shows.
-    #[tactic(auto, using(crate::proofs::StillDesks::kept_desks))]
+    #[tactic(auto, using(pt_workers::proofs::StillDesks::kept_desks))]
     pub fn gather(self) -> Result<Gathered, NodeBack>
         ensures gathers { IfOk result (λ g. Gathers self g) }
         ensures journals { IfOk result (λ g. HasJournalsOf self g) }
