@@ -1,6 +1,6 @@
 -- What an explained summary says of a process: what it is at, or why it ended. No public clause cites this module.
-use Rattle.std.specs.Prelude.{ℕ, ◌+◌, ◌==◌, ◌&&◌, Bool, true, false, cond, is_some, not, List, [], ◌∷◌, ◌++◌, codes, decimal}
-use Rattle.std.specs.Prelude.{map, slice_get, string_bytes, Option, Some, None}
+use Rattle.std.specs.Prelude.{ℕ, ◌+◌, ◌==◌, ◌&&◌, Bool, false, cond, is_some, not, List, [], ◌∷◌, ◌++◌, codes, decimal}
+use Rattle.std.specs.Prelude.{slice_get, Option, Some, None}
 use Rattle.std.specs.List.{list_any}
 use Rattle.indexmap.specs.IndexMap.{get}
 use Rattle.pt_signal.specs.declared.pid.Pid.{Pid}
@@ -8,7 +8,6 @@ use Rattle.pt_signal.specs.declared.reason.Reason.{Reason}
 use Rattle.pt_signal.specs.declared.reason.Reason.TheVariants.{Other, Kill as KillReason}
 use Rattle.pt_signal.specs.declared.signal.Signal.{Signal}
 use Rattle.pt_signal.specs.declared.signal.Signal.TheVariants.{Exit as ExitSignal, LinkExit}
-use Rattle.pt_signal.specs.Text.{pid_text}
 use Rattle.pt_signal.specs.Values.{same_pid}
 use Rattle.pt_accounts.specs.declared.account.Account.{Account}
 use Rattle.pt_script.specs.Plans.{Plan}
@@ -19,20 +18,11 @@ use Rattle.pt_runner.specs.declared.runner.Place.{Place}
 use Rattle.pt_runner.specs.declared.runner.Runner.{Runner}
 use Rattle.pt_runner.specs.Acting.{pid_numbered, place_listed, plan_at, table}
 use Rattle.pt_report.specs.declared.ending.Ending.{Ending}
-use Rattle.pt_report.specs.declared.ending.Ending.TheVariants.{Own, Kill, Exit, Link, Unseen}
+use Rattle.pt_report.specs.declared.ending.Ending.TheVariants.{Kill, Exit, Link, Unseen}
 use Rattle.pt_report.specs.declared.ending.Endings.{Endings}
 use Rattle.pt_report.specs.declared.notes.Sources.{Sources}
-use Rattle.pt_report.specs.Words.{called_text, refused_text, wanted_text, word_text}
 
 -- what the sources have ---------------------------------------------------------------------
-
--- what the process with this number is called
-abbrev pub called_in : Sources → ℕ → List ℕ
-called_in s process = called_text (map string_bytes s.names.now) process
-
--- the number in the script of a process
-abbrev pub script_number : Sources → Pid → Option ℕ
-script_number s p = get same_pid s.numbers.now p
 
 abbrev pub operations_in : List Plan → ℕ → List Operation
 operations_in plans process = (plan_at plans process).operations
@@ -73,26 +63,6 @@ abbrev pub receives : Operation → Option Pattern
 receives (Receive pattern) = Some pattern
 receives _ = None
 
-abbrev pub step_text : List (List ℕ) → ℕ → Operation → Option Pattern → List ℕ
-step_text names op operation (Some pattern) = codes " waits at op " ++ decimal op ++ codes ": " ++ wanted_text names pattern
-step_text names op operation None = codes " is at op " ++ decimal op ++ codes ": " ++ word_text operation
-
--- the operation with this number, if its list has one
-abbrev pub doing_text : List (List ℕ) → ℕ → Option Operation → List ℕ
-doing_text names op None = codes " is behind its last op"
-doing_text names op (Some operation) = step_text names op operation (receives operation)
-
-abbrev pub stands_text : Sources → ℕ → Option Place → List ℕ
-stands_text s process None = codes " is at no op"
-stands_text s process (Some place) =
-    cond place.begins (codes " is at its beginning: trap" ++ refused_text place.refused)
-    (doing_text (map string_bytes s.names.now) place.done
-    (slice_get (operations_in s.script.now.processes process) place.done)
-    ++ refused_text place.refused)
-
-abbrev pub living_text : Sources → ℕ → Pid → List ℕ
-living_text s process p = called_in s process ++ stands_text s process (place_among s.runners.now p)
-
 -- why it ended ------------------------------------------------------------------------------
 
 abbrev pub is_other : ℕ → Reason → Bool
@@ -123,37 +93,7 @@ abbrev pub own_end_text : Option (ℕ × List ℕ) → List ℕ
 own_end_text None = codes " ended behind its last op"
 own_end_text (Some end) = codes " ended at op " ++ decimal end.0 ++ codes ": " ++ end.1
 
--- a process by its name, if it is one of the script
-abbrev pub sender_text : Sources → Pid → Option ℕ → List ℕ
-sender_text s from None = pid_text from
-sender_text s from (Some process) = called_in s process
-
-abbrev pub by_text : Sources → List ℕ → Pid → List ℕ
-by_text s what from = codes " ended by " ++ what ++ codes " " ++ sender_text s from (script_number s from)
-
-abbrev pub ended_text : Sources → ℕ → Reason → Ending → List ℕ
-ended_text s process reason Own = own_text s process reason 0 (operations_in s.script.now.processes process)
-ended_text s process reason (Kill from) = by_text s (codes "kill from") from
-ended_text s process reason (Exit from) = by_text s (codes "an exit signal from") from
-ended_text s process reason (Link from) = by_text s (codes "the link with") from
-ended_text s process reason Unseen = codes " ended in an earlier epoch, or by a signal in the last"
-
--- a note ------------------------------------------------------------------------------------
-
 -- the reason that a process ended with, if it has
 abbrev pub ended_with : Option Account → Option Reason
 ended_with None = None
 ended_with (Some a) = a.ended
-
-abbrev pub outcome_text : Sources → ℕ → Pid → Option Reason → List ℕ
-outcome_text s process p None = living_text s process p
-outcome_text s process p (Some reason) = called_in s process ++ ended_text s process reason (ending_of s.endings.now p)
-
--- of a process that ended with this reason, or has not ended, if it is one of the script
-abbrev pub reasoned_text : Sources → Pid → Option Reason → Option ℕ → List ℕ
-reasoned_text s p reason None = pid_text p ++ codes " is no process of the script"
-reasoned_text s p reason (Some process) = outcome_text s process p reason
-
--- what is said of the process p with this account
-abbrev pub notes_text : Sources → Pid → Option Account → List ℕ
-notes_text s p account = reasoned_text s p (ended_with account) (script_number s p)

@@ -86,8 +86,10 @@ fn run_epochs<'a, R: Threads + Sync, W: Write>(
     let budget = script.budget();
     let mut node = pass_epochs(rt, alloc, options, budget, node, &mut runners, kept, out)?;
     run_epoch(rt, options, budget, &mut node, &mut runners)?;
-    let alive = alive_in(node.desks(), runners.as_slice());
-    let idle = are_idle(runners.as_slice(), node.desks());
+    let desks = node.desks();
+    let staff = runners.as_slice();
+    let alive = alive_in(desks, staff);
+    let idle = are_idle(staff, desks);
     match node.gather() {
         Ok(gathered) => {
             let left = left_of(idle, alive, &gathered)?;

@@ -1,5 +1,5 @@
 -- `run_until_quiet`: its clauses `runs` and `begins`, and its loop.
-use Rattle.std.proofs.Common.{◌≡◌, suc, ◌+◌, inl, inr, refl, subst, ◌∙◌, arith}
+use Rattle.std.proofs.Common.{◌≡◌, suc, ◌+◌, inl, inr, refl, subst, arith}
 use Rattle.pt_render.specs.declared.choices.Options.{Options}
 use Rattle.pt_report.specs.Epochs.{RunsAgain, RunsAndRests, Staffed, most_runs, with_a_turn}
 use Rattle.pt_report.proofs.running.run_until_quiet.Goals as goal
