@@ -57,7 +57,7 @@ settings_after options budget config (suc n) first histories now node (mid, befo
     (record epoch.ends.settled.config { start = latest_stamp epoch.ends.settled }, epoch.ends.goes_on.node, ap (λ (c : Config). record c { start = 0 }) settled ∙ at.2)
 
 -- the node that a script was run on
-pub node_of : (options : Options) (script : Whole) (n : ℕ) (first : Staffed) (histories : List Stamped) (last ran : Staffed) (g : GatheredState) → RunIsBegun script first → PassEpochs options script.settings.budget n first histories last → RunsEpoch options script.settings.budget last ran → Gathers ran.0 g → IsRun n options script histories g ran.1
+abbrev pub node_of : (options : Options) (script : Whole) (n : ℕ) (first : Staffed) (histories : List Stamped) (last ran : Staffed) (g : GatheredState) → RunIsBegun script first → PassEpochs options script.settings.budget n first histories last → RunsEpoch options script.settings.budget last ran → Gathers ran.0 g → IsRun n options script histories g ran.1
 node_of options script n first histories last ran g begun passed runs gathers =
     let budget = script.settings.budget in
     let at = settings_after options budget (config_of script.settings) n first histories last (config_of script.settings, begun.node, refl) passed in (

@@ -1,6 +1,6 @@
 -- How many processes have operations left, as a run ends.
 use Rattle.std.proofs.Common.{◌≡◌, inl, inr, ℕ, ◌+◌, ◌-◌, ◌^◌, ◌<◌, ◌≤◌, ◌==◌, ◌&&◌, Bool, true, false, cond, List, [], ◌∷◌, length, get_or, take, refl, sym, ap, ◌∙◌, arith}
-use Rattle.std.specs.Prelude.{MatchBool, count_by, min, sum_by}
+use Rattle.std.specs.Prelude.{IfErr, MatchBool, Ok, Err, Result, count_by, min, sum_by}
 use Rattle.std.specs.List.{zip}
 use Rattle.std.proofs.lemmas.Bool.{eqb-true}
 use Rattle.std.proofs.lemmas.List.{take_all}
@@ -16,6 +16,11 @@ use Rattle.pt_runner.specs.Stepping.{processes_here}
 use Rattle.pt_runner.specs.Waiting.{RunnersIdle}
 use Rattle.pt_runner.proofs.Waiting.{idle_rests}
 use Rattle.pt_report.specs.Epochs.{CameToRest, CanBegin, IsLeft, Staffed, alive_in, alive_on}
+
+-- what holds of each fault
+pub all_faults : {X Y : Type 0} (r : Result X Y) (P : Y → Type 0) → ((y : Y) → P y) → IfErr r P
+all_faults (Ok x) P h = tt
+all_faults (Err y) P h = h y
 
 -- the desks are counted one after the other
 pub one_more : (desks : List DeskState) (runners : List Runner) (i count n : ℕ) (x : DeskState) (r : Runner) → i < length desks → i < length runners → count ≡ min (sum_by alive_on (take i (zip desks runners))) (2 ^ 64 - 1)

@@ -1,14 +1,14 @@
 -- `run_epochs`: its clauses `fault`, `node` and `told`, and what its call of `run_once` asks.
-use Rattle.std.proofs.Common.{◌≡◌, ◌-◌, Err, List, subst, inl, inr, rules}
+use Rattle.std.proofs.Common.{◌≡◌, ◌⊎◌, ◌-◌, Err, List, subst, inl, inr, rules}
 use Rattle.std.specs.Prelude.{MatchBool}
 use Rattle.pt_desk.specs.DeskState.{DeskState}
 use Rattle.pt_runner.specs.declared.runner.Runner.{Runner}
 use Rattle.pt_runner.specs.Waiting.{RunnersIdle}
 use Rattle.pt_report.specs.Epochs.{alive_in, HasWritten, IsOfEpochs, PassEpochs, RunsEpoch, Staffed}
-use Rattle.pt_report.specs.Reports.{IsOfRun}
+use Rattle.pt_report.specs.Reports.{IsOfRun, RunIsBegun}
 use Rattle.pt_report.proofs.Passing.{node_of, run_of_epochs}
 use Rattle.pt_report.proofs.Attending.{begun_begins, epoch_begins}
-use Rattle.pt_report.proofs.Rest.{left_is}
+use Rattle.pt_report.proofs.Rest.{all_faults, left_is}
 use Rattle.pt_report.proofs.running.run_epochs.Goals as goal
 
 pub pass_epochs-requires-clause-begins : goal.pass_epochs-requires-clause-begins
@@ -58,3 +58,14 @@ returns-in-Ok-clause-told g c =
       | inl same ↦ inl same
       | inr has ↦ inr (first, c.requires.begun, subst (λ b. HasWritten c.args.options.now b first (g.W.Write.contents c.args.out.now) (g.W.Write.contents c.pass_epochs.new.out)) c.budget-budget.ensures.budget has)
     ]
+
+pub returns-in_err-left-in-Ok-clause-untouched : goal.returns-in_err-left-in-Ok-clause-untouched
+returns-in_err-left-in-Ok-clause-untouched g c =
+    let contents = g.W.Write.contents in
+    let first : Staffed = (c.args.node, c.args.runners.items) in
+    let told : (c.pass_epochs.new.out ≡ c.args.out.now) ⊎ ((begun : Staffed) × RunIsBegun c.args.script.now begun × HasWritten c.args.options.now c.args.script.now.settings.budget begun (contents c.args.out.now) (contents c.pass_epochs.new.out)) =
+    elim c.in_ok-node.ensures.told [
+      | inl same ↦ inl same
+      | inr has ↦ inr (first, c.requires.begun, subst (λ b. HasWritten c.args.options.now b first (contents c.args.out.now) (contents c.pass_epochs.new.out)) c.budget-budget.ensures.budget has)
+    ] in
+    search (rules, told, all_faults)
