@@ -41,14 +41,14 @@ use Rattle.pt_report.proofs.Settings.{epoch_goes_on, same_settings}
 use Rattle.pt_report.proofs.Writing.{appends_nothing, appends_then}
 
 -- the settings of a node after an epoch are those before it, with other clocks
-gathered_settings : (options : Options) (budget : ℕ) (config : Config) (old ran : Staffed) (g : GatheredState) → AreDesksOf config old.0 → RunsEpoch options budget old ran → Gathers ran.0 g → g.config ≡ config
+pub gathered_settings : (options : Options) (budget : ℕ) (config : Config) (old ran : Staffed) (g : GatheredState) → AreDesksOf config old.0 → RunsEpoch options budget old ran → Gathers ran.0 g → g.config ≡ config
 gathered_settings options budget config old ran g node runs gathers = same_settings config g.config old.0 ran.0 node gathers.node (epoch_goes_on options budget old ran runs)
 
 -- a node at an epoch's beginning, and its settings, the clocks apart
-abbrev HasSettings : Config → List DeskState → Type 0
+abbrev pub HasSettings : Config → List DeskState → Type 0
 HasSettings config desks = (now : Config) × AreDesksOf now desks × (record now { start = 0 } ≡ config)
 
-settings_after : (options : Options) (budget : ℕ) (config : Config) (n : ℕ) (first : Staffed) (histories : List Stamped) (now : Staffed) → HasSettings config first.0 → PassEpochs options budget n first histories now → HasSettings config now.0
+pub settings_after : (options : Options) (budget : ℕ) (config : Config) (n : ℕ) (first : Staffed) (histories : List Stamped) (now : Staffed) → HasSettings config first.0 → PassEpochs options budget n first histories now → HasSettings config now.0
 settings_after options budget config zero first histories now node passed = subst (λ (s : Staffed). HasSettings config s.0) (sym {A = Staffed} passed.0) node
 settings_after options budget config (suc n) first histories now node (mid, before, last, passed, epoch, joined) =
     let at = settings_after options budget config n first before mid node passed in
