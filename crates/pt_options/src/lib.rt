@@ -14,6 +14,7 @@
 //!   the kind of their fault.
 //! - **Values.** `--turns=` takes 0 to 1,000,000, `--epochs=` 1 to 1,000,000, `--threads=` and `--print=` their own
 //!   words, and no other text. (`laws`)
+//! - **Ends of epochs.** `--until=` takes `turns` and `quiet`, and no other text. (`laws`)
 //! - **Flags.** `--explain` takes no value, `--help` is a kind of its own, and no word at all gives the defaults.
 #![tactic(auto)]
 

@@ -3,5 +3,6 @@ mod Accounts
 mod Attending
 mod Faults
 mod Passing
+mod Rest
 mod Settings
 mod Writing

@@ -29,10 +29,10 @@ use Rattle.pt_render.specs.declared.choices.Show.TheVariants.{Summary, History, 
 use Rattle.pt_report.specs.Lines.{line, lines, left_lines, form_head, history_text}
 use Rattle.pt_report.specs.declared.form.Form.{Form}
 use Rattle.pt_report.specs.declared.form.Form.TheVariants.{Lines, Diagram, Objects}
-use Rattle.pt_report.specs.Epochs.{Staffed, RunsEpoch, PassEpochs, AreAt, IsWrittenAs, HasWritten, IsOfEnd, IsOfEpoch, IsOfEpochs}
+use Rattle.pt_report.specs.Epochs.{Staffed, RunsEpoch, PassEpochs, AreAt, IsWrittenAs, HasWritten, IsLeft, IsOfEnd, IsOfEpoch, IsOfEpochs}
 use Rattle.pt_runner.specs.declared.runner.Runner.{Runner}
 use Rattle.pt_report.specs.Called.{called_by}
-use Rattle.pt_report.specs.Reports.{HasWrittenOf, RunIsBegun, IsNodeOf, IsOfRun, IsOfStart, IsRun, Reports, ReportShows, ReportTells}
+use Rattle.pt_report.specs.Reports.{HasWrittenOf, RunIsBegun, IsNodeOf, IsOfRun, IsOfStart, IsRun, ReportsLeft, ReportShows, ReportTells}
 use Rattle.pt_report.specs.Status.{IsOfPrint, stopped_fault}
 use Rattle.pt_report.specs.Summaries.{SummarizesAs}
 use Rattle.pt_report.specs.declared.fault.ReportFault.{ReportFault}
@@ -41,14 +41,14 @@ use Rattle.pt_report.proofs.Settings.{epoch_goes_on, same_settings}
 use Rattle.pt_report.proofs.Writing.{appends_nothing, appends_then}
 
 -- the settings of a node after an epoch are those before it, with other clocks
-gathered_settings : (options : Options) (budget : ℕ) (config : Config) (old ran : Staffed) (g : GatheredState) → AreDesksOf config old.0 → RunsEpoch options budget old ran → Gathers ran.0 g → g.config ≡ config
+pub gathered_settings : (options : Options) (budget : ℕ) (config : Config) (old ran : Staffed) (g : GatheredState) → AreDesksOf config old.0 → RunsEpoch options budget old ran → Gathers ran.0 g → g.config ≡ config
 gathered_settings options budget config old ran g node runs gathers = same_settings config g.config old.0 ran.0 node gathers.node (epoch_goes_on options budget old ran runs)
 
 -- a node at an epoch's beginning, and its settings, the clocks apart
-abbrev HasSettings : Config → List DeskState → Type 0
+abbrev pub HasSettings : Config → List DeskState → Type 0
 HasSettings config desks = (now : Config) × AreDesksOf now desks × (record now { start = 0 } ≡ config)
 
-settings_after : (options : Options) (budget : ℕ) (config : Config) (n : ℕ) (first : Staffed) (histories : List Stamped) (now : Staffed) → HasSettings config first.0 → PassEpochs options budget n first histories now → HasSettings config now.0
+pub settings_after : (options : Options) (budget : ℕ) (config : Config) (n : ℕ) (first : Staffed) (histories : List Stamped) (now : Staffed) → HasSettings config first.0 → PassEpochs options budget n first histories now → HasSettings config now.0
 settings_after options budget config zero first histories now node passed = subst (λ (s : Staffed). HasSettings config s.0) (sym {A = Staffed} passed.0) node
 settings_after options budget config (suc n) first histories now node (mid, before, last, passed, epoch, joined) =
     let at = settings_after options budget config n first before mid node passed in
@@ -57,7 +57,7 @@ settings_after options budget config (suc n) first histories now node (mid, befo
     (record epoch.ends.settled.config { start = latest_stamp epoch.ends.settled }, epoch.ends.goes_on.node, ap (λ (c : Config). record c { start = 0 }) settled ∙ at.2)
 
 -- the node that a script was run on
-pub node_of : (options : Options) (script : Whole) (n : ℕ) (first : Staffed) (histories : List Stamped) (last ran : Staffed) (g : GatheredState) → RunIsBegun script first → PassEpochs options script.settings.budget n first histories last → RunsEpoch options script.settings.budget last ran → Gathers ran.0 g → IsRun n options script histories g ran.1
+abbrev pub node_of : (options : Options) (script : Whole) (n : ℕ) (first : Staffed) (histories : List Stamped) (last ran : Staffed) (g : GatheredState) → RunIsBegun script first → PassEpochs options script.settings.budget n first histories last → RunsEpoch options script.settings.budget last ran → Gathers ran.0 g → IsRun n options script histories g ran.1
 node_of options script n first histories last ran g begun passed runs gathers =
     let budget = script.settings.budget in
     let at = settings_after options budget (config_of script.settings) n first histories last (config_of script.settings, begun.node, refl) passed in (
@@ -163,39 +163,39 @@ module _ {W : Type 0} (contents : W → Option (List ℕ)) where
       let a = subst (λ p. AreAt contents p hs first kept mid) is at in
       subst (λ p. ReportShows explain p hs called g (contents first) (contents new)) (sym is) (subst (λ m. SummarizesAs explain g (contents m) (contents new)) a.0 x)
 
-  pub history_reported : (r : Result (Unit {0}) ReportFault) (bytes : List ℕ) (options : Options) (script : Whole) (hs : List Stamped) (g : GatheredState) (first mid new : W) (kept : List Stamped) → reading bytes ≡ Ok script → IsNodeOf (options.epochs - 1) options script hs g
-      → AreAt contents options.print hs first kept mid → options.print ≡ History → OnOk r (Printed Lines kept g mid new) → OnOk r (Reports bytes options (contents first) (contents new))
-  history_reported (Ok u) bytes options script hs g first mid new kept read node at is x =
-      record { script = script; read = read; histories = hs; node = g; is_node = node; shows = shows_history options.explain options.print is hs (called_by (names_in bytes) node.ran.1) g first mid new kept at x }
-  history_reported (Err e) bytes options script hs g first mid new kept read node at is x = tt
+  pub history_reported : (r : Result (Unit {0}) ReportFault) (bytes : List ℕ) (options : Options) (script : Whole) (hs : List Stamped) (g : GatheredState) (first mid new : W) (kept : List Stamped) → reading bytes ≡ Ok script → (node : IsNodeOf (options.epochs - 1) options script hs g)
+      → AreAt contents options.print hs first kept mid → options.print ≡ History → OnOk r (Printed Lines kept g mid new) → (left : ℕ) → IsLeft node.ran g left → OnOk r (ReportsLeft left bytes options (contents first) (contents new))
+  history_reported (Ok u) bytes options script hs g first mid new kept read node at is x left rests =
+      record { reports = record { script = script; read = read; histories = hs; node = g; is_node = node; shows = shows_history options.explain options.print is hs (called_by (names_in bytes) node.ran.1) g first mid new kept at x }; is_left = rests }
+  history_reported (Err e) bytes options script hs g first mid new kept read node at is x left rests = tt
 
-  pub json_reported : (r : Result (Unit {0}) ReportFault) (bytes : List ℕ) (options : Options) (script : Whole) (hs : List Stamped) (g : GatheredState) (first mid new : W) (kept : List Stamped) → reading bytes ≡ Ok script → IsNodeOf (options.epochs - 1) options script hs g
-      → AreAt contents options.print hs first kept mid → options.print ≡ Json → OnOk r (Printed Objects kept g mid new) → OnOk r (Reports bytes options (contents first) (contents new))
-  json_reported (Ok u) bytes options script hs g first mid new kept read node at is x =
-      record { script = script; read = read; histories = hs; node = g; is_node = node; shows = shows_json options.explain options.print is hs (called_by (names_in bytes) node.ran.1) g first mid new kept at x }
-  json_reported (Err e) bytes options script hs g first mid new kept read node at is x = tt
+  pub json_reported : (r : Result (Unit {0}) ReportFault) (bytes : List ℕ) (options : Options) (script : Whole) (hs : List Stamped) (g : GatheredState) (first mid new : W) (kept : List Stamped) → reading bytes ≡ Ok script → (node : IsNodeOf (options.epochs - 1) options script hs g)
+      → AreAt contents options.print hs first kept mid → options.print ≡ Json → OnOk r (Printed Objects kept g mid new) → (left : ℕ) → IsLeft node.ran g left → OnOk r (ReportsLeft left bytes options (contents first) (contents new))
+  json_reported (Ok u) bytes options script hs g first mid new kept read node at is x left rests =
+      record { reports = record { script = script; read = read; histories = hs; node = g; is_node = node; shows = shows_json options.explain options.print is hs (called_by (names_in bytes) node.ran.1) g first mid new kept at x }; is_left = rests }
+  json_reported (Err e) bytes options script hs g first mid new kept read node at is x left rests = tt
 
-  pub mermaid_reported : (r : Result (Unit {0}) ReportFault) (bytes : List ℕ) (options : Options) (script : Whole) (hs : List Stamped) (g : GatheredState) (first mid new : W) (kept : List Stamped) → reading bytes ≡ Ok script → IsNodeOf (options.epochs - 1) options script hs g
-      → AreAt contents options.print hs first kept mid → options.print ≡ Mermaid → OnOk r (Printed Diagram kept g mid new) → OnOk r (Reports bytes options (contents first) (contents new))
-  mermaid_reported (Ok u) bytes options script hs g first mid new kept read node at is x =
-      record { script = script; read = read; histories = hs; node = g; is_node = node; shows = shows_mermaid options.explain options.print is hs (called_by (names_in bytes) node.ran.1) g first mid new kept at x }
-  mermaid_reported (Err e) bytes options script hs g first mid new kept read node at is x = tt
+  pub mermaid_reported : (r : Result (Unit {0}) ReportFault) (bytes : List ℕ) (options : Options) (script : Whole) (hs : List Stamped) (g : GatheredState) (first mid new : W) (kept : List Stamped) → reading bytes ≡ Ok script → (node : IsNodeOf (options.epochs - 1) options script hs g)
+      → AreAt contents options.print hs first kept mid → options.print ≡ Mermaid → OnOk r (Printed Diagram kept g mid new) → (left : ℕ) → IsLeft node.ran g left → OnOk r (ReportsLeft left bytes options (contents first) (contents new))
+  mermaid_reported (Ok u) bytes options script hs g first mid new kept read node at is x left rests =
+      record { reports = record { script = script; read = read; histories = hs; node = g; is_node = node; shows = shows_mermaid options.explain options.print is hs (called_by (names_in bytes) node.ran.1) g first mid new kept at x }; is_left = rests }
+  mermaid_reported (Err e) bytes options script hs g first mid new kept read node at is x left rests = tt
 
   pub chart_reported : (r : Result (Unit {0}) ReportFault) (bytes : List ℕ) (options : Options) (script : Whole) (hs : List Stamped) (g : GatheredState) (runners : List Runner) (first mid new : W) (kept : List Stamped) → reading bytes ≡ Ok script
-      → IsRun (options.epochs - 1) options script hs g runners → AreAt contents options.print hs first kept mid → options.print ≡ Chart
-      → OnOk r ((h : List Stamped) × IsMerge (journals g) (reverse h) × (text : List ℕ) × IsChart (kept ++ h) (called_by (names_in bytes) runners) text × Appends (contents mid) (contents new) text) → OnOk r (Reports bytes options (contents first) (contents new))
-  chart_reported (Ok u) bytes options script hs g runners first mid new kept read (node, ran) at is x =
+      → (run : IsRun (options.epochs - 1) options script hs g runners) → AreAt contents options.print hs first kept mid → options.print ≡ Chart
+      → OnOk r ((h : List Stamped) × IsMerge (journals g) (reverse h) × (text : List ℕ) × IsChart (kept ++ h) (called_by (names_in bytes) runners) text × Appends (contents mid) (contents new) text) → (left : ℕ) → IsLeft run.0.ran g left → OnOk r (ReportsLeft left bytes options (contents first) (contents new))
+  chart_reported (Ok u) bytes options script hs g runners first mid new kept read (node, ran) at is x left rests =
       let called = called_by (names_in bytes) node.ran.1 in
       let so : (h : List Stamped) × IsMerge (journals g) (reverse h) × (text : List ℕ) × IsChart (kept ++ h) called text × Appends (contents mid) (contents new) text =
       (x.0, x.1, x.2, subst (λ rs. IsChart (kept ++ x.0) (called_by (names_in bytes) rs) x.2) (sym ran) x.3, x.4) in
-      record { script = script; read = read; histories = hs; node = g; is_node = node; shows = shows_chart options.explain options.print is hs called g first mid new kept at so }
-  chart_reported (Err e) bytes options script hs g runners first mid new kept read run at is x = tt
+      record { reports = record { script = script; read = read; histories = hs; node = g; is_node = node; shows = shows_chart options.explain options.print is hs called g first mid new kept at so }; is_left = rests }
+  chart_reported (Err e) bytes options script hs g runners first mid new kept read run at is x left rests = tt
 
-  pub summary_reported : (r : Result (Unit {0}) ReportFault) (bytes : List ℕ) (options : Options) (script : Whole) (hs : List Stamped) (g : GatheredState) (first mid new : W) (kept : List Stamped) → reading bytes ≡ Ok script → IsNodeOf (options.epochs - 1) options script hs g
-      → AreAt contents options.print hs first kept mid → options.print ≡ Summary → OnOk r (SummarizesAs options.explain g (contents mid) (contents new)) → OnOk r (Reports bytes options (contents first) (contents new))
-  summary_reported (Ok u) bytes options script hs g first mid new kept read node at is x =
-      record { script = script; read = read; histories = hs; node = g; is_node = node; shows = shows_summary options.explain options.print is hs (called_by (names_in bytes) node.ran.1) g first mid new kept at x }
-  summary_reported (Err e) bytes options script hs g first mid new kept read node at is x = tt
+  pub summary_reported : (r : Result (Unit {0}) ReportFault) (bytes : List ℕ) (options : Options) (script : Whole) (hs : List Stamped) (g : GatheredState) (first mid new : W) (kept : List Stamped) → reading bytes ≡ Ok script → (node : IsNodeOf (options.epochs - 1) options script hs g)
+      → AreAt contents options.print hs first kept mid → options.print ≡ Summary → OnOk r (SummarizesAs options.explain g (contents mid) (contents new)) → (left : ℕ) → IsLeft node.ran g left → OnOk r (ReportsLeft left bytes options (contents first) (contents new))
+  summary_reported (Ok u) bytes options script hs g first mid new kept read node at is x left rests =
+      record { reports = record { script = script; read = read; histories = hs; node = g; is_node = node; shows = shows_summary options.explain options.print is hs (called_by (names_in bytes) node.ran.1) g first mid new kept at x }; is_left = rests }
+  summary_reported (Err e) bytes options script hs g first mid new kept read node at is x left rests = tt
 
   -- what was written before stays, where a later fault leaves the writer as it was
   pub untouched : (r : Result (Unit {0}) ReportFault) (bytes : List ℕ) (options : Options) (script : Whole) (first mid new : W) → reading bytes ≡ Ok script

@@ -11,7 +11,7 @@ use Rattle.pt_render.specs.declared.choices.Options.{Options}
 use Rattle.pt_render.specs.declared.choices.Until.{Until}
 use Rattle.pt_render.specs.declared.choices.Until.TheVariants.{Turns, Quiet}
 use Rattle.pt_runner.specs.declared.runner.Runner.{Runner}
-use Rattle.pt_report.specs.Epochs.{RunsAgain, RunsEpoch, RunsOn, RunsTo, Staffed}
+use Rattle.pt_report.specs.Epochs.{RunsAgain, RunsEpoch, RunsOn, RunsTo, Staffed, with_a_turn}
 
 abbrev Pair : Type 0
 Pair = DeskState × Runner
@@ -46,7 +46,7 @@ runs_go_on options budget (suc n) old new (mid, before, last) =
 
 epoch_to : (until : Until) (options : Options) (budget : ℕ) (old new : Staffed) → RunsTo until options budget old new → AllDesksGoOn old.0 new.0
 epoch_to Turns options budget old new runs = run_goes_on options budget old new runs
-epoch_to Quiet options budget old new runs = runs_go_on options budget runs.count old new runs.runs
+epoch_to Quiet options budget old new runs = runs_go_on (with_a_turn options) budget runs.count old new runs.runs
 
 pub epoch_goes_on : (options : Options) (budget : ℕ) (old new : Staffed) → RunsEpoch options budget old new → AllDesksGoOn old.0 new.0
 epoch_goes_on options budget old new runs = epoch_to options.until options budget old new runs

@@ -1,13 +1,16 @@
 -- The epochs of a run: what each is, what goes on from it, and where its history goes.
-use Rattle.std.specs.Prelude.{◌≡◌, ◌⊎◌, ℕ, zero, suc, ◌+◌, ◌/◌, ◌<◌, List, [], ◌++◌, length, max, Option, reverse}
-use Rattle.std.specs.Prelude.{slice_index_or, ⊤}
+use Rattle.std.specs.Prelude.{◌≡◌, ◌⊎◌, ℕ, zero, suc, ◌+◌, ◌-◌, ◌/◌, ◌^◌, ◌<◌, ◌≤◌, List, [], ◌++◌, count_by, length}
+use Rattle.std.specs.Prelude.{max, min, sum_by, Option, reverse, slice_index_or, ⊤}
+use Rattle.std.specs.List.{zip}
 use Rattle.std.specs.Io.KnownBytes.{Appends}
 use Rattle.pt_events.specs.declared.event.Stamped.{Stamped}
 use Rattle.pt_events.specs.History.{IsLegal}
 use Rattle.pt_events.specs.Journal.{IsMerge, events}
 use Rattle.pt_gathered.specs.Gathered.{GatheredState, begins, journals}
+use Rattle.pt_gathered.specs.LeftOvers.{all_left}
 use Rattle.pt_gathered.specs.Order.{SettlingStops}
 use Rattle.pt_gathered.specs.Settling.{Settles, NothingLeft}
+use Rattle.pt_shard.specs.ShardState.{lives}
 use Rattle.pt_shard.specs.declared.fault.Fault.TheVariants.{Worn}
 use Rattle.pt_shard.specs.declared.stop.Stop.TheVariants.{Worn as StopWorn}
 use Rattle.pt_desk.specs.DeskState.{DeskState}
@@ -26,7 +29,8 @@ use Rattle.pt_render.specs.declared.choices.Show.{Show}
 use Rattle.pt_render.specs.declared.choices.Show.TheVariants.{Summary, History, Chart, Mermaid, Json}
 use Rattle.pt_runner.specs.declared.runner.Runner.{Runner}
 use Rattle.pt_runner.specs.Acting.{RunnerDoes, table}
-use Rattle.pt_runner.specs.Waiting.{AllRest, IsFresh, RunnerKnows}
+use Rattle.pt_runner.specs.Stepping.{processes_here}
+use Rattle.pt_runner.specs.Waiting.{AllRest, IsFresh, RunnerKnows, RunnersIdle}
 use Rattle.pt_report.specs.Lines.{lines}
 use Rattle.pt_report.specs.declared.form.Form.{Form}
 use Rattle.pt_report.specs.declared.form.Form.TheVariants.{Lines, Objects}
@@ -75,14 +79,20 @@ pub record NothingCanHappen (s : Staffed) : Type 0 where
   pub rests : (d : ℕ) (r : Runner) (x : DeskState) → d < length s.1
       → AllRest (slice_index_or s.1 d r) (slice_index_or s.0 d x).shard
 
--- how often desks are run at most: no desk takes more turns than can be asked for
-abbrev pub most_runs : Options → ℕ
-most_runs options = MOST_TURNS / max options.turns 1
+-- the same options, with one turn if they ask for none: nothing comes to rest without a turn
+abbrev pub with_a_turn : Options → Options
+with_a_turn options = record options { turns = max options.turns 1 }
 
--- until nothing more can happen, or so often
+-- how often desks are run at most: no desk takes more turns than can be asked for, unless once is more already
+abbrev pub most_runs : Options → ℕ
+most_runs options = max (MOST_TURNS / max options.turns 1) 1
+
+-- once at least and so often at most, until nothing more can happen
 pub record RunsUntilQuiet (options : Options) (budget : ℕ) (old new : Staffed) : Type 0 where
   pub count : ℕ
-  pub runs : RunsAgain options budget count old new
+  pub some : 0 < count
+  pub few : count ≤ most_runs options
+  pub runs : RunsAgain (with_a_turn options) budget count old new
   pub ends : NothingCanHappen new ⊎ (count ≡ most_runs options)
 
 -- an epoch's run, which ends as the options say
@@ -92,6 +102,28 @@ RunsTo Quiet options budget old new = RunsUntilQuiet options budget old new
 
 abbrev pub RunsEpoch : Options → ℕ → Staffed → Staffed → Type 0
 RunsEpoch options budget old new = RunsTo options.until options budget old new
+
+-- how many processes have operations left ------------------------------------------------
+
+-- how many of a runner's processes are alive on its desk
+abbrev pub alive_on : DeskState × Runner → ℕ
+alive_on p = count_by (lives p.0.shard) (processes_here p.1)
+
+-- those of all, in a number of 64 bits, which stays at the greatest
+abbrev pub alive_in : Staffed → ℕ
+alive_in s = min (sum_by alive_on (zip s.0 s.1)) (2 ^ 64 - 1)
+
+-- A run came to rest: its runners have read all that happened, each of its processes has ended, or waits for an item
+-- that has not come, and no letter is on its way.
+pub record CameToRest (s : Staffed) (g : GatheredState) : Type 0 where
+  pub idle : RunnersIdle s.1 s.0
+  pub rests : (d : ℕ) (r : Runner) (x : DeskState) → d < length s.1
+      → AllRest (slice_index_or s.1 d r) (slice_index_or s.0 d x).shard
+  pub none_left : all_left g ≡ []
+
+-- so many processes have operations left: none where the run came to rest, else all that are alive
+abbrev pub IsLeft : Staffed → GatheredState → ℕ → Type 0
+IsLeft s g left = (CameToRest s g × (left ≡ 0)) ⊎ ((CameToRest s g → ⊥) × (left ≡ alive_in s))
 
 -- each runner begins again over a desk that was resumed: it knows nothing, and each of its processes goes on where it was
 pub record BeginAgain (old new : List Runner) : Type 0 where

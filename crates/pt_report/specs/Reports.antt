@@ -26,7 +26,7 @@ use Rattle.pt_runner.specs.declared.runner.Runner.{Runner}
 use Rattle.pt_runner.specs.Starting.{StartBegins, AreRunners, BornUntil}
 use Rattle.pt_chart.specs.Drawing.{IsChart}
 use Rattle.pt_report.specs.Called.{called_by}
-use Rattle.pt_report.specs.Epochs.{Staffed, RunsEpoch, PassEpochs, HasWritten}
+use Rattle.pt_report.specs.Epochs.{Staffed, RunsEpoch, PassEpochs, HasWritten, IsLeft}
 use Rattle.pt_report.specs.Lines.{history_text}
 use Rattle.pt_report.specs.declared.form.Form.{Form}
 use Rattle.pt_report.specs.declared.form.Form.TheVariants.{Lines, Diagram, Objects}
@@ -88,6 +88,11 @@ pub record Reports (bytes : List ℕ) (options : Options) (old new : Option (Lis
   pub node : GatheredState
   pub is_node : IsNodeOf (options.epochs - 1) options script histories node
   pub shows : ReportShows options.explain options.print histories (called_by (names_in bytes) is_node.ran.1) node old new
+
+-- it was printed, and so many processes of that node have operations left as its last epoch ends
+pub record ReportsLeft (left : ℕ) (bytes : List ℕ) (options : Options) (old new : Option (List ℕ)) : Type 0 where
+  pub reports : Reports bytes options old new
+  pub is_left : IsLeft reports.is_node.ran reports.node left
 
 -- refusals ------------------------------------------------------------------------------
 

@@ -1,5 +1,10 @@
 //! What made processes exit, read from a history.
 
+ghost use Rattle.std.specs.Prelude.{◌≡◌, None, Some, OnOk};
+ghost use Rattle.indexmap.specs.IndexMap.{get};
+ghost use Rattle.pt_signal.specs.Values.{same_pid};
+ghost use Rattle.pt_report.specs.Notes as spec;
+
 use indexmap::IndexMap;
 use pt_node::{Event, LinkId, Pid, Process, Reason, Signal, Stamped};
 use pt_process::Outcome;
@@ -45,7 +50,9 @@ impl Endings {
     }
 
     /// What made p exit, which it did.
-    pub(crate) fn of_process(&self, p: Pid) -> Ending {
+    pub(crate) fn of_process(&self, p: Pid) -> Ending
+        ensures { result ≡ spec.ending_of self.now p }
+    {
         match self.ended.get(&p) {
             Some(ending) => *ending,
             None => Ending::Unseen,
@@ -95,7 +102,11 @@ impl Endings {
         }
     }
 
-    fn end(&mut self, p: Pid, ending: Ending) -> Result<(), AllocError> {
+    /// Notes what made p exit, and forgets the rest of it.
+    fn end(&mut self, p: Pid, ending: Ending) -> Result<(), AllocError>
+        ensures ended { OnOk result (get same_pid self.new.ended p ≡ Some ending) }
+        ensures living { OnOk result (get same_pid self.new.living p ≡ None) }
+    {
         self.ended.insert(p, ending)?;
         self.living.swap_remove(&p);
         Ok(())
@@ -118,7 +129,9 @@ fn act(process: &mut Process, event: Event) -> Result<(), AllocError> {
 }
 
 /// What made a process exit if this signal did.
-fn ending_by(from: Pid, signal: Signal) -> Ending {
+fn ending_by(from: Pid, signal: Signal) -> Ending
+    ensures { result ≡ spec.ending_by from signal }
+{
     match signal {
         Signal::Exit(Reason::Kill) => Ending::Kill(from),
         Signal::LinkExit(_, _) => Ending::Link(from),

@@ -39,10 +39,14 @@
 //! - **What is printed.** On success the text is the history, summary, chart or diagram of a node that ran the script,
 //!   with the turns and epochs asked for. (`report`)
 //! - **Epochs.** The history of each epoch is in the text once, in order. (`PassEpochs`)
+//! - **Until quiet.** With `--until quiet` an epoch ends once nothing more can happen, or once all turns that can be asked
+//!   for are taken. The desks are run once at least, and take a turn each time. (`RunsUntilQuiet`)
+//! - **Processes left.** `report_left` returns 0 if the run came to rest, and else how many processes are alive.
+//!   (`IsLeft`)
 //! - **Faults.** A script's fault is the first one. After any fault but `File` the writer is as it was, or has the
 //!   lines of the epochs that passed.
 //! - **Status.** It is 1 if the bytes are no script, and else 3. (`ReportFault::status`)
-#![tactic(auto, unfolding(crate::specs::Lines::ending_text, crate::specs::Lines::account_text, crate::specs::Lines::totals_text))]
+#![tactic(auto, unfolding(crate::specs::Lines::ending_text, crate::specs::Lines::account_text, crate::specs::Lines::totals_text, crate::specs::Words::called_text, crate::specs::Words::wanted_text, crate::specs::Words::refused_text))]
 
 mod called;
 mod chart;

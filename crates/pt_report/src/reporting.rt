@@ -1,7 +1,7 @@
 //! Running a script, and printing what happened.
 
-ghost use Rattle.std.specs.Prelude.{◌≡◌, ◌≢◌, ◌⊎◌, OnOk, IfErr};
-ghost use Rattle.pt_report.specs.Reports.{Reports, HasWrittenOf, IsRefusedAs};
+ghost use Rattle.std.specs.Prelude.{◌≡◌, ◌≢◌, ◌⊎◌, IfOk, OnOk, IfErr};
+ghost use Rattle.pt_report.specs.Reports.{Reports, ReportsLeft, HasWrittenOf, IsRefusedAs};
 ghost use Rattle.pt_report.specs.declared.fault.ReportFault.TheVariants.{File};
 
 use crate::chart::print_chart;
@@ -9,19 +9,12 @@ use crate::explained::summarize;
 use crate::fault::ReportFault;
 use crate::form::Form;
 use crate::history::print_history;
-use crate::running::{Busy, run_script};
-use pt_node::Gathered;
+use crate::running::run_script;
 use pt_render::{Options, Show};
 use pt_script::Script;
 use std::alloc::Global;
 use std::io::Write;
 use std::thread::Threads;
-
-/// No process has anything to do.
-const AT_REST: Busy = Busy {
-    idle: true,
-    alive: 0,
-};
 
 /// Reads a script from its bytes, runs it as the options say, and prints what happened.
 ///
@@ -52,14 +45,15 @@ pub fn report<R: Threads + Sync, W: Write>(
     ensures untouched { IfErr result (λ f. f ≢ File → (out.new ≡ out.old)
         ⊎ HasWrittenOf script.now options.now (W.contents out.old) (W.contents out.new)) }
 {
-    let mut busy = AT_REST;
-    run_and_report(rt, alloc, options, script, out, &mut busy)
+    let mut left = 0;
+    run_and_report(rt, alloc, options, script, out, &mut left)
 }
 
 /// Reports as [`report`] does, and returns the number of processes that have operations left: 0 if the run is at rest.
 ///
 /// A run is at rest if no letter is in flight, and each process has seen all that happened in the last turn. Each
-/// process must also have exited, or wait for an item that has not arrived. Else all live processes are counted.
+/// process must also have exited, or wait for an item that has not arrived. Else all live processes of the script are
+/// counted.
 pub fn report_left<R: Threads + Sync, W: Write>(
     rt: &R,
     alloc: Global,
@@ -67,19 +61,18 @@ pub fn report_left<R: Threads + Sync, W: Write>(
     script: &[u8],
     out: &mut W,
 ) -> Result<u64, ReportFault>
-    ensures text { OnOk result (Reports script.now options.now (W.contents out.old) (W.contents out.new)) }
+    ensures text { IfOk result
+        (λ left. ReportsLeft left script.now options.now (W.contents out.old) (W.contents out.new)) }
     ensures refused { IfErr result (IsRefusedAs script.now options.now) }
     ensures untouched { IfErr result (λ f. f ≢ File → (out.new ≡ out.old)
         ⊎ HasWrittenOf script.now options.now (W.contents out.old) (W.contents out.new)) }
 {
-    let mut busy = AT_REST;
-    match run_and_report(rt, alloc, options, script, out, &mut busy) {
-        Ok(()) => Ok(if busy.idle { 0 } else { busy.alive }),
-        Err(fault) => Err(fault),
-    }
+    let mut left = 0;
+    run_and_report(rt, alloc, options, script, out, &mut left)?;
+    Ok(left)
 }
 
-/// Reads a script, runs it, prints what happened, and notes what its processes had to do then.
+/// Reads a script, runs it, prints what happened, and notes how many processes have operations left.
 #[tactic(auto, using(crate::proofs::Faults::of_run, crate::proofs::Faults::of_print, crate::proofs::Faults::of_summary))]
 fn run_and_report<R: Threads + Sync, W: Write>(
     rt: &R,
@@ -87,17 +80,18 @@ fn run_and_report<R: Threads + Sync, W: Write>(
     options: &Options,
     script: &[u8],
     out: &mut W,
-    busy: &mut Busy,
+    left: &mut u64,
 ) -> Result<(), ReportFault>
-    ensures text { OnOk result (Reports script.now options.now (W.contents out.old) (W.contents out.new)) }
+    ensures text { OnOk result
+        (ReportsLeft left.new script.now options.now (W.contents out.old) (W.contents out.new)) }
     ensures refused { IfErr result (IsRefusedAs script.now options.now) }
     ensures untouched { IfErr result (λ f. f ≢ File → (out.new ≡ out.old)
         ⊎ HasWrittenOf script.now options.now (W.contents out.old) (W.contents out.new)) }
 {
     let read = Script::from_bytes(alloc, script)?;
     let mut kept = Vec::new(alloc);
-    let (gathered, runners, left) = run_script(rt, alloc, options, &read, &mut kept, out)?;
-    *busy = behind(left, &gathered);
+    let (gathered, runners, behind) = run_script(rt, alloc, options, &read, &mut kept, out)?;
+    *left = behind;
     match options.print {
         Show::Summary => summarize(
             alloc,
@@ -112,17 +106,5 @@ fn run_and_report<R: Threads + Sync, W: Write>(
         Show::Mermaid => print_history(Form::Diagram, kept, &gathered, out),
         Show::Json => print_history(Form::Objects, kept, &gathered, out),
         Show::Chart => print_chart(alloc, script, runners.as_slice(), kept, &gathered, out),
-    }
-}
-
-/// What there is to do, also for the letters in flight: no process is idle while there is one.
-fn behind(busy: Busy, gathered: &Gathered) -> Busy {
-    let still = match gathered.left_over() {
-        Ok(letters) => letters.is_empty(),
-        Err(_refused) => false,
-    };
-    Busy {
-        idle: busy.idle && still,
-        alive: busy.alive,
     }
 }

@@ -1,34 +1,26 @@
 //! Running a script.
 
-ghost use Rattle.std.specs.Prelude.{◌≡◌, ◌≢◌, ◌⊎◌, ◌-◌, [], List, true, OnOk, IfOk, IfErr};
+ghost use Rattle.std.specs.Prelude.{◌≡◌, ◌≢◌, ◌⊎◌, ◌-◌, [], ◌==◌, ◌&&◌, cond, length, List, true, OnOk, IfOk, IfErr};
 ghost use Rattle.pt_events.specs.declared.event.Stamped.{Stamped};
+ghost use Rattle.pt_gathered.specs.LeftOvers.{all_left};
 ghost use Rattle.pt_report.specs.Epochs as spec;
-ghost use Rattle.pt_report.specs.Epochs.{CanBegin, HasWritten, NothingCanHappen, RunsAndRests, RunsEpoch, RunsOn};
+ghost use Rattle.pt_report.specs.Epochs.{CanBegin, HasWritten, IsLeft, NothingCanHappen, RunsAndRests, RunsEpoch, RunsOn};
 ghost use Rattle.pt_report.specs.Epochs.{RunsUntilQuiet, Staffed};
 ghost use Rattle.pt_report.specs.Reports.{RunIsBegun, IsOfRun, IsRun};
 ghost use Rattle.pt_report.specs.declared.fault.ReportFault.TheVariants.{File, Memory};
 
 use crate::epochs::pass_epochs;
 use crate::fault::ReportFault;
-use pt_node::{FreeGate, Gathered, Node, Stamped, abandon, open};
+use pt_node::{Desk, FreeGate, Gathered, Node, Stamped, abandon, open};
 use pt_render::{MOST_TURNS, Mode, Options, Until};
 use pt_runner::{Runner, are_idle};
 use pt_script::Script;
-use std::alloc::Global;
+use std::alloc::{AllocError, Global};
 use std::io::Write;
 use std::thread::Threads;
 
-/// What the processes of a script had to do as its last epoch ended.
-#[derive(Clone, Copy)]
-pub(crate) struct Busy {
-    /// Whether no process had anything to do.
-    pub(crate) idle: bool,
-    /// The number of live processes.
-    pub(crate) alive: u64,
-}
-
-/// The node of a script, run as the options say and gathered in its last epoch, and the runners that ran it. The
-/// histories of the epochs before are in the writer or kept, as the options say.
+/// The node of a script, run as the options say and gathered in its last epoch, the runners that ran it, and how many
+/// processes have operations left. The histories of the epochs before are in the writer or kept, as the options say.
 #[tactic(auto, using(crate::proofs::Faults::told_of_start))]
 pub(crate) fn run_script<'a, R: Threads + Sync, W: Write>(
     rt: &R,
@@ -37,11 +29,12 @@ pub(crate) fn run_script<'a, R: Threads + Sync, W: Write>(
     script: &'a Script,
     kept: &mut Vec<Stamped>,
     out: &mut W,
-) -> Result<(Gathered, Vec<Runner<'a>>, Busy), ReportFault>
+) -> Result<(Gathered, Vec<Runner<'a>>, u64), ReportFault>
     requires { kept.old.items ≡ [] }
     ensures node { IfOk result (λ r. (histories : List Stamped)
-        × IsRun (options.now.epochs - 1) options.now script.now histories r.0 r.1.items
-        × spec.AreAt W.contents options.now.print histories out.old kept.new.items out.new) }
+        × (run : IsRun (options.now.epochs - 1) options.now script.now histories r.0 r.1.items)
+        × spec.AreAt W.contents options.now.print histories out.old kept.new.items out.new
+        × IsLeft run.0.ran r.0 r.2) }
     ensures fault { IfErr result (IsOfRun options.now script.now) }
     ensures told { OnOk result ((out.new ≡ out.old) ⊎ ((first : Staffed) × RunIsBegun script.now first
         × HasWritten options.now script.now.settings.budget first (W.contents out.old) (W.contents out.new))) }
@@ -75,12 +68,13 @@ fn run_epochs<'a, R: Threads + Sync, W: Write>(
     runners: Vec<Runner<'a>>,
     kept: &mut Vec<Stamped>,
     out: &mut W,
-) -> Result<(Gathered, Vec<Runner<'a>>, Busy), ReportFault>
+) -> Result<(Gathered, Vec<Runner<'a>>, u64), ReportFault>
     requires begun { RunIsBegun script.now (node, runners.items) }
     requires empty { kept.old.items ≡ [] }
     ensures node { IfOk result (λ r. (histories : List Stamped)
-        × IsRun (options.now.epochs - 1) options.now script.now histories r.0 r.1.items
-        × spec.AreAt W.contents options.now.print histories out.old kept.new.items out.new) }
+        × (run : IsRun (options.now.epochs - 1) options.now script.now histories r.0 r.1.items)
+        × spec.AreAt W.contents options.now.print histories out.old kept.new.items out.new
+        × IsLeft run.0.ran r.0 r.2) }
     ensures fault { IfErr result (IsOfRun options.now script.now) }
     ensures told { OnOk result ((out.new ≡ out.old) ⊎ ((first : Staffed) × RunIsBegun script.now first
         × HasWritten options.now script.now.settings.budget first (W.contents out.old) (W.contents out.new))) }
@@ -92,22 +86,37 @@ fn run_epochs<'a, R: Threads + Sync, W: Write>(
     let budget = script.budget();
     let mut node = pass_epochs(rt, alloc, options, budget, node, &mut runners, kept, out)?;
     run_epoch(rt, options, budget, &mut node, &mut runners)?;
-    let busy = busy_in(&node, runners.as_slice());
+    let desks = node.desks();
+    let staff = runners.as_slice();
+    let alive = alive_in(desks, staff);
+    let idle = are_idle(staff, desks);
     match node.gather() {
-        Ok(gathered) => Ok((gathered, runners, busy)),
+        Ok(gathered) => {
+            let left = left_of(idle, alive, &gathered)?;
+            Ok((gathered, runners, left))
+        }
         Err(_back) => Err(ReportFault::Memory),
     }
 }
 
-/// What the processes of a script have to do.
-fn busy_in(node: &Node, runners: &[Runner<'_>]) -> Busy {
-    let desks = node.desks();
+/// How many processes have operations left: none if the runners are idle and no letter is on its way.
+fn left_of(idle: bool, alive: u64, gathered: &Gathered) -> Result<u64, AllocError>
+    ensures { IfOk result (λ n. n ≡ cond (idle && (length (all_left gathered.now) == 0)) 0 alive) }
+{
+    let letters = gathered.left_over()?;
+    Ok(if idle && letters.is_empty() { 0 } else { alive })
+}
+
+/// How many processes of the script are alive, staying at the greatest number.
+#[tactic(auto, using(crate::proofs::Rest::all_counted))]
+fn alive_in(desks: &[Desk], runners: &[Runner<'_>]) -> u64
+    ensures { result ≡ spec.alive_in (desks.now, runners.now) }
+{
     let mut alive = 0u64;
-    for (desk, runner) in desks.iter().zip(runners) {
-        alive = alive.saturating_add(runner.alive(desk) as u64);
+    for place in 0..desks.len().min(runners.len()) {
+        alive = alive.saturating_add(runners[place].alive(&desks[place]) as u64);
     }
-    let idle = are_idle(runners, desks);
-    Busy { idle, alive }
+    alive
 }
 
 /// Runs the desks for one epoch, as the options say.
@@ -121,6 +130,7 @@ pub(crate) fn run_epoch<R: Threads + Sync>(
     requires { CanBegin node.old runners.old.items }
     ensures runs { OnOk result
         (RunsEpoch options.now budget (node.old, runners.old.items) (node.new, runners.new.items)) }
+    ensures begins { OnOk result (CanBegin node.new runners.new.items) }
     ensures fault { IfErr result (λ f. f ≡ Memory) }
 {
     match options.until {
@@ -129,8 +139,8 @@ pub(crate) fn run_epoch<R: Threads + Sync>(
     }
 }
 
-/// Lets each desk take its turns again and again, until nothing more can happen, or the largest number of turns was
-/// taken.
+/// Lets each desk take its turns again and again, one at least each time, until nothing more can happen, or the largest
+/// number of turns was taken.
 fn run_until_quiet<R: Threads + Sync>(
     rt: &R,
     options: &Options,
@@ -141,15 +151,34 @@ fn run_until_quiet<R: Threads + Sync>(
     requires { CanBegin node.old runners.old.items }
     ensures runs { OnOk result
         (RunsUntilQuiet options.now budget (node.old, runners.old.items) (node.new, runners.new.items)) }
+    ensures begins { OnOk result (CanBegin node.new runners.new.items) }
     ensures fault { IfErr result (λ f. f ≡ Memory) }
 {
-    for _run in 0..MOST_TURNS / options.turns.max(1) {
-        let quiet = run_and_rest(rt, options, budget, node, runners)?;
+    let each = with_a_turn(options);
+    for _run in 0..most_runs(options) {
+        let quiet = run_and_rest(rt, &each, budget, node, runners)?;
         if quiet {
             return Ok(());
         }
     }
     Ok(())
+}
+
+/// The same options, with one turn if they ask for none: nothing comes to rest without a turn.
+fn with_a_turn(options: &Options) -> Options
+    ensures { result ≡ spec.with_a_turn options.now }
+{
+    Options {
+        turns: options.turns.max(1),
+        ..*options
+    }
+}
+
+/// How often desks are run at most until nothing more can happen.
+fn most_runs(options: &Options) -> u64
+    ensures { result ≡ spec.most_runs options.now }
+{
+    (MOST_TURNS / options.turns.max(1)).max(1)
 }
 
 /// Lets each desk take its turns once, then delivers every letter in flight, and returns whether nothing more can

@@ -1,5 +1,8 @@
 //! The words of an explained summary.
 
+ghost use Rattle.std.specs.Prelude.{◌≡◌};
+ghost use Rattle.pt_report.specs.Words.{word_text};
+
 use pt_script::{Operation, Pattern};
 use std::fmt;
 
@@ -11,6 +14,11 @@ pub(crate) struct Named<'a> {
 }
 
 impl fmt::Display for Named<'_> {
+    ghost use Rattle.std.specs.Prelude.{Some, map, string_bytes};
+    ghost use Rattle.pt_report.specs.Words.{called_text};
+
+    ghost output = { λ n. Some (called_text (map string_bytes n.names.now) n.process) };
+
     fn fmt<W: fmt::Write>(&self, f: &mut fmt::Formatter<W>) -> fmt::Result {
         match self.names.get(self.process as usize) {
             Some(name) => f.write_str(name.as_str()),
@@ -27,6 +35,11 @@ pub(crate) struct Wanted<'a> {
 }
 
 impl fmt::Display for Wanted<'_> {
+    ghost use Rattle.std.specs.Prelude.{Some, map, string_bytes};
+    ghost use Rattle.pt_report.specs.Words.{wanted_text};
+
+    ghost output = { λ w. Some (wanted_text (map string_bytes w.names.now) w.pattern) };
+
     fn fmt<W: fmt::Write>(&self, f: &mut fmt::Formatter<W>) -> fmt::Result {
         let names = self.names;
         match self.pattern {
@@ -45,6 +58,11 @@ impl fmt::Display for Wanted<'_> {
 pub(crate) struct Refused(pub(crate) u64);
 
 impl fmt::Display for Refused {
+    ghost use Rattle.std.specs.Prelude.{Some};
+    ghost use Rattle.pt_report.specs.Words.{refused_text};
+
+    ghost output = { λ r. Some (refused_text r.0) };
+
     fn fmt<W: fmt::Write>(&self, f: &mut fmt::Formatter<W>) -> fmt::Result {
         match self.0 {
             0 => Ok(()),
@@ -55,7 +73,9 @@ impl fmt::Display for Refused {
 }
 
 /// The name of an operation in a script.
-pub(crate) fn word_of(operation: Operation) -> &'static str {
+pub(crate) fn word_of(operation: Operation) -> &'static str
+    ensures { result.now ≡ word_text operation }
+{
     match operation {
         Operation::Send { .. } => "send",
         Operation::Receive(_) => "receive",

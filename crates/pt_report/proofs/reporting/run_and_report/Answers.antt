@@ -9,7 +9,7 @@ use Rattle.pt_report.proofs.reporting.run_and_report.Goals as goal
 pub returns-in-Summary-clause-text : goal.returns-in-Summary-clause-text
 returns-in-Summary-clause-text g c =
     let node = c.in_ok-gathered.ensures.node in
-    summary_reported g.W.Write.contents c.summarize.result c.args.script.now c.args.options.now c.in_ok-read.read node.0 c.in_ok-gathered.gathered c.args.out.now c.run_script.new.out c.summarize.new.out c.run_script.new.kept.items c.in_ok-read.ensures node.1.0 node.2 c.in-Summary.is c.summarize.ensures.text
+    summary_reported g.W.Write.contents c.summarize.result c.args.script.now c.args.options.now c.in_ok-read.read node.0 c.in_ok-gathered.gathered c.args.out.now c.run_script.new.out c.summarize.new.out c.run_script.new.kept.items c.in_ok-read.ensures node.1.0 node.2 c.in-Summary.is c.summarize.ensures.text c.in_ok-gathered.behind node.3
 
 pub returns-in-Summary-clause-refused : goal.returns-in-Summary-clause-refused
 returns-in-Summary-clause-refused g c =
@@ -23,12 +23,12 @@ returns-in-History-clause-untouched g c =
 pub returns-in-History-clause-text : goal.returns-in-History-clause-text
 returns-in-History-clause-text g c =
     let node = c.in_ok-gathered.ensures.node in
-    history_reported g.W.Write.contents c.print_history.result c.args.script.now c.args.options.now c.in_ok-read.read node.0 c.in_ok-gathered.gathered c.args.out.now c.run_script.new.out c.print_history.new.out c.run_script.new.kept.items c.in_ok-read.ensures node.1.0 node.2 c.in-History.is c.print_history.ensures.text
+    history_reported g.W.Write.contents c.print_history.result c.args.script.now c.args.options.now c.in_ok-read.read node.0 c.in_ok-gathered.gathered c.args.out.now c.run_script.new.out c.print_history.new.out c.run_script.new.kept.items c.in_ok-read.ensures node.1.0 node.2 c.in-History.is c.print_history.ensures.text c.in_ok-gathered.behind node.3
 
 pub returns-in-Mermaid-clause-text : goal.returns-in-Mermaid-clause-text
 returns-in-Mermaid-clause-text g c =
     let node = c.in_ok-gathered.ensures.node in
-    mermaid_reported g.W.Write.contents c.print_history-in-Mermaid.result c.args.script.now c.args.options.now c.in_ok-read.read node.0 c.in_ok-gathered.gathered c.args.out.now c.run_script.new.out c.print_history-in-Mermaid.new.out c.run_script.new.kept.items c.in_ok-read.ensures node.1.0 node.2 c.in-Mermaid.is c.print_history-in-Mermaid.ensures.text
+    mermaid_reported g.W.Write.contents c.print_history-in-Mermaid.result c.args.script.now c.args.options.now c.in_ok-read.read node.0 c.in_ok-gathered.gathered c.args.out.now c.run_script.new.out c.print_history-in-Mermaid.new.out c.run_script.new.kept.items c.in_ok-read.ensures node.1.0 node.2 c.in-Mermaid.is c.print_history-in-Mermaid.ensures.text c.in_ok-gathered.behind node.3
 
 pub returns-in-Json-clause-untouched : goal.returns-in-Json-clause-untouched
 returns-in-Json-clause-untouched g c =
@@ -37,10 +37,10 @@ returns-in-Json-clause-untouched g c =
 pub returns-in-Json-clause-text : goal.returns-in-Json-clause-text
 returns-in-Json-clause-text g c =
     let node = c.in_ok-gathered.ensures.node in
-    json_reported g.W.Write.contents c.print_history-in-Json.result c.args.script.now c.args.options.now c.in_ok-read.read node.0 c.in_ok-gathered.gathered c.args.out.now c.run_script.new.out c.print_history-in-Json.new.out c.run_script.new.kept.items c.in_ok-read.ensures node.1.0 node.2 c.in-Json.is c.print_history-in-Json.ensures.text
+    json_reported g.W.Write.contents c.print_history-in-Json.result c.args.script.now c.args.options.now c.in_ok-read.read node.0 c.in_ok-gathered.gathered c.args.out.now c.run_script.new.out c.print_history-in-Json.new.out c.run_script.new.kept.items c.in_ok-read.ensures node.1.0 node.2 c.in-Json.is c.print_history-in-Json.ensures.text c.in_ok-gathered.behind node.3
 
 pub returns-clause-text : goal.returns-clause-text
 returns-clause-text g c =
     let node = c.in_ok-gathered.ensures.node in
     let run : IsRun (c.args.options.now.epochs - 1) c.args.options.now c.in_ok-read.read node.0 c.in_ok-gathered.gathered c.as_slice-in-Chart.result.now = (node.1.0, node.1.1 ∙ sym c.as_slice-in-Chart.ensures.value) in
-    chart_reported g.W.Write.contents c.print_chart.result c.args.script.now c.args.options.now c.in_ok-read.read node.0 c.in_ok-gathered.gathered c.as_slice-in-Chart.result.now c.args.out.now c.run_script.new.out c.print_chart.new.out c.run_script.new.kept.items c.in_ok-read.ensures run node.2 c.in-Chart.is c.print_chart.ensures.text
+    chart_reported g.W.Write.contents c.print_chart.result c.args.script.now c.args.options.now c.in_ok-read.read node.0 c.in_ok-gathered.gathered c.as_slice-in-Chart.result.now c.args.out.now c.run_script.new.out c.print_chart.new.out c.run_script.new.kept.items c.in_ok-read.ensures run node.2 c.in-Chart.is c.print_chart.ensures.text c.in_ok-gathered.behind node.3
