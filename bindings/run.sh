@@ -75,13 +75,14 @@ else
     build_archive
 fi
 
+# The folder that a user builds: the header, both libraries, and what pkg-config reads.
+export PT_C_ARCHIVE=$work/lib/libpt_c.a
+"$here/build.sh" "$work/built" >"$work/printed"
 c="cc -std=c11 -D_GNU_SOURCE -O2 -Wall -Wextra -Werror"
 build() { # PROGRAM [FOLDER]
-    $c -pthread -I "$here/c" -o "$work/$1" "${2:-$here/c}/$1.c" "$work/lib/libpt_c.a" "$kit/c/liblibc_c.a"
+    $c -pthread -I "$work/built/include" -o "$work/$1" "${2:-$here/c}/$1.c" "$work/built/lib/libpundewo.a"
 }
-cc -shared -o "$work/libpundewo.so" -Wl,--whole-archive "$work/lib/libpt_c.a" -Wl,--no-whole-archive \
-    "$kit/c/liblibc_c.a"
-export PUNDEWO_LIB=$work/lib PUNDEWO_HEAP=$kit/c PUNDEWO_ROWS=$work/table PUNDEWO_SO=$work/libpundewo.so
+export PUNDEWO_LIB=$work/built/lib PUNDEWO_ROWS=$work/table PUNDEWO_SO=$work/built/lib/libpundewo.so
 export CARGO_TARGET_DIR=$work/target PYTHONDONTWRITEBYTECODE=1
 
 if [ "$mode" = --speed ]; then
@@ -89,7 +90,7 @@ if [ "$mode" = --speed ]; then
     build calls "$bench"
     echo "C: $("$work/ping_pong")"
     (cd "$here/rust" && echo "Rust: $(cargo run -q --offline --release --example ping_pong)")
-    (cd "$here/python" && echo "Python: $(python3 ping_pong.py)")
+    (cd "$here/python" && echo "Python: $(PYTHONPATH=. python3 examples/ping_pong.py)")
     "$bench/instructions.sh" "$work/calls"
     exit
 fi
@@ -105,12 +106,11 @@ by_the_page() { # SED-SCRIPT
         eval "$(sed "$1" <<<"$commands")"
     )
 }
-mkdir -p "$work/page/crates/pt_c/out"
+mkdir -p "$work/page"
 ln -s "$here" "$work/page/bindings"
-ln -s "$work/lib/libpt_c.a" "$work/page/crates/pt_c/out/libpt_c.a"
 by_the_page '' >"$work/printed"
 for example in about no_memory resumed ring supervisor; do
-    by_the_page "/^\.\//d; s/ping_pong/$example/g"
+    by_the_page "/^\.\//d; s/ping_pong/$example/g" >"$work/printed"
     [ -x "$work/page/$example" ] || { echo "bindings: the lines of docs/EMBEDDING.md do not build $example"; exit 1; }
 done
 echo "c: the lines of docs/EMBEDDING.md build the examples"
@@ -155,7 +155,20 @@ echo "c: examples passed"
 )
 echo "rust: tests and pages passed"
 
-# Python
-(cd "$here/python" && python3 -m unittest -q)
+# Python: tests beside the sources, and the package as pip installs it, without a network
+(cd "$here/python" && python3 -m unittest discover -q -s tests)
 echo "python: tests passed"
+python3 -m venv "$work/venv"
+"$work/venv/bin/pip" install -q --no-index --disable-pip-version-check "$here/python"
+(cd "$work" && env -u PUNDEWO_SO "$work/venv/bin/python" "$here/python/examples/ping_pong.py" >"$work/printed")
+rm -rf "$here/python/build" "$here/python/pundewo.egg-info"
+echo "python: the package is installed, and runs"
+
+# The library as `make install` leaves it, found by pkg-config
+make -s -C "$here" install PREFIX="$work/installed" BUILT="$work/made" >"$work/printed"
+export PKG_CONFIG_PATH=$work/installed/lib/pkgconfig
+$c -o "$work/ping_pong" "$here/c/ping_pong.c" $(pkg-config --cflags --libs pundewo)
+LD_LIBRARY_PATH=$work/installed/lib "$work/ping_pong" >"$work/printed"
+(cd "$here/rust" && env -u PUNDEWO_LIB cargo build -q --offline --examples)
+echo "install: header, libraries and pkg-config file serve C and Rust"
 echo "bindings: all passed"

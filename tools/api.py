@@ -13,6 +13,7 @@ from __future__ import annotations
 import argparse
 import re
 import sys
+import textwrap
 from collections.abc import Iterator
 from pathlib import Path
 
@@ -35,7 +36,7 @@ ITEM = re.compile(r"pub (struct|enum|trait|fn|const) (\w+)")
 IMPL = re.compile(r"^impl(?:<[^>]*>)? (\w+)(?:<[^>]*>)? \{")
 IMPL_OF = re.compile(r"^impl(?:<[^>]*>)? (\w+)(?:<[^>]*>)? for (\w+)(?:<[^>]*>)? \{", re.M)
 EXPORT = re.compile(r"pub use (\w+(?:::\w+)*?)::(\{[^}]*\}|\w+);")
-FAILS = re.compile(r"(It is |They are )?[Rr]efused\b|(It )?[Ff]ails\b|`\w+` (where|if|exactly)\b|It is given back\b")
+FAILS = re.compile(r"(((Then |Else |If )?[Ii]t|They) )?((is|are) )?([Rr]efused|[Ff]ails?)\b|`\w+` (where|if|exactly)\b|It is given back\b")
 
 Doc = list[str]
 
@@ -195,10 +196,20 @@ def implemented(crates: list[str]) -> dict[tuple[str, str], list[str]]:
     return found
 
 
+def wrapped(text: str, indent: str = "") -> str:
+    """The text in lines of the pages' width."""
+    return textwrap.fill(text, 120, initial_indent=indent, subsequent_indent=indent, break_long_words=False, break_on_hyphens=False)
+
+
+def entry(line: str, doc: Doc) -> str:
+    """A call: its signature in one line, and what it does in lines below it."""
+    return f"- `{line}`" + (f"\\\n{wrapped(' '.join(sentences(doc)), '  ')}" if doc else "")
+
+
 def section(crate: str, traits: dict[tuple[str, str], list[str]]) -> Iterator[str]:
     """The parts of a crate's section, with the traits that each type implements."""
     yield f"## `{crate}`"
-    yield heading(crate)
+    yield wrapped(heading(crate))
     for of, name in exports(crate):
         item = find(of, name)
         if item is None:
@@ -207,9 +218,9 @@ def section(crate: str, traits: dict[tuple[str, str], list[str]]) -> Iterator[st
         said = sentences(item.doc)
         if (of, name) in traits:
             said.append(f"Implements {' and '.join(sorted(traits[of, name]))}.")
-        yield f"{' '.join(said)} (`{item.path.relative_to(ROOT)}`)"
+        yield wrapped(f"{' '.join(said)} (`{item.path.relative_to(ROOT)}`)")
         if item.calls:
-            yield "\n".join(f"- `{line}`" + (f": {' '.join(sentences(doc))}" if doc else "") for doc, line in item.calls)
+            yield "\n".join(entry(line, doc) for doc, line in item.calls)
 
 
 def page() -> str:

@@ -18,7 +18,7 @@ ROOT = Path(__file__).resolve().parent.parent
 PAGE = ROOT / "docs" / "PROMISES.md"
 MOST = 300
 # a program that README shows whole, so its head is short
-WITHOUT = {"pt_hello"}
+WITHOUT = {"example_hello"}
 
 HEAD = """# What each crate promises
 

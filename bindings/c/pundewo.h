@@ -47,6 +47,9 @@ typedef struct { void *at; } pt_history;
 #define PT_NO_HISTORY ((pt_history){0})
 #endif
 
+/* The name and the version of the library, and whether it was proved. */
+extern const char pundewo_build[];
+
 /* What calls answer. */
 enum pt_code {
     PT_OK = 0,

@@ -7,7 +7,8 @@
 # program must print; its status is then 0, and it prints on standard error what NAME.json.stderr has, if there is one, and
 # else nothing. In refused/ it must print nothing: NAME.json.stderr is what it must print on
 # standard error, and NAME.json.status its status. An example without these files is wrong too. The program is
-# bin/pt_run, which is built first if it is not up to date.
+# bin/pt_run, which is built first if it is not up to date. It is not proved: the proved one runs behind its proofs, on
+# threads.json, which is the case of its crate.
 set -euo pipefail
 shopt -s nullglob
 
@@ -45,5 +46,8 @@ for script in "$here"/refused/*.json; do
     is_same /dev/null "$work/out/$name" "$name" "what it prints"
     is_same "$script.stderr" "$work/err/$name" "$name" "standard error"
     has_status "$name" "$(cat "$script.status")"
+done
+for file in stdin: args:.args stdout:.stdout; do
+    cmp "$root/crates/pt_run/${file%:*}" "$here/threads.json${file#*:}" || wrong threads.json "its crate has another ${file%:*}"
 done
 verdict examples

@@ -26,19 +26,28 @@ esac
 here=$(cd "$(dirname "$0")" && pwd)
 source "$here/../../.ci/copy"
 
-# The calls, in one run of their program.
+# Runs a part of the program of the calls; what it prints, and its status, go to files of that part.
+run_part() {
+    local status=0
+    env -i ASAN_OPTIONS=exitcode=99 timeout 3600 "$work/bin/pt_refused" >"$work/$1" 2>&1 <<<"$1" || status=$?
+    echo "status=$status" >>"$work/$1"
+}
+
+# The calls one by one, and beside them the sequences of calls.
 try_calls() {
-    local file status=0
+    local file
     "$here/over_heap" "$work"
     mkdir -p "$work"/crates/{pt_heap,pt_refused}/src
     cp "$here/heap.rt.txt" "$work/crates/pt_heap/src/lib.rt"
     for file in "$here"/calls/*.rt.txt; do
         cp "$file" "$work/crates/pt_refused/src/$(basename "$file" .txt)"
     done
-    echo pt_refused: pt_{heap,signal,slots,timers,names,process,carrier,history,shard,node,crew,supervisor,resting,script,runner,render,report} >>"$work/crates.txt"
+    echo pt_refused: pt_{heap,signal,slots,timers,names,schedules,process,carrier,directory,history,shard,node,crew,supervisor,resting,script,runner,render,report} >>"$work/crates.txt"
     "$root/.ci/build" --in "$work" pt_refused
-    env -i ASAN_OPTIONS=exitcode=99 timeout 3600 "$work/bin/pt_refused" >"$work/calls" 2>&1 </dev/null || status=$?
-    awk -v CALLS="$here/calls.txt" -v STATUS="$status" -f "$here/judge.awk" "$work/calls"
+    run_part sequences &
+    run_part calls
+    wait
+    awk -v CALLS="$here/calls.txt" -f "$here/judge.awk" "$work/calls" "$work/sequences"
 }
 
 # The piece with this number is refused. Case K takes and gives back so many pieces first that it is about the Kth of

@@ -1,9 +1,9 @@
 #!/usr/bin/env bash
-# Runs the tests that are not proved, and those of pt_tests with them.
+# Runs the tests that are not proved, and those of test_calls with them.
 #
-#   checks/tried/run.sh [CRATE..]      all, or those of these crates: pt_tests, pt_scripts
+#   checks/tried/run.sh [CRATE..]      all, or those of these crates: test_calls, pt_scripts
 #
-# Each CRATE/NAME.rt.txt is a module of tests. The modules of pt_tests join the proved tests in a copy of that crate, so
+# Each CRATE/NAME.rt.txt is a module of tests. The modules of test_calls join the proved tests in a copy of that crate, so
 # that one compilation serves both; those of pt_scripts make a crate of their own, since all together would take 4 GB.
 # They are compiled and run there, and not proved: what they call is proved, and a program or a proved test makes each
 # call too. Each #[test] has to be run and to pass. RT names another 'rt'.
@@ -13,10 +13,10 @@ here=$(cd "$(dirname "$0")" && pwd)
 
 # The crates that only these tests call.
 declare -A calls=(
-    [pt_tests]='pt_accounts pt_directory pt_desk pt_resting pt_schedules'
+    [test_calls]='pt_accounts pt_directory pt_desk pt_resting pt_schedules'
     [pt_scripts]='pt_node pt_script pt_chart pt_options pt_report clap'
 )
-[ $# -gt 0 ] || set -- pt_tests pt_scripts
+[ $# -gt 0 ] || set -- test_calls pt_scripts
 for crate in "$@"; do
     [ -n "${calls[$crate]-}" ] || { echo "run.sh: no tests of '$crate' here: ${!calls[*]}" >&2; exit 2; }
 done

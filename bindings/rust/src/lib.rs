@@ -39,7 +39,11 @@
 //! });
 //! ```
 
-#![deny(missing_debug_implementations)]
+#![deny(missing_debug_implementations, missing_docs)]
+
+#[cfg(doctest)]
+#[doc = include_str!("../README.md")]
+struct Readme;
 
 #[doc(hidden)]
 pub mod raw;
@@ -55,6 +59,18 @@ use std::fmt;
 use std::ptr::null_mut;
 use std::sync::atomic::{AtomicU64, Ordering};
 use std::sync::{Mutex, MutexGuard, PoisonError};
+
+/// The name and the version of the library, and whether it was proved.
+///
+/// ```
+/// assert!(pundewo::build().starts_with("pundewo "));
+/// ```
+#[must_use]
+pub fn build() -> &'static str {
+    // SAFETY: the library has a text there that ends with a zero, and nothing changes it.
+    let text = unsafe { std::ffi::CStr::from_ptr(&raw const raw::pundewo_build) };
+    text.to_str().unwrap_or("pundewo")
+}
 
 const OK: u32 = 0;
 const NOTHING: u32 = 8;
@@ -164,7 +180,9 @@ pub fn open(count: usize, config: Config) -> Result<Vec<Desk>, Fault> {
 /// The desks that were not gathered, as they were, and why.
 #[derive(Debug)]
 pub struct DesksBack {
+    /// Why they were not gathered.
     pub fault: Fault,
+    /// The desks, as they were.
     pub desks: Vec<Desk>,
 }
 
@@ -417,7 +435,9 @@ impl Drop for Gathered {
 /// A node that was not settled, with what was handled so far, and why. It may be settled again.
 #[derive(Debug)]
 pub struct Unsettled {
+    /// Why settling stopped.
     pub fault: Fault,
+    /// The node, with what was handled so far.
     pub gathered: Gathered,
 }
 
@@ -472,10 +492,12 @@ impl Drop for Quiet {
     }
 }
 
-/// A settled node that has not gone on, as it was, and why.
+/// A settled node that has not resumed, as it was, and why.
 #[derive(Debug)]
 pub struct Resting {
+    /// Why the node has not resumed.
     pub fault: Fault,
+    /// The settled node, as it was.
     pub quiet: Quiet,
 }
 

@@ -121,6 +121,9 @@ pub struct RawAccount {
 }
 
 unsafe extern "C" {
+    /// The first byte of a text that ends with a zero.
+    pub static pundewo_build: std::ffi::c_char;
+
     pub fn pt_open(desks: *mut Handle, count: usize, config: Config) -> u32;
     pub fn pt_gather(desks: *mut Handle, count: usize, out: &mut Handle) -> u32;
     pub fn pt_settle(node: &mut Handle, out: &mut Handle) -> u32;

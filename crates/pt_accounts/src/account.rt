@@ -1,24 +1,24 @@
-//! What is told of one process.
+//! What is known of one process.
 
 ghost use Rattle.std.specs.Prelude.{◌≡◌, Some};
 
 use pt_signal::Reason;
 
-/// What is told of one process: whether it ended, and how many items came into its mailbox and went out of it.
+/// What is known of one process: whether it exited, how many items arrived in its mailbox, and how many were taken.
 #[derive(Clone, Copy, Debug, PartialEq, Eq)]
 pub struct Account {
-    /// Why it ended, if it has.
+    /// Why it exited, if it has.
     pub ended: Option<Reason>,
-    /// How many items came into its mailbox.
+    /// The number of items that arrived in its mailbox.
     pub arrived: u64,
-    /// How many of them it took.
+    /// The number of them that it took.
     pub taken: u64,
-    /// How many of them wait, or were left untaken at its end.
+    /// The number of them that wait, or were left at its exit.
     pub waiting: u64,
 }
 
 impl Account {
-    /// That of a process of which its end alone is kept.
+    /// The account of a process of which only its exit is kept.
     pub(crate) fn forgotten(reason: Reason) -> Account
         ensures { result ≡ record { ended = Some reason; arrived = 0; taken = 0; waiting = 0 } }
     {

@@ -21,14 +21,14 @@ use std::marker::Model;
 
 /// What became of every process of one desk, as far as its journal has been read.
 ///
-/// Contracts see, of each slot and version, the process's life, and how many events of the journal have been read.
+/// Contracts see the life of each process, by slot and version, and how many events of the journal have been read.
 #[derive(Drop)]
 pub struct DeskLives {
     alloc: Global,
     desk: u8,
     slots: Vec<Slot>,
     read: usize,
-    /// How many events were ever read: no process got more items.
+    /// The number of events ever read: no process got more items.
     ever: u64,
 }
 
@@ -43,7 +43,7 @@ impl Model for DeskLives {
     ghost invariant = { λ d. IsCountedUpTo d.ever d.slots.items };
 }
 
-/// One of the process's own events happens.
+/// Plays one of the process's own events.
 #[inline(always)]
 fn show(slots: &mut Vec<Slot>, pid: Pid, event: Event) -> Result<(), AllocError>
     requires { MayShow slots.old.items pid event }
@@ -58,7 +58,7 @@ fn show(slots: &mut Vec<Slot>, pid: Pid, event: Event) -> Result<(), AllocError>
     Ok(())
 }
 
-/// Makes the table long enough to have the slot.
+/// Makes the table long enough for the slot.
 fn grow(alloc: Global, slots: &mut Vec<Slot>, slot: usize) -> Result<(), AllocError>
     ensures long { OnOk result (slot < length slots.new.items) }
     ensures same { AreAlike slots.old.items slots.new.items }
@@ -69,7 +69,7 @@ fn grow(alloc: Global, slots: &mut Vec<Slot>, slot: usize) -> Result<(), AllocEr
     Ok(())
 }
 
-/// The process begins, in the next version of its slot.
+/// Begins a process, in the next version of its slot.
 fn bear(alloc: Global, slots: &mut Vec<Slot>, pid: Pid, life: Life) -> Result<(), AllocError>
     requires pid { life.pid ≡ pid }
     requires next { IsNextOf pid (slot_at slots.old.items pid.slot) }
@@ -87,7 +87,7 @@ fn bear(alloc: Global, slots: &mut Vec<Slot>, pid: Pid, life: Life) -> Result<()
     Ok(())
 }
 
-/// A process is born, and linked with its parent where it is born so. After a refusal each is as before.
+/// Plays the spawn of a process, linked with its parent if its event says so. If it fails, each process is as before.
 fn bear_child(
     alloc: Global,
     slots: &mut Vec<Slot>,
@@ -111,7 +111,7 @@ fn bear_child(
     shown
 }
 
-/// The event happens. After a refusal each process is as before.
+/// Plays an event. If it fails, each process is as before.
 #[inline(always)]
 fn observe(alloc: Global, slots: &mut Vec<Slot>, event: Event) -> Result<(), AllocError>
     requires { MayObserve slots.old.items event }
@@ -129,7 +129,7 @@ fn observe(alloc: Global, slots: &mut Vec<Slot>, event: Event) -> Result<(), All
     }
 }
 
-/// Of each process that has ended the reason alone is kept, and what the others took counts anew.
+/// Keeps only the reason of each exited process, and counts anew what the others take.
 fn forget_all(slots: &mut Vec<Slot>)
     ensures { slots.new.items ≡ map (λ lives. map forgotten lives) slots.old.items }
 {
@@ -138,7 +138,7 @@ fn forget_all(slots: &mut Vec<Slot>)
     }
 }
 
-/// Adds the end, if there is one.
+/// Adds the exit, if there is one.
 fn add_end(ends: &mut Vec<(Pid, u64)>, pid: Option<Pid>, low: u64) -> Result<(), AllocError>
     ensures { OnOk result (ends.new.items ≡ ends.old.items ++ map (λ p. (p, low)) (option_to_list pid)) }
 {
@@ -149,7 +149,7 @@ fn add_end(ends: &mut Vec<(Pid, u64)>, pid: Option<Pid>, low: u64) -> Result<(),
 }
 
 impl DeskLives {
-    /// The desk with this number, on which nobody was yet. It takes no memory.
+    /// The table of the desk with this number, without a process. It takes no memory.
     pub fn new(alloc: Global, desk: u8) -> DeskLives
         ensures { result ≡ record { desk = desk; slots = []; read = 0 } }
     {
@@ -162,10 +162,10 @@ impl DeskLives {
         }
     }
 
-    /// Reads the journal on, from the first event that it has not read yet to the last.
+    /// Reads the journal from the first event that it has not read yet to the last.
     ///
-    /// Where memory is refused, the events before the one that found none have been read, and that one has changed
-    /// nothing: read again, it goes on there.
+    /// Fails if there is no memory. The events before the one that found none have been read then, and that one has
+    /// changed nothing. The next call resumes there.
     pub fn read(&mut self, journal: &Journal) -> Result<(), AllocError>
         requires { MayRead self.old journal.now.past }
         ensures on { ReadsOn journal.now.past self.old self.new }
@@ -178,7 +178,7 @@ impl DeskLives {
         Ok(())
     }
 
-    /// The next event of the journal happens. After a refusal each process is as before.
+    /// Plays the next event of the journal. If it fails, each process is as before.
     fn step(&mut self, event: Event) -> Result<(), AllocError>
         requires next { TableGoesOn self.old event }
         requires few { self.old.read + 1 < 2 ^ 64 }
@@ -197,9 +197,9 @@ impl DeskLives {
         Ok(())
     }
 
-    /// Forgets what the ended processes held and how they came to it: of each its reason is kept, in 8 bytes. The
-    /// others stay as they are, and what they take counts anew. The next journal that is read is the one that goes on
-    /// from here. It takes no memory.
+    /// Forgets what the exited processes held, and how they came to it. Only the reason of each is kept, in 8 bytes.
+    /// The others stay as they are, and what they take is counted anew. The next journal that is read must be the one
+    /// that continues from here. It takes no memory.
     pub fn forget(&mut self)
         ensures forgets { self.new ≡ all_forgotten self.old }
         ensures anew { BeginsAnew self.old self.new }
@@ -208,7 +208,7 @@ impl DeskLives {
         self.read = 0;
     }
 
-    /// Adds, of each slot in which a process has ended, the latest, by slot, each with this stamp.
+    /// For each slot in which a process has exited, adds the latest such process, by slot, each with this stamp.
     pub fn latest_ends(&self, low: u64, ends: &mut Vec<(Pid, u64)>) -> Result<(), AllocError>
         ensures { OnOk result (ends.new.items ≡ ends.old.items ++ map (λ p. (p, low)) (latest_ends self.now)) }
     {
@@ -233,7 +233,7 @@ impl DeskLives {
         }
     }
 
-    /// What is told of the process, or `None` where it was never born. Of one that was forgotten, no items.
+    /// What is known of the process, or `None` if it was never spawned. A forgotten one has no items.
     pub fn account(&self, pid: Pid) -> Option<Account>
         ensures { result ≡ option_map account_of (life_in self.now pid) }
     {
@@ -243,8 +243,7 @@ impl DeskLives {
         }
     }
 
-    /// The ids under which it is linked with the other process, or was just after its end; none of one that was
-    /// forgotten.
+    /// The ids under which it is linked with the other process, or was just after its exit. A forgotten one has none.
     pub fn linked(&self, pid: Pid, peer: Pid) -> Option<Ids>
         ensures { result ≡ linked_in (life_in self.now pid) peer }
     {
@@ -254,7 +253,7 @@ impl DeskLives {
         }
     }
 
-    /// Whether it keeps a watch of this reference, or did just after its end; one that was forgotten keeps none.
+    /// Whether it keeps a watch of this reference, or did just after its exit. A forgotten one keeps none.
     pub fn kept(&self, target: Pid, monitor: Ref) -> bool
         ensures { result ≡ kept_by (life_in self.now target) monitor }
     {
@@ -264,7 +263,7 @@ impl DeskLives {
         }
     }
 
-    /// Whether its monitor of this reference is open; none is once it has ended.
+    /// Whether its monitor of this reference is open. False once it has exited.
     pub fn watching(&self, watcher: Pid, monitor: Ref) -> bool
         ensures { result ≡ watching_in (life_in self.now watcher) monitor }
     {

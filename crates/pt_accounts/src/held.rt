@@ -11,7 +11,7 @@ use pt_process::Process;
 use pt_signal::{Ids, Pid, Ref};
 use std::boxed::Box;
 
-/// What a process holds, or held just after its end.
+/// What a process holds, or held just after its exit.
 #[derive(Drop)]
 pub(crate) enum Held {
     Process(Box<Process>),
@@ -29,7 +29,7 @@ impl Held {
         }
     }
 
-    /// How many items wait.
+    /// The number of items that wait.
     pub(crate) fn waiting(&self) -> usize
         ensures { result ≡ length (state_held self.now).waiting }
     {
@@ -69,7 +69,7 @@ impl Held {
         }
     }
 
-    /// Gives the lists up where they are empty, as those of an ended process mostly are.
+    /// Gives up the lists if they are empty, as those of an exited process mostly are.
     pub(crate) fn shrink(&mut self)
         ensures pid { pid_held self.new ≡ pid_held self.old }
         ensures state { state_held self.new ≡ state_held self.old }

@@ -2,7 +2,7 @@
 //!
 //! ```
 //! let mut lives = DeskLives::new(alloc, desk);     // one for each desk
-//! lives.read(&journal)?;                           // each event once; called again, it goes on where it was
+//! lives.read(&journal)?;                           // each event once; the next call resumes there
 //! let node = Lives::of(alloc, desks)?;             // the tables of all desks, that of desk 0 first
 //! for pid in node.pids() {
 //!     let account = node.account(*pid);            // ended, arrived, taken, waiting
@@ -10,24 +10,24 @@
 //! ```
 //!
 //! [`DeskLives::read`] plays each process of a desk from its birth on, by the calls of `pt_process`. What [`Lives`]
-//! tells holds in every merge of the journals, since a desk's journal says of its own pids what every merge says.
+//! returns holds in every merge of the journals, since a desk's journal says of its own pids what every merge says.
 //!
-//! A node that goes on from where it was writes new journals. [`DeskLives::forget`] makes of what a journal told the
-//! start of the next, which is then read into the same table.
+//! A node that is resumed writes new journals. [`DeskLives::forget`] makes what a journal said the start of the next,
+//! which is then read into the same table.
 //!
 //! # Cost
 //!
-//! An event of a journal takes constant time, on average, as the desk's own call did; a take costs what it looks at. A
-//! process is found by its slot and version, so nothing is searched or sorted. Of each process that was born since the
-//! table last forgot 48 bytes are kept, and 8 for its end; one that lives, or that ended with an item, link, watch or
-//! monitor, keeps its lists beside them. Of one that ended before, its reason is kept, in 8 bytes.
+//! An event of a journal takes constant time, on average, as the desk's own call did. A take costs what it looks at. A
+//! process is found by its slot and version, so nothing is searched or sorted. Each process that was spawned since the
+//! table last forgot takes 48 bytes, and 8 for its exit. A live one, and one that exited with an item, link, watch or
+//! monitor, also keeps its lists. One that exited before takes 8 bytes for its reason.
 //!
 //! # What is proved
 //!
-//! - **What is told.** Of each process ever born `Lives` tells why it exited, how many items arrived, were taken and
-//!   wait, its links, watchers and open monitors; of an exited one the last.
+//! - **What is reported.** For each process ever spawned, `Lives` returns why it exited, how many items arrived, were
+//!   taken and wait, and its links, watchers and open monitors. For an exited process these are the last.
 //! - **In every merge.** Each of these is what the definitions give for every merge of the journals.
-//! - **Order.** `Lives::pids` lists the pids by desk and in order of birth.
+//! - **Order.** `Lives::pids` lists the pids by desk, slot and version.
 //! - **Reading on.** `DeskLives::read` reads each event once, and `forget` makes the start of the next journal.
 #![tactic(auto)]
 

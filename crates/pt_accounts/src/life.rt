@@ -22,7 +22,7 @@ use std::mem::size_of;
 
 const _: () = prove!(size_of::<Life>() <= 48);
 
-/// One process, as the events of its desk up to some one of them leave it.
+/// One process, as the events of its desk up to one of them leave it.
 #[derive(Drop)]
 pub(crate) struct Life {
     ended: Option<Reason>,
@@ -42,7 +42,7 @@ impl Model for Life {
     ghost invariant = { λ l. Stands l.ended l.held };
 }
 
-/// One of its own events happens to a live process; the reason with which it ends by that, if it does.
+/// Plays one of its own events on a live process, and returns the reason with which it exits by that, if it does.
 #[inline(always)]
 fn meet(process: &mut Process, event: Event) -> Result<Option<Reason>, AllocError>
     requires { MayDo process.old.me process.old.state event }
@@ -95,7 +95,7 @@ impl Life {
         })
     }
 
-    /// One of its own events happens. After a refusal it is as before.
+    /// Plays one of its own events. If it fails, the process is as before.
     #[inline(always)]
     pub(crate) fn see(&mut self, event: Event) -> Result<(), AllocError>
         requires { MaySee event self.old }
@@ -126,14 +126,14 @@ impl Life {
         self.held.pid()
     }
 
-    /// Why it ended, if it has.
+    /// Why it exited, if it has.
     pub(crate) fn ended(&self) -> Option<Reason>
         ensures { result ≡ reason_of self.now.phase }
     {
         self.ended
     }
 
-    /// What it takes counts anew.
+    /// Counts anew what it takes.
     pub(crate) fn count_anew(&mut self)
         ensures { self.new ≡ record self.old { taken = 0 } }
     {

@@ -18,7 +18,7 @@ use std::marker::Model;
 
 /// What became of every process of a node.
 ///
-/// The reading calls take no memory and find a process by its pid in constant time. What they answer holds in every
+/// The reading calls take no memory and find a process by its pid in constant time. What they return holds in every
 /// merge of the journals that were read.
 #[derive(Drop)]
 pub struct Lives {
@@ -49,7 +49,7 @@ fn list_all(desks: &[DeskLives], pids: &mut Vec<Pid>) -> Result<(), AllocError>
 }
 
 impl Lives {
-    /// Those of a node without desks.
+    /// The lives of a node without desks.
     pub fn new(alloc: Global) -> Lives
         ensures { result ≡ [] }
     {
@@ -59,7 +59,7 @@ impl Lives {
         }
     }
 
-    /// Those of the desks whose tables these are, desk 0 first. Where memory is refused, the tables come back.
+    /// The lives of the desks with these tables, desk 0 first. Fails with the tables if there is no memory.
     pub fn of(alloc: Global, desks: Vec<DeskLives>) -> Result<Lives, Vec<DeskLives>>
         ensures lives { IfOk result (λ lives. lives ≡ desks.items) }
         ensures back { IfErr result (λ back. back ≡ desks) }
@@ -71,7 +71,7 @@ impl Lives {
         }
     }
 
-    /// The tables of the desks, desk 0 first, to be looked at.
+    /// The tables of the desks, desk 0 first, to be read.
     pub fn desks(&self) -> &[DeskLives]
         ensures { result.now ≡ self.now }
     {
@@ -86,7 +86,7 @@ impl Lives {
         desks
     }
 
-    /// These, and those of the next desk, whose journal is read from its first event to its last.
+    /// These lives, and those of the next desk, whose journal is read from its first event to its last.
     pub fn with(self, alloc: Global, journal: &Journal) -> Result<Lives, AllocError>
         requires local { IsDeskJournal [] journal.now.desk journal.now.past }
         requires next { journal.now.desk ≡ length self }
@@ -103,7 +103,7 @@ impl Lives {
         Ok(Lives { desks, pids })
     }
 
-    /// The pids of all processes that were born, by shard, slot and version.
+    /// The pids of all processes that were spawned, by shard, slot and version.
     pub fn pids(&self) -> &[Pid]
         ensures { Tell self.now (λ start past. AreAllPids start past result.now) }
     {
@@ -111,7 +111,7 @@ impl Lives {
         self.pids.as_slice()
     }
 
-    /// What is told of the process, or `None` where it was never born.
+    /// What is known of the process, or `None` if it was never spawned.
     pub fn account(&self, pid: Pid) -> Option<Account>
         ensures { Tell self.now (λ start past. result ≡ account_in start past pid) }
     {
@@ -124,7 +124,7 @@ impl Lives {
         }
     }
 
-    /// The ids under which it is linked with the other process, or was just after its end.
+    /// The ids under which it is linked with the other process, or was just after its exit.
     pub fn linked(&self, pid: Pid, peer: Pid) -> Option<Ids>
         ensures { Tell self.now (λ start past. result ≡ held (state start past pid).links peer) }
     {
@@ -137,7 +137,7 @@ impl Lives {
         }
     }
 
-    /// Whether it keeps a watch of this reference, or did just after its end.
+    /// Whether it keeps a watch of this reference, or did just after its exit.
     pub fn kept(&self, target: Pid, monitor: Ref) -> bool
         ensures { Tell self.now
             (λ start past. result ≡ list_any (λ k. same_ref monitor k.0) (state start past target).kept) }
@@ -151,7 +151,7 @@ impl Lives {
         }
     }
 
-    /// Whether its monitor of this reference is open; none is once it has ended.
+    /// Whether its monitor of this reference is open. False once it has exited.
     pub fn watching(&self, watcher: Pid, monitor: Ref) -> bool
         ensures { Tell self.now
             (λ start past. result ≡ is_some (lookup (same_ref monitor) (open_monitors (life start past watcher)))) }

@@ -21,14 +21,14 @@ use std::mem::size_of;
 
 const _: () = prove!(size_of::<Reason>() <= 8);
 
-/// By version; the first is version 1.
+/// The processes by version; the first is version 1.
 ///
-/// All but the newest have ended. Of those that are forgotten only the reasons are kept.
+/// All but the newest have exited. For forgotten ones only the reasons are kept.
 #[derive(Drop)]
 pub(crate) struct Slot {
     desk: u8,
     slot: u32,
-    /// It has room for all that are not forgotten yet.
+    /// This list has room for all that are not forgotten yet.
     forgotten: Vec<Reason>,
     ended: Vec<Life>,
     newest: Option<Life>,
@@ -47,7 +47,7 @@ impl Model for Slot {
         IsSlot s.desk s.slot s.forgotten.items (vec_capacity s.forgotten) s.ended.items s.newest };
 }
 
-/// The one in this place of those that are not forgotten.
+/// The process at this place among those that are not forgotten.
 fn recent<'a>(ended: &'a [Life], newest: &'a Option<Life>, place: usize) -> Option<&'a Life>
     ensures { option_map (λ life. life.now) result ≡ slice_get (ended.now ++ option_to_list newest.now) place }
 {
@@ -71,7 +71,7 @@ fn add_reason(forgotten: &mut Vec<Reason>, reason: Option<Reason>)
     }
 }
 
-/// Adds why they ended.
+/// Adds their reasons.
 fn add_reasons(forgotten: &mut Vec<Reason>, ended: &[Life])
     requires { vec_len forgotten.old + length ended.now ≤ vec_capacity forgotten.old }
     ensures items { forgotten.new.items ≡ forgotten.old.items ++ reasons_of ended.now }
@@ -82,7 +82,7 @@ fn add_reasons(forgotten: &mut Vec<Reason>, ended: &[Life])
     }
 }
 
-/// What it takes counts anew. One that has ended goes, and its reason is answered.
+/// Counts anew what it takes. An exited one is removed, and its reason is returned.
 fn forget_newest(newest: &mut Option<Life>) -> Option<Reason>
     ensures reason { result ≡ life_end newest.old }
     ensures left { newest.new ≡ left_of newest.old }
@@ -99,7 +99,7 @@ fn forget_newest(newest: &mut Option<Life>) -> Option<Reason>
     reason
 }
 
-/// The newest, if there is one, joins those that ended. After a refusal both are as before.
+/// Moves the newest, if there is one, to those that exited. If it fails, both are as before.
 fn move_newest(ended: &mut Vec<Life>, newest: &mut Option<Life>) -> Result<(), AllocError>
     ensures moved { OnOk result (ended.new.items ≡ ended.old.items ++ option_to_list newest.old) }
     ensures gone { OnOk result (newest.new ≡ None) }
@@ -116,7 +116,7 @@ fn move_newest(ended: &mut Vec<Life>, newest: &mut Option<Life>) -> Result<(), A
     Ok(())
 }
 
-/// How many there are: one or none.
+/// The number of processes: one or none.
 fn count(newest: &Option<Life>) -> usize
     ensures { result ≡ length (option_to_list newest.now) }
 {
@@ -126,7 +126,7 @@ fn count(newest: &Option<Life>) -> usize
     }
 }
 
-/// How many live.
+/// The number of live processes.
 fn living(newest: &Option<Life>) -> usize
     ensures { result ≡ living_of newest.now }
 {
@@ -149,7 +149,7 @@ impl Slot {
         }
     }
 
-    /// How many versions there were.
+    /// The number of versions that there were.
     fn len(&self) -> usize
         ensures len { result ≡ length self.now }
         ensures few { result < 2 ^ 32 }
@@ -157,7 +157,7 @@ impl Slot {
         self.forgotten.len() + self.ended.len() + count(&self.newest)
     }
 
-    /// One of that version's own events happens. After a refusal each is as before.
+    /// Plays one of that version's own events. If it fails, each is as before.
     #[inline(always)]
     pub(crate) fn see(&mut self, version: u32, event: Event) -> Result<(), AllocError>
         requires { IfSome (of_version self.old version) (MaySee event) }
@@ -178,7 +178,7 @@ impl Slot {
         life.see(event)
     }
 
-    /// Adds the next version. After a refusal each is as before.
+    /// Adds the next version. If it fails, each is as before.
     pub(crate) fn push(&mut self, pid: Pid, life: Life) -> Result<(), AllocError>
         requires pid { life.pid ≡ pid }
         requires next { IsNextOf pid self.old }
@@ -193,7 +193,7 @@ impl Slot {
         Ok(())
     }
 
-    /// Takes back the newest, which has not ended.
+    /// Takes back the newest, which has not exited.
     pub(crate) fn pop(&mut self)
         requires { (lives : List LifeState) × (life : LifeState) × (self.old ≡ lives ++ life ∷ [])
             × (is_ended life.phase ≡ false) }
@@ -202,7 +202,7 @@ impl Slot {
         self.newest = self.ended.pop();
     }
 
-    /// Of each that has ended the reason alone is kept, and what it took counts anew.
+    /// Keeps only the reason of each exited process, and counts anew what the others take.
     pub(crate) fn forget(&mut self)
         ensures { self.new ≡ map forgotten self.old }
     {
@@ -213,7 +213,7 @@ impl Slot {
         add_reason(&mut self.forgotten, reason);
     }
 
-    /// The latest that has ended.
+    /// The latest exited process.
     pub(crate) fn latest_end(&self) -> Option<Pid>
         ensures { result ≡ latest_end self.now }
     {

@@ -1,4 +1,4 @@
-//! Histories are heard, and what is asked for of them is printed.
+//! Auditing histories, and printing what is asked for.
 
 use crate::asked::{Asked, Print};
 use crate::output::Output;
@@ -40,7 +40,7 @@ fn read_piece<'a, R: Read>(from: &mut R, piece: &'a mut [u8]) -> Result<&'a [u8]
     }
 }
 
-/// Reads all files, merged by stamp and desk, and prints what is asked for before the verdict.
+/// Reads all files, merged by stamp and desk, and prints the output that comes before the verdict.
 pub fn audit_lines<R: Read + Drop, W: Write>(
     alloc: Global,
     sources: &mut [Source<R>],
@@ -52,7 +52,7 @@ pub fn audit_lines<R: Read + Drop, W: Write>(
     finish(alloc, audit, asked, out)
 }
 
-/// Goes to the first line of each file.
+/// Reads the first line of each file.
 fn begin<R: Read + Drop, W: Write>(
     sources: &mut [Source<R>],
     asked: &Asked,
@@ -83,7 +83,7 @@ fn audit_all<R: Read + Drop, W: Write>(
     Err(Refusal::Memory)
 }
 
-/// Hears the line of the file, prints it if it is asked for, and goes on to the next.
+/// Audits the line of the file, prints it if it is asked for, and reads the next line.
 fn step<R: Read + Drop, W: Write>(
     alloc: Global,
     audit: Audit,
@@ -115,7 +115,7 @@ fn note<R: Read + Drop, W: Write>(
     }
 }
 
-/// Prints the line of the file, if it is asked for, and goes on to the next.
+/// Prints the line of the file, if it is asked for, and reads the next line.
 fn go_on<R: Read + Drop, W: Write>(
     source: &mut Source<R>,
     asked: &Asked,
@@ -125,7 +125,7 @@ fn go_on<R: Read + Drop, W: Write>(
     source.advance()
 }
 
-/// The place of the file whose line comes first, or how many files there are where none has a line.
+/// The place of the file whose line comes first, or the number of files if none has a line.
 fn first_of<R: Read + Drop>(sources: &[Source<R>]) -> usize {
     let mut first = sources.len();
     for place in 0..sources.len() {
@@ -137,7 +137,7 @@ fn first_of<R: Read + Drop>(sources: &[Source<R>]) -> usize {
     first
 }
 
-/// Hears the line of the file. A fault of several files names its own.
+/// Audits the line of the file. With several files, a fault names its file.
 fn hear<R: Read + Drop>(
     alloc: Global,
     audit: Audit,
@@ -162,7 +162,7 @@ fn hear<R: Read + Drop>(
     }
 }
 
-/// Prints the line of the file, if it is an event that is asked for, or a letter left over that is shown.
+/// Prints the line of the file, if it is an event that is asked for, or a letter left over that is printed.
 fn print_event<R: Read + Drop, W: Write>(
     source: &Source<R>,
     asked: &Asked,
@@ -194,7 +194,7 @@ fn print_event<R: Read + Drop, W: Write>(
     Ok(())
 }
 
-/// Prints the line of the file in a diagram or as JSON, if it tells of a letter left over whose sending is asked for.
+/// Prints the line of the file in a diagram or as JSON, if it is a letter left over whose sending is asked for.
 fn print_left_over<R: Read + Drop, W: Write>(
     source: &Source<R>,
     asked: &Asked,
@@ -234,7 +234,7 @@ fn print_left_over<R: Read + Drop, W: Write>(
     Ok(())
 }
 
-/// Prints what stands before all events: the first line of a diagram.
+/// Prints what comes before all events: the first line of a diagram.
 fn print_head<W: Write>(asked: &Asked, out: &mut Output<W>) -> Result<(), Refusal> {
     if asked.print == Print::Mermaid {
         writeln!(out.writer, "{MERMAID_HEAD}")?;
@@ -242,7 +242,7 @@ fn print_head<W: Write>(asked: &Asked, out: &mut Output<W>) -> Result<(), Refusa
     Ok(())
 }
 
-/// The line that no node prints, in its file where there are several.
+/// The line that no node prints, with its file if there are several.
 fn no_node<W: Write>(foreign: Foreign, asked: &Asked, out: &Output<W>) -> Refusal {
     match out.foreign {
         Some((place, line)) if asked.files.len() > 1 => {
@@ -253,7 +253,7 @@ fn no_node<W: Write>(foreign: Foreign, asked: &Asked, out: &Output<W>) -> Refusa
     }
 }
 
-/// Prints the verdict, unless no node prints such a history and the judge's verdict alone is not enough.
+/// Prints the verdict, unless no node prints this history and the judge's verdict alone is not enough.
 pub fn conclude<W: Write>(
     verdict: Verdict,
     asked: &Asked,
@@ -272,7 +272,7 @@ pub fn conclude<W: Write>(
     Ok(())
 }
 
-/// Prints the verdict of a history, in the form of what stands before it, and passes on what the writer holds back.
+/// Prints the verdict of a history, in the form of the output before it, and flushes the writer.
 fn print_verdict<W: Write>(
     verdict: Verdict,
     print: Print,
@@ -301,7 +301,7 @@ fn print_verdict<W: Write>(
     Ok(())
 }
 
-/// The verdict on all that was heard, and before it what became of each process, or the chart, where that is asked for.
+/// Returns the verdict on all that was read. If asked for, it first prints what became of each process, or the chart.
 fn finish<W: Write>(
     alloc: Global,
     audit: Audit,

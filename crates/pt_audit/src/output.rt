@@ -1,10 +1,10 @@
-//! What is printed: line by line, or kept for a drawing.
+//! The output: printed line by line, or kept for a drawing.
 
 use pt_events::Stamped;
 use std::alloc::Global;
 use std::io::Write;
 
-/// A writer, the events that are to be drawn, and what was met on the way.
+/// A writer, the events that are to be drawn, and what was noted while reading.
 #[derive(Drop)]
 pub struct Output<W> {
     pub writer: W,

@@ -1,4 +1,4 @@
-//! Why there is no verdict, or not all of it was printed.
+//! Why there is no verdict, or not all of the output was printed.
 
 use clap::error::ErrorKind;
 use pt_auditor::{Fault, Foreign, Objection, Verdict, Why};
@@ -7,7 +7,7 @@ use std::io;
 
 #[derive(Drop)]
 pub enum Refusal {
-    /// The words of the command line, or a request for help.
+    /// The words of the command line are wrong, or ask for help.
     Words(clap::Error),
     /// A word of the command line is no UTF-8, so nothing can be said of the words.
     NoText,
@@ -21,7 +21,7 @@ pub enum Refusal {
     NoNode(Foreign),
     /// The same among several files.
     NoNodeInFile(usize, Foreign),
-    /// The history is legal, and it has no event, or a letter is on its way.
+    /// The history is legal, and it has no event, or a letter is in flight.
     Incomplete(Verdict),
     Memory,
     /// The file at the place was not read.
@@ -30,7 +30,7 @@ pub enum Refusal {
     Unwritten(io::Error),
 }
 
-/// What is said where the file at the place was not read.
+/// The refusal if the file at the place was not read.
 pub fn unread(place: usize, error: io::Error) -> Refusal {
     if error.kind() == io::ErrorKind::OutOfMemory {
         Refusal::Memory
@@ -39,7 +39,7 @@ pub fn unread(place: usize, error: io::Error) -> Refusal {
     }
 }
 
-/// Whether the fault is that memory was wanting.
+/// Whether the fault is that there was no memory.
 pub fn wants_memory(fault: Fault) -> bool {
     match fault.why {
         Why::Memory => true,

@@ -7,17 +7,17 @@ use pt_texts::{LeftOver, parse_left_over, parse_stamped};
 use std::alloc::{AllocError, Global};
 use std::io::Read;
 
-/// How many bytes are read at once.
+/// The number of bytes that are read at once.
 pub const PIECE: usize = 65_536;
 
-/// A file, and its line that is next.
+/// A file, and its next line.
 #[derive(Drop)]
 pub struct Source<R> {
     reader: R,
     /// Its place among the files.
     file: usize,
     piece: Vec<u8>,
-    /// How many bytes of the piece were read, and the place of the next.
+    /// The number of bytes of the piece that were read, and the place of the next.
     filled: usize,
     place: usize,
     line: Vec<u8>,
@@ -51,7 +51,7 @@ impl<R: Read + Drop> Source<R> {
         self.is_open
     }
 
-    /// The line, without its line feed; where it is too long, one byte more of it than a line may have.
+    /// The line, without its line feed. If it is too long, it has one byte more than a line may have.
     pub fn line(&self) -> &[u8] {
         self.line.as_slice()
     }
@@ -61,12 +61,12 @@ impl<R: Read + Drop> Source<R> {
         self.number
     }
 
-    /// The event that the line is, if it is one.
+    /// The event of the line, if it is one.
     pub fn event(&self) -> Option<Stamped> {
         self.event
     }
 
-    /// The letter left over that the line tells of, if it tells of one.
+    /// The letter left over of the line, if it is one.
     pub fn left_over(&self) -> Option<LeftOver> {
         parse_left_over(bare(self.line.as_slice())).ok()
     }
@@ -81,7 +81,7 @@ impl<R: Read + Drop> Source<R> {
         }
     }
 
-    /// Goes on to the next line.
+    /// Reads the next line.
     pub fn advance(&mut self) -> Result<(), Refusal> {
         self.is_open = self.read_line()?;
         self.number = self.number.saturating_add(1);

@@ -9,7 +9,7 @@ use pt_events::Event;
 use pt_judge::{Cause, State};
 use pt_signal::Pid;
 
-/// Who has to be alive for the event, if anyone.
+/// The process that must be alive for the event, if there is one.
 fn author(event: Event) -> Option<Pid>
     ensures { result ≡ actor_of_event event }
 {
@@ -33,7 +33,7 @@ fn dead(state: &State, pid: Option<Pid>) -> Contradiction
     }
 }
 
-/// What the event contradicts, where it may not come for that cause.
+/// What the event contradicts, if it may not come next for that cause.
 pub(crate) fn contradiction(state: &State, event: Event, cause: Cause) -> Contradiction
     ensures { result ≡ contradiction (known_state state.now) event cause }
 {

@@ -10,13 +10,13 @@ use std::alloc::Global;
 
 /// A history as far as its text was read.
 ///
-/// Contracts speak of the whole text so far, and of all that its lines tell, which no audit keeps.
+/// Contracts speak of the whole text so far, and of all events and letters of its lines. No audit keeps these.
 #[derive(Drop)]
 pub struct Audit {
     hearing: Hearing,
-    /// What was read of the line that is not over.
+    /// The part of the unfinished line that was read.
     line: Vec<u8>,
-    /// How many lines are over.
+    /// The number of finished lines.
     lines: u64,
 }
 
@@ -26,7 +26,7 @@ fn one_more(count: u64) -> u64
     count.saturating_add(1)
 }
 
-/// The verdict, where the text is over behind as many lines.
+/// The verdict, if the text ends after so many lines.
 fn conclude(hearing: Hearing, lines: u64) -> Result<Verdict, Fault>
     ensures { (heard : Heard) → IsHeard heard hearing → ClosesText heard lines result }
 {
@@ -39,7 +39,7 @@ fn conclude(hearing: Hearing, lines: u64) -> Result<Verdict, Fault>
     }
 }
 
-/// The fault of the line behind as many lines. The hearing goes.
+/// The fault of the line after so many lines. The hearing is dropped.
 fn stop(_hearing: Hearing, lines: u64, why: Why) -> Fault
     ensures { result ≡ record { line = min (lines + 1) (2 ^ 64 - 1); why = why } }
 {
@@ -50,7 +50,7 @@ fn stop(_hearing: Hearing, lines: u64, why: Why) -> Fault
 }
 
 impl Audit {
-    /// Nothing was read.
+    /// An audit that has read nothing.
     pub fn new(alloc: Global) -> Audit
         ensures { IsRead [] (record { events = []; left = [] }) result.hearing result.line.items result.lines }
     {
@@ -61,8 +61,8 @@ impl Audit {
         }
     }
 
-    /// Reads the next bytes, of which any number may be given. The first line at fault is told, as soon as its line
-    /// feed is read, or the byte by which it is too long; the audit goes with it.
+    /// Reads the next bytes; any number may be passed. Fails with the first line at fault, as soon as its line feed is
+    /// read, or the byte by which it is too long. The audit is dropped then.
     pub fn read(self, alloc: Global, bytes: &[u8]) -> Result<Audit, Fault>
         ensures { (text : List ℕ) (heard : Heard) → IsRead text heard self.hearing self.line.items self.lines
             → AuditReads text bytes.now result }
@@ -103,14 +103,14 @@ impl Audit {
         })
     }
 
-    /// What the lines that are over tell.
+    /// The hearing of the finished lines.
     pub fn hearing(&self) -> &Hearing
         ensures { result.now ≡ self.now.hearing }
     {
         &self.hearing
     }
 
-    /// The verdict on the whole text, whose last line needs no line feed.
+    /// Returns the verdict on the whole text. Its last line needs no line feed.
     pub fn end(self, alloc: Global) -> Result<Verdict, Fault>
         ensures { (text : List ℕ) (heard : Heard) → IsRead text heard self.hearing self.line.items self.lines
             → Concludes text result }

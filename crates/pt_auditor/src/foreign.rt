@@ -1,4 +1,4 @@
-//! Why no node prints what may stand in a history.
+//! Why no node prints an event that a history may have.
 
 ghost use Rattle.std.specs.Prelude.{◌≡◌};
 ghost use Rattle.pt_auditor.specs.Foreigners.{is_node_desk, is_node_stamp, is_home, is_new_at, is_next_version};
@@ -8,8 +8,8 @@ use pt_events::{Event, MAX_STAMP, Stamped};
 use pt_judge::State;
 use pt_signal::{LinkId, Pid, Ref, Signal};
 
-/// Why no node prints an event that may come. A node's desks write the events of their own processes alone, with ids
-/// and references that are their desk and their stamp.
+/// Why no node prints an event that may come next. A node's desks write only the events of their own processes, with
+/// ids and references that are their desk and their stamp.
 #[derive(Clone, Copy, Debug, PartialEq, Eq)]
 pub enum NoNode {
     /// The desk of the event, or of a receiver, is above 63.
@@ -20,21 +20,21 @@ pub enum NoNode {
     OtherDesk,
     /// The new id of a link, or the new reference, is not the desk and the stamp of the event.
     OtherId,
-    /// The version of the slot before the newborn's has not ended, or the newborn's is 0.
+    /// The version of the slot before the new one has not exited, or the new one is 0.
     Version,
-    /// The receiver is of the sender's desk, and was never born.
+    /// The receiver is of the sender's desk, and was never spawned.
     Unborn,
 }
 
 /// The first line that no node prints.
 #[derive(Clone, Copy, Debug, PartialEq, Eq)]
 pub struct Foreign {
-    /// Its number among all lines that were heard, from 1 on.
+    /// Its number among all lines that were read, from 1 on.
     pub line: u64,
     pub why: NoNode,
 }
 
-/// Whether the desk, and that of the receiver of what is said, are among the 64 that a node may have.
+/// Whether the desk, and that of the receiver of a signal, are among the 64 that a node may have.
 fn is_node_desk(stamped: Stamped) -> bool
     ensures { result ≡ is_node_desk stamped }
 {
@@ -80,7 +80,7 @@ fn is_new_at(desk: u8, stamp: u64, event: Event) -> bool
     }
 }
 
-/// Whether the pid is the first of its slot, or the one before it in the slot has ended.
+/// Whether the pid is the first of its slot, or the one before it in the slot has exited.
 fn is_next_version(state: &State, pid: Pid) -> bool
     ensures { result ≡ is_next_version state.now pid }
 {
@@ -101,7 +101,7 @@ fn was_born(state: &State, pid: Pid) -> bool
     state.alive(pid) || state.ended(pid).is_some()
 }
 
-/// Whether what is said to a process of the desk is said after its birth.
+/// Whether a signal to a process of the desk is sent after its birth.
 fn is_known(state: &State, desk: u8, event: Event) -> bool
     ensures { result ≡ is_known state.now desk event }
 {
@@ -120,7 +120,7 @@ fn is_in_turn(state: &State, event: Event) -> bool
     }
 }
 
-/// Why no node prints the event next, if none does: the first reason that holds.
+/// Why no node prints this event next, if none does: the first reason that holds.
 pub(crate) fn no_node(state: &State, stamped: Stamped) -> Option<NoNode>
     ensures { result ≡ no_node state.now stamped }
 {

@@ -1,4 +1,4 @@
-//! A history heard event by event.
+//! A history read event by event.
 
 ghost use Rattle.std.specs.Prelude.{◌≡◌, ◌+◌, ◌-◌, ◌^◌, [], None, min, max, slice_get};
 ghost use Rattle.std.specs.Map.{keys_of};
@@ -17,14 +17,14 @@ use pt_signal::{Letter, Pid};
 use pt_texts::LeftOver;
 use std::alloc::Global;
 
-/// What is heard of a history: its events, and then the letters that it leaves over.
+/// A history as far as it was read: its events, and then the letters left over.
 ///
-/// Contracts speak of all that was heard by `Heard`, which no hearing keeps. So a caller names what it has told a
-/// hearing, and each call says what was heard after it.
+/// Contracts speak by `Heard` of all that was read, which no hearing keeps. So a caller names what it has passed to a
+/// hearing, and each call says what was read after it.
 #[derive(Drop)]
 pub struct Hearing {
     state: State,
-    /// The event heard last.
+    /// The event read last.
     last: Option<Stamped>,
     events: u64,
     /// One more than the greatest desk of an event.
@@ -34,13 +34,13 @@ pub struct Hearing {
     foreign: Option<Foreign>,
 }
 
-/// What a history comes to that may be as it is. Counts stop at the greatest number of 64 bits.
+/// The verdict on a legal history. Counts stop at the greatest number of 64 bits.
 #[derive(Clone, Copy, Debug, PartialEq, Eq)]
 pub struct Verdict {
     pub events: u64,
     /// One more than the greatest number of a desk that has an event.
     pub desks: u16,
-    /// The letters on their way at the end.
+    /// The number of letters in flight at the end.
     pub letters: u64,
     /// The first event that no node prints, if there is one.
     pub foreign: Option<Foreign>,
@@ -53,7 +53,7 @@ fn one_more(count: u64) -> u64
     count.saturating_add(1)
 }
 
-/// How many desks there are at least, beside those.
+/// The least number of desks, beside those.
 fn desks_with(desks: u16, desk: u8) -> u16
     ensures { result ≡ max desks (desk + 1) }
 {
@@ -68,7 +68,7 @@ fn follows(last: Stamped, stamped: Stamped) -> bool
     last.stamp < stamped.stamp || (last.stamp == stamped.stamp && last.desk < stamped.desk)
 }
 
-/// The event heard last, where the next does not follow it.
+/// The event read last, if the next does not follow it.
 fn sunk(last: Option<Stamped>, stamped: Stamped) -> Option<Stamped>
     ensures { IsSunk last stamped result }
 {
@@ -104,7 +104,7 @@ fn objection(hearing: &Hearing, stamped: Stamped) -> Option<Objection>
     }
 }
 
-/// The first event that no node prints, where this one is heard next.
+/// The first event that no node prints, if this one is read next.
 fn foreign_with(hearing: &Hearing, stamped: Stamped) -> Option<Foreign>
     ensures { result ≡ first_foreign hearing.now.foreign (no_node hearing.now.state stamped)
         (min (hearing.now.events + 1) (2 ^ 64 - 1)) }
@@ -120,7 +120,7 @@ fn foreign_with(hearing: &Hearing, stamped: Stamped) -> Option<Foreign>
 }
 
 impl Hearing {
-    /// Nothing was heard.
+    /// A hearing that has read nothing.
     pub fn new(alloc: Global) -> Hearing
         ensures { IsHeard (record { events = []; left = [] }) result }
     {
@@ -134,10 +134,14 @@ impl Hearing {
         }
     }
 
-    /// Hears the next event. It is refused where a letter left over was told of before ([`Objection::Behind`]), where
-    /// it does not follow the event before by stamp and desk ([`Objection::Sinks`]), where it may not come
-    /// ([`Objection::MayNot`]), and where memory is wanting; the first of these is told. The hearing goes with a
-    /// refusal.
+    /// Reads the next event. Fails with the first of these that holds:
+    ///
+    /// - [`Objection::Behind`]: a letter left over was read before.
+    /// - [`Objection::Sinks`]: it does not follow the event before by stamp and desk.
+    /// - [`Objection::MayNot`]: it may not come next.
+    /// - [`Objection::Memory`]: there is no memory.
+    ///
+    /// If it fails, the hearing is dropped.
     pub fn hear(self, alloc: Global, stamped: Stamped) -> Result<Hearing, Objection>
         ensures { (heard : Heard) → IsHeard heard self → Hears heard stamped result }
     {
@@ -164,9 +168,9 @@ impl Hearing {
         }
     }
 
-    /// Is told of the next letter left over. It is refused where its desks are not those of its sender and its receiver
-    /// ([`Objection::OtherDesks`]), and where it is not the oldest on its way between the two, of which was not told
-    /// before ([`Objection::OtherLetter`]). Its stamp is not compared: a state keeps none.
+    /// Reads the next letter left over. Fails with [`Objection::OtherDesks`] if its desks are not those of its sender
+    /// and its receiver. Fails with [`Objection::OtherLetter`] if it is not the oldest letter in flight between the two
+    /// that was not read before. Its stamp is not compared: a state keeps none.
     pub fn tell(self, left: LeftOver) -> Result<Hearing, Objection>
         ensures { (heard : Heard) → IsHeard heard self → TellsLetter heard left result }
     {
@@ -185,7 +189,7 @@ impl Hearing {
         }
     }
 
-    /// One letter less is on its way.
+    /// Removes the oldest letter in flight between the two.
     fn without_oldest(self, from: Pid, to: Pid) -> Hearing
         ensures { IsWithout from to self result }
     {
@@ -207,7 +211,7 @@ impl Hearing {
         }
     }
 
-    /// What became of the process that was born as the one with this number, counted from 0, by the events heard.
+    /// What became of the process that was spawned as the one with this number, counted from 0, by the events read.
     pub fn standing(&self, number: usize) -> Option<Standing>
         ensures born { option_map (λ s. s.pid) result ≡ slice_get (keys_of self.now.state.lives) number }
         ensures told { (heard : Heard) → IsHeard heard self.now → StandingIsTrue heard result }
@@ -237,15 +241,15 @@ impl Hearing {
         }
     }
 
-    /// The first event that no node prints, if one was heard.
+    /// The first event that no node prints, if one was read.
     pub fn foreign(&self) -> Option<Foreign>
         ensures { (heard : Heard) → IsHeard heard self.now → IsOrigin heard.events result }
     {
         self.foreign
     }
 
-    /// The verdict, where nothing is on its way that was not told of; else the oldest that is
-    /// ([`Objection::Untold`]).
+    /// Returns the verdict. Fails with [`Objection::Untold`] if a letter is in flight that was not read, and names the
+    /// oldest.
     pub fn end(&self) -> Result<Verdict, Objection>
         ensures { (heard : Heard) → IsHeard heard self.now → EndsHearing heard result }
     {

@@ -8,7 +8,7 @@ use crate::{Hearing, Why};
 use pt_texts::{parse_left_over, parse_stamped};
 use std::alloc::Global;
 
-/// The line without the carriage return that it ends with, if it does.
+/// The line without a carriage return at its end, if it has one.
 fn bare(line: &[u8]) -> &[u8]
     ensures { result.now ≡ without_return line.now }
 {
@@ -27,7 +27,7 @@ fn further(one: usize, other: usize) -> usize
     if one < other { other } else { one }
 }
 
-/// Hears the event, or the letter left over, that the line is.
+/// Reads the event, or the letter left over, of the line.
 pub(crate) fn hear_line(alloc: Global, hearing: Hearing, line: &[u8]) -> Result<Hearing, Why>
     ensures { (heard : Heard) → IsHeard heard hearing → AuditHearsLine heard (without_return line.now) result }
 {

@@ -1,38 +1,38 @@
-//! Why something may not stand where it does in a history.
+//! Why something may not come at its place in a history.
 
 use pt_events::Stamped;
 use pt_judge::Cause;
 use pt_signal::{Item, Pid, Reason, Signal};
 
-/// What an event that may not come contradicts.
+/// What an event contradicts that may not come next.
 #[derive(Clone, Copy, Debug, PartialEq, Eq)]
 pub enum Contradiction {
-    /// The oldest signal on its way from the sender to the receiver of what came, if there is one.
+    /// The oldest signal in flight from the sender to the receiver, if there is one.
     Oldest(Option<Signal>),
-    /// The first waiting item that the pick fits, if there is one.
+    /// The first waiting item that matches the pick, if there is one.
     First(Option<Item>),
-    /// A process that is not alive, and why it ended; without a reason it was never born.
+    /// A process that is not alive, and why it exited. Without a reason it was never spawned.
     Dead(Pid, Option<Reason>),
-    /// Nothing that the cause does not say.
+    /// Nothing beside what the cause says.
     Nothing,
 }
 
-/// Why an event, or a letter left over, may not stand where it does.
+/// Why an event, or a letter left over, may not come at its place.
 #[derive(Clone, Copy, Debug, PartialEq, Eq)]
 pub enum Objection {
-    /// An event behind a letter left over.
+    /// An event comes after a letter left over.
     Behind,
-    /// The stamp, or the desk where the stamps are the same, is not above that of the event before, which is told.
+    /// The stamp, or the desk if the stamps are the same, is not above that of the event before, which this names.
     Sinks(Stamped),
-    /// The event may not come then, for the lowest cause that fits.
+    /// The event may not come next, for the lowest cause that holds.
     MayNot(Cause, Contradiction),
     /// The desks of a letter left over are not those of its sender and its receiver.
     OtherDesks,
-    /// A letter left over is not the oldest on its way between the two, of which no line has told; that is named, if
+    /// A letter left over is not the oldest in flight between the two that no line has named. This names that one, if
     /// there is one.
     OtherLetter(Option<Signal>),
-    /// A signal is on its way, from the first to the second, and no line tells of it.
+    /// A signal is in flight, from the first to the second, and no line names it.
     Untold(Pid, Pid, Signal),
-    /// There was no memory to judge an event that may come.
+    /// There was no memory to judge an event that may come next.
     Memory,
 }

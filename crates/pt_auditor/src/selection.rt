@@ -1,4 +1,4 @@
-//! Which events and which processes are printed.
+//! The events and processes that are printed.
 
 ghost use Rattle.std.specs.Prelude.{◌≡◌};
 ghost use Rattle.pt_auditor.specs.Selecting.{concerns, is_asked, is_asked_event, selects};
@@ -17,8 +17,8 @@ pub struct Selection {
     pub to: u64,
 }
 
-/// Whether the event is of the process, or of another that does it with this one: its parent, its child, who sends to
-/// it, or to whom it sends.
+/// Whether the event is of the process, or of another one together with it: its parent, its child, a sender to it, or a
+/// receiver from it.
 fn concerns(pid: Pid, event: Event) -> bool
     ensures { result ≡ concerns pid event }
 {

@@ -2,12 +2,12 @@
 
 use pt_signal::{Pid, Reason};
 
-/// What became of a process, as far as was heard.
+/// What became of a process, as far as the history was read.
 #[derive(Clone, Copy, Debug, PartialEq, Eq)]
 pub struct Standing {
     pub pid: Pid,
-    /// Why it ended; it is alive where there is none.
+    /// Why it exited. It is alive if there is none.
     pub ended: Option<Reason>,
-    /// How many items wait in its mailbox; none where it has ended.
+    /// The number of items that wait in its mailbox: none if it has exited.
     pub waiting: u64,
 }

@@ -1,4 +1,4 @@
-//! What is printed of verdicts, processes and faults.
+//! The texts of verdicts, processes and faults.
 
 #![tactic(auto, unfolding(crate::specs::Text::verdict_text, crate::specs::Text::verdict_text_of, crate::specs::Text::verdict_counts_text, crate::specs::Text::no_node_text, crate::specs::Text::foreign_text, crate::specs::Text::fate_text, crate::specs::Text::standing_text, crate::specs::Text::any_signal_text, crate::specs::Text::any_item_text, crate::specs::Text::absence_text, crate::specs::Text::contradiction_text, crate::specs::Text::objection_text, crate::specs::Text::line_fault_text, crate::specs::Text::fault_text,))]
 
@@ -14,11 +14,11 @@ struct AnySignal(Option<Signal>);
 #[derive(Clone, Copy)]
 struct AnyItem(Option<Item>);
 
-/// Why a process that is not alive is not.
+/// Why a process is not alive.
 #[derive(Clone, Copy)]
 struct Absence(Option<Reason>);
 
-/// Whether a process is alive, or the reason it ended with.
+/// Whether a process is alive, or the reason of its exit.
 #[derive(Clone, Copy)]
 struct Fate(Option<Reason>);
 

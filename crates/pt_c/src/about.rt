@@ -1,4 +1,4 @@
-//! What the library says of itself, so that a header or a wrapper can be compared with it.
+//! What the library reports of itself, so that a header or a wrapper can be compared with it.
 
 ghost use Rattle.std.specs.Prelude.{◌≡◌};
 ghost use Rattle.pt_c.specs.About.{all_codes, all_sizes, sample_event, sample_left_over, sample_turned, sample_account};
@@ -16,7 +16,7 @@ use pt_table::types::{
 };
 use std::mem::size_of;
 
-/// Each code of the library: the answers of calls, then the codes of the structs that have one.
+/// Each code of the library: those that calls return, then the codes of the structs that have one.
 #[repr(C)]
 #[derive(Clone, Copy)]
 pub struct PtCodes {
@@ -91,7 +91,7 @@ pub struct PtSizes {
     pub codes: usize,
 }
 
-/// Writes each code, from the same functions as the calls.
+/// Writes each code, by the same functions as the calls.
 #[unsafe(no_mangle)]
 pub extern "C" fn pt_about_codes(out: &mut PtCodes)
     ensures { out.new ≡ all_codes }
@@ -196,7 +196,7 @@ pub extern "C" fn pt_about_sizes(out: &mut PtSizes)
     };
 }
 
-/// Writes a sample of a event: its fields have the numbers 1, 2, 3 and so on in order, a bool being true.
+/// Writes a sample of an event: its fields have the numbers 1, 2, 3 and so on in order, and each bool is true.
 #[unsafe(no_mangle)]
 pub extern "C" fn pt_about_event(out: &mut PtEvent)
     ensures { out.new ≡ sample_event }
@@ -302,7 +302,8 @@ pub extern "C" fn pt_about_event(out: &mut PtEvent)
     };
 }
 
-/// Writes a sample of a letter left over: its fields have the numbers 1, 2, 3 and so on in order, a bool being true.
+/// Writes a sample of a letter left over: its fields have the numbers 1, 2, 3 and so on in order, and each bool is
+/// true.
 #[unsafe(no_mangle)]
 pub extern "C" fn pt_about_left_over(out: &mut PtLeftOver)
     ensures { out.new ≡ sample_left_over }
@@ -357,7 +358,7 @@ pub extern "C" fn pt_about_left_over(out: &mut PtLeftOver)
     };
 }
 
-/// Writes a sample of a turn: its fields have the numbers 1, 2, 3 and so on in order, a bool being true.
+/// Writes a sample of a turn: its fields have the numbers 1, 2, 3 and so on in order, and each bool is true.
 #[unsafe(no_mangle)]
 pub extern "C" fn pt_about_turned(out: &mut PtTurned)
     ensures { out.new ≡ sample_turned }
@@ -369,7 +370,7 @@ pub extern "C" fn pt_about_turned(out: &mut PtTurned)
     };
 }
 
-/// Writes a sample of a account: its fields have the numbers 1, 2, 3 and so on in order, a bool being true.
+/// Writes a sample of an account: its fields have the numbers 1, 2, 3 and so on in order, and each bool is true.
 #[unsafe(no_mangle)]
 pub extern "C" fn pt_about_account(out: &mut PtAccount)
     ensures { out.new ≡ sample_account }
@@ -383,7 +384,7 @@ pub extern "C" fn pt_about_account(out: &mut PtAccount)
     };
 }
 
-/// Writes a sample of a list of settings: its fields have the numbers 1, 2, 3 and so on in order, a bool being true.
+/// Writes a sample of settings: its fields have the numbers 1, 2, 3 and so on in order, and each bool is true.
 #[unsafe(no_mangle)]
 pub extern "C" fn pt_about_config(out: &mut PtConfig)
     ensures { out.new ≡ sample_config }

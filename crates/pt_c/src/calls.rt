@@ -1,6 +1,7 @@
 //! The calls of a desk.
 //!
-//! Each is the desk's call of that name, made on the desk that the handle has. 9 is answered where it has none.
+//! Each makes the desk's call of that name on the desk of the handle, and returns its code. It returns 9 if the handle
+//! has none.
 
 ghost use Rattle.std.specs.Prelude.{◌≡◌};
 ghost use Rattle.pt_table.specs.Answers.{CallsThrough, SpawnsOnDesk, SpawnsChild, SendsOnDesk, SendsExit, Links, Unlinks, WatchesOnDesk, UnwatchesOnDesk};
@@ -17,7 +18,7 @@ use pt_table::doing::{
 use pt_table::types::{PtBody, PtItem, PtPick, PtPid, PtReason, PtRef, PtTurned};
 use std::alloc::Global;
 
-/// Makes a process that no other one bears, as `Desk::spawn` does. Its pid goes to `out` where 0 is answered.
+/// Spawns a process without a parent, as `Desk::spawn` does. It writes the pid to `out` if it returns 0.
 #[unsafe(no_mangle)]
 pub extern "C" fn pt_spawn(alloc: Global, h: &mut DeskHandle, out: &mut PtPid) -> u32
     ensures { CallsThrough h.old.state h.new.state result (out.new ≡ out.old) (SpawnsOnDesk result out.old out.new) }
@@ -33,8 +34,8 @@ pub extern "C" fn pt_spawn(alloc: Global, h: &mut DeskHandle, out: &mut PtPid) -
     code
 }
 
-/// Makes a process that its parent bears, linked with it where that is asked, as `Desk::spawn_child` does. Its pid
-/// goes to `out` where 0 is answered.
+/// Spawns a child of the parent, linked with it if `linked` is true, as `Desk::spawn_child` does. It writes the pid to
+/// `out` if it returns 0.
 #[unsafe(no_mangle)]
 pub extern "C" fn pt_spawn_child(
     alloc: Global,
@@ -118,7 +119,7 @@ pub extern "C" fn pt_link(alloc: Global, h: &mut DeskHandle, p: PtPid, to: PtPid
     code
 }
 
-/// Takes the link of p with another process back, as `Desk::unlink` does.
+/// Removes the link of p with another process, as `Desk::unlink` does.
 #[unsafe(no_mangle)]
 pub extern "C" fn pt_unlink(alloc: Global, h: &mut DeskHandle, p: PtPid, to: PtPid) -> u32
     ensures { CallsThrough h.old.state h.new.state result (Unit {0}) (Unlinks (pid_crossed p) (pid_crossed to) result) }
@@ -134,7 +135,7 @@ pub extern "C" fn pt_unlink(alloc: Global, h: &mut DeskHandle, p: PtPid, to: PtP
     code
 }
 
-/// Watches a process, as `Desk::monitor` does. The reference goes to `out` where 0 is answered.
+/// Monitors a process, as `Desk::monitor` does. It writes the reference to `out` if it returns 0.
 #[unsafe(no_mangle)]
 pub extern "C" fn pt_monitor(
     alloc: Global,
@@ -157,7 +158,7 @@ pub extern "C" fn pt_monitor(
     code
 }
 
-/// Gives a monitor up, as `Desk::demonitor` does. Whether it wrote an event goes to `wrote` where 0 is answered.
+/// Cancels a monitor, as `Desk::demonitor` does. It writes to `wrote` whether there was an event, if it returns 0.
 #[unsafe(no_mangle)]
 pub extern "C" fn pt_demonitor(
     alloc: Global,
@@ -181,7 +182,7 @@ pub extern "C" fn pt_demonitor(
     code
 }
 
-/// Asks whether a process is alive, as `Desk::ask_alive` does. The reference goes to `out` where 0 is answered.
+/// Asks whether a process is alive, as `Desk::ask_alive` does. It writes the reference to `out` if it returns 0.
 #[unsafe(no_mangle)]
 pub extern "C" fn pt_ask_alive(
     alloc: Global,
@@ -204,7 +205,7 @@ pub extern "C" fn pt_ask_alive(
     code
 }
 
-/// Sets whether p traps exits, as `Desk::trap` does. Whether it did goes to `was` where 0 is answered.
+/// Sets whether p traps exits, as `Desk::trap` does. It writes to `was` whether p did before, if it returns 0.
 #[unsafe(no_mangle)]
 pub extern "C" fn pt_trap(
     alloc: Global,
@@ -226,8 +227,8 @@ pub extern "C" fn pt_trap(
     code
 }
 
-/// Takes the first item that fits, as `Desk::receive` does. It goes to `out` where 0 is answered; 8 says that nothing
-/// fits.
+/// Takes the first matching item, as `Desk::receive` does. It writes the item to `out` if it returns 0, and returns 8
+/// if no item matches.
 #[unsafe(no_mangle)]
 pub extern "C" fn pt_receive(
     alloc: Global,
@@ -250,7 +251,7 @@ pub extern "C" fn pt_receive(
     code
 }
 
-/// Ends p, as `Desk::exit` does.
+/// Makes p exit, as `Desk::exit` does.
 #[unsafe(no_mangle)]
 pub extern "C" fn pt_exit(alloc: Global, h: &mut DeskHandle, p: PtPid, reason: PtReason) -> u32
     ensures { CallsThrough h.old.state h.new.state result (Unit {0}) (Exits (pid_crossed p) (reason_in reason) result) }
@@ -266,8 +267,8 @@ pub extern "C" fn pt_exit(alloc: Global, h: &mut DeskHandle, p: PtPid, reason: P
     code
 }
 
-/// Posts letters, and then handles at most `budget` of them, as `Desk::turn` does. What it did goes to `out` where 0 is
-/// answered, and then `stopped` says what stopped it.
+/// Posts letters, and then handles at most `budget` letters, as `Desk::turn` does. It writes to `out` what it did if it
+/// returns 0, and `stopped` there says what stopped it.
 #[unsafe(no_mangle)]
 pub extern "C" fn pt_turn(alloc: Global, h: &mut DeskHandle, budget: u32, out: &mut PtTurned) -> u32
     ensures { CallsThrough h.old.state h.new.state result (out.new ≡ out.old)

@@ -1,8 +1,8 @@
-//! Opening a node, bringing its desks together, and settling it.
+//! Opening a node, gathering its desks, and settling it.
 
 ghost use Rattle.std.specs.Prelude.{◌≡◌, ◌≤◌, [], map, length, IfOk, cond};
 ghost use Rattle.std.specs.Vec.{vec_capacity};
-ghost use Rattle.pt_node.specs.Desks.{AreDesks};
+ghost use Rattle.pt_workers.specs.Desks.{AreDesks};
 ghost use Rattle.pt_table.specs.Answers.{value_behind, values};
 ghost use Rattle.pt_c.specs.Nodes.{OpensAs, OpensMany, AreAllFull, GathersAs, Joins, SettlesAs, GivesUp, HandleTells, Writes};
 ghost use Rattle.pt_c.specs.Nodes.{IsHistoryOf, IsQuietHistoryOf};
@@ -29,8 +29,8 @@ use std::alloc::{AllocError, Global};
 
 /// Opens a node: each handle gets one of its desks, in order, as `open` makes them.
 ///
-/// The handles must be empty: 10 is answered where one is not. 11 to 15 say which setting is out of its range, 11 that
-/// the number of handles is.
+/// The handles must be empty: it returns 10 if one is not. It returns 11 to 15 if a setting is out of its range; for 11
+/// this is the number of handles.
 #[unsafe(no_mangle)]
 pub extern "C" fn pt_open(alloc: Global, desks: &mut [DeskHandle], config: PtConfig) -> u32
     ensures { OpensAs config result (map (λ h. h.state) desks.old) (map (λ h. h.state) desks.new) }
@@ -69,12 +69,12 @@ fn open_many(alloc: Global, count: usize, config: PtConfig) -> Result<Vec<Desk>,
     )
 }
 
-/// Brings the desks of a node together, as `gather` does: `out` has the node then, and the handles of the desks are
+/// Brings the desks of a node together, as `gather` does. `out` has the node then, and the handles of the desks are
 /// empty.
 ///
-/// All handles must have a desk: 9 is answered where one has none, or where there is no handle; then they must be all
-/// desks of one `pt_open`, each once and in order. `out` must be empty: 10 is answered where it is not. Where 2 is
-/// answered, for want of memory, all desks are in their handles as they were.
+/// All handles must have a desk: it returns 9 if one has none, or there is no handle. Then they must be all desks of
+/// one `pt_open`, each once and in order. `out` must be empty: it returns 10 if it is not. If it returns 2, for want of
+/// memory, all desks are in their handles as they were.
 #[unsafe(no_mangle)]
 pub extern "C" fn pt_gather(
     alloc: Global,
@@ -135,11 +135,11 @@ fn gather_all(
     }
 }
 
-/// Settles the node, as `Gathered::settle` does: `out` has the settled node then, and the handle of the gathered one is
+/// Settles the node, as `Gathered::settle` does. `out` has the settled node then, and the handle of the gathered one is
 /// empty.
 ///
-/// `out` must be empty: 10 is answered where it is not. Where 2 or 3 is answered, the handle has the node with what was
-/// handled so far, and it may be settled again.
+/// `out` must be empty: it returns 10 if it is not. If it returns 2 or 3, the handle has the node with what was handled
+/// so far, and the node may be settled again.
 #[unsafe(no_mangle)]
 pub extern "C" fn pt_settle(alloc: Global, g: &mut GatheredHandle, out: &mut QuietHandle) -> u32
     ensures { SettlesAs result g.old.state g.new.state out.old.state out.new.state }
@@ -166,8 +166,8 @@ pub extern "C" fn pt_settle(alloc: Global, g: &mut GatheredHandle, out: &mut Qui
     }
 }
 
-/// Gives a desk up, with its processes, its journal and the letters in it: the handle is empty, and the memory is given
-/// back.
+/// Gives up a desk, with its processes, its journal and the letters in it. The handle is empty then, and the memory is
+/// freed.
 #[unsafe(no_mangle)]
 pub extern "C" fn pt_give_up(alloc: Global, h: &mut DeskHandle) -> u32
     ensures { GivesUp result h.old.state h.new.state }
@@ -178,7 +178,7 @@ pub extern "C" fn pt_give_up(alloc: Global, h: &mut DeskHandle) -> u32
     }
 }
 
-/// Gives a gathered node up.
+/// Gives up a gathered node.
 #[unsafe(no_mangle)]
 pub extern "C" fn pt_gathered_give_up(alloc: Global, g: &mut GatheredHandle) -> u32
     ensures { GivesUp result g.old.state g.new.state }
@@ -189,7 +189,7 @@ pub extern "C" fn pt_gathered_give_up(alloc: Global, g: &mut GatheredHandle) -> 
     }
 }
 
-/// Gives a settled node up.
+/// Gives up a settled node.
 #[unsafe(no_mangle)]
 pub extern "C" fn pt_quiet_give_up(alloc: Global, q: &mut QuietHandle) -> u32
     ensures { GivesUp result q.old.state q.new.state }
@@ -200,7 +200,7 @@ pub extern "C" fn pt_quiet_give_up(alloc: Global, q: &mut QuietHandle) -> u32
     }
 }
 
-/// Gives a history up.
+/// Gives up a history.
 #[unsafe(no_mangle)]
 pub extern "C" fn pt_history_give_up(alloc: Global, h: &mut HistoryHandle) -> u32
     ensures { GivesUp result h.old.state h.new.state }
@@ -217,9 +217,9 @@ fn end_code(full: bool) -> u32
     if full { DONE } else { EMPTY }
 }
 
-/// The history of a gathered node, as `Gathered::history` and `Gathered::left_over` tell it: `out` has it then.
+/// The history of a gathered node, as `Gathered::history` and `Gathered::left_over` return it. `out` has it then.
 ///
-/// `out` must be empty: 10 is answered where it is not.
+/// `out` must be empty: it returns 10 if it is not.
 #[unsafe(no_mangle)]
 pub extern "C" fn pt_gathered_history(
     alloc: Global,
@@ -267,9 +267,9 @@ fn history_of(gathered: &Gathered) -> Result<History, AllocError>
     })
 }
 
-/// The history of a settled node, as `Quiet::history` tells it: `out` has it then, with no letter left over.
+/// The history of a settled node, as `Quiet::history` returns it. `out` has it then, with no letter left over.
 ///
-/// `out` must be empty: 10 is answered where it is not.
+/// `out` must be empty: it returns 10 if it is not.
 #[unsafe(no_mangle)]
 pub extern "C" fn pt_quiet_history(
     alloc: Global,

@@ -1,6 +1,6 @@
-//! What a desk, a gathered node, a settled node and a history tell. Nothing changes.
+//! Reading a desk, a gathered node, a settled node and a history. Nothing changes.
 //!
-//! 9 is answered where the handle has nothing, and 8 where there is nothing of what was asked for.
+//! A call returns 9 if the handle is empty, and 8 if what was asked for is not there.
 
 ghost use Rattle.std.specs.Prelude.{◌≡◌, length, reverse, slice_get};
 ghost use Rattle.pt_shard.specs.ShardState.{lives};
@@ -62,7 +62,7 @@ pub extern "C" fn pt_number(alloc: Global, h: &mut DeskHandle, out: &mut u8) -> 
     code
 }
 
-/// Whether p lives on the desk.
+/// Whether p is alive on the desk.
 #[unsafe(no_mangle)]
 pub extern "C" fn pt_alive(alloc: Global, h: &mut DeskHandle, p: PtPid, out: &mut bool) -> u32
     ensures { ReadsThrough h.old.state h.new.state result (out.new ≡ out.old)
@@ -82,7 +82,7 @@ pub extern "C" fn pt_alive(alloc: Global, h: &mut DeskHandle, p: PtPid, out: &mu
     code
 }
 
-/// Whether p may be the target of a call: calls whose target it is not answer 7.
+/// Whether p may be the target of a call. If it may not, calls with this target return 7.
 #[unsafe(no_mangle)]
 pub extern "C" fn pt_knows(alloc: Global, h: &mut DeskHandle, p: PtPid, out: &mut bool) -> u32
     ensures { ReadsThrough h.old.state h.new.state result (out.new ≡ out.old)
@@ -102,7 +102,7 @@ pub extern "C" fn pt_knows(alloc: Global, h: &mut DeskHandle, p: PtPid, out: &mu
     code
 }
 
-/// How many letters wait in the outbox and the hold.
+/// The number of letters that wait in the outbox and the hold.
 #[unsafe(no_mangle)]
 pub extern "C" fn pt_pending(alloc: Global, h: &mut DeskHandle, out: &mut u64) -> u32
     ensures { ReadsThrough h.old.state h.new.state result (out.new ≡ out.old) (λ d. (result ≡ 0) × (out.new ≡ pending_in d)) }
@@ -121,7 +121,7 @@ pub extern "C" fn pt_pending(alloc: Global, h: &mut DeskHandle, out: &mut u64) -
     code
 }
 
-/// The pid that the next birth has; 8 where no slot is free.
+/// The pid that the next process spawned here will have; 8 if no slot is free.
 #[unsafe(no_mangle)]
 pub extern "C" fn pt_vacant(alloc: Global, h: &mut DeskHandle, out: &mut PtPid) -> u32
     ensures { ReadsThrough h.old.state h.new.state result (out.new ≡ out.old)
@@ -138,7 +138,7 @@ pub extern "C" fn pt_vacant(alloc: Global, h: &mut DeskHandle, out: &mut PtPid) 
     code
 }
 
-/// How many items wait in the mailbox of p; 8 where it does not live on the desk.
+/// The number of items that wait in the mailbox of p; 8 if p is not alive on the desk.
 #[unsafe(no_mangle)]
 pub extern "C" fn pt_waiting(alloc: Global, h: &mut DeskHandle, p: PtPid, out: &mut usize) -> u32
     ensures { ReadsThrough h.old.state h.new.state result (out.new ≡ out.old)
@@ -155,7 +155,7 @@ pub extern "C" fn pt_waiting(alloc: Global, h: &mut DeskHandle, p: PtPid, out: &
     code
 }
 
-/// The item at this place in the mailbox of p, 0 the oldest, which stays there; 8 where there is none.
+/// The item at this place in the mailbox of p, 0 the oldest, which stays there; 8 if there is none.
 #[unsafe(no_mangle)]
 pub extern "C" fn pt_peek(
     alloc: Global,
@@ -178,7 +178,7 @@ pub extern "C" fn pt_peek(
     code
 }
 
-/// The ids under which p is linked with another process, by p's own half of the link; 8 where there are none.
+/// The ids under which p is linked with another process, by p's own half of the link; 8 if there are none.
 #[unsafe(no_mangle)]
 pub extern "C" fn pt_linked(
     alloc: Global,
@@ -201,7 +201,7 @@ pub extern "C" fn pt_linked(
     code
 }
 
-/// How many events the desk's journal has.
+/// The number of events of the desk's journal.
 #[unsafe(no_mangle)]
 pub extern "C" fn pt_event_count(alloc: Global, h: &mut DeskHandle, out: &mut usize) -> u32
     ensures { ReadsThrough h.old.state h.new.state result (out.new ≡ out.old)
@@ -221,7 +221,7 @@ pub extern "C" fn pt_event_count(alloc: Global, h: &mut DeskHandle, out: &mut us
     code
 }
 
-/// The event at this place of the desk's journal, 0 the oldest; 8 where there is none.
+/// The event at this place of the desk's journal, 0 the oldest; 8 if there is none.
 #[unsafe(no_mangle)]
 pub extern "C" fn pt_event_at(
     alloc: Global,
@@ -243,7 +243,7 @@ pub extern "C" fn pt_event_at(
     code
 }
 
-/// How many desks the node has.
+/// The number of desks of the node.
 #[unsafe(no_mangle)]
 pub extern "C" fn pt_gathered_desks(alloc: Global, g: &mut GatheredHandle, out: &mut u8) -> u32
     ensures { ReadsThrough g.old.state g.new.state result (out.new ≡ out.old)
@@ -263,7 +263,7 @@ pub extern "C" fn pt_gathered_desks(alloc: Global, g: &mut GatheredHandle, out: 
     code
 }
 
-/// How many desks the settled node has.
+/// The number of desks of the settled node.
 #[unsafe(no_mangle)]
 pub extern "C" fn pt_quiet_desks(alloc: Global, q: &mut QuietHandle, out: &mut u8) -> u32
     ensures { ReadsThrough q.old.state q.new.state result (out.new ≡ out.old)
@@ -283,7 +283,7 @@ pub extern "C" fn pt_quiet_desks(alloc: Global, q: &mut QuietHandle, out: &mut u
     code
 }
 
-/// How many letters settling handled.
+/// The number of letters that settling handled.
 #[unsafe(no_mangle)]
 pub extern "C" fn pt_quiet_handled(alloc: Global, q: &mut QuietHandle, out: &mut u64) -> u32
     ensures { ReadsThrough q.old.state q.new.state result (out.new ≡ out.old) (λ d. (result ≡ 0) × (out.new ≡ d.handled)) }
@@ -302,7 +302,7 @@ pub extern "C" fn pt_quiet_handled(alloc: Global, q: &mut QuietHandle, out: &mut
     code
 }
 
-/// How many processes were ever born.
+/// The number of processes ever spawned.
 #[unsafe(no_mangle)]
 pub extern "C" fn pt_quiet_pid_count(alloc: Global, q: &mut QuietHandle, out: &mut usize) -> u32
     ensures { ReadsThrough q.old.state q.new.state result (out.new ≡ out.old) (λ d. TellsCount d result out.new) }
@@ -318,7 +318,7 @@ pub extern "C" fn pt_quiet_pid_count(alloc: Global, q: &mut QuietHandle, out: &m
     code
 }
 
-/// The pid at this place among all that were ever born, by shard, slot and version; 8 where there is none.
+/// The pid at this place among all ever spawned, by shard, slot and version; 8 if there is none.
 #[unsafe(no_mangle)]
 pub extern "C" fn pt_quiet_pid_at(
     alloc: Global,
@@ -339,7 +339,7 @@ pub extern "C" fn pt_quiet_pid_at(
     code
 }
 
-/// What became of p, as `Quiet::account` tells it; 8 where it was never born.
+/// What became of p, as `Quiet::account` returns it; 8 if it was never spawned.
 #[unsafe(no_mangle)]
 pub extern "C" fn pt_quiet_account(
     alloc: Global,
@@ -361,7 +361,7 @@ pub extern "C" fn pt_quiet_account(
     code
 }
 
-/// The ids under which p is linked with another process, or was just after its own end; 8 where there are none.
+/// The ids under which p is linked with another process, or was just after its own exit; 8 if there are none.
 #[unsafe(no_mangle)]
 pub extern "C" fn pt_quiet_linked(
     alloc: Global,
@@ -384,7 +384,7 @@ pub extern "C" fn pt_quiet_linked(
     code
 }
 
-/// Whether a process keeps a watch of this reference, or did just after its own end.
+/// Whether a process keeps a watch of this reference, or did just after its own exit.
 #[unsafe(no_mangle)]
 pub extern "C" fn pt_quiet_kept(
     alloc: Global,
@@ -430,7 +430,7 @@ pub extern "C" fn pt_quiet_watching(
     code
 }
 
-/// How many events the history has.
+/// The number of events of the history.
 #[unsafe(no_mangle)]
 pub extern "C" fn pt_history_count(alloc: Global, h: &mut HistoryHandle, out: &mut usize) -> u32
     ensures { ReadsThrough h.old.state h.new.state result (out.new ≡ out.old)
@@ -450,7 +450,7 @@ pub extern "C" fn pt_history_count(alloc: Global, h: &mut HistoryHandle, out: &m
     code
 }
 
-/// The event at this place of the history, 0 the first; 8 where there is none.
+/// The event at this place of the history, 0 the first; 8 if there is none.
 #[unsafe(no_mangle)]
 pub extern "C" fn pt_history_at(
     alloc: Global,
@@ -472,7 +472,7 @@ pub extern "C" fn pt_history_at(
     code
 }
 
-/// How many letters are left over at the end of the history.
+/// The number of letters left over at the end of the history.
 #[unsafe(no_mangle)]
 pub extern "C" fn pt_history_left_count(
     alloc: Global,
@@ -495,7 +495,7 @@ pub extern "C" fn pt_history_left_count(
     code
 }
 
-/// The letter at this place among those left over; 8 where there is none.
+/// The letter at this place among those left over; 8 if there is none.
 #[unsafe(no_mangle)]
 pub extern "C" fn pt_history_left_at(
     alloc: Global,
@@ -517,13 +517,13 @@ pub extern "C" fn pt_history_left_at(
     code
 }
 
-/// The next process to which a signal came, or that ended by its own exit, from the event at place `at` of the journal
-/// on. `at` is then one place behind that event; 8 is answered where there is no such event any more, and then `at` is
-/// behind the newest.
+/// The next process that got a signal, or exited by its own call, from the event at place `at` of the journal on. `at`
+/// is then the place after that event. It returns 8 if there is no such event any more, and then `at` is after the
+/// newest.
 ///
-/// So a caller that keeps `at` is told of each such event once. Nobody who got an item or ended is missed: by every
-/// event only the process that is named for it may get an item or end. A named one need not have got any, since a
-/// signal may queue nothing.
+/// So a caller that keeps `at` gets each such event once. No process that got an item or exited is missed: by every
+/// event only the process that is returned for it may get an item or exit. A returned one need not have got an item,
+/// since a signal may queue nothing.
 #[unsafe(no_mangle)]
 #[tactic(auto, using(pt_table::proofs::Waking::nobody_is_missed))]
 pub extern "C" fn pt_next_woken(

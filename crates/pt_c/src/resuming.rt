@@ -1,4 +1,4 @@
-//! Going on from a settled node.
+//! Resuming a settled node.
 
 ghost use Rattle.std.specs.Prelude.{◌≡◌, length, map};
 ghost use Rattle.std.specs.Option.{option_map};
@@ -12,12 +12,12 @@ use pt_table::quiet_handle::{QuietHandle, claim, filled, hold, take_out};
 use pt_table::rows::{count_full, fill_all, spare_places};
 use std::alloc::Global;
 
-/// Goes on from a settled node, as `resume` does: each handle gets one of its desks, in order, with an empty journal
-/// over what was left behind, and the handle of the settled node is empty.
+/// Continues from a settled node, as `resume` does. Each handle gets one of its desks, in order, with an empty journal
+/// over what was left, and the handle of the settled node is empty then.
 ///
-/// 9 is answered where there is no settled node. The handles must be empty, and as many as the node has desks: 10 is
-/// answered where one is not, then 11 where there are more or fewer. Where 2 is answered, for want of memory, the
-/// settled node is in its handle as it was.
+/// It returns 9 if there is no settled node. The handles must be empty, and as many as the node has desks: it returns
+/// 10 if one is not empty, else 11 if there are more or fewer. If it returns 2, for want of memory, the settled node is
+/// in its handle as it was.
 #[unsafe(no_mangle)]
 pub extern "C" fn pt_resume(alloc: Global, q: &mut QuietHandle, desks: &mut [DeskHandle]) -> u32
     ensures { ResumesAs result q.old.state q.new.state (map (λ h. h.state) desks.old) (map (λ h. h.state) desks.new) }
@@ -47,7 +47,7 @@ pub extern "C" fn pt_resume(alloc: Global, q: &mut QuietHandle, desks: &mut [Des
     }
 }
 
-/// How many desks the settled node has, where there is one.
+/// The number of desks of the settled node, if there is one.
 fn desk_count(alloc: Global, q: &mut QuietHandle) -> Option<usize>
     ensures same { q.new.state ≡ q.old.state }
     ensures count { result ≡ option_map (λ d. length d.gathered.shards) (value_behind q.old.state) }

@@ -19,7 +19,7 @@ use pt_signal::Letter;
 use std::marker::Model;
 use thiserror::Error;
 
-/// The ends of a desk's lanes by which it posts, one to each desk.
+/// The ends by which a desk posts, one for each lane to a desk.
 ///
 /// They cannot be dropped: [`reunite`](crate::reunite) takes them.
 pub struct Outs {
@@ -36,7 +36,7 @@ impl Model for Outs {
         × GoOutFrom o.number o.lanes.items };
 }
 
-/// The ends of a desk's lanes by which it collects, one from each desk.
+/// The ends by which a desk collects, one for each lane from a desk.
 ///
 /// They cannot be dropped: [`reunite`](crate::reunite) takes them.
 pub struct Ins {
@@ -54,10 +54,10 @@ impl Model for Ins {
         × (i.cursor < length i.lanes.items) × ComeInTo i.number i.lanes.items };
 }
 
-/// Why a letter is refused.
+/// Why a letter was not posted.
 #[derive(Clone, Copy, Debug, PartialEq, Eq, Error)]
 pub enum PostCause {
-    /// Its lane has no place left.
+    /// Its lane has no free place.
     #[error("the lane is full")]
     Full,
 }
@@ -66,13 +66,13 @@ pub enum PostCause {
 #[derive(Clone, Copy, Debug, PartialEq, Eq, Error)]
 #[error("letter refused: {cause}")]
 pub struct Refused {
-    /// Why it was not.
+    /// Why it was not posted.
     pub cause: PostCause,
     /// The letter, as it was to be posted.
     pub letter: Letter,
 }
 
-/// The desk after desk `d`, round the node. It divides nothing, since a collect takes this step for each letter.
+/// The desk after desk `d`, round the node. It avoids a division, since a collect takes this step for each letter.
 fn next_desk(d: u8, desks: usize) -> u8
     requires { (d < desks) × (desks ≤ MAX_DESKS) }
     ensures { result ≡ (d + 1) % desks }
@@ -94,9 +94,9 @@ impl Outs {
 
     /// Posts a letter from a process of this desk to one of desk `to`.
     ///
-    /// The letter goes behind all that were posted there before. It is handed back, and nothing is posted, only
-    /// where the lane is full (`Full`): the letters posted to that desk, less those that this end knows to be
-    /// collected, number the capacity, after it has looked again. Takes no memory and waits for nobody.
+    /// The letter comes after all that were posted there before. Fails with the letter and `Full`, and posts nothing,
+    /// only if the lane is full. Then, after another look, the letters posted to that desk less those that this end
+    /// knows to be collected are as many as the capacity. It takes no memory, and waits for no thread.
     #[inline(always)]
     pub fn post(&mut self, to: u8, letter: Letter) -> Result<(), Refused>
         requires to { to < length self.old.place.rings }
@@ -121,11 +121,11 @@ impl Outs {
         Ok(())
     }
 
-    /// Whether the lane to desk `to` is full: the letters posted to that desk, less those that this end knows to be
-    /// collected, number the capacity, after it has looked again.
+    /// Whether the lane to desk `to` is full. Then, after another look, the letters posted to that desk less those that
+    /// this end knows to be collected are as many as the capacity.
     ///
-    /// With `post_reserved` it is what `post` does, for a caller that takes a letter only where there is a place for
-    /// it. Takes no memory and waits for nobody.
+    /// This and `post_reserved` together do what `post` does, for a caller that takes a letter only if there is a place
+    /// for it. It takes no memory, and waits for no thread.
     #[inline(always)]
     pub fn is_full(&mut self, to: u8) -> bool
         requires { to < length self.old.place.rings }
@@ -139,7 +139,7 @@ impl Outs {
         self.lanes[usize::from(to)].is_full()
     }
 
-    /// Posts a letter as `post` does, where the lane is known to have a place for it.
+    /// Posts a letter as `post` does, if the lane is known to have a place for it.
     #[inline(always)]
     pub fn post_reserved(&mut self, to: u8, letter: Letter)
         requires to { to < length self.old.place.rings }
@@ -153,11 +153,12 @@ impl Outs {
         self.lanes[usize::from(to)].post_reserved(letter);
     }
 
-    /// Posts as many of the letters, from the first on, as the lane to desk `to` has places for, and says how many.
+    /// Posts as many of the letters, from the first on, as the lane to desk `to` has places for, and returns their
+    /// number.
     ///
-    /// They go behind all that were posted there before, in their order, by one step of the ring for all of them: it
-    /// costs less than as many times `post`, and they show at the other end together. Where it is fewer than there
-    /// are, the lane is full, after it has been looked at again. Takes no memory and waits for nobody.
+    /// They come after all that were posted there before, in their order. One step of the ring posts them all: it costs
+    /// less than as many calls of `post`, and they show at the other end together. If it is fewer than there are, the
+    /// lane is full, after another look. It takes no memory, and waits for no thread.
     #[inline(always)]
     pub fn post_run(&mut self, to: u8, letters: &[Letter]) -> usize
         requires to { to < length self.old.place.rings }
@@ -172,7 +173,7 @@ impl Outs {
         self.lanes[usize::from(to)].post_run(letters)
     }
 
-    /// How many letters were posted to desk `to`, staying at `u64::MAX` once it is reached.
+    /// The number of letters posted to desk `to`, staying at `u64::MAX` once it is reached.
     pub fn posted(&self, to: u8) -> u64
         requires { to < length self.now.place.rings }
         ensures { result ≡ min (length (slice_index_or self.now.posted to [])) (2 ^ 64 - 1) }
@@ -182,10 +183,10 @@ impl Outs {
 
     /// Gives up the ends of a desk, for a node that is given up whole.
     ///
-    /// The node can then never be reunited, since that takes the ends of every desk; so nothing that is claimed of a
-    /// reunited or gathered node holds of it. The other desks' ends go on: what they post to this desk stays in its
-    /// lane, and is refused once the lane is full. It is public because the node that gives its desks up stands in
-    /// a crate above; a program that keeps its node has no use for it.
+    /// The node can then never be reunited, since that takes the ends of every desk. So no promise about a reunited or
+    /// gathered node holds for it. The other desks' ends still work: what they post to this desk stays in its lane, and
+    /// posting fails once the lane is full. It is public because the node that gives up its desks is in a crate above.
+    /// A program that keeps its node has no use for it.
     pub fn close(self) {
         let Outs {
             number: _,
@@ -206,12 +207,13 @@ impl Ins {
         }
     }
 
-    /// Collects a letter, and tells from which desk it came.
+    /// Collects a letter, and returns it with the desk that it is from.
     ///
-    /// The lanes are looked at from the cursor upwards and round. The first that shows a letter gives its oldest,
-    /// and the cursor goes to the desk after that one; it begins at desk 0. The answer is `None` only where this end
-    /// knows no letter of any lane, and the cursor then stays. Takes no memory and waits for nobody. It is `next_from`
-    /// and then `take`; with `front` between them a caller has the letter by reference, before it is moved.
+    /// It looks at the lanes from the cursor upwards and round. It takes the oldest letter of the first lane that shows
+    /// one, and the cursor moves to the desk after that one; it begins at desk 0. It returns `None` only if this end
+    /// knows no letter of any lane, and the cursor then stays. It takes no memory, and waits for no thread. It is
+    /// `next_from` followed by `take`; with `front` between them a caller has the letter by reference, before it is
+    /// moved.
     #[inline(always)]
     pub fn collect(&mut self) -> Option<(u8, Letter)>
         ensures place { self.new.place ≡ self.old.place }
@@ -228,11 +230,10 @@ impl Ins {
         Some((d, letter))
     }
 
-    /// The desk from whose lane the next letter is to be collected: the first from the cursor upwards and round whose
-    /// lane shows one.
+    /// The desk of the next letter to be collected: the first from the cursor upwards and round whose lane shows a
+    /// letter.
     ///
-    /// Nothing is collected, and the cursor stays. The answer is `None` only where this end knows no letter of any
-    /// lane.
+    /// Nothing is collected, and the cursor stays. It returns `None` only if this end knows no letter of any lane.
     #[inline(always)]
     pub fn next_from(&mut self) -> Option<u8>
         ensures same { (self.new.place ≡ self.old.place) × (self.new.cursor ≡ self.old.cursor)
@@ -248,7 +249,7 @@ impl Ins {
         self.first_among(0, cursor)
     }
 
-    /// The same, of the desks from `low` up to below `high`.
+    /// The same, among the desks from `low` up to below `high`.
     #[inline(always)]
     fn first_among(&mut self, low: usize, high: usize) -> Option<u8>
         requires { (low ≤ high) × (high ≤ length self.old.place.rings) }
@@ -270,9 +271,9 @@ impl Ins {
 
     /// The oldest letter that is known to wait in the lane from desk `from`, in its place.
     ///
-    /// It is the one that `take` gives. The answer is `None` only where it does not name the two desks of its lane.
-    /// Every letter that was posted names them, but the end that receives cannot see that, and no clause says when;
-    /// so a caller has to go on by `front_addressed`.
+    /// It is the one that `take` returns. It returns `None` only if the letter does not name the two desks of its lane.
+    /// Every letter that was posted names them, but the receiving end cannot see that, and no clause says when. So a
+    /// caller must continue with `front_addressed` then.
     #[inline(always)]
     pub fn front(&self, from: u8) -> Option<&Letter>
         requires { (from < length self.now.place.rings) × (0 < length (slice_index_or self.now.known from [])) }
@@ -293,7 +294,7 @@ impl Ins {
 
     /// Collects the oldest letter that is known to wait in the lane from desk `from`.
     ///
-    /// The cursor goes to the desk after that one.
+    /// The cursor moves to the desk after that one.
     #[inline(always)]
     pub fn take(&mut self, from: u8) -> Letter
         requires { (from < length self.old.place.rings) × (0 < length (slice_index_or self.old.known from [])) }
@@ -309,9 +310,9 @@ impl Ins {
         letter
     }
 
-    /// Lets the oldest letter that is known to wait in the lane from desk `from` go, as `take` does, but moves nothing.
+    /// Removes the oldest letter that is known to wait in the lane from desk `from`, as `take` does, but moves nothing.
     ///
-    /// It is for a caller that is done with what `front` showed: to move a letter out costs as much as to handle it.
+    /// It is for a caller that is done with what `front` showed: moving a letter out costs as much as handling it.
     #[inline(always)]
     pub fn pass(&mut self, from: u8)
         requires { (from < length self.old.place.rings) × (0 < length (slice_index_or self.old.known from [])) }
@@ -323,7 +324,7 @@ impl Ins {
         self.cursor = next_desk(from, self.lanes.len());
     }
 
-    /// How many letters were collected from desk `from`, staying at `u64::MAX` once it is reached.
+    /// The number of letters collected from desk `from`, staying at `u64::MAX` once it is reached.
     pub fn collected(&self, from: u8) -> u64
         requires { from < length self.now.place.rings }
         ensures { result ≡ min (length (slice_index_or self.now.collected from [])) (2 ^ 64 - 1) }
@@ -331,10 +332,10 @@ impl Ins {
         self.lanes[usize::from(from)].collected()
     }
 
-    /// Looks at the lane from the other desk, from both its ends.
+    /// Looks at the lane from the other desk, from both of its ends.
     ///
-    /// This end then knows each letter that stands in the lane, and the other end knows how many were collected; of
-    /// the other lanes nothing more is known. It is for whoever has both desks, and takes no memory.
+    /// This end then knows each letter in the lane, and the other end knows how many were collected. They know no more
+    /// of other lanes than before. It is for a caller that has both desks, and takes no memory.
     pub fn meet(&mut self, outs: &mut Outs)
         requires { Meets outs.old self.old }
         ensures { HaveMet outs.old self.old outs.new self.new }
@@ -344,7 +345,7 @@ impl Ins {
         self.lanes[from].meet(&mut outs.lanes[to]);
     }
 
-    /// How many letters from that desk are known to wait.
+    /// The number of letters from that desk that are known to wait.
     pub(crate) fn known(&self, from: usize) -> usize
         requires { from < length self.now.place.rings }
         ensures { result ≡ length (slice_index_or self.now.known from []) }
@@ -377,7 +378,7 @@ impl Ins {
 
     /// Gives up the ends of a desk, for a node that is given up whole: the other half of [`Outs::close`].
     ///
-    /// The letters that stand in their lanes are lost once both ends of a lane are given up.
+    /// The letters in a lane are lost once both of its ends are given up.
     pub fn close(self) {
         let Ins {
             number: _,

@@ -1,4 +1,4 @@
-//! One lane: a ring with an end that sends and an end that receives.
+//! One lane: a ring with a sending end and a receiving end.
 
 ghost use Rattle.std.specs.Prelude.{◌≡◌, ◌↔◌, ◌+◌, ◌-◌, ◌^◌, ◌<◌, ◌≤◌, min, vec_len, length, map, [], ◌∷◌, ◌++◌, take};
 ghost use Rattle.std.specs.Prelude.{IsTrue, IfOk, IfSome, false};
@@ -15,7 +15,7 @@ use rtrb::{Consumer, Producer, RingBuffer};
 use std::alloc::{AllocError, Global};
 use std::marker::Model;
 
-/// The end that sends.
+/// The sending end.
 #[derive(Drop)]
 pub(crate) struct OutLane {
     ring: Producer<Letter>,
@@ -40,7 +40,7 @@ impl Model for OutLane {
         × (producer_capacity a.ring ≤ length (sent a.ring) + known_free a.ring) × (0 < producer_capacity a.ring) };
 }
 
-/// The end that receives.
+/// The receiving end.
 #[derive(Drop)]
 pub(crate) struct InLane {
     ring: Consumer<Letter>,
@@ -64,7 +64,7 @@ impl Model for InLane {
 }
 
 impl OutLane {
-    /// Whether no place is free. What is known already is asked first, which leaves the other end's memory alone.
+    /// Whether no place is free. It asks first what is known already, which leaves the other end's memory alone.
     #[inline(always)]
     pub(crate) fn is_full(&mut self) -> bool
         ensures same { (self.new.ring ≡ self.old.ring) × (self.new.from ≡ self.old.from) × (self.new.to ≡ self.old.to)
@@ -90,9 +90,9 @@ impl OutLane {
         self.count = self.count.saturating_add(1);
     }
 
-    /// Posts as many of the letters, from the first on, as there are places for, and says how many.
+    /// Posts as many of the letters, from the first on, as there are places for, and returns their number.
     ///
-    /// All of them show at the other end at once, where one letter after the other would each be shown alone.
+    /// All of them show at the other end at once. Posted one after the other, each would be shown alone.
     #[inline(always)]
     pub(crate) fn post_run(&mut self, letters: &[Letter]) -> usize
         requires { AllGo self.old.from self.old.to letters.now }
@@ -110,7 +110,7 @@ impl OutLane {
         count
     }
 
-    /// How many letters were posted.
+    /// The number of letters posted.
     pub(crate) fn posted(&self) -> u64
         ensures { result ≡ min (length self.now.posted) (2 ^ 64 - 1) }
     {
@@ -119,7 +119,7 @@ impl OutLane {
 }
 
 impl InLane {
-    /// Whether a letter shows. What is known already is asked first, which leaves the other end's memory alone.
+    /// Whether a letter shows. It asks first what is known already, which leaves the other end's memory alone.
     #[inline(always)]
     pub(crate) fn shows(&mut self) -> bool
         ensures same { (self.new.ring ≡ self.old.ring) × (self.new.from ≡ self.old.from) × (self.new.to ≡ self.old.to)
@@ -130,15 +130,15 @@ impl InLane {
         !self.ring.is_empty()
     }
 
-    /// How many letters were collected.
+    /// The number of letters collected.
     pub(crate) fn collected(&self) -> u64
         ensures { result ≡ min (length self.now.collected) (2 ^ 64 - 1) }
     {
         self.count
     }
 
-    /// Looks at the lane beside its other end, from both ends: what was posted is what was collected, then what is
-    /// known, and the end that sends knows all that was collected.
+    /// Looks at the lane from both of its ends. Then the letters posted are those collected, followed by those known,
+    /// and the sending end knows all that were collected.
     pub(crate) fn meet(&mut self, other: &mut OutLane)
         requires { (other.old.ring ≡ self.old.ring) × (other.old.from ≡ self.old.from) × (other.old.to ≡ self.old.to) }
         ensures same { (self.new.ring ≡ self.old.ring) × (self.new.from ≡ self.old.from) × (self.new.to ≡ self.old.to)
@@ -154,7 +154,7 @@ impl InLane {
         self.ring.slots_beside(&mut other.ring);
     }
 
-    /// How many letters are known to wait.
+    /// The number of letters that are known to wait.
     pub(crate) fn known(&self) -> usize
         ensures { result ≡ length self.now.known }
     {
@@ -190,7 +190,7 @@ impl InLane {
         letter
     }
 
-    /// Lets the oldest letter that is known to wait go. It is not moved out of its place.
+    /// Removes the oldest letter that is known to wait. It is not moved out of its place.
     #[inline(always)]
     pub(crate) fn pass(&mut self)
         requires { 0 < length self.old.known }

@@ -1,4 +1,4 @@
-//! All lanes of a node are made.
+//! Making all lanes of a node.
 
 ghost use Rattle.std.specs.Prelude.{◌≡◌, ℕ, ◌<◌, ◌≤◌, length, map, [], ◌∷◌, ◌++◌, IfOk, slice_index_or, vec_len};
 ghost use Rattle.pt_carrier.specs.Lanes.{Sending, new_sending, new_receiving};
@@ -12,9 +12,9 @@ use crate::lane::{self, InLane, OutLane};
 use std::alloc::{AllocError, Global};
 use std::mem;
 
-/// Makes the lanes among `desks` desks, each for `capacity` letters, and gives the ends of each desk in order.
+/// Makes the lanes among `desks` desks, each for `capacity` letters, and returns the ends of each desk in order.
 ///
-/// Memory is the only refusal; all that was made is then given back.
+/// Fails only if there is no memory; all that was made is then freed.
 pub fn open(alloc: Global, desks: u8, capacity: u32) -> Result<Vec<(Outs, Ins)>, AllocError>
     requires desks { (1 ≤ desks) × (desks ≤ MAX_DESKS) }
     requires capacity { (1 ≤ capacity) × (capacity ≤ MAX_LANE) }
@@ -55,7 +55,7 @@ fn empty_columns(alloc: Global, desks: u8) -> Result<Vec<Vec<InLane>>, AllocErro
     Ok(columns)
 }
 
-/// The lanes out of desk d. The other end of each goes to the end of the lanes into its desk.
+/// The lanes out of desk d. The other end of each is put after the lanes into its desk.
 fn lanes_from(
     alloc: Global,
     d: u8,
@@ -83,7 +83,7 @@ fn lanes_from(
     Ok(row)
 }
 
-/// The ends of each desk. They are made only here, after the last refusal, since they cannot be dropped.
+/// The ends of each desk. They are made only here, after all that can fail, since they cannot be dropped.
 fn pair_up(
     alloc: Global,
     desks: u8,

@@ -1,4 +1,4 @@
-//! The ends of a node are brought together.
+//! Reuniting the ends of a node.
 
 ghost use Rattle.std.specs.Prelude.{◌≡◌, ℕ, ◌+◌, ◌*◌, ◌<◌, length, map, [], IfOk, IfErr, slice_index_or, vec_len};
 ghost use Rattle.pt_carrier.specs.Ends.{OutEnds, InEnds};
@@ -15,7 +15,7 @@ use thiserror::Error;
 /// The letters that were posted and not collected.
 #[derive(Drop)]
 pub struct Leftovers {
-    /// The lane from desk d to desk e stands at d * desks + e, with its oldest letter first.
+    /// The lane from desk d to desk e is at d * desks + e, with its oldest letter first.
     pub lanes: Vec<Vec<Letter>>,
 }
 
@@ -29,7 +29,7 @@ pub enum Cause {
 
 /// The ends of a node that were not reunited.
 ///
-/// They cannot be dropped: they are taken out or abandoned. So this is no [`Error`](std::error::Error), which can be
+/// They cannot be dropped: take them out, or abandon them. So this is no [`Error`](std::error::Error), which can be
 /// dropped, but its [`cause`](EndsBack::cause) is one.
 pub struct EndsBack {
     pairs: Vec<(Outs, Ins)>,
@@ -66,7 +66,7 @@ impl EndsBack {
         pairs
     }
 
-    /// Gives up the ends. The letters that stand in the lanes are lost.
+    /// Gives up the ends. The letters in the lanes are lost.
     pub fn abandon(self) {
         let EndsBack { mut pairs } = self;
         while let Some((outs, ins)) = pairs.pop() {
@@ -77,11 +77,11 @@ impl EndsBack {
     }
 }
 
-/// Brings all ends of one [`open`](crate::open) together, in order of desk, and gives the letters left over.
+/// Brings all ends of one [`open`](crate::open) together, in order of desk, and returns the letters left over.
 ///
-/// For each pair of desks, what was posted is what was collected, then what is left over. Where memory is refused
-/// all ends come back in order, with what they posted and collected, the capacity of each lane and each cursor
-/// unchanged; the ends may know more of each other than before, which no call tells.
+/// For each pair of desks, the letters posted are those collected, followed by those left over. Fails only if there is
+/// no memory. All ends then come back in order, with what they posted and collected, the capacity of each lane and each
+/// cursor unchanged. The ends may know more of each other than before, which no call shows.
 pub fn reunite(alloc: Global, pairs: Vec<(Outs, Ins)>) -> Result<Leftovers, EndsBack>
     requires { IsNode (map places pairs.items) }
     ensures ok { IfOk result (λ left. AreLeft pairs.items (lists left.lanes.items)) }

@@ -1,4 +1,4 @@
-//! What processes are called.
+//! The names of processes.
 
 ghost use Rattle.std.specs.Prelude.{◌≡◌, ◌<◌, IfOk, IfSome, length, map, position};
 ghost use Rattle.pt_signal.specs.Values.{same_pid};
@@ -15,7 +15,7 @@ pub struct Called<'a> {
     pub name: &'a str,
 }
 
-/// The names of the columns' processes, each empty where none is given.
+/// The names of the columns' processes, each empty if none is given.
 pub(crate) fn names_of<'a>(
     alloc: Global,
     called: &[Called<'a>],
@@ -30,7 +30,7 @@ pub(crate) fn names_of<'a>(
     Ok(names)
 }
 
-/// The first name that is given to the pid, or an empty one.
+/// The first name that is given for the pid, or an empty one.
 fn name_of<'a>(called: &[Called<'a>], pid: Pid) -> &'a str
     ensures { result.now ≡ column_name (map called_given called.now) pid }
 {

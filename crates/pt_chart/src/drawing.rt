@@ -1,4 +1,4 @@
-//! The chart, from its background to its foreground.
+//! Drawing the chart, from its background to its foreground.
 
 ghost use Rattle.std.specs.Prelude.{◌≡◌, ◌==◌, ◌/◌, ◌<◌, [], ◌∷◌, ◌++◌, IfOk, IfSome, OnOk, length, map, not, position, slice_index};
 ghost use Rattle.std.specs.Prelude.{string_bytes, cond, slice_index_or};
@@ -23,13 +23,20 @@ use pt_events::{Event, Stamped};
 use pt_signal::{Pid, Reason};
 use std::alloc::{AllocError, Global};
 
-/// The history as a message sequence chart: what its [`lay_out`] says, drawn.
+/// Draws the history as a message sequence chart, by its layout ([`lay_out`]).
 ///
-/// The text has the ground and the life of each process, each letter's arrow and what it says, the stroke of each birth
-/// from the parent, each event's mark, each end, and each event's line in the title of its row, each once and in this
-/// order. The pids of the processes are above the first row. After each 40 rows the pids are repeated of those that an
-/// event in the next 40 rows names. Above a pid is the first name that is given to it, with XML's own characters escaped.
-/// A row has the stamp of its first event, and of its last one.
+/// The text has these, each once and in this order:
+///
+/// - the ground and the life of each process;
+/// - each letter's arrow and its label;
+/// - the stroke of each birth from the parent;
+/// - each event's mark;
+/// - each exit;
+/// - each event's line in the title of its row.
+///
+/// The pids of the processes are above the first row. After each 40 rows it repeats the pids that an event in the next
+/// 40 rows names. Above a pid is the first name that is given for it, with XML's own characters escaped. A row has the
+/// stamp of its first event, and of its last one.
 pub fn chart(alloc: Global, events: &[Stamped], called: &[Called<'_>]) -> Result<String, AllocError>
     ensures { IfOk result (λ text. IsChart events.now (map called_given called.now) (string_bytes text)) }
 {
@@ -72,7 +79,7 @@ fn write_drawing(
     text.push_str("</svg>\n")
 }
 
-/// The page on which a layout of the history has room.
+/// The page that has room for a layout of the history.
 fn page_of(alloc: Global, events: &[Stamped], layout: &Layout) -> Result<Page, AllocError>
     ensures { IfOk result (λ page. page ≡ page_of events.now layout.now) }
 {
@@ -84,7 +91,7 @@ fn page_of(alloc: Global, events: &[Stamped], layout: &Layout) -> Result<Page, A
     })
 }
 
-/// How many rows there are.
+/// The number of rows.
 fn count_of(rows: &[usize]) -> usize
     ensures { result ≡ count_of rows.now }
 {
@@ -95,7 +102,7 @@ fn count_of(rows: &[usize]) -> usize
     count
 }
 
-/// How many characters the longest label has of what a process says, of a call that was refused, or of a reason.
+/// The number of characters of the longest label of a signal, of a failed call, or of a reason.
 fn beside(alloc: Global, events: &[Stamped]) -> Result<usize, AllocError>
     ensures { IfOk result (λ n. n ≡ longest_beside events.now) }
 {
@@ -106,7 +113,7 @@ fn beside(alloc: Global, events: &[Stamped]) -> Result<usize, AllocError>
     Ok(longest)
 }
 
-/// How many characters the label of an event has.
+/// The number of characters of an event's label.
 fn label_length(alloc: Global, event: Event) -> Result<usize, AllocError>
     ensures { IfOk result (λ n. n ≡ length (label_beside event)) }
 {
@@ -117,7 +124,7 @@ fn label_length(alloc: Global, event: Event) -> Result<usize, AllocError>
     }
 }
 
-/// What the chart is drawn of.
+/// The parts of the chart.
 fn parts_of(alloc: Global, events: &[Stamped], layout: &Layout) -> Result<Vec<Part>, AllocError>
     requires { length layout.now.rows.items ≡ length events.now }
     ensures { IfOk result (λ parts. parts.items ≡ drawn events.now layout.now) }
@@ -146,7 +153,7 @@ fn row_of(rows: &[usize], event: usize) -> usize
     }
 }
 
-/// The arrow from row to row, where it goes from event to event.
+/// The arrow from row to row, if it goes from event to event.
 fn in_rows(rows: &[usize], arrow: Arrow) -> Arrow
     ensures { result ≡ in_rows rows.now arrow }
 {
@@ -177,7 +184,7 @@ fn list_grounds(columns: &[Column], parts: &mut Vec<Part>) -> Result<(), AllocEr
     Ok(())
 }
 
-/// The ground of a process, and the name of its desk where this is the desk's first column.
+/// The ground of a process, and the name of its desk if this is the desk's first column.
 fn list_ground(
     place: usize,
     shown: &Column,
@@ -251,7 +258,7 @@ fn row_of_end(rows: &[usize], ended: Option<(usize, Reason)>) -> Option<usize>
     }
 }
 
-/// An arrow a letter.
+/// An arrow for each letter.
 fn list_letters(rows: &[usize], columns: &[Column], parts: &mut Vec<Part>) -> Result<(), AllocError>
     ensures { OnOk result (parts.new.items ≡ parts.old.items ++ each_numbered (letters rows.now) columns.now) }
 {
@@ -278,7 +285,7 @@ fn list_letters_from(
     Ok(())
 }
 
-/// What each letter says.
+/// The label of each letter.
 fn list_sayings(rows: &[usize], columns: &[Column], parts: &mut Vec<Part>) -> Result<(), AllocError>
     ensures { OnOk result (parts.new.items ≡ parts.old.items ++ each_numbered (sayings rows.now) columns.now) }
 {
@@ -391,7 +398,7 @@ fn put(row: usize, mark: Mark, parts: &mut Vec<Part>) -> Result<(), AllocError>
     Ok(())
 }
 
-/// The column of a process; behind all if it has none.
+/// The column of a process; after all columns if it has none.
 fn column_of(columns: &[Column], pid: Pid) -> usize
     ensures { result ≡ place_in columns.now pid }
 {
@@ -404,7 +411,7 @@ fn position_of(columns: &[Column], pid: Pid) -> Option<usize>
     columns.iter().position(|column| pid == column.pid)
 }
 
-/// A cross where a process ends.
+/// A cross at the exit of each process.
 fn list_ends(rows: &[usize], columns: &[Column], parts: &mut Vec<Part>) -> Result<(), AllocError>
     ensures { OnOk result (parts.new.items ≡ parts.old.items ++ each_numbered (end rows.now) columns.now) }
 {
@@ -449,7 +456,7 @@ fn list_lines(
     Ok(())
 }
 
-/// The line of an event; before the first one of a row the names of the processes, where they are due.
+/// The line of an event. Before the first one of a row, the names of the processes if they are due.
 fn list_line(
     rows: &[usize],
     events: &[Stamped],
@@ -476,14 +483,14 @@ fn list_line(
     Ok(())
 }
 
-/// Whether the event stands in another row than the one before it, or is the first.
+/// Whether the event is in another row than the one before it, or is the first.
 fn begins_row(rows: &[usize], at: usize) -> bool
     ensures { result ≡ begins_row rows.now at }
 {
     at == 0 || row_of(rows, at) != row_of(rows, at - 1)
 }
 
-/// Whether the event stands in another row than the next one, or is the last.
+/// Whether the event is in another row than the next one, or is the last.
 fn ends_row(rows: &[usize], at: usize) -> bool
     requires { at < length rows.now }
     ensures { result ≡ ends_row rows.now at }
@@ -491,8 +498,8 @@ fn ends_row(rows: &[usize], at: usize) -> bool
     rows.len() == at + 1 || rows[at] != rows[at + 1]
 }
 
-/// The names of the processes above the row of an event, where they are due: of all above the first row, and again after
-/// each 40 of those that an event in the next 40 names.
+/// The names of the processes above the row of an event, if they are due. All are above the first row, and after each
+/// 40 rows again those that an event in the next 40 names.
 fn list_names(
     rows: &[usize],
     events: &[Stamped],
@@ -515,7 +522,7 @@ fn list_names(
     list_names_in(block_of(rows, events, at), row, columns, parts)
 }
 
-/// The event and those behind it in the same 40 rows.
+/// The event and those after it in the same 40 rows.
 fn block_of<'a>(rows: &[usize], events: &'a [Stamped], at: usize) -> &'a [Stamped]
     requires rows { length rows.now ≡ length events.now }
     requires within { at < length rows.now }

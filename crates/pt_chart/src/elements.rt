@@ -1,4 +1,4 @@
-//! The elements of SVG that a chart is made of.
+//! The SVG elements of a chart.
 
 ghost use Rattle.std.specs.Prelude.{◌≡◌, ◌++◌, OnOk, string_bytes};
 ghost use Rattle.pt_chart.specs.Text.{alive_text, before_text, curve_text, desk_text, label_text, last_number_text};
@@ -9,7 +9,7 @@ use crate::point::{At, Point};
 use crate::strokes::Stroke;
 use std::alloc::AllocError;
 
-/// The begin of the drawing: its size, and its title for those who listen.
+/// The beginning of the drawing: its size, and its title for screen readers.
 pub(crate) fn write_size(
     width: u64,
     height: u64,
@@ -27,8 +27,7 @@ pub(crate) fn write_size(
     )
 }
 
-/// The end of a row's title, and the strip across the page that it is of: it shows no more than what it is while a
-/// pointer is over it.
+/// The end of a row's title, and its strip across the page. The strip shows only while a pointer is over it.
 pub(crate) fn write_strip(y: u64, width: u64, text: &mut String) -> Result<(), AllocError>
     ensures { OnOk result (string_bytes text.new ≡ string_bytes text.old ++ strip_text y width) }
 {
@@ -60,7 +59,7 @@ pub(crate) fn write_last_number(at: Point, number: u64, text: &mut String) -> Re
     )
 }
 
-/// A desk's ground behind a column.
+/// The ground of a desk behind a column.
 pub(crate) fn write_stripe(
     parity: u8,
     x: u64,
@@ -92,7 +91,7 @@ pub(crate) fn write_before(x: u64, end: u64, text: &mut String) -> Result<(), Al
     write!(text, "<path class=\"before\" d=\"M{x} 98V{end}\"/>\n")
 }
 
-/// A name or a pid, and what presses it into its column.
+/// A name or a pid, and the attribute that fits it into its column.
 pub(crate) fn write_name(
     at: Point,
     fit: &str,
@@ -111,7 +110,7 @@ pub(crate) fn write_alive(from: Point, to: u64, text: &mut String) -> Result<(),
     write!(text, "<path class=\"life\" d=\"M{from}V{to}\"/>\n")
 }
 
-/// The begin of an arrow.
+/// The beginning of an arrow.
 pub(crate) fn write_curve(
     stroke: Stroke,
     from: Point,

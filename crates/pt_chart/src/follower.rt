@@ -1,4 +1,4 @@
-//! A process that is followed through a history: what it sends, and when it ends.
+//! A process that is followed through a history: what it sends, and when it exits.
 
 ghost use Rattle.std.specs.Prelude.{◌≡◌, ◌++◌, cond, map, Some, None, IfOk, IfSome, OnOk};
 ghost use Rattle.pt_signal.specs.Values.{same_pid, fits, without_first};
@@ -23,7 +23,7 @@ use std::marker::Model;
 pub(crate) struct Follower {
     me: Pid,
     born: bool,
-    /// What it is, while it is alive.
+    /// Its state, while it is alive.
     process: Option<Process>,
 }
 
@@ -40,7 +40,7 @@ impl Model for Follower {
 }
 
 impl Follower {
-    /// One that is not born yet.
+    /// A process that is not spawned yet.
     pub(crate) fn new(me: Pid) -> Follower
         ensures { result ≡ followed me unborn }
     {
@@ -51,8 +51,8 @@ impl Follower {
         }
     }
 
-    /// The event at a place of the history happens. What it sends by that joins what it has sent; the answer is the
-    /// reason with which it ends, if it does.
+    /// Plays the event at a place of the history. What the process sends by it joins what it has sent. It returns the
+    /// reason with which the process exits, if it does.
     pub(crate) fn see(
         &mut self,
         alloc: Global,
@@ -202,7 +202,7 @@ impl Follower {
         Ok(())
     }
 
-    /// It holds a link with its child.
+    /// Enters the link with its child.
     fn join(&mut self, child: Pid, link: Option<LinkId>) -> Result<(), AllocError>
         ensures { OnOk result (self.new ≡ changes (linked (Some child) link) self.old) }
     {
@@ -241,7 +241,7 @@ impl Follower {
         }
     }
 
-    /// A signal comes to it.
+    /// Delivers a signal to it.
     fn hear(
         &mut self,
         at: usize,
@@ -279,7 +279,7 @@ impl Follower {
         }
     }
 
-    /// It ends, if it is alive, and sends what it owes.
+    /// Makes it exit, if it is alive, and sends what it owes.
     fn leave(
         &mut self,
         at: usize,
@@ -299,7 +299,7 @@ impl Follower {
     }
 }
 
-/// A process that is born, with the link to its parent, if there is one.
+/// A new process, with the link to its parent, if there is one.
 fn newborn(
     alloc: Global,
     me: Pid,
@@ -316,18 +316,18 @@ fn newborn(
     Ok(process)
 }
 
-/// What a signal that comes makes a live process do.
+/// What a live process does when a signal arrives.
 #[derive(Clone, Copy)]
 enum Reply {
-    /// Nothing that others see.
+    /// It does nothing that others see.
     Silence,
     /// It sends this back.
     Answer(Signal),
-    /// It ends.
+    /// It exits.
     End(Reason),
 }
 
-/// A signal comes to a live process.
+/// Delivers a signal to a live process.
 fn take_in(process: &mut Process, from: Pid, signal: Signal) -> Result<Reply, AllocError>
     ensures me { process.new.me ≡ process.old.me }
     ensures state { OnOk result (process.new.state ≡ (handle process.old.me process.old.state from signal).state) }
@@ -341,7 +341,7 @@ fn take_in(process: &mut Process, from: Pid, signal: Signal) -> Result<Reply, Al
     }
 }
 
-/// What is owed is sent.
+/// Sends what is owed.
 fn pay(at: usize, estate: &Estate, sent: &mut Vec<Sending>) -> Result<(), AllocError>
     ensures { OnOk result (sent.new.items ≡ sent.old.items ++ map (sent_at at) estate.now.owed) }
 {

@@ -1,5 +1,5 @@
-//! Where the parts of a chart stand: its columns, its rows and the arrows between them, as numbers. Events are named by
-//! their places in the history, from 0.
+//! The layout of a chart: its columns, its rows and the arrows between them, as numbers. Events are named by their
+//! places in the history, from 0.
 
 ghost use Rattle.std.specs.Prelude.{◌≡◌, ◌<◌, ◌≤◌, ◌++◌, [], IfOk, IfSome, OnOk, length, nat_lt, position};
 ghost use Rattle.std.specs.List.{list_any};
@@ -26,7 +26,7 @@ pub struct Sending {
     pub signal: Signal,
 }
 
-/// An arrow that goes out from a column.
+/// An arrow from a column.
 #[derive(Clone, Copy, Debug, PartialEq, Eq)]
 pub struct Arrow {
     /// The column of the receiver.
@@ -34,7 +34,7 @@ pub struct Arrow {
     pub signal: Signal,
     /// The event by which the letter is sent.
     pub sent: usize,
-    /// The event by which it came, if it did.
+    /// The event by which it arrived, if it did.
     pub came: Option<usize>,
 }
 
@@ -42,11 +42,11 @@ pub struct Arrow {
 #[derive(Drop)]
 pub struct Column {
     pub pid: Pid,
-    /// The event of its birth, if it is born.
+    /// The event of its birth, if there is one.
     pub born: Option<usize>,
-    /// The event by which it ends, if it does, and the reason.
+    /// The event by which it exits, if it does, and the reason.
     pub ended: Option<(usize, Reason)>,
-    /// The arrows that go out from it, in order of sending.
+    /// The arrows from it, in order of sending.
     pub arrows: Vec<Arrow>,
 }
 
@@ -61,13 +61,13 @@ pub struct Layout {
 /// Lays a history out.
 ///
 /// Each process that is named is a column, by desk and then in order of first appearance. An arrow goes from the event
-/// by which a letter is sent to the one by which it came: of two processes, the nth letter from the one to the other is
-/// the nth that comes. The rows follow the order of the history: the births in front of every other event share the
-/// first one, a receipt that is the very next event after its sending shares the row of that, and each other event has a
-/// row of its own.
+/// by which a letter is sent to the event by which it arrived. For two processes, the nth letter that one sends the
+/// other is the nth that arrives. The rows follow the order of the history. The births in front of every other event
+/// share the first row. A receipt that is the very next event after its sending shares the row of that, and each other
+/// event has a row of its own.
 ///
-/// In a legal history, as the one of a gathered node is, every end, every arrow and every row stands so. In any other
-/// one the ends and arrows of a process do that opens no monitor under a reference that it has open.
+/// In a legal history, as that of a gathered node, this holds for every exit, every arrow and every row. In any other
+/// history it holds for the exits and arrows of each process that opens no monitor under a reference that it has open.
 pub fn lay_out(alloc: Global, events: &[Stamped]) -> Result<Layout, AllocError>
     ensures layout { IfOk result (λ l. IsLayout events.now l) }
     ensures legal { IsLegalHistory events.now → IfOk result (λ l. ShowsHistory events.now l) }
@@ -83,7 +83,7 @@ pub fn lay_out(alloc: Global, events: &[Stamped]) -> Result<Layout, AllocError>
     Ok(Layout { columns, rows })
 }
 
-/// Whom the history names, by desk and then in order of first appearance.
+/// The processes that the history names, by desk and then in order of first appearance.
 fn pids_of(alloc: Global, events: &[Stamped]) -> Result<Vec<Pid>, AllocError>
     ensures { IfOk result (λ v. v.items ≡ everyone events.now) }
 {
@@ -94,7 +94,7 @@ fn pids_of(alloc: Global, events: &[Stamped]) -> Result<Vec<Pid>, AllocError>
     Ok(pids)
 }
 
-/// Those whom an event names join the others.
+/// Adds the processes that an event names to the others.
 fn name(pids: &mut Vec<Pid>, event: Event) -> Result<(), AllocError>
     ensures { OnOk result (pids.new.items ≡ joined_columns pids.old.items (named_columns event)) }
 {
@@ -125,7 +125,7 @@ fn join(pids: &mut Vec<Pid>, pid: Pid) -> Result<(), AllocError>
     Ok(())
 }
 
-/// The place behind all of its own desk and of the desks before it.
+/// The place after all of its own desk and of the desks before it.
 fn place_behind(pids: &[Pid], pid: Pid) -> usize
     ensures place { result ≡ place_behind pids.now pid }
     ensures within { result ≤ length pids.now }
@@ -172,7 +172,7 @@ fn column_of(
     })
 }
 
-/// What a process sends in the history joins, and the answer is its end, if it has one.
+/// Adds what a process sends in the history, and returns its exit, if it has one.
 fn follow(
     alloc: Global,
     events: &[Stamped],
@@ -201,7 +201,7 @@ fn birth_of(events: &[Stamped], pid: Pid) -> Option<usize>
         .position(|stamped| is_birth(pid, stamped.event))
 }
 
-/// The end so far, if it does not end by this event.
+/// The exit so far, if it does not exit by this event.
 fn noted(
     event: usize,
     reason: Option<Reason>,
@@ -243,7 +243,7 @@ fn arrows_of(
     Ok(arrows)
 }
 
-/// The arrow of a letter that came by this event, if it did.
+/// The arrow of a letter that arrived by this event, if it did.
 fn arrow_of(pids: &[Pid], sending: Sending, came: Option<usize>) -> Arrow
     ensures { result
         ≡ record { to = column_place pids.now sending.to; signal = sending.signal; sent = sending.event; came = came } }
@@ -256,7 +256,7 @@ fn arrow_of(pids: &[Pid], sending: Sending, came: Option<usize>) -> Arrow
     }
 }
 
-/// The column of a process; behind all if it has none.
+/// The column of a process; after all columns if it has none.
 fn place(pids: &[Pid], pid: Pid) -> usize
     ensures { result ≡ column_place pids.now pid }
 {

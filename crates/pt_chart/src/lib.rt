@@ -8,26 +8,31 @@
 //!
 //! # What is drawn
 //!
-//! Each process that is named is a column, by desk and then in order of first appearance, and the events stand in rows,
-//! in the order of the history: the births in front of every other event in one, a receipt beside its sending where it
-//! is the very next event, and each other event in a row of its own. The lines of its events are the title of a row,
-//! which a browser shows under the pointer. A row has the stamp of its first event, and of its last. The pids of all
-//! processes are above the first row. After each 40 rows the pids are repeated of those that an event in the next 40
-//! rows names. Each pid is below the name of its process, if one is given. An arrow goes from the row in which a letter was sent to
-//! the row in which it came, and has a label with what the letter says: beside its sender, or beside its receiver where
-//! it is owed at an end or an answer, as several of these go out in one row. A letter that did not come has an open
-//! arrow. Messages, exits, links, monitors and questions each have a stroke of their own. A box is a birth, above it by
-//! whom, a dot is an item taken, a square a change of `trap_exit`, and a cross an end with its reason. The colours are those that the reader prefers, light or dark; a
-//! title and a description are there for those who listen. [`lay_out`] says where each of these stands, and its
-//! contract that it stands there rightly; that of [`chart`] that the text has each of them, once, and nothing else.
+//! - Columns: each process that is named has one, by desk and then in order of first appearance. The pids of all
+//!   processes are above the first row. After each 40 rows the chart repeats the pids that an event in the next 40 rows
+//!   names. Each pid is below the name of its process, if one is given.
+//! - Rows: the events are in rows, in the order of the history. The births in front of every other event share one row.
+//!   A receipt is beside its sending if it is the very next event. Each other event has a row of its own. A row has the
+//!   stamp of its first event, and of its last. Its title has the lines of its events, which a browser shows under the
+//!   pointer.
+//! - Arrows: an arrow goes from the row in which a letter was sent to the row in which it arrived. Its label has what
+//!   the letter says. The label is beside the sender. If the letter is owed at an exit or is an answer, it is beside
+//!   the receiver, as several of these may be sent in one row. A letter that did not arrive has an open arrow.
+//!   Messages, exits, links, monitors and questions each have a stroke of their own.
+//! - Marks: a box is a birth, with the parent above it, and a dot is an item taken. A square is a change of
+//!   `trap_exit`, and a cross an exit with its reason.
+//!
+//! The colours are those that the reader prefers, light or dark. There are a title and a description for screen
+//! readers. [`lay_out`] computes the places of all these, and its contract says that they are right. The contract of
+//! [`chart`] says that the text has each of them, once, and nothing else.
 //!
 //! # From the history alone
 //!
-//! What an end sends and whom a signal ends stands in no event, so the processes are followed through the history:
-//! each is a [`Process`](pt_process::Process), which says the one and the other. Letters from one process to another
-//! come in the order in which they were sent, so the nth receipt between two ends the nth arrow between them: the rows
-//! of the receipts stand in a queue for each receiver, and a letter takes the first. The work grows with the events
-//! times the processes, each of which is followed through all events, and not with the letters between two of them.
+//! No event says what an exit sends, or which process a signal makes exit. So the processes are followed through the
+//! history: each is a [`Process`](pt_process::Process), which says both. Letters from one process to another arrive in
+//! the order in which they were sent, so the nth receipt between two ends the nth arrow between them. The rows of the
+//! receipts are in a queue for each receiver, and a letter takes the first. The work grows with the events times the
+//! processes, since each is followed through all events. It does not grow with the letters between two processes.
 //!
 //! # What is proved
 //!
@@ -35,10 +40,10 @@
 //!   first appearance. (`lay_out`)
 //! - **Rows.** Births at the front share one row. A receipt right after its sending is beside it. Each other event has
 //!   a row of its own.
-//! - **Right places.** In each legal history each exit, receipt and arrow is where the history says. A letter still on
-//!   its way has an open arrow.
+//! - **Right places.** In each legal history each exit, receipt and arrow is at the place that the history says. A
+//!   letter still in flight has an open arrow.
 //! - **The whole text.** `chart` writes the life of each process, each arrow, label, mark and event of that layout,
-//!   once and in order, and nothing else but the pids above the rows.
+//!   once and in order. It adds only the pids above the rows.
 //! - **The page.** It is as wide as its columns, longest label and legend need, and as high as its rows.
 #![tactic(auto, unfolding(crate::specs::Points::point_text, crate::specs::Points::at_text, crate::specs::Text::stroke_text))]
 

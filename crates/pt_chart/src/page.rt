@@ -1,15 +1,15 @@
-//! Where things stand on the page, in pixels. Past the largest number all stand at it.
+//! The places of things on the page, in pixels. A place past the largest number is at it.
 
 ghost use Rattle.std.specs.Prelude.{◌≡◌, ℕ, ◌<◌, ◌≤◌};
 ghost use Rattle.pt_chart.specs.Page.{above, height_of, row_or_end, width_of, x_of, y_of};
 
-/// How far the rows stand from one another.
+/// The distance between two rows.
 const ROW: u64 = 24;
-/// After how many rows the names of the processes stand again.
+/// The number of rows after which the names of the processes are repeated.
 pub(crate) const BLOCK: usize = 40;
 /// The room for these names.
 const NAMES: u64 = 40;
-/// How far the columns stand from one another.
+/// The distance between two columns.
 const COLUMN: u64 = 140;
 /// The room for the numbers of the events.
 const NUMBERS: u64 = 44;
@@ -25,13 +25,13 @@ const LEGEND: u64 = 470;
 /// The measures of a page.
 #[derive(Clone, Copy)]
 pub(crate) struct Page {
-    /// How many characters a label beside the last column has.
+    /// The number of characters of a label beside the last column.
     pub beside: usize,
-    /// How many processes there are.
+    /// The number of processes.
     pub columns: usize,
-    /// How many events there are.
+    /// The number of events.
     pub events: usize,
-    /// In how many rows they stand.
+    /// The number of their rows.
     pub rows: usize,
 }
 
@@ -61,14 +61,14 @@ pub(crate) fn above(y: u64, by: u64) -> u64
 }
 
 impl Page {
-    /// Where the lines of the processes that are alive end.
+    /// The height at which the lines of live processes end.
     pub(crate) fn end(&self) -> u64
         ensures { result ≡ y_of self.now.rows }
     {
         y(self.rows)
     }
 
-    /// The middle of a row, or where all lines end.
+    /// The middle of a row, or the height at which all lines end.
     pub(crate) fn row_or_end(&self, row: Option<usize>) -> u64
         ensures { result ≡ row_or_end self.now row }
     {

@@ -1,4 +1,4 @@
-//! What a chart is drawn of, by rows and columns.
+//! The parts of a chart, by rows and columns.
 
 use crate::layout::Arrow;
 use pt_events::Stamped;
@@ -21,7 +21,7 @@ pub(crate) enum Part {
     Column {
         column: usize,
     },
-    /// The life of a process, from the row of its birth to that of its end, or to the last one.
+    /// The life of a process, from the row of its birth to that of its exit, or to the last one.
     Life {
         column: usize,
         born: usize,
@@ -32,7 +32,7 @@ pub(crate) enum Part {
         column: usize,
         arrow: Arrow,
     },
-    /// What a letter says, beside its arrow.
+    /// The label of a letter, beside its arrow.
     Saying {
         column: usize,
         arrow: Arrow,
@@ -42,7 +42,7 @@ pub(crate) enum Part {
         row: usize,
         mark: Mark,
     },
-    /// The cross of an end, with the reason.
+    /// The cross of an exit, with the reason.
     End {
         row: usize,
         column: usize,
@@ -54,7 +54,7 @@ pub(crate) enum Part {
         column: usize,
         pid: Pid,
     },
-    /// The line of an event, which its row tells, and its stamp; it may be the first and the last one of its row.
+    /// The line of an event in the title of its row, and its stamp. It may be the first and the last one of its row.
     Line {
         row: usize,
         event: Stamped,
@@ -66,7 +66,7 @@ pub(crate) enum Part {
 /// What marks an event.
 #[derive(Clone, Copy)]
 pub(crate) enum Mark {
-    /// The stroke from a process to the child that it bears.
+    /// The stroke from a process to the child that it spawns.
     Bearing {
         parent: usize,
         child: usize,
@@ -87,7 +87,7 @@ pub(crate) enum Mark {
         column: usize,
         on: bool,
     },
-    /// A refused call, at its sayer: the process that had ended.
+    /// A failed call, at its caller, with the process that had exited.
     Refusal {
         column: usize,
         to: Pid,

@@ -9,7 +9,7 @@ pub(crate) struct Point {
     pub y: u64,
 }
 
-/// Where a shape or a text stands.
+/// The place of a shape or a text.
 #[derive(Clone, Copy)]
 pub(crate) struct At(pub Point);
 

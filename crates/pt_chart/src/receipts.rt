@@ -1,4 +1,4 @@
-//! By which events the letters of a process came.
+//! The events by which the letters of a process arrived.
 
 ghost use Rattle.std.specs.Prelude.{◌≡◌, ◌++◌, ◌∷◌, [], cond, drop, slice_get, IfOk, OnOk};
 ghost use Rattle.pt_chart.specs.Chart.{is_receipt};
@@ -11,7 +11,7 @@ use std::alloc::{AllocError, Global};
 use std::collections::VecDeque;
 use std::marker::Model;
 
-/// Events by which letters came, by their places in the history, the next one first.
+/// Events by which letters arrived, by their places in the history, the next one first.
 #[derive(Drop)]
 struct Queue {
     places: VecDeque<usize>,
@@ -51,7 +51,7 @@ impl Queue {
     }
 }
 
-/// The events by which the letters of one process came, by receiver: a letter costs the same, however many there are.
+/// The events by which the letters of one process arrived, by receiver. A letter costs the same for any number of them.
 #[derive(Drop)]
 pub(crate) struct Receipts {
     alloc: Global,
@@ -76,7 +76,7 @@ impl Receipts {
         }
     }
 
-    /// The event by which the next letter came to a receiver, which is taken out.
+    /// Takes out the event by which the next letter arrived at a receiver.
     pub(crate) fn pop(&mut self, to: Pid) -> Option<usize>
         ensures first { result ≡ slice_get (rows_queued self.old to) 0 }
         ensures rest { RowIsQueued to (drop 1 (rows_queued self.old to)) self.old self.new }
@@ -87,7 +87,7 @@ impl Receipts {
         }
     }
 
-    /// The event is behind those of the receiver.
+    /// Puts the event after those of the receiver.
     fn push(&mut self, to: Pid, at: usize) -> Result<(), AllocError>
         ensures { OnOk result (RowIsQueued to (rows_queued self.old to ++ at ∷ []) self.old self.new) }
     {
@@ -97,7 +97,7 @@ impl Receipts {
         }
     }
 
-    /// A queue more, of one event.
+    /// Adds a queue of one event.
     fn open(&mut self, to: Pid, at: usize) -> Result<(), AllocError>
         ensures { OnOk result (RowIsQueued to (at ∷ []) self.old self.new) }
     {
@@ -106,7 +106,7 @@ impl Receipts {
         Ok(())
     }
 
-    /// The event is behind those of the receiver, where it is the receipt of a letter of this sender.
+    /// Puts the event after those of the receiver, if it is the receipt of a letter of this sender.
     fn note(&mut self, from: Pid, at: usize, event: Event) -> Result<(), AllocError>
         ensures { OnOk result (IsQueuedBy (λ q. cond (is_receipt from q event) (at ∷ []) []) self.old self.new) }
     {
@@ -117,7 +117,7 @@ impl Receipts {
     }
 }
 
-/// The events by which the letters of a process came, by receiver.
+/// The events by which the letters of a process arrived, by receiver.
 pub(crate) fn receipts_of(
     alloc: Global,
     events: &[Stamped],

@@ -1,4 +1,4 @@
-//! In which rows the events stand.
+//! The rows of the events.
 
 ghost use Rattle.std.specs.Prelude.{◌≡◌, ◌<◌, ◌≤◌, ◌+◌, ◌^◌, ◌==◌, true, false, not, position, length};
 ghost use Rattle.std.specs.Prelude.{ℕ, slice_index_or, IfOk};
@@ -10,7 +10,7 @@ use crate::layout::{Arrow, Column};
 use pt_events::{Event, Stamped};
 use std::alloc::{AllocError, Global};
 
-/// The row of each event, where the arrows go out from these columns.
+/// The row of each event, if the arrows are those of these columns.
 pub(crate) fn rows_of(
     alloc: Global,
     events: &[Stamped],
@@ -33,7 +33,7 @@ fn noted(alloc: Global, count: usize, columns: &[Column]) -> Result<Vec<bool>, A
     Ok(follows)
 }
 
-/// How many births stand in front of every other event.
+/// The number of births in front of every other event.
 fn births_in_front(events: &[Stamped]) -> usize
     ensures { result ≡ births_in_front events.now }
 {
@@ -69,7 +69,7 @@ fn note_receipts_from(column: &Column, follows: &mut [bool])
     }
 }
 
-/// Notes the receipt of a letter, where the very event before it sent it.
+/// Notes the receipt of a letter, if the very event before it sent it.
 fn note_receipt(arrow: Arrow, follows: &mut [bool])
     ensures { Notes (λ event. comes_next event arrow) follows.old follows.new }
 {
@@ -88,7 +88,7 @@ fn is_next(event: usize, next: usize) -> bool
     event < next && next - event == 1
 }
 
-/// The rows, where so many births stand in front, and these events follow their sendings.
+/// The rows, if so many births are in front, and these events follow their sendings.
 fn numbered(alloc: Global, births: usize, follows: &[bool]) -> Result<Vec<usize>, AllocError>
     ensures { IfOk result (λ rows. AreNumbered births follows.now rows.items) }
 {
@@ -101,7 +101,7 @@ fn numbered(alloc: Global, births: usize, follows: &[bool]) -> Result<Vec<usize>
     Ok(rows)
 }
 
-/// The row of an event, where the one before it stands in this row.
+/// The row of an event, if the one before it is in this row.
 fn row_behind(row: usize, at: usize, births: usize, follows: bool) -> usize
     requires { row + 1 < 2 ^ 64 }
     ensures first { at ≡ 0 → result ≡ row }

@@ -1,4 +1,4 @@
-//! How a signal is drawn.
+//! The drawing of a signal.
 
 ghost use Rattle.std.specs.Prelude.{◌≡◌};
 ghost use Rattle.pt_chart.specs.Text.{is_owed, stroke_of};
@@ -6,7 +6,7 @@ ghost use Rattle.pt_chart.specs.Text.{is_owed, stroke_of};
 use pt_signal::Signal;
 use std::fmt;
 
-/// The strokes by which the letters of a chart are told apart.
+/// The strokes that distinguish the letters of a chart.
 #[derive(Clone, Copy)]
 pub(crate) enum Stroke {
     Message,
@@ -17,7 +17,7 @@ pub(crate) enum Stroke {
 }
 
 impl Stroke {
-    /// How the letter of a signal is drawn.
+    /// The stroke of a signal's letter.
     pub(crate) fn of(signal: &Signal) -> Stroke
         ensures { result ≡ stroke_of signal.now }
     {
@@ -31,7 +31,7 @@ impl Stroke {
     }
 }
 
-/// Whether a process owes it at its end or answers it. Several such letters may go out in one row.
+/// Whether a process owes the signal at its exit, or answers with it. Several such letters may be sent in one row.
 pub(crate) fn is_owed(signal: &Signal) -> bool
     ensures { result ≡ is_owed signal.now }
 {

@@ -1,6 +1,7 @@
 //! How the parts of a drawing look.
 
-/// What a chart is, for those who listen; the shapes that several parts have; the colours, light and dark; the legend.
+/// The description of a chart for screen readers, the shapes that several parts have, the colours, light and dark, and
+/// the legend.
 pub(crate) const STYLE: &str = "\
 <desc id=\"desc\">Each process is a column, by desk. Events stand in rows, oldest first: the births in front in \
 one, and a receipt beside its sending where nothing stands between. An arrow is a letter, from its sending to its \

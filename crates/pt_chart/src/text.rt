@@ -1,4 +1,4 @@
-//! The text of what is drawn, as SVG.
+//! The text of the drawing, as SVG.
 
 ghost use Rattle.std.specs.Prelude.{◌≡◌, [], ◌++◌, IfOk, OnOk, map, slice_index_or, string_bytes};
 ghost use Rattle.std.specs.List.{flat_map};
@@ -28,7 +28,7 @@ use pt_events::Stamped;
 use pt_signal::{Pid, Reason};
 use std::alloc::{AllocError, Global};
 
-/// What the drawing begins with: the size of the page, and how its parts look.
+/// The beginning of the drawing: the size of the page, and the style of its parts.
 pub(crate) fn write_head(page: &Page, text: &mut String) -> Result<(), AllocError>
     ensures { OnOk result (string_bytes text.new ≡ string_bytes text.old ++ page_head page.now) }
 {
@@ -36,7 +36,7 @@ pub(crate) fn write_head(page: &Page, text: &mut String) -> Result<(), AllocErro
     text.push_str(STYLE)
 }
 
-/// Writes the parts, one after the other, where the processes of the columns have these names.
+/// Writes the parts, one after the other. The processes of the columns have these names.
 pub(crate) fn write_parts(
     alloc: Global,
     page: &Page,
@@ -115,7 +115,7 @@ fn write_mark(alloc: Global, row: usize, mark: Mark, text: &mut String) -> Resul
     }
 }
 
-/// The begin of a row, whose title has the lines of its events; before a further one of these a line feed.
+/// The beginning of a row, whose title has the lines of its events. Before each further line it is a line feed.
 fn write_opening(row: usize, stamp: u64, first: bool, text: &mut String) -> Result<(), AllocError>
     ensures { OnOk result (string_bytes text.new ≡ string_bytes text.old ++ opening_text row stamp first) }
 {
@@ -134,7 +134,7 @@ fn write_said(alloc: Global, event: Stamped, text: &mut String) -> Result<(), Al
     text.push_str(said.as_str())
 }
 
-/// The end of a row, behind its last line.
+/// The end of a row, after its last line.
 fn write_closing(
     page: &Page,
     row: usize,
@@ -153,7 +153,7 @@ fn write_closing(
     write_last(row, stamp, first, text)
 }
 
-/// The stamp of the last event of a row, where this is not its first one too.
+/// The stamp of the last event of a row, if this is not its first one too.
 fn write_last(row: usize, stamp: u64, first: bool, text: &mut String) -> Result<(), AllocError>
     ensures { OnOk result (string_bytes text.new ≡ string_bytes text.old ++ last_text row stamp first) }
 {
@@ -163,14 +163,14 @@ fn write_last(row: usize, stamp: u64, first: bool, text: &mut String) -> Result<
     write_last_number(number_spot(row), stamp, text)
 }
 
-/// Where the numbers of a row meet.
+/// The point at which the numbers of a row meet.
 fn number_spot(row: usize) -> Point
     ensures { result ≡ number_spot row }
 {
     Point { x: 36, y: y(row) }
 }
 
-/// The name of the process of a column; empty where it has none.
+/// The name of the process of a column; empty if it has none.
 fn name_at<'a>(names: &[&'a str], column: usize) -> &'a str
     ensures { result.now ≡ slice_index_or (map (λ n. n.now) names.now) column [] }
 {
@@ -231,7 +231,7 @@ fn write_name_above(
     write_name(at, fit_of(name.len()), said.as_str(), text)
 }
 
-/// Presses a name of so many characters into its column, where it is longer than that is wide.
+/// The attribute that fits a name of so many characters into its column, if it is longer than that is wide.
 fn fit_of(characters: usize) -> &'static str
     ensures { result.now ≡ fit_text characters }
 {
@@ -261,7 +261,7 @@ fn write_life(
     write_alive(spot(column, born), page.row_or_end(ended), text)
 }
 
-/// An arrow to the receipt of a letter, or one with an open head where it did not come.
+/// An arrow to the receipt of a letter, or one with an open head if it did not arrive.
 fn write_letter(
     page: &Page,
     column: usize,
@@ -283,7 +283,7 @@ fn write_letter(
     )
 }
 
-/// Where the arrow of a letter ends.
+/// The point at which the arrow of a letter ends.
 fn tip(page: &Page, arrow: Arrow) -> Point
     ensures { result ≡ tip page.now arrow }
 {
@@ -293,7 +293,7 @@ fn tip(page: &Page, arrow: Arrow) -> Point
     }
 }
 
-/// What a letter says: where it comes if it is owed, else where it is sent.
+/// The label of a letter: at its receiver if it is owed, else at its sender.
 fn write_saying(
     alloc: Global,
     page: &Page,
@@ -329,7 +329,7 @@ fn write_letter_label(
     }
 }
 
-/// Where the label of a letter from this column stands, at its receiver or at its sender.
+/// The side of the label of a letter from this column, at its receiver or at its sender.
 fn letter_side_of(column: usize, arrow: Arrow, owed: bool) -> &'static str
     ensures { result.now ≡ letter_side_text column arrow owed }
 {
@@ -345,7 +345,7 @@ fn letter_side_of(column: usize, arrow: Arrow, owed: bool) -> &'static str
     }
 }
 
-/// Whether the label of a letter stands below its arrow, or above it.
+/// Whether the label of a letter is below its arrow, or above it.
 fn is_below(column: usize, arrow: Arrow, owed: bool) -> bool
     ensures { result ≡ is_below column arrow owed }
 {
@@ -356,7 +356,7 @@ fn is_below(column: usize, arrow: Arrow, owed: bool) -> bool
     }
 }
 
-/// Whether a letter comes in the row in which it was sent.
+/// Whether a letter arrives in the row in which it was sent.
 fn is_level(arrow: Arrow) -> bool
     ensures { result ≡ is_level arrow }
 {
@@ -400,14 +400,14 @@ fn bend(from: Point, to: Point) -> (Point, Point)
     }
 }
 
-/// How far an arrow to its own row goes up and down on its way around.
+/// The distance by which an arrow to its own row goes up and down on its way around.
 fn sag(from: Point, to: Point) -> u64
     ensures { result ≡ sag from to }
 {
     if from.y == to.y { 16 } else { 0 }
 }
 
-/// Where a column and a row meet.
+/// The point at which a column and a row meet.
 fn spot(column: usize, row: usize) -> Point
     ensures { result ≡ spot column row }
 {
@@ -434,7 +434,7 @@ fn write_bearing(
     write_said_bearing(row, parent, child, linked, said.as_str(), text)
 }
 
-/// By whom a process is born, and whether they are linked.
+/// The parent of a process, and whether they are linked.
 fn bearing_label(alloc: Global, by: Pid, linked: bool) -> Result<String, AllocError>
     ensures { IfOk result (λ t. string_bytes t ≡ bearing_label by linked) }
 {
@@ -488,7 +488,7 @@ fn write_named_birth(at: Point, name: &str, text: &mut String) -> Result<(), All
     write_name(Point { x: at.x, y }, "", name, text)
 }
 
-/// Where a label stands: left of a point, or right of it; below it, or above it.
+/// The side of a label: left of a point, or right of it; below it, or above it.
 fn side_of(left: bool, below: bool) -> &'static str
     ensures { result.now ≡ side_text left below }
 {
@@ -563,7 +563,8 @@ fn write_said_end(at: Point, said: &str, text: &mut String) -> Result<(), AllocE
     write_label(Stroke::Exit, at, " dx=\"10\" dy=\"12\"", said, text)
 }
 
-/// The text with XML's own characters escaped. What is not ASCII, which no text of a history has, is a question mark.
+/// The text with XML's own characters escaped. A character that is not ASCII, which no text of a history has, becomes a
+/// question mark.
 fn escaped(alloc: Global, plain: &str) -> Result<String, AllocError>
     ensures { IfOk result (λ t. string_bytes t ≡ escape plain.now) }
 {

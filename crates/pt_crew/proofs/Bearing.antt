@@ -3,7 +3,7 @@ use Rattle.std.proofs.Common.{◌≡◌, ℕ, ◌+◌, ◌-◌, Bool, true, Some
 use Rattle.std.proofs.lemmas.List.{take-append-le}
 use Rattle.pt_crew.specs.declared.births.Births.{Births}
 use Rattle.pt_crew.specs.declared.births.Role.{Role}
-use Rattle.pt_node.proofs.GoingOn.{stays}
+use Rattle.pt_workers.proofs.GoingOn.{stays}
 use Rattle.pt_signal.specs.declared.pid.Pid.{Pid}
 use Rattle.pt_events.specs.History.{is_unborn}
 use Rattle.pt_events.specs.Journal.{IsLocal}

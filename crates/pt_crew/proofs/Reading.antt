@@ -11,8 +11,8 @@ use Rattle.pt_events.specs.declared.event.Event.TheVariants.{Born, Said, Came, T
 use Rattle.pt_events.specs.declared.event.Stamped.{Stamped}
 use Rattle.pt_shard.specs.ShardState.{ShardState}
 use Rattle.pt_crew.specs.declared.crew.Crew.{Crew}
-use Rattle.pt_node.specs.Waking.{came_in, came_to}
-use Rattle.pt_node.proofs.Unread.{Oldest, oldest}
+use Rattle.pt_workers.specs.Waking.{came_in, came_to}
+use Rattle.pt_workers.proofs.Unread.{Oldest, oldest}
 use Rattle.pt_crew.specs.Waking.{Knows, IsAwake}
 use Rattle.std.specs.Option.{option_map}
 use Rattle.pt_crew.specs.declared.crew.Member.{Member}

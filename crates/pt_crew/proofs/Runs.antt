@@ -9,16 +9,16 @@ use Rattle.pt_desk.specs.DeskState.{DeskState}
 use Rattle.pt_desk.specs.Turns.{Turns}
 use Rattle.pt_desk.specs.declared.turned.Turned.{Turned}
 use Rattle.pt_desk.proofs.Turning.{turn_goes_on}
-use Rattle.pt_node.specs.Desks.{desk_kept}
-use Rattle.pt_node.specs.Running.{AllWork, BeginRelation, InRounds, TakesTurn, TakesTurns}
-use Rattle.pt_node.specs.NodeRunning.{RunsNode, RunsPaired}
-use Rattle.pt_node.specs.Stillness.{LooksAgain, Rounds, RunsRounds, TurnEach}
-use Rattle.pt_node.specs.declared.run_fault.RunFault.{RunFault}
-use Rattle.pt_node.specs.declared.run_fault.RunFault.TheVariants.{Works, Memory}
-use Rattle.pt_node.specs.declared.stillness.Rested.{Rested}
-use Rattle.pt_node.specs.declared.stillness.Stopped.{Stopped}
-use Rattle.pt_node.proofs.Meeting.{kept_count, kept_shard}
-use Rattle.pt_node.proofs.TurnsOf.{turn_of, turns_go_on}
+use Rattle.pt_workers.specs.Desks.{desk_kept}
+use Rattle.pt_workers.specs.Running.{AllWork, BeginRelation, InRounds, TakesTurn, TakesTurns}
+use Rattle.pt_workers.specs.NodeRunning.{RunsNode, RunsPaired}
+use Rattle.pt_workers.specs.Stillness.{LooksAgain, Rounds, RunsRounds, TurnEach}
+use Rattle.pt_workers.specs.declared.run_fault.RunFault.{RunFault}
+use Rattle.pt_workers.specs.declared.run_fault.RunFault.TheVariants.{Works, Memory}
+use Rattle.pt_workers.specs.declared.stillness.Rested.{Rested}
+use Rattle.pt_workers.specs.declared.stillness.Stopped.{Stopped}
+use Rattle.pt_workers.proofs.Meeting.{kept_count, kept_shard}
+use Rattle.pt_workers.proofs.TurnsOf.{turn_of, turns_go_on}
 use Rattle.pt_crew.specs.declared.crew.Crew.{Crew}
 use Rattle.pt_crew.specs.Visiting.{Answers}
 use Rattle.pt_crew.specs.Waking.{IsAwake}

@@ -19,8 +19,8 @@ use Rattle.pt_crew.specs.Crews.{members, role, queue, IsSame, KeepsRest, KnowsDe
 use Rattle.pt_crew.specs.Parts.{QueueHolds, QueueIsLonger, Wakes, is_marked}
 use Rattle.std.specs.Option.{option_map}
 use Rattle.pt_signal.proofs.Same.{same_pid_refl, same_pid_is}
-use Rattle.pt_node.specs.Waking.{came_in, came_to}
-use Rattle.pt_node.proofs.Waiting.{born_later, need_not_before, neither}
+use Rattle.pt_workers.specs.Waking.{came_in, came_to}
+use Rattle.pt_workers.proofs.Waiting.{born_later, need_not_before, neither}
 use Rattle.pt_crew.proofs.Places.{same_pid_sym, same_pid_laws}
 
 -- nothing came to p since the desk was so: what it has to do now it had to do then

@@ -2,11 +2,11 @@
 use Rattle.std.specs.Prelude.{◌≡◌, ℕ, ◌<◌, ◌==◌, ◌&&◌, Bool, true, List, length, slice_index_or, Result}
 use Rattle.pt_shard.specs.ShardState.{ShardState}
 use Rattle.pt_desk.specs.DeskState.{DeskState}
-use Rattle.pt_node.specs.Running.{AllWork, BeginRelation, InRounds, WorkRelation, step_alone}
-use Rattle.pt_node.specs.NodeRunning.{RunsNode}
-use Rattle.pt_node.specs.Stillness.{RunsRounds}
-use Rattle.pt_node.specs.declared.run_fault.RunFault.{RunFault}
-use Rattle.pt_node.specs.declared.stillness.Rested.{Rested}
+use Rattle.pt_workers.specs.Running.{AllWork, BeginRelation, InRounds, WorkRelation, step_alone}
+use Rattle.pt_workers.specs.NodeRunning.{RunsNode}
+use Rattle.pt_workers.specs.Stillness.{RunsRounds}
+use Rattle.pt_workers.specs.declared.run_fault.RunFault.{RunFault}
+use Rattle.pt_workers.specs.declared.stillness.Rested.{Rested}
 use Rattle.pt_crew.specs.declared.crew.Crew.{Crew}
 use Rattle.pt_crew.specs.Visiting.{Answers}
 use Rattle.pt_crew.specs.Crews.{Attends, CrewDoes, queue}

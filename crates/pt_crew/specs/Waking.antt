@@ -6,7 +6,7 @@ use Rattle.pt_signal.specs.Values.{same_pid}
 use Rattle.pt_events.specs.declared.event.Stamped.{Stamped}
 use Rattle.pt_events.specs.History.{Phase, is_unborn}
 use Rattle.pt_shard.specs.ShardState.{ShardState, phase_of}
-use Rattle.pt_node.specs.Waking.{came_in, need_not_wait}
+use Rattle.pt_workers.specs.Waking.{came_in, need_not_wait}
 use Rattle.pt_crew.specs.declared.behaviour.Next.{Next}
 use Rattle.pt_crew.specs.declared.behaviour.Next.TheVariants.{Wait, Proceed, Stop}
 use Rattle.pt_crew.specs.declared.crew.Member.{Member}

@@ -11,33 +11,34 @@ ghost use Rattle.pt_crew.specs.Births.{bore, born, kept_roles};
 ghost use Rattle.pt_crew.specs.Visiting.{takes};
 
 use crate::births::Births;
-use pt_node::{Desk, Item, Pick, Pid, Reason};
+use pt_workers::{Desk, Item, Pick, Pid, Reason};
 
 /// What a process does next.
 #[derive(Clone, Copy, Debug, PartialEq, Eq)]
 pub enum Next {
-    /// It waits for an item that this pick fits; the others stay in its mailbox, in order. `Pick::Any` fits each.
+    /// It waits for an item that matches this pick. The others stay in its mailbox, in order. Each item matches
+    /// `Pick::Any`.
     Wait(Pick),
-    /// It goes on without an item, when it is come to next: Erlang's `{continue, ..}`.
+    /// It gets `None` when it runs next: Erlang's `{continue, ..}`.
     Proceed,
-    /// It ends with this reason, when it is come to next.
+    /// It exits with this reason when it runs next.
     Stop(Reason),
 }
 
-/// What a process does with the items of its mailbox: `handle_info` of Erlang's `gen_server`, with a pick in each
-/// answer as `receive` has its patterns.
+/// What a process does with the items of its mailbox: `handle_info` of Erlang's `gen_server`. Each answer has a pick,
+/// as `receive` has its patterns.
 ///
-/// Its state is a value of the program's own, one of each process. What it may answer is its ghost member `answers`, in
-/// whose terms a step of a crew says what it did: it and its desk before, the process, the item, what it does next, it
-/// and its desk afterwards, and whom it bore.
+/// Its state is a value of the program's own, one for each process. The ghost member `answers` says what it may answer,
+/// and a step of a crew says by it what it did. It relates the behaviour and its desk before, the process, the item,
+/// what it does next, the behaviour and its desk afterwards, and the children that it spawned.
 pub trait Behaviour {
     ghost answers: { Self → ShardState → Pid → Option Item → Next → Self → ShardState → List (Role Self) → Type 0 };
 
-    /// Sees to one item, which was taken out of the mailbox of `me`, or to none where `me` was to proceed. It takes no
-    /// other item out of a mailbox.
+    /// Handles one item, which was taken out of the mailbox of `me`, or gets `None` if `me` was to proceed. It must
+    /// take no other item out of a mailbox.
     ///
     /// The calls of a desk in the form of [`tell`](crate::tell), [`watch`](crate::watch) and their like keep what is
-    /// asked here. The children that it bears ([`bear`](crate::bear)) enter the crew as the step ends.
+    /// required here. The children that it spawns ([`bear`](crate::bear)) enter the crew as the step ends.
     fn handle(
         &mut self,
         desk: &mut Desk,

@@ -1,4 +1,4 @@
-//! The children that behaviours bear.
+//! The children that behaviours spawn.
 
 ghost use Rattle.std.specs.Prelude.{◌≡◌, [], ◌∷◌, length, MatchOption};
 ghost use Rattle.pt_desk.specs.DeskState.{GoesOn};
@@ -6,7 +6,7 @@ ghost use Rattle.pt_crew.specs.Births.{Bore, born, kept_roles};
 ghost use Rattle.pt_crew.specs.Visiting.{takes};
 
 use crate::behaviour::Next;
-use pt_node::{Desk, Fault, Pid};
+use pt_workers::{Desk, Fault, Pid};
 use std::alloc::Global;
 use std::collections::VecDeque;
 
@@ -18,11 +18,11 @@ pub struct Role<B> {
     pub next: Next,
 }
 
-/// Children that were born with a behaviour, and wait to enter their crew, the first in front.
+/// Children that were spawned with a behaviour, and wait to enter their crew, the first in front.
 #[derive(Drop)]
 pub struct Births<B> {
     list: VecDeque<Role<B>>,
-    /// How many of them, the last, were born since a behaviour was handed its item.
+    /// How many of them, the last ones, were spawned since a behaviour got its item.
     fresh: usize,
 }
 
@@ -37,14 +37,14 @@ impl<B: Drop> Births<B> {
         }
     }
 
-    /// How many wait.
+    /// The number of those that wait.
     pub fn len(&self) -> usize
         ensures { result ≡ length (born self.now) }
     {
         self.list.len()
     }
 
-    /// Those who wait now are not of the behaviour that is handed an item next.
+    /// Marks that those who wait now are no children of the behaviour that gets an item next.
     pub(crate) fn begin(&mut self)
         ensures same { born self.new ≡ born self.old }
         ensures all { kept_roles self.new ≡ born self.old }
@@ -61,10 +61,10 @@ impl<B: Drop> Births<B> {
     }
 }
 
-/// Bears a process on its own desk, linked with it where that is asked, which has this behaviour and does this first
+/// Spawns a process on its own desk, linked with it if `linked` is true, which has this behaviour and does this first
 /// (`spawn`, `spawn_link`).
 ///
-/// The child enters the crew as the step ends. It is refused as [`Desk::spawn_child`] is, and for want of memory here;
+/// The child enters the crew as the step ends. It fails as [`Desk::spawn_child`] does, and if there is no memory here;
 /// nothing has changed then.
 #[tactic(auto, using(crate::proofs::Bearing::bearing))]
 pub fn bear<B: Drop>(

@@ -1,7 +1,8 @@
-//! The calls of a desk for a behaviour: they ask nothing of their caller, and each is answered.
+//! The calls of a desk for a behaviour: they have no precondition, and each returns an answer.
 //!
-//! A target that the desk does not know is answered as one that it sees to have ended. None of them takes an item out
-//! of a mailbox, so a behaviour that makes no other calls is what [`Behaviour`](crate::Behaviour) asks of it.
+//! If the desk does not know a target, the call fails as for one that the desk sees to have exited. None of them takes
+//! an item out of a mailbox. So a behaviour that makes no other calls meets what [`Behaviour`](crate::Behaviour)
+//! requires.
 
 ghost use Rattle.std.specs.Prelude.{◌≡◌, Some, false, is_some};
 ghost use Rattle.pt_signal.specs.declared.signal.Signal.{Signal};
@@ -14,14 +15,14 @@ ghost use Rattle.pt_desk.specs.Reaching.{Reaches, has_link_to_make, has_monitor_
 ghost use Rattle.pt_crew.specs.Telling.{IfKnown};
 ghost use Rattle.pt_crew.specs.Visiting.{takes};
 
-use pt_node::{Body, Desk, Fault, Pid, Reason, Ref};
+use pt_workers::{Body, Desk, Fault, Pid, Reason, Ref};
 
 /// Sends a message (`!`).
 ///
-/// `NoProc` where the desk does not know the target, and nothing has changed then; else it is refused as
-/// [`Desk::send`] is.
+/// Fails with `NoProc` if the desk does not know the target, and nothing has changed then. Else it fails as
+/// [`Desk::send`] does.
 #[inline(always)]
-#[tactic(auto, using(pt_node::proofs::GoingOn::stays, crate::proofs::Takes::sent_takes))]
+#[tactic(auto, using(pt_workers::proofs::GoingOn::stays, crate::proofs::Takes::sent_takes))]
 pub fn tell(desk: &mut Desk, me: Pid, to: Pid, body: Body) -> Result<(), Fault>
     ensures does { IfKnown (knows desk.old.shard to)
         (Reaches (lives desk.old.shard me) me to
@@ -36,11 +37,11 @@ pub fn tell(desk: &mut Desk, me: Pid, to: Pid, body: Body) -> Result<(), Fault>
     desk.send(me, to, body)
 }
 
-/// Watches a process for its end (`monitor`).
+/// Monitors a process (`monitor`).
 ///
-/// `NoProc` where the desk does not know the target, and nothing has changed then; else it is refused as
-/// [`Desk::monitor`] is.
-#[tactic(auto, using(pt_node::proofs::GoingOn::stays, crate::proofs::Takes::watched_takes))]
+/// Fails with `NoProc` if the desk does not know the target, and nothing has changed then. Else it fails as
+/// [`Desk::monitor`] does.
+#[tactic(auto, using(pt_workers::proofs::GoingOn::stays, crate::proofs::Takes::watched_takes))]
 pub fn watch(desk: &mut Desk, me: Pid, to: Pid) -> Result<Ref, Fault>
     ensures does { IfKnown (knows desk.old.shard to)
         (Reaches (has_monitor_to_make desk.old.shard me to) me to
@@ -56,9 +57,9 @@ pub fn watch(desk: &mut Desk, me: Pid, to: Pid) -> Result<Ref, Fault>
 
 /// Links itself with a process (`link`).
 ///
-/// `NoProc` where the desk does not know the target, and nothing has changed then; else it is refused as
-/// [`Desk::link`] is.
-#[tactic(auto, using(pt_node::proofs::GoingOn::stays, crate::proofs::Takes::linked_takes))]
+/// Fails with `NoProc` if the desk does not know the target, and nothing has changed then. Else it fails as
+/// [`Desk::link`] does.
+#[tactic(auto, using(pt_workers::proofs::GoingOn::stays, crate::proofs::Takes::linked_takes))]
 pub fn join(desk: &mut Desk, me: Pid, to: Pid) -> Result<(), Fault>
     ensures does { IfKnown (knows desk.old.shard to)
         (Reaches (has_link_to_make desk.old.shard me to) me to
@@ -75,9 +76,9 @@ pub fn join(desk: &mut Desk, me: Pid, to: Pid) -> Result<(), Fault>
 
 /// Sends an exit signal (`exit/2`).
 ///
-/// `NoProc` where the desk does not know the target, and nothing has changed then; else it is refused as
-/// [`Desk::exit_signal`] is.
-#[tactic(auto, using(pt_node::proofs::GoingOn::stays, crate::proofs::Takes::said_takes))]
+/// Fails with `NoProc` if the desk does not know the target, and nothing has changed then. Else it fails as
+/// [`Desk::exit_signal`] does.
+#[tactic(auto, using(pt_workers::proofs::GoingOn::stays, crate::proofs::Takes::said_takes))]
 pub fn bid_exit(desk: &mut Desk, me: Pid, to: Pid, reason: Reason) -> Result<(), Fault>
     ensures does { IfKnown (knows desk.old.shard to)
         (Calls me (Some (Event.Said me to (Signal.Exit reason))) tt desk.old.shard result desk.new.shard) desk.old
@@ -91,11 +92,11 @@ pub fn bid_exit(desk: &mut Desk, me: Pid, to: Pid, reason: Reason) -> Result<(),
     desk.exit_signal(me, to, reason)
 }
 
-/// Takes its link with a process away (`unlink`).
+/// Removes its link with a process (`unlink`).
 ///
-/// `NoProc` where the desk does not know the target, and nothing has changed then; else it is refused as
-/// [`Desk::unlink`] is.
-#[tactic(auto, using(pt_node::proofs::GoingOn::stays, crate::proofs::Takes::unlinked_takes))]
+/// Fails with `NoProc` if the desk does not know the target, and nothing has changed then. Else it fails as
+/// [`Desk::unlink`] does.
+#[tactic(auto, using(pt_workers::proofs::GoingOn::stays, crate::proofs::Takes::unlinked_takes))]
 pub fn part(desk: &mut Desk, me: Pid, to: Pid) -> Result<(), Fault>
     ensures does { IfKnown (knows desk.old.shard to)
         (Calls me (unlink_event desk.old.shard me to) tt desk.old.shard result desk.new.shard) desk.old result
@@ -109,9 +110,9 @@ pub fn part(desk: &mut Desk, me: Pid, to: Pid) -> Result<(), Fault>
     desk.unlink(me, to)
 }
 
-/// Gives a monitor up, and leaves a `DOWN` that has come where it is (`demonitor`).
+/// Cancels a monitor, and leaves a `DOWN` that has arrived in the mailbox (`demonitor`).
 ///
-/// It answers whether the monitor was open. It is refused as [`Desk::demonitor`] is.
+/// It returns whether the monitor was open. It fails as [`Desk::demonitor`] does.
 #[tactic(auto, using(crate::proofs::Takes::unwatched_takes))]
 pub fn unwatch(desk: &mut Desk, me: Pid, monitor: Ref) -> Result<bool, Fault>
     ensures does { Calls me (demonitor_event desk.old.shard me monitor false)
@@ -122,9 +123,9 @@ pub fn unwatch(desk: &mut Desk, me: Pid, monitor: Ref) -> Result<bool, Fault>
     desk.demonitor(me, monitor, false)
 }
 
-/// Sets whether it traps exits, and answers whether it did (`process_flag(trap_exit, _)`).
+/// Sets whether it traps exits, and returns whether it did before (`process_flag(trap_exit, _)`).
 ///
-/// It is refused as [`Desk::trap`] is.
+/// It fails as [`Desk::trap`] does.
 #[tactic(auto, using(crate::proofs::Takes::flag_takes))]
 pub fn trap(desk: &mut Desk, me: Pid, on: bool) -> Result<bool, Fault>
     ensures does { Calls me (Some (Event.Flag me on)) (state_in desk.old.shard me).traps desk.old.shard result

@@ -21,61 +21,65 @@ use crate::behaviour::{Behaviour, Next};
 use crate::births::{Births, Role};
 use crate::hints::Hints;
 use indexmap::IndexMap;
-use pt_node::{Desk, Event, Fault, Item, Pid, Turned, Work};
+use pt_workers::{Desk, Event, Fault, Item, Pid, Turned, Work};
 use std::alloc::{AllocError, Global};
 use std::collections::VecDeque;
 
-/// A process of the crew. It is public since the definitions of a crew name it; no call hands one out.
+/// A process of the crew. It is public since the definitions of a crew name it; no call returns one.
 #[derive(Drop)]
 pub struct Member<B> {
     behaviour: B,
     next: Next,
-    /// Whether it stands in the queue.
+    /// Whether it is in the queue.
     queued: bool,
 }
 
-/// What came of it when a process of the queue was come to. It is public since the definitions of a visit name it.
+/// What a process of the queue did when it ran. It is public since the definitions of a visit name it.
 #[derive(Clone, Copy, Debug, PartialEq, Eq)]
 pub enum Tended {
-    /// Nothing fits, or it is not of the crew: it leaves the queue.
+    /// No item matches, or it is not of the crew: it leaves the queue.
     Idle,
-    /// It was handed an item, or went on without one, and may have more to do: it goes behind the queue.
+    /// It got an item, or `None`, and may have more to do: it joins the queue's end.
     Again,
-    /// It was handed an item, or went on without one, and waits now with an empty mailbox: it leaves the queue.
+    /// It got an item, or `None`, and waits now with an empty mailbox: it leaves the queue.
     Done,
-    /// A call was refused for want of memory or stamps, and nothing has changed: it goes behind the queue.
+    /// A call failed, since there was no memory or no stamp, and nothing has changed: it joins the queue's end.
     Refused,
-    /// It has ended, and leaves the crew.
+    /// It has exited, and leaves the crew.
     Gone,
 }
 
 /// The processes of one desk that have a behaviour, and those of them that may have something to do.
 ///
-/// It is the desk's [`Work`]. A step reads what is new in the desk's journal, puts whoever got a signal behind the
-/// queue, and comes to the processes of the queue in order: one that is to stop ends, and of one that waits the first
-/// item that its pick fits is taken and handed to its behaviour. So a step costs what is new and what is queued,
-/// however many processes are idle.
+/// It is the desk's [`Work`]. A step reads what is new in the desk's journal, and puts each process that got a signal
+/// at the queue's end. Then it runs the processes of the queue in order:
+///
+/// - a process that is to stop exits;
+/// - a process that is to proceed gets `None`;
+/// - if a process waits, its first matching item is taken and passed to its behaviour.
+///
+/// So a step costs time for what is new and what is queued. Idle processes cost nothing.
 #[derive(Drop)]
 pub struct Crew<B> {
     members: IndexMap<Pid, Member<B>>,
     hints: Hints,
     queue: VecDeque<Pid>,
-    /// Who was born and has not entered yet.
+    /// The processes that were spawned and have not entered yet.
     births: Births<B>,
-    /// Who left in the last step.
+    /// The processes that left in the last step.
     left: Vec<Role<B>>,
-    /// How many events of the journal were read.
+    /// The number of events of the journal that were read.
     read: usize,
-    /// How many rounds through its queue a step makes.
+    /// The number of rounds over the queue that a step makes.
     rounds: u32,
-    /// Whether a call was refused in the last step, for want of memory or stamps.
+    /// Whether a call failed in the last step, since there was no memory or no stamp.
     refused: bool,
 }
 
 impl<B: Behaviour + Drop> Crew<B> {
-    /// A crew of nobody, which has read nothing of the journal of its desk yet.
+    /// An empty crew, which has read nothing of the journal of its desk yet.
     ///
-    /// In each step it hands each process at most `rounds` items, and one where `rounds` is 0.
+    /// In each step each process gets at most `rounds` items, and one if `rounds` is 0.
     pub fn new(alloc: Global, rounds: u32) -> Crew<B>
         ensures attends { (d : ShardState) → Attends result d }
         ensures nobody { (p : Pid) → roles result p ≡ None }
@@ -97,21 +101,21 @@ impl<B: Behaviour + Drop> Crew<B> {
         }
     }
 
-    /// How many processes are of the crew.
+    /// The number of processes of the crew.
     pub fn len(&self) -> usize
         ensures { result ≡ length self.now.members.entries }
     {
         self.members.len()
     }
 
-    /// How many processes may have something to do.
+    /// The number of processes that may have something to do.
     pub fn queued(&self) -> usize
         ensures { result ≡ length (queue self.now) }
     {
         self.queue.len()
     }
 
-    /// The behaviour of a process, or `None` where it is not of the crew.
+    /// The behaviour of a process, or `None` if it is not of the crew.
     pub fn behaviour(&self, p: Pid) -> Option<&B>
         ensures { option_copied result ≡ option_map (λ r. r.0) (roles self.now p) }
     {
@@ -121,7 +125,7 @@ impl<B: Behaviour + Drop> Crew<B> {
         }
     }
 
-    /// What a process does next, or `None` where it is not of the crew.
+    /// What a process does next, or `None` if it is not of the crew.
     pub fn next(&self, p: Pid) -> Option<Next>
         ensures { result ≡ option_map (λ r. r.1) (roles self.now p) }
     {
@@ -131,8 +135,8 @@ impl<B: Behaviour + Drop> Crew<B> {
         }
     }
 
-    /// Whether nobody stands in the queue, and all that happened on its desk was read. Then nobody of a crew that
-    /// attends the desk has anything to do.
+    /// Whether the queue is empty, and all that happened on its desk was read. Then no process of a crew that attends
+    /// the desk has anything to do.
     pub fn is_idle(&self, desk: &Desk) -> bool
         ensures idle { result ≡ is_idle self.now desk.now.shard }
         ensures awake { result ≡ true → Attends self.now desk.now.shard
@@ -141,26 +145,26 @@ impl<B: Behaviour + Drop> Crew<B> {
         self.queue.is_empty() && self.read == desk.journal().events().len()
     }
 
-    /// How many were born and have not entered yet: none, unless the last step was refused memory.
+    /// The number of processes that were spawned and have not entered yet: none, unless the last step found no memory.
     pub fn waiting(&self) -> usize
         ensures { result ≡ length (waiting self.now) }
     {
         self.births.len()
     }
 
-    /// Who left in the last step, the first in front.
+    /// The processes that left in the last step, the first in front.
     ///
-    /// Each stands there with what it was to do: `Stop` with its reason where it ended by itself, and `Wait` or
-    /// `Proceed` where another ended it, or a call of its own.
+    /// Each is listed with what it was to do. That is `Stop` with its reason if it exited by itself, and `Wait` or
+    /// `Proceed` if another process or a call of its own made it exit.
     pub fn left(&self) -> &[Role<B>]
         ensures { result.now ≡ left self.now }
     {
         self.left.as_slice()
     }
 
-    /// Takes one of those who left in the last step, the last of them first.
+    /// Takes one of the processes that left in the last step, the last of them first.
     ///
-    /// Whoever is not taken is dropped as the next step begins.
+    /// Those not taken are dropped as the next step begins.
     pub fn take_left(&mut self) -> Option<Role<B>>
         ensures left { left self.old ≡ left self.new ++ option_to_list result }
         ensures none { result ≡ None → left self.old ≡ [] }
@@ -173,15 +177,15 @@ impl<B: Behaviour + Drop> Crew<B> {
         self.left.pop()
     }
 
-    /// Whether the last step was refused a call for want of memory or stamps. Whoever it was for is as it was, and
-    /// stands in the queue.
+    /// Whether a call of the last step failed, since there was no memory or no stamp. The process that it was for is as
+    /// it was, and is in the queue.
     pub fn refused(&self) -> bool
         ensures { result ≡ self.now.refused }
     {
         self.refused
     }
 
-    /// A step, and then a turn of the desk, as a run takes them; what the turn did.
+    /// Does a step, and then a turn of the desk, as a run does. It returns what the turn did.
     #[tactic(auto, using(pt_desk::proofs::Turning::goes_on_then))]
     pub fn work(&mut self, desk: &mut Desk, budget: u32) -> Turned
         ensures does { CrewWorks B.answers budget self.old desk.old result self.new desk.new }
@@ -192,10 +196,10 @@ impl<B: Behaviour + Drop> Crew<B> {
         desk.turn(budget)
     }
 
-    /// A process is born on the desk and enters the crew, and does this first: it waits for what a pick fits, or
-    /// proceeds, where its behaviour has something to do at its birth.
+    /// Spawns a process on the desk, which enters the crew and does this first. It waits for an item that matches a
+    /// pick, or proceeds if its behaviour has something to do at its start.
     ///
-    /// It is refused as a birth is ([`Desk::spawn`]), and for want of memory in the crew; then nothing has changed.
+    /// It fails as [`Desk::spawn`] does, and if there is no memory in the crew; then nothing has changed.
     pub fn enter(&mut self, desk: &mut Desk, behaviour: B, first: Next) -> Result<Pid, Fault>
         ensures does { Enters behaviour first self.old desk.old.shard result self.new desk.new.shard }
         ensures knows { KnowsDesk self.old desk.old.shard → KnowsDesk self.new desk.new.shard }
@@ -224,12 +228,12 @@ impl<B: Behaviour + Drop> Crew<B> {
         }
     }
 
-    /// Goes on over the desk of the same number in a node that was resumed: it reads the journal of that desk from its
-    /// beginning, and comes to each of its processes in the next step. For what came to them while the node was settled
-    /// stands in no journal that is left.
+    /// Continues over the desk of the same number in a node that was resumed. It reads the journal of that desk from
+    /// its beginning, and visits each of its processes in the next step. For no journal that is left has what they got
+    /// while the node was settled.
     ///
-    /// It costs the number of the processes. It is refused for want of memory only by a crew that attends no desk, and
-    /// then nobody is forgotten.
+    /// It costs time for each process. It fails for want of memory only if the crew attends no desk, and then no
+    /// process is forgotten.
     pub fn begin_again(&mut self) -> Result<(), AllocError>
         ensures attends { OnOk result ((d e : ShardState) → Attends self.old d → AreBorn (roles self.old) e
             → Attends self.new e) }
@@ -246,7 +250,7 @@ impl<B: Behaviour + Drop> Crew<B> {
         Ok(())
     }
 
-    /// Puts the process at that place into the queue, if there is one and it is not there.
+    /// Puts the process at that place into the queue, if there is one and it is not there yet.
     fn wake_at(&mut self, place: usize) -> Result<(), AllocError>
         ensures wakes { OnOk result (WakesAt place self.old self.new) }
         ensures refused { OnErr result (IsSame self.old self.new) }
@@ -259,7 +263,7 @@ impl<B: Behaviour + Drop> Crew<B> {
         self.wake(p)
     }
 
-    /// Puts p into the queue, if it is of the crew and not there.
+    /// Puts p into the queue, if it is of the crew and not there yet.
     #[inline(always)]
     fn wake(&mut self, p: Pid) -> Result<(), AllocError>
         ensures wakes { OnOk result (Wakes p self.old self.new) }
@@ -280,7 +284,8 @@ impl<B: Behaviour + Drop> Crew<B> {
         Ok(())
     }
 
-    /// Wakes whoever the event brings something, or who ended by it: it leaves the crew when it is come to.
+    /// Wakes the process that got a signal by the event, or exited by it. An exited one leaves the crew when it is
+    /// visited.
     #[inline(always)]
     fn note(&mut self, event: &Event) -> Result<(), AllocError>
         ensures wakes { OnOk result (WakesBy event.now self.old self.new) }
@@ -311,7 +316,7 @@ impl<B: Behaviour + Drop> Crew<B> {
         }
     }
 
-    /// Makes room for one who enters, or leaves at once.
+    /// Makes room for one process that enters, or leaves at once.
     fn make_room(&mut self) -> Result<(), AllocError>
         ensures same { IsSame self.old self.new }
         ensures ok { OnOk result (CanEnter self.new) }
@@ -327,7 +332,7 @@ impl<B: Behaviour + Drop> Crew<B> {
         self.left.reserve(1)
     }
 
-    /// Lets the first of those that were born enter.
+    /// Lets the first of the spawned processes enter.
     fn admit_one(&mut self, desk: &Desk)
         ensures admits { AdmitsFirst (lives desk.now.shard) self.old self.new }
         ensures knows { KnowsDesk self.old desk.now.shard → KnowsDesk self.new desk.now.shard }
@@ -347,7 +352,7 @@ impl<B: Behaviour + Drop> Crew<B> {
         self.take_in(newborn);
     }
 
-    /// One who was born enters.
+    /// A spawned process enters.
     fn take_in(&mut self, newborn: Role<B>)
         requires { CanEnter self.old }
         ensures does { AreWith newborn.pid (Some (newborn.behaviour, newborn.next)) (roles self.old)
@@ -377,7 +382,7 @@ impl<B: Behaviour + Drop> Crew<B> {
         }
     }
 
-    /// Whether p is of the crew and stands in the queue.
+    /// Whether p is of the crew and in the queue.
     fn stands(&self, p: Pid) -> bool
         ensures { result ≡ is_marked (members self.now p) }
     {
@@ -387,7 +392,7 @@ impl<B: Behaviour + Drop> Crew<B> {
         }
     }
 
-    /// Lets those that were born enter, as far as there is memory.
+    /// Lets the spawned processes enter, as far as there is memory.
     fn admit(&mut self, desk: &Desk)
         ensures admits { Admits (lives desk.now.shard) self.old self.new }
         ensures knows { KnowsDesk self.old desk.now.shard → KnowsDesk self.new desk.now.shard }
@@ -398,7 +403,7 @@ impl<B: Behaviour + Drop> Crew<B> {
         }
     }
 
-    /// Sees to the first of the queue.
+    /// Runs the first process of the queue.
     fn serve(&mut self, desk: &mut Desk)
         ensures serves { Serves B.answers (queue self.old) self.old desk.old.shard self.new desk.new.shard }
         ensures knows { KnowsDesk self.old desk.old.shard → KnowsDesk self.new desk.new.shard }
@@ -446,7 +451,7 @@ impl<B: Behaviour + Drop> Crew<B> {
         }
     }
 
-    /// Sees to each that stands in the queue now.
+    /// Runs each process that is in the queue now.
     fn round(&mut self, desk: &mut Desk)
         ensures visits { Visits B.answers (queue self.old) (scene [] self.old desk.old.shard)
             (scene (queue self.new) self.new desk.new.shard) }
@@ -461,7 +466,7 @@ impl<B: Behaviour + Drop> Crew<B> {
     }
 }
 
-/// Lets a process end, where it is to, or hands it the first item that fits.
+/// Makes a process exit if it is to stop, and else passes it `None` or its first matching item.
 #[tactic(auto, using(pt_desk::proofs::Turning::goes_on_then, crate::proofs::Takes::idle_is))]
 fn tend<B: Behaviour + Drop>(
     member: &mut Member<B>,
@@ -501,7 +506,7 @@ fn tend<B: Behaviour + Drop>(
     }
 }
 
-/// What comes of it that a process was handed something: it goes behind the queue, unless it waits with an empty mailbox.
+/// What follows when a process got something: it joins the queue's end, unless it waits with an empty mailbox.
 fn handed(next: Next, desk: &Desk, p: Pid) -> Tended
     ensures { result ≡ handed_as next (phase_of desk.now.shard p) }
 {
@@ -511,7 +516,7 @@ fn handed(next: Next, desk: &Desk, p: Pid) -> Tended
     }
 }
 
-/// Hands an item, or none, to the behaviour of a process, which says what it does next.
+/// Passes an item, or `None`, to the behaviour of a process, which says what it does next.
 fn hand<B: Behaviour + Drop>(
     member: &mut Member<B>,
     births: &mut Births<B>,

@@ -1,18 +1,18 @@
-//! Where the members of a crew stood last.
+//! The places that the members of a crew had last.
 
 ghost use Rattle.std.specs.Prelude.{◌≡◌, ◌<◌, ◌≤◌, ◌↔◌, IfSome, IsOk, IsTrue, OnOk, Some, is_some, vec_len};
 ghost use Rattle.indexmap.specs.IndexMap.{IndexMap, get, index_map_len, index_of_by};
 ghost use Rattle.pt_signal.specs.Values.{same_pid};
 
 use indexmap::IndexMap;
-use pt_node::Pid;
+use pt_workers::Pid;
 use std::alloc::{AllocError, Global};
 
 /// For each member of a crew a guess of its place in the map of the members, which saves the hash of its pid.
 ///
-/// A guess stands at the last bits of the member's slot. It may be wrong, since members move and two slots may end
-/// alike: so whoever reads one looks who stands there: a hint is a place where that member stands, or none. It is public since a
-/// crew has one; no call hands one out.
+/// A guess is at the last bits of the member's slot. It may be wrong, since members move and two slots may end alike.
+/// So a reader looks which member is there: a hint is a place that has that member, or none. It is public since a crew
+/// has one; no call returns one.
 #[derive(Drop)]
 pub struct Hints {
     places: Vec<u32>,
@@ -26,8 +26,8 @@ impl Hints {
         }
     }
 
-    /// Makes room for the guesses of so many members: a power of two of them, as many as the last bits of a slot tell
-    /// apart.
+    /// Makes room for the guesses of so many members: a power of two of them, as many as the last bits of a slot
+    /// distinguish.
     pub fn grow(&mut self, members: usize) -> Result<(), AllocError>
         ensures ok { OnOk result (members ≤ vec_len self.new.places) }
         ensures succeeds { members ≤ vec_len self.old.places → IsOk result }
@@ -41,7 +41,8 @@ impl Hints {
         }
     }
 
-    /// The place of p among the members: where the member of its slot stood last, or else where its hash leads.
+    /// The place of p among the members: the last place of the member of its slot, or else the place that its hash
+    /// leads to.
     #[inline(always)]
     pub fn place_of<V>(&mut self, members: &IndexMap<Pid, V>, p: Pid) -> Option<usize>
         ensures index { result ≡ index_of_by (same_pid p) members.now }
@@ -75,7 +76,7 @@ impl Hints {
         Some(place)
     }
 
-    /// The guess of that slot: the first place where there is none.
+    /// The guess of that slot: the first place if there is none.
     #[inline(always)]
     fn guess(&self, slot: u32) -> usize {
         match self.places.get(self.index(slot)) {
@@ -84,7 +85,7 @@ impl Hints {
         }
     }
 
-    /// Notes where the member of that slot stands.
+    /// Notes the place of the member of that slot.
     fn note(&mut self, slot: u32, place: usize) {
         let index = self.index(slot);
         if let (Some(guess), Ok(place)) = (self.places.get_mut(index), u32::try_from(place)) {
@@ -92,7 +93,7 @@ impl Hints {
         }
     }
 
-    /// Where the guess of that slot stands, where there is room for one.
+    /// The place of that slot's guess, if there is room for one.
     #[inline(always)]
     fn index(&self, slot: u32) -> usize {
         slot as usize & self.places.len().wrapping_sub(1)

@@ -1,38 +1,40 @@
 //! Processes that run code: the crew of a desk.
 //!
 //! What a process does with an item of its mailbox is a [`Behaviour`]. A [`Crew`] has the processes of one desk with
-//! their behaviours, and is the desk's [`Work`](pt_node::Work), so `pt_node::run` and `run_single` run it.
+//! their behaviours, and is the desk's [`Work`](pt_workers::Work), so `pt_workers::run` and `run_single` run it.
 //!
 //! # Calls that are answered
 //! Erlang's `gen_server:call`, as a monitor, a request, and the answer or the `DOWN`. A behaviour that asks keeps a
-//! [`Pending`] in its state and shows it each item that comes; one that is asked tells a request from other items by
+//! [`Pending`] in its state and shows it each item that arrives. A behaviour that is asked recognises a request by
 //! [`request_of`], and answers by [`reply`], at once or later.
 //!
 //! A message holds a kind, a number and maybe a pid. A request and its answer both speak of the client, by its pid: the
 //! request of its own sender, the answer of its receiver. Both carry the number of the monitor's reference, which no
-//! other monitor of the client's desk has, so an answer belongs to one call alone. The kind is what is asked, and what
-//! is answered.
+//! other monitor of the client's desk has, so an answer belongs to one call alone. The kind says what is asked, and
+//! what is answered.
 //!
 //! # What is proved
 //!
-//! - **No lost wake-up.** After each step, each live process with an item that it waits for is in the queue, and so is
-//!   each exited one that has not left. (`CrewDoes`, `awake`)
-//! - **Each item once.** Each item taken was handed to the behaviour of its process, once and in order, and nothing
+//! - **No lost wake-up.** After each step, each live process with an item that it waits for is in the queue. So is each
+//!   exited one that has not left. (`CrewDoes`, `awake`)
+//! - **Each item once.** Each item taken was passed to the behaviour of its process, once and in order, and nothing
 //!   else was. (`hands`)
-//! - **Behaviours decide.** What a behaviour answered is what its process does next: proceed, wait for a pick, or exit.
+//! - **Behaviours decide.** A process does next what its behaviour answered: proceed, wait for a pick, or exit.
 //!   (`steps`)
 //! - **Rounds.** A step makes as many rounds as asked for. In each it runs each queued process once, in order. Each
 //!   process that has something to do as the step begins is in the first round. (`first`)
-//! - **Leaving.** A process leaves a crew only by its exit, and is handed over as it was. (`left`, `take_left`)
-//! - **Refusals.** If memory or the clock refuses a call, item and process stay. `refused` says so, exactly then or if a
-//!   process that was born could not enter. (`told`)
+//! - **Leaving.** A process leaves a crew only by its exit, and is returned as it was. (`left`, `take_left`)
+//! - **Refusals.** If a call fails for want of memory or stamps, item and process stay. `refused` is true exactly then,
+//!   or if a spawned process could not enter. (`told`)
 //! - **Invariants.** What a behaviour upholds by its answers, its crew keeps for all its processes, and through runs.
 //!   (`crew_upholds`, `runs_uphold`)
 //! - **Idle.** `is_idle` and `are_idle` say whether no process has anything to do.
-//! - **A call ends once.** It ends by its answer or by the `DOWN` of its server, if one of them comes, and never by both.
-//!   (`calls_end_once`)
-//! - **Asking.** `Pending::ask` is a monitor and a request under its number, or fails, and then nothing was asked. (`Asks`)
-//! - **Hearing.** `Pending::hear` says whether an item is the answer, the end of the server, late, or none of these.
+//! - **A call ends once.** It ends by its answer or by the `DOWN` of its server, if one of them arrives, and never by
+//!   both. (`calls_end_once`)
+//! - **Asking.** `Pending::ask` makes a monitor and sends a request under its number, or fails, and then nothing was
+//!   asked. (`Asks`)
+//! - **Hearing.** `Pending::hear` returns whether an item is the answer, the exit of the server, late, or none of
+//!   these.
 #![tactic(auto)]
 
 mod behaviour;

@@ -8,24 +8,25 @@ ghost use Rattle.pt_crew.specs.Ending.{Closes, EndsOnce, after_item, heard_by_ca
 
 use crate::calls::{tell, unwatch, watch};
 use crate::request::speaks_of;
-use pt_node::{Body, Desk, Fault, Item, Pid, Reason, Ref};
+use pt_workers::{Body, Desk, Fault, Item, Pid, Reason, Ref};
 
-/// What an item is to a call.
+/// What an item means to a call.
 #[derive(Clone, Copy, Debug, PartialEq, Eq)]
 pub enum Heard {
     /// Its answer. The call has ended.
     Answer(u32),
-    /// Its server has ended, with this reason, and there is no answer. The call has ended.
+    /// Its server has exited with this reason, and there is no answer. The call has ended.
     Down(Reason),
-    /// Its answer or its `DOWN`, after it had ended: the item is done with, as one that `demonitor` with `flush` takes.
+    /// Its answer or its `DOWN`, after the call had ended. The item needs no handling, as one that `demonitor` with
+    /// `flush` takes.
     Late,
     /// Nothing of this call.
     NotMine,
 }
 
-/// A call that was made: whom it waits for, and whether it still does.
+/// A call that was made: the server that it waits for, and whether it still does.
 ///
-/// It ends once, by its answer or by the `DOWN` of its server, and says so by [`Pending::hear`].
+/// It ends once, by its answer or by the `DOWN` of its server, and reports this by [`Pending::hear`].
 #[derive(Debug, Drop, PartialEq, Eq)]
 pub struct Pending {
     client: Pid,
@@ -39,11 +40,11 @@ pub struct Pending {
 impl Pending {
     /// Asks a server: makes a monitor, and sends the request under its number (`gen_server:call` up to its `receive`).
     ///
-    /// Refused as [`watch`] is, and nothing is asked then: as `NoProc` where the desk does not know the server, or sees
-    /// that it has ended, as `Myself`, `Gone`, `Worn` or `Memory`. Refused as `Worn` or `Memory` too where the request
-    /// could not be sent; the monitor is given up then, and where that is refused as well its `DOWN` may come, which
-    /// belongs to no call. Where the server is seen to have ended only as the request is sent, the call is made, and
-    /// ends by the `DOWN`.
+    /// Fails as [`watch`] does, and nothing is asked then: with `Gone`, `Myself`, `NoProc`, `Worn` or `Memory`. It is
+    /// `NoProc` if the desk does not know the server, or sees that it has exited. Fails with `Worn` or `Memory` too if
+    /// the request could not be sent. The monitor is cancelled then. If that fails as well, its `DOWN` may arrive, and
+    /// belongs to no call. If the server is seen to have exited only as the request is sent, the call is made, and ends
+    /// by the `DOWN`.
     pub fn ask(desk: &mut Desk, me: Pid, server: Pid, asks: u32) -> Result<Pending, Fault>
         ensures does { Asks me server asks desk.old result desk.new }
         ensures takes { takes desk.new.shard.journal ≡ takes desk.old.shard.journal }
@@ -69,17 +70,17 @@ impl Pending {
         })
     }
 
-    /// Whether it still waits for its answer, or for the end of its server.
+    /// Whether it still waits for its answer, or for the exit of its server.
     pub fn is_open(&self) -> bool
         ensures { result ≡ self.now.waits }
     {
         self.waits
     }
 
-    /// Hears an item that came to the client: whether it is the answer of this call, or its `DOWN`, or neither.
+    /// Reads an item that the client got, and returns whether it is the answer of this call, or its `DOWN`, or neither.
     ///
-    /// Once it has ended it never ends again: what else comes of it is `Late`. As it ends its monitor is given up; a
-    /// refusal of that, for want of memory or stamps, is passed over, since a `DOWN` that comes then is `Late`.
+    /// Once it has ended it never ends again: what else arrives for it is `Late`. As it ends, its monitor is cancelled.
+    /// If that fails for want of memory or stamps, the failure is ignored, since a `DOWN` that arrives then is `Late`.
     pub fn hear(&mut self, desk: &mut Desk, item: Item) -> Heard
         ensures heard { result ≡ heard_by_call self.old item }
         ensures after { self.new ≡ after_item self.old item }
@@ -98,7 +99,7 @@ impl Pending {
         said
     }
 
-    /// What the item says to this call, while it is open.
+    /// What the item means to this call, while it is open.
     fn says(&self, item: Item) -> Option<Heard>
         ensures { result ≡ says_to_call self.now item }
     {
@@ -129,7 +130,7 @@ fn number_of(monitor: Ref) -> i64
     monitor.number as i64
 }
 
-/// The fault for which a request was not sent. A server that is seen to have ended is none: its `DOWN` comes.
+/// The fault for which a request was not sent. That the server is seen to have exited is none: its `DOWN` arrives.
 fn refusal(told: Result<(), Fault>) -> Option<Fault>
     ensures { result ≡ refusal told }
 {
@@ -140,7 +141,7 @@ fn refusal(told: Result<(), Fault>) -> Option<Fault>
     }
 }
 
-/// Each call ends once, by its answer or by the end of its server, and never by both; and one to which neither comes
+/// Each call ends once, by its answer or by the exit of its server, and never by both. A call to which neither arrives
 /// stays open.
 pub fn calls_end_once()
     ensures { EndsOnce }

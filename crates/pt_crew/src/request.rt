@@ -6,19 +6,19 @@ ghost use Rattle.pt_crew.specs.Visiting.{takes};
 ghost use Rattle.pt_crew.specs.Asking.{TellsServer, answer, request_of, speaks_of};
 
 use crate::calls::tell;
-use pt_node::{Body, Desk, Fault, Item, Pid};
+use pt_workers::{Body, Desk, Fault, Item, Pid};
 
-/// A request that came: who asks, under which number, and what.
+/// A request that arrived: who asks, under which number, and what.
 #[derive(Clone, Copy, Debug, PartialEq, Eq)]
 pub struct Request {
     pub from: Pid,
     /// The number of the client's reference, which the answer carries too.
     pub number: i64,
-    /// What is asked, by a number of the program's own.
+    /// What is asked, as a number of the program's own.
     pub asks: u32,
 }
 
-/// The request that the item is, or `None` where it is another: it is a message that speaks of its own sender.
+/// The request that the item is, or `None` if it is none. A request is a message that names its own sender.
 pub fn request_of(item: Item) -> Option<Request>
     ensures { result ≡ request_of item }
 {
@@ -35,7 +35,7 @@ pub fn request_of(item: Item) -> Option<Request>
     })
 }
 
-/// Whether the message speaks of this process.
+/// Whether the message names this process.
 pub(crate) fn speaks_of(body: Body, pid: Pid) -> bool
     ensures { result ≡ speaks_of body pid }
 {
@@ -47,8 +47,8 @@ pub(crate) fn speaks_of(body: Body, pid: Pid) -> bool
 
 /// Answers a request: Erlang's `gen_server:reply`.
 ///
-/// It is refused as [`tell`] is, and the client has no answer then. Where the client has ended, that is `NoProc` or
-/// nothing, and either way there is nothing left to do.
+/// It fails as [`tell`] does, and the client gets no answer then. If the client has exited, it fails with `NoProc` or
+/// does nothing. Either way there is nothing left to do.
 pub fn reply(desk: &mut Desk, me: Pid, request: Request, n: u32) -> Result<(), Fault>
     ensures does { TellsServer me request.from (answer request n) desk.old result desk.new }
     ensures takes { takes desk.new.shard.journal ≡ takes desk.old.shard.journal }

@@ -1,14 +1,14 @@
 //! The crews of a node, each over the desk at its place.
 
 ghost use Rattle.std.specs.Prelude.{MatchBool};
-ghost use Rattle.pt_node.specs.Running.{begins_by};
-ghost use Rattle.pt_node.specs.declared.work.Standing.TheVariants.{Going};
+ghost use Rattle.pt_workers.specs.Running.{begins_by};
+ghost use Rattle.pt_workers.specs.declared.work.Standing.TheVariants.{Going};
 ghost use Rattle.pt_crew.specs.Running.{AreIdle, RestUpholds, RoundsUphold, RunUpholds};
 
 use crate::behaviour::Behaviour;
 use crate::crew::Crew;
 use crate::upholds::Upheld;
-use pt_node::{Desk, Gate};
+use pt_workers::{Desk, Gate};
 
 /// Whether there are as many crews as desks, and each is idle over the desk at its place: see [`Crew::is_idle`].
 pub fn are_idle<B: Behaviour + Drop>(crews: &[Crew<B>], desks: &[Desk]) -> bool
@@ -25,8 +25,8 @@ pub fn are_idle<B: Behaviour + Drop>(crews: &[Crew<B>], desks: &[Desk]) -> bool
     true
 }
 
-/// What the behaviours of crews uphold stays so through a run of the crews at this gate, on threads or in rounds, and
-/// while their node is turned until it is still. It does nothing.
+/// What the behaviours of crews uphold is kept by a run of the crews at this gate, on threads or in rounds. It is also
+/// kept by turning their node until it is still. The function does nothing: its contract is the promise.
 pub fn runs_uphold<B: Upheld + Drop, G: Gate>(gate: &G)
     ensures run { RunUpholds B.answers B.stands (begins_by (λ _. Going) (G.lets gate.now)) }
     ensures rounds { RoundsUphold B.answers B.stands (begins_by (λ _. Going) (G.lets gate.now)) }

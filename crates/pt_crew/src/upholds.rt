@@ -1,4 +1,4 @@
-//! What a behaviour upholds on its desk, whatever its crew does.
+//! What a behaviour upholds on its desk, for anything that its crew does.
 
 ghost use Rattle.std.specs.Prelude.{ℕ, List, Result};
 ghost use Rattle.pt_signal.specs.declared.pid.Pid.{Pid};
@@ -18,19 +18,24 @@ use crate::behaviour::Behaviour;
 
 /// A behaviour with a relation to its desk that it upholds.
 ///
-/// `stands` relates the behaviour, what it does next, its pid and its desk. `upheld` proves of what the behaviour may
-/// answer that an item which is handed to it keeps the relation, that those whom it bears begin with it, that it acts
-/// for itself alone, and that what others do, what comes to it, and its own end keep the relation. Then a crew of it
-/// keeps the relation of all its members, and of those who left: see [`crew_upholds`].
+/// `stands` relates the behaviour, what it does next, its pid and its desk. `upheld` proves these of what the behaviour
+/// may answer:
+///
+/// - an item that it gets keeps the relation;
+/// - the children that it spawns begin with the relation;
+/// - it acts for itself alone;
+/// - what others do, what it receives, and its own exit keep the relation.
+///
+/// Then a crew of it keeps the relation for all its members, and for those that left: see [`crew_upholds`].
 pub trait Upheld: Behaviour {
     ghost stands: { Self → Next → Pid → ShardState → Type 0 };
 
     ghost upheld: { IsUpheld Self.answers stands };
 }
 
-/// What the behaviours of a crew uphold stays so: through a step, a step and a turn, a receipt, and the birth of one
-/// that stands so from the beginning. Whoever left in a step stands so still, as what it was when it left, and receipts
-/// keep that too. It does nothing.
+/// A step, a step with a turn, and a receipt keep what the behaviours of a crew uphold. So does spawning a process that
+/// has the relation from its start. A process that left in a step still has it, as what it was when it left, and
+/// receipts keep that too. The function does nothing: its contract is the promise.
 pub fn crew_upholds<B: Upheld + Drop>()
     ensures step { (old new : Crew B) (d e : ShardState) → CrewDoes B.answers old d new e → Upholds B.stands old d
         → Upholds B.stands new e }

@@ -39,10 +39,10 @@ use std::alloc::{AllocError, Global};
 use std::marker::Model;
 use std::sync::Arc;
 
-/// A desk of a node: its processes, its journal, the letters that wait in it, its ends of the lanes, its seat in the
-/// directory of ended processes, and the table of what became of its processes before the journal.
+/// A desk of a node: its processes, its journal, the letters that wait in it, and its ends of the lanes. It also has
+/// its seat in the directory of exited processes, and the table of what became of its processes before the journal.
 ///
-/// It cannot be dropped: [`Desk::apart`] takes it, and so does the gathering of a node.
+/// It cannot be dropped: [`Desk::apart`] takes it, and so does gathering a node.
 pub struct Desk {
     shard: Shard,
     outs: Outs,
@@ -84,11 +84,17 @@ impl Model for Desk {
 impl Desk {
     /// The desk of this shard, with its ends of the lanes, its seat in the directory and its table of what was before.
     ///
-    /// The ends are those of the shard's number, and the accounts agree: what the shard's journal sent to each desk is
-    /// what was posted there and then what waits in its outbox, and what was collected from each desk is what its
-    /// journal received from there and then the letter in its hold. The seat is the home of this desk alone, and the
-    /// ends that it has told are the latest of each slot before the journal and then those of the journal; of each
-    /// refused call it had seen the end, at a lower stamp. The table has what the shard's start says of its processes.
+    /// These are required:
+    ///
+    /// - The ends are those of the shard's number.
+    /// - The letters that the shard's journal sent to each desk are those posted there, followed by those waiting in
+    ///   its outbox.
+    /// - The letters collected from each desk are those that its journal received from there, followed by the letter in
+    ///   its hold.
+    /// - The seat is the home of this desk alone. It has reported the latest exit of each slot before the journal, and
+    ///   then the exits of the journal.
+    /// - For each failed call that the journal notes, it had seen the exit, at a lower stamp.
+    /// - The table has what the shard's start says of its processes.
     pub fn whole(
         shard: Shard,
         outs: Outs,
@@ -127,7 +133,7 @@ impl Desk {
         }
     }
 
-    /// Takes the desk apart: the reverse of `whole`, and the same holds of what it gives.
+    /// Takes the desk apart: the reverse of `whole`, and the same holds for what it returns.
     pub fn apart(self) -> (Shard, Outs, Ins, Arc<Directory, Global>, Seat, DeskLives)
         ensures parts { (self.shard ≡ result.0) × (self.outs ≡ result.1) × (self.ins ≡ result.2) }
         ensures sight { self.sight
@@ -150,11 +156,11 @@ impl Desk {
 
     /// What happened here, oldest event first.
     ///
-    /// It is a lawful journal of this desk: each event was allowed after those before it, and the versions of a slot
-    /// are 1, 2, 3 and so on, each after the end of the one before. The clock is that of its newest event. For every
-    /// desk, what it sent there is what was posted to that desk and then what waits for it in the outbox; and what was
-    /// collected from that desk is what it received from there, one for one and in order, and then the letter in the
-    /// hold.
+    /// It is a lawful journal of this desk: each event was allowed after those before it. The versions of a slot are 1,
+    /// 2, 3 and so on, each after the exit of the one before. The clock is that of its newest event. For every desk,
+    /// the letters that it sent there are those posted to that desk, followed by those waiting for it in the outbox.
+    /// The letters collected from that desk are those that it received from there, one for one and in order, followed
+    /// by the letter in the hold.
     pub fn journal(&self) -> &Journal
         ensures desk { result.now.desk ≡ self.now.shard.number }
         ensures past { result.now.past ≡ self.now.shard.journal }
@@ -191,15 +197,15 @@ impl Desk {
         self.shard.clock()
     }
 
-    /// Whether p lives here. False of a pid whose slot another process has by now.
+    /// Whether p is alive here. False if another process has its slot by now.
     pub fn alive_here(&self, p: Pid) -> bool
         ensures { result ≡ lives self.now.shard p }
     {
         self.shard.alive_here(p)
     }
 
-    /// The process that lives in that slot, or `None` where nobody does. So a program goes over all who live here, by
-    /// the slots below `Config::slots`.
+    /// The live process in that slot, or `None` if there is none. So a program visits all live processes of this desk
+    /// by going through the slots below `Config::slots`.
     pub fn lives_in(&self, slot: u32) -> Option<Pid>
         ensures is { result ≡ living_in self.now.shard slot }
         ensures only { (p : Pid) → lives self.now.shard p ≡ true → p.slot ≡ slot → result ≡ Some p }
@@ -207,46 +213,46 @@ impl Desk {
         self.shard.lives_in(slot)
     }
 
-    /// The processes that live here, by slot: Erlang's `processes/0` of this desk. It looks into each slot. Refused
-    /// only where there is no memory for the list.
+    /// The live processes of this desk, by slot: Erlang's `processes/0`. It looks into each slot. Fails only if there
+    /// is no memory for the list.
     pub fn pids(&self, alloc: Global) -> Result<Vec<Pid>, AllocError>
         ensures { IfOk result (λ v. v.items ≡ living_pids self.now.shard) }
     {
         self.shard.pids(alloc)
     }
 
-    /// How many processes live here: Erlang's `length(processes())` of this desk, in constant time.
+    /// The number of live processes of this desk, in constant time: Erlang's `length(processes())`.
     pub fn len(&self) -> u32
         ensures { result ≡ living_count self.now.shard }
     {
         self.shard.len()
     }
 
-    /// Whether no process lives here.
+    /// Whether no process is alive here.
     pub fn is_empty(&self) -> bool
         ensures { result ≡ (living_count self.now.shard == 0) }
     {
         self.shard.is_empty()
     }
 
-    /// The items that wait in the mailbox of p, oldest first, or `None` where it does not live here.
+    /// The items that wait in the mailbox of p, oldest first, or `None` if p is not alive here.
     pub fn waiting(&self, p: Pid) -> Option<&[Item]>
         ensures { option_copied result ≡ cond (lives self.now.shard p) (Some (state_in self.now.shard p).waiting) None }
     {
         self.shard.waiting(p)
     }
 
-    /// The ids under which p is linked with q, or `None` where there is no link, or p does not live here.
+    /// The ids under which p is linked with q, or `None` if there is no link, or p is not alive here.
     ///
-    /// It is p's own half of the link: that of q may differ while letters of the two are on their way.
+    /// This is p's own half of the link. The half of q may differ while letters of the two are in flight.
     pub fn linked(&self, p: Pid, q: Pid) -> Option<Ids>
         ensures { result ≡ cond (lives self.now.shard p) (held_by self.now.shard p q) None }
     {
         self.shard.linked(p, q)
     }
 
-    /// The process p, to be read: its links, its open monitors and its watchers by place, its mailbox and its flag;
-    /// `None` where it does not live here. Erlang's `process_info/2`, module `erlang`.
+    /// The process p, to be read: its links, open monitors and watchers by place, its mailbox and its flag. `None` if
+    /// it is not alive here. Erlang's `process_info/2`, module `erlang`.
     pub fn process(&self, p: Pid) -> Option<&Process>
         ensures { read_of (option_copied result)
             ≡ cond (lives self.now.shard p) (Some (p, state_in self.now.shard p)) None }
@@ -254,18 +260,17 @@ impl Desk {
         self.shard.process(p)
     }
 
-    /// How many letters wait in the outbox and the hold, staying at `u64::MAX` once it is reached.
+    /// The number of letters that wait in the outbox and the hold, staying at `u64::MAX` once it is reached.
     pub fn pending(&self) -> u64
         ensures { result ≡ min (count_pending self.now.shard) (2 ^ 64 - 1) }
     {
         self.shard.pending()
     }
 
-    /// Looks at the lane that comes here from another desk of the node, from both its ends.
+    /// Looks at the lane from another desk of the node to this one, from both of its ends.
     ///
-    /// This desk then knows each letter that stands in the lane, and the other desk how many were collected; of the
-    /// other lanes they know no more than before, and nothing else of them changes. A turn looks from its own end
-    /// alone.
+    /// This desk then knows each letter in the lane, and the other desk how many were collected. They know no more of
+    /// other lanes than before, and nothing else of them changes. A turn looks from its own end alone.
     pub fn meet(&mut self, from: &mut Desk)
         requires { Meets from.old.outs self.old.ins }
         ensures { DesksMeet from.old self.old from.new self.new }
@@ -273,7 +278,7 @@ impl Desk {
         self.ins.meet(&mut from.outs);
     }
 
-    /// The same of the lane from this desk to itself.
+    /// The same for the lane from this desk to itself.
     pub fn meet_itself(&mut self)
         requires { Meets self.old.outs self.old.ins }
         ensures { MeetsItself self.old self.new }
@@ -281,27 +286,27 @@ impl Desk {
         self.ins.meet(&mut self.outs);
     }
 
-    /// Whether p may be the target of a call: its numbers are in the node's ranges, and if it is of this desk,
-    /// its version was issued.
+    /// Whether p may be the target of a call. Its numbers must be in the node's ranges, and if it is of this desk, its
+    /// version must have been issued.
     pub fn knows(&self, p: Pid) -> bool
         ensures { result ≡ knows self.now.shard p }
     {
         self.shard.knows(p)
     }
 
-    /// The pid that the next birth on this desk has, or `None` exactly where no slot is free: a birth is then
-    /// refused as `Full`, or as `Worn` where the clock is at its limit.
+    /// The pid that the next process spawned on this desk will have, or `None` exactly if no slot is free. Then `spawn`
+    /// fails with `Full`, or with `Worn` if the clock is at its limit.
     pub fn vacant(&self) -> Option<Pid>
         ensures { result ≡ self.now.shard.vacant }
     {
         self.shard.vacant()
     }
 
-    /// Makes a process that no other one bears: Erlang's `spawn/1`, called from outside of the desk (section Process
+    /// Spawns a process without a parent: Erlang's `spawn/1`, called from outside of the desk (section Process
     /// Creation).
     ///
-    /// Its pid is the one that `vacant` tells, which no process had before. Refused as `Worn` where the clock is at
-    /// its limit, then as `Full` where no slot is free, then as `Memory`.
+    /// Its pid is the one that `vacant` returns, which no process had before. Fails with `Worn` if the clock is at its
+    /// limit, else with `Full` if no slot is free, else with `Memory` if there is none.
     pub fn spawn(&mut self) -> Result<Pid, Fault>
         ensures does { Bears None None self.old.shard result self.new.shard }
         ensures known { IfOk result (λ p. (p.shard ≡ self.new.shard.number) × (knows self.new.shard p ≡ true)) }
@@ -312,11 +317,12 @@ impl Desk {
         self.shard.spawn()
     }
 
-    /// Makes a process that its parent bears, linked with it where that is asked: Erlang's `spawn/1` and
-    /// `spawn_link/1`, sections Process Creation and Links.
+    /// Spawns a child of the parent, linked with it if `linked` is true: Erlang's `spawn/1` and `spawn_link/1`,
+    /// sections Process Creation and Links.
     ///
-    /// Both halves of the link stand at once, without a letter. Refused as `Gone` where the parent is not alive here,
-    /// then as `Worn` where the clock is at its limit, then as `Full` where no slot is free, then as `Memory`.
+    /// Both halves of the link are made at once, without a letter. Fails with `Gone` if the parent is not alive here.
+    /// Else it fails with `Worn` if the clock is at its limit, else with `Full` if no slot is free, else with `Memory`
+    /// if there is none.
     pub fn spawn_child(&mut self, parent: Pid, linked: bool) -> Result<Pid, Fault>
         ensures does { BearsChild parent linked self.old.shard result self.new.shard }
         ensures known { IfOk result (λ p. (p.shard ≡ self.new.shard.number) × (knows self.new.shard p ≡ true)) }
@@ -329,8 +335,8 @@ impl Desk {
 
     /// Sends a message: Erlang's `!`, chapter Processes, section Signals.
     ///
-    /// It comes to the receiver after all that the sender sent it before. A receiver that is not alive then loses
-    /// it, and nobody is told. Refused as `Gone`, as `NoProc` where the desk sees that the receiver has ended, as
+    /// It arrives after all that the sender sent this receiver before. If the receiver is not alive then, it is lost,
+    /// and no process is notified. Fails with `Gone`, with `NoProc` if the desk sees that the receiver has exited, with
     /// `Worn` or `Memory`.
     #[inline(always)]
     pub fn send(&mut self, from: Pid, to: Pid, body: Body) -> Result<(), Fault>
@@ -350,9 +356,9 @@ impl Desk {
 
     /// Sends an exit signal that no link carries: Erlang's `exit/2`, section Receiving Exit Signals.
     ///
-    /// `kill` ends its receiver whether it traps or not, with the reason `killed`. A receiver that traps gets any
-    /// other as an item. One that does not is ended by it, with that reason, except that `normal` ends it only where
-    /// it is the sender itself. Refused as `Gone`, `Worn` or `Memory`.
+    /// `kill` makes its receiver exit with the reason `killed`, whether it traps exits or not. A receiver that traps
+    /// exits gets any other reason as an item. Any other receiver exits with that reason, except that `normal` has this
+    /// effect only if it is the sender itself. Fails with `Gone`, `Worn` or `Memory`.
     pub fn exit_signal(&mut self, from: Pid, to: Pid, reason: Reason) -> Result<(), Fault>
         requires { knows self.old.shard to ≡ true }
         ensures does { Calls from
@@ -366,9 +372,9 @@ impl Desk {
 
     /// Links p with another process: Erlang's `link/1`, section Links.
     ///
-    /// Nothing happens where p is the target, or holds a link with it. A target that is not alive when the link
-    /// comes answers it by an exit signal with `noproc`. Refused as `Gone`, or where there is a link to make, as
-    /// `NoProc` where the desk sees that the target has ended, as `Worn` or `Memory`.
+    /// Nothing happens if p is the target, or holds a link with it. If the target is not alive when the link arrives,
+    /// an exit signal with `noproc` goes back. Fails with `Gone`, and if there is a link to make, with `NoProc` (the
+    /// desk sees that the target has exited), `Worn` or `Memory`.
     pub fn link(&mut self, p: Pid, to: Pid) -> Result<(), Fault>
         requires { knows self.old.shard to ≡ true }
         ensures does { Reaches (has_link_to_make self.old.shard p to) p to
@@ -381,10 +387,10 @@ impl Desk {
         self.shard.link(p, to)
     }
 
-    /// Takes the link of p with another process back: Erlang's `unlink/1`, section Links.
+    /// Removes the link of p with another process: Erlang's `unlink/1`, section Links.
     ///
-    /// Nothing happens where there is none. An exit signal that the link carries has no effect on p from here on: it
-    /// may still come, and is dropped. Refused as `Gone`, `Worn` or `Memory`.
+    /// Nothing happens if there is none. From here on an exit signal that the link carries has no effect on p: it may
+    /// still arrive, and is dropped. Fails with `Gone`, `Worn` or `Memory`.
     pub fn unlink(&mut self, p: Pid, to: Pid) -> Result<(), Fault>
         requires { knows self.old.shard to ≡ true }
         ensures does { Calls p (unlink_event self.old.shard p to) tt self.old.shard result self.new.shard }
@@ -395,12 +401,11 @@ impl Desk {
         self.shard.unlink(p, to)
     }
 
-    /// Watches another process: Erlang's `monitor/2`, section Monitors. It answers the reference, which the one
-    /// DOWN will have.
+    /// Monitors another process: Erlang's `monitor/2`, section Monitors. It returns the reference that the one DOWN
+    /// will have.
     ///
-    /// A target that is not alive when the monitor comes is answered by a DOWN with `noproc`. Refused as `Gone`,
-    /// as `Myself` where w is the target, as `NoProc` where the desk sees that the target has ended, as `Worn` or
-    /// `Memory`.
+    /// If the target is not alive when the monitor arrives, a DOWN with `noproc` goes back. Fails with `Gone`, with
+    /// `Myself` if w is the target, with `NoProc` if the desk sees that the target has exited, with `Worn` or `Memory`.
     pub fn monitor(&mut self, w: Pid, t: Pid) -> Result<Ref, Fault>
         requires { knows self.old.shard t ≡ true }
         ensures does { Reaches (has_monitor_to_make self.old.shard w t) w t
@@ -412,11 +417,11 @@ impl Desk {
         self.shard.monitor(w, t)
     }
 
-    /// Gives a monitor of w up: Erlang's `demonitor/2`, section Monitors. It answers whether it wrote an event.
+    /// Cancels a monitor of w: Erlang's `demonitor/2`, section Monitors. It returns whether it wrote an event.
     ///
-    /// A monitor is open until its DOWN comes to w, or w gives it up or ends. Of an open one no DOWN joins the mailbox
-    /// any more. Of any other the DOWN is taken out of the mailbox, where `flush` asks for it and it waits. Refused as
-    /// `Gone`, or where there is an event to write, as `Worn` or `Memory`.
+    /// A monitor is open until its DOWN arrives, or w cancels it or exits. If it is open, its DOWN enters the mailbox
+    /// no more. If it is not, its DOWN is taken out of the mailbox if `flush` is true and it waits there. Fails with
+    /// `Gone`, and if there is an event to write, with `Worn` or `Memory`.
     pub fn demonitor(&mut self, w: Pid, monitor: Ref, flush: bool) -> Result<bool, Fault>
         ensures does { Calls w (demonitor_event self.old.shard w monitor flush)
             (is_some (demonitor_event self.old.shard w monitor flush)) self.old.shard result self.new.shard }
@@ -428,9 +433,9 @@ impl Desk {
     }
 
     /// Asks whether another process is alive: Erlang's `is_process_alive/1`, section Processes and Erlang's signals. It
-    /// answers the reference, which the answer will have.
+    /// returns the reference that the answer will have.
     ///
-    /// The answer comes as an item, after all that t sent p before; t may be p. Refused as `Gone`, `Worn` or
+    /// The answer arrives as an item, after all that t sent p before; t may be p. Fails with `Gone`, `Worn` or
     /// `Memory`.
     pub fn ask_alive(&mut self, p: Pid, t: Pid) -> Result<Ref, Fault>
         requires { knows self.old.shard t ≡ true }
@@ -443,10 +448,10 @@ impl Desk {
         self.shard.ask_alive(p, t)
     }
 
-    /// Sets whether p traps exits, and answers whether it did: Erlang's `process_flag(trap_exit, _)`, section
+    /// Sets whether p traps exits, and returns whether it did before: Erlang's `process_flag(trap_exit, _)`, section
     /// Receiving Exit Signals.
     ///
-    /// The flag counts when an exit signal comes, not when it is sent. Refused as `Gone`, `Worn` or `Memory`.
+    /// The flag counts when an exit signal arrives, not when it is sent. Fails with `Gone`, `Worn` or `Memory`.
     pub fn trap(&mut self, p: Pid, on: bool) -> Result<bool, Fault>
         ensures does { Calls p (Some (Event.Flag p on))
             (state_in self.old.shard p).traps self.old.shard result self.new.shard }
@@ -457,11 +462,11 @@ impl Desk {
         self.shard.trap(p, on)
     }
 
-    /// Takes the first item that fits out of the mailbox of p; the others stay, in order: Erlang's `receive`
-    /// with `after 0`, chapter Expressions, section Receive.
+    /// Takes the first matching item out of the mailbox of p, and leaves the others in order: Erlang's `receive` with
+    /// `after 0`, chapter Expressions, section Receive.
     ///
-    /// `Ok(None)` says that nothing fits; it has no event. Refused as `Gone`, or where an item fits, as `Worn` or
-    /// `Memory`.
+    /// It returns `Ok(None)`, and writes no event, if no item matches. Fails with `Gone`, and if an item matches, with
+    /// `Worn` or `Memory`.
     #[inline(always)]
     pub fn receive(&mut self, p: Pid, pick: Pick) -> Result<Option<Item>, Fault>
         ensures does { Calls p (take_event self.old.shard p pick)
@@ -473,11 +478,11 @@ impl Desk {
         self.shard.receive(p, pick)
     }
 
-    /// Ends p with this reason: Erlang's `exit/1`, section Process Termination.
+    /// Makes p exit with this reason: Erlang's `exit/1`, section Process Termination.
     ///
-    /// Each process that it holds a link with is sent an exit signal, then each watcher its DOWN, then each target of
-    /// an open monitor is told that it is watched no more. The items that wait are dropped. The slot is free for its
-    /// next version, or retired where p had the top one. Refused as `Gone`, `Worn` or `Memory`.
+    /// It sends an exit signal to each process that it holds a link with, then a DOWN to each watcher, then a demonitor
+    /// to each target of an open monitor. The items that wait are dropped. The slot is free for its next version, or
+    /// retired if p had the top one. Fails with `Gone`, `Worn` or `Memory`.
     pub fn exit(&mut self, p: Pid, reason: Reason) -> Result<(), Fault>
         ensures does { Calls p (Some (Event.Left p reason)) tt self.old.shard result self.new.shard }
         ensures ends { HasSameEnds self.old self.new }
@@ -505,7 +510,7 @@ impl Desk {
         w != t && self.shard.alive_here(w)
     }
 
-    /// Looks, for a call of p that has something to send to t, whether t is seen to have ended.
+    /// For a call of p that has something to send to t, looks whether t is seen to have exited.
     #[inline(always)]
     fn reach(&mut self, looks: bool, p: Pid, t: Pid) -> Result<(), Fault>
         requires alive { looks ≡ true → lives self.old.shard p ≡ true }
@@ -520,7 +525,7 @@ impl Desk {
         self.look(p, t)
     }
 
-    /// Looks whether t is seen to have ended, for a call of p, which is refused then.
+    /// Looks whether t is seen to have exited, for a call of p, which fails then.
     #[inline(always)]
     fn look(&mut self, p: Pid, t: Pid) -> Result<(), Fault>
         requires alive { lives self.old.shard p ≡ true }
@@ -538,11 +543,11 @@ impl Desk {
 
     /// Posts letters, and then handles at most `budget` letters.
     ///
-    /// First it posts: for each desk from 0 upwards the letters that wait for it, oldest first, until none is left or
-    /// the lane is full. Then it handles: first the letter in the hold, then those that are collected, the lanes being
-    /// looked at in turn. It stops before the budget is used up where no lane shows a letter, or where `stopped` says
-    /// why: the letter at which it stopped stays in the hold, and the next turn goes on with it. Letters that are sent
-    /// while it handles wait in the outbox for the next turn.
+    /// First it posts. For each desk from 0 upwards it posts the letters that wait for it, oldest first, until none is
+    /// left or the lane is full. Then it handles: first the letter in the hold, then the letters that it collects,
+    /// looking at the lanes in turn. It stops before the budget is used up if no lane shows a letter, or for the reason
+    /// in `stopped`. Then the letter at which it stopped stays in the hold, and the next turn resumes with it. Letters
+    /// that are sent while it handles wait in the outbox for the next turn.
     pub fn turn(&mut self, budget: u32) -> Turned
         ensures turns { Turns budget self.old result self.new }
         ensures goes_on { GoesOn self.old self.new }
@@ -569,7 +574,7 @@ impl Desk {
         }
     }
 
-    /// Posts to each desk from 0 upwards, and says how many letters.
+    /// Posts to each desk from 0 upwards, and returns the number of letters.
     fn post(&mut self) -> u64
         ensures posts { Posts self.old self.new }
         ensures count { result ≡ min (total self.new.outs.posted - total self.old.outs.posted) (2 ^ 64 - 1) }
@@ -581,7 +586,7 @@ impl Desk {
         posted
     }
 
-    /// Posts the letters that wait for desk `to` until none is left or the lane is full, and says how many.
+    /// Posts the letters that wait for desk `to` until none is left or the lane is full, and returns their number.
     fn post_to(&mut self, to: u8) -> u64
         requires { to < self.old.shard.config.desks }
         ensures to { PostsTo to self.old self.new }
@@ -594,7 +599,7 @@ impl Desk {
         }
     }
 
-    /// The same, where one letter waits: it goes into its lane without the ring's call for a run.
+    /// The same if one letter waits: it goes into its lane without the ring's call for a run.
     #[inline(always)]
     fn post_one(&mut self, to: u8) -> u64
         requires desk { to < self.old.shard.config.desks }
@@ -611,7 +616,7 @@ impl Desk {
         1
     }
 
-    /// The same, of all that wait.
+    /// The same for all that wait.
     #[inline(never)]
     fn post_run(&mut self, to: u8) -> u64
         requires { to < self.old.shard.config.desks }
@@ -623,7 +628,7 @@ impl Desk {
         posted as u64
     }
 
-    /// Handles the letter in the hold, or else the next that is collected, and says whether there was one.
+    /// Handles the letter in the hold, or else the next that is collected, and returns whether there was one.
     fn handle(&mut self) -> Result<bool, Stop>
         ensures { HandlesAtMostOne self.old result self.new }
     {
@@ -646,7 +651,7 @@ impl Desk {
         }
     }
 
-    /// Handles the letter in the hold, and says that there was one.
+    /// Handles the letter in the hold, and returns that there was one.
     #[cold]
     #[inline(never)]
     fn handle_held(&mut self) -> Result<bool, Stop>
@@ -663,7 +668,7 @@ impl Desk {
     }
 }
 
-/// Handles the oldest letter that is known to wait in the lane from desk `from`, and leaves it there: to move it out
+/// Handles the oldest letter that is known to wait in the lane from desk `from`, and leaves it there. To move it out
 /// first would cost as much as all else that a turn does with it.
 #[inline(always)]
 fn handle_front(shard: &mut Shard, ins: &Ins, from: u8) -> Result<Option<Pid>, Stop>
@@ -709,7 +714,7 @@ fn hold_front(shard: &mut Shard, ins: &mut Ins, from: u8)
     shard.put_hold(letter);
 }
 
-/// Tells the directory who has ended by the newest event, if somebody has.
+/// Reports the process that exited by the newest event to the directory, if there is one.
 #[inline(always)]
 fn tell_ended(shard: &Shard, directory: &Directory, seat: &mut Seat, ended: Option<Pid>)
     requires { IfSome ended (CanTell directory.now seat.old shard.now.clock) }
@@ -720,7 +725,7 @@ fn tell_ended(shard: &Shard, directory: &Directory, seat: &mut Seat, ended: Opti
     }
 }
 
-/// Tells the directory that p has ended, by the newest event.
+/// Reports to the directory that p exited by the newest event.
 fn tell_end(shard: &Shard, directory: &Directory, seat: &mut Seat, p: Pid)
     requires { CanTell directory.now seat.old shard.now.clock p }
     ensures { seat.new ≡ add_death (death_of p shard.now.clock) seat.old }

@@ -1,4 +1,4 @@
-//! Why a script is refused, by the place of its fault.
+//! Why a text is no script, by the place of its fault.
 
 ghost use Rattle.std.specs.Prelude.{◌≡◌, ℕ, codes, IfOk, string_bytes, slice_index_or};
 ghost use Rattle.serde_json.specs.Data.{null};
@@ -18,10 +18,12 @@ use serde_json::{Error, Value};
 use std::alloc::{AllocError, Global};
 use std::str::from_utf8;
 
-/// Says why a script is refused, in one line without the line feed, from its bytes and the fault that was told.
+/// Explains in one line, without a line feed, why bytes are no script. It takes the bytes and the fault that reading
+/// them returned.
 ///
-/// The fault is to be the one that `pt_script` tells of these bytes; of another one the line says what is found at its
-/// place, or that nothing is. The bytes are read again, which takes memory; `AllocError` tells that there was none.
+/// The fault should be the one that `pt_script` returns for these bytes. For another fault the line says what is found
+/// at its place, or that nothing is. The bytes are read again, which takes memory. Fails with `AllocError` if there is
+/// none.
 pub fn explain(
     alloc: Global,
     bytes: &[u8],
@@ -51,7 +53,7 @@ fn text_of(alloc: Global, why: Why<'_>) -> Result<String, AllocError>
     format!(in alloc; "{why}")
 }
 
-/// Why bytes are no value, and where they cease to be one.
+/// Why bytes are no JSON, and the place of the error.
 fn no_value(bytes: &[u8], error: &Error) -> Why<'static>
     ensures { (line column : ℕ) × (result.scene ≡ Scene.Text line column) }
 {
@@ -93,7 +95,7 @@ fn why_of(value: &Value, fault: Fault, place: Place) -> Why<'_>
     }
 }
 
-/// What is said where nothing is found.
+/// The explanation if nothing is found.
 fn in_nothing(scene: Scene<'static>) -> Why<'static>
     ensures { result.scene ≡ scene.entry }
 {
@@ -113,7 +115,7 @@ fn flaw_or(flaw: Option<Flaw<'_>>, wrong: Wrong) -> Flaw<'_> {
     }
 }
 
-/// Why a script is refused, its processes apart; without a value, whatever it is.
+/// What is wrong with a script, without its processes, with or without its value.
 fn in_script<'a>(value: Option<&'a Value>, flaw: Flaw<'a>) -> Why<'a>
     ensures { result.scene ≡ Scene.Script }
 {
@@ -126,7 +128,7 @@ fn in_script<'a>(value: Option<&'a Value>, flaw: Flaw<'a>) -> Why<'a>
     }
 }
 
-/// The word that a member is, where it has the form of a name. Of a member that is unknown its name is the wrong word.
+/// The word that a member is, if it has the form of a name. If a member is unknown, its name is the wrong word.
 fn word_of<'a>(value: Option<&'a Value>, member: Option<&str>, wrong: Wrong) -> Option<&'a str> {
     match wrong {
         Wrong::Unknown => None,
@@ -134,7 +136,7 @@ fn word_of<'a>(value: Option<&'a Value>, member: Option<&str>, wrong: Wrong) -> 
     }
 }
 
-/// What a process is called, or its number where it has no name.
+/// The name of a process, or its number if it has no name.
 fn label_of(value: &Value, number: u32) -> Label<'_>
     ensures { IsLabelOf (codes "name") (view value.now) number result }
 {
@@ -144,7 +146,7 @@ fn label_of(value: &Value, number: u32) -> Label<'_>
     }
 }
 
-/// Why a process is refused, its operations apart.
+/// What is wrong with a process, without its operations.
 fn in_process<'a>(fault: Fault, found: Found<'a>, number: u32, scope: &Scope<'_>) -> Why<'a>
     ensures { IsOfProcess (view found.entry.value.now) number result.scene }
 {
@@ -171,7 +173,7 @@ fn is_bounds(fault: Fault) -> bool {
     }
 }
 
-/// What is wrong where no member is: of a fault of bounds, that there is too much of something.
+/// What is wrong if no member is: for a fault of bounds, that there is too much of something.
 fn over(fault: Fault, wrong: Wrong) -> Wrong {
     if is_bounds(fault) {
         wrong
@@ -180,7 +182,7 @@ fn over(fault: Fault, wrong: Wrong) -> Wrong {
     }
 }
 
-/// Why an operation of a process is refused.
+/// What is wrong with an operation of a process.
 fn in_operation<'a>(
     fault: Fault,
     found: Found<'a>,
@@ -208,7 +210,7 @@ fn in_operation<'a>(
     }
 }
 
-/// Which operation it is, or its index where it is none.
+/// Which operation it is, or its index if it is none.
 fn label_of_operation(value: &Value, index: usize, format: u64) -> Label<'_>
     ensures { IsLabelOf (codes "op") (view value.now) index result }
 {
@@ -230,7 +232,7 @@ fn flaw_of_operation<'a>(fault: Fault, value: &'a Value, scope: &Scope<'_>) -> F
     flaw_or(flaw, over(fault, Wrong::OverOperations))
 }
 
-/// What there is too much of where a spawn is refused.
+/// What there is too much of if a spawn is at fault.
 fn of_spawn(depth: u32) -> Wrong {
     if MAX_DEPTH <= depth {
         Wrong::TooDeep
@@ -239,7 +241,7 @@ fn of_spawn(depth: u32) -> Wrong {
     }
 }
 
-/// What is wrong with what has the name of an operation.
+/// What is wrong with a value that has the name of an operation.
 fn flaw_of_named<'a>(
     fault: Fault,
     name: &str,
@@ -254,7 +256,7 @@ fn flaw_of_named<'a>(
     }
 }
 
-/// What is wrong with what has no name of an operation, or a wrong one.
+/// What is wrong with a value that has no name of an operation, or a wrong one.
 fn flaw_of_unnamed(fault: Fault, value: &Value) -> Option<Flaw<'static>> {
     match value.get("op") {
         _ if is_bounds(fault) => None,

@@ -1,6 +1,6 @@
 //! The process that has a number.
 //!
-//! Processes are numbered in the order in which they begin in the text, a spawned one where its spawn stands.
+//! Processes are numbered in the order in which they begin in the text, a spawned one at the place of its spawn.
 
 ghost use Rattle.std.specs.Prelude.{map};
 ghost use Rattle.serde_json.specs.View.{view};
@@ -14,18 +14,18 @@ use serde_json::Value;
 /// A process of the text.
 #[derive(Clone, Copy)]
 pub(crate) struct Found<'a> {
-    /// What stands there: the process itself, or its spawn.
+    /// The value in the text: the process itself, or its spawn.
     pub(crate) value: &'a Value,
-    /// How many spawns stand around its operations.
+    /// The number of spawns around its operations.
     pub(crate) depth: u32,
 }
 
-/// Where a search has come to.
+/// How far a search has come.
 #[derive(Clone, Copy)]
 pub(crate) enum Reached<'a> {
     /// The process was found.
     At(Found<'a>),
-    /// So many processes more have to be passed before it.
+    /// So many more processes have to be passed before it.
     Before(u32),
 }
 

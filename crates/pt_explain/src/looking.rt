@@ -1,8 +1,7 @@
-//! Looks for the member that a fault is of.
+//! Finding the member that is at fault.
 //!
-//! The reader refuses a script at its first fault, so all that it reads before is as it has to be. The member that is
-//! wrong is then the first one, in the reader's order, that can have a fault of this kind: no other kind has to be looked
-//! for.
+//! The reader stops at the first fault of a script, so all that it reads before is right. So the member that is wrong
+//! is the first one, in the reader's order, that can have a fault of this kind. No other kind has to be looked for.
 
 use crate::scope::{Scope, is_name, is_own_name};
 use crate::tables::{Kind, kind_of, kind_of_pick, may_miss};
@@ -11,10 +10,10 @@ use pt_script::Fault;
 use pt_script::limits::MAX_FORMAT;
 use serde_json::Value;
 
-/// A member that is wrong, and what is wrong with it; without a name, what is wrong with all that is there.
+/// A member that is wrong, and what is wrong with it. Without a name, it says what is wrong with the whole value.
 pub(crate) type Flaw<'a> = (Option<&'a str>, Wrong);
 
-/// The first flaw of this kind in an object that is to have these members and no others.
+/// The first flaw of this kind in an object that must have these members and no others.
 pub(crate) fn flaw_in<'a>(
     fault: Fault,
     value: &'a Value,
@@ -31,7 +30,7 @@ pub(crate) fn flaw_in<'a>(
     }
 }
 
-/// What is no object, or the first member that is none of these.
+/// The flaw if the value is no object, or has a member that is none of these.
 fn unknown_in<'a>(value: &'a Value, names: &[&str]) -> Option<Flaw<'a>> {
     let Some(members) = value.as_object() else {
         return Some((None, Wrong::NoObject));
@@ -44,7 +43,7 @@ fn unknown_in<'a>(value: &'a Value, names: &[&str]) -> Option<Flaw<'a>> {
     None
 }
 
-/// A member that is unknown. Its name is told only where it has the form of one, since it may be any text.
+/// The flaw of an unknown member. Its name is given only if it has the form of one, since it may be any text.
 fn unknown(name: &str) -> Flaw<'_> {
     if is_name(name) {
         (Some(name), Wrong::Unknown)
@@ -106,7 +105,7 @@ fn flaw_with(name: &'static str, wrong: Option<Wrong>) -> Option<Flaw<'static>> 
     }
 }
 
-/// The flaw of a pick: of its one member, or of the whole where it has another form.
+/// The flaw of a pick: of its one member, or of the whole if it has another form.
 fn flaw_of_pick(fault: Fault, pick: &Value, scope: &Scope<'_>) -> Option<Flaw<'static>> {
     match picked_by(pick, scope.format) {
         Some((name, kind, held)) => flaw_with(name, wrong_with(fault, kind, held, scope)),
@@ -115,7 +114,7 @@ fn flaw_of_pick(fault: Fault, pick: &Value, scope: &Scope<'_>) -> Option<Flaw<'s
     }
 }
 
-/// The one member of a pick: its full name, what it is to hold, and what it holds.
+/// The one member of a pick: its full name, what it must hold, and what it holds.
 fn picked_by(pick: &Value, format: u64) -> Option<(&'static str, Kind, &Value)> {
     let members = pick.as_object()?;
     if members.len() != 1 {
@@ -126,7 +125,7 @@ fn picked_by(pick: &Value, format: u64) -> Option<(&'static str, Kind, &Value)> 
     Some((name, kind, held))
 }
 
-/// What is wrong with what a member holds.
+/// What is wrong with the value of a member.
 fn wrong_with(fault: Fault, kind: Kind, held: &Value, scope: &Scope<'_>) -> Option<Wrong> {
     match fault {
         Fault::Field => wrong_type(kind, held),
@@ -136,8 +135,8 @@ fn wrong_with(fault: Fault, kind: Kind, held: &Value, scope: &Scope<'_>) -> Opti
     }
 }
 
-/// What is wrong with its type, or with its form where a name is made. A reason and a pick are the last members of their
-/// operations, so it is of them where it is of none before.
+/// What is wrong with its type, or with its form if it makes a name. A reason and a pick are the last members of their
+/// operations, so the flaw is theirs if no member before has it.
 fn wrong_type(kind: Kind, held: &Value) -> Option<Wrong> {
     match kind {
         Kind::Whole { least: _, most: _ } | Kind::Signed => {
@@ -156,7 +155,7 @@ fn unless(fine: bool, wrong: Wrong) -> Option<Wrong> {
     if fine { None } else { Some(wrong) }
 }
 
-/// What is wrong with the form of a name or a tag that is made. A tag can be `self`, but is then no fault of this kind.
+/// What is wrong with the form of a new name or tag. A tag can be `self`, but that is no fault of this kind.
 fn wrong_form(held: &Value) -> Option<Wrong> {
     match held.as_str() {
         Some(text) => unless(is_own_name(text), Wrong::NoName),
@@ -180,7 +179,7 @@ fn wrong_range(kind: Kind, held: &Value) -> Option<Wrong> {
     }
 }
 
-/// What is wrong with a name or a tag in the scope where it stands.
+/// What is wrong with a name or a tag in its scope.
 fn wrong_name(kind: Kind, held: &Value, scope: &Scope<'_>) -> Option<Wrong> {
     match kind {
         Kind::Process => match held.as_str() {

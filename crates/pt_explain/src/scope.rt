@@ -1,4 +1,4 @@
-//! What stands around the place of a fault.
+//! The scope around the place of a fault.
 
 ghost use Rattle.std.specs.Prelude.{◌≡◌, codes, map, option_map};
 ghost use Rattle.serde_json.specs.View.{view};
@@ -9,7 +9,7 @@ ghost use Rattle.pt_explain.specs.Places.{list_in, text_in};
 
 use serde_json::Value;
 
-/// What stands around an operation, or around the head of a process.
+/// The scope around an operation, or around the head of a process.
 #[derive(Clone, Copy)]
 pub(crate) struct Scope<'a> {
     /// The script's format.
@@ -18,14 +18,14 @@ pub(crate) struct Scope<'a> {
     pub(crate) last_desk: u64,
     /// The processes that it begins with.
     pub(crate) tops: &'a [Value],
-    /// How many spawns stand around the operations of the process.
+    /// The number of spawns around the operations of the process.
     pub(crate) depth: u32,
     /// The operations of the process before the one in question.
     pub(crate) before: &'a [Value],
 }
 
 impl<'a> Scope<'a> {
-    /// What stands around the processes that a script begins with.
+    /// The scope around the processes that a script begins with.
     pub(crate) fn of(script: &'a Value) -> Scope<'a>
         ensures { map view result.tops.now ≡ list_in (codes "processes") (view script.now) }
     {
@@ -38,7 +38,7 @@ impl<'a> Scope<'a> {
         }
     }
 
-    /// The same behind these operations of a process, which so many spawns stand around.
+    /// The same after these operations of a process, with so many spawns around them.
     pub(crate) fn behind(&self, depth: u32, before: &'a [Value]) -> Scope<'a> {
         Scope {
             depth,
@@ -64,7 +64,7 @@ pub(crate) fn text_at<'a>(value: &'a Value, member: &str) -> Option<&'a str>
     value.get(member).and_then(Value::as_str)
 }
 
-/// The word that a member is, where it has the form of a name; of a pick, the name of its only member.
+/// The word that a member is, if it has the form of a name. For a pick it is the name of its only member.
 pub(crate) fn word_at<'a>(value: &'a Value, member: &str) -> Option<&'a str> {
     let text = match member {
         "pick" => only_member(value.get(member)?),
@@ -89,12 +89,12 @@ fn only_member(value: &Value) -> Option<&str> {
     }
 }
 
-/// The whole number that a member is, and 0 where it is none.
+/// The whole number that a member is, and 0 if it is none.
 fn whole_at(value: &Value, member: &str) -> u64 {
     value.get(member).and_then(Value::as_u64).unwrap_or(0)
 }
 
-/// The list that a member is, and an empty one where it is none.
+/// The list that a member is, and an empty one if it is none.
 pub(crate) fn list_at<'a>(value: &'a Value, member: &str) -> &'a [Value]
     ensures { map view result.now ≡ list_in member.now (view value.now) }
 {
@@ -113,7 +113,7 @@ fn items_of(value: &Value) -> &[Value]
     }
 }
 
-/// Whether it is a spawn, whatever else is in it.
+/// Whether it is a spawn, with any other members.
 pub(crate) fn is_spawn(value: &Value) -> bool
     ensures { result ≡ operations.is_spawn (view value.now) }
 {
@@ -153,7 +153,7 @@ fn are_of_words(text: &str) -> bool {
         .all(|byte| byte.is_ascii_alphanumeric() || *byte == b'_')
 }
 
-/// Whether a process may be given the text for its name.
+/// Whether a process may have this text as its name.
 pub(crate) fn is_own_name(text: &str) -> bool {
     is_name(text) && text != "self" && text != "parent"
 }

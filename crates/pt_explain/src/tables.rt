@@ -64,7 +64,7 @@ pub(crate) enum Kind {
     Flag,
     /// A list.
     List,
-    /// A text of which nothing more is asked here.
+    /// A text, without a further condition here.
     Text,
     /// A name or a tag that is new.
     New,
@@ -72,7 +72,7 @@ pub(crate) enum Kind {
     Process,
     /// A tag that was made before.
     Tag,
-    /// Why a process ends.
+    /// The reason of an exit.
     Reason,
     /// Which items are taken.
     Pick,
@@ -81,8 +81,8 @@ pub(crate) enum Kind {
 /// The most that 32 bits have.
 const MOST: u64 = 4_294_967_295;
 
-/// What a member of this name holds, in a script whose last desk has this number. Only a tag is not the same wherever
-/// it stands: what ends a monitor names one that there is.
+/// What a member of this name holds, in a script whose last desk has this number. Only a tag is not the same
+/// everywhere: a demonitor names a tag that was made before.
 pub(crate) fn kind_of(name: &str, ends_monitor: bool, last_desk: u64) -> Kind {
     match name {
         "tag" if ends_monitor => Kind::Tag,

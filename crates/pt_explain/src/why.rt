@@ -3,7 +3,7 @@
 use pt_script::limits::{MAX_BYTES, MAX_DEPTH, MAX_FORMAT, MAX_OPERATIONS, MAX_PROCESSES};
 use std::fmt;
 
-/// What a script calls something, or its number where it has no name.
+/// The name of something in a script, or its number if it has no name.
 #[derive(Clone, Copy)]
 pub(crate) enum Label<'a> {
     Name(&'a str),
@@ -24,7 +24,7 @@ impl fmt::Display for Label<'_> {
     }
 }
 
-/// Where in a script something is wrong.
+/// The place in a script at which something is wrong.
 #[derive(Clone, Copy)]
 pub(crate) enum Scene<'a> {
     /// In the script as a whole.
@@ -76,7 +76,7 @@ pub(crate) enum Wrong {
     TooLong,
     NoObject,
     Unknown,
-    /// It has a member that is unknown, and whose name is not to be repeated.
+    /// It has an unknown member, and its name must not be repeated.
     HasUnknown,
     Missing,
     NoWhole,
@@ -98,7 +98,7 @@ pub(crate) enum Wrong {
     OverProcesses,
     OverOperations,
     TooDeep,
-    /// It is refused, and nothing more can be said of it.
+    /// It is at fault, and nothing more can be said of it.
     Refused,
 }
 
@@ -144,8 +144,8 @@ impl fmt::Display for Wrong {
     }
 }
 
-/// Why a script is refused: where, which member, the word that it is, where it has the form of a name, and what is wrong
-/// with it; without a member, with all that is there.
+/// Why a text is no script: the place, the member, the word that it is if it has the form of a name, and what is wrong
+/// with it. Without a member, it says what is wrong with the whole value.
 #[derive(Clone, Copy)]
 pub(crate) struct Why<'a> {
     pub(crate) scene: Scene<'a>,

@@ -101,9 +101,6 @@ module _ (old new : GatheredState) (whole : IsGathered old) (d e : ℕ) (l : Let
           let j1 : journals new i ≡ journals old i = rw q at j in
           rw q (ap (λ z. posts (begins old) z k) j1 ∙ sym (append-nil (posts (begins old) (journals old i) k)))
 
-  the_got : Letter
-  the_got = letter (receipt old.config.start e l (journals old e)).stamp (sent l.from l.to l.signal)
-
   gots_step : (i k : ℕ) → k < length old.shards → gots (journals new k) i ≡ gots (journals old k) i ++ cond ((i == d) && (k == e)) (letter (receipt old.config.start e l (journals old e)).stamp (sent l.from l.to l.signal) ∷ []) []
   gots_step i k h = go (k == e) refl (i == d) refl (r.journal k h)
     where

@@ -1,7 +1,7 @@
 -- What stays left over while letters come to one desk.
-use Rattle.std.proofs.Common.{◌≡◌, ℕ, zero, suc, ◌+◌, ◌<◌, ◌≤◌, ◌==◌, ◌&&◌, Bool, true, false, cond, List, [], ◌∷◌, ◌++◌, length, drop, refl, sym, ap, ◌∙◌, subst, append-nil, arith, get_or, set, below_more, le_refl}
+use Rattle.std.proofs.Common.{◌≡◌, ℕ, zero, suc, ◌+◌, ◌<◌, ◌≤◌, ◌==◌, ◌&&◌, Bool, true, false, cond, List, [], ◌∷◌, ◌++◌, length, drop, refl, sym, ap, ◌∙◌, subst, append-nil, arith, get_or, set, le_refl}
 use Rattle.std.specs.Prelude.{Err, replicate}
-use Rattle.std.proofs.lemmas.List.{length-append, length-set, get_or-set_same, get_or-set_other}
+use Rattle.std.proofs.lemmas.List.{length-append, get_or-set_other}
 use Rattle.std.proofs.lemmas.Bool.{eqb-true, eq-eqb, ne_eqb, both_ways}
 use Rattle.pt_signal.specs.declared.letter.Letter.{Letter}
 use Rattle.pt_gathered.specs.Gathered.{GatheredState, begins, box_at, journals, over_in}
@@ -179,27 +179,3 @@ waits_after e old new waits after e_in room before comes keeps none marks k k_in
         let not_e : k ≡ e → ⊥ = λ r. both_ways (k == e) p (eq-eqb k e r) in
         desk_same e (length old.shards) old new comes i k (omega (arith, i_in, count)) (omega (arith, k_in, count)) ne not_e
         ∙ before k (omega (arith, k_in, count)) (was not_e) i (omega (arith, i_in, count))
-
--- one mark more, or none
-module _ (d n : ℕ) (g : GatheredState) (old : List Bool) where
-  pub marks_none : Marks d 0 g old old
-  marks_none = (refl, λ k h. h, λ k h u. absurd (omega arith))
-
-  pub marks_set : (k : ℕ) (now : List Bool) → k < length now → Marks d k g old now → Marks d (k + 1) g old (set now k true)
-  marks_set k now room m = (length-set now k true ∙ m.0, kept, found)
-    where
-      off : (j : ℕ) → get_or (set now k true) j true ≡ false → (j ≡ k → ⊥) × (get_or now j true ≡ false)
-      off j u = go (j == k) refl
-        where
-          go : (b : Bool) → (j == k) ≡ b → (j ≡ k → ⊥) × (get_or now j true ≡ false)
-          go true q = absurd (both_ways (get_or (set now k true) j true) u (ap (λ i. get_or (set now k true) i true) (eqb-true j k q) ∙ get_or-set_same now k true true room))
-          go false q = let ne : j ≡ k → ⊥ = λ r. both_ways (j == k) q (eq-eqb j k r) in (ne, sym (get_or-set_other now k j true true ne) ∙ u)
-
-      kept : (j : ℕ) → get_or (set now k true) j true ≡ false → get_or old j true ≡ false
-      kept j u = m.1 j (off j u).1
-
-      found : (j : ℕ) → j < k + 1 → get_or (set now k true) j true ≡ false → box_at g.shards d j ≡ []
-      found j h u = let o = off j u in m.2 j (omega (arith, o.0)) o.1
-
-  pub marks_skip : (k : ℕ) (now : List Bool) → box_at g.shards d k ≡ [] → Marks d k g old now → Marks d (k + 1) g old now
-  marks_skip k now empty m = (m.0, m.1, λ j h u. below_more (λ j. get_or now j true ≡ false → box_at g.shards d j ≡ []) k (λ j l. m.2 j l) (λ u. empty) j h u)

@@ -29,14 +29,6 @@ module _ (shards : List ShardState) (lanes : List (List Letter)) (d e : ℕ) whe
       let both = ap length over_is ∙ length-append (posted_in shards lanes d e) (box_at shards d e) in
       drop_all n (posted_in shards lanes d e) (omega (arith, both))
 
-  -- too few in the outbox to be left over
-  pub too_few : (least : ℕ) → least ≤ 1 → (0 < least → posted_in shards lanes d e ≡ []) → length (box_at shards d e) < least → over_in shards lanes d e ≡ []
-  too_few least one none few = over_none (none (omega arith)) (nil (box_at shards d e) (omega arith))
-    where
-      nil : (xs : List Letter) → length xs < 1 → xs ≡ []
-      nil [] h = refl
-      nil (x ∷ xs) h = absurd (omega arith)
-
 -- a step that takes the oldest out
 pub steps_posted : (d e : ℕ) (old new : GatheredState) → d < length old.shards → e < length old.shards
     → ((i k : ℕ) → i < length old.shards → k < length old.shards

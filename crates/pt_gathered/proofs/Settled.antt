@@ -1,5 +1,5 @@
 -- Settling, step after step.
-use Rattle.std.proofs.Common.{◌≡◌, ℕ, ◌+◌, ◌-◌, ◌^◌, ◌<◌, ◌≤◌, ◌==◌, Bool, true, false, cond, List, [], ◌∷◌, ◌++◌, length, min, refl, sym, ap, ◌∙◌, subst, append_assoc, below_more, arith, le_refl}
+use Rattle.std.proofs.Common.{◌≡◌, ℕ, ◌+◌, ◌-◌, ◌^◌, ◌<◌, ◌≤◌, ◌==◌, ◌||◌, Bool, true, false, cond, List, [], ◌∷◌, ◌++◌, length, min, refl, sym, ap, ◌∙◌, subst, append_assoc, below_more, arith, le_refl}
 use Rattle.std.specs.Prelude.{⊤, Ok, Err}
 use Rattle.std.specs.Bool.{MatchBool}
 use Rattle.std.proofs.lemmas.List.{map-append}
@@ -101,21 +101,12 @@ module _ (old new : GatheredState) (d e : ℕ) (l : Letter) (r : Receives d e l 
 
 -- lane after lane, and pass after pass
 module _ (a g g' : GatheredState) (P : ℕ → GatheredState → Type 0) (d : ℕ) where
-  pub after_some : (now : Bool) → now ≡ true → event_count a ≤ event_count g → event_count g < event_count g'
-      → MatchBool now (event_count a < event_count g') ((g' ≡ a) × ((k : ℕ) → k < d + 1 → P k a))
-  after_some now is grows more =
-      let M : Bool → Type 0 = λ b. MatchBool b (event_count a < event_count g') ((g' ≡ a) × ((k : ℕ) → k < d + 1 → P k a)) in
-      let here : M true = omega arith in subst M (sym is) here
-
-  pub after_none : (before now : Bool) → now ≡ before → MatchBool before (event_count a < event_count g) ((g ≡ a) × ((k : ℕ) → k < d → P k a)) → P d g → g' ≡ g
-      → MatchBool now (event_count a < event_count g') ((g' ≡ a) × ((k : ℕ) → k < d + 1 → P k a))
-  after_none before now is h p same =
-      let M : Bool → Type 0 = λ b. MatchBool b (event_count a < event_count g') ((g' ≡ a) × ((k : ℕ) → k < d + 1 → P k a)) in
-      subst M (sym is) (go before h)
-    where
-      go : (b : Bool) → MatchBool b (event_count a < event_count g) ((g ≡ a) × ((k : ℕ) → k < d → P k a)) → MatchBool b (event_count a < event_count g') ((g' ≡ a) × ((k : ℕ) → k < d + 1 → P k a))
-      go true k = subst (λ x. event_count a < event_count x) (sym same) k
-      go false k = (same ∙ k.0, below_more (λ i. P i a) d k.1 (subst (P d) k.0 p))
+  pub after_either : (before some : Bool) → MatchBool before (event_count a < event_count g) ((g ≡ a) × ((k : ℕ) → k < d → P k a)) → event_count a ≤ event_count g → Moves (P d g) g (Ok some) g'
+      → MatchBool (before || some) (event_count a < event_count g') ((g' ≡ a) × ((k : ℕ) → k < d + 1 → P k a))
+  after_either true true h grows more = omega arith
+  after_either false true h grows more = omega arith
+  after_either true false h grows none = subst (λ x. event_count a < event_count x) (sym none.1) h
+  after_either false false h grows none = (none.1 ∙ h.0, below_more (λ i. P i a) d h.1 (subst (P d) h.0 none.0))
 
 pub done_after : (g g' : GatheredState) (moved : Bool) → Moves (NothingBelow (length g.shards) g) g (Ok moved) g' → MatchBool moved ⊤ (NothingLeft g')
 done_after g g' true h = tt

@@ -41,23 +41,8 @@ box_is shards d e s h is = ap (λ z. get_or z e []) (get_or-map_read (λ (s : Sh
 pub lane_is : (lanes : List (List Letter)) (i j : ℕ) (x : List Letter) → i ≡ j → j < length lanes → x ≡ get_or lanes i x → get_or lanes j [] ≡ x
 lane_is lanes i j x e h is = get_or_default lanes j [] x h ∙ ap (λ k. get_or lanes k x) (sym e) ∙ sym is
 
-pub first_held : (d : ℕ) (o : Option Letter) (l : Letter) (xs ys : List Letter) → o ≡ Some l → l.from.shard ≡ d → Some l ≡ slice_get (held_from d o ++ xs ++ ys) 0
-first_held d None l xs ys h q = absurd (cc)
-first_held d (Some m) l xs ys h q = let is : m ≡ l = cc in rw (eq-eqb m.from.shard d (ap (λ z. z.from.shard) is ∙ q)) (sym h)
-
-pub held_nothing : (d : ℕ) (o : Option Letter) → o ≡ None → held_from d o ≡ []
-held_nothing d o h = ap (held_from d) h
-
 pub held_away : (d : ℕ) (o : Option Letter) (l : Letter) → o ≡ Some l → (l.from.shard ≡ d → ⊥) → held_from d o ≡ []
 held_away d o l h n = ap (held_from d) h ∙ rw (ne_eqb l.from.shard d n) refl
-
-pub first_lane : (held lane box : List Letter) (l : Letter) → held ≡ [] → Some l ≡ slice_get lane 0 → Some l ≡ slice_get (held ++ lane ++ box) 0
-first_lane held [] box l e h = absurd (cc)
-first_lane held (x ∷ lane) box l e h = rw e h
-
-pub first_box : (held lane box : List Letter) → held ≡ [] → slice_get lane 0 ≡ None → slice_get box 0 ≡ slice_get (held ++ lane ++ box) 0
-first_box held [] box e h = rw e refl
-first_box held (x ∷ lane) box e h = absurd (cc)
 
 pub none_first : (xs : List Letter) → slice_get xs 0 ≡ None → xs ≡ []
 none_first [] h = refl
@@ -76,13 +61,6 @@ read_set f shards e s k y h = go (k == e) refl
     go : (b : Bool) → (k == e) ≡ b → get_or (map f (set shards e s)) k y ≡ cond (k == e) (f s) (get_or (map f shards) k y)
     go true q = rw q (ap (λ i. get_or (map f (set shards e s)) i y) (eqb-true k e q) ∙ get_or-map_set_same f shards e s y h)
     go false q = rw q (get_or-map_set_other f shards e k s y (λ r. both_ways (k == e) q (eq-eqb k e r)))
-
-same_when : (k e : ℕ) {X : Type 0} (f : ℕ → X) (x : X) → x ≡ f e → cond (k == e) x (f k) ≡ f k
-same_when k e f x h = go (k == e) refl
-  where
-    go : (b : Bool) → (k == e) ≡ b → cond (k == e) x (f k) ≡ f k
-    go true q = rw q (h ∙ ap f (sym (eqb-true k e q)))
-    go false q = rw q refl
 
 -- the first letter is taken out --------------------------------------------------------------
 

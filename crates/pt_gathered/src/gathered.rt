@@ -10,8 +10,8 @@ ghost use Rattle.pt_gathered.specs.LeftOvers.{all_left};
 ghost use Rattle.pt_gathered.specs.Pasts.{GoesOnFrom};
 ghost use Rattle.pt_gathered.specs.Tables.{AreTables};
 
+use crate::at_rest::{AtRest, Lane};
 use crate::left_over::LeftOver;
-use crate::node::{Lane, Node};
 use crate::node_laws::laws_of_node;
 use pt_accounts::DeskLives;
 use pt_events::{Journal, Stamped};
@@ -21,13 +21,13 @@ use std::marker::Model;
 
 /// The desks of a node without their lanes, and the letters left over.
 ///
-/// For any two desks, what the one posted to the other is what came from it there, each receipt stamped above its
-/// letter, and then the letters left over between the two.
+/// For any two desks, the letters that one posted to the other are those that arrived there, followed by those left
+/// over between the two. Each receipt is stamped above its letter.
 ///
-/// Beside each desk it keeps what became of the processes that were before the desk's journal.
+/// For each desk it also keeps what became of the processes that were there before the desk's journal.
 #[derive(Drop)]
 pub struct Gathered {
-    node: Node,
+    node: AtRest,
     lives: Vec<DeskLives>,
 }
 
@@ -44,7 +44,7 @@ impl Model for Gathered {
 
 impl Gathered {
     /// The node with these desks and these letters left over, the lane from desk d to desk e at d * desks + e. The
-    /// table of each desk tells of what was before its journal, or of some of the journal's first events too.
+    /// table of each desk has what was before its journal, or some of the journal's first events too.
     pub fn of(
         alloc: Global,
         config: Config,
@@ -57,32 +57,32 @@ impl Gathered {
         ensures { result ≡ record { config = config; shards = shards.items; lanes = lanes.items } }
     {
         Gathered {
-            node: Node::of(alloc, config, shards, lanes),
+            node: AtRest::of(alloc, config, shards, lanes),
             lives,
         }
     }
 
-    pub(crate) fn with(node: Node, lives: Vec<DeskLives>) -> Gathered
+    pub(crate) fn with(node: AtRest, lives: Vec<DeskLives>) -> Gathered
         requires { AreTables node.shards lives.items }
         ensures { result ≡ node }
     {
         Gathered { node, lives }
     }
 
-    pub(crate) fn apart(self) -> (Node, Vec<DeskLives>)
+    pub(crate) fn apart(self) -> (AtRest, Vec<DeskLives>)
         ensures node { result.0 ≡ self }
         ensures tables { AreTables self.shards result.1.items }
     {
         (self.node, self.lives)
     }
 
-    pub(crate) fn node(&self) -> &Node
+    pub(crate) fn node(&self) -> &AtRest
         ensures { result.now ≡ self.now }
     {
         &self.node
     }
 
-    /// How many desks the node has.
+    /// The number of desks of the node.
     pub fn desks(&self) -> u8
         ensures count { result ≡ length self.now.shards }
         ensures few { length self.now.shards ≤ MAX_DESKS }
@@ -91,8 +91,8 @@ impl Gathered {
         self.node.desks()
     }
 
-    /// What happened on a desk, as it was when the desk was handed in or as settling left it; `None` exactly where
-    /// the node has no desk of that number.
+    /// What happened on a desk, as it was when the desk was gathered, or as settling left it. `None` exactly if the
+    /// node has no desk of that number.
     pub fn journal(&self, desk: u8) -> Option<&Journal>
         ensures some { IfSome result
             (λ j. (desk < length self.now.shards) × (j.now.desk ≡ desk) × (j.now.past ≡ journals self.now desk)) }
@@ -101,9 +101,9 @@ impl Gathered {
         self.node.journal(desk)
     }
 
-    /// The events of all desks in the order of stamp, then desk: a legal history, in which each journal stands whole
-    /// and in its order, and in which the letters left over are those on their way. Put behind what the node goes on
-    /// from, it is such a history from the very beginning on.
+    /// The events of all desks in the order of stamp, then desk: a legal history. It has each journal whole and in its
+    /// order, and its letters in flight are the letters left over. Put after what the node continues from, it is such a
+    /// history from the very beginning on. Fails only if there is no memory.
     pub fn history(&self) -> Result<Vec<Stamped>, AllocError>
         ensures merge { IfOk result (λ h. IsMerge (journals self.now) (reverse h.items)) }
         ensures legal { IfOk result (λ h. LegalWithLeftOver (begins self.now) (reverse h.items) (over self.now)) }
@@ -115,8 +115,9 @@ impl Gathered {
         self.node.history()
     }
 
-    /// The letters left over: by sending desk, then by receiving desk, and for each two desks the oldest first, which
-    /// is the one in the hold of the receiving desk, then those in the lane, then those in the outbox.
+    /// The letters left over: by sending desk, then by receiving desk, and for each two desks the oldest first. These
+    /// are the one in the hold of the receiving desk, then those in the lane, then those in the outbox. Fails only if
+    /// there is no memory.
     pub fn left_over(&self) -> Result<Vec<LeftOver>, AllocError>
         ensures { IfOk result (λ v. v.items ≡ all_left self.now) }
     {

@@ -1,9 +1,9 @@
-//! A letter that was sent and did not come.
+//! A letter that was sent and did not arrive.
 
 use pt_signal::Letter;
 use std::fmt;
 
-/// A letter that was sent and did not come to its receiver before the desks were gathered.
+/// A letter that was sent and did not arrive at its receiver before the desks were gathered.
 #[derive(Clone, Copy, Debug, PartialEq, Eq)]
 pub struct LeftOver {
     /// The desk of its sender.

@@ -15,69 +15,72 @@
 //!
 //! # What is left over
 //!
-//! A letter that was sent and did not come stands in the hold of its receiver's desk, in the lane between the two
-//! desks, or in the outbox of its sender's desk. [`Gathered::left_over`] lists them by sending desk, then by receiving
-//! desk, oldest first. What each desk sent each other is what came there, in order, and then what is left over.
+//! A letter that was sent and did not arrive is in the hold of its receiver's desk, in the lane, or in the outbox of
+//! its sender's desk. [`Gathered::left_over`] lists them by sending desk, then by receiving desk, oldest first. The
+//! letters that a desk sent to another are those that arrived there, in order, followed by those left over.
 //!
 //! # The history
 //!
-//! [`Gathered::history`] is the list of all events that rises by (stamp, desk). It is legal: each event may come after
-//! those before it, and each journal stands in it whole and in its order.
+//! [`Gathered::history`] is the list of all events that rises by (stamp, desk). It is legal: each event may follow
+//! those before it. It has each journal whole and in its order.
 //!
 //! # Settling
 //!
-//! [`Gathered::settle`] takes the letters left over to their receivers, pass by pass, until there are none. Each
-//! journal gets receipts alone, at most as many as the load of the history before: the letters left over, the links
-//! and monitors among them twice, and each link, watch and monitor that a live process has. Then links stand at both
-//! ends or at neither, each monitor of a live process was given up, had its one `DOWN`, or is open and kept, and each
-//! question of a live process whether another one is alive has its one answer, which is true. [`Quiet::laws`] says so
-//! of a quiet node at any time.
+//! [`Gathered::settle`] delivers the letters left over, pass by pass, until there are none. Each journal gets receipts
+//! alone, at most as many as the load of the history before. The load counts the letters left over, the links and
+//! monitors among them twice, and each link, watch and monitor that a live process has.
 //!
-//! At its end settling reads each journal once. Then [`Quiet`] tells, without memory, which processes were born, why
-//! each one ended, how many items arrived, were taken and wait, and what it is linked with, keeps and watches; of an
-//! ended process what it held at its end.
+//! Then links are at both ends or at neither. Each monitor of a live process was cancelled, had its one `DOWN`, or is
+//! open and kept. Each question of a live process whether another one is alive has its one answer, which is true.
+//! [`Quiet::laws`] says so for a quiet node at any time.
 //!
-//! # Going on
+//! At its end settling reads each journal once. Then [`Quiet`] returns, without memory, which processes were spawned
+//! and why each exited, how many items arrived, were taken and wait, and its links, watchers and open monitors. For an
+//! exited process these are what it held at its exit.
 //!
-//! A quiet node may go on with empty journals: what its desks leave behind is again a state as a node begins with, at
-//! the stamp [`Quiet::clock`] or a later one ([`Quiet::laws`]). [`Quiet::into_parts`] gives the desks, and of each the
-//! table of what became of its processes, into which the next journal is read; [`Quiet::latest_ends`] tells a new
-//! directory who has ended. [`Quiet::state`] is what the judge begins with that is to judge the next history alone.
+//! # Resuming
+//!
+//! A quiet node may continue with empty journals: what its desks leave is again a state as a node begins with, at the
+//! stamp [`Quiet::clock`] or a later one ([`Quiet::laws`]). [`Quiet::into_parts`] returns the desks, each with the
+//! table of what became of its processes. The next journal is read into that table. [`Quiet::latest_ends`] gives a new
+//! directory the exited processes. [`Quiet::state`] is the start for a judge that judges the next history alone.
 //!
 //! # Cost
 //!
-//! A letter that settling handles costs its receipt and, where it is the only one of its pass, three simple tests for
-//! each desk, 192 in a node of 64; letters of one pass share these. Desks to which nothing is left over are not looked
-//! at, and each lane is looked at in full once. No list of letters is moved, no journal and no table is copied; reading
-//! the journals takes constant time, on average, for each event. `history` takes the logarithm of the number of desks
-//! for each event.
+//! A letter that settling handles costs its receipt. If it is the only one of its pass, it also costs three simple
+//! tests for each desk, 192 in a node of 64; letters of one pass share these. Desks to which nothing is left over are
+//! not looked at, and each lane is looked at in full once. No list of letters is moved, and no journal and no table is
+//! copied. Reading the journals takes constant time, on average, for each event. `history` takes time by the logarithm
+//! of the number of desks for each event.
 //!
 //! # What is proved
 //!
-//! - **Nothing else.** A gathered node has the journals as handed in and the letters left over. Its lanes agree, and
-//!   the headline holds.
+//! - **Nothing else.** A gathered node has the journals as its desks had them, and the letters left over. Its lanes
+//!   agree, and the headline holds.
 //! - **One legal history.** `Gathered::history` is the one merge, and it is legal. After resumptions it is legal from
 //!   the first opening on.
-//! - **Refusals are true.** Each process that a desk saw as exited had exited, no later than the stamp that was seen.
+//! - **Refusals are true.** Each process that a desk saw to have exited had exited, no later than the stamp that was
+//!   seen.
 //! - **Settling.** `settle` adds receipts alone, at most as many as the load, and leaves a quiet node.
-//! - **Quiet.** Links are at both ends or at neither. Each monitor was given up, had its one `DOWN`, or is open and
+//! - **Quiet.** Links are at both ends or at neither. Each monitor was cancelled, had its one `DOWN`, or is open and
 //!   kept. (`Quiet::laws`)
 //! - **Answers.** Once settled, each question of a live process has its one answer, which is true.
-//! - **Accounts.** `Quiet` tells of each process what the definitions give for every merge of the journals.
-//! - **A refused settling.** It keeps all that holds of a gathered node, and says where it stopped.
+//! - **Accounts.** `Quiet` returns for each process what the definitions give for every merge of the journals.
+//! - **Settling that fails.** It keeps all that holds for a gathered node, and its contract says where it stopped.
+//!   (`SettlingStops`)
 #![tactic(auto, unfolding(crate::specs::Text::left_over_text))]
 
+mod at_rest;
 mod gathered;
 mod left_over;
-mod node;
 mod node_laws;
 mod quiet;
 mod resumed;
 mod settling;
 
+pub use at_rest::Lane;
 pub use gathered::Gathered;
 pub use left_over::LeftOver;
-pub use node::Lane;
 pub use node_laws::laws_of;
 pub use pt_accounts::{Account, DeskLives};
 pub use quiet::Quiet;

@@ -6,11 +6,12 @@ ghost use Rattle.pt_gathered.specs.Lawful.{LanesKeep, KeepsHeadline, IsLegalNode
 ghost use Rattle.pt_gathered.specs.Lawful.{WatchesStand, HoldingsStand, AnswersHold, QuestionsAnswered, BeginsAgain};
 ghost use Rattle.pt_gathered.specs.Pasts.{IsLegalWhole, IsQuietWhole, BeginsAgainAfter};
 
+use crate::at_rest::AtRest;
 use crate::gathered::Gathered;
-use crate::node::Node;
 use pt_laws::{laws, links};
 
-/// What the laws of histories say of a node whose desks were gathered. It does nothing.
+/// What the laws of histories say of a node whose desks were gathered. The function does nothing: its contract is the
+/// promise.
 pub fn laws_of(gathered: &Gathered)
     ensures lanes { LanesKeep gathered.now }
     ensures headline { KeepsHeadline gathered.now }
@@ -30,8 +31,8 @@ pub fn laws_of(gathered: &Gathered)
     laws_of_node(gathered.node());
 }
 
-/// The same of a node without its tables.
-pub(crate) fn laws_of_node(gathered: &Node)
+/// The same for a node without its tables.
+pub(crate) fn laws_of_node(gathered: &AtRest)
     ensures lanes { LanesKeep gathered.now }
     ensures headline { KeepsHeadline gathered.now }
     ensures legal { IsLegalNode gathered.now }

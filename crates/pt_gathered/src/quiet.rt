@@ -21,7 +21,7 @@ ghost use Rattle.pt_gathered.specs.Lawful.{LanesKeep, KeepsHeadline, IsQuietNode
 ghost use Rattle.pt_gathered.specs.Lawful.{HoldingsStand, AnswersHold, QuestionsAnswered, BeginsAgain};
 ghost use Rattle.pt_gathered.specs.Pasts.{GoesOnFrom, IsQuietWhole, BeginsAgainAfter};
 
-use crate::node::Node;
+use crate::at_rest::AtRest;
 use crate::node_laws::laws_of_node;
 use pt_accounts::{Account, DeskLives, Lives};
 use pt_events::Stamped;
@@ -32,11 +32,11 @@ use std::marker::Model;
 
 /// A node in which no letter is left over, and what became of its processes.
 ///
-/// What it tells of a process holds in every merge of the journals. Of its calls `history`, `latest_ends` and
-/// `state` alone take memory.
+/// What it returns of a process holds in every merge of the journals. Only `history`, `latest_ends` and `state` take
+/// memory.
 #[derive(Drop)]
 pub struct Quiet {
-    node: Node,
+    node: AtRest,
     handled: u64,
     lives: Lives,
 }
@@ -52,7 +52,7 @@ impl Model for Quiet {
 }
 
 impl Quiet {
-    pub(crate) fn of(node: Node, handled: u64, lives: Lives) -> Quiet
+    pub(crate) fn of(node: AtRest, handled: u64, lives: Lives) -> Quiet
         requires { IsSettled node lives }
         ensures { result ≡ record { gathered = node; handled = handled; lives = lives } }
     {
@@ -63,21 +63,21 @@ impl Quiet {
         }
     }
 
-    pub(crate) fn node(&self) -> &Node
+    pub(crate) fn node(&self) -> &AtRest
         ensures { result.now ≡ self.now.gathered }
     {
         &self.node
     }
 
-    /// How many letters were handled, staying at `u64::MAX` once it is reached.
+    /// The number of letters handled, staying at `u64::MAX` once it is reached.
     pub fn handled(&self) -> u64
         ensures { result ≡ self.now.handled }
     {
         self.handled
     }
 
-    /// The events of all desks in the order of stamp, then desk: a legal history in which nothing is on its way. Put
-    /// behind what the node goes on from, it is such a history from the very beginning on.
+    /// The events of all desks in the order of stamp, then desk: a legal history with no letter in flight. Put after
+    /// what the node continues from, it is such a history from the very beginning on. Fails only if there is no memory.
     pub fn history(&self) -> Result<Vec<Stamped>, AllocError>
         ensures merge { IfOk result (λ h. IsMerge (journals self.now.gathered) (reverse h.items)) }
         ensures legal { IfOk result
@@ -90,7 +90,7 @@ impl Quiet {
         self.node.history()
     }
 
-    /// How many desks the node has.
+    /// The number of desks of the node.
     pub fn desks(&self) -> u8
         ensures count { result ≡ length self.now.gathered.shards }
         ensures few { length self.now.gathered.shards ≤ MAX_DESKS }
@@ -106,7 +106,7 @@ impl Quiet {
         self.node.config()
     }
 
-    /// The greatest stamp of the history, or the number above which stamps began where nothing happened.
+    /// The greatest stamp of the history, or the number above which stamps began if nothing happened.
     pub fn clock(&self) -> u64
         ensures latest { result ≡ latest_stamp self.now.gathered }
         ensures journals { (d : ℕ) → clock self.now.gathered.config.start (journals self.now.gathered d) ≤ result }
@@ -119,7 +119,8 @@ impl Quiet {
         self.node.clock()
     }
 
-    /// The processes whose end is the latest of their slot, by shard and slot, each with this stamp.
+    /// The processes whose exit is the latest of their slot, by shard and slot, each with this stamp. Fails only if
+    /// there is no memory.
     pub fn latest_ends(&self, stamp: u64) -> Result<Vec<(Pid, u64)>, AllocError>
         ensures { IfOk result (λ ends. ends.items ≡ ends_of stamp self.now.lives) }
     {
@@ -131,7 +132,7 @@ impl Quiet {
         Ok(ends)
     }
 
-    /// The desks, in order of number, and of each desk the table of what became of its processes.
+    /// The desks, in order of number, and for each desk the table of what became of its processes.
     pub fn into_parts(self) -> (Config, Vec<Shard>, Vec<DeskLives>)
         ensures config { result.0 ≡ self.gathered.config }
         ensures shards { result.1.items ≡ self.gathered.shards }
@@ -147,8 +148,9 @@ impl Quiet {
         (config, shards, lives.into_desks())
     }
 
-    /// What holds of whoever was born on a desk: it is of one of its slots, those before it there have ended, and the
-    /// latest stamp is not 0; and of the tables, each of which has what the desk's journal says. It does nothing.
+    /// What holds for each process spawned on a desk: it is of one of its slots, and those before it in that slot have
+    /// exited. The latest stamp is not 0. Each table has what the desk's journal says. The function does nothing: its
+    /// contract is the promise.
     pub fn versions(&self)
         ensures turns { AreInTurn self.now.gathered.shards }
         ensures later { AreBornLater self.now.gathered }
@@ -162,8 +164,8 @@ impl Quiet {
         self.node.versions();
     }
 
-    /// What the laws of histories say of a node in which nothing is on its way, for who has only the quiet node. It
-    /// does nothing.
+    /// What the laws of histories say of a node with no letter in flight, for a caller that has only the quiet node.
+    /// The function does nothing: its contract is the promise.
     pub fn laws(&self)
         ensures nothing_left { NothingLeft self.now.gathered }
         ensures lanes { LanesKeep self.now.gathered }
@@ -181,7 +183,7 @@ impl Quiet {
         laws_of_node(&self.node);
     }
 
-    /// The pids of all processes that were ever born, each once, by shard, slot and version.
+    /// The pids of all processes ever spawned, each once, by shard, slot and version.
     pub fn pids(&self) -> &[Pid]
         ensures { InEveryMerge (journals self.now.gathered)
             (λ past. AreAllPids (begins self.now.gathered) past result.now) }
@@ -189,9 +191,9 @@ impl Quiet {
         self.lives.pids()
     }
 
-    /// Why the process ended, if it has, and how many items arrived in its mailbox, were taken, and wait or were left
-    /// untaken at its end; `None` exactly where it was never born. In a node that was resumed the counts begin with
-    /// what waited then; of a process that had ended before they are 0.
+    /// Why the process exited, if it has, and how many items arrived in its mailbox, were taken, and wait or were left
+    /// at its exit. `None` exactly if it was never spawned. In a node that was resumed the counts begin with what
+    /// waited then. They are 0 for a process that had exited before.
     pub fn account(&self, pid: Pid) -> Option<Account>
         ensures { InEveryMerge (journals self.now.gathered)
             (λ past. result ≡ account_in (begins self.now.gathered) past pid) }
@@ -199,7 +201,7 @@ impl Quiet {
         self.lives.account(pid)
     }
 
-    /// The ids under which a process is linked with another one, or was just after its own end; none where it had ended
+    /// The ids under which a process is linked with another one, or was just after its own exit. None if it had exited
     /// before the node was resumed.
     pub fn linked(&self, pid: Pid, peer: Pid) -> Option<Ids>
         ensures { InEveryMerge (journals self.now.gathered)
@@ -208,8 +210,8 @@ impl Quiet {
         self.lives.linked(pid, peer)
     }
 
-    /// Whether a process keeps a watch of this reference for its watcher, or did just after its own end; not where it
-    /// had ended before the node was resumed.
+    /// Whether a process keeps a watch of this reference for its watcher, or did just after its own exit. False if it
+    /// had exited before the node was resumed.
     pub fn kept(&self, target: Pid, monitor: Ref) -> bool
         ensures { InEveryMerge (journals self.now.gathered)
             (λ past.
@@ -218,7 +220,7 @@ impl Quiet {
         self.lives.kept(target, monitor)
     }
 
-    /// Whether a process's monitor of this reference is open; none is once the process has ended.
+    /// Whether a process's monitor of this reference is open. False once the process has exited.
     pub fn watching(&self, watcher: Pid, monitor: Ref) -> bool
         ensures { InEveryMerge (journals self.now.gathered)
             (λ past.

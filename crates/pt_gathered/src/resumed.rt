@@ -1,4 +1,4 @@
-//! What a quiet node leaves behind, as the judge knows it.
+//! What a quiet node leaves for its next history, as the judge knows it.
 
 ghost use Rattle.std.specs.Prelude.{◌≡◌, ◌∷◌, ◌++◌, ◌<◌, ℕ, [], length, map, true, false, IfOk};
 ghost use Rattle.pt_events.specs.History.{life, is_unborn};
@@ -17,9 +17,10 @@ use pt_signal::{Ids, Pid, Ref};
 use std::alloc::{AllocError, Global};
 
 impl Quiet {
-    /// What the history of the node leads to, as the state that a history begins with which goes on from it: each
-    /// process that was born, with the reason of its end, or with its flag, its links, its open monitors, the watches
-    /// that it keeps and the items that wait, each in order. Nothing is on its way, and no id and no reference is made.
+    /// The state that the node's history leads to, as the start of a history that continues from it. It has each
+    /// process that was spawned. An exited one has its reason. A live one has its flag, its links, its open monitors,
+    /// the watches that it keeps and the items that wait, each in order. No letter is in flight, and no id and no
+    /// reference is made. Fails only if there is no memory.
     ///
     /// So `pt_judge::replay_from` judges from it what happens on the desks once the node is resumed.
     pub fn state(&self) -> Result<State, AllocError>
@@ -38,7 +39,7 @@ impl Quiet {
         Ok(state)
     }
 
-    /// The state with this process besides.
+    /// The state with this process added.
     fn with_process(&self, state: State, pid: Pid) -> Result<State, AllocError>
         requires desk { pid.shard < length self.now.gathered.shards }
         requires born { InEveryMerge (journals self.now.gathered)
@@ -91,6 +92,7 @@ fn holding_of(alloc: Global, process: &Process) -> Result<Holding, AllocError>
     })
 }
 
+#[tactic(auto, using(crate::proofs::StartStates::copied_more, crate::proofs::StartStates::copied_all))]
 fn links_of(alloc: Global, process: &Process) -> Result<Vec<(Pid, Ids)>, AllocError>
     ensures { IfOk result (λ links. links.items ≡ process.now.state.links) }
 {
@@ -101,6 +103,7 @@ fn links_of(alloc: Global, process: &Process) -> Result<Vec<(Pid, Ids)>, AllocEr
     Ok(links)
 }
 
+#[tactic(auto, using(crate::proofs::StartStates::copied_more, crate::proofs::StartStates::copied_all))]
 fn monitors_of(alloc: Global, process: &Process) -> Result<Vec<(Ref, Pid)>, AllocError>
     ensures { IfOk result (λ monitors. monitors.items ≡ process.now.state.watching) }
 {
@@ -111,6 +114,7 @@ fn monitors_of(alloc: Global, process: &Process) -> Result<Vec<(Ref, Pid)>, Allo
     Ok(monitors)
 }
 
+#[tactic(auto, using(crate::proofs::StartStates::copied_more, crate::proofs::StartStates::copied_all))]
 fn watches_of(alloc: Global, process: &Process) -> Result<Vec<(Ref, Pid)>, AllocError>
     ensures { IfOk result (λ watches. watches.items ≡ process.now.state.kept) }
 {

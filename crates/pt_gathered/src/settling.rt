@@ -1,4 +1,4 @@
-//! The letters left over come to their receivers.
+//! Delivering the letters left over.
 
 ghost use Rattle.std.specs.Prelude.{◌≡◌, ℕ, ◌<◌, ◌≤◌, length, [], OnOk, IfOk, IfErr};
 ghost use Rattle.pt_shard.specs.declared.stop.Stop.TheVariants.{Memory};
@@ -13,17 +13,18 @@ ghost use Rattle.pt_gathered.specs.Pasts.{KeepsPast};
 ghost use Rattle.pt_gathered.specs.Tables.{AreTables, TablesAreTold};
 ghost use Rattle.pt_accounts.specs.LivesState.{AreLivesOf};
 
+use crate::at_rest::AtRest;
 use crate::gathered::Gathered;
-use crate::node::Node;
 use crate::node_laws::laws_of;
 use crate::quiet::Quiet;
 use pt_accounts::{DeskLives, Lives};
 use pt_shard::Stop;
+use pt_signal::MAX_DESKS;
 use std::alloc::AllocError;
 use std::error::Error;
 use std::fmt;
 
-/// A node whose settling was refused, with what was handled so far.
+/// A node whose settling failed, with what was handled so far.
 #[derive(Drop)]
 pub struct Unsettled {
     /// Why.
@@ -49,30 +50,34 @@ impl fmt::Display for Unsettled {
 impl Error for Unsettled {}
 
 impl Gathered {
-    /// Brings the letters left over to their receivers, pass by pass, until there are none.
+    /// Delivers the letters left over, pass by pass, until there are none.
     ///
-    /// In a pass, for each receiving desk from 0 and each sending desk from 0, the letters come that are left over
-    /// between the two when it is come to them, oldest first; what is sent meanwhile comes at a later place of the same
-    /// pass, or in a later one. Each journal gets receipts alone, and no more of them all than the load of the history
-    /// before. The merge of the journals is then legal and quiet: links stand at both ends or at neither, and each
-    /// monitor of a live process was given up, had its one `DOWN`, or is open and kept. Each answer to the question
-    /// whether a process is alive is true, and each such question of a live process has its one answer.
+    /// A pass visits each receiving desk from 0, and for it each sending desk from 0. It delivers the letters that are
+    /// left over between the two at that moment, oldest first. What is sent meanwhile is delivered later in the same
+    /// pass, or in a later one. Each journal gets receipts alone, and all together no more than the load of the history
+    /// before. The merge of the journals is then legal and quiet. Links are at both ends or at neither. Each monitor of
+    /// a live process was cancelled, had its one `DOWN`, or is open and kept. Each answer to the question whether a
+    /// process is alive is true, and each such question of a live process has its one answer.
     ///
     /// Once no letter is left over, each journal is read once, from its first event to its last, for what the quiet
-    /// node tells of its processes; what was before it is not read anew.
+    /// node returns of its processes. What was before it is not read again.
     ///
-    /// Where a receipt is refused, as `Worn` where its stamp would pass the limit of clocks, else as `Memory`, the node
-    /// comes back with what was handled so far, of which all holds that holds of a gathered node; settling it again
-    /// goes on from there. Where the reading of the journals finds no memory, the fault is `Memory` too, and no letter
-    /// is left over in the node that comes back; settling that again changes nothing of it, and reads the journals
-    /// on from where it stopped.
+    /// Fails with `Worn` if a receipt's stamp would pass the limit of clocks, else with `Memory` if there is none for a
+    /// receipt. The node then comes back with what was handled so far, and all holds for it that holds for a gathered
+    /// node. Settling it again resumes from there. Fails with `Memory` too if reading the journals finds none, and no
+    /// letter is left over in the node that comes back. Settling that again changes nothing of the node, and resumes
+    /// reading the journals at the place that it had reached.
     ///
-    /// A letter costs what its receipt costs, and tests. Where it is the only one of its pass there are three for each
-    /// desk, each of one mark or of one count: whether letters may be left over to the desk, whether the desk has any
-    /// for the receiver in its outbox, and whether the receiver now has any for the desk. That is 192 in a node of 64,
-    /// and a dozen for where the letter itself stands; letters of the same pass share the first 64, and those that come
-    /// to the same desk in it the others too. Besides, each lane is looked at once in full, when its desk is first come
-    /// to.
+    /// A letter costs what its receipt costs, and tests. If it is the only one of its pass, there are three tests for
+    /// each desk, each of one mark or of one count:
+    ///
+    /// - whether letters may be left over to the desk;
+    /// - whether the desk has any for the receiver in its outbox;
+    /// - whether the receiver now has any for the desk.
+    ///
+    /// That is 192 in a node of 64, and a dozen for the place of the letter itself. Letters of the same pass share the
+    /// first 64, and letters of that pass to the same desk share the others too. Besides, each lane is looked at once
+    /// in full, when its desk is first visited.
     pub fn settle(self) -> Result<Quiet, Unsettled>
         ensures order { IfOk result (λ q. (count : ℕ) × Passes (length self.shards) count self q.gathered) }
         ensures runs { IfOk result (λ q. Runs self 0 q.gathered q.handled) }
@@ -96,18 +101,20 @@ impl Gathered {
         ensures refused_again { NothingLeft self → IfErr result (λ u. (u.gathered ≡ self) × (u.fault ≡ Memory)) }
     {
         laws_of(&self);
-        let (mut node, lives) = self.apart();
+        let (mut settling, lives) = Settling::of(self);
         // read for the proof alone, here and below: it says what holds of every gathered node
-        let _before = node.desks();
-        let handled = match run_passes(&mut node) {
-            Ok(handled) => handled,
+        let _before = settling.node.desks();
+        match settling.run_passes() {
+            Ok(()) => {}
             Err(fault) => {
+                let Settling { node, .. } = settling;
                 let _after = node.desks();
                 let gathered = Gathered::with(node, lives);
                 laws_of(&gathered);
                 return Err(Unsettled { fault, gathered });
             }
-        };
+        }
+        let Settling { node, handled, .. } = settling;
         let _after = node.desks();
         match told(&node, lives) {
             Ok(lives) => {
@@ -125,31 +132,183 @@ impl Gathered {
     }
 }
 
-/// One pass after the other, until no letter is left over; how many letters were handled.
-fn run_passes(gathered: &mut Node) -> Result<u64, Stop>
-    ensures order { IfOk result
-        (λ handled. (count : ℕ) × Passes (length gathered.old.shards) count gathered.old gathered.new) }
-    ensures runs { IfOk result (λ handled. Runs gathered.old 0 gathered.new handled) }
-    ensures nothing_left { IfOk result (λ handled. NothingLeft gathered.new) }
-    ensures refused { IfErr result (λ stop. Settles gathered.old gathered.new) }
-    ensures stops { IfErr result (λ stop. PassesStop (length gathered.old.shards) stop gathered.old gathered.new) }
-{
-    let mut waits = [true; 64];
-    let mut least = [0; 64];
-    let mut handled = 0;
-    let mut more = true;
-    while more {
-        match pass(gathered, &mut waits, &mut least, &mut handled) {
-            Ok(moved) => more = moved,
-            Err(stop) => return Err(stop),
+/// A place for each desk that a node can have.
+const PLACES: usize = MAX_DESKS as usize;
+
+/// A settling under way: the node as it is now, where its next pass looks, and how many letters were handled.
+#[derive(Drop)]
+struct Settling {
+    node: AtRest,
+    /// For each desk, whether it is marked: no letter is left over to a desk without a mark.
+    waits: [bool; PLACES],
+    /// For each desk, how many letters an outbox has to hold for it so that any can be left over between the two: 0
+    /// until a pass came to the desk, and 1 from then on, since all letters to it then wait in outboxes.
+    least: [usize; PLACES],
+    /// How many letters were handled, staying at `u64::MAX` once it is reached.
+    handled: u64,
+}
+
+impl Settling {
+    /// The settling of a node, at its start, and the tables beside the node's desks.
+    fn of(gathered: Gathered) -> (Settling, Vec<DeskLives>)
+        ensures node { result.0.node ≡ gathered }
+        ensures waits { Waits result.0.waits result.0.node }
+        ensures least { AreLeast result.0.least result.0.node }
+        ensures handled { result.0.handled ≡ 0 }
+        ensures tables { AreTables gathered.shards result.1.items }
+    {
+        let (node, lives) = gathered.apart();
+        let settling = Settling {
+            node,
+            waits: [true; PLACES],
+            least: [0; PLACES],
+            handled: 0,
+        };
+        (settling, lives)
+    }
+
+    /// One pass after the other, until no letter is left over.
+    fn run_passes(&mut self) -> Result<(), Stop>
+        requires waits { Waits self.old.waits self.old.node }
+        requires least { AreLeast self.old.least self.old.node }
+        ensures order { OnOk result
+            ((count : ℕ) × Passes (length self.old.node.shards) count self.old.node self.new.node) }
+        ensures runs { Runs self.old.node self.old.handled self.new.node self.new.handled }
+        ensures nothing_left { OnOk result (NothingLeft self.new.node) }
+        ensures stops { IfErr result
+            (λ stop. PassesStop (length self.old.node.shards) stop self.old.node self.new.node) }
+    {
+        // kept for the proof alone, which names it
+        let _before = self.handled;
+        let mut more = true;
+        while more {
+            more = self.pass()?;
+        }
+        Ok(())
+    }
+
+    /// One pass: each receiving desk, from desk 0. It returns whether a letter was handled, as do its parts below.
+    fn pass(&mut self) -> Result<bool, Stop>
+        requires waits { Waits self.old.waits self.old.node }
+        requires least { AreLeast self.old.least self.old.node }
+        ensures runs { Runs self.old.node self.old.handled self.new.node self.new.handled }
+        ensures moves { Moves (NothingBelow (length self.old.node.shards) self.old.node) self.old.node result
+            self.new.node }
+        ensures waits { OnOk result (Waits self.new.waits self.new.node) }
+        ensures least { OnOk result (AreLeast self.new.least self.new.node) }
+        ensures order { OnOk result (Pass (length self.old.node.shards) 0 self.old.node self.new.node) }
+        ensures stops { IfErr result
+            (λ stop. PassStops (length self.old.node.shards) stop self.old.node self.new.node) }
+    {
+        // kept for the proof alone, which names it
+        let _before = self.handled;
+        let mut moved = false;
+        for e in 0..self.node.desks() {
+            moved |= self.settle_desk(e)?;
+        }
+        Ok(moved)
+    }
+
+    /// The letters to desk e, if it is marked.
+    fn settle_desk(&mut self, e: u8) -> Result<bool, Stop>
+        requires desk { e < length self.old.node.shards }
+        requires waits { Waits self.old.waits self.old.node }
+        requires least { AreLeast self.old.least self.old.node }
+        ensures runs { Runs self.old.node self.old.handled self.new.node self.new.handled }
+        ensures moves { Moves (NothingTo (length self.old.node.shards) e self.old.node) self.old.node result
+            self.new.node }
+        ensures waits { OnOk result (Waits self.new.waits self.new.node) }
+        ensures least { OnOk result (AreLeast self.new.least self.new.node) }
+        ensures order { OnOk result (DeskComes (length self.old.node.shards) e self.old.node self.new.node) }
+        ensures stops { IfErr result
+            (λ stop. DeskStops (length self.old.node.shards) e stop self.old.node self.new.node) }
+    {
+        // kept for the proof alone, which names it
+        let _before = self.handled;
+        // read for the proof alone: it says what holds of every gathered node
+        let _desks = self.node.desks();
+        if !self.waits[usize::from(e)] {
+            return Ok(false);
+        }
+        let moved = self.settle_to(e, self.least[usize::from(e)])?;
+        self.waits[usize::from(e)] = false;
+        self.least[usize::from(e)] = 1;
+        self.mark(e);
+        Ok(moved)
+    }
+
+    /// Marks the desks for which desk d has letters in its outbox.
+    fn mark(&mut self, d: u8)
+        requires { d < length self.old.node.shards }
+        ensures marks { Marks d (length self.old.node.shards) self.old.node self.old.waits self.new.waits }
+        ensures kept { (self.new.node ≡ self.old.node) × (self.new.least ≡ self.old.least)
+            × (self.new.handled ≡ self.old.handled) }
+    {
+        for k in 0..self.node.desks() {
+            if self.node.count_out(d, k) > 0 {
+                self.waits[usize::from(k)] = true;
+            }
         }
     }
-    Ok(handled)
+
+    /// The letters to desk e: each sending desk, from desk 0.
+    fn settle_to(&mut self, e: u8, least: usize) -> Result<bool, Stop>
+        requires desk { e < length self.old.node.shards }
+        requires least { IsLeast e least self.old.node }
+        ensures runs { Runs self.old.node self.old.handled self.new.node self.new.handled }
+        ensures moves { Moves (NothingTo (length self.old.node.shards) e self.old.node) self.old.node result
+            self.new.node }
+        ensures order { OnOk result (DeskComes (length self.old.node.shards) e self.old.node self.new.node) }
+        ensures stops { IfErr result
+            (λ stop. DeskStops (length self.old.node.shards) e stop self.old.node self.new.node) }
+        ensures keeps { OnOk result (KeepsNone self.old.node self.new.node) }
+        ensures none { OnOk result (NonePosted e self.new.node) }
+        ensures marks { (self.new.waits ≡ self.old.waits) × (self.new.least ≡ self.old.least) }
+    {
+        // kept for the proof alone, which names it
+        let _before = self.handled;
+        let mut moved = false;
+        for d in 0..self.node.desks() {
+            moved |= self.settle_lane(d, e, least)?;
+        }
+        Ok(moved)
+    }
+
+    /// The letters that are now left over from desk d to desk e: none if the outbox holds fewer than `least` for it.
+    fn settle_lane(&mut self, d: u8, e: u8, least: usize) -> Result<bool, Stop>
+        requires within { (d < length self.old.node.shards) × (e < length self.old.node.shards) }
+        requires least { (least ≤ 1)
+            × (0 < least → posted_in self.old.node.shards self.old.node.lanes d e ≡ []) }
+        ensures runs { Runs self.old.node self.old.handled self.new.node self.new.handled }
+        ensures moves { Moves (over_in self.old.node.shards self.old.node.lanes d e ≡ []) self.old.node result
+            self.new.node }
+        ensures order { OnOk result (LaneComes e d self.old.node self.new.node) }
+        ensures stops { IfErr result (λ stop. LaneStops e d stop self.old.node self.new.node) }
+        ensures keeps { OnOk result (KeepsNone self.old.node self.new.node) }
+        ensures none { OnOk result (posted_in self.new.node.shards self.new.node.lanes d e ≡ []) }
+        ensures marks { (self.new.waits ≡ self.old.waits) × (self.new.least ≡ self.old.least) }
+    {
+        // kept for the proof alone, which names it
+        let _before = self.handled;
+        if self.node.count_out(d, e) < least {
+            return Ok(false);
+        }
+        let mut moved = false;
+        for _k in 0..self.node.count_over(d, e) {
+            let more = self.node.step(d, e)?;
+            if !more {
+                return Ok(moved);
+            }
+            self.handled = self.handled.saturating_add(1);
+            moved = true;
+        }
+        Ok(moved)
+    }
 }
 
 /// What is told of the processes once each journal is read to its end, from where its table stands; where there is no
 /// memory, the tables as far as they came.
-fn told(node: &Node, lives: Vec<DeskLives>) -> Result<Lives, Vec<DeskLives>>
+fn told(node: &AtRest, lives: Vec<DeskLives>) -> Result<Lives, Vec<DeskLives>>
     requires { AreTables node.now.shards lives.items }
     ensures told { IfOk result (λ lives. AreLivesOf (begins node.now) (journals node.now) lives) }
     ensures count { IfOk result (λ lives. length lives ≡ length node.now.shards) }
@@ -165,7 +324,7 @@ fn told(node: &Node, lives: Vec<DeskLives>) -> Result<Lives, Vec<DeskLives>>
 }
 
 /// Reads each journal to its end, from where its table stands.
-fn read_journals(node: &Node, lives: &mut Vec<DeskLives>) -> Result<(), AllocError>
+fn read_journals(node: &AtRest, lives: &mut Vec<DeskLives>) -> Result<(), AllocError>
     requires { AreTables node.now.shards lives.old.items }
     ensures tables { AreTables node.now.shards lives.new.items }
     ensures told { OnOk result (TablesAreTold node.now lives.new.items) }
@@ -176,156 +335,4 @@ fn read_journals(node: &Node, lives: &mut Vec<DeskLives>) -> Result<(), AllocErr
         lives[which].read(node.shards()[which].journal())?;
     }
     Ok(())
-}
-
-/// One pass: each receiving desk, from desk 0.
-///
-/// A desk that is not marked in `waits` has nothing left over to it. In `least` stands how many letters an outbox has
-/// to hold for a desk so that any can be left over between the two: 0 until that desk was come to, and 1 from then on,
-/// since all letters to it then wait in outboxes.
-fn pass(
-    gathered: &mut Node,
-    waits: &mut [bool; 64],
-    least: &mut [usize; 64],
-    handled: &mut u64,
-) -> Result<bool, Stop>
-    requires waits { Waits waits.old gathered.old }
-    requires least { AreLeast least.old gathered.old }
-    ensures runs { Runs gathered.old handled.old gathered.new handled.new }
-    ensures moves { Moves (NothingBelow (length gathered.old.shards) gathered.old) gathered.old result gathered.new }
-    ensures waits { OnOk result (Waits waits.new gathered.new) }
-    ensures least { OnOk result (AreLeast least.new gathered.new) }
-    ensures order { OnOk result (Pass (length gathered.old.shards) 0 gathered.old gathered.new) }
-    ensures stops { IfErr result (λ stop. PassStops (length gathered.old.shards) stop gathered.old gathered.new) }
-{
-    // kept for the proof alone, which names it
-    let _before = *handled;
-    let mut moved = false;
-    for e in 0..gathered.desks() {
-        // a `match` and no `?`: the conversion of the error would be one more step of the proof
-        match settle_desk(gathered, e, waits, least, handled) {
-            Ok(some) => {
-                if some {
-                    moved = true;
-                }
-            }
-            Err(stop) => return Err(stop),
-        }
-    }
-    Ok(moved)
-}
-
-/// The letters to desk e, if it is marked.
-fn settle_desk(
-    gathered: &mut Node,
-    e: u8,
-    waits: &mut [bool; 64],
-    least: &mut [usize; 64],
-    handled: &mut u64,
-) -> Result<bool, Stop>
-    requires desk { e < length gathered.old.shards }
-    requires waits { Waits waits.old gathered.old }
-    requires least { AreLeast least.old gathered.old }
-    ensures runs { Runs gathered.old handled.old gathered.new handled.new }
-    ensures moves { Moves (NothingTo (length gathered.old.shards) e gathered.old) gathered.old result gathered.new }
-    ensures waits { OnOk result (Waits waits.new gathered.new) }
-    ensures least { OnOk result (AreLeast least.new gathered.new) }
-    ensures order { OnOk result (DeskComes (length gathered.old.shards) e gathered.old gathered.new) }
-    ensures stops { IfErr result (λ stop. DeskStops (length gathered.old.shards) e stop gathered.old gathered.new) }
-{
-    // kept for the proof alone, which names it
-    let _before = *handled;
-    // read for the proof alone: it says what holds of every gathered node
-    let _desks = gathered.desks();
-    if !waits[usize::from(e)] {
-        return Ok(false);
-    }
-    // a `match` and no `?`: the conversion of the error would be one more step of the proof
-    let moved = match settle_to(gathered, e, least[usize::from(e)], handled) {
-        Ok(moved) => moved,
-        Err(stop) => return Err(stop),
-    };
-    waits[usize::from(e)] = false;
-    least[usize::from(e)] = 1;
-    mark(gathered, e, waits);
-    Ok(moved)
-}
-
-/// Marks the desks for which desk d has letters in its outbox.
-fn mark(gathered: &Node, d: u8, waits: &mut [bool; 64])
-    requires { d < length gathered.now.shards }
-    ensures { Marks d (length gathered.now.shards) gathered.now waits.old waits.new }
-{
-    for k in 0..gathered.desks() {
-        if gathered.count_out(d, k) > 0 {
-            waits[usize::from(k)] = true;
-        }
-    }
-}
-
-/// The letters to desk e: each sending desk, from desk 0.
-fn settle_to(gathered: &mut Node, e: u8, least: usize, handled: &mut u64) -> Result<bool, Stop>
-    requires desk { e < length gathered.old.shards }
-    requires least { IsLeast e least gathered.old }
-    ensures runs { Runs gathered.old handled.old gathered.new handled.new }
-    ensures moves { Moves (NothingTo (length gathered.old.shards) e gathered.old) gathered.old result gathered.new }
-    ensures order { OnOk result (DeskComes (length gathered.old.shards) e gathered.old gathered.new) }
-    ensures stops { IfErr result (λ stop. DeskStops (length gathered.old.shards) e stop gathered.old gathered.new) }
-    ensures keeps { OnOk result (KeepsNone gathered.old gathered.new) }
-    ensures none { OnOk result (NonePosted e gathered.new) }
-{
-    // kept for the proof alone, which names it
-    let _before = *handled;
-    let mut moved = false;
-    for d in 0..gathered.desks() {
-        // a `match` and no `?`: the conversion of the error would be one more step of the proof
-        match settle_lane(gathered, d, e, least, handled) {
-            Ok(some) => {
-                if some {
-                    moved = true;
-                }
-            }
-            Err(stop) => return Err(stop),
-        }
-    }
-    Ok(moved)
-}
-
-/// The letters that are now left over from desk d to desk e: none where the outbox holds fewer than `least` for it.
-fn settle_lane(
-    gathered: &mut Node,
-    d: u8,
-    e: u8,
-    least: usize,
-    handled: &mut u64,
-) -> Result<bool, Stop>
-    requires within { (d < length gathered.old.shards) × (e < length gathered.old.shards) }
-    requires least { (least ≤ 1) × (0 < least → posted_in gathered.old.shards gathered.old.lanes d e ≡ []) }
-    ensures runs { Runs gathered.old handled.old gathered.new handled.new }
-    ensures moves { Moves (over_in gathered.old.shards gathered.old.lanes d e ≡ []) gathered.old result gathered.new }
-    ensures order { OnOk result (LaneComes e d gathered.old gathered.new) }
-    ensures stops { IfErr result (λ stop. LaneStops e d stop gathered.old gathered.new) }
-    ensures keeps { OnOk result (KeepsNone gathered.old gathered.new) }
-    ensures none { OnOk result (posted_in gathered.new.shards gathered.new.lanes d e ≡ []) }
-{
-    // kept for the proof alone, which names it
-    let _before = *handled;
-    if gathered.count_out(d, e) < least {
-        return Ok(false);
-    }
-    let count = gathered.count_over(d, e);
-    let mut moved = false;
-    for _k in 0..count {
-        // a `match` and no `?`: the conversion of the error would be one more step of the proof
-        let more = match gathered.step(d, e) {
-            Ok(more) => more,
-            Err(stop) => return Err(stop),
-        };
-        if !more {
-            return Ok(moved);
-        }
-        *handled = handled.saturating_add(1);
-        moved = true;
-    }
-    Ok(moved)
 }

@@ -10,27 +10,28 @@ pub use pt_laws::laws::{
     sent_came_or_flies, stamps_make_new_ids, taken_or_waiting, watches_are_kept_since,
 };
 
-/// A process's trap flag is the last one that it set; where it set none, it is off, or as at the start.
+/// A process's trap flag is the last one that it set. If it set none, it is off, or as at the start.
 pub fn trap_is_the_last_flag()
     ensures { TrapIsLastFlag }
 {}
 
-/// The processes that a process is linked with stand in the order of the events at which it came to hold a link id
-/// with them.
+/// The processes that a process is linked with are in the order of the events at which it got a link id with them.
 pub fn peers_are_linked_since()
     ensures { PeersSince }
 {}
 
-/// The open monitors of a live process, in order of making, are those that it made and for which it has since said
-/// no `Demonitor` and got no `DOWN`.
+/// The open monitors of a live process, in order of making, are those that it made and for which it has since sent no
+/// `Demonitor` and got no `DOWN`.
 pub fn monitors_are_open_since()
     ensures list { OpenSince }
     ensures each { IsOpenSince }
 {}
 
-/// Histories worked by hand are legal and quiet and end as they should: ten lines of two processes that send each
-/// other a message; an exit that goes down a chain of links as far as a process that traps it; a link made before
-/// the birth of its target, by which the two ends come to differ.
+/// These histories, worked by hand, are legal and quiet and end as they should:
+///
+/// - ten lines of two processes that send each other a message;
+/// - an exit that goes down a chain of links as far as a process that traps it;
+/// - a link made before the birth of its target, by which the two ends come to differ.
 pub fn worked_histories()
     ensures ten_lines { TenLines }
     ensures cascade { Cascade }

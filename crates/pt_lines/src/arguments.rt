@@ -1,4 +1,4 @@
-//! The words behind the name of a call, as values. A function takes them, and the column behind the line.
+//! The words after the name of a call, as values. A function takes them, and the column after the line.
 
 ghost use Rattle.std.specs.Prelude.{◌≡◌, ℕ, map, None, Ok, option_map};
 ghost use Rattle.std.specs.Option.{option_copied};
@@ -12,7 +12,7 @@ use crate::values::{i64_of, pid_of, reason_of, ref_of, truth_of, u8_of, u32_of, 
 use crate::word::Word;
 use pt_signal::{Body, Pick, Pid, Reason, Ref};
 
-/// That there are too many words, or too few: so many are wanted.
+/// The mistake that there are too many words, or too few: so many are wanted.
 fn miscount<T>(wanted: usize, words: &[Word<'_>], end: usize) -> Result<T, Mistake>
     ensures { result ≡ spec.miscount wanted (map told_word words.now) end }
 {
@@ -22,7 +22,7 @@ fn miscount<T>(wanted: usize, words: &[Word<'_>], end: usize) -> Result<T, Mista
     }
 }
 
-/// There is no word.
+/// Checks that there is no word.
 pub(crate) fn nothing(words: &[Word<'_>], end: usize) -> Result<(), Mistake>
     ensures { result ≡ spec.of_none (map told_word words.now) end (Ok tt) }
 {
@@ -207,7 +207,7 @@ pub(crate) fn message(
     }
 }
 
-/// A pick, by its first word and the one behind it.
+/// A pick, by its first word and the one after it.
 fn pick_of(names: &Names, word: Word<'_>, what: Word<'_>) -> Result<Pick, Mistake>
     ensures { result ≡ spec.pick_read names.now (told_word word.entry) (told_word what.entry) }
 {

@@ -2,7 +2,7 @@
 
 use pt_signal::{Body, Config, Pick, Pid, Reason, Ref};
 
-/// What a line asks of a node.
+/// What a line asks a node to do.
 #[derive(Clone, Copy)]
 pub enum Call {
     Open(Config),
@@ -13,7 +13,7 @@ pub enum Call {
     Resume,
 }
 
-/// What changes a node that runs: calls of its processes, and turns.
+/// The calls that change a running node: those of its processes, and turns.
 #[derive(Clone, Copy)]
 pub enum Act {
     Spawn(u8),
@@ -33,7 +33,7 @@ pub enum Act {
     TurnUntilStill(u32),
 }
 
-/// What is only read of a node.
+/// The calls that only read a node.
 #[derive(Clone, Copy)]
 pub enum Look {
     Clock(u8),
@@ -41,7 +41,7 @@ pub enum Look {
     Journal(u8),
     /// The event of a desk with a stamp.
     Event(u8, u64),
-    /// How many events there are.
+    /// The number of events.
     Events,
     Vacant(u8),
     Alive(Pid),

@@ -1,4 +1,4 @@
-//! The call that a name and the words behind it ask for.
+//! The call that a name and the words after it ask for.
 
 ghost use Rattle.std.specs.Prelude.{◌≡◌, map};
 ghost use Rattle.pt_lines.specs.Calls as spec;
@@ -16,7 +16,7 @@ use crate::verb::{DeskVerb, LookVerb, PairVerb, ProcessVerb, Verb};
 use crate::word::Word;
 use pt_signal::Config;
 
-/// The call, where the words are those that it takes.
+/// The call, if the words are those that it takes.
 pub(crate) fn call_of(
     names: &Names,
     verb: Verb,

@@ -20,13 +20,13 @@ pub enum Command<'a> {
     /// The line is empty or a comment.
     Nothing,
     Help,
-    /// The next line of the last answer is to be these words, with one space between each two.
+    /// The next line of the last answer must be these words, with one space between each two.
     Expect(&'a [Word<'a>]),
-    /// A call, with the name that its answer is to have, if one is given, and the column of its own name.
+    /// A call, with the name that its answer will have, if one is given, and the column of its own name.
     Call(Option<&'a [u8]>, usize, Call),
 }
 
-/// What the words of a line ask for, by these names. The column behind the line is that at which a word is missing.
+/// What the words of a line ask for, by these names. A missing word is at the column after the line.
 pub fn command_of<'a>(
     names: &Names,
     words: &'a [Word<'a>],
@@ -68,7 +68,7 @@ fn expectation<'a>(words: &'a [Word<'a>], end: usize) -> Result<Command<'a>, Mis
     }
 }
 
-/// A call, by the word behind the first.
+/// A call, by the word after the first.
 fn call_asked<'a>(
     names: &Names,
     word: Word<'a>,
@@ -129,14 +129,14 @@ fn called<'a>(
     }
 }
 
-/// Whether a word is the name of a call, or has another meaning at the begin of a line.
+/// Whether a word is the name of a call, or has another meaning at the beginning of a line.
 fn is_taken(word: &[u8]) -> bool
     ensures { result ≡ spec.is_taken word.now }
 {
     word == b"expect".as_slice() || word == b"help".as_slice() || verb_of(word).is_some()
 }
 
-/// The call of this name with the words behind it.
+/// The call of this name with the words after it.
 fn call_in(names: &Names, word: Word<'_>, words: &[Word<'_>], end: usize) -> Result<Call, Mistake>
     ensures { result ≡ spec.call_in Config.DEFAULT names.now (told_word word.entry) (map told_word words.now) end }
 {

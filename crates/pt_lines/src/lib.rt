@@ -1,4 +1,4 @@
-//! A line of the shell: its words, and the call that they ask for.
+//! Lines of the shell: their words, and the call that they ask for.
 //!
 //! ```
 //! let words = words_of(alloc, b"send <0.0.1> b 1 10")?;
@@ -8,8 +8,8 @@
 //! }
 //! ```
 //!
-//! A line is split into words at blanks. A word stands for a value by the value's printed text, or by a name that was
-//! given to a pid or a reference before. What the words of each call are, [`CALLS`] says.
+//! A line is split into words at blanks. A word means a value by the value's printed text, or by a name that was given
+//! to a pid or a reference before. [`CALLS`] has the words of each call.
 //!
 //! # What is proved
 //!

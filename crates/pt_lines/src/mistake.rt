@@ -4,20 +4,20 @@ ghost use Rattle.std.specs.Prelude.{◌≡◌};
 
 use std::fmt;
 
-/// Why a line is no call, and where.
+/// Why a line is no call, and the place of the mistake.
 #[derive(Clone, Copy, Debug, PartialEq, Eq)]
 pub struct Mistake {
-    /// Where the word stands that is at fault, or where one would stand that is missing, counted in bytes from 1.
+    /// The column of the word at fault, or the column at which a word is missing, counted in bytes from 1.
     pub column: usize,
     pub why: Why,
 }
 
-/// What a word is not.
+/// What is wrong with a word.
 #[derive(Clone, Copy, Debug, PartialEq, Eq)]
 pub enum Why {
     /// There is no call of this name.
     NoCall,
-    /// It has not the form of a name, or is the name of a call.
+    /// It does not have the form of a name, or is the name of a call.
     NoName,
     NoPid,
     NoRef,
@@ -25,12 +25,12 @@ pub enum Why {
     NoPick,
     /// It is neither `true` nor `false`.
     NoTruth,
-    /// It is no decimal number, or too great for its place.
+    /// It is no decimal number, or is too great for its place.
     NoNumber,
     NoSetting,
-    /// The call has fewer words.
+    /// The call takes fewer words.
     TooMany,
-    /// The call has more words.
+    /// The call takes more words.
     Missing,
 }
 

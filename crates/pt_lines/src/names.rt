@@ -1,4 +1,4 @@
-//! Names that stand for pids and references.
+//! Names for pids and references.
 
 ghost use Rattle.std.specs.Prelude.{◌≡◌, ◌∷◌, ◌++◌, [], OnOk, OnErr, None, map};
 ghost use Rattle.std.specs.List.{list_all};
@@ -11,7 +11,7 @@ use std::marker::Model;
 /// The most bytes of a name.
 pub const MOST_NAME: usize = 32;
 
-/// What a name can stand for.
+/// What a name can mean.
 #[derive(Clone, Copy)]
 pub enum Value {
     Pid(Pid),
@@ -24,9 +24,9 @@ struct Binding {
     value: Value,
 }
 
-/// The names that were given, each with what it stands for: that to which it was given last.
+/// The names that were given, each with the value to which it was given last.
 ///
-/// Contracts see them in the order in which they were given, each with what it was given to.
+/// Contracts see them in the order in which they were given, each with its value.
 #[derive(Drop)]
 pub struct Names {
     alloc: Global,
@@ -43,7 +43,7 @@ impl Model for Names {
 }
 
 impl Names {
-    /// No name was given.
+    /// No names.
     pub fn new(alloc: Global) -> Names
         ensures { result ≡ [] }
     {
@@ -53,7 +53,7 @@ impl Names {
         }
     }
 
-    /// Gives a name to a value. Refused only where there is no memory.
+    /// Gives a name to a value. Fails only if there is no memory.
     pub fn give(&mut self, name: &[u8], value: Value) -> Result<(), AllocError>
         ensures given { OnOk result (self.new ≡ self.old ++ (name.now, value) ∷ []) }
         ensures kept { OnErr result (self.new ≡ self.old) }
@@ -63,7 +63,7 @@ impl Names {
         Ok(())
     }
 
-    /// What the name stands for.
+    /// The value of the name.
     pub fn value(&self, name: &[u8]) -> Option<Value>
         ensures { result ≡ spec.value_of self.now name.now }
     {
@@ -71,7 +71,7 @@ impl Names {
     }
 }
 
-/// What the name stands for: of the bindings that have it, the last counts.
+/// The value of the name: the last of its bindings counts.
 fn value_in(bindings: &[Binding], name: &[u8]) -> Option<Value>
     ensures { result ≡ spec.value_after None (map (λ b. (b.name.items, b.value)) bindings.now) name.now }
 {

@@ -9,7 +9,7 @@ fn is_digit(byte: u8) -> bool
     b'0' <= byte && byte <= b'9'
 }
 
-/// The number that the digits write, if there is a digit, nothing else stands there, and it is not above the greatest.
+/// The number that the digits write, if there are digits and nothing else, and it is not above the greatest.
 fn number_in(most: u64, text: &[u8]) -> Option<u64>
     requires { 9 ≤ most }
     ensures range { IfSome result (λ n. n ≤ most) }
@@ -21,7 +21,7 @@ fn number_in(most: u64, text: &[u8]) -> Option<u64>
     }
 }
 
-/// The number that the digits write, if nothing else stands there, and it is not above the greatest.
+/// The number that the digits write, if there is nothing else, and it is not above the greatest.
 #[tactic(auto, using(crate::proofs::OneMore::number_step))]
 fn number_behind(most: u64, text: &[u8]) -> Option<u64>
     requires { 9 ≤ most }

@@ -9,7 +9,7 @@ use crate::values::{u8_of, u32_of, u64_of};
 use crate::word::Word;
 use pt_signal::Config;
 
-/// The settings with the one of this name, by the word of its number.
+/// The settings, with the one of this name changed to the number in the word.
 fn with_named(config: Config, name: &[u8], number: Word<'_>) -> Result<Config, Mistake>
     ensures { result ≡ spec.with_named config name.now (told_word number.entry) }
 {
@@ -28,7 +28,7 @@ fn with_named(config: Config, name: &[u8], number: Word<'_>) -> Result<Config, M
     }
 }
 
-/// The settings with the one that the word names.
+/// The settings, with the one that the word names changed.
 fn with_setting(config: Config, word: Word<'_>) -> Result<Config, Mistake>
     ensures { result ≡ spec.with_setting config (told_word word.entry) }
 {
@@ -44,7 +44,7 @@ fn with_setting(config: Config, word: Word<'_>) -> Result<Config, Mistake>
     }
 }
 
-/// Where the first `=` stands.
+/// The place of the first `=`.
 fn sign_in(text: &[u8]) -> Option<usize>
     ensures place { result ≡ position (λ c. c == 61) text.now }
     ensures within { IfSome result (λ sign. sign < length text.now) }
@@ -52,7 +52,7 @@ fn sign_in(text: &[u8]) -> Option<usize>
     text.iter().position(|byte| *byte == b'=')
 }
 
-/// The settings that the words name, and of the others the defaults. Of one that is named twice the last counts.
+/// The settings that the words name, and the defaults for the others. If one is named twice, the last counts.
 pub(crate) fn config_of(words: &[Word<'_>]) -> Result<Config, Mistake>
     ensures { result ≡ spec.with_settings Config.DEFAULT (map told_word words.now) }
 {

@@ -1,4 +1,4 @@
-//! The value that a word stands for.
+//! The value of a word.
 
 ghost use Rattle.std.specs.Prelude.{◌≡◌};
 ghost use Rattle.pt_lines.specs.Values as spec;

@@ -74,7 +74,7 @@ pub struct Usage {
     pub arguments: &'static str,
 }
 
-/// Each call, in the order in which `help` tells them.
+/// Each call, in the order in which `help` prints them.
 pub static CALLS: [Usage; 37] = [
     Usage {
         verb: Verb::Open,

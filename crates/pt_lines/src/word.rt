@@ -8,7 +8,7 @@ use std::alloc::{AllocError, Global};
 /// A word of a line.
 #[derive(Clone, Copy)]
 pub struct Word<'a> {
-    /// Where it stands, counted in bytes from 1.
+    /// Its column, counted in bytes from 1.
     pub column: usize,
     pub text: &'a [u8],
 }
@@ -19,7 +19,7 @@ fn is_blank(byte: u8) -> bool
     byte == b' ' || byte == b'\t' || byte == b'\r'
 }
 
-/// The words of a line, in order: what stands between blanks. A blank is a space, a tab or a carriage return.
+/// The words of a line, in order: the texts between blanks. A blank is a space, a tab or a carriage return.
 pub fn words_of(alloc: Global, line: &[u8]) -> Result<Vec<Word<'_>>, AllocError>
     ensures { IfOk result (λ words. map spec.told_word words.items ≡ spec.words_in line.now) }
 {
@@ -32,7 +32,7 @@ pub fn words_of(alloc: Global, line: &[u8]) -> Result<Vec<Word<'_>>, AllocError>
     Ok(words)
 }
 
-/// Passes one byte, and adds the word before it, if it is a blank; where the next word begins.
+/// Passes one byte, and adds the word before it if it is a blank. Returns the place at which the next word begins.
 #[tactic(auto, using(crate::proofs::Splitting::of_blank, crate::proofs::Splitting::of_other))]
 fn pass<'a>(
     words: &mut Vec<Word<'a>>,
@@ -56,7 +56,7 @@ fn pass<'a>(
     Ok(start)
 }
 
-/// Adds the word between two places, if any byte stands there.
+/// Adds the word between two places, if there is any byte.
 fn push_word<'a>(
     words: &mut Vec<Word<'a>>,
     line: &'a [u8],
@@ -90,7 +90,7 @@ pub fn joined(alloc: Global, words: &[Word<'_>]) -> Result<Vec<u8>, AllocError>
     Ok(text)
 }
 
-/// Adds each word behind a space.
+/// Adds each word after a space.
 fn push_spaced(text: &mut Vec<u8>, words: &[Word<'_>]) -> Result<(), AllocError>
     ensures { OnOk result (text.new.items ≡ text.old.items ++ spec.spaced (map spec.told_word words.now)) }
 {

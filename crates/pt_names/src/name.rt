@@ -15,7 +15,7 @@ pub const MAX_LETTERS: usize = 32;
 /// It is a plain value: two names are equal exactly if their texts are.
 #[derive(Clone, Copy, Debug, PartialEq, Eq, Hash)]
 pub struct Name {
-    /// Its letters, and behind them zeros.
+    /// Its letters, and zeros after them.
     letters: [u8; 32],
 }
 
@@ -35,7 +35,7 @@ impl Name {
     }
 }
 
-/// The bytes, and zeros behind them.
+/// The bytes, and zeros after them.
 fn padded(bytes: &[u8]) -> [u8; MAX_LETTERS]
     requires { length bytes.now ≤ 32 }
     ensures { result ≡ padded bytes.now }
@@ -99,7 +99,7 @@ fn is_name_letter(byte: u8) -> bool
     is_letter(byte) || is_digit(byte) || byte == b'_'
 }
 
-/// Two different texts never give the same name. It does nothing: the law is its contract.
+/// Two different texts never give the same name. The function does nothing: the law is its contract.
 pub fn names_tell_texts_apart()
     ensures { TellsTextsApart }
 {}

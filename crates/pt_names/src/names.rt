@@ -1,4 +1,4 @@
-//! Who has which name.
+//! Which process has which name.
 
 ghost use Rattle.std.specs.Prelude.{◌≡◌, length};
 ghost use Rattle.std.specs.Option.{option_map};
@@ -12,11 +12,11 @@ use std::alloc::Global;
 use std::marker::Model;
 use thiserror::Error;
 
-/// Who has a name.
+/// The process that has a name.
 #[derive(Clone, Copy, Debug, PartialEq, Eq)]
 pub struct Holder {
     pub pid: Pid,
-    /// The monitor by which its exit is heard of.
+    /// The monitor that reports its exit.
     pub monitor: Ref,
 }
 
@@ -79,14 +79,15 @@ impl Names {
         self.names.get(&pid).copied()
     }
 
-    /// How many names there are.
+    /// The number of names.
     pub fn len(&self) -> usize
         ensures { result ≡ length self.now.holders }
     {
         self.holders.len()
     }
 
-    /// Whether the process can have the name. If so, `register` fails only if there is no memory.
+    /// Checks whether the process can have the name. Fails with `Taken` or `HasName` as `register` would. If it
+    /// succeeds, `register` fails only if there is no memory.
     pub fn check(&self, name: Name, pid: Pid) -> Result<(), RegisterError>
         ensures { Checks name pid self.now result }
     {
@@ -99,7 +100,7 @@ impl Names {
         }
     }
 
-    /// Gives a process a name, and keeps the monitor by which its exit will be heard of.
+    /// Gives a process a name, and keeps the monitor that will report its exit.
     ///
     /// Fails with `Taken` if a process has the name, otherwise with `HasName` if the process has a name, and otherwise
     /// with `Memory` if there is no memory for one more. Then nothing has changed.
@@ -117,7 +118,7 @@ impl Names {
         Ok(())
     }
 
-    /// Takes a name away, and returns who had it, or `None` if no process has the name.
+    /// Removes a name, and returns the process that had it, or `None` if no process has the name.
     pub fn unregister(&mut self, name: Name) -> Option<Holder>
         ensures { Unregisters name self.old result self.new }
     {
@@ -126,7 +127,7 @@ impl Names {
         Some(holder)
     }
 
-    /// Takes its name from a process that has exited, and returns it, or `None` if it has none.
+    /// Removes the name of a process that has exited, and returns it, or `None` if it has none.
     pub fn forget(&mut self, pid: Pid) -> Option<Name>
         ensures { Forgets pid self.old result self.new }
     {

@@ -19,11 +19,11 @@ use Rattle.pt_gathered.proofs.Agreeing.{local_as}
 use Rattle.pt_gathered.proofs.Owned.{local_same, posts_same}
 use Rattle.pt_gathered.proofs.Starts.{nobody_beyond, start_same}
 use Rattle.pt_desk.specs.DeskState.{DeskState, collected_from, posted_to, waits_for}
-use Rattle.pt_node.specs.Desks.{AreDesks, AreDesksOf, AreWhole, all_shards}
+use Rattle.pt_workers.specs.Desks.{AreDesks, AreDesksOf, AreWhole, all_shards}
 use Rattle.pt_node.specs.Load.{IsWithinLoad}
-use Rattle.pt_node.specs.Looking.{HaveLanes}
-use Rattle.pt_node.specs.Stillness.{AllDesksGoOn, count_events}
-use Rattle.pt_node.proofs.Begun.{starts_stay}
+use Rattle.pt_workers.specs.Looking.{HaveLanes}
+use Rattle.pt_workers.specs.Stillness.{AllDesksGoOn, count_events}
+use Rattle.pt_workers.proofs.Begun.{starts_stay}
 use Rattle.pt_node.proofs.Receiving.{AllReceive}
 use Rattle.pt_node.proofs.Together.{lane_agrees}
 use Rattle.pt_node.proofs.TrueReads.{number_at}

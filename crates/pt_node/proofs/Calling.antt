@@ -9,10 +9,11 @@ use Rattle.pt_shard.specs.declared.fault.Fault.{Fault}
 use Rattle.pt_desk.specs.DeskState.{DeskState, GoesOn, HasSameEnds, IsDesk, place}
 use Rattle.pt_desk.specs.declared.turned.Turned.{Turned}
 use Rattle.pt_desk.specs.Turns.{Turns}
-use Rattle.pt_node.specs.Desks.{AreDesks}
+use Rattle.pt_workers.specs.Desks.{AreDesks}
 use Rattle.pt_node.specs.declared.node_fault.NodeFault.{NodeFault}
-use Rattle.pt_node.specs.Node.{CallsTo, OnDesk, TurnsAll, node_answered, both_turned}
-use Rattle.pt_node.proofs.StillDesks.{still_desks}
+use Rattle.pt_node.specs.Node.{CallsTo, TurnsAll, node_answered, both_turned}
+use Rattle.pt_workers.specs.Desks.{OnDesk}
+use Rattle.pt_workers.proofs.StillDesks.{still_desks}
 
 -- the desk `old` was read at place d
 module _ (desks : List DeskState) (d : ℕ) (old : DeskState) (within : d < length desks) (is : old ≡ get_or desks d old) where

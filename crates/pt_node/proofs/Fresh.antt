@@ -16,7 +16,7 @@ use Rattle.pt_gathered.proofs.Starts.{all_empty}
 use Rattle.pt_gathered.proofs.Pasts.{from_first}
 use Rattle.pt_directory.specs.Seats.{reopened_seat}
 use Rattle.pt_desk.specs.DeskState.{DeskState, IsAccounted}
-use Rattle.pt_node.specs.Desks.{AreAccounted, AreDesksOf, all_ends, all_shards}
+use Rattle.pt_workers.specs.Desks.{AreAccounted, AreDesksOf, all_ends, all_shards}
 use Rattle.pt_node.specs.Opening.{AreFreshShards, AreFresh}
 use Rattle.pt_node.specs.Seating.{Seated, seat_in, all_seats, AreFreshSeats}
 use Rattle.pt_node.proofs.SeatsOf.{fresh_seat}

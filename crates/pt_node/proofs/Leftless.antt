@@ -9,9 +9,9 @@ use Rattle.pt_shard.specs.Outbox.{held_from}
 use Rattle.pt_desk.specs.DeskState.{DeskState, posted_to, collected_from}
 use Rattle.pt_gathered.specs.Gathered.{GatheredState, box_at, hold_at}
 use Rattle.pt_gathered.specs.Settling.{NothingLeft}
-use Rattle.pt_node.specs.Desks.{all_ends, all_shards}
+use Rattle.pt_workers.specs.Desks.{all_ends, all_shards}
 use Rattle.pt_node.specs.Gathering.{Gathers}
-use Rattle.pt_node.specs.Stillness.{AreStill}
+use Rattle.pt_workers.specs.Stillness.{AreStill}
 
 some_desk : (xs : List DeskState) (d : ℕ) → d < length xs → DeskState
 some_desk [] d h = absurd (omega arith)

@@ -1,5 +1,4 @@
 -- The lemmas that more than one function of the crate uses.
-pub mod Begun
 pub mod Together
 pub mod TrueReads
 pub mod SeatsOf
@@ -9,21 +8,10 @@ pub mod Prepared
 pub mod Resumed
 pub mod Wholes
 pub mod Fresh
-pub mod GoingOn
 pub mod Pasts
-pub mod StillDesks
-pub mod Rounding
 pub mod Calling
-pub mod Idle
-pub mod Burning
-pub mod TurnsOf
-pub mod Meeting
-pub mod AtRest
 pub mod RoundByRound
 pub mod Leftless
 pub mod Weighing
 pub mod Receiving
 pub mod Bounding
-pub mod Laned
-pub mod Waiting
-pub mod Unread

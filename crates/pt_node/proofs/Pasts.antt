@@ -6,12 +6,12 @@ use Rattle.pt_signal.specs.declared.config.Config.{Config}
 use Rattle.pt_gathered.specs.Gathered.{GatheredState, start_of}
 use Rattle.pt_gathered.specs.Pasts.{IsBeginningOf}
 use Rattle.pt_desk.specs.DeskState.{DeskState}
-use Rattle.pt_node.specs.Desks.{AreDesksOf, all_shards}
+use Rattle.pt_workers.specs.Desks.{AreDesksOf, all_shards}
 use Rattle.pt_node.specs.Gathering.{Gathers}
 use Rattle.pt_node.specs.Pasts.{GoOnFrom, GathersPast}
-use Rattle.pt_node.specs.Running.{AllGoOn}
-use Rattle.pt_node.proofs.Begun.{starts_stay}
-use Rattle.pt_node.proofs.GoingOn.{still_desks}
+use Rattle.pt_workers.specs.Running.{AllGoOn}
+use Rattle.pt_workers.proofs.Begun.{starts_stay}
+use Rattle.pt_workers.proofs.GoingOn.{still_desks}
 
 -- the desks of one node have one setting
 one_config : (one two : Config) (desks : List DeskState) → AreDesksOf one desks → AreDesksOf two desks → one ≡ two

@@ -10,12 +10,12 @@ use Rattle.pt_gathered.proofs.Settled.{follows_along, follows_same}
 use Rattle.pt_desk.specs.DeskState.{DeskState}
 use Rattle.pt_desk.specs.declared.turned.Turned.{Turned}
 use Rattle.pt_desk.specs.Turns.{Fetches, HandlesNext, HandlesAll, EndsWith, Stays, Turns}
-use Rattle.pt_node.specs.Desks.{desk_kept}
-use Rattle.pt_node.specs.Stillness.{LooksAgain, Rounds, RunsRounds, TurnEach}
-use Rattle.pt_node.specs.declared.stillness.Rested.{Rested}
-use Rattle.pt_node.specs.declared.stillness.Stopped.{Stopped}
-use Rattle.pt_node.proofs.Meeting.{kept_count, kept_shard}
-use Rattle.pt_node.proofs.TurnsOf.{TurnAt, beside, now, same_count, was}
+use Rattle.pt_workers.specs.Desks.{desk_kept}
+use Rattle.pt_workers.specs.Stillness.{LooksAgain, Rounds, RunsRounds, TurnEach}
+use Rattle.pt_workers.specs.declared.stillness.Rested.{Rested}
+use Rattle.pt_workers.specs.declared.stillness.Stopped.{Stopped}
+use Rattle.pt_workers.proofs.Meeting.{kept_count, kept_shard}
+use Rattle.pt_workers.proofs.TurnsOf.{TurnAt, beside, now, same_count, was}
 
 -- the journal of the desk goes on with receipts
 abbrev pub Receives : DeskState → DeskState → Type 0

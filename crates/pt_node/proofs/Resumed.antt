@@ -30,7 +30,7 @@ use Rattle.pt_gathered.specs.Settling.{NothingLeft}
 use Rattle.pt_gathered.specs.Beginning.{IsBeginning}
 use Rattle.pt_desk.specs.Sight.{WasInTurn, deaths_before}
 use Rattle.pt_desk.specs.DeskState.{DeskState, IsAccounted}
-use Rattle.pt_node.specs.Desks.{AreAccounted, AreDesksOf, all_ends, all_shards}
+use Rattle.pt_workers.specs.Desks.{AreAccounted, AreDesksOf, all_ends, all_shards}
 use Rattle.pt_node.specs.Resuming.{AreResumed}
 use Rattle.pt_node.specs.Seating.{Seated, AreFreshSeats, AreSeated, IsSeatOf, all_seats, seat_in}
 use Rattle.pt_node.proofs.SeatsOf.{fresh_seat, seat_count, seated_each}

@@ -4,15 +4,15 @@ use Rattle.std.specs.Prelude.{IfSome}
 use Rattle.pt_shard.specs.Extends.{Extends}
 use Rattle.pt_desk.specs.Sight.{SeesOn}
 use Rattle.pt_desk.specs.DeskState.{DeskState}
-use Rattle.pt_node.specs.Desks.{desk_kept}
-use Rattle.pt_node.specs.Stillness.{AllDesksGoOn, LooksAgain, Rounds, RunsRounds, StoppedAt, count_events, first_stopped}
-use Rattle.pt_node.specs.declared.stillness.Rested.{Rested}
-use Rattle.pt_node.specs.declared.stillness.Stopped.{Stopped}
-use Rattle.pt_node.proofs.GoingOn.{stays}
-use Rattle.pt_node.proofs.Burning.{AllBurn, burn_then, none_burns}
-use Rattle.pt_node.proofs.Meeting.{Kept, kept_at, kept_count}
-use Rattle.pt_node.proofs.TurnsOf.{all_stay, all_then, turn_stopped, turns_burn, turns_go_on}
-use Rattle.pt_node.proofs.AtRest.{kept_room, kept_sum}
+use Rattle.pt_workers.specs.Desks.{desk_kept}
+use Rattle.pt_workers.specs.Stillness.{AllDesksGoOn, LooksAgain, Rounds, RunsRounds, StoppedAt, count_events, first_stopped}
+use Rattle.pt_workers.specs.declared.stillness.Rested.{Rested}
+use Rattle.pt_workers.specs.declared.stillness.Stopped.{Stopped}
+use Rattle.pt_workers.proofs.GoingOn.{stays}
+use Rattle.pt_workers.proofs.Burning.{AllBurn, burn_then, none_burns}
+use Rattle.pt_workers.proofs.Meeting.{Kept, kept_at, kept_count}
+use Rattle.pt_workers.proofs.TurnsOf.{all_stay, all_then, turn_stopped, turns_burn, turns_go_on}
+use Rattle.pt_workers.proofs.AtRest.{kept_room, kept_sum}
 
 -- a look at the lanes keeps each desk
 kept_goes_on : (old met : List DeskState) → map desk_kept met ≡ map desk_kept old → AllDesksGoOn old met

@@ -11,7 +11,7 @@ use Rattle.pt_shard.specs.ShardState.{ShardState}
 use Rattle.pt_shard.specs.Opening.{fresh_shard}
 use Rattle.pt_desk.specs.DeskState.{DeskState}
 use Rattle.pt_desk.proofs.Fresh.{fresh_seated as fresh_seated_desk}
-use Rattle.pt_node.specs.Desks.{AreWhole, all_shards}
+use Rattle.pt_workers.specs.Desks.{AreWhole, all_shards}
 use Rattle.pt_node.specs.Opening.{AreFreshShards, AreFreshTables}
 use Rattle.pt_node.specs.Seating.{Seated, all_seats, all_tables, IsSeatOf, AreSeated, AreFreshSeats, AreOf}
 

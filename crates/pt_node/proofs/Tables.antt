@@ -8,7 +8,7 @@ use Rattle.pt_shard.specs.ShardState.{ShardState}
 use Rattle.pt_gathered.specs.Tables.{AreTables, IsTableFor}
 use Rattle.pt_desk.specs.Sight.{Sight, IsSeated}
 use Rattle.pt_desk.specs.DeskState.{DeskState}
-use Rattle.pt_node.specs.Desks.{AreWhole, all_shards}
+use Rattle.pt_workers.specs.Desks.{AreWhole, all_shards}
 use Rattle.pt_node.specs.Seating.{all_tables}
 
 -- nothing of the journal has been read yet

@@ -29,7 +29,7 @@ use Rattle.pt_events.proofs.Agreeing.{Agrees-posted}
 use Rattle.pt_directory.specs.declared.view.Read.{Read}
 use Rattle.pt_desk.specs.Sight.{HasEndOf, IsSeen, AllSeen}
 use Rattle.pt_desk.specs.DeskState.{DeskState}
-use Rattle.pt_node.specs.Desks.{AreWhole, all_ends, all_shards}
+use Rattle.pt_workers.specs.Desks.{AreWhole, all_ends, all_shards}
 use Rattle.pt_node.specs.Gathering.{Gathers, HasJournalsOf, ReadsAreTrue}
 use Rattle.pt_node.specs.Seating.{all_seats, AreAudited}
 use Rattle.pt_node.proofs.TrueReads.{number_at, true_read}

@@ -21,7 +21,7 @@ use Rattle.pt_desk.specs.Sight.{deaths_before, deaths_in, HasEndOf}
 use Rattle.pt_desk.specs.DeskState.{DeskState, place}
 use Rattle.pt_desk.proofs.Deaths.{AreOldEnds, told, ended_before}
 use Rattle.pt_desk.proofs.Before.{old_ends}
-use Rattle.pt_node.specs.Desks.{AreDesksOf, AreWhole}
+use Rattle.pt_workers.specs.Desks.{AreDesksOf, AreWhole}
 use Rattle.pt_node.specs.Seating.{all_seats, together, AreAudited}
 
 -- the ends that a desk's seat was told of

@@ -4,7 +4,7 @@ use Rattle.pt_carrier.specs.Ends.{Place, OutEnds, InEnds}
 use Rattle.pt_carrier.specs.Node.{kept}
 use Rattle.pt_shard.specs.ShardState.{ShardState}
 use Rattle.pt_desk.specs.DeskState.{DeskState, IsAccounted}
-use Rattle.pt_node.specs.Desks.{AreAccounted, AreWhole, all_ends, all_shards, desk_kept}
+use Rattle.pt_workers.specs.Desks.{AreAccounted, AreWhole, all_ends, all_shards, desk_kept}
 use Rattle.pt_node.specs.Seating.{seat_in, all_seats, all_tables, sight_of}
 
 -- each at its place

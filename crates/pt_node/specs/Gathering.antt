@@ -11,7 +11,7 @@ use Rattle.pt_carrier.specs.Node.{AreLeft}
 use Rattle.pt_gathered.specs.Gathered.{GatheredState, begins, journals}
 use Rattle.pt_desk.specs.DeskState.{DeskState}
 use Rattle.pt_desk.specs.Sight.{HasEndOf}
-use Rattle.pt_node.specs.Desks.{AreDesksOf, all_ends, all_shards}
+use Rattle.pt_workers.specs.Desks.{AreDesksOf, all_ends, all_shards}
 
 -- the gathered node has the desks as handed in, and in its lanes what was posted and not collected
 pub record Gathers (desks : List DeskState) (g : GatheredState) : Type 0 where

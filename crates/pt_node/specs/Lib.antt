@@ -1,14 +1,7 @@
-pub mod Desks
 pub mod Pasts
 pub mod Opening
 pub mod Resuming
 pub mod Gathering
-pub mod Running
 pub mod Seating
 pub mod Node
-pub mod Stillness
 pub mod Load
-pub mod Looking
-pub mod NodeRunning
-pub mod Taking
-pub mod Waking

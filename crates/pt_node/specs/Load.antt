@@ -5,7 +5,7 @@ use Rattle.pt_events.specs.Journal.{IsMerge, events}
 use Rattle.pt_laws.specs.Load.{load}
 use Rattle.pt_gathered.specs.Gathered.{journal_at, start_of}
 use Rattle.pt_desk.specs.DeskState.{DeskState}
-use Rattle.pt_node.specs.Desks.{all_shards}
+use Rattle.pt_workers.specs.Desks.{all_shards}
 
 -- so many letters are no more than the load of the one history of the desks
 abbrev pub IsWithinLoad : List DeskState → ℕ → Type 0

@@ -1,6 +1,6 @@
 -- What a call of a node does to its desks.
 use Rattle.std.specs.Prelude.{◌≡◌, ℕ, zero, suc, ◌+◌, ◌-◌, ◌^◌, ◌<◌, ◌≤◌, false, true, min, Option, Some, None, List}
-use Rattle.std.specs.Prelude.{length, slice_index_or, slice_set, Result, Ok, Err}
+use Rattle.std.specs.Prelude.{length, slice_index_or, Result, Ok, Err}
 use Rattle.pt_signal.specs.declared.pid.Pid.{Pid}
 use Rattle.pt_signal.specs.declared.config.Config.{Config}
 use Rattle.pt_signal.specs.declared.config.OpenError.{OpenError}
@@ -13,6 +13,7 @@ use Rattle.pt_shard.specs.ShardState.{ShardState}
 use Rattle.pt_desk.specs.DeskState.{DeskState, GoesOn, HasSameEnds}
 use Rattle.pt_desk.specs.declared.turned.Turned.{Turned}
 use Rattle.pt_desk.specs.Turns.{Turns}
+use Rattle.pt_workers.specs.Desks.{OnDesk}
 use Rattle.pt_node.specs.Opening.{AreFresh}
 use Rattle.pt_node.specs.declared.node_fault.NodeFault.{NodeFault}
 use Rattle.pt_node.specs.declared.node_fault.NodeFault.TheVariants.{NoDesk, Unknown, Refused}
@@ -22,14 +23,6 @@ abbrev pub OpensNode : Config → Result (List DeskState) OpenError → Type 0
 OpensNode config (Ok desks) = IsInRange config × AreFresh config desks
 OpensNode config (Err (Bounds setting)) = (¬ IsInRange config) × IsFirstOut config setting
 OpensNode config (Err Memory) = IsInRange config
-
--- that was done to desk d, which goes on, and the others stayed
-pub record OnDesk (d : ℕ) (Does : DeskState → DeskState → Type 0) (old new : List DeskState) : Type 0 where
-  pub within : d < length old
-  pub desk : DeskState
-  pub does : Does (slice_index_or old d desk) desk
-  pub goes_on : GoesOn (slice_index_or old d desk) desk
-  pub others : new ≡ slice_set old d desk
 
 -- what a desk's call does where it reads nothing of its directory
 abbrev pub Inside : {A : Type 0} → (ShardState → Result A Fault → ShardState → Type 0) → DeskState → Result A Fault

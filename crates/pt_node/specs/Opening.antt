@@ -9,7 +9,7 @@ use Rattle.pt_shard.specs.ShardState.{ShardState}
 use Rattle.pt_signal.specs.Settings.{IsFirstOut, IsInRange}
 use Rattle.pt_shard.specs.Opening.{fresh_shard}
 use Rattle.pt_desk.specs.DeskState.{DeskState}
-use Rattle.pt_node.specs.Desks.{AreDesksOf}
+use Rattle.pt_workers.specs.Desks.{AreDesksOf}
 use Rattle.pt_node.specs.Pasts.{GoOnFrom}
 
 pub record AreFreshShards (config : Config) (shards : List ShardState) : Type 0 where

@@ -5,7 +5,7 @@ use Rattle.pt_signal.specs.declared.config.Config.{Config}
 use Rattle.pt_gathered.specs.Gathered.{GatheredState, start_of}
 use Rattle.pt_gathered.specs.Pasts.{IsBeginningOf, GoesOnFrom}
 use Rattle.pt_desk.specs.DeskState.{DeskState}
-use Rattle.pt_node.specs.Desks.{AreDesksOf, all_shards}
+use Rattle.pt_workers.specs.Desks.{AreDesksOf, all_shards}
 
 -- desks of one node that go on from this history: from [] where the node was opened, and else from all that happened on
 -- it before their journals. No call of a desk changes it

@@ -10,7 +10,7 @@ use Rattle.pt_gathered.specs.Gathered.{GatheredState, journals}
 use Rattle.pt_gathered.specs.Pasts.{GoesOnFrom}
 use Rattle.pt_gathered.specs.Quiet.{latest_stamp}
 use Rattle.pt_desk.specs.DeskState.{DeskState}
-use Rattle.pt_node.specs.Desks.{AreDesksOf, all_shards}
+use Rattle.pt_workers.specs.Desks.{AreDesksOf, all_shards}
 use Rattle.pt_node.specs.Pasts.{GoOnFrom}
 
 -- the desks of one node whose clocks stand at n: each has an empty journal over what it left behind, and its processes

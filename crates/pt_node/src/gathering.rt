@@ -1,11 +1,11 @@
-//! The desks of a node are brought together.
+//! Gathering: the desks of a node are brought together.
 
 ghost use Rattle.std.specs.Prelude.{◌≡◌, ◌≤◌, [], map, IfOk, IfErr, vec_len};
 ghost use Rattle.std.specs.Vec.{vec_capacity};
 ghost use Rattle.pt_carrier.specs.Node.{lists};
 ghost use Rattle.pt_carrier.specs.declared.reunion.Cause.{Cause};
 ghost use Rattle.pt_gathered.specs.Lawful.{LanesKeep, KeepsHeadline, IsLegalNode, AnswersHold};
-ghost use Rattle.pt_node.specs.Desks.{AreDesks, desk_kept};
+ghost use Rattle.pt_workers.specs.Desks.{AreDesks, desk_kept};
 ghost use Rattle.pt_node.specs.Gathering.{Gathers, HasJournalsOf, ReadsAreTrue};
 ghost use Rattle.pt_node.specs.Pasts.{GathersPast};
 
@@ -19,9 +19,9 @@ use std::alloc::Global;
 use std::fmt;
 use std::marker::Model;
 
-/// The desks that were not gathered.
+/// The desks of a call of [`gather`] that failed.
 ///
-/// They cannot be dropped: they are taken out or abandoned. So this is no [`Error`](std::error::Error), which can be
+/// They cannot be dropped: take them out, or abandon them. So this is no [`Error`](std::error::Error), which can be
 /// dropped, but its [`cause`](DesksBack::cause) is one.
 pub struct DesksBack {
     desks: Vec<Desk>,
@@ -65,10 +65,10 @@ impl DesksBack {
     }
 }
 
-/// Gives up desks, with their processes, their journals and the letters between them, and nobody is told.
+/// Gives up desks, with their processes, their journals and the letters between them. No process is notified.
 ///
-/// A desk cannot be dropped: so whoever has desks and does not gather them, as after an error of its own, says so by
-/// this. They need not be all desks of a node. It takes no memory, and nothing is claimed of what was given up.
+/// A desk cannot be dropped. So a program that has desks and does not gather them, as after an error of its own, calls
+/// this. The desks need not be all those of a node. It takes no memory, and nothing is claimed of what was given up.
 pub fn abandon(desks: Vec<Desk>) {
     let mut desks = desks;
     while let Some(desk) = desks.pop() {
@@ -82,16 +82,21 @@ pub fn abandon(desks: Vec<Desk>) {
 /// Brings the desks of a node together: all desks of one [`open`](crate::open), or of one [`resume`](crate::resume),
 /// each once and in order.
 ///
-/// The journals are those of the desks, event for event. For any two desks, what the one sent to the other is what
-/// came there, one for one and in order, and then what is left over. So whatever was called on the desks, in whatever
-/// order and by whatever threads: each mailbox's messages from one sender are that sender's messages to it, in order
-/// and each once, from the mailbox's birth to its exit or the letters left over; nothing enters after the exit; taken
-/// and waiting items together are the arrivals; each monitor gives at most one `DOWN` and none after its demonitor;
-/// each answer to the question whether a process is alive is true, and all that the asker had sent it before came
-/// first; and whomever a desk saw to have ended, and so refused a call to, had ended.
+/// The journals are those of the desks, event for event. For any two desks, the letters that one sent to the other are
+/// those that arrived there, one for one and in order, followed by those left over. So these hold for any calls on the
+/// desks, in any order and by any threads:
 ///
-/// Where memory is refused all desks come back as they were, in order; only what the ends of a lane know of each
-/// other may be more, which no call tells. It waits for nobody.
+/// - A mailbox's messages from one sender are that sender's messages to it, in order and each once. They run from the
+///   process's birth to its exit or to the letters left over.
+/// - No item enters a mailbox after the exit of its process.
+/// - The items taken and the items waiting are together the arrivals.
+/// - A monitor gives at most one `DOWN`, and none after its demonitor.
+/// - Each answer to the question whether a process is alive is true. All that the asker had sent the process before
+///   arrived first.
+/// - If a call failed because a desk saw that its target had exited, the target had exited.
+///
+/// Fails only if there is no memory: all desks then come back in order, as they were. Only what the two ends of a lane
+/// know of each other may be more, which no call shows. It waits for no thread.
 pub fn gather(alloc: Global, desks: Vec<Desk>) -> Result<Gathered, DesksBack>
     requires { AreDesks desks.items }
     ensures gathers { IfOk result (λ g. Gathers desks.items g) }

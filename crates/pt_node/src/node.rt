@@ -1,4 +1,4 @@
-//! A node that a program calls: it has its desks, and its processes are called by their pids.
+//! A node that a program calls: it owns its desks, and its calls name processes by their pids.
 
 ghost use Rattle.std.specs.Prelude.{◌≡◌, ◌-◌, ◌^◌, Some, None, false, cond, is_some, length, map, max, min, IfOk};
 ghost use Rattle.std.specs.Prelude.{IfErr, IfSome};
@@ -13,16 +13,16 @@ ghost use Rattle.pt_shard.specs.Calls.{take_event, demonitor_event, held_by, new
 ghost use Rattle.pt_gathered.specs.Lawful.{LanesKeep, KeepsHeadline, IsLegalNode, AnswersHold};
 ghost use Rattle.pt_gathered.specs.Settling.{NothingLeft};
 ghost use Rattle.pt_desk.specs.Reaching.{Reaches, has_link_to_make, has_monitor_to_make};
-ghost use Rattle.pt_node.specs.Desks.{AreDesks, AreDesksOf, desk_kept};
+ghost use Rattle.pt_workers.specs.Desks.{AreDesks, AreDesksOf, desk_kept};
 ghost use Rattle.pt_node.specs.Gathering.{Gathers, HasJournalsOf, ReadsAreTrue};
 ghost use Rattle.pt_node.specs.Pasts.{GathersPast};
-ghost use Rattle.pt_node.specs.NodeRunning.{RunsNode};
-ghost use Rattle.pt_node.specs.Running.{AllWork, InRounds, begins_by};
+ghost use Rattle.pt_workers.specs.NodeRunning.{RunsNode};
+ghost use Rattle.pt_workers.specs.Running.{AllWork, InRounds, begins_by};
 ghost use Rattle.pt_node.specs.Node.{CallsAt, CallsTo, Inside, OpensNode, ReadsAt, TurnsAll, TurnsAt, node_answered};
 ghost use Rattle.pt_node.specs.Node.{both_turned};
 ghost use Rattle.pt_node.specs.Load.{IsWithinLoad};
 ghost use Rattle.pt_node.specs.Resuming.{Resumes};
-ghost use Rattle.pt_node.specs.Stillness.{AllDesksGoOn, AreStill, RunsRounds, StoppedAt, count_events};
+ghost use Rattle.pt_workers.specs.Stillness.{AllDesksGoOn, AreStill, RunsRounds, StoppedAt, count_events};
 
 use crate::gathering::{abandon, gather};
 use crate::making::look;
@@ -30,16 +30,13 @@ use crate::node_fault::NodeFault;
 use crate::node_running::{run_desks, run_desks_single};
 use crate::opening::open;
 use crate::resuming::{Resting, resume};
-use crate::run_fault::RunFault;
-use crate::running::Gate;
-use crate::stillness::{Rested, until_still};
-use crate::work::Task;
 use pt_desk::{Desk, Turned};
 use pt_events::Journal;
 use pt_gathered::{Gathered, Quiet};
 use pt_process::Process;
 use pt_shard::{Config, Fault, OpenError};
 use pt_signal::{Body, Ids, Item, Pick, Pid, Reason, Ref};
+use pt_workers::{Gate, Rested, RunFault, Task, until_still};
 use std::alloc::{AllocError, Global};
 use std::error::Error;
 use std::fmt;
@@ -49,11 +46,11 @@ use std::thread::Threads;
 /// The desks of one [`open`](Node::open), or of one [`resume`](Node::resume), each once and in order, with calls of
 /// their processes by pid.
 ///
-/// A call of a process is made on the desk of its pid, and does there what the desk's call of that name does; the other
-/// desks stay. No call asks anything of its caller: what the node cannot do it refuses, by a [`NodeFault`].
+/// A call of a process is made on the desk of its pid, and does there what the desk's call of that name does. The other
+/// desks stay as they are. No call has a precondition: what the node cannot do fails with a [`NodeFault`].
 ///
-/// It may be dropped. Then its processes, its journals and the letters between its desks are given up, and nobody is
-/// told.
+/// It may be dropped. Then its processes, its journals and the letters between its desks are given up, and no process
+/// is notified.
 pub struct Node {
     alloc: Global,
     desks: Vec<Desk>,
@@ -62,7 +59,7 @@ pub struct Node {
 impl Model for Node {
     ghost use Rattle.std.specs.Prelude.{List};
     ghost use Rattle.pt_desk.specs.DeskState.{DeskState};
-    ghost use Rattle.pt_node.specs.Desks.{AreDesks};
+    ghost use Rattle.pt_workers.specs.Desks.{AreDesks};
 
     ghost Value = { List DeskState };
 
@@ -78,7 +75,7 @@ impl Drop for Node {
     }
 }
 
-/// A node that was not gathered, since there was no memory.
+/// The node of a call of [`Node::gather`] that failed, since there was no memory.
 #[derive(Drop)]
 pub struct NodeBack {
     /// The node, as it was.
@@ -102,8 +99,8 @@ impl Error for NodeBack {}
 impl Node {
     /// Opens a node on which nothing has happened.
     ///
-    /// Refused as `Bounds` exactly where a setting is out of its range, with the first such setting, else as `Memory`
-    /// where there is none.
+    /// Fails with `Bounds` exactly if a setting is out of its range, naming the first such setting. Else it fails with
+    /// `Memory` if there is none.
     pub fn open(alloc: Global, config: Config) -> Result<Node, OpenError>
         ensures { OpensNode config result }
     {
@@ -113,7 +110,7 @@ impl Node {
         }
     }
 
-    /// Goes on from a quiet node, as [`resume`](crate::resume) does. Refused only where there is no memory.
+    /// Continues from a quiet node, as [`resume`](crate::resume) does. Fails only if there is no memory.
     pub fn resume(alloc: Global, quiet: Quiet) -> Result<Node, Resting>
         ensures resumes { IfOk result (λ desks. Resumes quiet.gathered desks) }
         ensures resting { IfErr result (λ back. back.quiet ≡ quiet) }
@@ -150,22 +147,22 @@ impl Node {
         self.desks.as_slice()
     }
 
-    /// The settings of the node; it has as many desks as they say.
+    /// The settings of the node, which has as many desks as they say.
     pub fn config(&self) -> Config
         ensures { AreDesksOf result self.now }
     {
         self.desks[0].config()
     }
 
-    /// How many desks the node has, at least one.
+    /// The number of desks of the node, at least one.
     pub fn count(&self) -> usize
         ensures { result ≡ length self.now }
     {
         self.desks.len()
     }
 
-    /// What happened on that desk, oldest event first, or `None` where the node has no such desk. [`Desk::journal`]
-    /// says what holds of it.
+    /// What happened on that desk, oldest event first, or `None` if the node has no such desk. [`Desk::journal`] says
+    /// what holds for it.
     pub fn journal(&self, desk: u8) -> Option<&Journal>
         ensures desk { IfSome result (λ j. j.now.desk ≡ desk) }
         ensures past { ReadsAt desk (λ x. Some x.shard.journal) None self.now (option_map (λ j. j.now.past) result) }
@@ -177,7 +174,7 @@ impl Node {
         Some(self.desks[d].journal())
     }
 
-    /// The stamp of that desk's newest event, or the start of the clock; `None` where the node has no such desk.
+    /// The stamp of that desk's newest event, or the start of the clock. `None` if the node has no such desk.
     pub fn clock(&self, desk: u8) -> Option<u64>
         ensures { ReadsAt desk (λ x. Some x.shard.clock) None self.now result }
     {
@@ -188,7 +185,8 @@ impl Node {
         Some(self.desks[d].clock())
     }
 
-    /// The pid that the next birth on that desk has. `None` where no slot is free, and where the node has no such desk.
+    /// The pid that the next process spawned on that desk will have. `None` if no slot is free, or the node has no such
+    /// desk.
     pub fn vacant(&self, desk: u8) -> Option<Pid>
         ensures { ReadsAt desk (λ x. x.shard.vacant) None self.now result }
     {
@@ -199,8 +197,7 @@ impl Node {
         self.desks[d].vacant()
     }
 
-    /// Whether p lives. False of a pid whose slot another process has by now, and of a desk that the node does not
-    /// have.
+    /// Whether p is alive. False if another process has its slot by now, and if the node does not have its desk.
     pub fn alive(&self, p: Pid) -> bool
         ensures { ReadsAt p.shard (λ x. lives x.shard p) false self.now result }
     {
@@ -211,8 +208,8 @@ impl Node {
         self.desks[d].alive_here(p)
     }
 
-    /// The process that lives in that slot of that desk, or `None` where nobody does, and where the node has no such
-    /// desk. So a program goes over all who live, by the desks and the slots below those of the settings.
+    /// The live process in that slot of that desk, or `None` if there is none, or the node has no such desk. So a
+    /// program visits all live processes by going through the desks and slots below those of the settings.
     pub fn lives_in(&self, desk: u8, slot: u32) -> Option<Pid>
         ensures { ReadsAt desk (λ x. living_in x.shard slot) None self.now result }
     {
@@ -223,8 +220,8 @@ impl Node {
         self.desks[d].lives_in(slot)
     }
 
-    /// The processes that live on that desk, by slot: Erlang's `processes/0` of it; `None` where the node has no such
-    /// desk. It looks into each slot. Refused only where there is no memory for the list.
+    /// The live processes of that desk, by slot, as Erlang's `processes/0`; `None` if the node has no such desk. It
+    /// looks into each slot. Fails only if there is no memory for the list.
     pub fn pids(&self, desk: u8) -> Result<Option<Vec<Pid>>, AllocError>
         ensures { IfOk result (λ v. ReadsAt desk (λ x. Some (living_pids x.shard)) None self.now
             (option_map (λ w. w.items) v)) }
@@ -236,7 +233,7 @@ impl Node {
         Ok(Some(self.desks[d].pids(self.alloc)?))
     }
 
-    /// How many processes live on that desk, in constant time; `None` where the node has no such desk.
+    /// The number of live processes of that desk, in constant time; `None` if the node has no such desk.
     pub fn len(&self, desk: u8) -> Option<u32>
         ensures { ReadsAt desk (λ x. Some (living_count x.shard)) None self.now result }
     {
@@ -247,7 +244,7 @@ impl Node {
         Some(self.desks[d].len())
     }
 
-    /// The items that wait in the mailbox of p, oldest first, or `None` where it does not live.
+    /// The items that wait in the mailbox of p, oldest first, or `None` if p is not alive.
     pub fn waiting(&self, p: Pid) -> Option<&[Item]>
         ensures { ReadsAt p.shard (λ x. cond (lives x.shard p) (Some (state_in x.shard p).waiting) None) None self.now
             (option_copied result) }
@@ -259,9 +256,9 @@ impl Node {
         self.desks[d].waiting(p)
     }
 
-    /// The ids under which p is linked with q, or `None` where there is no link, or p does not live.
+    /// The ids under which p is linked with q, or `None` if there is no link, or p is not alive.
     ///
-    /// It is p's own half of the link: that of q may differ while letters of the two are on their way.
+    /// This is p's own half of the link. The half of q may differ while letters of the two are in flight.
     pub fn linked(&self, p: Pid, q: Pid) -> Option<Ids>
         ensures { ReadsAt p.shard (λ x. cond (lives x.shard p) (held_by x.shard p q) None) None self.now result }
     {
@@ -272,8 +269,8 @@ impl Node {
         self.desks[d].linked(p, q)
     }
 
-    /// The process p, to be read: its links, its open monitors and its watchers by place, its mailbox and its flag;
-    /// `None` where it does not live. Erlang's `process_info/2`, module `erlang`.
+    /// The process p, to be read: its links, open monitors and watchers by place, its mailbox and its flag. `None` if
+    /// it is not alive. Erlang's `process_info/2`, module `erlang`.
     pub fn process(&self, p: Pid) -> Option<&Process>
         ensures { ReadsAt p.shard (λ x. cond (lives x.shard p) (Some (p, state_in x.shard p)) None) None self.now
             (read_of (option_copied result)) }
@@ -285,13 +282,13 @@ impl Node {
         self.desks[d].process(p)
     }
 
-    /// Brings the desks of the node together: [`gather`](crate::gather) says what holds then of the journals, the
-    /// messages and the letters left over. Of a node that is still, as
-    /// [`turn_until_still`](Node::turn_until_still) leaves it, none is left over.
+    /// Brings the desks of the node together: [`gather`](crate::gather) says what then holds for the journals, the
+    /// messages and the letters left over. If the node is still, as [`turn_until_still`](Node::turn_until_still) leaves
+    /// it, no letter is left over.
     ///
-    /// Where memory is refused the node comes back as it was; only what the ends of a lane know of each other may be
-    /// more, which no call tells.
-    #[tactic(auto, using(crate::proofs::StillDesks::kept_desks))]
+    /// Fails only if there is no memory: the node then comes back as it was. Only what the two ends of a lane know of
+    /// each other may be more, which no call shows.
+    #[tactic(auto, using(pt_workers::proofs::StillDesks::kept_desks))]
     pub fn gather(self) -> Result<Gathered, NodeBack>
         ensures gathers { IfOk result (λ g. Gathers self g) }
         ensures journals { IfOk result (λ g. HasJournalsOf self g) }
@@ -316,10 +313,10 @@ impl Node {
         }
     }
 
-    /// Makes a process on that desk that no other one bears: Erlang's `spawn/1`, called from outside of the node
-    /// (section Process Creation).
+    /// Spawns a process without a parent on that desk: Erlang's `spawn/1`, called from outside of the node (section
+    /// Process Creation).
     ///
-    /// Refused as `NoDesk`, then as the desk refuses it: `Worn`, `Full` or `Memory`.
+    /// Fails with `NoDesk`, or as the desk's call does: with `Worn`, `Full` or `Memory`.
     pub fn spawn(&mut self, desk: u8) -> Result<Pid, NodeFault>
         ensures does { CallsAt desk (Inside (Bears None None)) self.old result self.new }
         ensures home { IfOk result (λ p. p.shard ≡ desk) }
@@ -334,11 +331,11 @@ impl Node {
         called(at.spawn())
     }
 
-    /// Makes a process that its parent bears, on the parent's desk, linked with it where that is asked: Erlang's
-    /// `spawn/1` and `spawn_link/1`, sections Process Creation and Links.
+    /// Spawns a child of the parent on the parent's desk, linked with it if `linked` is true: Erlang's `spawn/1` and
+    /// `spawn_link/1`, sections Process Creation and Links.
     ///
-    /// Both halves of the link stand at once, without a letter. Refused as `NoDesk`, then as the desk refuses it:
-    /// `Gone`, `Worn`, `Full` or `Memory`.
+    /// Both halves of the link are made at once, without a letter. Fails with `NoDesk`, or as the desk's call does:
+    /// with `Gone`, `Worn`, `Full` or `Memory`.
     pub fn spawn_child(&mut self, parent: Pid, linked: bool) -> Result<Pid, NodeFault>
         ensures does { CallsAt parent.shard (Inside (BearsChild parent linked)) self.old result self.new }
         ensures home { IfOk result (λ p. p.shard ≡ parent.shard) }
@@ -355,10 +352,10 @@ impl Node {
 
     /// Sends a message: Erlang's `!`, chapter Processes, section Signals.
     ///
-    /// It comes to the receiver after all that the sender sent it before. A receiver that is not alive then loses
-    /// it, and nobody is told. Refused as `NoDesk`, as `Unknown` where the receiver is no process that the node can
-    /// have had, then as the desk refuses it: `Gone`, `NoProc` where the desk sees that the receiver has ended, `Worn`
-    /// or `Memory`.
+    /// It arrives after all that the sender sent this receiver before. If the receiver is not alive then, it is lost,
+    /// and no process is notified. Fails with `NoDesk`, or with `Unknown` if the receiver is no process that the node
+    /// can have had. Else it fails as the desk's call does: with `Gone`, `NoProc` if the desk sees that the receiver
+    /// has exited, `Worn` or `Memory`.
     #[inline(always)]
     pub fn send(&mut self, from: Pid, to: Pid, body: Body) -> Result<(), NodeFault>
         ensures { CallsTo from.shard to
@@ -380,10 +377,10 @@ impl Node {
 
     /// Sends an exit signal that no link carries: Erlang's `exit/2`, section Receiving Exit Signals.
     ///
-    /// `kill` ends its receiver whether it traps or not, with the reason `killed`. A receiver that traps gets any
-    /// other as an item. One that does not is ended by it, with that reason, except that `normal` ends it only where
-    /// it is the sender itself. Refused as `NoDesk`, as `Unknown` where the receiver is no process that the node can
-    /// have had, then as the desk refuses it: `Gone`, `Worn` or `Memory`.
+    /// `kill` makes its receiver exit with the reason `killed`, whether it traps exits or not. A receiver that traps
+    /// exits gets any other reason as an item. Any other receiver exits with that reason, except that `normal` has this
+    /// effect only if it is the sender itself. Fails with `NoDesk`, or with `Unknown` if the receiver is no process
+    /// that the node can have had. Else it fails as the desk's call does: with `Gone`, `Worn` or `Memory`.
     pub fn exit_signal(&mut self, from: Pid, to: Pid, reason: Reason) -> Result<(), NodeFault>
         ensures { CallsTo from.shard to
             (Inside (λ s r t. Calls from (Some (Event.Said from to (Signal.Exit reason))) tt s r t)) self.old result
@@ -402,10 +399,10 @@ impl Node {
 
     /// Links p with another process: Erlang's `link/1`, section Links.
     ///
-    /// Nothing happens where p is the target, or holds a link with it. A target that is not alive when the link
-    /// comes answers it by an exit signal with `noproc`. Refused as `NoDesk`, as `Unknown` where the target is no
-    /// process that the node can have had, then as the desk refuses it: `Gone`, or where there is a link to make,
-    /// `NoProc` where the desk sees that the target has ended, `Worn` or `Memory`.
+    /// Nothing happens if p is the target, or holds a link with it. If the target is not alive when the link arrives,
+    /// an exit signal with `noproc` goes back. Fails with `NoDesk`, or with `Unknown` if the target is no process that
+    /// the node can have had. Else it fails as the desk's call does: with `Gone`, and if there is a link to make, with
+    /// `NoProc` (the target is seen to have exited), `Worn` or `Memory`.
     pub fn link(&mut self, p: Pid, to: Pid) -> Result<(), NodeFault>
         ensures { CallsTo p.shard to
             (λ x r y.
@@ -423,11 +420,11 @@ impl Node {
         called(at.link(p, to))
     }
 
-    /// Takes the link of p with another process back: Erlang's `unlink/1`, section Links.
+    /// Removes the link of p with another process: Erlang's `unlink/1`, section Links.
     ///
-    /// Nothing happens where there is none. An exit signal that the link carries has no effect on p from here on: it
-    /// may still come, and is dropped. Refused as `NoDesk`, as `Unknown` where the other is no process that the node
-    /// can have had, then as the desk refuses it: `Gone`, `Worn` or `Memory`.
+    /// Nothing happens if there is none. From here on an exit signal that the link carries has no effect on p: it may
+    /// still arrive, and is dropped. Fails with `NoDesk`, or with `Unknown` if the other is no process that the node
+    /// can have had. Else it fails as the desk's call does: with `Gone`, `Worn` or `Memory`.
     pub fn unlink(&mut self, p: Pid, to: Pid) -> Result<(), NodeFault>
         ensures { CallsTo p.shard to
             (Inside (λ s r t. Calls p (unlink_event s p to) tt s r t)) self.old result self.new }
@@ -443,12 +440,13 @@ impl Node {
         called(at.unlink(p, to))
     }
 
-    /// Watches another process: Erlang's `monitor/2`, section Monitors. It answers the reference, which the one
-    /// DOWN will have.
+    /// Monitors another process: Erlang's `monitor/2`, section Monitors. It returns the reference that the one DOWN
+    /// will have.
     ///
-    /// A target that is not alive when the monitor comes is answered by a DOWN with `noproc`. Refused as `NoDesk`, as
-    /// `Unknown` where the target is no process that the node can have had, then as the desk refuses it: `Gone`,
-    /// `Myself` where w is the target, `NoProc` where the desk sees that the target has ended, `Worn` or `Memory`.
+    /// If the target is not alive when the monitor arrives, a DOWN with `noproc` goes back. Fails with `NoDesk`, or
+    /// with `Unknown` if the target is no process that the node can have had. Else it fails as the desk's call does:
+    /// with `Gone`, `Myself` if w is the target, `NoProc` if the desk sees that the target has exited, `Worn` or
+    /// `Memory`.
     pub fn monitor(&mut self, w: Pid, t: Pid) -> Result<Ref, NodeFault>
         ensures { CallsTo w.shard t
             (λ x r y. Reaches (has_monitor_to_make x.shard w t) w t (Monitors w t x.shard r y.shard) x r y) self.old
@@ -465,11 +463,11 @@ impl Node {
         called(at.monitor(w, t))
     }
 
-    /// Gives a monitor of w up: Erlang's `demonitor/2`, section Monitors. It answers whether it wrote an event.
+    /// Cancels a monitor of w: Erlang's `demonitor/2`, section Monitors. It returns whether it wrote an event.
     ///
-    /// A monitor is open until its DOWN comes to w, or w gives it up or ends. Of an open one no DOWN joins the mailbox
-    /// any more. Of any other the DOWN is taken out of the mailbox, where `flush` asks for it and it waits. Refused as
-    /// `NoDesk`, then as the desk refuses it: `Gone`, or where there is an event to write, `Worn` or `Memory`.
+    /// A monitor is open until its DOWN arrives, or w cancels it or exits. If it is open, its DOWN enters the mailbox
+    /// no more. If it is not, its DOWN is taken out of the mailbox if `flush` is true and it waits there. Fails with
+    /// `NoDesk`, or as the desk's call does: with `Gone`, and if there is an event to write, with `Worn` or `Memory`.
     pub fn demonitor(&mut self, w: Pid, monitor: Ref, flush: bool) -> Result<bool, NodeFault>
         ensures { CallsAt w.shard
             (Inside
@@ -484,10 +482,11 @@ impl Node {
     }
 
     /// Asks whether another process is alive: Erlang's `is_process_alive/1`, section Processes and Erlang's signals. It
-    /// answers the reference, which the answer will have.
+    /// returns the reference that the answer will have.
     ///
-    /// The answer comes as an item, after all that t sent p before; t may be p. Refused as `NoDesk`, as `Unknown` where
-    /// t is no process that the node can have had, then as the desk refuses it: `Gone`, `Worn` or `Memory`.
+    /// The answer arrives as an item, after all that t sent p before; t may be p. Fails with `NoDesk`, or with
+    /// `Unknown` if t is no process that the node can have had. Else it fails as the desk's call does: with `Gone`,
+    /// `Worn` or `Memory`.
     pub fn ask_alive(&mut self, p: Pid, t: Pid) -> Result<Ref, NodeFault>
         ensures { CallsTo p.shard t
             (Inside (λ s r u. Calls p (Some (Event.Said p t (Signal.AliveAsk (new_ref s)))) (new_ref s) s r u)) self.old
@@ -504,11 +503,11 @@ impl Node {
         called(at.ask_alive(p, t))
     }
 
-    /// Sets whether p traps exits, and answers whether it did: Erlang's `process_flag(trap_exit, _)`, section
+    /// Sets whether p traps exits, and returns whether it did before: Erlang's `process_flag(trap_exit, _)`, section
     /// Receiving Exit Signals.
     ///
-    /// The flag counts when an exit signal comes, not when it is sent. Refused as `NoDesk`, then as the desk refuses
-    /// it: `Gone`, `Worn` or `Memory`.
+    /// The flag counts when an exit signal arrives, not when it is sent. Fails with `NoDesk`, or as the desk's call
+    /// does: with `Gone`, `Worn` or `Memory`.
     pub fn trap(&mut self, p: Pid, on: bool) -> Result<bool, NodeFault>
         ensures { CallsAt p.shard
             (Inside (λ s r t. Calls p (Some (Event.Flag p on)) (state_in s p).traps s r t)) self.old result self.new }
@@ -520,11 +519,11 @@ impl Node {
         called(self.desks[d].trap(p, on))
     }
 
-    /// Takes the first item that fits out of the mailbox of p; the others stay, in order: Erlang's `receive`
-    /// with `after 0`, chapter Expressions, section Receive.
+    /// Takes the first matching item out of the mailbox of p, and leaves the others in order: Erlang's `receive` with
+    /// `after 0`, chapter Expressions, section Receive.
     ///
-    /// `Ok(None)` says that nothing fits; it has no event. Refused as `NoDesk`, then as the desk refuses it: `Gone`, or
-    /// where an item fits, `Worn` or `Memory`.
+    /// It returns `Ok(None)`, and writes no event, if no item matches. Fails with `NoDesk`, or as the desk's call does:
+    /// with `Gone`, and if an item matches, with `Worn` or `Memory`.
     #[inline(always)]
     pub fn receive(&mut self, p: Pid, pick: Pick) -> Result<Option<Item>, NodeFault>
         ensures { CallsAt p.shard
@@ -537,11 +536,11 @@ impl Node {
         called(self.desks[d].receive(p, pick))
     }
 
-    /// Ends p with this reason: Erlang's `exit/1`, section Process Termination.
+    /// Makes p exit with this reason: Erlang's `exit/1`, section Process Termination.
     ///
-    /// Each process that it holds a link with is sent an exit signal, then each watcher its DOWN, then each target of
-    /// an open monitor is told that it is watched no more. The items that wait are dropped. Refused as `NoDesk`, then
-    /// as the desk refuses it: `Gone`, `Worn` or `Memory`.
+    /// It sends an exit signal to each process that it holds a link with, then a DOWN to each watcher, then a demonitor
+    /// to each target of an open monitor. The items that wait are dropped. Fails with `NoDesk`, or as the desk's call
+    /// does: with `Gone`, `Worn` or `Memory`.
     pub fn exit(&mut self, p: Pid, reason: Reason) -> Result<(), NodeFault>
         ensures { CallsAt p.shard
             (Inside (λ s r t. Calls p (Some (Event.Left p reason)) tt s r t)) self.old result self.new }
@@ -555,7 +554,7 @@ impl Node {
 
     /// One turn of that desk: it posts letters, and then handles at most `budget` letters.
     ///
-    /// Refused as `NoDesk` alone. Why a turn stopped early is in [`Turned::stopped`].
+    /// Fails with `NoDesk` alone. [`Turned::stopped`] says why a turn stopped early.
     pub fn turn(&mut self, desk: u8, budget: u32) -> Result<Turned, NodeFault>
         ensures { TurnsAt desk budget self.old result self.new }
     {
@@ -566,10 +565,10 @@ impl Node {
         Ok(self.desks[d].turn(budget))
     }
 
-    /// One turn of each desk, from desk 0 upwards, and what they did together: how many letters were posted and
-    /// handled, each staying at `u64::MAX` once it is reached, and why the first turn that stopped did.
+    /// Gives each desk one turn, from desk 0 upwards, and returns what they did together. That is how many letters were
+    /// posted and handled, each staying at `u64::MAX` once it is reached, and why the first turn that stopped did.
     ///
-    /// Each desk has its turn, whether one before it stopped or not.
+    /// Each desk has its turn, whether a turn before it stopped or not.
     #[inline(always)]
     pub fn turn_all(&mut self, budget: u32) -> Turned
         ensures { TurnsAll budget (length self.old) self.old result self.new }
@@ -577,20 +576,21 @@ impl Node {
         turn_each(&mut self.desks, budget)
     }
 
-    /// Rounds of turns over all desks, until no letter waits in an outbox, a lane or a hold, or a turn was stopped.
+    /// Gives the desks rounds of turns, until no letter waits in an outbox, a lane or a hold, or a turn was stopped.
     ///
-    /// It answers how many letters were handled, and which turn was stopped, if one was: where none was, the node is
-    /// still. A turn handles at most `budget` letters; a budget of 0 counts as 1. A round goes on to its last desk
-    /// where a turn in it was stopped, so that no desk holds up another. It ends, since each letter takes a stamp of
-    /// its desk's clock; nothing is refused. It costs the letters, and a look at each lane a round, with one more
-    /// behind a turn that was stopped; each round but the last two handles a letter, or is followed by one that does.
+    /// It returns how many letters were handled, and which turn was stopped, if one was. If none was, the node is
+    /// still. A turn handles at most `budget` letters; a budget of 0 counts as 1. If a turn was stopped, the round
+    /// still continues to its last desk, so that no desk holds up another. It terminates, since each letter takes a
+    /// stamp of its desk's clock, and it never fails. It costs time for the letters, and for a look at each lane in
+    /// each round, and once more after a turn that was stopped. Each round but the last two handles a letter, or is
+    /// followed by one that does.
     ///
-    /// No more letters are handled than the load of the history before, stopped or not: what the letters on their way
-    /// weigh, two for each `Link`, `Monitor` and question whether a process is alive and one for each other, and one
-    /// for each link entry, kept monitor and open monitor of a live process.
+    /// Whether stopped or not, it handles no more letters than the load of the history before. Each letter in flight
+    /// counts two if it is a `Link`, a `Monitor` or a question whether a process is alive, and else one. Each link
+    /// entry, kept monitor and open monitor of a live process counts one.
     ///
-    /// Whatever a program sends is handled, but not what it would send on receipt: a program that answers what it
-    /// receives goes on with `receive`, and turns again.
+    /// All that a program has sent is handled, but not what it would send on receipt. A program that answers what it
+    /// receives calls `receive`, and turns again.
     pub fn turn_until_still(&mut self, budget: u32) -> Rested
         ensures rounds { RunsRounds (max budget 1) self.old result self.new }
         ensures still { result.stopped ≡ None → AreStill self.new }
@@ -608,12 +608,12 @@ impl Node {
 }
 
 impl Node {
-    /// Lets each desk's worker do up to `turns` turns on a thread of its own, the desk at each place with the work at
-    /// that place: [`run`](crate::run) says what a turn is and when a worker ends.
+    /// Lets each desk's worker do up to `turns` turns on a thread of its own, each desk with the work at its place.
+    /// [`run`](crate::run) says what a turn is and when a worker ends.
     ///
-    /// The works are lent, and come back as their steps made them, in order: [`Task::standing`] tells of each whether
-    /// it is done or has failed. Refused as `Works` exactly where there are not as many works as desks, else as
-    /// `Memory` where there is none.
+    /// The works are lent, and come back as their steps made them, in order. [`Task::standing`] returns for each
+    /// whether it is done or has failed. Fails with `Works` exactly if there are not as many works as desks, else with
+    /// `Memory` if there is none.
     pub fn run<R: Threads + Sync, G: Gate + Sync, W: Task + Send>(
         &mut self,
         rt: &R,
@@ -628,10 +628,10 @@ impl Node {
         run_desks(rt, self.alloc, &mut self.desks, works, turns, budget, gate)
     }
 
-    /// The same turns on the calling thread, in rounds: each round is one turn of every worker that has not ended, from
-    /// desk 0 upwards.
+    /// Does the same turns on the calling thread, in rounds. Each round is one turn of every worker that has not ended,
+    /// from desk 0 upwards.
     ///
-    /// Refused as `Works` exactly where there are not as many works as desks, else as `Memory` where there is none.
+    /// Fails with `Works` exactly if there are not as many works as desks, else with `Memory` if there is none.
     pub fn run_single<G: Gate, W: Task>(
         &mut self,
         works: &mut Vec<W>,
@@ -680,7 +680,7 @@ fn both(before: Turned, next: Turned) -> Turned
     }
 }
 
-/// The answer of a desk, as the node gives it.
+/// The answer of a desk, as the node returns it.
 fn called<A>(answer: Result<A, Fault>) -> Result<A, NodeFault>
     ensures { result ≡ node_answered answer }
 {

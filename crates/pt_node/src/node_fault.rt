@@ -1,23 +1,23 @@
-//! Why a call of a node is refused.
+//! Why a call of a node fails.
 
 use pt_shard::Fault;
 use std::alloc::{AllocError, AllocFailed};
 use thiserror::Error;
 
-/// Why a call of a node is refused.
+/// Why a call of a node fails.
 ///
-/// After each of them the node is as it was, but for `Refused(Fault::NoProc)`, which the journal of the desk notes.
+/// After each of them the node is as it was, except that the journal of the desk notes `Refused(Fault::NoProc)`.
 /// `NoDesk` comes first, then `Unknown`.
 #[derive(Clone, Copy, Debug, PartialEq, Eq, Error)]
 pub enum NodeFault {
-    /// The node has no desk of that number: neither by itself nor as the desk of the acting process.
+    /// The node has no desk of that number, given by itself or as the desk of the acting process.
     #[error("the node has no such desk")]
     NoDesk,
-    /// The target is no process that the node can have had: a number of its pid is out of the node's ranges, or it is
-    /// of the acting process's desk, which has not issued its version.
+    /// The target is no process that the node can have had. Either a number of its pid is out of the node's ranges, or
+    /// it is of the acting process's desk, and that desk has not issued its version.
     #[error("the target is not known")]
     Unknown,
-    /// The desk refused the call. By `?` it is also what a growth of the program's own becomes that found no memory:
+    /// The call of the desk failed. If a growth of the program's own finds no memory, `?` also makes this of it:
     /// `Refused(Fault::Memory)`.
     #[error("{0}")]
     Refused(Fault),

@@ -1,20 +1,17 @@
-//! The desks of a node run, each with the work at its place.
+//! Runs the desks of a node, each with the work at its place.
 
 ghost use Rattle.std.specs.Prelude.{◌≤◌, length};
 ghost use Rattle.pt_signal.specs.declared.config.TheConstants.{MAX_DESKS};
-ghost use Rattle.pt_node.specs.Desks.{AreDesks};
-ghost use Rattle.pt_node.specs.NodeRunning.{RunsNode};
-ghost use Rattle.pt_node.specs.Running.{AllWork, InRounds, begins_by};
+ghost use Rattle.pt_workers.specs.Desks.{AreDesks};
+ghost use Rattle.pt_workers.specs.NodeRunning.{RunsNode};
+ghost use Rattle.pt_workers.specs.Running.{AllWork, InRounds, begins_by};
 
-use crate::pairs::{assign, release};
-use crate::run_fault::RunFault;
-use crate::running::{Gate, Ran, run, run_single};
-use crate::work::Task;
 use pt_desk::Desk;
+use pt_workers::{Gate, Ran, RunFault, Task, assign, release, run, run_single};
 use std::alloc::Global;
 use std::thread::Threads;
 
-/// The desks of a node run on threads.
+/// Runs the desks of a node on threads.
 pub(crate) fn run_desks<R: Threads + Sync, G: Gate + Sync, W: Task + Send>(
     rt: &R,
     alloc: Global,
@@ -41,7 +38,7 @@ pub(crate) fn run_desks<R: Threads + Sync, G: Gate + Sync, W: Task + Send>(
     Ok(())
 }
 
-/// The desks of a node run on the calling thread.
+/// Runs the desks of a node on the calling thread.
 pub(crate) fn run_desks_single<G: Gate, W: Task>(
     alloc: Global,
     desks: &mut Vec<Desk>,
@@ -71,7 +68,7 @@ pub(crate) fn run_desks_single<G: Gate, W: Task>(
     Ok(())
 }
 
-/// How many desks a node has at most.
+/// A node has at most so many desks.
 fn count_desks(desks: &[Desk])
     requires { AreDesks desks.now }
     ensures { length desks.now ≤ MAX_DESKS }

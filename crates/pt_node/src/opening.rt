@@ -11,11 +11,11 @@ use pt_desk::Desk;
 use pt_shard::{Config, OpenError, Shard};
 use std::alloc::{AllocError, Global};
 
-/// Opens a node: its desks, in order, on which nothing has happened, each with its ends of all lanes and its seat in
-/// one directory of who has ended.
+/// Opens a node and returns its desks, in order, on which nothing has happened. Each desk has its ends of all lanes,
+/// and its seat in one directory of exited processes.
 ///
-/// Refused as `Bounds` exactly where a setting is out of its range, with the first such setting, else as `Memory` where
-/// there is none.
+/// Fails with `Bounds` exactly if a setting is out of its range, naming the first such setting. Else it fails with
+/// `Memory` if there is none.
 pub fn open(alloc: Global, config: Config) -> Result<Vec<Desk>, OpenError>
     ensures { Opens config result }
 {
@@ -54,7 +54,7 @@ fn fresh_shards(alloc: Global, config: Config) -> Result<Vec<Shard>, AllocError>
     Ok(shards)
 }
 
-/// For each desk the table of what was before its journal, where nothing was.
+/// The table of what was before the journal, which is nothing, for each desk.
 fn fresh_tables(alloc: Global, config: Config) -> Result<Vec<DeskLives>, AllocError>
     ensures { IfOk result (λ v. AreFreshTables config v.items) }
 {

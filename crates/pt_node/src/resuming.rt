@@ -1,4 +1,4 @@
-//! A quiet node goes on.
+//! Resuming a quiet node.
 
 ghost use Rattle.std.specs.Prelude.{◌≡◌, ◌≤◌, [], length, map, IfErr, IfOk, vec_len};
 ghost use Rattle.std.specs.Arc.{arc_value};
@@ -22,7 +22,7 @@ use std::alloc::{AllocError, Global};
 use std::error::Error;
 use std::fmt;
 
-/// A quiet node that has not gone on, since there was no memory for it.
+/// The quiet node of a call of [`resume`] that failed, since there was no memory.
 #[derive(Drop)]
 pub struct Resting {
     /// The node, as it was.
@@ -43,8 +43,8 @@ impl fmt::Display for Resting {
 
 impl Error for Resting {}
 
-/// The memory that a quiet node takes to go on: its lanes, its seats in a directory of who has ended, and the lists of
-/// its shards and of its desks, which are empty.
+/// The memory that resuming takes: the lanes, the seats in a directory of exited processes, and the lists of shards and
+/// of desks, which are empty.
 struct Room {
     pairs: Vec<(Outs, Ins)>,
     seats: Vec<Seated>,
@@ -52,20 +52,20 @@ struct Room {
     desks: Vec<Desk>,
 }
 
-/// Goes on from a quiet node: its desks, in order, with empty journals over what their histories left behind.
+/// Continues from a quiet node: returns its desks, in order, with empty journals over what their histories left behind.
 ///
-/// The processes are as they were. Whoever lives has its links, its open monitors, its watchers, its flag and its
-/// waiting items. Whoever has ended stays dead for ever: that it ended, and why, is known, and nothing is left of what
-/// it held. The versions of each slot go on from its last one, and a slot that was retired stays so. The clocks of all
-/// desks begin at the greatest stamp of the history, or where it has no event, where they began before; so whatever is
-/// made from here on is new. The lanes are new, and so is the directory, in which the latest end of each slot stands.
+/// The processes are as they were. A live process keeps its links, open monitors, watchers, flag and waiting items. An
+/// exited process stays exited for ever: its exit and its reason are known, and nothing is left of what it held. The
+/// versions of each slot continue from its last one, and a retired slot stays retired. The clocks of all desks begin at
+/// the greatest stamp of the history. If it has no event, they begin as they did before. So all that is made from here
+/// on is new. The lanes are new, and so is the directory, which has the latest exit of each slot.
 ///
-/// What holds of a node that was opened holds of this one, over what was before as its start: it may be gathered,
-/// settled and resumed again. All that happened on the node from its first opening on, over any number of resumptions,
-/// is one legal history, and the desks go on from it. The quiet node is spent with its journals: take its
-/// [`history`](Quiet::history) before, where it is to be kept.
+/// What holds for an opened node holds for this one, with what was before as its start: it may be gathered, settled and
+/// resumed again. All that happened on the node since its first opening, over any number of resumptions, is one legal
+/// history, and the desks continue from it. The quiet node is used up with its journals: take its
+/// [`history`](Quiet::history) before, if it is to be kept.
 ///
-/// Refused only where there is no memory: the quiet node then comes back, as it was.
+/// Fails only if there is no memory: the quiet node then comes back, as it was.
 pub fn resume(alloc: Global, quiet: Quiet) -> Result<Vec<Desk>, Resting>
     ensures resumes { IfOk result (λ desks. Resumes quiet.gathered desks.items) }
     ensures resting { IfErr result (λ back. back.quiet ≡ quiet) }
@@ -77,7 +77,7 @@ pub fn resume(alloc: Global, quiet: Quiet) -> Result<Vec<Desk>, Resting>
     }
 }
 
-/// Takes all memory that a quiet node needs to go on from this stamp, its latest.
+/// Takes all memory that it needs to resume a quiet node at this stamp, its latest.
 fn prepare(alloc: Global, quiet: &Quiet, start: u64) -> Result<Room, AllocError>
     requires latest { start ≡ latest_stamp quiet.now.gathered }
     requires within { start ≤ MAX_STAMP }
@@ -112,7 +112,7 @@ fn prepare(alloc: Global, quiet: &Quiet, start: u64) -> Result<Room, AllocError>
     })
 }
 
-/// Makes the desks of a quiet node that goes on from this stamp, its latest. It takes no memory.
+/// Makes the desks of a quiet node that is resumed at this stamp, its latest. It takes no memory.
 fn go_on(quiet: Quiet, start: u64, room: Room) -> Vec<Desk>
     requires latest { start ≡ latest_stamp quiet.gathered }
     requires within { start ≤ MAX_STAMP }
@@ -141,7 +141,7 @@ fn go_on(quiet: Quiet, start: u64, room: Room) -> Vec<Desk>
     desks
 }
 
-/// Each shard goes on from this stamp, in order.
+/// Restarts each shard at this stamp, in order.
 fn restart_all(old: Vec<Shard>, start: u64, shards: &mut Vec<Shard>)
     requires later { Every (λ s. s.clock ≤ start) old.items }
     requires within { start ≤ MAX_STAMP }
@@ -155,7 +155,7 @@ fn restart_all(old: Vec<Shard>, start: u64, shards: &mut Vec<Shard>)
     }
 }
 
-/// Each table forgets what the ended processes held.
+/// Makes each table forget what the exited processes held.
 fn forget_all(tables: &mut [DeskLives])
     ensures { tables.new ≡ map all_forgotten tables.old }
 {

@@ -1,4 +1,4 @@
-//! The seats of a node's desks in the directory of who has ended.
+//! The seats of a node's desks in the directory of exited processes.
 
 ghost use Rattle.std.specs.Prelude.{◌<◌, map, IfOk, vec_len};
 ghost use Rattle.std.specs.Arc.{arc_value};
@@ -16,7 +16,7 @@ use std::sync::Arc;
 /// A desk's seat, beside the directory of its node.
 pub(crate) type Seated = (Arc<Directory, Global>, Seat);
 
-/// The seats of a node's desks, in order, in a new directory in which these pids have ended.
+/// The seats of a node's desks, in order, in a new directory in which these pids have exited.
 pub(crate) fn fresh_seats(
     alloc: Global,
     config: Config,

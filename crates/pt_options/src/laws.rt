@@ -1,37 +1,37 @@
-//! What the command line makes of words: each is the contract of a function that does nothing.
+//! What `options` reads from words: each law is the contract of a function that does nothing.
 
 ghost use Rattle.pt_options.specs.Laws.{DefaultsStand, FilesAreNamed, TurnsAreTold, WrongTurnsAreRefused, ModesAreTold};
 ghost use Rattle.pt_options.specs.Laws.{EpochsAreTold, UntilsAreTold, WrongEpochsAreRefused, WrongUntilsAreRefused};
 ghost use Rattle.pt_options.specs.Laws.{WrongModesAreRefused, PrintsAreTold, WrongPrintsAreRefused, HelpIsAsked};
 ghost use Rattle.pt_options.specs.Laws.{VersionIsAsked, ExplainingIsTold, ExplainingTakesNoValue};
 
-/// Without words the script comes from standard input, on one thread, for 100 turns and one epoch, the history is
-/// printed, and no refusal is explained.
+/// Without words the script is read from standard input and run on one thread, for 100 turns and one epoch. The history
+/// is printed, and no fault is explained.
 pub fn defaults_stand()
     ensures { DefaultsStand }
 {}
 
-/// A word alone names the file, where no hyphen begins it, and so does a hyphen alone.
+/// A single word names the file if no hyphen begins it, and so does a hyphen alone.
 pub fn files_are_named()
     ensures { FilesAreNamed }
 {}
 
-/// `--turns=N` asks for that many turns, where N is a number from 0 to 1,000,000.
+/// `--turns=N` asks for that many turns, if N is a number from 0 to 1,000,000.
 pub fn turns_are_told()
     ensures { TurnsAreTold }
 {}
 
-/// Any other text there is refused as a value that is not valid.
+/// Any other text there fails as a value that is not valid.
 pub fn wrong_turns_are_refused()
     ensures { WrongTurnsAreRefused }
 {}
 
-/// `--epochs=N` asks for that many epochs, where N is a number from 1 to 1,000,000.
+/// `--epochs=N` asks for that many epochs, if N is a number from 1 to 1,000,000.
 pub fn epochs_are_told()
     ensures { EpochsAreTold }
 {}
 
-/// Any other text there is refused as a value that is not valid.
+/// Any other text there fails as a value that is not valid.
 pub fn wrong_epochs_are_refused()
     ensures { WrongEpochsAreRefused }
 {}
@@ -41,7 +41,7 @@ pub fn modes_are_told()
     ensures { ModesAreTold }
 {}
 
-/// Any other text there is refused as a value that there is not.
+/// Any other text there fails as a value that does not exist.
 pub fn wrong_modes_are_refused()
     ensures { WrongModesAreRefused }
 {}
@@ -51,7 +51,7 @@ pub fn untils_are_told()
     ensures { UntilsAreTold }
 {}
 
-/// Any other text there is refused as a value that there is not.
+/// Any other text there fails as a value that does not exist.
 pub fn wrong_untils_are_refused()
     ensures { WrongUntilsAreRefused }
 {}
@@ -61,27 +61,27 @@ pub fn prints_are_told()
     ensures { PrintsAreTold }
 {}
 
-/// Any other text there is refused as a value that there is not.
+/// Any other text there fails as a value that does not exist.
 pub fn wrong_prints_are_refused()
     ensures { WrongPrintsAreRefused }
 {}
 
-/// `--explain` asks that refusals be explained.
+/// `--explain` asks that faults be explained.
 pub fn explaining_is_told()
     ensures { ExplainingIsTold }
 {}
 
-/// It takes no value: whatever text stands behind `--explain=` is one too many.
+/// `--explain` takes no value: any text after `--explain=` is one value too many.
 pub fn explaining_takes_no_value()
     ensures { ExplainingTakesNoValue }
 {}
 
-/// `--help` and `-h` ask for help, which is told as a refusal of its own kind.
+/// `--help` and `-h` ask for help, which is returned as an error of its own kind.
 pub fn help_is_asked()
     ensures { HelpIsAsked }
 {}
 
-/// `--version` and `-V` ask for the version, which is told as a refusal of its own kind.
+/// `--version` and `-V` ask for the version, which is returned as an error of its own kind.
 pub fn version_is_asked()
     ensures { VersionIsAsked }
 {}

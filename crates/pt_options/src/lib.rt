@@ -5,7 +5,7 @@
 //!     [--print summary|history|chart|mermaid|json] [--explain]
 //! ```
 //!
-//! [`options`] reads the words, and [`laws`] says what it makes of some. `FILE` is the script; without it, and for `-`,
+//! [`options`] reads the words, and [`laws`] says what some words mean. `FILE` is the script; without it, and for `-`,
 //! the script is read from standard input.
 //!
 //! # What is proved
@@ -37,10 +37,10 @@ static SHOWS: [&str; 5] = ["summary", "history", "chart", "mermaid", "json"];
 
 /// Reads the words of the command line, the program's name first: the file, if one is named, and what is asked for.
 ///
-/// What the words are is `clap`'s to say, by its definitions of matches and faults, of the one command that this crate
-/// makes: on Ok they are no fault, and what they ask for is read of their matches; else the
-/// [kind](clap::Error::kind) of the error is that of their fault, or tells that there was no memory. What is not named
-/// has its default: one thread, 100 turns, one epoch, the history, and refusals that are not explained.
+/// The definitions of `clap` for matches and faults say what the words mean, for the one command that this crate makes.
+/// On `Ok` the words are no fault, and what they ask for is read from their matches. Else the [kind](clap::Error::kind)
+/// of the error is that of their fault, or says that there was no memory. An option that is not named has its default:
+/// one thread, 100 turns, one epoch, the history, and no explanation of faults.
 pub fn options(alloc: Global, words: Vec<String>) -> Result<(Option<String>, Options), clap::Error>
     ensures words { spec.WordsGive (map string_bytes words.items) result }
     ensures turns { IfOk result (λ r. r.1.turns ≤ MOST_TURNS) }
@@ -120,7 +120,7 @@ fn choice<'a>(
         .help(help)
 }
 
-/// How many turns.
+/// The number of turns.
 fn turns<'a>(alloc: Global) -> Arg<'a>
     ensures { spec.IsArgument spec.turns_rule result }
 {
@@ -132,7 +132,7 @@ fn turns<'a>(alloc: Global) -> Arg<'a>
         .help("How many turns each desk takes in each epoch, from 0 to 1000000")
 }
 
-/// How many epochs.
+/// The number of epochs.
 fn epochs<'a>(alloc: Global) -> Arg<'a>
     ensures { spec.IsArgument spec.epochs_rule result }
 {
@@ -146,7 +146,7 @@ fn epochs<'a>(alloc: Global) -> Arg<'a>
         )
 }
 
-/// Whether refusals are explained.
+/// Whether faults are explained.
 fn explain<'a>(alloc: Global) -> Arg<'a>
     ensures { spec.IsArgument spec.explain_rule result }
 {
@@ -192,7 +192,7 @@ fn mode_of(word: Option<&str>) -> Mode
     }
 }
 
-/// How many turns, by their number; 100 without one.
+/// The number of turns; 100 without one.
 fn turns_of(number: Option<u64>) -> u64
     ensures { result ≡ spec.turns_of number }
 {
@@ -202,7 +202,7 @@ fn turns_of(number: Option<u64>) -> u64
     }
 }
 
-/// When an epoch ends, by its word; behind its turns without one.
+/// When an epoch ends, by its word; after its turns without one.
 fn until_of(word: Option<&str>) -> Until
     ensures { result ≡ spec.until_of (option_map (λ t. t.now) word.entry) }
 {
@@ -212,7 +212,7 @@ fn until_of(word: Option<&str>) -> Until
     }
 }
 
-/// How many epochs, by their number; one without one.
+/// The number of epochs; 1 without one.
 fn epochs_of(number: Option<u64>) -> u64
     ensures { result ≡ spec.epochs_of number }
 {
@@ -235,7 +235,7 @@ fn show_of(word: Option<&str>) -> Show
     }
 }
 
-/// Whether a flag was among the words, by its text; not so without one.
+/// Whether a flag was among the words, by its text; false without one.
 fn is_told(word: Option<&str>) -> bool
     ensures { result ≡ spec.is_told (option_map (λ t. t.now) word.entry) }
 {

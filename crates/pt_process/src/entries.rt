@@ -14,20 +14,20 @@ use std::boxed::Box;
 use std::hash::Hash;
 use std::marker::Model;
 
-/// The most entries that are looked through one by one.
+/// The most entries that are searched in order.
 const FEW: usize = 8;
 
-/// A map whose entries stand in order of entry.
+/// A map that keeps its entries in order of entry.
 ///
-/// Up to eight entries stand in a vector, which is looked through; from the ninth on, and then for good, they are found
-/// by hash. A removal keeps the order of the others: among a few it moves those after it down, and among many it leaves
-/// a gap (see `Many`). An empty map that never held an entry holds no memory.
+/// Up to eight entries are in a vector, which is searched in order. From the ninth on, and then for good, they are
+/// found by hash. A removal keeps the order of the others: among a few it moves those after it down, and among many it
+/// leaves a gap (see `Many`). A map that never had an entry takes no memory.
 #[derive(Drop)]
 pub struct Entries<K: Eq + Hash + Copy, V: Copy> {
     places: Places<K, V>,
 }
 
-/// Where the entries stand.
+/// The places of the entries.
 #[derive(Drop)]
 pub(crate) enum Places<K: Eq + Hash + Copy, V: Copy> {
     Few(Vec<(K, V)>),
@@ -56,7 +56,7 @@ impl<K: Eq + Hash + Copy, V: Copy> Entries<K, V> {
         }
     }
 
-    /// How many entries there are.
+    /// The number of entries.
     pub fn len(&self) -> usize
         ensures len { result ≡ length self.now.entries }
         ensures small { result ≤ 2 ^ 62 }
@@ -97,7 +97,7 @@ impl<K: Eq + Hash + Copy, V: Copy> Entries<K, V> {
         }
     }
 
-    /// Gives the key this value: a key that is there keeps its place, and a new one goes last.
+    /// Sets the value of a key. A key that is there keeps its place, and a new one is put last.
     pub fn insert(&mut self, key: K, value: V) -> Result<(), AllocError>
         ensures ok { OnOk result (self.new.entries ≡ put K.eq self.old.entries key value) }
         ensures err { OnErr result (self.new.entries ≡ self.old.entries) }
@@ -111,7 +111,7 @@ impl<K: Eq + Hash + Copy, V: Copy> Entries<K, V> {
         self.push(key, value)
     }
 
-    /// Gives a key that is there this value, in its place.
+    /// Sets the value of a key that is there, in its place.
     #[inline(always)]
     pub fn set(&mut self, key: K, value: V)
         requires { IsSome (lookup (K.eq key) self.old.entries) }
@@ -136,7 +136,7 @@ impl<K: Eq + Hash + Copy, V: Copy> Entries<K, V> {
         Ok(())
     }
 
-    /// Takes the key's entry out; the others keep their order.
+    /// Removes the entry of a key. The others keep their order.
     #[inline(always)]
     pub fn remove(&mut self, key: &K) -> Option<V>
         ensures value { result ≡ lookup (K.eq key.now) self.old.entries }
@@ -149,7 +149,7 @@ impl<K: Eq + Hash + Copy, V: Copy> Entries<K, V> {
         }
     }
 
-    /// The entry with this number, in order of entry. It closes the gaps that it finds.
+    /// The entry with this number, in order of entry. The call closes the gaps that it finds.
     pub fn nth(&mut self, i: usize) -> (K, V)
         requires { i < length self.old.entries }
         ensures entry { slice_get self.old.entries i ≡ Some result }
@@ -162,7 +162,7 @@ impl<K: Eq + Hash + Copy, V: Copy> Entries<K, V> {
         }
     }
 
-    /// The entry with this number, in order of entry, if there are so many. It walks over the gaps that it finds.
+    /// The entry with this number, in order of entry, if there are so many. The call walks over the gaps that it finds.
     pub fn read(&self, i: usize) -> Option<(K, V)>
         ensures { result ≡ slice_get self.now.entries i }
     {
@@ -197,7 +197,7 @@ impl<K: Eq + Hash + Copy, V: Copy> Entries<K, V> {
 }
 
 impl<J: PartialEq + Eq + Hash + Copy, K: Eq + Hash + Copy, V: Copy> Entries<(J, K), V> {
-    /// Whether the first part of a key is this.
+    /// Whether a key has this first part.
     pub fn has_first(&self, first: J) -> bool
         ensures { result ≡ list_any (λ k. J.eq first k.0) (keys_of self.now.entries) }
     {
@@ -229,7 +229,7 @@ fn any_first<J: PartialEq + Copy, K: Copy, V: Copy>(few: &[((J, K), V)], first: 
     few.iter().any(|(key, _)| first == key.0)
 }
 
-/// A key that is there takes the value, in its place.
+/// Sets the value of a key that is there, in its place.
 fn write<K: Eq + Copy, V: Copy>(few: &mut Vec<(K, V)>, key: &K, value: V)
     ensures entries { few.new.items ≡ set_value (K.eq key.now) few.old.items value }
     ensures capacity { vec_capacity few.new ≡ vec_capacity few.old }

@@ -1,4 +1,4 @@
-//! What an ended process owes.
+//! What an exited process owes.
 
 ghost use Rattle.std.specs.Prelude.{◌≡◌, ◌<◌, length, slice_get, Some};
 ghost use Rattle.pt_signal.specs.Process.{sent};
@@ -7,8 +7,8 @@ use crate::Rows;
 use pt_signal::{Ids, Pid, Reason, Ref, Signal};
 use std::marker::Model;
 
-/// The signals that a process owes at its end: an exit signal to each linked process, then a DOWN to each
-/// watcher, then the end of each of its own monitors, each in order of entry.
+/// The signals that a process owes at its exit, each kind in order of entry. They are an exit signal to each linked
+/// process, then a DOWN to each watcher, then a demonitor for each of its own monitors.
 #[derive(Drop)]
 pub struct Estate {
     pub(crate) me: Pid,
@@ -35,14 +35,14 @@ impl Model for Estate {
 }
 
 impl Estate {
-    /// How many signals are owed.
+    /// The number of signals that are owed.
     pub fn len(&self) -> usize
         ensures { result ≡ length self.now.owed }
     {
         self.links.len() + self.kept.len() + self.watching.len()
     }
 
-    /// To whom the signal with this number goes, and the signal.
+    /// The receiver of the signal with this number, and the signal.
     pub fn owed(&self, i: usize) -> (Pid, Signal)
         requires { i < length self.now.owed }
         ensures { slice_get self.now.owed i ≡ Some (sent self.now.from result.0 result.1) }

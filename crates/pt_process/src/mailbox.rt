@@ -10,15 +10,15 @@ use pt_signal::{Item, Pick, Pid, Ref};
 use std::alloc::{AllocError, Global};
 use std::marker::Model;
 
-/// A queue of items, oldest first, from which a selective receive takes the first that fits.
+/// A queue of items, oldest first. A selective receive takes the first matching one.
 ///
-/// To take an item costs what was looked at before it; of the others it moves those before it or those behind it,
-/// whichever are fewer. To take all of n items in order costs O(n). At least half of the places that are in use hold
-/// items that wait, which the invariant says.
+/// Taking an item costs what was looked at before it, and moves the items before it or after it, whichever are fewer.
+/// Taking all of n items in order costs O(n). By the invariant, at least half of the places in use hold items that
+/// wait.
 #[derive(Drop)]
 pub struct Mailbox {
     items: Vec<Item>,
-    /// How many of the items have been taken: no more than wait.
+    /// The number of places of taken items in front: no more than the items that wait.
     head: usize,
 }
 
@@ -66,7 +66,7 @@ impl Mailbox {
         Ok(())
     }
 
-    /// The place of the first item that fits.
+    /// The place of the first matching item.
     pub fn position(&self, pick: Pick) -> Option<usize>
         ensures { result ≡ position (fits pick) self.now }
     {
@@ -82,7 +82,7 @@ impl Mailbox {
         }
     }
 
-    /// The first item that fits, with its place, counted from the oldest.
+    /// The first matching item, with its place, counted from the oldest.
     pub fn first(&self, pick: Pick) -> Option<(usize, Item)>
         ensures { IsFirst (fits pick) self.now result }
     {
@@ -112,7 +112,7 @@ impl Mailbox {
     }
 }
 
-/// Takes an item out: what stands before it moves up, or what stands behind it down, whichever is the shorter.
+/// Takes an item out. The items before it move up, or those after it move down, whichever are fewer.
 #[inline(never)]
 fn take_out(items: &mut Vec<Item>, head: &mut usize, place: usize)
     requires { head.old + place < length items.old.items }
@@ -128,7 +128,7 @@ fn take_out(items: &mut Vec<Item>, head: &mut usize, place: usize)
     }
 }
 
-/// Closes the gap before the head. It is closed where it is more than half, so that its cost was paid by as many takes.
+/// Closes the gap before the head if it is more than half, so that its cost was paid by as many takes.
 #[inline(always)]
 fn close_gap(items: &mut Vec<Item>, head: &mut usize)
     requires within { head.old ≤ length items.old.items }
@@ -144,8 +144,8 @@ fn close_gap(items: &mut Vec<Item>, head: &mut usize)
     *head = 0;
 }
 
-/// Copies what stands from the head on to the front, in one block: `copy_within` goes item by item. Most takes leave an
-/// empty mailbox, for which there is nothing to copy.
+/// Copies the items from the head on to the front, in one block: `copy_within` goes item by item. Most takes leave an
+/// empty mailbox, and then there is nothing to copy.
 #[inline(never)]
 fn bring_forward(items: &mut [Item], head: usize)
     requires within { head ≤ length items.old }

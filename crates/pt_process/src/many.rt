@@ -16,17 +16,17 @@ use std::marker::Model;
 /// The most entries that are ever kept, so that a process can count all that it owes.
 const MOST: usize = 1 << 62;
 
-/// A map whose entries stand in order of entry, found by hash.
+/// A map that keeps its entries in order of entry, found by hash.
 ///
-/// A removal leaves a gap in place, so that no other entry moves; gaps at the end go at once, and all of them where
-/// they outnumber the entries. So n entries stand in at most 2n places, which the invariant says, and a walk over them
-/// costs O(n), a look-up O(1), and an insertion and a removal O(1) amortised. A key that comes again while its gap
-/// stands costs what entered after it.
+/// A removal leaves a gap in place, so that no other entry moves. Gaps at the end are closed at once, and all gaps if
+/// they outnumber the entries. So by the invariant n entries take at most 2n places. A walk over them costs O(n), a
+/// look-up O(1), and an insertion and a removal O(1) amortised. If a key is entered again while its gap is there, it
+/// costs what entered after it.
 #[derive(Drop)]
 pub(crate) struct Many<K: Eq + Hash + Copy, V: Copy> {
-    /// The entries in order of entry, where `None` is a gap.
+    /// The entries in order of entry; `None` is a gap.
     places: IndexMap<K, Option<V>>,
-    /// How many entries there are.
+    /// The number of entries.
     count: usize,
 }
 
@@ -57,7 +57,7 @@ impl<K: Eq + Hash + Copy, V: Copy> Many<K, V> {
         Ok(Many { places, count: 0 })
     }
 
-    /// How many entries there are.
+    /// The number of entries.
     pub(crate) fn len(&self) -> usize
         ensures len { result ≡ length self.now.entries }
         ensures small { result ≤ 2 ^ 62 }
@@ -88,7 +88,7 @@ impl<K: Eq + Hash + Copy, V: Copy> Many<K, V> {
         self.places.reserve(1)
     }
 
-    /// Gives a key that is there this value, in its place.
+    /// Sets the value of a key that is there, in its place.
     pub(crate) fn set(&mut self, key: K, value: V)
         requires { IsSome (lookup (K.eq key) self.old.entries) }
         ensures { self.new.entries ≡ set_value (K.eq key) self.old.entries value }
@@ -111,7 +111,7 @@ impl<K: Eq + Hash + Copy, V: Copy> Many<K, V> {
         self.count += 1;
     }
 
-    /// Takes the key's entry out; the others keep their order.
+    /// Removes the entry of a key. The others keep their order.
     pub(crate) fn remove(&mut self, key: &K) -> Option<V>
         ensures value { result ≡ lookup (K.eq key.now) self.old.entries }
         ensures rest { self.new.entries ≡ remove_entry (K.eq key.now) self.old.entries }
@@ -149,7 +149,7 @@ impl<K: Eq + Hash + Copy, V: Copy> Many<K, V> {
         self.at(i)
     }
 
-    /// The entry with this number, in order of entry, where there is no gap.
+    /// The entry with this number, in order of entry, if there is no gap.
     pub(crate) fn at(&self, i: usize) -> (K, V)
         requires closed { self.now.gaps ≡ 0 }
         requires within { i < length self.now.entries }
@@ -159,7 +159,7 @@ impl<K: Eq + Hash + Copy, V: Copy> Many<K, V> {
         (*key, value.unwrap())
     }
 
-    /// The entry with this number, in order of entry, if there are so many. Where there are gaps it walks to it.
+    /// The entry with this number, in order of entry, if there are so many. If there are gaps, the call walks to it.
     pub(crate) fn read(&self, i: usize) -> Option<(K, V)>
         ensures { result ≡ slice_get self.now.entries i }
     {
@@ -174,7 +174,7 @@ impl<K: Eq + Hash + Copy, V: Copy> Many<K, V> {
 }
 
 impl<J: PartialEq + Eq + Hash + Copy, K: Eq + Hash + Copy, V: Copy> Many<(J, K), V> {
-    /// Whether the first part of a key is this.
+    /// Whether a key has this first part.
     pub(crate) fn has_first(&self, first: J) -> bool
         ensures { result ≡ list_any (λ k. J.eq first k.0) (keys_of self.now.entries) }
     {
@@ -193,7 +193,7 @@ fn any_first<J: PartialEq + Eq + Hash + Copy, K: Eq + Hash + Copy, V: Copy>(
         .any(|(key, value)| value.is_some() && first == key.0)
 }
 
-/// The entry with this number among those that stand at a place.
+/// The entry with this number, leaving out the gaps.
 fn nth_present<K: Eq + Hash + Copy, V: Copy>(
     places: &IndexMap<K, Option<V>>,
     i: usize,
@@ -228,7 +228,7 @@ fn standing_at<K: Eq + Hash + Copy, V: Copy>(
     }
 }
 
-/// The gap goes that the key left, if it left one.
+/// Closes the gap that the key left, if it left one.
 fn clear_gap<K: Eq + Hash + Copy, V: Copy>(
     places: &mut IndexMap<K, Option<V>>,
     key: &K,
@@ -261,8 +261,8 @@ fn take_value<K: Eq + Hash + Copy, V: Copy>(
     }
 }
 
-/// After a removal: the gaps at the end go, and all of them where they outnumber the entries, so that the cost was
-/// paid by as many removals.
+/// After a removal, closes the gaps at the end, and all gaps if they outnumber the entries. So the cost was paid by as
+/// many removals.
 fn settle<K: Eq + Hash + Copy, V: Copy>(places: &mut IndexMap<K, Option<V>>, count: usize)
     requires distinct { IsDistinct K.eq (keys_of places.old.entries) }
     requires counted { count ≡ length (present places.old.entries) }

@@ -1,8 +1,8 @@
-//! What became of a signal.
+//! What a signal did.
 
 use pt_signal::{Reason, Ref};
 
-/// What a signal did to the process that it came to.
+/// What a signal did to its receiver.
 #[derive(Clone, Copy, Debug, PartialEq, Eq)]
 pub enum Outcome {
     /// An item joined the mailbox.
@@ -11,8 +11,9 @@ pub enum Outcome {
     Changed,
     /// Nothing changed.
     Dropped,
-    /// Nothing changed, and it was asked under this reference whether it is alive: yes is to go back to the sender.
+    /// Nothing changed. The process was asked under this reference whether it is alive: the caller sends yes back to
+    /// the sender.
     Asked(Ref),
-    /// The process ends with this reason.
+    /// The process exits with this reason.
     Ends(Reason),
 }

@@ -50,8 +50,8 @@ impl Model for Process {
 }
 
 impl Process {
-    /// A process with an empty mailbox, which is linked with none, watches none, is watched by none, and traps no
-    /// exit signal. It allocates nothing.
+    /// A process with an empty mailbox, without links, monitors and watchers, that does not trap exits. It allocates
+    /// nothing.
     pub fn new(alloc: Global, me: Pid) -> Process
         ensures me { result.me ≡ me }
         ensures state { result.state ≡ fresh }
@@ -95,7 +95,7 @@ impl Process {
         self.target_of(monitor).is_some()
     }
 
-    /// The process that its open monitor of this reference watches.
+    /// The target of its open monitor of this reference.
     pub fn target_of(&self, monitor: Ref) -> Option<Pid>
         ensures { result ≡ lookup (same_ref monitor) self.now.state.watching }
     {
@@ -116,7 +116,7 @@ impl Process {
         self.traps
     }
 
-    /// How many processes it is linked with.
+    /// The number of processes that it is linked with.
     pub fn links_len(&self) -> usize
         ensures { result ≡ length self.now.state.links }
     {
@@ -131,29 +131,28 @@ impl Process {
         self.links.read(i)
     }
 
-    /// How many monitors it has open.
+    /// The number of its open monitors.
     pub fn monitors_len(&self) -> usize
         ensures { result ≡ length self.now.state.watching }
     {
         self.watching.len()
     }
 
-    /// The open monitor in this place, in order of entry, and whom it watches; `None` from [`Process::monitors_len`]
-    /// on.
+    /// The open monitor in this place, in order of entry, and its target; `None` from [`Process::monitors_len`] on.
     pub fn monitor_at(&self, i: usize) -> Option<(Ref, Pid)>
         ensures { result ≡ slice_get self.now.state.watching i }
     {
         self.watching.read(i)
     }
 
-    /// How many monitors others have of it.
+    /// The number of monitors that others have of it.
     pub fn watchers_len(&self) -> usize
         ensures { result ≡ length self.now.state.kept }
     {
         self.kept.len()
     }
 
-    /// The monitor that another has of it in this place, in order of entry, and whose it is; `None` from
+    /// The monitor that another has of it in this place, in order of entry, and its owner; `None` from
     /// [`Process::watchers_len`] on.
     pub fn watcher_at(&self, i: usize) -> Option<(Ref, Pid)>
         ensures { result ≡ slice_get self.now.state.kept i }
@@ -164,7 +163,7 @@ impl Process {
         }
     }
 
-    /// How many signals it would owe at its end.
+    /// The number of signals that it would owe at its exit.
     pub fn owed_len(&self) -> usize
         ensures signals { (reason : Reason) → result ≡ length (estate self.now.me self.now.state reason) }
         ensures peers { result ≡ length (peers_held self.now.state) }
@@ -172,7 +171,7 @@ impl Process {
         self.links.len() + self.kept.len() + self.watching.len()
     }
 
-    /// To whom the signal with this number would go that it would owe at its end. Nothing that can be read changes.
+    /// The receiver of the signal with this number that it would owe at its exit. Nothing that can be read changes.
     pub fn owed_to(&mut self, i: usize) -> Pid
         requires { i < length (peers_held self.old.state) }
         ensures to { slice_get (peers_held self.old.state) i ≡ Some result }
@@ -196,9 +195,9 @@ impl Process {
     /// Takes a signal in: Erlang Reference Manual, chapter Processes, sections Links, Monitors and Receiving Exit
     /// Signals.
     ///
-    /// Memory is refused only where a list would grow, and nothing has changed then. Where it answers `Ends`, the
-    /// process is still as the signal left it, and `estate` tells what it owes. Where it answers `Asked`, the sender
-    /// asks whether the process is alive, and `Signal::AliveSay` of that reference and `true` is to go back to it.
+    /// Fails only if a list would grow and there is no memory, and nothing has changed then. If it returns `Ends`, the
+    /// process is still as the signal left it, and `estate` returns what it owes. If it returns `Asked`, the sender
+    /// asks whether the process is alive: the caller sends `Signal::AliveSay` of that reference and `true` back.
     #[inline(always)]
     pub fn accept(&mut self, from: Pid, signal: Signal) -> Result<Outcome, AllocError>
         ensures { Accepts self.old (handle self.old.me self.old.state from signal) result self.new }
@@ -220,7 +219,7 @@ impl Process {
         }
     }
 
-    /// The reason with which it would end by this signal, if it would.
+    /// The reason with which it would exit by this signal, if it would.
     pub fn would_end(&self, from: Pid, signal: &Signal) -> Option<Reason>
         ensures { result ≡ (handle self.now.me self.now.state from signal.now).ending }
     {
@@ -233,7 +232,7 @@ impl Process {
         }
     }
 
-    /// The first item that fits, with its place among those that wait: Erlang Reference Manual, chapter Expressions,
+    /// The first matching item, with its place among those that wait: Erlang Reference Manual, chapter Expressions,
     /// section Receive.
     pub fn first(&self, pick: Pick) -> Option<(usize, Item)>
         ensures { IsFirst (fits pick) self.now.state.waiting result }
@@ -241,7 +240,7 @@ impl Process {
         self.waiting.first(pick)
     }
 
-    /// The place of the first item that fits, among those that wait; `take_at` takes it.
+    /// The place of the first matching item among those that wait; `take_at` takes it.
     pub fn place(&self, pick: Pick) -> Option<usize>
         ensures { IsFirstPlace (fits pick) self.now.state.waiting result }
     {
@@ -259,7 +258,7 @@ impl Process {
         self.waiting.take_at(place)
     }
 
-    /// Takes the first item that fits; the others stay, in order.
+    /// Takes the first matching item; the others stay, in order.
     pub fn take(&mut self, pick: Pick) -> Option<Item>
         ensures item { result ≡ find (fits pick) self.old.state.waiting }
         ensures rest { self.new
@@ -276,7 +275,7 @@ impl Process {
         }
     }
 
-    /// Makes room, so that the next link needs no memory.
+    /// Makes room, so that the next link needs no memory. Fails only if there is none.
     pub fn room(&mut self) -> Result<(), AllocError>
         ensures me { self.new.me ≡ self.old.me }
         ensures state { self.new.state ≡ self.old.state }
@@ -286,9 +285,9 @@ impl Process {
         self.links.reserve()
     }
 
-    /// Its own half of a link: the id joins the entry of the peer, which has two at most, or makes one.
+    /// Makes its own half of a link: the id joins the entry of the peer, which has at most two, or makes one.
     ///
-    /// Memory is refused only where it holds no link with the peer and there is no room.
+    /// Fails only if it holds no link with the peer, there is no room, and no memory for more.
     #[inline(always)]
     pub fn add_link(&mut self, peer: Pid, id: LinkId) -> Result<(), AllocError>
         ensures me { self.new.me ≡ self.old.me }
@@ -306,7 +305,7 @@ impl Process {
         }
     }
 
-    /// Takes the whole entry of the peer out, and answers its ids.
+    /// Removes the whole entry of the peer, and returns its ids.
     pub fn cut_link(&mut self, peer: Pid) -> Option<Ids>
         ensures me { self.new.me ≡ self.old.me }
         ensures ids { result ≡ held self.old.state.links peer }
@@ -319,9 +318,9 @@ impl Process {
         self.links.remove(&peer)
     }
 
-    /// Its own half of a monitor: the reference is open from now on. One that is open already stays as it is.
+    /// Makes its own half of a monitor: the reference is open from now on. If it is open already, it stays as it is.
     ///
-    /// Memory is refused only where the reference is not open.
+    /// Fails only if the reference is not open and there is no memory for it.
     pub fn add_monitor(&mut self, monitor: Ref, target: Pid) -> Result<(), AllocError>
         ensures me { self.new.me ≡ self.old.me }
         ensures state { lookup (same_ref monitor) self.old.state.watching ≡ None
@@ -336,7 +335,7 @@ impl Process {
         self.watching.push(monitor, target)
     }
 
-    /// Closes its open monitor of this reference, and answers whom it watched.
+    /// Closes its open monitor of this reference, and returns its target.
     pub fn cut_monitor(&mut self, monitor: Ref) -> Option<Pid>
         ensures me { self.new.me ≡ self.old.me }
         ensures target { result ≡ lookup (same_ref monitor) self.old.state.watching }
@@ -347,11 +346,10 @@ impl Process {
         self.watching.remove(&monitor)
     }
 
-    /// It says a signal to a process: a link is held, or held no more, a monitor is open, or open no more; nothing else
-    /// that it says changes it. A reference that is open already stays as it is.
+    /// Notes that it sends a signal: a link is held, or held no more, a monitor is open, or open no more. No other
+    /// signal that it sends changes it. A reference that is open already stays as it is.
     ///
-    /// Memory is refused only where [`add_link`](Process::add_link) or [`add_monitor`](Process::add_monitor) refuses
-    /// it.
+    /// Fails only if [`add_link`](Process::add_link) or [`add_monitor`](Process::add_monitor) would.
     pub fn say(&mut self, to: Pid, signal: Signal) -> Result<(), AllocError>
         ensures me { self.new.me ≡ self.old.me }
         ensures state { IsAnew signal self.old.state → OnOk result (self.new.state ≡ say self.old.state to signal) }
@@ -369,7 +367,7 @@ impl Process {
         Ok(())
     }
 
-    /// Sets whether it traps exits, and answers whether it did.
+    /// Sets whether it traps exits, and returns whether it did before.
     pub fn set_trap(&mut self, on: bool) -> bool
         ensures before { result ≡ self.old.state.traps }
         ensures after { self.new ≡ record self.old { state = record self.old.state { traps = on } } }
@@ -379,7 +377,7 @@ impl Process {
         before
     }
 
-    /// What it owes, now that it ends with this reason; its items are dropped.
+    /// What it owes when it exits with this reason. Its items are dropped.
     pub fn estate(self, reason: Reason) -> Estate
         ensures { result ≡ record { from = self.me; owed = estate self.me self.state reason } }
     {
@@ -514,7 +512,7 @@ impl Process {
         }
     }
 
-    /// The entry of a linked process goes whatever the verdict on its exit signal.
+    /// Removes the entry of a linked process, for any verdict on its exit signal.
     fn obey_link(&mut self, from: Pid, verdict: Verdict) -> Result<Outcome, AllocError>
         requires { IsSome (held self.old.state.links from) }
         ensures { Accepts self.old

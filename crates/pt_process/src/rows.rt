@@ -1,4 +1,4 @@
-//! The entries of an ended process.
+//! The entries of an exited process.
 
 ghost use Rattle.std.specs.Prelude.{◌≡◌, ◌<◌, ◌≤◌, ◌^◌, length, slice_get, Some};
 
@@ -6,7 +6,7 @@ use crate::entries::Places;
 use std::hash::Hash;
 use std::marker::Model;
 
-/// Entries with no gap between them, so that each is reached by its number.
+/// Entries without a gap between them, so that each is found by its number.
 #[derive(Drop)]
 pub struct Rows<K: Eq + Hash + Copy, V: Copy> {
     pub(crate) places: Places<K, V>,
@@ -25,7 +25,7 @@ impl<K: Eq + Hash + Copy, V: Copy> Model for Rows<K, V> {
 }
 
 impl<K: Eq + Hash + Copy, V: Copy> Rows<K, V> {
-    /// How many entries there are.
+    /// The number of entries.
     pub fn len(&self) -> usize
         ensures len { result ≡ length self.now }
         ensures small { result ≤ 2 ^ 62 }

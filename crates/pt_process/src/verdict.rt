@@ -6,14 +6,14 @@ ghost use Rattle.pt_process.specs.Outcome.{ruled};
 
 use pt_signal::{Item, Pid, Reason};
 
-/// What becomes of an exit signal.
+/// The verdict on an exit signal.
 #[derive(Clone, Copy, Debug)]
 pub enum Verdict {
     /// It is dropped.
     Drops,
     /// It is trapped, as an item.
     Queues(Item),
-    /// The process ends.
+    /// The process exits.
     Ends(Reason),
 }
 

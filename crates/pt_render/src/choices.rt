@@ -1,7 +1,7 @@
-//! What can be asked for when a script is run: how its desks are run, for how many turns and epochs or until when, and
-//! what is printed.
+//! The choices for a run of a script: how its desks are run, for how many turns and epochs or until when, and what is
+//! printed.
 //!
-//! Whoever reads a command line makes these values, and whoever runs a script takes them; neither knows of the other.
+//! The reader of a command line makes these values, and the runner of a script takes them. Neither knows of the other.
 
 ghost use Rattle.std.specs.Prelude.{◌≡◌};
 
@@ -11,7 +11,7 @@ pub const MOST_TURNS: u64 = 1_000_000;
 /// The most epochs that can be asked for.
 pub const MOST_EPOCHS: u64 = 1_000_000;
 
-/// The version of the programs, as `--version` prints it behind the program's name.
+/// The version of the programs, as `--version` prints it after the program's name.
 pub const VERSION: &str = "0.1.0";
 
 /// How the desks are run.
@@ -28,43 +28,43 @@ pub enum Mode {
 pub enum Until {
     /// Once each desk has taken its turns.
     Turns,
-    /// Once nothing more can happen: each desk takes its turns again and again until then, 1,000,000 in all at most.
+    /// Once nothing more can happen: each desk takes its turns again and again until then, at most 1,000,000 in all.
     Quiet,
 }
 
 /// What is printed.
 #[derive(Clone, Copy, Debug, PartialEq, Eq)]
 pub enum Show {
-    /// A line a process, once the letters on their way have come.
+    /// A line for each process, once the letters in flight have arrived.
     Summary,
-    /// A line an event, and a line a letter on its way.
+    /// A line for each event, and a line for each letter in flight.
     History,
     /// The events as a message sequence chart in SVG.
     Chart,
-    /// The events, and the letters on their way, as a sequence diagram of Mermaid.
+    /// The events, and the letters in flight, as a sequence diagram of Mermaid.
     Mermaid,
-    /// The events, and the letters on their way, as JSON, an object a line.
+    /// The events, and the letters in flight, as JSON, one object in each line.
     Json,
 }
 
-/// What is asked for, the script apart.
+/// What is asked for, beside the script.
 #[derive(Clone, Copy, Debug, PartialEq, Eq)]
 pub struct Options {
     /// How the desks are run.
     pub threads: Mode,
-    /// How many turns each desk takes in each epoch, 1,000,000 at most.
+    /// The number of turns that each desk takes in each epoch, at most 1,000,000.
     pub turns: u64,
     /// When an epoch ends.
     pub until: Until,
-    /// How many epochs there are, 1 to 1,000,000. Between two of them the node is gathered, settled and resumed.
+    /// The number of epochs, 1 to 1,000,000. Between two of them the node is gathered, settled and resumed.
     pub epochs: u64,
     /// What is printed.
     pub print: Show,
-    /// Whether a refusal, and each process of a summary, is explained in a second line.
+    /// Whether a fault, and each process of a summary, is explained in a second line.
     pub explain: bool,
 }
 
-/// At most 1,000,000 turns and as many epochs can be asked for: other clauses cite these limits by their names alone.
+/// At most 1,000,000 turns and as many epochs can be asked for. Other clauses cite these limits by name only.
 pub fn limits_stand()
     ensures turns { MOST_TURNS ≡ 1000000 }
     ensures epochs { MOST_EPOCHS ≡ 1000000 }

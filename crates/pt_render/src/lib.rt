@@ -1,5 +1,5 @@
-//! What happened to processes, written for other programs: as JSON, an object an event, and as a sequence diagram of
-//! Mermaid, which code hosts draw.
+//! What happened to processes, written for other programs: as JSON, one object for each event, and as a sequence
+//! diagram of Mermaid, which code hosts draw.
 //!
 //! ```
 //! let event = JsonEvent(stamped);
@@ -9,10 +9,10 @@
 //! writeln!(out, "{event}")?;            //     Note over p0_1_1: 4@0 left other:7
 //! ```
 //!
-//! Each value is a `Display`, and what it prints is its contract: `specs/Json` and `specs/Mermaid` have the texts. None
-//! ends with a line feed, and none needs memory.
+//! Each value is a `Display`, and its contract says what it prints: `specs/Json` and `specs/Mermaid` have the texts.
+//! None ends with a line feed, and none needs memory.
 //!
-//! [`Options`] says what can be asked for when a script is run, and which of these outputs is printed.
+//! [`Options`] has the choices for a run of a script, and says which of these outputs is printed.
 //!
 //! # What is proved
 //!

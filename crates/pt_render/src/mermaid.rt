@@ -5,22 +5,22 @@ use pt_events::{Event, Stamped};
 use pt_signal::{Item, Letter, LinkId, Pick, Pid};
 use std::fmt;
 
-/// The first line of a diagram; the lines of the events stand below it, and then those of the letters left over.
+/// The first line of a diagram. The lines of the events come after it, and then those of the letters left over.
 pub const MERMAID_HEAD: &str = "sequenceDiagram";
 
 /// The lines of an event in a diagram, without the last line feed: `    Note over p0_1_1: 4@0 left other:7`.
 ///
 /// A birth names the column of its process, so it has two lines. A sending is a dotted arrow from its process, and a
-/// receipt a full one to it; a call that was refused since the other had ended is a dotted line to a cross. All else is
-/// a note in the column of its process.
+/// receipt a full one to it. A call that failed since the other process had exited is a dotted line to a cross. Any
+/// other event is a note in the column of its process.
 #[derive(Clone, Copy, Debug, PartialEq, Eq)]
 pub struct MermaidEvent(pub Stamped);
 
-/// The line of a letter that was sent and did not come, without a line feed: a full line to a cross.
+/// The line of a letter that was sent and did not arrive, without a line feed: a full line to a cross.
 #[derive(Clone, Copy, Debug, PartialEq, Eq)]
 pub struct MermaidLeftOver(pub Letter);
 
-/// Where a birth shows: as a note, or as an arrow from the process that made it.
+/// How a birth is shown: as a note, or as an arrow from the process that spawned it.
 #[derive(Clone, Copy)]
 struct Bearing {
     pid: Pid,
@@ -40,11 +40,11 @@ struct Taking {
 #[derive(Clone, Copy)]
 struct Switch(bool);
 
-/// What stands in a line before the time of its event.
+/// The part of a line before the time of its event.
 #[derive(Clone, Copy)]
 struct Scene(Event);
 
-/// What stands in a line behind the time of its event.
+/// The part of a line after the time of its event.
 #[derive(Clone, Copy)]
 struct Deed(Event);
 

@@ -6,15 +6,15 @@ use Rattle.std.proofs.lemmas.List.{get_or-map, get_or_default, length-map, lengt
 use Rattle.pt_events.specs.declared.event.Stamped.{Stamped}
 use Rattle.pt_desk.specs.DeskState.{DeskState}
 use Rattle.pt_desk.proofs.Turning.{turn_goes_on}
-use Rattle.pt_node.specs.NodeRunning.{ArePaired}
-use Rattle.pt_node.specs.Stillness.{AllDesksGoOn, AreStill}
-use Rattle.pt_node.specs.Running.{AllWork, BeginRelation, InRounds, Round, Rounds, TakesOrEnds, TakesTurn, TakesTurns, Workers, Works, step_alone}
+use Rattle.pt_workers.specs.NodeRunning.{ArePaired}
+use Rattle.pt_workers.specs.Stillness.{AllDesksGoOn, AreStill}
+use Rattle.pt_workers.specs.Running.{AllWork, BeginRelation, InRounds, Round, Rounds, TakesOrEnds, TakesTurn, TakesTurns, Workers, Works, step_alone}
 use Rattle.pt_script.specs.Plans.{Whole}
 use Rattle.pt_render.specs.declared.choices.Options.{Options}
 use Rattle.pt_runner.specs.declared.runner.Runner.{Runner}
 use Rattle.pt_runner.specs.Acting.{RunnerDoes, table}
 use Rattle.pt_runner.specs.Waiting.{RunnersIdle, IsFresh, RunnerKnows, RunnerSteps}
-use Rattle.pt_runner.proofs.Waiting.{fresh_knows, idle_rests, knows_later}
+use Rattle.pt_runner.proofs.Waiting.{fresh_knows, idle_rests, runner_knows_later}
 use Rattle.pt_report.specs.Epochs.{CanBegin, NothingCanHappen, PassEpochs, Staffed}
 use Rattle.pt_report.specs.Reports.{RunIsBegun}
 
@@ -37,7 +37,7 @@ turn_does budget old new attended h =
     let r = h.worked in (
       record { stepped = h.stepped; worked = r; step = so.0; goes_on = h.goes_on; turned = h.turned; turn = t; hears = h.hears },
       subst (λ (x : Runner). RunnerKnows x new.0.shard) (sym {A = Runner} h.hears)
-          (knows_later r.script.now.processes r.pids.items r.actors.items r.came.items r.read h.stepped.shard new.0.shard on.shard so.1),
+          (runner_knows_later r h.stepped.shard new.0.shard on.shard so.1),
     )
 
 turns_do : (lets : Runner → ℕ → Bool → Type 0) (budget count : ℕ) (old new : Pair) → IsAttended old → TakesTurns lets (step_alone RunnerSteps) budget count old new → TakesTurns lets (step_alone RunnerDoes) budget count old new × IsAttended new
@@ -147,8 +147,7 @@ module _ (desks : List DeskState) (runners : List Runner) (pairs : List Pair) (p
 pub rested_begins : (ran : Staffed) (desks : List DeskState) → length ran.1 ≡ length ran.0 → CanBegin ran.0 ran.1 → AllDesksGoOn ran.0 desks → CanBegin desks ran.1
 rested_begins ran desks same begins on = λ d r x lt.
     let within : d < length ran.0 = omega (arith, lt, same) in
-    let q = get_or ran.1 d r in
-    knows_later q.script.now.processes q.pids.items q.actors.items q.came.items q.read (get_or ran.0 d x).shard (get_or desks d x).shard (on.each d x within).shard (begins d r x lt)
+    runner_knows_later (get_or ran.1 d r) (get_or ran.0 d x).shard (get_or desks d x).shard (on.each d x within).shard (begins d r x lt)
 
 -- where every runner is idle then, and no letter is on its way, nothing more can happen
 pub quiet : (s : Staffed) → CanBegin s.0 s.1 → AreStill s.0 → RunnersIdle s.1 s.0 → NothingCanHappen s

@@ -16,7 +16,7 @@ use Rattle.pt_shard.specs.declared.stop.Stop.{Stop}
 use Rattle.pt_shard.specs.declared.stop.Stop.TheVariants.{Memory as StopMemory, Worn as StopWorn}
 use Rattle.pt_gathered.specs.Order.{SettlingStops}
 use Rattle.pt_desk.specs.DeskState.{DeskState}
-use Rattle.pt_node.specs.Desks.{AreDesksOf}
+use Rattle.pt_workers.specs.Desks.{AreDesksOf}
 use Rattle.pt_node.specs.Gathering.{Gathers}
 use Rattle.pt_signal.specs.declared.pid.Pid.{Pid}
 use Rattle.pt_script.specs.Called.{names_in}

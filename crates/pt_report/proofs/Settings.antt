@@ -3,10 +3,10 @@ use Rattle.std.proofs.Common.{◌≡◌, ℕ, zero, suc, ◌<◌, List, [], ◌�
 use Rattle.std.proofs.lemmas.List.{length-map}
 use Rattle.pt_signal.specs.declared.config.Config.{Config}
 use Rattle.pt_desk.specs.DeskState.{DeskState, GoesOn}
-use Rattle.pt_node.specs.Desks.{AreDesksOf}
-use Rattle.pt_node.specs.Running.{AllGoOn}
-use Rattle.pt_node.specs.Stillness.{AllDesksGoOn}
-use Rattle.pt_node.proofs.TurnsOf.{all_stay, all_then}
+use Rattle.pt_workers.specs.Desks.{AreDesksOf}
+use Rattle.pt_workers.specs.Running.{AllGoOn}
+use Rattle.pt_workers.specs.Stillness.{AllDesksGoOn}
+use Rattle.pt_workers.proofs.TurnsOf.{all_stay, all_then}
 use Rattle.pt_render.specs.declared.choices.Options.{Options}
 use Rattle.pt_render.specs.declared.choices.Until.{Until}
 use Rattle.pt_render.specs.declared.choices.Until.TheVariants.{Turns, Quiet}

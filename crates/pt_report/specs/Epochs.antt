@@ -12,11 +12,11 @@ use Rattle.pt_shard.specs.declared.fault.Fault.TheVariants.{Worn}
 use Rattle.pt_shard.specs.declared.stop.Stop.TheVariants.{Worn as StopWorn}
 use Rattle.pt_desk.specs.DeskState.{DeskState}
 use Rattle.pt_node.specs.Gathering.{Gathers}
-use Rattle.pt_node.specs.NodeRunning.{RunsPaired}
+use Rattle.pt_workers.specs.NodeRunning.{RunsPaired}
 use Rattle.pt_node.specs.Resuming.{Resumes}
-use Rattle.pt_node.specs.Stillness.{AllDesksGoOn, AreStill, RunsRounds}
-use Rattle.pt_node.specs.declared.stillness.Rested.{Rested}
-use Rattle.pt_node.specs.Running.{AllWork, InRounds, always, step_alone}
+use Rattle.pt_workers.specs.Stillness.{AllDesksGoOn, AreStill, RunsRounds}
+use Rattle.pt_workers.specs.declared.stillness.Rested.{Rested}
+use Rattle.pt_workers.specs.Running.{AllWork, InRounds, always, step_alone}
 use Rattle.pt_render.specs.declared.choices.Mode.TheVariants.{Single}
 use Rattle.pt_render.specs.declared.choices.Options.{Options}
 use Rattle.pt_render.specs.declared.choices.TheConstants.{MOST_TURNS}

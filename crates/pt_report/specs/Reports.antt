@@ -12,7 +12,7 @@ use Rattle.pt_shard.specs.declared.fault.Fault.{Fault}
 use Rattle.pt_shard.specs.declared.fault.Fault.TheVariants.{Full, Worn}
 use Rattle.pt_shard.specs.declared.stop.Stop.TheVariants.{Worn as StopWorn}
 use Rattle.pt_desk.specs.DeskState.{DeskState}
-use Rattle.pt_node.specs.Desks.{AreDesksOf}
+use Rattle.pt_workers.specs.Desks.{AreDesksOf}
 use Rattle.pt_node.specs.Gathering.{Gathers}
 use Rattle.pt_script.specs.Called.{names_in}
 use Rattle.pt_script.specs.Plans.{Whole}

@@ -1,4 +1,4 @@
-//! What the processes of a script are called.
+//! The names of a script's processes.
 
 ghost use Rattle.std.specs.Prelude.{◌≡◌, [], ◌++◌, IfOk, OnOk, map, slice_index_or, string_bytes};
 ghost use Rattle.pt_chart.specs.Drawing.{called_given};
@@ -25,7 +25,7 @@ pub(crate) fn called_by<'a>(
     Ok(called)
 }
 
-/// Those of a desk, whose runner this is.
+/// The processes of the desk with this runner.
 fn call_those_on<'a>(
     desk: usize,
     names: &'a [String],
@@ -42,7 +42,7 @@ fn call_those_on<'a>(
     Ok(())
 }
 
-/// The process with this number, if it was born on the desk.
+/// The process with this number, if it was spawned on the desk.
 fn call<'a>(
     desk: usize,
     names: &'a [String],

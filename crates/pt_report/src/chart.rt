@@ -22,8 +22,8 @@ use std::alloc::{AllocError, Global};
 use std::io;
 use std::io::Write;
 
-/// Prints the chart of the histories of epochs and of that of the last one's node, which these runners ran; the
-/// processes are called as in the script's bytes.
+/// Prints the chart of the histories of epochs and of the last one's node, which these runners ran. The processes have
+/// their names of the script's bytes.
 pub(crate) fn print_chart<W: Write>(
     alloc: Global,
     script: &[u8],
@@ -62,7 +62,7 @@ fn drawing_of(
     chart(alloc, events, called.as_slice())
 }
 
-/// Writes a text, and passes on what the writer holds back.
+/// Writes a text, and flushes the writer.
 fn write_text<W: Write>(out: &mut W, text: &str) -> io::Result<()>
     ensures { OnOk result (Appends (W.contents out.old) (W.contents out.new) text.now) }
 {

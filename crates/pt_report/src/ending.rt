@@ -1,26 +1,26 @@
-//! By what processes ended, read from a history.
+//! What made processes exit, read from a history.
 
 use indexmap::IndexMap;
 use pt_node::{Event, LinkId, Pid, Process, Reason, Signal, Stamped};
 use pt_process::Outcome;
 use std::alloc::{AllocError, Global};
 
-/// By what a process ended.
+/// What made a process exit.
 #[derive(Clone, Copy)]
 pub(crate) enum Ending {
-    /// By a call of its own.
+    /// A call of its own.
     Own,
-    /// By an exit signal with `kill`, from this process.
+    /// An exit signal with `kill`, from this process.
     Kill(Pid),
-    /// By another exit signal, from this process.
+    /// Another exit signal, from this process.
     Exit(Pid),
-    /// By the end of this process, to which it was linked.
+    /// The exit of this process, to which it was linked.
     Link(Pid),
-    /// By no event of the history: it was born before, and a signal ended it, or it ended before as well.
+    /// No event of the history: it was spawned before, and a signal made it exit, or it exited before as well.
     Unseen,
 }
 
-/// A history as far as it was played: those who were born in it and live, and by what others ended in it.
+/// A history as far as it was played: the live processes that were spawned in it, and what made others exit in it.
 ///
 /// It is played once for all of its processes, so that it costs its events.
 #[derive(Drop)]
@@ -44,7 +44,7 @@ impl Endings {
         Ok(endings)
     }
 
-    /// By what p ended, which it did.
+    /// What made p exit, which it did.
     pub(crate) fn of_process(&self, p: Pid) -> Ending {
         match self.ended.get(&p) {
             Some(ending) => *ending,
@@ -84,7 +84,7 @@ impl Endings {
         Ok(())
     }
 
-    /// Takes a signal in, by which its receiver may end.
+    /// Delivers a signal, by which its receiver may exit.
     fn accept(&mut self, to: Pid, from: Pid, signal: Signal) -> Result<(), AllocError> {
         let Some(process) = self.living.get_mut(&to) else {
             return Ok(());
@@ -102,7 +102,7 @@ impl Endings {
     }
 }
 
-/// What a process does by an event of its own, other than a birth and its end.
+/// What a process does by an event of its own, other than its birth and its exit.
 fn act(process: &mut Process, event: Event) -> Result<(), AllocError> {
     match event {
         Event::Said(_, to, signal) => process.say(to, signal)?,
@@ -117,7 +117,7 @@ fn act(process: &mut Process, event: Event) -> Result<(), AllocError> {
     Ok(())
 }
 
-/// What it is to be ended by this signal.
+/// What made a process exit if this signal did.
 fn ending_by(from: Pid, signal: Signal) -> Ending {
     match signal {
         Signal::Exit(Reason::Kill) => Ending::Kill(from),

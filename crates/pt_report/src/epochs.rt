@@ -1,4 +1,4 @@
-//! The epochs of a run: between two of them the node is settled, and goes on with empty journals.
+//! The epochs of a run: between two of them the node is settled, and resumed with empty journals.
 
 ghost use Rattle.std.specs.Prelude.{◌≡◌, ◌≢◌, ◌⊎◌, ◌-◌, ◌++◌, [], List, OnOk, IfOk, IfErr};
 ghost use Rattle.std.specs.Io.KnownBytes.{Appends};
@@ -22,8 +22,8 @@ use std::io;
 use std::io::Write;
 use std::thread::Threads;
 
-/// Lets all epochs pass but the last, and does with the history of each as it ends what the options ask for: it is
-/// written, or kept behind those before it.
+/// Runs all epochs but the last. As the options say, it writes the history of each as it ends, or keeps it after those
+/// before it.
 pub(crate) fn pass_epochs<R: Threads + Sync, W: Write>(
     rt: &R,
     alloc: Global,
@@ -54,7 +54,7 @@ pub(crate) fn pass_epochs<R: Threads + Sync, W: Write>(
     Ok(node)
 }
 
-/// Lets one epoch pass, and does with its history what the options ask for.
+/// Runs one epoch, and writes or keeps its history as the options say.
 fn next_epoch<R: Threads + Sync, W: Write>(
     rt: &R,
     alloc: Global,
@@ -80,7 +80,7 @@ fn next_epoch<R: Threads + Sync, W: Write>(
     Ok(next)
 }
 
-/// Lets one epoch pass, and gives its history.
+/// Runs one epoch, and returns its history.
 fn pass_epoch<R: Threads + Sync>(
     rt: &R,
     alloc: Global,
@@ -110,7 +110,7 @@ fn begin_again(runners: &mut Vec<Runner<'_>>)
     }
 }
 
-/// Ends an epoch: the node is gathered and settled, and goes on with empty journals. What they had comes back.
+/// Ends an epoch: the node is gathered, settled and resumed with empty journals. It returns what they had.
 fn end_epoch(alloc: Global, node: Node) -> Result<(Node, Vec<Stamped>), ReportFault>
     ensures ends { IfOk result (λ r. EndsEpoch node r.1.items r.0) }
     ensures fault { IfErr result (IsOfEnd node) }
@@ -129,7 +129,7 @@ fn end_epoch(alloc: Global, node: Node) -> Result<(Node, Vec<Stamped>), ReportFa
     }
 }
 
-/// Does with the history of an epoch what is asked for: it is written, or kept behind those before it.
+/// Writes the history of an epoch, or keeps it after those before it, as the options say.
 fn put<W: Write>(
     print: Show,
     history: &[Stamped],
@@ -154,7 +154,7 @@ fn put<W: Write>(
     }
 }
 
-/// Writes the events of an epoch, and passes on what the writer holds back.
+/// Writes the events of an epoch, and flushes the writer.
 fn write_epoch<W: Write>(out: &mut W, form: Form, events: &[Stamped]) -> Result<(), ReportFault>
     ensures text { OnOk result (Appends (W.contents out.old) (W.contents out.new) (lines form events.now)) }
     ensures fault { IfErr result (λ f. f ≡ File) }

@@ -21,8 +21,8 @@ use std::alloc::{AllocError, Global};
 use std::io;
 use std::io::Write;
 
-/// Settles a node and prints what became of its processes; with `explain`, behind the line of each, what it is at or
-/// why it ended.
+/// Settles a node and prints what became of its processes. With `explain`, a note follows the line of each: what it is
+/// doing, or why it exited.
 pub(crate) fn summarize<W: Write>(
     alloc: Global,
     explain: bool,
@@ -43,7 +43,7 @@ pub(crate) fn summarize<W: Write>(
     }
 }
 
-/// Settles a node and prints what became of its processes, with a note behind each.
+/// Settles a node and prints what became of its processes, with a note after each.
 fn print_explained<W: Write>(
     alloc: Global,
     bytes: &[u8],
@@ -64,7 +64,7 @@ fn print_explained<W: Write>(
     }
 }
 
-/// A note for each process that was ever born.
+/// A note for each process ever spawned.
 fn notes_on(
     alloc: Global,
     bytes: &[u8],
@@ -88,7 +88,7 @@ fn notes_on(
     notes_from(alloc, sources, quiet)
 }
 
-/// The same, of these sources.
+/// The same, from these sources.
 fn notes_from(
     alloc: Global,
     sources: Sources<'_, '_>,
@@ -99,7 +99,7 @@ fn notes_from(
     notes_of(alloc, sources, quiet, quiet.pids())
 }
 
-/// Writes two lines a process, then the totals, and passes on what the writer holds back.
+/// Writes two lines for each process, then the totals, and flushes the writer.
 fn write_explained<W: Write>(
     out: &mut W,
     quiet: &Quiet,
@@ -114,7 +114,7 @@ fn write_explained<W: Write>(
     out.flush()
 }
 
-/// Writes two lines a process.
+/// Writes two lines for each process.
 #[tactic(auto, using(crate::proofs::Accounts::next_notes))]
 fn write_notes<W: Write>(out: &mut W, quiet: &Quiet, notes: &[Note]) -> io::Result<()>
     ensures { OnOk result (AppendsNotes quiet.now notes.now (W.contents out.old) (W.contents out.new)) }
@@ -125,7 +125,7 @@ fn write_notes<W: Write>(out: &mut W, quiet: &Quiet, notes: &[Note]) -> io::Resu
     Ok(())
 }
 
-/// Writes the line of a process, and the note behind it.
+/// Writes the line of a process, and its note after it.
 fn write_note<W: Write>(out: &mut W, quiet: &Quiet, note: &Note) -> io::Result<()>
     ensures { OnOk result
         (InEveryMerge (journals quiet.now.gathered)
@@ -137,7 +137,7 @@ fn write_note<W: Write>(out: &mut W, quiet: &Quiet, note: &Note) -> io::Result<(
     writeln!(out, "  {line}")
 }
 
-/// The first line of a text: a note is one line, whatever it repeats of a script.
+/// The first line of a text: a note is one line, even if a name or word of the script has more.
 fn first_line(text: &str) -> &str
     ensures { result.now ≡ first_line text.now }
 {

@@ -1,4 +1,4 @@
-//! Why a script was not run, or what happened not printed.
+//! Why a script was not run, or its report not printed.
 
 ghost use Rattle.std.specs.Prelude.{◌≡◌};
 ghost use Rattle.pt_report.specs.Status.{fault_number, status_of};
@@ -8,7 +8,7 @@ use pt_script::ScriptError;
 use std::alloc::AllocError;
 use thiserror::Error;
 
-/// Why a script was not run, or what happened not printed. Its text is one line, without the line feed.
+/// Why a script was not run, or its report not printed. Its text is one line, without a line feed.
 #[derive(Clone, Copy, Debug, PartialEq, Eq, Error)]
 pub enum ReportFault {
     /// The bytes are no script, or there was no memory to read them.
@@ -17,16 +17,16 @@ pub enum ReportFault {
     /// There was no memory.
     #[error("memory refused")]
     Memory,
-    /// A desk refused to bear a process that the script begins with, or to settle.
+    /// A desk failed to spawn a process that the script begins with, or the node failed to settle.
     #[error("desk refused: {}", number_of(.0))]
     Desk(Fault),
-    /// The writer refused bytes, or to pass on what it holds back. Some of the text may have been written.
+    /// The writer failed to write or to flush. Some of the text may have been written.
     #[error("file refused")]
     File,
 }
 
 impl ReportFault {
-    /// What the program ends with: 1 where the bytes are no script, else 3.
+    /// The exit status of the program: 1 if the bytes are no script, else 3.
     pub fn status(&self) -> u8
         ensures { result ≡ status_of self.now }
     {

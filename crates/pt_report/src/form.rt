@@ -9,18 +9,18 @@ use pt_render::{JsonEvent, JsonLeftOver, MERMAID_HEAD, MermaidEvent, MermaidLeft
 use std::io;
 use std::io::Write;
 
-/// How the events of a history, and the letters left over, are written.
+/// The form in which the events of a history, and the letters left over, are written.
 #[derive(Clone, Copy)]
 pub(crate) enum Form {
     /// As they print.
     Lines,
     /// As a sequence diagram of Mermaid.
     Diagram,
-    /// As JSON, an object a line.
+    /// As JSON, one object in each line.
     Objects,
 }
 
-/// Writes what stands before all events.
+/// Writes what comes before all events.
 #[tactic(auto, using(crate::proofs::Writing::appends_nothing))]
 pub(crate) fn write_head<W: Write>(out: &mut W, form: Form) -> io::Result<()>
     ensures { OnOk result (Appends (W.contents out.old) (W.contents out.new) (form_head form)) }

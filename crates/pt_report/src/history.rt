@@ -17,7 +17,7 @@ use std::alloc::AllocError;
 use std::io;
 use std::io::Write;
 
-/// Prints, in this form, the histories of epochs and that of the last one's node, and the letters left over.
+/// Prints, in this form, the histories of epochs and of the last one's node, and the letters left over.
 pub(crate) fn print_history<W: Write>(
     form: Form,
     kept: Vec<Stamped>,
@@ -56,7 +56,7 @@ pub(crate) fn all_events(
     Ok(kept)
 }
 
-/// Writes the events, then the letters left over, and passes on what the writer holds back.
+/// Writes the events, then the letters left over, and flushes the writer.
 #[tactic(auto, using(crate::proofs::Writing::appends_then, crate::proofs::Writing::appends_keeps))]
 fn write_history<W: Write>(
     out: &mut W,
@@ -73,7 +73,7 @@ fn write_history<W: Write>(
     out.flush()
 }
 
-/// Writes one line an event.
+/// Writes one line for each event.
 pub(crate) fn write_events<W: Write>(out: &mut W, form: Form, events: &[Stamped]) -> io::Result<()>
     ensures { OnOk result (Appends (W.contents out.old) (W.contents out.new) (lines form events.now)) }
 {
@@ -83,7 +83,7 @@ pub(crate) fn write_events<W: Write>(out: &mut W, form: Form, events: &[Stamped]
     Ok(())
 }
 
-/// Writes one line a letter.
+/// Writes one line for each letter.
 fn write_letters<W: Write>(out: &mut W, form: Form, letters: &[LeftOver]) -> io::Result<()>
     ensures { OnOk result (Appends (W.contents out.old) (W.contents out.new) (left_lines form letters.now)) }
 {

@@ -13,25 +13,26 @@
 //!
 //! # What is printed
 //!
-//! The history is a line an event, by stamp and then desk, and then a line a letter that was left over. For the
-//! summary the letters left over are brought to their receivers first; it is a line a process and a last line of
-//! totals. Where it is to be explained, a second line of each process says what it is at, or why it ended. The chart
-//! is the history as a drawing, of [`pt_chart`], with the names of the script; as JSON and as a Mermaid diagram the
-//! lines are those of [`pt_render`].
+//! The history has a line for each event, by stamp and then desk, and then a line for each letter left over. For the
+//! summary the letters left over are delivered first. It has a line for each process and a last line of totals. If it
+//! is to be explained, a second line of each process says what it is doing, or why it exited. The chart is the history
+//! as a drawing by [`pt_chart`], with the names of the script. As JSON and as a Mermaid diagram the lines are those of
+//! [`pt_render`].
 //!
-//! With more epochs than one the node is settled between two of them and goes on with empty journals, with the scripts
-//! where they were. The history is then that of all epochs, in order: each epoch's lines are written as it ends, and
-//! not kept, and so it is with JSON. For the chart and the diagram all events are kept. The summary is that of the last epoch.
+//! With more than one epoch the node is settled between two of them and resumed with empty journals, and the scripts
+//! continue from their places. The history is then that of all epochs, in order. Each epoch's lines are written as it
+//! ends, and not kept; JSON does the same. For the chart and the diagram all events are kept. The summary is that of
+//! the last epoch.
 //!
 //! # Faults
 //!
-//! All that can be refused for memory or by a desk is done before the first byte is written, of the only epoch or of
-//! the last. So after a [`ReportFault`] other than `File` the writer is as it was, or has the lines of the epochs that
-//! had passed, and what a writer refuses is told as `File` alone.
+//! All that can fail for want of memory or at a desk is done before the first byte of the last epoch is written. So
+//! after a [`ReportFault`] other than `File` the writer is as it was, or has the lines of the epochs that had passed. A
+//! failure of the writer is reported as `File`, and nothing else is.
 //!
 //! # Writers
 //!
-//! Each line is a few writes, so the writer should be a buffered one. It is flushed before [`report`] answers `Ok`.
+//! Each line is a few writes, so the writer should be a buffered one. It is flushed before [`report`] returns `Ok`.
 //!
 //! # What is proved
 //!
@@ -40,7 +41,7 @@
 //! - **Epochs.** The history of each epoch is in the text once, in order. (`PassEpochs`)
 //! - **Faults.** A script's fault is the first one. After any fault but `File` the writer is as it was, or has the
 //!   lines of the epochs that passed.
-//! - **Status.** It is 1 for a refused script and else 3. (`ReportFault::status`)
+//! - **Status.** It is 1 if the bytes are no script, and else 3. (`ReportFault::status`)
 #![tactic(auto, unfolding(crate::specs::Lines::ending_text, crate::specs::Lines::account_text, crate::specs::Lines::totals_text))]
 
 mod called;

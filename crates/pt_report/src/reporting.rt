@@ -1,4 +1,4 @@
-//! A script is run, and what happened is printed.
+//! Running a script, and printing what happened.
 
 ghost use Rattle.std.specs.Prelude.{◌≡◌, ◌≢◌, ◌⊎◌, OnOk, IfErr};
 ghost use Rattle.pt_report.specs.Reports.{Reports, HasWrittenOf, IsRefusedAs};
@@ -17,7 +17,7 @@ use std::alloc::Global;
 use std::io::Write;
 use std::thread::Threads;
 
-/// Nobody has anything to do.
+/// No process has anything to do.
 const AT_REST: Busy = Busy {
     idle: true,
     alive: 0,
@@ -25,21 +25,21 @@ const AT_REST: Busy = Busy {
 
 /// Reads a script from its bytes, runs it as the options say, and prints what happened.
 ///
-/// On `Ok` the whole text was written and the writer flushed: the history in the form that is asked for, the summary or
-/// the chart of a node that has the script's settings, was run and then gathered. Each of its desks took all the turns
-/// that the options ask for, with the script's budget, and before each of them a step of the script's operations. In a
-/// chart each process of the script has its name there, and in a summary that is to be explained a line behind each
-/// process says what it is at, or why it ended. What `Mode::Single` prints is the same each time.
+/// On `Ok` the whole text was written and the writer flushed. The text is the history in the form that the options ask
+/// for, the summary or the chart of a node. The node has the script's settings, was run and then gathered. Each of its
+/// desks took all the turns that the options ask for, with the script's budget, and before each of them a step of the
+/// script's operations. In a chart each process has its name of the script. In a summary that is to be explained, a
+/// line after each process says what it is doing, or why it exited. What `Mode::Single` prints is the same each time.
 ///
-/// So it did in each epoch that the options ask for. Between two the node is gathered and settled, and goes on with
-/// empty journals; the processes of the script go on where they were. The history and the chart have the events of all
-/// epochs, in order, and the summary is that of the last.
+/// This holds for each epoch that the options ask for. Between two epochs the node is gathered, settled and resumed
+/// with empty journals, and the processes of the script continue from their places. The history and the chart have the
+/// events of all epochs, in order, and the summary is that of the last.
 ///
-/// Refused as `Script` where the bytes are no script, with the first fault and its place. `Desk` tells that a process
-/// that the script begins with found no free slot on its desk (`Full`), or that a clock is at its limit (`Worn`), there
-/// or when the node is settled, between epochs or for a summary; and `Memory` that there was none. The writer is then
-/// as it was, or, where the history of more epochs than one is printed by lines, has those of the epochs that had passed. `File`
-/// tells that the writer failed, and nothing else tells it; some of the text may have been written.
+/// Fails with `Script` if the bytes are no script, with the first fault and its place. Fails with `Desk` if a process
+/// that the script begins with found no free slot on its desk (`Full`). Fails with `Desk` too if a clock is at its
+/// limit (`Worn`), there or when the node is settled, between epochs or for a summary. Fails with `Memory` if there was
+/// none. The writer is then as it was. If the history of more than one epoch is printed by lines, it has the lines of
+/// the epochs that had passed. Fails with `File` exactly if the writer failed; some of the text may have been written.
 pub fn report<R: Threads + Sync, W: Write>(
     rt: &R,
     alloc: Global,
@@ -56,10 +56,10 @@ pub fn report<R: Threads + Sync, W: Write>(
     run_and_report(rt, alloc, options, script, out, &mut busy)
 }
 
-/// Reports as [`report`] does, and returns how many processes have operations left: 0 if the run came to rest.
+/// Reports as [`report`] does, and returns the number of processes that have operations left: 0 if the run is at rest.
 ///
-/// A run is at rest if no letter is on its way, nothing happened in the last turn that a process has not seen, and each
-/// process has ended or waits for an item that has not come. Else all that are alive are counted.
+/// A run is at rest if no letter is in flight, and each process has seen all that happened in the last turn. Each
+/// process must also have exited, or wait for an item that has not arrived. Else all live processes are counted.
 pub fn report_left<R: Threads + Sync, W: Write>(
     rt: &R,
     alloc: Global,
@@ -79,7 +79,7 @@ pub fn report_left<R: Threads + Sync, W: Write>(
     }
 }
 
-/// Reads a script, runs it and prints what happened, and says what its processes had to do then.
+/// Reads a script, runs it, prints what happened, and notes what its processes had to do then.
 #[tactic(auto, using(crate::proofs::Faults::of_run, crate::proofs::Faults::of_print, crate::proofs::Faults::of_summary))]
 fn run_and_report<R: Threads + Sync, W: Write>(
     rt: &R,
@@ -115,7 +115,7 @@ fn run_and_report<R: Threads + Sync, W: Write>(
     }
 }
 
-/// What there is to do with the letters that are on their way: nobody is idle while there is one.
+/// What there is to do, also for the letters in flight: no process is idle while there is one.
 fn behind(busy: Busy, gathered: &Gathered) -> Busy {
     let still = match gathered.left_over() {
         Ok(letters) => letters.is_empty(),

@@ -1,4 +1,4 @@
-//! A script is run.
+//! Running a script.
 
 ghost use Rattle.std.specs.Prelude.{◌≡◌, ◌≢◌, ◌⊎◌, ◌-◌, [], List, true, OnOk, IfOk, IfErr};
 ghost use Rattle.pt_events.specs.declared.event.Stamped.{Stamped};
@@ -21,14 +21,14 @@ use std::thread::Threads;
 /// What the processes of a script had to do as its last epoch ended.
 #[derive(Clone, Copy)]
 pub(crate) struct Busy {
-    /// Whether nobody had anything to do.
+    /// Whether no process had anything to do.
     pub(crate) idle: bool,
-    /// How many were alive.
+    /// The number of live processes.
     pub(crate) alive: u64,
 }
 
 /// The node of a script, run as the options say and gathered in its last epoch, and the runners that ran it. The
-/// histories of the epochs before are in the writer or kept, as the options ask for.
+/// histories of the epochs before are in the writer or kept, as the options say.
 #[tactic(auto, using(crate::proofs::Faults::told_of_start))]
 pub(crate) fn run_script<'a, R: Threads + Sync, W: Write>(
     rt: &R,
@@ -129,8 +129,8 @@ pub(crate) fn run_epoch<R: Threads + Sync>(
     }
 }
 
-/// Lets each desk take its turns again and again, until nothing more can happen, or all turns that can be asked for
-/// were taken.
+/// Lets each desk take its turns again and again, until nothing more can happen, or the largest number of turns was
+/// taken.
 fn run_until_quiet<R: Threads + Sync>(
     rt: &R,
     options: &Options,
@@ -152,8 +152,8 @@ fn run_until_quiet<R: Threads + Sync>(
     Ok(())
 }
 
-/// Lets each desk take its turns once, then brings every letter that is on its way to its receiver, and answers whether
-/// nothing more can happen.
+/// Lets each desk take its turns once, then delivers every letter in flight, and returns whether nothing more can
+/// happen.
 fn run_and_rest<R: Threads + Sync>(
     rt: &R,
     options: &Options,

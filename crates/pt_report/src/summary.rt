@@ -29,7 +29,7 @@ pub(crate) fn print_summary<W: Write>(gathered: Gathered, out: &mut W) -> Result
     }
 }
 
-/// A node settled, and the totals of it.
+/// Settles a node, and returns it with its totals.
 pub(crate) fn settled_of(gathered: Gathered) -> Result<(Quiet, Totals), ReportFault>
     ensures totalled { IfOk result (λ r. Totalled gathered r.0 r.1) }
     ensures fault { IfErr result (IsOfSummary gathered) }
@@ -49,7 +49,7 @@ pub(crate) fn settled_of(gathered: Gathered) -> Result<(Quiet, Totals), ReportFa
     Ok((quiet, totals))
 }
 
-/// How many events the journals have, staying at the greatest number.
+/// The number of events of the journals, staying at `u64::MAX` once it is reached.
 fn count_events(gathered: &Gathered) -> u64
     ensures { result ≡ min (event_count gathered.now) (2 ^ 64 - 1) }
 {
@@ -62,7 +62,7 @@ fn count_events(gathered: &Gathered) -> u64
     count
 }
 
-/// Writes a line a process, then the totals, and passes on what the writer holds back.
+/// Writes a line for each process, then the totals, and flushes the writer.
 fn write_summary<W: Write>(out: &mut W, quiet: &Quiet, totals: Totals) -> io::Result<()>
     ensures { OnOk result
         (AppendsAccounts (totals_text totals ++ codes "\n") quiet.now (W.contents out.old) (W.contents out.new)) }
@@ -72,7 +72,7 @@ fn write_summary<W: Write>(out: &mut W, quiet: &Quiet, totals: Totals) -> io::Re
     out.flush()
 }
 
-/// Writes one line a process.
+/// Writes one line for each process.
 #[tactic(auto, using(crate::proofs::Accounts::next_lines, crate::proofs::Accounts::all_lines))]
 fn write_accounts<W: Write>(out: &mut W, quiet: &Quiet) -> io::Result<()>
     ensures { OnOk result (AppendsAccounts [] quiet.now (W.contents out.old) (W.contents out.new)) }
@@ -83,7 +83,7 @@ fn write_accounts<W: Write>(out: &mut W, quiet: &Quiet) -> io::Result<()>
     Ok(())
 }
 
-/// Writes the line of a process, if it was born.
+/// Writes the line of a process, if it was spawned.
 #[tactic(auto, using(crate::proofs::Accounts::told_line))]
 pub(crate) fn write_account<W: Write>(out: &mut W, quiet: &Quiet, pid: Pid) -> io::Result<()>
     ensures { OnOk result

@@ -14,15 +14,15 @@ pub(crate) struct ProcessLine {
 /// The last line of a summary.
 #[derive(Clone, Copy)]
 pub(crate) struct Totals {
-    /// How many events the gathered journals have.
+    /// The number of events of the gathered journals.
     pub(crate) events: u64,
-    /// How many letters were left over.
+    /// The number of letters left over.
     pub(crate) left_over: u64,
-    /// How many letters settling brought to their receivers.
+    /// The number of letters that settling delivered.
     pub(crate) settled: u64,
 }
 
-/// Whether a process is alive, or the reason it ended with.
+/// Whether a process is alive, or the reason of its exit.
 #[derive(Clone, Copy)]
 struct Fate(Option<Reason>);
 

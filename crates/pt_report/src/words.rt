@@ -40,7 +40,7 @@ impl fmt::Display for Wanted<'_> {
     }
 }
 
-/// How often an operation was refused for memory or at the clock's limit, where it was.
+/// How often an operation failed for want of memory or at the clock's limit, if it did.
 #[derive(Clone, Copy)]
 pub(crate) struct Refused(pub(crate) u64);
 
@@ -54,7 +54,7 @@ impl fmt::Display for Refused {
     }
 }
 
-/// What an operation is called in a script.
+/// The name of an operation in a script.
 pub(crate) fn word_of(operation: Operation) -> &'static str {
     match operation {
         Operation::Send { .. } => "send",

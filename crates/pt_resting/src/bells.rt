@@ -1,4 +1,4 @@
-//! What the workers of a node share, to wake one another.
+//! The bells by which the workers of a node wake one another.
 
 ghost use Rattle.std.specs.Prelude.{◌≡◌, OnOk};
 
@@ -7,10 +7,10 @@ use std::sync::Wait;
 use std::sync::atomic::{AtomicU64, Ordering};
 use std::time::Duration;
 
-/// What stands at one desk.
+/// The bell of one desk.
 #[derive(Drop)]
 struct Bell {
-    /// How often it was rung; only its lower half is looked at.
+    /// How often it was rung. Only the lower half is looked at.
     rings: AtomicU64,
     /// How often it had been rung before the turn that began last, and before the one before that.
     heard: AtomicU64,
@@ -19,14 +19,14 @@ struct Bell {
     idle: AtomicU64,
     /// Whether the worker rests, or is about to.
     rests: AtomicU64,
-    /// To which desks its next turn may post, a bit for each.
+    /// The desks to which its next turn may post, a bit for each.
     posts: AtomicU64,
 }
 
-/// The bells of a node, one at each desk, and whether its workers are to stop.
+/// The bells of a node, one for each desk, and whether its workers are to stop.
 ///
-/// All workers of the node, and threads beside them, share one value of it. What is told here wakes workers and nothing
-/// else: a node does the same whether it was told or not.
+/// All workers of the node, and threads beside them, share one value of it. Ringing wakes workers and does nothing
+/// else: a node does the same whether a bell was rung or not.
 #[derive(Drop)]
 pub struct Bells {
     bells: Vec<Bell>,
@@ -39,7 +39,7 @@ fn low(count: u64) -> u32 {
 }
 
 impl Bells {
-    /// The bells of so many desks, none of them rung. Refused where there is no memory.
+    /// The bells of so many desks, none of them rung. Fails if there is no memory.
     pub fn new(alloc: Global, desks: u8) -> Result<Bells, AllocError> {
         let mut bells = Vec::new(alloc);
         for _desk in 0..desks {
@@ -58,7 +58,8 @@ impl Bells {
         })
     }
 
-    /// Rings at that desk, so that its worker does not rest on, nor begins to; nothing where there is no such desk.
+    /// Rings at that desk, so that its worker stops resting, or does not begin to. Does nothing if there is no such
+    /// desk.
     pub fn ring(&self, desk: u8) {
         let Some(bell) = self.bells.get(desk as usize) else {
             return;
@@ -76,7 +77,8 @@ impl Bells {
         }
     }
 
-    /// Has all workers whose gate has these bells end before their next turn: from a worker, or from outside.
+    /// Makes all workers whose gate has these bells end before their next turn. A worker may call it, and so may any
+    /// other thread.
     pub fn stop(&self) {
         self.stopped.store(1, Ordering::SeqCst);
         self.ring_all();
@@ -87,7 +89,8 @@ impl Bells {
         self.stopped.load(Ordering::SeqCst) != 0
     }
 
-    /// Notes what a step of that desk left: whether there is nothing to do, and to which desks the next turn may post.
+    /// Notes what a step of that desk left: whether there is nothing to do, and the desks to which the next turn may
+    /// post.
     pub(crate) fn tell(&self, desk: u8, idle: bool, posts: u64) {
         let Some(bell) = self.bells.get(desk as usize) else {
             return;
@@ -109,11 +112,11 @@ impl Bells {
         }
     }
 
-    /// Rests where that desk has nothing to do and was not rung since before its last turn but one, for no longer than
-    /// the longest rest; then it notes how often it was rung.
+    /// Rests if that desk has nothing to do and was not rung since before its last turn but one, for no longer than
+    /// `longest`. Then it notes how often the desk was rung.
     ///
-    /// That nothing is to do was found in the last step, so of the turn before it. Whoever posted since then rings
-    /// after it has posted: so whatever has come and was not seen has rung, or will.
+    /// The last step found that there is nothing to do, so it has seen the turn before it. A worker that posted since
+    /// then rings after its post. So what has arrived and was not seen has rung, or will ring.
     pub(crate) fn rest<R: Wait>(&self, rt: &R, desk: u8, longest: Duration) {
         let Some(bell) = self.bells.get(desk as usize) else {
             return;

@@ -2,15 +2,17 @@
 
 ghost use Rattle.std.specs.Prelude.{◌≡◌, ◌<◌, ◌≤◌, ◌+◌, ◌==◌, ◌||◌, Bool, [], ◌∷◌, ◌++◌, OnOk, IfOk, IfErr, IsOk};
 ghost use Rattle.std.specs.Prelude.{length, max, not};
-ghost use Rattle.rtrb.specs.Ring.{IsPair, SameConsumer, SameProducer, consumer_capacity, known_free, known_items};
-ghost use Rattle.rtrb.specs.Ring.{producer_capacity, received, sent};
+ghost use Rattle.rtrb.specs.Ring.{SameConsumer, known_items, received};
 ghost use Rattle.pt_desk.specs.DeskState.{DeskState, GoesOn};
 ghost use Rattle.pt_resting.specs.Bringing.{BringsFirst, Brings};
+ghost use Rattle.pt_resting.specs.Views.{HasSameEnd, IsSameDoor, IsSamePorter, IsWayIn, door_places, handed_in};
+ghost use Rattle.pt_resting.specs.Views.{known_places, known_to_wait, most_of, porter_places, rings_at, sender};
+ghost use Rattle.pt_resting.specs.Views.{taken_out, work_of};
 
 use crate::bells::Bells;
 use crate::resting::Rests;
 use pt_crew::tell;
-use pt_node::{Body, Desk, Fault, Pid, Turned, Work};
+use pt_workers::{Body, Desk, Fault, Pid, Turned, Work};
 use rtrb::{Consumer, Producer, PushError, RingBuffer};
 use std::alloc::{AllocError, Global};
 
@@ -21,7 +23,7 @@ pub struct Post {
     pub body: Body,
 }
 
-/// The end of a way in that a thread without a desk holds: a socket's reader, say.
+/// The end of a way in that a thread without a desk holds, as a socket's reader.
 #[derive(Drop)]
 pub struct Door<'a> {
     ring: Producer<Post>,
@@ -30,16 +32,15 @@ pub struct Door<'a> {
 }
 
 impl<'a> Door<'a> {
-    /// Hands in a message, and rings at the desk. It is given back, and nothing has changed, if the door knows of no free
-    /// place: as many messages wait as the way in has places, by all that this end knows of the other.
+    /// Posts a message, and rings at the desk. Fails with the message, and nothing has changed, if the door knows of no
+    /// free place. Then as many messages wait as the way in has places, by all that this end knows of the other.
     pub fn post(&mut self, post: Post) -> Result<(), Post>
-        ensures taken { OnOk result ((sent self.new.ring ≡ sent self.old.ring ++ post ∷ [])
-            × (known_free self.old.ring ≤ known_free self.new.ring + 1)) }
-        ensures full { IfErr result (λ p. (p ≡ post) × (sent self.new.ring ≡ sent self.old.ring)
-            × (known_free self.new.ring ≡ 0)) }
-        ensures succeeds { 0 < known_free self.old.ring → IsOk result }
-        ensures ring { SameProducer self.old.ring self.new.ring }
-        ensures desk { (self.new.desk ≡ self.old.desk) × (self.new.bells ≡ self.old.bells) }
+        ensures taken { OnOk result ((handed_in self.new ≡ handed_in self.old ++ post ∷ [])
+            × (known_places self.old ≤ known_places self.new + 1)) }
+        ensures full { IfErr result (λ p. (p ≡ post) × (handed_in self.new ≡ handed_in self.old)
+            × (known_places self.new ≡ 0)) }
+        ensures succeeds { 0 < known_places self.old → IsOk result }
+        ensures same { IsSameDoor self.old self.new }
     {
         match self.ring.push(post) {
             Ok(()) => {
@@ -51,11 +52,11 @@ impl<'a> Door<'a> {
     }
 }
 
-/// The work of a desk that sends on what came in at a door, as a process of the desk, before it does the work that it
+/// The work of a desk that sends on the messages of a door, as a process of the desk, before it does the work that it
 /// was made with.
 ///
-/// A message that it took out of the way in was sent, or its receiver was seen to have ended or is not known. Where the
-/// desk refuses it for want of memory or stamps, or since the process has ended, it stays where it is, in front of the
+/// A message that it took out of the way in was sent, or its receiver was seen to have exited or is not known. If the
+/// call fails for want of memory or stamps, or since the sending process has exited, the message stays in front of the
 /// others.
 #[derive(Drop)]
 pub struct Porter<W> {
@@ -65,8 +66,8 @@ pub struct Porter<W> {
     work: W,
 }
 
-/// A way in with so many places, for messages that the process `me` of that desk sends on, at most `most` in a step
-/// (0 is taken as 1); and the work of the desk with it. Refused where there is no memory.
+/// Makes a way in with so many places, for messages that the process `me` of that desk sends on, at most `most` in a
+/// step (0 is taken as 1). It returns the door, and the work of the desk with it. Fails if there is no memory.
 pub fn way_in<'a, W: Drop>(
     alloc: Global,
     bells: &'a Bells,
@@ -75,11 +76,11 @@ pub fn way_in<'a, W: Drop>(
     most: u32,
     work: W,
 ) -> Result<(Door<'a>, Porter<W>), AllocError>
-    ensures pair { IfOk result (λ r. IsPair r.0.ring r.1.ring) }
-    ensures door { IfOk result (λ r. (sent r.0.ring ≡ []) × (known_free r.0.ring ≡ places)
-        × (producer_capacity r.0.ring ≡ places) × (r.0.desk ≡ me.shard)) }
-    ensures porter { IfOk result (λ r. (received r.1.ring ≡ []) × (known_items r.1.ring ≡ [])
-        × (consumer_capacity r.1.ring ≡ places) × (r.1.me ≡ me) × (r.1.most ≡ max 1 most) × (r.1.work ≡ work)) }
+    ensures pair { IfOk result (λ r. IsWayIn r.0 r.1) }
+    ensures door { IfOk result (λ r. (handed_in r.0 ≡ []) × (known_places r.0 ≡ places) × (door_places r.0 ≡ places)
+        × (rings_at r.0 ≡ me.shard)) }
+    ensures porter { IfOk result (λ r. (taken_out r.1 ≡ []) × (known_to_wait r.1 ≡ []) × (porter_places r.1 ≡ places)
+        × (sender r.1 ≡ me) × (most_of r.1 ≡ max 1 most) × (work_of r.1 ≡ work)) }
 {
     let (producer, consumer) = RingBuffer::new(alloc, places as usize)?;
     let door = Door {
@@ -99,21 +100,21 @@ pub fn way_in<'a, W: Drop>(
 impl<W> Porter<W> {
     /// The work, to be read.
     pub fn work(&self) -> &W
-        ensures { result.now ≡ self.now.work }
+        ensures { result.now ≡ work_of self.now }
     {
         &self.work
     }
 
-    /// The work, as it is now; what waits in the way in is given up.
+    /// The work, as it is now. The messages that wait in the way in are dropped.
     pub fn into_work(self) -> W
-        ensures { result ≡ self.work }
+        ensures { result ≡ work_of self }
     {
         let Porter { work, .. } = self;
         work
     }
 
-    /// Sends on the first message that waits, and whether it was taken out.
-    #[tactic(auto, using(pt_node::proofs::GoingOn::stays))]
+    /// Sends on the first message that waits, and returns whether it was taken out.
+    #[tactic(auto, using(pt_workers::proofs::GoingOn::stays))]
     fn bring_one(&mut self, desk: &mut Desk) -> bool
         ensures brings { BringsFirst self.old.me (received self.old.ring) desk.old result (received self.new.ring)
             (known_items self.new.ring) desk.new }
@@ -137,7 +138,7 @@ impl<W> Porter<W> {
     }
 
     /// Sends on as many as it may in a step, and looks whether more wait.
-    #[tactic(auto, using(pt_node::proofs::GoingOn::stays, pt_desk::proofs::Turning::goes_on_then))]
+    #[tactic(auto, using(pt_workers::proofs::GoingOn::stays, pt_desk::proofs::Turning::goes_on_then))]
     fn bring(&mut self, desk: &mut Desk)
         ensures brings { Brings self.old.me self.old.most (received self.old.ring) desk.old (received self.new.ring)
             (known_items self.new.ring) desk.new }
@@ -157,14 +158,14 @@ impl<W> Porter<W> {
 }
 
 impl<W: Work> Work for Porter<W> {
-    ghost does = { λ old d new e. (mid : DeskState) × Brings old.me old.most (received old.ring) d (received new.ring)
-        (known_items new.ring) mid × SameConsumer old.ring new.ring × W.Work.does old.work mid new.work e
-        × (new.me ≡ old.me) × (new.most ≡ old.most) };
+    ghost does = { λ old d new e. (mid : DeskState) × Brings (sender old) (most_of old) (taken_out old) d (taken_out new)
+        (known_to_wait new) mid × IsSamePorter old new × W.Work.does (work_of old) mid (work_of new) e
+        × (sender new ≡ sender old) × (most_of new ≡ most_of old) };
 
-    ghost hears = { λ old d turned new. W.Work.hears old.work d turned new.work × (new.ring ≡ old.ring)
-        × (new.me ≡ old.me) × (new.most ≡ old.most) };
+    ghost hears = { λ old d turned new. W.Work.hears (work_of old) d turned (work_of new) × HasSameEnd old new
+        × (sender new ≡ sender old) × (most_of new ≡ most_of old) };
 
-    #[tactic(auto, using(pt_node::proofs::GoingOn::stays, pt_desk::proofs::Turning::goes_on_then))]
+    #[tactic(auto, using(pt_workers::proofs::GoingOn::stays, pt_desk::proofs::Turning::goes_on_then))]
     fn step(&mut self, desk: &mut Desk) {
         self.bring(desk);
         self.work.step(desk);
@@ -177,8 +178,8 @@ impl<W: Work> Work for Porter<W> {
 
 /// A porter has something to do while it knows of a message that waits, or its work has.
 impl<W: Rests> Rests for Porter<W> {
-    ghost busy = { λ p answer. (own : Bool) × W.Rests.busy p.work own
-        × (answer ≡ (own || not (length (known_items p.ring) == 0))) };
+    ghost busy = { λ p answer. (own : Bool) × W.Rests.busy (work_of p) own
+        × (answer ≡ (own || not (length (known_to_wait p) == 0))) };
 
     fn has_work(&self) -> bool {
         self.work.has_work() || self.ring.cached_slots() != 0

@@ -1,15 +1,15 @@
 //! The gate of workers that rest.
 
 use crate::bells::Bells;
-use pt_node::Gate;
+use pt_workers::Gate;
 use std::sync::Wait;
 use std::time::Duration;
 
-/// A gate at which the worker of a desk rests that has nothing to do, until somebody rings; and at which each worker
-/// ends once the bells say stop.
+/// A gate at which a worker rests if its desk has nothing to do, until its bell rings. Each worker ends at it once the
+/// bells say stop.
 ///
-/// It knows nothing of a desk but what its work tells the bells, so the works of the run are
-/// [`Resting`](crate::Resting). With `u64::MAX` turns a run goes on until [`Bells::stop`].
+/// It knows of a desk only what its work reports to the bells, so the works of the run must be
+/// [`Resting`](crate::Resting). With `u64::MAX` turns a run continues until [`Bells::stop`].
 #[derive(Drop)]
 pub struct RestGate<'a, R> {
     rt: &'a R,
@@ -18,8 +18,7 @@ pub struct RestGate<'a, R> {
 }
 
 impl<'a, R: Wait> RestGate<'a, R> {
-    /// The gate with these bells. No rest is longer than `longest`: a wake-up that is missed costs this time and
-    /// nothing else.
+    /// The gate with these bells. No rest is longer than `longest`: a missed wake-up costs this time and nothing else.
     pub fn new(rt: &'a R, bells: &'a Bells, longest: Duration) -> RestGate<'a, R> {
         RestGate { rt, bells, longest }
     }

@@ -1,21 +1,21 @@
-//! Where a node meets the threads of its program: desks that rest while nothing is to be done, and the way in for
-//! messages from threads that have no desk.
+//! A node beside the threads of its program: desks that rest while there is nothing to do, and the way in for messages
+//! from threads that have no desk.
 //!
-//! [`Bells`] are what the workers of a node wake each other by. A [`RestGate`] lets the worker of a desk rest on which
-//! nothing is to be done, and lets every worker go on until [`Bells::stop`]; a [`Resting`] is the work that tells it.
-//! A [`Door`] takes messages from a thread without a desk; a [`Porter`] sends them on, as a process of its desk.
+//! The workers of a node wake each other by [`Bells`]. A [`RestGate`] lets a worker rest if its desk has nothing to do,
+//! and lets every worker continue until [`Bells::stop`]. A [`Resting`] is the work that reports to it. A [`Door`] takes
+//! messages from a thread without a desk; a [`Porter`] sends them on, as a process of its desk.
 //!
 //! # What is proved
 //!
 //! - **The way in.** A message that a `Porter` took was sent, once and in order, or its receiver was seen to have
 //!   exited or is not known. (`Brings`)
-//! - **How many.** A step sends on at most as many as asked for, and fewer only if it knows of no more or the desk refuses
-//!   the next one. (`few`, `keeps`)
+//! - **How many.** A step sends on at most as many as asked for, and fewer only if it knows of no more or sending the
+//!   next one fails. (`few`, `keeps`)
 //! - **Refusals.** A message that could not be sent for want of memory or stamps stays in front.
-//! - **Doors.** `Door::post` fails only if the door knows of no free place. `way_in` makes as many places as asked for, at
-//!   the desk of the process that sends on.
-//! - **Work left.** A crew has work exactly while a process is queued or waits to enter; a porter also while it knows of
-//!   a message. (`busy`)
+//! - **Doors.** `Door::post` fails only if the door knows of no free place. `way_in` makes as many places as asked for,
+//!   at the desk of the process that sends on.
+//! - **Work left.** A crew has work exactly while a process is queued or waits to enter; a porter also while it knows
+//!   of a message. (`busy`)
 //! - **The work within.** A `Resting` does what its work does.
 #![tactic(auto)]
 

@@ -1,16 +1,17 @@
-//! A work that tells its bells when there is nothing to do.
+//! A work that reports to its bells when there is nothing to do.
 
-ghost use Rattle.std.specs.Prelude.{◌≡◌, ◌==◌, ◌||◌, ⊤, Bool, None, length, not};
+ghost use Rattle.std.specs.Prelude.{◌≡◌, ◌==◌, ◌||◌, ⊤, Bool, length, not};
 ghost use Rattle.pt_crew.specs.Crews.{queue, waiting};
 
 use crate::bells::Bells;
 use pt_crew::{Behaviour, Crew};
-use pt_node::{Desk, Event, Pid, Stamped, Turned, Work};
+use pt_workers::{Desk, Event, Pid, Stamped, Turned, Work};
+use std::marker::Model;
 
-/// A work that knows whether it has something to do by itself, though nothing comes to its desk.
+/// A work that knows whether it has something to do by itself, though nothing arrives at its desk.
 ///
-/// When it says so is its ghost member `busy`, of the work and its answer. A work that says nothing there promises
-/// nothing of its answer.
+/// The ghost member `busy` says when it does: it relates the work and the answer. A work that says nothing there
+/// promises nothing of its answer.
 pub trait Rests: Work {
     ghost busy: { Self → Bool → Type 0 } = { λ _ _. ⊤ };
 
@@ -19,7 +20,7 @@ pub trait Rests: Work {
         ensures { busy self.now result };
 }
 
-/// A crew has something to do while somebody stands in its queue, or waits to enter.
+/// A crew has something to do while a process is in its queue, or waits to enter.
 impl<B: Behaviour + Drop> Rests for Crew<B> {
     ghost busy = { λ c answer. answer ≡ (not (length (queue c) == 0) || not (length (waiting c) == 0)) };
 
@@ -28,8 +29,8 @@ impl<B: Behaviour + Drop> Rests for Crew<B> {
     }
 }
 
-/// A work whose desk rests while nothing is to be done on it: where its last turn handled nothing, its step wrote no
-/// event, no letter waits in its outbox or its hold, and the work has nothing to do by itself.
+/// A work whose desk rests while there is nothing to do on it. It rests if its last turn handled nothing, its step
+/// wrote no event, no letter waits in outbox or hold, and the work has nothing to do by itself.
 ///
 /// It does what the work does, and nothing else to the desk.
 #[derive(Drop)]
@@ -38,15 +39,21 @@ pub struct Resting<'a, W> {
     bells: &'a Bells,
     /// The desk's clock as the last step ended; none before the first.
     clock: Option<u64>,
-    /// To which desks letters may wait in the outbox.
+    /// The desks for which letters may wait in the outbox.
     posts: u64,
+}
+
+/// Clauses see the work alone: what it reports to the bells wakes workers, and changes nothing.
+impl<'a, W> Model for Resting<'a, W> {
+    ghost Value = { W };
+
+    ghost view = { λ r. r.work };
 }
 
 impl<'a, W: Rests> Resting<'a, W> {
     /// The work of a desk of the node whose bells these are.
     pub fn new(work: W, bells: &'a Bells) -> Resting<'a, W>
-        ensures work { result.work ≡ work }
-        ensures first { (result.clock ≡ None) × (result.posts ≡ 0) }
+        ensures { result ≡ work }
     {
         Resting {
             work,
@@ -58,14 +65,14 @@ impl<'a, W: Rests> Resting<'a, W> {
 
     /// The work, to be read.
     pub fn work(&self) -> &W
-        ensures { result.now ≡ self.now.work }
+        ensures { result.now ≡ self.now }
     {
         &self.work
     }
 
     /// The work, as it is now.
     pub fn into_work(self) -> W
-        ensures { result ≡ self.entry.work }
+        ensures { result ≡ self.entry }
     {
         let Resting { work, .. } = self;
         work
@@ -77,7 +84,7 @@ fn bit(desk: u8) -> u64 {
     if desk < 64 { 1 << desk } else { 0 }
 }
 
-/// To which desks an event may send letters: whoever has ended owes some to any.
+/// The desks to which an event may send letters. An exit may send some to any.
 fn targets(desk: &Desk, event: &Event) -> u64 {
     match event {
         Event::Said(_, to, _) => bit(to.shard),
@@ -93,7 +100,7 @@ fn targets(desk: &Desk, event: &Event) -> u64 {
     }
 }
 
-/// To which desks these events may send letters.
+/// The desks to which these events may send letters.
 fn targets_of(desk: &Desk, events: &[Stamped]) -> u64 {
     let mut posts = 0;
     for stamped in events {
@@ -103,9 +110,9 @@ fn targets_of(desk: &Desk, events: &[Stamped]) -> u64 {
 }
 
 impl<'a, W: Rests> Work for Resting<'a, W> {
-    ghost does = { λ old d new e. W.Work.does old.work d new.work e };
+    ghost does = { λ old d new e. W.Work.does old d new e };
 
-    ghost hears = { λ old d turned new. W.Work.hears old.work d turned new.work };
+    ghost hears = { λ old d turned new. W.Work.hears old d turned new };
 
     fn step(&mut self, desk: &mut Desk) {
         let before = desk.clock();

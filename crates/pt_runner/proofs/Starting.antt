@@ -19,8 +19,8 @@ use Rattle.pt_shard.specs.ShardState.{ShardState, past}
 use Rattle.pt_shard.specs.Calls.{Bears, CanWrite, IsWorn}
 use Rattle.pt_shard.specs.Opening.{fresh_shard}
 use Rattle.pt_desk.specs.DeskState.{DeskState, IsDesk, GoesOn}
-use Rattle.pt_node.specs.Desks.{AreDesksOf}
-use Rattle.pt_node.proofs.StillDesks.{still_node}
+use Rattle.pt_workers.specs.Desks.{AreDesksOf}
+use Rattle.pt_workers.proofs.StillDesks.{still_node}
 use Rattle.pt_node.specs.Opening.{AreFresh}
 use Rattle.pt_script.specs.declared.values.Top.{Top}
 use Rattle.pt_runner.specs.declared.runner.Actor.{Actor}

@@ -20,9 +20,9 @@ use Rattle.pt_events.specs.History.{Phase, unborn, living, ended, is_living, is_
 use Rattle.pt_shard.specs.ShardState.{ShardState, lives, phase_of}
 use Rattle.pt_shard.specs.Calls.{Calls, CanWriteIf, after_if, first_match, take_event}
 use Rattle.pt_shard.specs.Extends.{Extends}
-use Rattle.pt_node.specs.Waking.{came_in, came_to}
-use Rattle.pt_node.proofs.Unread.{Oldest, oldest}
-use Rattle.pt_node.proofs.Waiting.{finds_nothing_later, neither}
+use Rattle.pt_workers.specs.Waking.{came_in, came_to}
+use Rattle.pt_workers.proofs.Unread.{Oldest, oldest}
+use Rattle.pt_workers.proofs.Waiting.{finds_nothing_later, neither}
 use Rattle.pt_script.specs.Plans.{Plan}
 use Rattle.pt_script.specs.declared.values.Operation.{Operation}
 use Rattle.pt_script.specs.declared.values.Operation.TheVariants.{Receive}
@@ -314,6 +314,10 @@ knows_nothing plans pids actors came d none = record {
 -- so a runner that knows nothing of any desk
 pub fresh_knows : (r : Runner) (d : ShardState) → IsFresh r → RunnerKnows r d
 fresh_knows r d fresh = subst (λ n. KnowsOf r.script.now.processes r.pids.items r.actors.items r.came.items n d) (sym fresh.unread) (knows_nothing r.script.now.processes r.pids.items r.actors.items r.came.items d fresh.unmarked)
+
+-- and so it stays however the desk goes on
+pub runner_knows_later : (r : Runner) (old new : ShardState) → Extends old new → RunnerKnows r old → RunnerKnows r new
+runner_knows_later r old new e k = knows_later r.script.now.processes r.pids.items r.actors.items r.came.items r.read old new e k
 
 -- what a runner that attends a desk knows of it, where it has read no more than there is
 pub attends_knows : (r : Runner) (d : ShardState) → r.read ≤ length d.journal → RunnerAttends r d → RunnerKnows r d

@@ -3,7 +3,7 @@ use Rattle.std.specs.Prelude.{◌≡◌, ◌⊎◌, ℕ, ℤ, zero, suc, ◌+◌
 use Rattle.std.specs.Prelude.{◌∷◌, ◌++◌, length, map, min, slice_index_or, slice_set, Option, Some, None, Result, Ok}
 use Rattle.std.specs.Prelude.{Err}
 use Rattle.std.specs.Bool.{then_some}
-use Rattle.std.specs.List.{filter}
+use Rattle.std.specs.List.{filter, find}
 use Rattle.std.specs.Option.{option_map}
 use Rattle.pt_signal.specs.declared.ids.Ref.{Ref}
 use Rattle.pt_signal.specs.declared.item.Item.{Item}
@@ -11,6 +11,7 @@ use Rattle.pt_signal.specs.declared.item.Pick.{Pick}
 use Rattle.pt_signal.specs.declared.pid.Pid.{Pid}
 use Rattle.pt_signal.specs.declared.reason.Reason.TheVariants.{Normal, Other}
 use Rattle.pt_signal.specs.declared.signal.Signal.{Signal}
+use Rattle.pt_signal.specs.Values.{same_pid}
 use Rattle.pt_events.specs.declared.event.Event.{Event}
 use Rattle.pt_events.specs.declared.event.Event.TheVariants.{Said, Flag, Left}
 use Rattle.pt_shard.specs.declared.fault.Fault.{Fault}
@@ -71,9 +72,13 @@ acting a = record {
 abbrev pub table : Runner → PidTable
 table r = record { plans = r.script.now.processes; pids = r.pids.items; actors = map acting r.actors.items }
 
--- where it is in its list
-abbrev pub place_of : Actor → Place
+-- where a process is in its list
+abbrev pub place_of : Acting → Place
 place_of a = record { begins = a.begins; done = a.done; refused = a.refused }
+
+-- where the process p is in its list, if it was born here
+abbrev pub place_listed : PidTable → Pid → Option Place
+place_listed t p = option_map place_of (find (λ (a : Acting). same_pid a.pid p) t.actors)
 
 abbrev pub plan_at : List Plan → ℕ → Plan
 plan_at plans process = slice_index_or plans process (record { trap = false; operations = [] })

@@ -1,6 +1,6 @@
 //! The operations of a process, as calls of its desk.
 
-#![tactic(auto, using(pt_node::proofs::GoingOn::stays))]
+#![tactic(auto, using(pt_workers::proofs::GoingOn::stays))]
 
 ghost use Rattle.std.specs.Prelude.{◌≡◌, ◌≢◌, ℕ, Bool, ◌+◌, ◌<◌, ◌++◌, true, Some, IfSome, vec_len, vec_capacity};
 ghost use Rattle.pt_signal.specs.declared.signal.Signal.{Signal};
@@ -18,23 +18,23 @@ ghost use Rattle.pt_runner.specs.Acting.{Performs, came_of};
 use pt_node::{Body, Desk, Fault, Pick, Pid, Reason, Ref};
 use pt_script::{Operation, Pattern};
 
-/// What came of an operation.
+/// What an operation did.
 #[derive(Clone, Copy, Debug, PartialEq, Eq)]
 pub(crate) enum Progress {
-    /// It is done, or passed over.
+    /// It is done, or skipped.
     Done,
-    /// No item fits: it is tried again once one may.
+    /// No item matches: it is tried again once one may.
     Waits,
-    /// It is refused for memory or at the clock's limit, and is to be tried again.
+    /// It failed for want of memory or at the clock's limit, and is to be tried again.
     Stays,
-    /// It is refused, and its process is to end with this reason.
+    /// It failed, and its process is to exit with this reason.
     Ends(Reason),
 }
 
 /// The references that the monitors and asks of a process got, by tag.
 pub(crate) type References = Vec<Option<Ref>>;
 
-/// What came of an operation, by the answer to its call.
+/// What an operation did, by the answer to its call.
 pub(crate) fn progress_of<T: Drop>(answer: Result<T, Fault>) -> Progress
     ensures { result ≡ came_of answer }
 {
@@ -66,7 +66,7 @@ fn pid_if(pids: &[Option<Pid>], process: Option<u32>) -> Option<Pid>
     }
 }
 
-/// The pid of a process of the script, where the desk knows it.
+/// The pid of a process of the script, if the desk knows it.
 fn target(desk: &Desk, pids: &[Option<Pid>], process: u32) -> Option<Pid>
     ensures known { IfSome result (λ p. knows desk.now.shard p ≡ true) }
     ensures target { result ≡ spec.target_of desk.now.shard pids.now process }
@@ -158,7 +158,7 @@ fn send(
     progress_of(desk.send(p, to, Body { kind, num, who }))
 }
 
-/// Takes an item that fits, if there is one.
+/// Takes a matching item, if there is one.
 fn check(
     desk: &mut Desk,
     pids: &[Option<Pid>],
@@ -213,7 +213,7 @@ fn exit_signal(desk: &mut Desk, pids: &[Option<Pid>], p: Pid, to: u32, reason: R
     }
 }
 
-/// Notes what the next tag stands for by the answer: a reference, or nothing where the operation is passed over.
+/// Notes the next tag by the answer: a reference, or nothing if the operation is skipped.
 fn note(references: &mut References, answer: Result<Ref, Fault>)
     requires { vec_len references.old < vec_capacity references.old }
     ensures { references.new.items ≡ references.old.items ++ spec.ref_got answer }

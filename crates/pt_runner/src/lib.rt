@@ -3,56 +3,58 @@
 //! ```
 //! let script = Script::read(alloc, text)?;
 //! let mut desks = open(alloc, script.config())?;
-//! let runners = Runner::start(alloc, &script, &mut desks)?;    // the processes of the script's list are born
+//! let runners = Runner::start(alloc, &script, &mut desks)?;    // spawns the processes of the script's list
 //! ..                                                           // each desk with its runner, to `run` or `run_single`
 //! ```
 //!
 //! # Steps
 //!
-//! A [`Runner`] is the [`Work`](pt_node::Work) of one desk. In a step each process of the script that lives there does
-//! at most one operation, in order of birth; one that is born in a step starts in the next. A `receive` without an item
-//! that fits is its operation in the next step too, and so is an operation that is refused for memory or at the clock's
-//! limit. Such a `receive` is passed over until a signal has come to its process, which makes no difference but in
-//! time: the runner reads in the desk's journal to whom one came. An operation that is refused as `Full` or as `Myself` ends its process in the same step, with the reason
-//! `other:` and the refusal's number. `"trap":true` is an operation of its own before the others, and a process whose
-//! operations are used up exits with `normal` as its last one.
+//! A [`Runner`] is the [`Work`](pt_node::Work) of one desk. In a step each live process of the script on that desk does
+//! at most one operation, in the order in which they were spawned. A process that is spawned in a step starts in the
+//! next. If no item matches a `receive`, it is the process's operation in the next step too. So is an operation that
+//! fails for want of memory or at the clock's limit. Such a `receive` is skipped until a signal has arrived at its
+//! process, which makes no difference except in time: the runner reads the arrivals in the desk's journal. If an
+//! operation fails with `Full` or `Myself`, its process exits in the same step, with the reason `other:` and the
+//! failure's number. `"trap":true` is an operation of its own before the others. When the operations of a process are
+//! used up, its last one is to exit with `normal`.
 //!
 //! # Names
 //!
-//! An operation speaks of processes by their numbers in the script, and of monitors by their tags. The runner keeps the
-//! pid of each process that the operations of its desk may name, and the reference of each tag of a process. A number
-//! without a pid, a pid that the desk does not know, or a tag without a reference comes on the desks of another node
-//! alone: such an operation is passed over. [`Runner::place`] tells where a process is in its list.
+//! An operation names processes by their numbers in the script, and monitors by their tags. The runner keeps the pid of
+//! each process that the operations of its desk may name, and the reference of each tag of a process. A number is
+//! without a pid, a tag without a reference, or a pid unknown to the desk, only on the desks of another node. Such an
+//! operation is skipped. [`Runner::place`] returns the place of a process in its list.
 //!
-//! A runner works with the desk that it was made for, and with the desk of that number in a resumed node after
-//! [`Runner::begin_again`], which forgets what it read of the journal. It begins again by itself if the journal is
-//! shorter than what it read; a runner that has read no event cannot see that its desk was resumed.
+//! A runner works with the desk that it was made for. After [`Runner::begin_again`], which forgets what it read of the
+//! journal, it works with the desk of that number in a resumed node. It begins again by itself if the journal is
+//! shorter than what it read. A runner that has read no event cannot see that its desk was resumed.
 //!
 //! # Cost
 //!
-//! A step costs the operations that it does, the events that are new in the journal, and a look at a flag for each
-//! process of the script that waits. A birth under a number that has a pid already, and beginning again, have each that
-//! waits try its receive once more. A runner has eight bytes for each slot of its desk; beginning again clears them.
+//! A step costs time for the operations that it does, for new events of the journal, and for a look at a flag for each
+//! waiting process of the script. After a spawn under a number that has a pid already, and after beginning again, each
+//! waiting process tries its receive once more. A runner has eight bytes for each slot of its desk; beginning again
+//! clears them.
 //!
 //! # What is put off
 //!
-//! An operation that is refused for memory or at the clock's limit is tried again in each step. [`Place::refused`] says
-//! how often the next operation of a process was refused so. [`are_idle`] says whether nobody has anything to do.
+//! An operation that fails for want of memory or at the clock's limit is tried again in each step. [`Place::refused`]
+//! says how often the next operation of a process failed so. [`are_idle`] says whether no process has anything to do.
 //!
 //! # What is proved
 //!
-//! - **Starting.** `start` lets the processes of the script be born, each on its desk and in order, and nothing else
-//!   happens. (`Starting`)
-//! - **Refused starts.** It fails with `Full` or `Worn` exactly if the next birth does, and else only for memory.
-//! - **Steps.** In each step each live process does its next operation, in order of birth, and only that.
-//!   (`RunnerDoes`)
-//! - **Operations.** What an operation does is one line a kind. (`Performs`)
+//! - **Starting.** `start` spawns the processes of the script, each on its desk and in order, and nothing else happens.
+//!   (`Starting`)
+//! - **Failed starts.** It fails with `Full` or `Worn` exactly if the next spawn does, and else only for memory.
+//! - **Steps.** In each step each live process does its next operation, in the order in which they were spawned, and
+//!   only that. (`RunnerDoes`)
+//! - **Operations.** Each kind of operation is defined in one line. (`Performs`)
 //! - **Attending.** All this holds if the runner attends its desk: it is new, or has taken each turn of it, or begins
 //!   again. (`RunnerAttends`)
-//! - **Places.** `place` returns where a process is in its list, and how often its next operation was refused for memory
-//!   or at the clock's limit. (`GoesBehind`)
-//! - **Idle runners.** If a runner is idle, each of its processes has ended, or waits for an item that has not come.
-//!   (`AllRest`)
+//! - **Places.** `place` returns the place of a process in its list, and how often its next operation failed for want
+//!   of memory or at the clock's limit. (`GoesBehind`)
+//! - **Idle runners.** If a runner is idle, each of its processes has exited, or waits for an item that has not
+//!   arrived. (`AllRest`)
 #![tactic(auto)]
 
 mod calls;

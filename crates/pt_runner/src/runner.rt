@@ -2,9 +2,7 @@
 
 ghost use Rattle.std.specs.Prelude.{◌≡◌, ◌≢◌, ◌⊎◌, ℕ, Bool, false, ◌<◌, ◌≤◌, ◌+◌, ◌++◌, ◌∷◌, ◌||◌, [], List, None, Some, Ok};
 ghost use Rattle.std.specs.Prelude.{count_by, map, not, slice_index_or, slice_set, true, vec_capacity, vec_len};
-ghost use Rattle.std.specs.List.{All, find, list_all};
-ghost use Rattle.std.specs.Option.{option_map};
-ghost use Rattle.pt_signal.specs.Values.{same_pid};
+ghost use Rattle.std.specs.List.{All, list_all};
 ghost use Rattle.pt_shard.specs.ShardState.{ShardState, lives};
 ghost use Rattle.pt_desk.specs.DeskState.{GoesOn, HasSameEnds};
 ghost use Rattle.pt_script.specs.Plans.{Plan};
@@ -12,7 +10,7 @@ ghost use Rattle.pt_script.specs.declared.values.Operation.{Operation};
 ghost use Rattle.pt_script.specs.declared.values.Pattern.{Pattern};
 ghost use Rattle.pt_runner.specs.declared.runner.Actor.{Actor};
 ghost use Rattle.pt_runner.specs.Acting.{Plays, GoesBehind, ActsAt, RunnerDoes, acting, table, newborn_actor, next_of};
-ghost use Rattle.pt_runner.specs.Acting.{advanced, living, place_of, put_off, with_born, RunnerSpawns};
+ghost use Rattle.pt_runner.specs.Acting.{advanced, living, place_listed, put_off, with_born, RunnerSpawns};
 ghost use Rattle.pt_runner.specs.Stepping.{ProcessesStep, processes_here};
 ghost use Rattle.pt_runner.specs.Waiting.{RunnerAttends, HasSameRest, IsAbreast, IsFresh, IsTrueOf, IsUnmarked, RunnerKnows, RunnerSteps};
 ghost use Rattle.pt_runner.specs.Waiting.{AllRest, idle_runner, marked, rests, sleeps};
@@ -22,7 +20,7 @@ use pt_node::{Desk, Event, Fault, Pid, Reason, Turned, Work};
 use pt_script::{Operation, Pattern, Script};
 use std::alloc::Global;
 
-/// A process of the script that was born on the desk.
+/// A process of the script that was spawned on the desk.
 #[derive(Drop)]
 pub(crate) struct Actor {
     pid: Pid,
@@ -30,17 +28,17 @@ pub(crate) struct Actor {
     process: u32,
     /// Whether trapping exits is its next operation, before those of its list.
     begins: bool,
-    /// How many operations of its list are behind it.
+    /// The number of operations of its list that are done.
     done: usize,
-    /// How often its next operation was refused for memory or at the clock's limit.
+    /// How often its next operation failed for want of memory or at the clock's limit.
     refused: u64,
     references: References,
-    /// Where its last operation was a receive that found nothing, how many events the journal had then.
+    /// If its last operation was a receive that found no item, how many events the journal had then.
     waits: Option<usize>,
 }
 
 impl Actor {
-    /// A process that was born just now.
+    /// A process that was spawned just now.
     pub(crate) fn new(alloc: Global, script: &Script, pid: Pid, process: u32) -> Actor
         ensures acting { acting result ≡ newborn_actor script.now.processes process pid }
         ensures waits { result.waits ≡ None }
@@ -60,7 +58,7 @@ impl Actor {
         }
     }
 
-    /// Whether it waits, and nothing has come to it since.
+    /// Whether it waits, and nothing has arrived for it since.
     fn sleeps(&self, came: &[usize]) -> bool
         ensures { result ≡ sleeps came.now self.now }
     {
@@ -73,21 +71,21 @@ impl Actor {
         }
     }
 
-    /// Whether it has not ended: one that sleeps has not, so the desk is not asked.
+    /// Whether it has not exited. If it sleeps it has not, so the desk is not asked.
     fn remains(&self, came: &[usize], desk: &Desk) -> bool
         ensures { result ≡ (sleeps came.now self.now || lives desk.now.shard self.now.pid) }
     {
         self.sleeps(came) || desk.alive_here(self.pid)
     }
 
-    /// Whether it has ended, or waits and nothing has come to it since.
+    /// Whether it has exited, or waits and nothing has arrived for it since.
     fn rests(&self, came: &[usize], desk: &Desk) -> bool
         ensures { result ≡ (sleeps came.now self.now || not (lives desk.now.shard self.now.pid)) }
     {
         self.sleeps(came) || !desk.alive_here(self.pid)
     }
 
-    /// Its next operation; behind the last one that is its exit.
+    /// Its next operation. After the last one this is its exit.
     fn next(&self, script: &Script) -> Operation
         ensures { result ≡ next_of script.now.processes (acting self.now) }
     {
@@ -103,7 +101,7 @@ impl Actor {
         }
     }
 
-    /// Its next operation is behind it.
+    /// Moves on from its next operation, which is done.
     fn advance(&mut self)
         ensures acting { acting self.new ≡ advanced (acting self.old) }
         ensures waits { self.new.waits ≡ self.old.waits }
@@ -116,7 +114,7 @@ impl Actor {
         }
     }
 
-    /// Its next operation was refused once more, and is to be tried again.
+    /// Notes that its next operation failed once more, and is to be tried again.
     fn put_off(&mut self)
         ensures acting { acting self.new ≡ put_off (acting self.old) }
         ensures waits { self.new.waits ≡ self.old.waits }
@@ -124,7 +122,7 @@ impl Actor {
         self.refused = self.refused.saturating_add(1);
     }
 
-    /// Does a receive: with no item that fits it waits.
+    /// Does a receive: if no item matches, it waits.
     fn receive(&mut self, pids: &[Option<Pid>], pattern: Pattern, desk: &mut Desk)
         ensures plays { Plays pids.now (Operation.Receive pattern) (acting self.old) desk.old.shard (acting self.new)
             desk.new.shard }
@@ -157,7 +155,7 @@ impl Actor {
         self.conclude(progress, desk);
     }
 
-    /// Goes on behind an operation, or ends by its refusal.
+    /// Moves on from an operation, or exits since it failed.
     fn conclude(&mut self, progress: Progress, desk: &mut Desk)
         ensures behind { GoesBehind progress (acting self.old) desk.old.shard (acting self.new) desk.new.shard }
         ensures waits { self.new.waits ≡ None }
@@ -173,7 +171,7 @@ impl Actor {
         }
     }
 
-    /// Ends by the refusal of its operation, or tries that again where its end is refused.
+    /// Exits since its operation failed, or tries that again if its exit fails.
     fn end(&mut self, reason: Reason, desk: &mut Desk)
         ensures behind { GoesBehind (Progress.Ends reason) (acting self.old) desk.old.shard (acting self.new)
             desk.new.shard }
@@ -188,19 +186,19 @@ impl Actor {
     }
 }
 
-/// Where a process of the script is in its list of operations.
+/// The place of a process of the script in its list of operations.
 #[derive(Clone, Copy, Debug, PartialEq, Eq)]
 pub struct Place {
     /// Whether trapping exits is its next operation, before those of its list.
     pub begins: bool,
-    /// How many operations of its list are behind it.
+    /// The number of operations of its list that are done.
     pub done: usize,
-    /// How often its next operation was refused for memory or at the clock's limit, and is tried again: 0 where it was
-    /// not refused, or waits for an item. It stays at `u64::MAX`.
+    /// How often its next operation failed for want of memory or at the clock's limit, and is tried again. It is 0 if
+    /// it did not fail, or waits for an item. It stays at `u64::MAX`.
     pub refused: u64,
 }
 
-/// The process of this number has this pid.
+/// Notes the pid of the process with this number.
 pub(crate) fn put_pid(pids: &mut Vec<Option<Pid>>, process: u32, pid: Pid)
     ensures { pids.new.items ≡ slice_set pids.old.items process (Some pid) }
 {
@@ -217,13 +215,13 @@ pub struct Runner<'a> {
     script: &'a Script,
     /// The pids that operations here may name, by the numbers of their processes.
     pids: Vec<Option<Pid>>,
-    /// The processes of the script that were born on the desk, in order of birth. One that has ended is taken out when
-    /// the next step begins.
+    /// The processes of the script that were spawned on the desk, in that order. An exited one is taken out when the
+    /// next step begins.
     actors: Vec<Actor>,
-    /// How many events of the desk's journal were read.
+    /// The number of events of the desk's journal that were read.
     read: usize,
-    /// For each slot of the desk the place behind the last event that was read by which a signal came to a process of
-    /// that slot, or such a process left.
+    /// For each slot of the desk, the place after the last event read by which a process of that slot got a signal, or
+    /// exited.
     came: Vec<usize>,
 }
 
@@ -255,17 +253,17 @@ impl<'a> Runner<'a> {
     }
 
     /// The pids of the script's processes, by number: of those that the script begins with, and of those that were
-    /// spawned on this desk. Who has ended keeps its own.
+    /// spawned on this desk. An exited process keeps its pid.
     pub fn pids(&self) -> &[Option<Pid>]
         ensures { result.now ≡ (table self.now).pids }
     {
         self.pids.as_slice()
     }
 
-    /// Where the process is in its list, or `None` where it was not born on this desk, or had ended as the last step
-    /// began.
+    /// The place of the process in its list, or `None` if it was not spawned on this desk, or had exited as the last
+    /// step began.
     pub fn place(&self, p: Pid) -> Option<Place>
-        ensures { result ≡ option_map place_of (find (λ a. same_pid a.pid p) self.now.actors.items) }
+        ensures { result ≡ place_listed (table self.now) p }
     {
         for actor in &self.actors {
             if actor.pid == p {
@@ -279,9 +277,10 @@ impl<'a> Runner<'a> {
         None
     }
 
-    /// How many of its processes are alive.
+    /// The number of its processes that are alive.
+    #[tactic(auto, using(crate::proofs::Finding::counted_here))]
     pub fn alive(&self, desk: &Desk) -> usize
-        ensures { result ≡ count_by (λ a. lives desk.now.shard a.pid) self.now.actors.items }
+        ensures { result ≡ count_by (lives desk.now.shard) (processes_here self.now) }
     {
         self.actors
             .iter()
@@ -289,8 +288,8 @@ impl<'a> Runner<'a> {
             .count()
     }
 
-    /// Whether all that happened on its desk was read, and each of its processes has ended, or waits for an item and
-    /// had nothing come to it since. Then a step of a runner that knows its desk does nothing.
+    /// Whether all that happened on its desk was read, and each of its processes has exited, or waits for an item and
+    /// got nothing since. Then a step of a runner that knows its desk does nothing.
     pub fn is_idle(&self, desk: &Desk) -> bool
         ensures idle { result ≡ idle_runner self.now desk.now.shard }
         ensures rests { result ≡ true → RunnerKnows self.now desk.now.shard → AllRest self.now desk.now.shard }
@@ -305,12 +304,12 @@ impl<'a> Runner<'a> {
         self.actors.iter().all(|actor| actor.rests(came, desk))
     }
 
-    /// Resumes over the desk of the same number in a node that was resumed: it forgets what it read of a journal, and
-    /// lets every process that waits try its receive again, since what came to them while the node was settled is in no
-    /// journal that is left.
+    /// Continues over the desk of the same number in a node that was resumed. It forgets what it read of a journal, and
+    /// lets every waiting process try its receive again. For no journal that is left has what they got while the node
+    /// was settled.
     ///
-    /// The place of each process in its list stays, and so do the pids. It costs the number of its processes, and of the
-    /// slots of the desk; it never fails.
+    /// The place of each process in its list stays, and so do the pids. It costs time for each of its processes and
+    /// each slot of the desk. It never fails.
     pub fn begin_again(&mut self)
         ensures table { table self.new ≡ table self.old }
         ensures fresh { IsFresh self.new }
@@ -322,7 +321,7 @@ impl<'a> Runner<'a> {
         self.read = 0;
     }
 
-    /// Lets every process that waits try its receive again.
+    /// Lets every waiting process try its receive again.
     fn wake_all(&mut self)
         ensures table { table self.new ≡ table self.old }
         ensures unmarked { All IsUnmarked self.new.actors.items }
@@ -335,7 +334,7 @@ impl<'a> Runner<'a> {
         }
     }
 
-    /// Forgets what it read where the desk has a shorter journal, as over a node that was resumed.
+    /// Forgets what it read if the desk has a shorter journal, as after its node was resumed.
     fn begin(&mut self, desk: &Desk)
         ensures table { table self.new ≡ table self.old }
         ensures knows { RunnerAttends self.old desk.now.shard → RunnerKnows self.new desk.now.shard }
@@ -359,7 +358,7 @@ impl<'a> Runner<'a> {
         }
     }
 
-    /// Takes out the processes that have ended.
+    /// Takes out the exited processes.
     fn bury(&mut self, desk: &Desk)
         ensures table { IsAbreast self.old desk.now.shard → table self.new ≡ living desk.now.shard (table self.old) }
         ensures abreast { IsAbreast self.old desk.now.shard → IsAbreast self.new desk.now.shard }
@@ -368,7 +367,7 @@ impl<'a> Runner<'a> {
         self.actors.retain(|actor| actor.remains(came, desk));
     }
 
-    /// Does the next operation of the process at this index, unless it is a receive that nothing came to.
+    /// Does the next operation of the process at this index, unless it is a receive and nothing has arrived for it.
     fn act(&mut self, index: usize, desk: &mut Desk)
         requires { index < vec_len self.old.actors }
         ensures acts { IsAbreast self.old desk.old.shard
@@ -404,7 +403,7 @@ impl<'a> Runner<'a> {
         }
     }
 
-    /// Spawns a process, whose first operation comes in the next step.
+    /// Spawns a process. Its first operation comes in the next step.
     fn spawn(&mut self, index: usize, process: u32, linked: bool, desk: &mut Desk)
         requires { index < vec_len self.old.actors }
         ensures spawns { RunnerSpawns process linked index (table self.old) desk.old.shard (table self.new) desk.new.shard }
@@ -423,7 +422,7 @@ impl<'a> Runner<'a> {
         self.actors[index].conclude(progress_of(answer), desk);
     }
 
-    /// Lists the process that was born, if one was.
+    /// Lists the process that was spawned, if one was.
     fn enter(&mut self, process: u32, answer: Result<Pid, Fault>)
         requires { vec_len self.old.actors < vec_capacity self.old.actors }
         ensures table { table self.new ≡ with_born process answer (table self.old) }
@@ -439,7 +438,7 @@ impl<'a> Runner<'a> {
         }
     }
 
-    /// Lets every process that waits try its receive again, where this number has a pid already: a receive may name it.
+    /// Lets every waiting process try its receive again, if this number has a pid already: a receive may name it.
     fn free(&mut self, process: u32)
         ensures table { table self.new ≡ table self.old }
         ensures free { (slice_index_or self.old.pids.items process None ≡ None) × (self.new ≡ self.old)
@@ -468,7 +467,7 @@ impl<'a> Runner<'a> {
     }
 }
 
-/// Notes the place behind an event at the slot of the process to which a signal came by it, or which left.
+/// Notes the place after an event at the slot of the process that got a signal by it, or exited by it.
 fn note(came: &mut Vec<usize>, event: Event, place: usize)
     ensures { came.new.items ≡ marked event place came.old.items }
 {

@@ -1,10 +1,10 @@
-//! How the work of a script begins.
+//! Starting the work of a script.
 
 ghost use Rattle.std.specs.Prelude.{◌≡◌, ◌≤◌, None, IfOk, length, vec_len};
 ghost use Rattle.pt_shard.specs.Calls.{Bears};
 ghost use Rattle.pt_script.specs.Nodes.{config_of};
 ghost use Rattle.pt_desk.specs.DeskState.{GoesOn, IsDesk};
-ghost use Rattle.pt_node.specs.Desks.{AreDesksOf};
+ghost use Rattle.pt_workers.specs.Desks.{AreDesksOf};
 ghost use Rattle.pt_node.specs.Opening.{AreFresh};
 ghost use Rattle.pt_runner.specs.Starting.{Starts, BearsList, AreRunners, IsRunnerOf, numbered_pids};
 
@@ -14,15 +14,15 @@ use pt_script::Script;
 use std::alloc::{AllocError, Global};
 
 impl<'a> Runner<'a> {
-    /// Lets the processes that the script begins with be born, in its order, and gives one runner a desk, in their
+    /// Spawns the processes that the script begins with, in its order, and returns one runner for each desk, in their
     /// order.
     ///
-    /// A runner has the processes that were born on its desk, in that order, each at the first operation of its list
-    /// and with no reference yet, and it knows the pids of all that were born.
+    /// A runner has the processes that were spawned on its desk, in that order. Each is at the first operation of its
+    /// list, and has no reference yet. The runner knows the pids of all that were spawned.
     ///
-    /// The desks are those that `open` gave for the script's `config`, in order. Refused as `Full` where the desk of
-    /// the next process has no free slot, as `Worn` where its clock is at its limit, else as `Memory`, for a process or
-    /// for the runners: the processes that were born before stay.
+    /// The desks must be those that `open` returned for the script's `config`, in order. Fails with `Full` if the desk
+    /// of the next process has no free slot, and with `Worn` if its clock is at its limit. Else it fails with `Memory`
+    /// if there is none, for a process or for the runners. The processes that were spawned before stay.
     #[tactic(auto, using(crate::proofs::Starting::refused_as, crate::proofs::Starting::no_runners))]
     pub fn start(
         alloc: Global,
@@ -40,7 +40,7 @@ impl<'a> Runner<'a> {
     }
 }
 
-/// Lets the processes of the script's list be born, and gives their pids in its order.
+/// Spawns the processes of the script's list, and returns their pids in its order.
 fn bear(alloc: Global, script: &Script, desks: &mut [Desk]) -> Result<Vec<Pid>, Fault>
     requires { AreFresh (config_of script.now.settings) desks.old }
     ensures desks { AreDesksOf (config_of script.now.settings) desks.new }
@@ -55,7 +55,7 @@ fn bear(alloc: Global, script: &Script, desks: &mut [Desk]) -> Result<Vec<Pid>, 
     Ok(born)
 }
 
-/// Lets a process be born on a desk, of which then all holds that holds of every desk, also where it refuses.
+/// Spawns a process on a desk. All that holds for every desk holds for it then, also if this fails.
 fn bear_on(desk: &mut Desk) -> Result<Pid, Fault>
     ensures does { Bears None None desk.old.shard result desk.new.shard }
     ensures here { IfOk result (λ p. p.shard ≡ desk.new.shard.number) }

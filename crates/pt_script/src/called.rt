@@ -1,4 +1,4 @@
-//! What the processes of a script are called. Nothing that a script does depends on it.
+//! The names of a script's processes. Nothing that a script does depends on them.
 
 ghost use Rattle.std.specs.Prelude.{◌≡◌, [], ◌++◌, IfOk, OnOk, if◌then◌else◌, map, string_bytes};
 ghost use Rattle.serde_json.specs.View.{view};
@@ -12,8 +12,8 @@ use crate::operation::is_spawn;
 use serde_json::Value;
 use std::alloc::{AllocError, Global};
 
-/// The names of a script's processes, by number, as its bytes have them. A process that has none in the text has an
-/// empty one, and bytes that no value is read of have no processes; neither is so of a script that is accepted.
+/// The names of a script's processes, by number, as its bytes have them. A process without a name in the text has an
+/// empty one, and bytes that are no JSON have no processes. Neither happens with a script that is accepted.
 pub fn process_names(alloc: Global, bytes: &[u8]) -> Result<Vec<String>, AllocError>
     ensures { IfOk result (λ names. map string_bytes names.items ≡ spec.names_in bytes.now) }
 {
@@ -106,7 +106,7 @@ fn name_spawn(
     }
 }
 
-/// The name of a process; empty where it has none.
+/// The name of a process; empty if it has none.
 fn name_of(alloc: Global, value: &Value) -> Result<String, AllocError>
     ensures { IfOk result (λ name. string_bytes name ≡ spec.name_of (view value.now)) }
 {

@@ -8,7 +8,7 @@ use crate::values::Top;
 use std::alloc::{AllocError, Global};
 use std::marker::Model;
 
-/// The processes that a script begins with. How many a desk has is known without looking at them all.
+/// The processes that a script begins with. The number of those of a desk is known without looking at them all.
 #[derive(Drop)]
 pub(crate) struct Crowd {
     tops: Vec<Top>,
@@ -39,7 +39,7 @@ impl Crowd {
         }
     }
 
-    /// How many processes the desk has.
+    /// The number of processes of the desk.
     pub(crate) fn count(&self, desk: u8) -> u32
         requires { desk < MAX_DESKS }
         ensures { result ≡ count_by (λ t. t.desk == desk) self.now }
@@ -47,7 +47,7 @@ impl Crowd {
         self.counts[desk as usize]
     }
 
-    /// One process more.
+    /// Adds a process.
     pub(crate) fn push(&mut self, top: Top) -> Result<(), AllocError>
         requires desk { top.desk < MAX_DESKS }
         requires room { count_by (λ t. t.desk == top.desk) self.old < MAX_SLOTS }

@@ -30,7 +30,7 @@ pub(crate) fn of_process(fault: Fault, process: u32) -> ScriptError
     ScriptError::Refused { fault, place }
 }
 
-/// How many processes a process and the spawns within it begin, whatever is wrong in them.
+/// The number of processes that a process and the spawns within it begin, even if something is wrong in them.
 #[cycle(begun)]
 fn begun(value: &Value, levels: u32) -> u32
     ensures { result ≡ min (spec.begun_in levels (view value.now)) 4294967295 }
@@ -44,7 +44,7 @@ fn begun(value: &Value, levels: u32) -> u32
     }
 }
 
-/// How many processes the spawns in a list begin.
+/// The number of processes that the spawns in a list begin.
 #[cycle(begun)]
 fn begun_within(list: &[Value], levels: u32) -> u32
     ensures { result ≡ min (spec.spawned_by (spec.begun_in levels) (map view list.now)) 4294967295 }
@@ -56,7 +56,7 @@ fn begun_within(list: &[Value], levels: u32) -> u32
     count
 }
 
-/// How many processes an operation begins.
+/// The number of processes that an operation begins.
 #[cycle(begun)]
 fn begun_by(op: &Value, levels: u32) -> u32
     ensures { result ≡ min (if spec_is_spawn (view op.now) then spec.begun_in levels (view op.now) else 0) 4294967295 }
@@ -64,7 +64,7 @@ fn begun_by(op: &Value, levels: u32) -> u32
     if is_spawn(op) { begun(op, levels) } else { 0 }
 }
 
-/// What a top-level process says, its operations apart.
+/// What a top-level process says, without its operations.
 #[derive(Clone, Copy)]
 struct Head<'a> {
     name: &'a str,
@@ -79,7 +79,7 @@ pub(crate) struct Pending<'a> {
     pub(crate) value: &'a Value,
 }
 
-/// What the heads so far settle.
+/// What is known by the heads so far.
 #[derive(Drop)]
 pub(crate) struct Heads<'a> {
     pub(crate) names: Names<'a>,
@@ -116,7 +116,7 @@ impl<'a> Heads<'a> {
         Ok(name)
     }
 
-    /// Refuses a process more than the desk has slots.
+    /// Fails if there is one process more than the desk has slots.
     fn room(&self, settings: &Settings, desk: u8) -> Result<(), Fault>
         requires { desk < MAX_DESKS }
         ensures room { result ≡ spec.room settings.now self.now.tops desk }

@@ -9,7 +9,7 @@ use crate::limits::{
     MAX_FORMAT, MAX_LANE, MAX_NAME, MAX_NESTING, MAX_OPERATIONS, MAX_PROCESSES, MAX_SLOTS,
 };
 
-/// The limits of formats 1 and 2, as numbers: the format's definition cites them by their names alone.
+/// The limits of formats 1 and 2, as numbers. The format's definition cites them by name only.
 pub fn limits_stand()
     ensures format { MAX_FORMAT ≡ 2 }
     ensures desks { MAX_DESKS ≡ 64 }
@@ -24,17 +24,17 @@ pub fn limits_stand()
     ensures name { MAX_NAME ≡ 32 }
 {}
 
-/// What stands where a script of either format does not say it: 1,024 slots, lanes of 64 letters, and turns of 16. The
-/// default of the top version, 4,294,967,295, stands as a number in the format's definition.
+/// The defaults of both formats: 1,024 slots, lanes of 64 letters, and turns of 16. The default of the top version,
+/// 4,294,967,295, is a number in the format's definition.
 pub fn defaults_stand()
     ensures slots { DEFAULT_SLOTS ≡ 1024 }
     ensures lane { DEFAULT_LANE ≡ 64 }
     ensures budget { DEFAULT_BUDGET ≡ 16 }
 {}
 
-/// In every script that is accepted, each number of a process is below the number of processes, each tag was made
-/// by an earlier operation of its list, each desk is one of the node's, the settings are in their ranges, and there
-/// are at most 4,096 processes and 65,536 operations.
+/// In every script that is accepted, each process number is below the number of processes, and each tag was made by an
+/// earlier operation of its list. Each desk is one of the node's, and the settings are in their ranges. There are at
+/// most 4,096 processes and 65,536 operations.
 pub fn accepted_scripts_are_sound()
     ensures { AcceptedAreSound }
 {}
@@ -44,39 +44,39 @@ pub fn reasons_are_read_as_printed()
     ensures { ReasonsAsPrinted }
 {}
 
-/// The process that the place of a fault names is one of the text, and so is the operation: processes are counted in
-/// the order in which they begin, whatever is wrong in them, and operations in the list of their process.
+/// The place of a fault names a process of the text, and an operation of the text. Processes are counted in the order
+/// in which they begin, even if something is wrong in them, and operations in the list of their process.
 pub fn faults_have_places()
     ensures { FaultsHavePlaces }
 {}
 
-/// In every script that is accepted, the number of a process is its place in the text: the script has one process for
-/// each of the text, with as many operations, each spawn has the number of the process that it spawns, and each process
+/// In every script that is accepted, the number of a process is its place in the text. The script has one process for
+/// each of the text, with as many operations. Each spawn has the number of the process that it spawns, and each process
 /// of the script's list has its own.
 pub fn numbers_are_places()
     ensures { NumbersArePlaces }
 {}
 
-/// The name of a process of the script's list stands for that process, by its place in the text.
+/// The name of a process of the script's list means that process, by its place in the text.
 pub fn names_are_places()
     ensures { NamesArePlaces }
 {}
 
-/// Whatever can be said in a scope is read as it is written there: each operation but a spawn, with numbers in their
-/// ranges and with processes and tags by names that are theirs in the scope.
+/// Every operation except a spawn is read as it is written in its scope. Its numbers must be in their ranges, and its
+/// processes and tags must have names of the scope.
 pub fn operations_read_back()
     ensures { OperationsReadBack }
 {}
 
-/// Every script that is well formed is read back from the value that is written of it, and from each text of that value
-/// of at most 1,048,576 bytes: processes numbered in the order in which they begin, however deep their spawns nest,
-/// each operation naming what is in sight where it stands, and the limits kept.
+/// Every well-formed script is read back from the value that is written of it, and from each text of that value of at
+/// most 1,048,576 bytes. A well-formed script keeps the limits, and each operation names what is in its scope. Its
+/// processes are numbered in the order in which they begin, however deep their spawns nest.
 pub fn scripts_read_back()
     ensures { ScriptsReadBack }
 {}
 
-/// Every script that is accepted is well formed, and is read back from the value that is written of it: to be well
-/// formed asks no more than the format does.
+/// Every script that is accepted is well formed, and is read back from the value that is written of it. So a
+/// well-formed script meets no more conditions than the format has.
 pub fn accepted_scripts_read_back()
     ensures { AcceptedReadBack }
 {}

@@ -1,10 +1,9 @@
 //! Scripts: what the processes of a node do, as one JSON text.
 //!
-//! `Script::read` takes a text and gives the script that it describes, or the first fault in it with its place.
-//! A script is plain data without names: each process has a number, by the order in which the processes begin in
-//! the text, and operations speak of processes by these numbers. [`process_names`] gives the names, for those who show
-//! them. What holds of every script stands in [`laws`].
-//! The format is that of `docs/SCRIPTS.md`.
+//! `Script::read` takes a text and returns the script that it describes, or the first fault in it with its place. A
+//! script is plain data without names. Each process has a number, by the order in which the processes begin in the
+//! text, and operations name processes by these numbers. [`process_names`] returns the names, for programs that show
+//! them. [`laws`] says what holds for every script. The format is that of `docs/SCRIPTS.md`.
 //!
 //! # What is proved
 //!

@@ -1,7 +1,7 @@
-//! The limits of the format, and what stands where a setting is missing.
+//! The limits of the format, and the defaults of its settings.
 //!
-//! Reading a script takes no node, so the limits of a node's settings are the format's own here: where they equal those
-//! of a node, which `Script::config` proves that they fit, they repeat them.
+//! Reading a script needs no node, so the limits of a node's settings are the format's own here. Some repeat those of a
+//! node, and `Script::config` proves that they fit.
 
 /// The most bytes of a script's text.
 pub const MAX_BYTES: usize = 1_048_576;
@@ -15,19 +15,19 @@ pub const MAX_DESKS: usize = 64;
 /// The most slots of a desk.
 pub const MAX_SLOTS: u64 = 65_536;
 
-/// How many slots a desk has where a script does not say it.
+/// The number of slots of a desk, if a script does not say it.
 pub const DEFAULT_SLOTS: u64 = 1024;
 
 /// The most letters that a lane holds.
 pub const MAX_LANE: u64 = 65_536;
 
-/// How many letters a lane holds where a script does not say it.
+/// The number of letters that a lane holds, if a script does not say it.
 pub const DEFAULT_LANE: u64 = 64;
 
 /// The most letters that a turn handles.
 pub const MAX_BUDGET: u64 = 65_536;
 
-/// How many letters a turn handles where a script does not say it.
+/// The number of letters that a turn handles, if a script does not say it.
 pub const DEFAULT_BUDGET: u64 = 16;
 
 /// The most processes of a script.
@@ -39,7 +39,7 @@ pub const MAX_OPERATIONS: u32 = 65_536;
 /// The most spawns around an operation.
 pub const MAX_DEPTH: u32 = 8;
 
-/// The most spawns around a value, in whatever text is JSON: no text nests deeper.
+/// The most spawns around a value in any JSON text: no text nests deeper.
 pub const MAX_NESTING: u32 = 63;
 
 /// The most bytes of a name or a tag.

@@ -35,7 +35,7 @@ fn at_operation(process: u32, op: u32) -> Place
     }
 }
 
-/// Refuses one process too many, one operation too many, and a spawn inside too many others.
+/// Fails at one process too many, at one operation too many, and at a spawn inside too many others.
 fn limits(spawns: bool, place: Place, levels: u32, next: u32, seen: u32) -> Result<(), ScriptError>
     ensures { result ≡ spec.limits spawns place levels next seen }
 {
@@ -140,7 +140,7 @@ fn read_operation<'a>(
     }
 }
 
-/// Reads a spawn and its operations, where that many spawns may stand inside it.
+/// Reads a spawn and its operations, with at most so many levels of spawns inside it.
 #[cycle(lists)]
 fn read_spawn<'a>(
     alloc: Global,

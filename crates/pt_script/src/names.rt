@@ -1,4 +1,4 @@
-//! Names of processes and tags of monitors, and what each stands for.
+//! Names of processes and tags of monitors, and what each means.
 
 ghost use Rattle.std.specs.Prelude.{◌≡◌, ◌++◌, [], None, Some, List, ℕ, OnOk, codes, ◌<◌, length};
 ghost use Rattle.std.specs.Str.{bytes_eq};
@@ -10,7 +10,7 @@ use crate::limits::MAX_NAME;
 use std::alloc::{AllocError, Global};
 use std::collections::HashMap;
 
-/// What each name in a scope stands for.
+/// What each name in a scope means.
 #[derive(Drop)]
 pub(crate) struct Names<'a> {
     numbers: HashMap<&'a str, u32>,
@@ -26,14 +26,14 @@ impl<'a> Names<'a> {
         }
     }
 
-    /// What the name stands for.
+    /// The number that the name means.
     pub(crate) fn find(&self, name: &str) -> Option<u32>
         ensures { result ≡ spec.naming self.now name.now }
     {
         self.numbers.get(name).copied()
     }
 
-    /// Lets the name stand for the number from now on.
+    /// Gives the name this number from now on.
     pub(crate) fn add(&mut self, name: &'a str, number: u32) -> Result<(), AllocError>
         ensures { OnOk result
             (spec.naming self.new ≡ λ q. update bytes_eq (spec.naming self.old) name.now (Some number) q) }
@@ -91,7 +91,7 @@ fn is_name_byte(byte: u8) -> bool
     is_letter(byte) || is_digit(byte) || byte == b'_'
 }
 
-/// Whether a process may be given the text for its name.
+/// Whether a process may have this text as its name.
 pub(crate) fn is_own_name(text: &str) -> bool
     ensures { result ≡ spec.is_own_name text.now }
 {

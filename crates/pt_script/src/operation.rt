@@ -1,4 +1,4 @@
-//! One operation, in the scope that it stands in.
+//! One operation, in its scope.
 
 ghost use Rattle.std.specs.Prelude.{◌≡◌, map, option_map, None, codes};
 ghost use Rattle.std.specs.List.{list_all};
@@ -33,7 +33,7 @@ pub(crate) struct Scope<'a, 'b> {
     pub(crate) monitors: Names<'a>,
     /// The tags of the asks that earlier operations of the list made.
     pub(crate) asks: Names<'a>,
-    /// How many tags those are together.
+    /// The number of all these tags.
     pub(crate) made: u32,
 }
 
@@ -45,7 +45,7 @@ impl Scope<'_, '_> {
         2 <= self.format
     }
 
-    /// The number of the tag that a text is.
+    /// The number of the tag with this name.
     fn tag(&self, name: &str) -> Option<u32>
         ensures { result ≡ tag_in (scope_view self.now) name.now }
     {
@@ -55,7 +55,7 @@ impl Scope<'_, '_> {
         }
     }
 
-    /// The number of the process that a name stands for.
+    /// The number of the process with this name.
     pub(crate) fn process(&self, name: &str) -> Option<u32>
         ensures { result ≡ process_in (scope_view self.now) name.now }
     {
@@ -72,7 +72,7 @@ impl Scope<'_, '_> {
     }
 }
 
-/// What a spawn says of the process that it spawns, without its operations.
+/// What a spawn says of its process, without the operations.
 #[derive(Clone, Copy)]
 pub(crate) struct Spawned<'a> {
     pub(crate) name: &'a str,
@@ -81,7 +81,7 @@ pub(crate) struct Spawned<'a> {
     pub(crate) list: &'a Vec<Value>,
 }
 
-/// Whether it is an object whose `op` is `spawn`, whatever else it holds.
+/// Whether it is an object with the `op` `spawn`, and any other members.
 pub(crate) fn is_spawn(value: &Value) -> bool
     ensures { result ≡ spec.is_spawn (view value.now) }
 {
@@ -224,7 +224,7 @@ fn pattern(scope: &Scope<'_, '_>, member: Option<&Value>) -> Result<Pattern, Fau
     }
 }
 
-/// Refuses a member that no pick has; format 1 does not know `alive`.
+/// Fails if the value has a member that no pick has. Format 1 does not know `alive`.
 fn known_pick(scope: &Scope<'_, '_>, value: &Value) -> Result<(), Fault>
     ensures { result ≡ members.known_members (spec.pick_members (can_ask (scope_view scope.now))) (view value.now) }
 {
@@ -372,7 +372,7 @@ pub(crate) fn tagged<'a>(scope: &Scope<'_, '_>, value: &'a Value) -> Result<(u32
     Ok((to, tag))
 }
 
-/// What a spawn says, its operations apart.
+/// What a spawn says, without its operations.
 #[tactic(auto, unfolding(crate::specs::Operations::spawn))]
 pub(crate) fn spawned_by<'a>(scope: &Scope<'_, '_>, value: &'a Value) -> Result<Spawned<'a>, Fault>
     ensures { ReadingGives (λ c. record {
@@ -402,7 +402,7 @@ pub(crate) fn op_of(value: &Value) -> Result<&str, Fault>
     text(value.get("op"))
 }
 
-/// An operation that makes no name: no spawn, monitor or ask.
+/// An operation that makes no name: any but spawn, monitor and ask.
 #[tactic(auto, unfolding(crate::specs::Operations::plain))]
 pub(crate) fn plain(scope: &Scope<'_, '_>, op: &str, value: &Value) -> Result<Operation, Fault>
     ensures { result ≡ spec.plain (scope_view scope.now) op.now (view value.now) }

@@ -69,7 +69,7 @@ fn settings_of(value: &Value) -> Result<Settings, Fault>
     })
 }
 
-/// Reads the operations of one process more.
+/// Reads the operations of one more process.
 #[tactic(auto, unfolding(crate::specs::Scripts::next_list))]
 fn read_pending<'a>(
     alloc: Global,
@@ -132,8 +132,8 @@ fn script_of(alloc: Global, value: &Value) -> Result<Script, ScriptError>
 }
 
 impl Script {
-    /// Reads a script: the one that the text is, or else the first fault in it and its place, or `Memory` where
-    /// memory ran out before either was known. A text of more than 1,048,576 bytes is `Bounds`.
+    /// Reads a script from its text. Fails with the first fault in it and its place, or with `Memory` if memory ran out
+    /// before either was known. The fault is `Bounds` if the text has more than 1,048,576 bytes.
     #[tactic(auto, unfolding(crate::specs::Scripts::reading))]
     pub fn read(alloc: Global, text: &str) -> Result<Script, ScriptError>
         ensures { spec.Reads result (spec.reading text.now) }
@@ -141,7 +141,7 @@ impl Script {
         Script::from_bytes(alloc, text.as_bytes())
     }
 
-    /// Reads a script from bytes, as `read` does. Bytes that are no UTF-8 are `Syntax`.
+    /// Reads a script from bytes, as `read` does. The fault is `Syntax` if the bytes are no UTF-8.
     #[tactic(auto, unfolding(crate::specs::Scripts::reading))]
     pub fn from_bytes(alloc: Global, bytes: &[u8]) -> Result<Script, ScriptError>
         ensures { spec.Reads result (spec.reading bytes.now) }

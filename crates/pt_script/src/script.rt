@@ -9,7 +9,7 @@ use crate::values::{Operation, Settings, Top};
 use pt_signal::Config;
 use std::marker::Model;
 
-/// What a process does.
+/// What a process of a script does.
 #[derive(Debug, Drop)]
 pub struct Process {
     trap: bool,
@@ -47,7 +47,7 @@ impl Process {
     }
 }
 
-/// What the processes of a node do.
+/// A script: what the processes of a node do.
 #[derive(Debug, Drop)]
 pub struct Script {
     settings: Settings,
@@ -105,7 +105,7 @@ impl Script {
         }
     }
 
-    /// How many letters each turn of a desk may handle.
+    /// The number of letters that each turn of a desk may handle.
     pub fn budget(&self) -> u32
         ensures budget { result ≡ self.now.settings.budget }
         ensures sound { IsSoundScript self.now }

@@ -1,4 +1,4 @@
-//! The plain values of which a script is made.
+//! The plain values that make up a script.
 
 use pt_signal::Reason;
 
@@ -7,19 +7,19 @@ use pt_signal::Reason;
 pub struct Settings {
     /// The script's format, 1 or 2. From 2 on a process can ask whether another is alive.
     pub format: u8,
-    /// How many desks the node has, 1 to 64.
+    /// The number of desks of the node, 1 to 64.
     pub desks: u8,
-    /// How many slots each desk has, 1 to 65,536.
+    /// The number of slots of each desk, 1 to 65,536.
     pub slots: u32,
     /// The last version of a slot, 1 or more.
     pub top_version: u32,
-    /// How many letters a lane holds, 1 to 65,536.
+    /// The number of letters that a lane holds, 1 to 65,536.
     pub lane: u32,
-    /// How many letters a turn handles at most, 1 to 65,536.
+    /// The most letters that a turn handles, 1 to 65,536.
     pub budget: u32,
 }
 
-/// Which items a `receive` takes. A process is named by its number in the script, a tag by its number among the tags
+/// The items that a `receive` takes. A process is named by its number in the script, a tag by its number among the tags
 /// of its list.
 #[derive(Clone, Copy, Debug, PartialEq, Eq)]
 pub enum Pattern {
@@ -61,7 +61,7 @@ pub enum Operation {
         to: u32,
         tag: u32,
     },
-    /// End the monitor with this tag.
+    /// Cancel the monitor with this tag.
     Demonitor {
         tag: u32,
         flush: bool,

@@ -1,7 +1,0 @@
-pub mod Acting
-pub mod Text
-pub mod Looking
-pub mod LookingBack
-pub mod Sessions
-pub mod Stepping
-pub mod Running

@@ -20,9 +20,9 @@ use Rattle.pt_shard.specs.Outbox.{count_pending}
 use Rattle.pt_desk.specs.DeskState.{DeskState}
 use Rattle.pt_gathered.specs.declared.left_over.LeftOver.{LeftOver}
 use Rattle.pt_node.specs.Node.{ReadsAt}
-use Rattle.pt_node.specs.Stillness.{count_events}
+use Rattle.pt_workers.specs.Stillness.{count_events}
 use Rattle.pt_lines.specs.declared.call.Look.{Look}
-use Rattle.pt_session.specs.declared.answer.Answer.{Answer}
+use Rattle.pt_answers.specs.declared.answer.Answer.{Answer}
 
 -- the answer is of this kind, and what it holds is so
 abbrev pub IfNumber : Option Answer → (Option ℕ → Type 0) → Type 0

@@ -1,8 +1,8 @@
-//! Calls that change a node which runs.
+//! Calls that change a running node.
 
 ghost use Rattle.pt_session.specs.Acting.{DoesAct};
 
-use crate::answer::Answer;
+use pt_answers::Answer;
 use pt_lines::Act;
 use pt_node::Node;
 

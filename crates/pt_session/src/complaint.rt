@@ -1,19 +1,19 @@
-//! Why a line was not done.
+//! Why a line failed.
 
 use pt_lines::Mistake;
 
-/// Why a line was not done. The session is then as it was.
+/// Why a line failed. The session is then as it was.
 #[derive(Clone, Copy, Debug, PartialEq, Eq)]
 pub enum Complaint {
     /// The line is no call.
     Mistake(Mistake),
-    /// The call at this column is one of a node in another state.
+    /// The call at this column is for a node in another state.
     NotNow(usize, State),
-    /// The next line of the last answer is another one than was expected.
+    /// The next line of the last answer is not the expected one.
     Unexpected,
     /// There is no line of the last answer left to compare.
     NothingLeft,
-    /// A call came, and lines of the last answer are left that were not compared.
+    /// The line is a call, and lines of the last answer are left that were not compared.
     LinesLeft,
     /// There was no memory.
     Memory,

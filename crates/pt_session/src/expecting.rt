@@ -13,7 +13,7 @@ pub(crate) fn line_at(text: &[u8], place: usize) -> &[u8]
     first_line(&text[place..])
 }
 
-/// What stands before the first line feed.
+/// The text before the first line feed.
 #[tactic(auto, using(crate::proofs::LineIn::ends, crate::proofs::LineIn::goes_on, crate::proofs::LineIn::at_end))]
 fn first_line(text: &[u8]) -> &[u8]
     ensures { result.now ≡ line_in text.now }

@@ -1,4 +1,4 @@
-//! A session of calls on a node: a line is heard, what it asks for is done, and the answer is a text.
+//! A session of calls on a node: it reads a line, makes the call, and keeps the answer as a text.
 //!
 //! ```
 //! let mut session = begin(alloc);
@@ -8,33 +8,30 @@
 //! hear(&mut session, b"expect <0.0.1>")?;
 //! ```
 //!
-//! What a line may be, `pt_lines` says. A session has one node at most: it runs, is gathered, or is settled, and each
-//! call is the node's call of that name. [`run`] hears the lines of a reader and writes each answer.
+//! `pt_lines` says what a line may be. A session has at most one node, which is running, gathered, or settled, and each
+//! call is the node's call of that name. [`run`] reads the lines of a reader and writes each answer.
 //!
 //! # What is proved
 //!
 //! - **Answers.** Each call that a line asks for is the node's call, and the text kept is that of its answer. (`hear`)
 //! - **Calls out of place.** A call that the node's state does not allow changes nothing.
 //! - **Expectations.** An expectation passes exactly if the next line of the answer is its words.
-//! - **Runs.** A run that comes to its end wrote the answers of its lines, in order. (`run`)
+//! - **Runs.** A run that reached its end wrote the answers of its lines, in order. (`run`)
 #![tactic(auto)]
 
 mod acting;
-mod answer;
 mod complaint;
 mod expecting;
 mod looking;
 mod looking_back;
-mod parts;
 mod phase;
 mod running;
 mod session;
 mod stepping;
 mod telling;
-mod text;
 
-pub use answer::Answer;
 pub use complaint::{Complaint, State};
 pub use phase::Phase;
+pub use pt_answers::Answer;
 pub use running::{Fault, PROMPT, run};
 pub use session::{Heard, Session, answer_of, begin, hear, is_comparing, next_line};

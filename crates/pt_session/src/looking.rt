@@ -1,21 +1,21 @@
-//! Looks at a node that runs.
+//! Looks at a running node.
 
 ghost use Rattle.std.specs.Prelude.{◌≡◌, ◌-◌, ◌^◌, ◌≤◌, min, length, reverse, Some, None, false};
 ghost use Rattle.std.specs.Option.{option_copied};
 ghost use Rattle.pt_shard.specs.Known.{knows};
 ghost use Rattle.pt_shard.specs.Outbox.{count_pending};
 ghost use Rattle.pt_node.specs.Node.{ReadsAt};
-ghost use Rattle.pt_node.specs.Stillness.{count_events};
+ghost use Rattle.pt_workers.specs.Stillness.{count_events};
 ghost use Rattle.pt_session.specs.Looking as spec;
 
-use crate::answer::Answer;
+use pt_answers::Answer;
 use pt_events::Stamped;
 use pt_lines::Look;
 use pt_node::Node;
 use pt_signal::{Item, Pid, Ref};
 use std::alloc::Global;
 
-/// What is read of a node that runs; `None` where that can be read of another one alone.
+/// Reads a running node, or returns `None` if only a node in another state can be read so.
 pub(crate) fn look_at_node(alloc: Global, node: &Node, look: Look) -> Option<Answer>
     ensures { spec.LooksAtNode look node.now result }
 {
@@ -117,7 +117,7 @@ pub(crate) fn find_event(events: &[Stamped], desk: u8, stamp: u64) -> Option<Sta
     None
 }
 
-/// How many events the journals of all desks have, staying at `u64::MAX` once it is reached.
+/// The number of events of all desks' journals, staying at `u64::MAX` once it is reached.
 fn count_events(node: &Node) -> u64
     ensures { result ≡ min (count_events node.now) (2 ^ 64 - 1) }
 {

@@ -7,9 +7,9 @@ ghost use Rattle.pt_session.specs.Looking.{IfItems};
 ghost use Rattle.pt_session.specs.LookingBack as spec;
 ghost use Rattle.pt_session.specs.Stepping.{without_stamps};
 
-use crate::answer::Answer;
 use crate::looking::{find_event, items};
 use pt_accounts::Account;
+use pt_answers::Answer;
 use pt_events::{Event, Stamped};
 use pt_gathered::{Gathered, Quiet};
 use pt_judge::{replay, replay_from};
@@ -17,7 +17,7 @@ use pt_lines::Look;
 use pt_signal::{Pid, Reason};
 use std::alloc::{AllocError, Global};
 
-/// What is read of a gathered node; `None` where that can be read of another one alone.
+/// Reads a gathered node, or returns `None` if only a node in another state can be read so.
 pub(crate) fn look_at_gathered(
     alloc: Global,
     gathered: &Gathered,
@@ -48,7 +48,7 @@ fn gathered_history(alloc: Global, gathered: &Gathered, earlier: &[Event], look:
     }
 }
 
-/// What is read of a settled node; `None` where that can be read of another one alone.
+/// Reads a settled node, or returns `None` if only a node in another state can be read so.
 pub(crate) fn look_at_quiet(
     alloc: Global,
     quiet: &Quiet,
@@ -104,7 +104,7 @@ fn is_alive(account: Option<Account>) -> bool
     }
 }
 
-/// The items that wait in a mailbox, as the state says that the history leads to.
+/// The items that wait in a mailbox, by the state that the history leads to.
 fn waiting(alloc: Global, quiet: &Quiet, pid: Pid) -> Answer
     ensures { IfItems (Some result) (λ items. Unit {0}) }
 {
@@ -114,7 +114,7 @@ fn waiting(alloc: Global, quiet: &Quiet, pid: Pid) -> Answer
     }
 }
 
-/// What is read of a history.
+/// Reads a history.
 fn look_at_history(alloc: Global, history: Vec<Stamped>, earlier: &[Event], look: Look) -> Answer
     ensures { spec.OfHistory look history.items earlier.now result }
 {

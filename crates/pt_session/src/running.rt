@@ -1,4 +1,4 @@
-//! The lines of a reader are heard, and the answers written.
+//! Reading the lines of a reader, and writing the answers.
 
 ghost use Rattle.std.specs.Prelude.{◌≡◌, ◌≢◌, OnOk, IfOk, Ok, true, false};
 ghost use Rattle.std.specs.Io.KnownBytes.{Appends};
@@ -15,13 +15,13 @@ use std::alloc::Global;
 use std::io;
 use std::io::{BufRead, Write};
 
-/// What is written before a line is read from a person.
+/// The text that is written before a line is read from a person.
 pub const PROMPT: &str = "> ";
 
 /// Why a run ended before its lines did.
 #[derive(Clone, Copy, Debug, PartialEq, Eq)]
 pub enum Fault {
-    /// A line was no call, or what was expected was not answered.
+    /// A line was no call, or the answer was not the expected one.
     Line,
     Memory,
     /// The reader or a writer failed.
@@ -38,8 +38,8 @@ impl From<io::Error> for Fault {
     }
 }
 
-/// Hears the lines of a reader until it ends, and writes the answers, in order. What is told of a line that was not
-/// done goes to `errors`; with a person it then goes on, and with nobody it ends there.
+/// Reads the lines of a reader until it ends, makes their calls, and writes the answers, in order. A message about a
+/// line that failed goes to `errors`. With a person the run then continues, and else it ends there.
 pub fn run<R: BufRead, W: Write, E: Write>(
     alloc: Global,
     is_person: bool,
@@ -70,7 +70,7 @@ pub fn run<R: BufRead, W: Write, E: Write>(
     Err(Fault::File)
 }
 
-/// Reads a line and hears it; whether there was one.
+/// Reads a line and does what it asks for. Returns whether there was one.
 fn step<R: BufRead, W: Write, E: Write>(
     is_person: bool,
     number: u64,
@@ -94,7 +94,7 @@ fn step<R: BufRead, W: Write, E: Write>(
     Ok(false)
 }
 
-/// Reads the next line; whether there is one.
+/// Reads the next line. Returns whether there is one.
 fn read_line<R: BufRead>(from: &mut R, line: &mut Vec<u8>) -> Result<bool, Fault>
     ensures { IfOk result (λ more. spec.ReadsLine more (R.remaining from.old) (R.remaining from.new) line.new.items) }
 {
@@ -128,7 +128,7 @@ fn prompt<W: Write>(is_person: bool, out: &mut W) -> io::Result<()>
     Ok(())
 }
 
-/// Hears one line, writes its answer, and tells what was not done.
+/// Does what one line asks for, and writes its answer, or why it failed.
 fn pass<W: Write, E: Write>(
     is_person: bool,
     number: u64,
@@ -154,7 +154,7 @@ fn pass<W: Write, E: Write>(
     }
 }
 
-/// Whether a run goes on behind a line that was not done.
+/// Whether a run continues after a line that failed.
 fn go_on(is_person: bool, complaint: Complaint) -> Result<(), Fault>
     ensures person { OnOk result (is_person ≡ true) }
     ensures memory { OnOk result (complaint ≢ Complaint.Memory) }
@@ -181,7 +181,7 @@ fn write_answer<W: Write>(session: &Session, heard: Heard, out: &mut W) -> io::R
     }
 }
 
-/// The lines have ended.
+/// Ends a run when its lines have ended.
 fn end<E: Write>(session: &Session, number: u64, errors: &mut E) -> Result<(), Fault>
     ensures { OnOk result (is_comparing (seen_session session.now) ≡ false) }
 {

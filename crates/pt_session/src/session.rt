@@ -11,23 +11,22 @@ ghost use Rattle.pt_session.specs.declared.complaint.Complaint.{Complaint};
 ghost use Rattle.pt_session.specs.declared.phase.Phase.{Phase};
 
 use crate::acting::act;
-use crate::answer::Answer;
 use crate::complaint::{Complaint, State};
 use crate::expecting::line_at;
 use crate::looking::look_at_node;
 use crate::looking_back::{look_at_gathered, look_at_quiet};
 use crate::phase::Phase;
 use crate::stepping::{gather, open, resume, settle};
-use crate::text::{help_text, text_of};
+use pt_answers::{Answer, help_text, text_of};
 use pt_events::Event;
 use pt_lines::{Act, Call, Command, Look, Names, Value, Word, command_of, joined, words_of};
 use pt_shard::Config;
 use std::alloc::{AllocError, Global};
 
-/// What came of a line.
+/// What a line led to.
 #[derive(Clone, Copy, Debug, PartialEq, Eq)]
 pub enum Heard {
-    /// Nothing is to be told.
+    /// There is nothing to write.
     Silent,
     /// There is an answer.
     Answered,
@@ -42,7 +41,7 @@ pub struct Session {
     earlier: Vec<Event>,
     names: Names,
     answer: String,
-    /// How many bytes of the answer were compared.
+    /// The number of bytes of the answer that were compared.
     compared: usize,
 }
 
@@ -82,7 +81,7 @@ pub fn is_comparing(session: &Session) -> bool
     0 < session.compared && session.compared < session.answer.len()
 }
 
-/// Hears a line, without its line feed, and does what it asks for.
+/// Takes a line, without its line feed, and does what it asks for.
 pub fn hear(session: &mut Session, line: &[u8]) -> Result<Heard, Complaint>
     ensures { result ≢ Err Complaint.Memory
         → spec.SessionHears Config.DEFAULT line.now (seen_session session.old) result (seen_session session.new) }
@@ -97,7 +96,7 @@ pub fn hear(session: &mut Session, line: &[u8]) -> Result<Heard, Complaint>
     }
 }
 
-/// Does what was asked.
+/// Does what a line asked for.
 fn follow(session: &mut Session, command: Command<'_>) -> Result<Heard, Complaint>
     ensures { spec.FollowsAsked (asked_by command.entry) (seen_session session.old) result (seen_session session.new) }
 {
@@ -154,7 +153,7 @@ fn help(session: &mut Session) -> Result<Heard, Complaint>
     }
 }
 
-/// Makes a call. The name is given to the pid or the reference that is answered.
+/// Makes a call. The pid or the reference that it returns gets the name.
 fn make_call(
     session: &mut Session,
     name: Option<&[u8]>,
@@ -175,7 +174,7 @@ fn make_call(
     }
 }
 
-/// The answer of a call; `None` where the node's state does not allow it.
+/// The answer of a call, or `None` if the node's state does not allow it.
 fn make(alloc: Global, phase: &mut Phase, earlier: &mut Vec<Event>, call: Call) -> Option<Answer>
     ensures { spec.CallsOn call phase.old earlier.old.items result phase.new earlier.new.items }
 {
@@ -209,7 +208,7 @@ fn look_at(alloc: Global, phase: &Phase, earlier: &[Event], look: Look) -> Optio
     }
 }
 
-/// Keeps the answer, and gives the name to what was answered.
+/// Keeps the answer, and gives the name to its pid or reference.
 fn keep(session: &mut Session, name: Option<&[u8]>, answer: &Answer) -> Result<Heard, Complaint>
     ensures { spec.KeepsAnswer (option_map (λ n. n.now) name.entry) answer.now (seen_session session.old) result
         (seen_session session.new) }
@@ -246,7 +245,7 @@ fn state_of(phase: &Phase) -> State
     }
 }
 
-/// The pid or the reference that was answered.
+/// The pid or the reference of an answer.
 fn value_in(answer: &Answer) -> Option<Value>
     ensures { result ≡ spec.value_in answer.now }
 {

@@ -1,12 +1,12 @@
-//! Steps from one state of a node to the next: it is opened, gathered, settled, and goes on.
+//! Steps from one state of a node to the next: it is opened, gathered, settled, and resumed.
 
 ghost use Rattle.std.specs.Prelude.{◌≡◌, IfOk, IfSome, length};
 ghost use Rattle.pt_gathered.specs.LeftOvers.{all_left};
 ghost use Rattle.pt_session.specs.Stepping as spec;
 
-use crate::answer::Answer;
 use crate::looking_back::events_of;
 use crate::phase::Phase;
+use pt_answers::Answer;
 use pt_events::Event;
 use pt_gathered::{Gathered, Quiet};
 use pt_node::Node;
@@ -14,7 +14,7 @@ use pt_shard::Config;
 use std::alloc::{AllocError, Global};
 use std::mem;
 
-/// Opens a node. The one before goes, unless there is none in its place.
+/// Opens a node. The one before is dropped, unless the new one could not be opened.
 pub(crate) fn open(
     alloc: Global,
     phase: &mut Phase,
@@ -62,7 +62,7 @@ fn gathered(node: Node) -> (Phase, Answer)
     }
 }
 
-/// How many letters are left over, if there was memory for the list of them.
+/// The number of letters left over, if there was memory for their list.
 fn count_left(gathered: &Gathered) -> Option<u64>
     ensures { IfSome result (λ n. n ≡ length (all_left gathered.now)) }
 {
@@ -104,7 +104,7 @@ fn settled(gathered: Gathered) -> (Phase, Answer)
     }
 }
 
-/// Goes on from the node, if it is settled.
+/// Resumes the node, if it is settled.
 pub(crate) fn resume(alloc: Global, phase: &mut Phase, earlier: &mut Vec<Event>) -> Option<Answer>
     ensures { spec.ResumesPhase phase.old earlier.old.items result phase.new earlier.new.items }
 {

@@ -1,4 +1,4 @@
-//! What is told of a line that was not done.
+//! The message about a line that failed.
 
 use crate::complaint::{Complaint, State};
 use crate::session::{Session, next_line};
@@ -6,7 +6,7 @@ use pt_lines::{Mistake, Why};
 use std::io;
 use std::io::Write;
 
-/// Tells why the line with this number was not done, in one line.
+/// Writes in one line why the line with this number failed.
 pub(crate) fn tell<W: Write>(
     out: &mut W,
     session: &Session,
@@ -27,7 +27,7 @@ pub(crate) fn tell<W: Write>(
     }
 }
 
-/// Tells that the lines ended where some of the last answer were compared, and some were not.
+/// Writes that the lines ended when some lines of the last answer were compared, and some were not.
 pub(crate) fn tell_end<W: Write>(out: &mut W, session: &Session, number: u64) -> io::Result<()> {
     tell_left(out, session, number)
 }
@@ -70,7 +70,7 @@ fn tell_word<W: Write>(out: &mut W, line: &[u8], column: usize) -> io::Result<()
     out.write_all(b"\n")
 }
 
-/// What stands before the first blank.
+/// The text before the first blank.
 fn word_in(text: &[u8]) -> &[u8] {
     for place in 0..text.len() {
         if is_blank(text[place]) {
@@ -93,7 +93,7 @@ fn tell_unexpected<W: Write>(
     out.write_all(b"\n")
 }
 
-/// What stands behind the first word of a line, without the blanks before it.
+/// The text after the first word of a line, without the blanks before it.
 fn wanted_in(line: &[u8]) -> &[u8] {
     without_blanks(without_word(without_blanks(line)))
 }

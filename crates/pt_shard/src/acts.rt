@@ -1,4 +1,4 @@
-//! What a call or a receipt does with a process that the desk lends it, and with the ledger.
+//! What a call or a receipt does with the ledger, and with a process that the desk lends it.
 
 ghost use Rattle.std.specs.Prelude.{◌≡◌, true, ◌<◌, ◌≤◌, max, length, Some, None};
 ghost use Rattle.std.specs.Prelude.{IfSome, IsSome, is_some};
@@ -25,7 +25,7 @@ use pt_process::{Outcome, Process};
 use pt_signal::{Item, Letter, LinkId, Pick, Pid, Reason, Ref, Signal};
 use std::alloc::AllocError;
 
-/// Writes down that a process says a signal, which changes nothing in it, and sends it.
+/// Writes that a process sends a signal, which changes nothing in it, and sends it.
 #[inline(always)]
 pub(crate) fn tell(ledger: &mut Ledger, from: Pid, to: Pid, signal: Signal) -> Result<(), Fault>
     requires { to.shard < length ledger.old.book.outbox }
@@ -36,7 +36,7 @@ pub(crate) fn tell(ledger: &mut Ledger, from: Pid, to: Pid, signal: Signal) -> R
     Ok(())
 }
 
-/// Writes down that a process asks whether another is alive, sends the question, and answers its reference.
+/// Writes that a process asks whether another is alive, sends the question, and returns its reference.
 pub(crate) fn ask(ledger: &mut Ledger, p: Pid, t: Pid) -> Result<Ref, Fault>
     requires { t.shard < length ledger.old.book.outbox }
     ensures { Tells (Event.Said p t (Signal.AliveAsk (ref_after ledger.old.book)))
@@ -48,7 +48,7 @@ pub(crate) fn ask(ledger: &mut Ledger, p: Pid, t: Pid) -> Result<Ref, Fault>
     Ok(question)
 }
 
-/// Sets the flag of a process, writes it down, and answers what it was.
+/// Sets the flag of a process, writes the event, and returns what the flag was.
 pub(crate) fn set_flag(
     process: &mut Process,
     ledger: &mut Ledger,
@@ -64,7 +64,7 @@ pub(crate) fn set_flag(
     Ok(before)
 }
 
-/// Enters the half of a link that a process keeps, and says it to the other, unless there is such a link.
+/// Enters the half of a link that a process keeps, and sends the link to the other, unless there is such a link.
 pub(crate) fn keep_link(
     process: &mut Process,
     ledger: &mut Ledger,
@@ -85,7 +85,7 @@ pub(crate) fn keep_link(
     Ok(())
 }
 
-/// Takes the half of a link back that a process keeps, if there is one, and says it to the other.
+/// Removes the half of a link that a process keeps, if there is one, and sends the unlink to the other.
 pub(crate) fn drop_link(
     process: &mut Process,
     ledger: &mut Ledger,
@@ -104,7 +104,7 @@ pub(crate) fn drop_link(
     Ok(())
 }
 
-/// Opens a monitor of a process, says it to the target, and answers its reference.
+/// Opens a monitor of a process, sends it to the target, and returns its reference.
 pub(crate) fn open_monitor(
     process: &mut Process,
     ledger: &mut Ledger,
@@ -123,8 +123,8 @@ pub(crate) fn open_monitor(
     Ok(monitor)
 }
 
-/// Closes the monitor of a process, if it is open, and says it to the target; else takes the DOWN out that waits, where
-/// that is asked. It answers whether it wrote an event.
+/// Closes the monitor of a process, if it is open, and sends the demonitor to the target. Else it takes out the DOWN
+/// that waits, if `flush` is true. It returns whether it wrote an event.
 pub(crate) fn close_monitor(
     process: &mut Process,
     ledger: &mut Ledger,
@@ -150,7 +150,7 @@ pub(crate) fn close_monitor(
     Ok(true)
 }
 
-/// Takes the first item that fits out of the mailbox of a process, and writes it down.
+/// Takes the first matching item out of the mailbox of a process, and writes the event.
 #[inline(always)]
 pub(crate) fn take(
     process: &mut Process,
@@ -170,8 +170,8 @@ pub(crate) fn take(
     Ok(Some(item))
 }
 
-/// Makes room for a birth, and for the half of a link that the parent then keeps, where one is asked for. It answers
-/// the id of the link.
+/// Makes room for spawning a process, and for the parent's half of the link, if one is asked for. It returns the id of
+/// the link.
 pub(crate) fn prepare_birth(
     parent: &mut Process,
     ledger: &mut Ledger,
@@ -187,7 +187,7 @@ pub(crate) fn prepare_birth(
     Ok(Some(ledger.next_link()))
 }
 
-/// Takes a letter to a live process, and sends what it answers.
+/// Delivers a letter to a live process, and sends what it answers.
 #[inline(always)]
 pub(crate) fn take_in(
     process: &mut Process,
@@ -207,8 +207,8 @@ pub(crate) fn take_in(
     Ok(())
 }
 
-/// Takes the signal of a letter into a process. A message has a way of its own: where it goes with all others, the
-/// signal is first copied in pieces, for each letter.
+/// Takes the signal of a letter into a process. A message has a way of its own: if it went with all others, the signal
+/// would first be copied in pieces, for each letter.
 #[inline(always)]
 fn accept(process: &mut Process, letter: &Letter) -> Result<Outcome, AllocError>
     ensures { Accepts process.old
@@ -220,7 +220,7 @@ fn accept(process: &mut Process, letter: &Letter) -> Result<Outcome, AllocError>
     }
 }
 
-/// Answers for a live process that it is. The question changes nothing of the process.
+/// Answers that a live process is alive. The question changes nothing of the process.
 #[inline(never)]
 fn answer(ledger: &mut Ledger, letter: &Letter, question: Ref) -> Result<(), Stop>
     requires { letter.now.from.shard < length ledger.old.book.outbox }
@@ -229,10 +229,10 @@ fn answer(ledger: &mut Ledger, letter: &Letter, question: Ref) -> Result<(), Sto
     give_back(ledger, letter, Some(Signal::AliveSay(question, true)))
 }
 
-/// Sends what goes back where a letter comes to a process that is not alive.
+/// Sends what goes back if a letter arrives at a process that is not alive.
 ///
-/// It is not inlined, nor is `answer`, since each letter that is taken in would then clear places for the signal that
-/// goes back.
+/// It is not inlined, nor is `answer`: each letter that is taken in would then clear places for the signal that goes
+/// back.
 #[inline(never)]
 pub(crate) fn bounce(ledger: &mut Ledger, letter: &Letter) -> Result<(), Stop>
     requires { letter.now.from.shard < length ledger.old.book.outbox }
@@ -241,7 +241,7 @@ pub(crate) fn bounce(ledger: &mut Ledger, letter: &Letter) -> Result<(), Stop>
     give_back(ledger, letter, letter.signal.answer_of_dead())
 }
 
-/// Writes that a letter came, and sends what goes back, if anything.
+/// Writes that a letter arrived, and sends what goes back, if anything.
 fn give_back(ledger: &mut Ledger, letter: &Letter, back: Option<Signal>) -> Result<(), Stop>
     requires { letter.now.from.shard < length ledger.old.book.outbox }
     ensures { GivesBack letter.now back ledger.old result ledger.new }
@@ -251,7 +251,7 @@ fn give_back(ledger: &mut Ledger, letter: &Letter, back: Option<Signal>) -> Resu
     Ok(())
 }
 
-/// Takes a letter to a process that ends by it, with room for what it then owes.
+/// Prepares a letter to a process that exits by it, with room for what it then owes.
 #[inline(never)]
 pub(crate) fn prepare_ending(
     process: &mut Process,
@@ -267,7 +267,7 @@ pub(crate) fn prepare_ending(
     Ok(())
 }
 
-/// Ends a process by a letter that was prepared, and sends what it owes.
+/// Makes a process exit by a letter that was prepared, and sends what it owes.
 #[inline(never)]
 pub(crate) fn end_by(
     processes: &mut Processes,

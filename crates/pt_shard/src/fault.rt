@@ -1,13 +1,13 @@
-//! Why a call is refused.
+//! Why a call fails.
 
 use crate::stop::Stop;
 use std::alloc::{AllocError, AllocFailed};
 use thiserror::Error;
 
-/// Why a desk refuses a call. After each of them the desk is as it was, but for what a look in the directory of ended
-/// processes leaves: `NoProc` is noted in the journal, and before `Worn` and `Memory` the desk may have looked.
+/// Why a call of a desk fails. After each of them the desk is as it was, except for what a look in the directory of
+/// exited processes leaves. The journal notes `NoProc`, and before `Worn` and `Memory` the desk may have looked.
 ///
-/// Where several could be given it is the first of: `Gone`, `Myself`, `NoProc`, `Worn`, `Full`, `Memory`.
+/// If several are possible, it is the first of: `Gone`, `Myself`, `NoProc`, `Worn`, `Full`, `Memory`.
 #[derive(Clone, Copy, Debug, PartialEq, Eq, Error)]
 pub enum Fault {
     /// No slot is free for a new process.
@@ -25,7 +25,7 @@ pub enum Fault {
     /// A process cannot monitor itself.
     #[error("a process cannot monitor itself")]
     Myself,
-    /// The other process is seen to have ended.
+    /// The desk sees that the other process has exited.
     #[error("the other process has ended")]
     NoProc,
 }

@@ -1,4 +1,4 @@
-//! What one desk of a node knows, told of another, and what a start that was left behind says of each process.
+//! Two laws: which pids the desks of a node know, and what the start that a history leaves says of each process.
 
 ghost use Rattle.std.specs.Prelude.{◌≡◌};
 ghost use Rattle.pt_signal.specs.declared.pid.Pid.{Pid};
@@ -6,17 +6,17 @@ ghost use Rattle.pt_events.specs.History.{Start, Past, at_start, life};
 ghost use Rattle.pt_events.specs.Leaving.{outcome, start_after};
 ghost use Rattle.pt_shard.specs.Known.{IsKnownToOthers};
 
-/// What one desk of a node knows, each other desk of it knows, but for the pids of that other desk, of which it knows
-/// those that it issued. So a pid that a birth answered may be the target of a call on every desk of the node, with no
-/// test: on its own desk by the clauses of the birth, on each other one by this law.
+/// What one desk of a node knows, each other desk knows, except for that other desk's own pids: of these it knows those
+/// that it issued. So a pid that `spawn` returned may be the target of a call on every desk of the node, without a
+/// test. On its own desk this holds by the clauses of `spawn`, on each other desk by this law.
 ///
 /// It does nothing: the law is its contract.
 pub fn known_to_others()
     ensures { IsKnownToOthers }
 {}
 
-/// In the start that a history leaves behind each pid is what it is after that history; one that has ended, its
-/// reason alone. So it is over every start, whether that has each process once or not.
+/// In the start that a history leaves, each pid is as after that history. Of an exited process only the reason is left.
+/// This holds over every start, whether it has each process once or not.
 ///
 /// It does nothing: the law is its contract.
 pub fn leaves_each()

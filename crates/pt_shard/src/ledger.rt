@@ -30,7 +30,7 @@ use std::marker::Model;
 
 /// The clock of a desk, its journal, and the letters that wait in it.
 ///
-/// An event is prepared first, which may be refused; what is written then finds room.
+/// An event is prepared first, which may fail. What is written then finds room.
 #[derive(Drop)]
 pub(crate) struct Ledger {
     clock: u64,
@@ -74,7 +74,7 @@ fn no_letters(alloc: Global, desks: u8) -> Result<Vec<Letters>, AllocError>
     Ok(outbox)
 }
 
-/// Makes room for what a process would owe at its end, in the boxes of those that it would go to.
+/// Makes room for what a process would owe at its exit, in the boxes of those that would get it.
 fn reserve_owed(outbox: &mut Vec<Letters>, process: &mut Process) -> Result<(), AllocError>
     requires few { length outbox.old.items ≤ MAX_DESKS }
     requires near { Every (λ q. q.shard < length outbox.old.items) (peers_held process.old.state) }
@@ -118,7 +118,7 @@ impl Ledger {
         })
     }
 
-    /// Begins an empty journal over the start that the one so far leaves behind, with the clock at `start`.
+    /// Begins an empty journal over the start that the one so far leaves, with the clock at `start`.
     pub(crate) fn restart(&mut self, start: u64)
         ensures { self.new.book ≡ restarted_book start self.old.book }
     {
@@ -209,7 +209,7 @@ impl Ledger {
         }
     }
 
-    /// Makes room for an event that is stamped above `floor`, and for what a process would owe at its end.
+    /// Makes room for an event that is stamped above `floor`, and for what a process would owe at its exit.
     #[inline(always)]
     pub(crate) fn prepare_end(&mut self, floor: u64, process: &mut Process) -> Result<(), Stop>
         requires few { length self.old.book.outbox ≤ MAX_DESKS }
@@ -226,7 +226,7 @@ impl Ledger {
         Ok(())
     }
 
-    /// Writes an event, stamped above `floor` too, for which there is room, and answers the stamp.
+    /// Writes an event, stamped above `floor` too, for which there is room, and returns the stamp.
     #[tactic(auto, using(crate::proofs::Ledgers::newer_above))]
     #[inline(always)]
     pub(crate) fn write(&mut self, floor: u64, event: Event) -> u64
@@ -243,7 +243,7 @@ impl Ledger {
         stamp
     }
 
-    /// Puts a letter, for which there is room, behind those for the same desk.
+    /// Puts a letter, for which there is room, after those for the same desk.
     #[inline(always)]
     fn put(&mut self, letter: Letter)
         requires to { letter.to.shard < length self.old.book.outbox }
@@ -256,7 +256,7 @@ impl Ledger {
         self.outbox[usize::from(letter.to.shard)].push(letter);
     }
 
-    /// Writes that a process says a signal, and sends it, for both of which there is room.
+    /// Writes that a process sends a signal, and sends it. There is room for both.
     #[inline(always)]
     pub(crate) fn write_said(&mut self, from: Pid, to: Pid, signal: Signal)
         requires can { max self.old.book.clock 0 < MAX_STAMP }
@@ -276,7 +276,7 @@ impl Ledger {
         });
     }
 
-    /// Writes that a letter came, and sends what goes back, if anything, for both of which there is room.
+    /// Writes that a letter arrived, and sends what goes back, if anything. There is room for both.
     #[inline(always)]
     pub(crate) fn write_came(&mut self, letter: &Letter, back: Option<Signal>)
         requires can { max self.old.book.clock letter.now.stamp < MAX_STAMP }
@@ -300,8 +300,8 @@ impl Ledger {
         }
     }
 
-    /// Writes the event that ends a process, stamped above `floor` too, and sends what the process owes, for all of
-    /// which there is room.
+    /// Writes the event by which a process exits, stamped above `floor` too, and sends what the process owes. There is
+    /// room for all of it.
     #[inline(always)]
     pub(crate) fn write_end(&mut self, floor: u64, event: Event, from: Pid, estate: &Estate)
         requires can { max self.old.book.clock floor < MAX_STAMP }
@@ -334,7 +334,7 @@ impl Ledger {
         self.outbox[usize::from(to)].as_slice()
     }
 
-    /// Lets so many of the oldest letters go that wait to be posted to desk `to`.
+    /// Removes so many of the oldest letters that wait to be posted to desk `to`.
     #[inline(always)]
     pub(crate) fn pass_out(&mut self, to: u8, count: usize)
         requires desk { to < length self.old.book.outbox }
@@ -386,7 +386,7 @@ impl Ledger {
         self.hold = Some(letter);
     }
 
-    /// How many letters wait here, staying at `u64::MAX` once it is reached.
+    /// The number of letters that wait here, staying at `u64::MAX` once it is reached.
     pub(crate) fn pending(&self) -> u64
         ensures { result ≡ min (sum_by length self.now.book.outbox + count_held self.now.book.hold) (2 ^ 64 - 1) }
     {

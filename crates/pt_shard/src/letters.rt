@@ -8,13 +8,12 @@ use std::marker::Model;
 
 /// The letters that wait for one desk, oldest first.
 ///
-/// To let one go moves no other. The places of those that have gone are used again where a letter finds no room behind
-/// the others: where nothing waits, or where more have gone than wait, so that each that is moved was paid by one that
-/// has gone.
+/// Removing one moves no other. If a letter finds no room after the others, the places of removed ones are used again:
+/// if none waits, or if more were removed than wait. So each letter that is moved was paid for by one that was removed.
 #[derive(Drop)]
 pub(crate) struct Letters {
     letters: Vec<Letter>,
-    /// How many of them have gone on.
+    /// The number of letters that were removed.
     head: usize,
 }
 
@@ -69,7 +68,7 @@ impl Letters {
         Some(letter)
     }
 
-    /// Lets so many of the oldest go.
+    /// Removes so many of the oldest.
     #[inline(always)]
     pub(crate) fn pass(&mut self, count: usize)
         requires { count ≤ length self.old.letters }

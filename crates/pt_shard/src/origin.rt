@@ -1,8 +1,8 @@
 //! What was before a journal, for clauses alone to read.
 //!
-//! A journal is read over a *start*: what each process was before its first event. A desk that goes on after its
-//! journal was handed over writes into an empty one, over the start that the old journal left behind. An [`Origin`]
-//! says which start that is; it takes no memory, since what the processes hold stands in the desk's slots.
+//! A journal is read over a *start*: what each process was before its first event. A desk that is resumed after its
+//! journal was taken writes into an empty one, over the start that the old journal left. An [`Origin`] says which start
+//! that is. It takes no memory, since the desk's slots have what the processes hold.
 
 ghost use Rattle.std.specs.Prelude.{◌≡◌, []};
 ghost use Rattle.std.specs.Borrow.{ftrue};
@@ -31,15 +31,15 @@ unsafe impl Send for Origin {}
 unsafe impl Sync for Origin {}
 
 impl Origin {
-    /// Nothing was before.
+    /// The origin before which nothing was.
     pub fn new() -> Origin
         ensures { result.start ≡ [] }
     {
         Origin {}
     }
 
-    /// What the journal leaves behind: each process born before it or in it as it is after the last event; of one
-    /// that has ended its reason, and nothing that it held.
+    /// What the journal leaves: each process spawned before it or in it, as it is after the last event. Of an exited
+    /// process it has the reason, and nothing that it held.
     pub fn left_behind(&self, journal: &Journal) -> Origin
         ensures { result.start ≡ start_after self.now.start (events journal.now.past) }
     {

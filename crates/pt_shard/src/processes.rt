@@ -18,7 +18,7 @@ use pt_slots::{InsertError, Key, Slots};
 use std::alloc::{AllocError, Global};
 use std::marker::Model;
 
-/// The processes that live on a desk.
+/// The live processes of a desk.
 #[derive(Drop)]
 pub(crate) struct Processes {
     desk: u8,
@@ -70,7 +70,7 @@ impl Processes {
         self.desk
     }
 
-    /// How many slots the desk has. No other slot has had a process.
+    /// The number of slots of the desk. No other slot has had a process.
     pub fn slots(&self) -> u32
         ensures slots { result ≡ self.now.table.capacity }
         ensures beyond { (slot : ℕ) → self.now.table.capacity ≤ slot → issued self.now.table slot ≡ 0 }
@@ -78,7 +78,7 @@ impl Processes {
         self.table.capacity()
     }
 
-    /// How many processes live here.
+    /// The number of live processes.
     pub(crate) fn len(&self) -> u32
         ensures { result ≡ taken_slots self.now.table }
     {
@@ -93,7 +93,7 @@ impl Processes {
         self.table.issued(slot)
     }
 
-    /// The process, if it lives here.
+    /// The process, if it is alive here.
     pub(crate) fn find(&self, p: Pid) -> Option<&Process>
         ensures { seen_process (option_copied result) ≡ process_at self.now.desk self.now.table p }
     {
@@ -103,7 +103,7 @@ impl Processes {
         self.table.get(key_of(p))
     }
 
-    /// The process, to be changed, if it lives here.
+    /// The process, to be changed, if it is alive here.
     pub(crate) fn find_mut(&mut self, p: Pid) -> Option<&mut Process>
         ensures* writes_back { sem 𝓛 (LendsProcess self.entry p result) }
         ensures value { option_copied_mut result ≡ living_at self.old.desk self.old.table p }
@@ -117,7 +117,7 @@ impl Processes {
         })
     }
 
-    /// The pid that the next birth has, or `None` where no slot is free.
+    /// The pid that the next process spawned here will have, or `None` if no slot is free.
     pub(crate) fn vacant(&self) -> Option<Pid>
         ensures { result ≡ vacant_at self.now.desk self.now.table }
     {
@@ -145,7 +145,7 @@ impl Processes {
         }
     }
 
-    /// The half of the link with its child, if there is one, that a parent keeps, which lives here.
+    /// Enters a live parent's half of the link with its child, if there is one.
     pub(crate) fn link_parent(&mut self, parent: Pid, child: Pid, link: Option<LinkId>)
         requires lives { IsSome (in_place self.old.table parent) }
         requires room { HasRoomFor link parent self.old.table }
@@ -163,7 +163,7 @@ impl Processes {
         };
     }
 
-    /// Takes a process out that lives here and ends with this reason, and gives what it owes.
+    /// Takes out a live process that exits with this reason, and returns what it owes.
     #[inline(always)]
     pub(crate) fn end(&mut self, p: Pid, reason: Reason) -> Estate
         requires { IsSome (in_place self.old.table p) }
@@ -177,7 +177,7 @@ impl Processes {
     }
 }
 
-/// A new process, which is linked with its parent where there is a link.
+/// A new process, linked with its parent if there is a link.
 pub(crate) fn new_process(
     alloc: Global,
     me: Pid,

@@ -40,8 +40,8 @@ use std::marker::Model;
 
 /// A desk without its lanes: its processes, its clock and journal, and the letters that wait in it.
 ///
-/// A call writes its event, changes the process that makes it, and puts letters out; what it is to the other process,
-/// in Erlang's words, the desk's call of the same name says.
+/// A call writes its event, changes the process that makes it, and puts letters out. The desk's call of the same name
+/// says, in Erlang's words, what it means to the other process.
 #[derive(Drop)]
 pub struct Shard {
     alloc: Global,
@@ -62,9 +62,9 @@ impl Model for Shard {
 }
 
 impl Shard {
-    /// A desk on which nothing has happened. The first birth has version 1 of slot 0.
+    /// A desk on which nothing has happened. The first process will have version 1 of slot 0.
     ///
-    /// Refused exactly where there is no memory for its tables.
+    /// Fails exactly if there is no memory for its tables.
     pub fn new(alloc: Global, config: Config, number: u8) -> Result<Shard, AllocError>
         requires settings { IsInRange config }
         requires number { number < config.desks }
@@ -79,8 +79,8 @@ impl Shard {
         })
     }
 
-    /// The desk that goes on: its journal is empty, over the start that the one so far leaves behind, and its clock
-    /// stands at `start`, which is no earlier than it was. The processes are as they were.
+    /// Restarts the desk: its journal is empty, over the start that the one so far leaves, and its clock is at `start`,
+    /// which is no earlier than it was. The processes are as they were.
     pub fn restart(self, start: u64) -> Shard
         requires later { self.clock ≤ start }
         requires within { start ≤ MAX_STAMP }
@@ -127,8 +127,8 @@ impl Shard {
 
     /// What happened here, oldest event first.
     ///
-    /// It is a lawful journal of this desk: each event was allowed after those before it, and the versions of a slot
-    /// are 1, 2, 3 and so on, each after the end of the one before.
+    /// It is a lawful journal of this desk: each event was allowed after those before it. The versions of a slot are 1,
+    /// 2, 3 and so on, each after the exit of the one before.
     pub fn journal(&self) -> &Journal
         ensures desk { result.now.desk ≡ self.now.number }
         ensures past { result.now.past ≡ self.now.journal }
@@ -139,15 +139,15 @@ impl Shard {
         self.ledger.journal()
     }
 
-    /// Whether p lives here. False of a pid whose slot another process has by now.
+    /// Whether p is alive here. False if another process has its slot by now.
     pub fn alive_here(&self, p: Pid) -> bool
         ensures { result ≡ lives self.now p }
     {
         self.processes.find(p).is_some()
     }
 
-    /// The process that lives in that slot, or `None` where nobody does. So a program goes over all who live here, by
-    /// the slots below `Config::slots`.
+    /// The live process in that slot, or `None` if there is none. So a program visits all live processes of this desk
+    /// by going through the slots below `Config::slots`.
     pub fn lives_in(&self, slot: u32) -> Option<Pid>
         ensures is { result ≡ living_in self.now slot }
         ensures only { (p : Pid) → lives self.now p ≡ true → p.slot ≡ slot → result ≡ Some p }
@@ -160,8 +160,8 @@ impl Shard {
         if self.alive_here(p) { Some(p) } else { None }
     }
 
-    /// The processes that live here, by slot: Erlang's `processes/0` of this desk. It looks into each slot. Refused
-    /// only where there is no memory for the list.
+    /// The live processes of this desk, by slot: Erlang's `processes/0`. It looks into each slot. Fails only if there
+    /// is no memory for the list.
     pub fn pids(&self, alloc: Global) -> Result<Vec<Pid>, AllocError>
         ensures { IfOk result (λ v. v.items ≡ living_pids self.now) }
     {
@@ -172,7 +172,7 @@ impl Shard {
         Ok(pids)
     }
 
-    /// Lists who lives in that slot, if anybody does.
+    /// Lists the live process in that slot, if there is one.
     fn list_slot(&self, slot: u32, pids: &mut Vec<Pid>) -> Result<(), AllocError>
         ensures { OnOk result (pids.new.items ≡ pids.old.items ++ option_to_list (living_in self.now slot)) }
     {
@@ -183,21 +183,21 @@ impl Shard {
         Ok(())
     }
 
-    /// How many processes live here.
+    /// The number of live processes.
     pub fn len(&self) -> u32
         ensures { result ≡ living_count self.now }
     {
         self.processes.len()
     }
 
-    /// Whether no process lives here.
+    /// Whether no process is alive here.
     pub fn is_empty(&self) -> bool
         ensures { result ≡ (living_count self.now == 0) }
     {
         self.len() == 0
     }
 
-    /// The items that wait in the mailbox of p, oldest first, or `None` where it does not live here.
+    /// The items that wait in the mailbox of p, oldest first, or `None` if p is not alive here.
     pub fn waiting(&self, p: Pid) -> Option<&[Item]>
         ensures { option_copied result ≡ cond (lives self.now p) (Some (state_in self.now p).waiting) None }
     {
@@ -207,17 +207,17 @@ impl Shard {
         }
     }
 
-    /// The ids under which p is linked with q, or `None` where there is no link, or p does not live here.
+    /// The ids under which p is linked with q, or `None` if there is no link, or p is not alive here.
     ///
-    /// It is p's own half of the link: that of q may differ while letters of the two are on their way.
+    /// This is p's own half of the link. The half of q may differ while letters of the two are in flight.
     pub fn linked(&self, p: Pid, q: Pid) -> Option<Ids>
         ensures { result ≡ cond (lives self.now p) (held_by self.now p q) None }
     {
         self.processes.find(p)?.linked(q)
     }
 
-    /// The process p, to be read: its links, its open monitors and its watchers by place, its mailbox and its flag;
-    /// `None` where it does not live here.
+    /// The process p, to be read: its links, open monitors and watchers by place, its mailbox and its flag. `None` if
+    /// it is not alive here.
     pub fn process(&self, p: Pid) -> Option<&Process>
         ensures { read_of (option_copied result) ≡ cond (lives self.now p) (Some (p, state_in self.now p)) None }
     {
@@ -227,15 +227,15 @@ impl Shard {
         }
     }
 
-    /// How many letters wait in the outbox and the hold, staying at `u64::MAX` once it is reached.
+    /// The number of letters that wait in the outbox and the hold, staying at `u64::MAX` once it is reached.
     pub fn pending(&self) -> u64
         ensures { result ≡ min (count_pending self.now) (2 ^ 64 - 1) }
     {
         self.ledger.pending()
     }
 
-    /// Whether p may be the target of a call: its numbers are in the node's ranges, and if it is of this desk,
-    /// its version was issued.
+    /// Whether p may be the target of a call. Its numbers must be in the node's ranges, and if it is of this desk, its
+    /// version must have been issued.
     #[inline(always)]
     pub fn knows(&self, p: Pid) -> bool
         ensures { result ≡ knows self.now p }
@@ -247,10 +247,10 @@ impl Shard {
             && (p.shard != self.processes.desk() || p.version <= self.processes.issued(p.slot))
     }
 
-    /// The target of a call is known: its caller has proved so.
+    /// Stops a trial run if the target of a call is not known.
     ///
-    /// A trial run has proved nothing: it stops here, and names the call. A built program tests nothing, since the test
-    /// is inlined and cannot fail.
+    /// A trial run has proved nothing, so it stops here and names the call. A built program tests nothing: its caller
+    /// has proved that the target is known, the test is inlined and cannot fail.
     #[inline(always)]
     pub fn expect_known(&self, target: Pid)
         requires { knows self.now target ≡ true }
@@ -259,16 +259,16 @@ impl Shard {
         prove!(known);
     }
 
-    /// The pid that the next birth on this desk has, or `None` exactly where no slot is free: a birth is then
-    /// refused as `Full`, or as `Worn` where the clock is at its limit.
+    /// The pid that the next process spawned on this desk will have, or `None` exactly if no slot is free. Then `spawn`
+    /// fails with `Full`, or with `Worn` if the clock is at its limit.
     pub fn vacant(&self) -> Option<Pid>
         ensures { result ≡ self.now.vacant }
     {
         self.processes.vacant()
     }
 
-    /// What holds of whoever was born here: it is of a slot of the desk and has a version, and those before it in its
-    /// slot have ended. It does nothing.
+    /// What holds for each process spawned here: it is of a slot of the desk and has a version, and those before it in
+    /// its slot have exited. The function does nothing: its contract is the promise.
     pub fn versions(&self)
         ensures { (p : Pid) → is_unborn (phase_of self.now p) ≡ false → IsInTurn self.now p }
     {
@@ -278,7 +278,7 @@ impl Shard {
 
     /// Writes that a process sends a message, and puts its letter out.
     ///
-    /// Refused as `Gone`, `Worn` or `Memory`.
+    /// Fails with `Gone`, `Worn` or `Memory`.
     #[inline(always)]
     pub fn send(&mut self, from: Pid, to: Pid, body: Body) -> Result<(), Fault>
         requires { knows self.old to ≡ true }
@@ -290,9 +290,9 @@ impl Shard {
         self.say(from, to, Signal::Message(body))
     }
 
-    /// The same of a sender that is known to live here, which is not looked up.
+    /// The same for a sender that is known to be alive here, which is not looked up.
     ///
-    /// Refused as `Worn` or `Memory`.
+    /// Fails with `Worn` or `Memory`.
     #[inline(always)]
     pub fn send_living(&mut self, from: Pid, to: Pid, body: Body) -> Result<(), Fault>
         requires known { knows self.old to ≡ true }
@@ -307,7 +307,7 @@ impl Shard {
 
     /// Writes that a process sends an exit signal that no link carries, and puts its letter out.
     ///
-    /// Refused as `Gone`, `Worn` or `Memory`.
+    /// Fails with `Gone`, `Worn` or `Memory`.
     pub fn exit_signal(&mut self, from: Pid, to: Pid, reason: Reason) -> Result<(), Fault>
         requires { knows self.old to ≡ true }
         ensures does { Calls from (Some (Event.Said from to (Signal.Exit reason))) tt self.old result self.new }
@@ -318,10 +318,10 @@ impl Shard {
         self.say(from, to, Signal::Exit(reason))
     }
 
-    /// Enters p's own half of a link, and puts the letter out that enters the other. Nothing happens where p is the
+    /// Enters p's own half of a link, and puts out the letter that enters the other. Nothing happens if p is the
     /// target, or holds a link with it.
     ///
-    /// Refused as `Gone`, `Worn` or `Memory`.
+    /// Fails with `Gone`, `Worn` or `Memory`.
     pub fn link(&mut self, p: Pid, to: Pid) -> Result<(), Fault>
         requires { knows self.old to ≡ true }
         ensures does { Calls p (link_event self.old p to) tt self.old result self.new }
@@ -335,10 +335,10 @@ impl Shard {
         keep_link(process, &mut self.ledger, p, to)
     }
 
-    /// Takes p's own half of a link out, and puts the letter out that takes the other. Nothing happens where there is
+    /// Removes p's own half of a link, and puts out the letter that removes the other. Nothing happens if there is
     /// none.
     ///
-    /// Refused as `Gone`, `Worn` or `Memory`.
+    /// Fails with `Gone`, `Worn` or `Memory`.
     pub fn unlink(&mut self, p: Pid, to: Pid) -> Result<(), Fault>
         requires { knows self.old to ≡ true }
         ensures does { Calls p (unlink_event self.old p to) tt self.old result self.new }
@@ -352,9 +352,9 @@ impl Shard {
         drop_link(process, &mut self.ledger, p, to)
     }
 
-    /// Writes that p traps exits from now on, or does not, and answers whether it did.
+    /// Writes that p traps exits from now on, or does not, and returns whether it did before.
     ///
-    /// Refused as `Gone`, `Worn` or `Memory`.
+    /// Fails with `Gone`, `Worn` or `Memory`.
     pub fn trap(&mut self, p: Pid, on: bool) -> Result<bool, Fault>
         ensures does { Calls p (Some (Event.Flag p on)) (state_in self.old p).traps self.old result self.new }
         ensures extends { Extends self.old self.new }
@@ -366,10 +366,10 @@ impl Shard {
         set_flag(process, &mut self.ledger, p, on)
     }
 
-    /// Takes the first item that fits out of the mailbox of p, and writes it down; `Ok(None)` says that nothing fits,
-    /// and has no event.
+    /// Takes the first matching item out of the mailbox of p, and writes the event. It returns `Ok(None)`, and writes
+    /// no event, if no item matches.
     ///
-    /// Refused as `Gone`, or where an item fits, as `Worn` or `Memory`.
+    /// Fails with `Gone`, and if an item matches, with `Worn` or `Memory`.
     #[inline(always)]
     pub fn receive(&mut self, p: Pid, pick: Pick) -> Result<Option<Item>, Fault>
         ensures does { Calls p (take_event self.old p pick) (first_match self.old p pick) self.old result self.new }
@@ -382,9 +382,9 @@ impl Shard {
         take(process, &mut self.ledger, p, pick)
     }
 
-    /// Opens a monitor of w under a new reference, which it answers, and puts the letter out that tells the target.
+    /// Opens a monitor of w under a new reference, which it returns, and puts out the letter to the target.
     ///
-    /// Refused as `Gone`, as `Myself` where w is the target, as `Worn` or `Memory`.
+    /// Fails with `Gone`, with `Myself` if w is the target, with `Worn` or `Memory`.
     pub fn monitor(&mut self, w: Pid, t: Pid) -> Result<Ref, Fault>
         requires { knows self.old t ≡ true }
         ensures does { Monitors w t self.old result self.new }
@@ -401,10 +401,10 @@ impl Shard {
         open_monitor(process, &mut self.ledger, w, t)
     }
 
-    /// Closes a monitor of w and puts the letter out that tells the target, or takes its DOWN out of the mailbox, where
-    /// `flush` asks for it and it waits. It answers whether it wrote an event.
+    /// Closes a monitor of w and puts out the letter to the target, or takes its DOWN out of the mailbox, if `flush` is
+    /// true and it waits there. It returns whether it wrote an event.
     ///
-    /// Refused as `Gone`, or where there is an event to write, as `Worn` or `Memory`.
+    /// Fails with `Gone`, and if there is an event to write, with `Worn` or `Memory`.
     pub fn demonitor(&mut self, w: Pid, monitor: Ref, flush: bool) -> Result<bool, Fault>
         ensures does { Calls w (demonitor_event self.old w monitor flush)
             (is_some (demonitor_event self.old w monitor flush)) self.old result self.new }
@@ -417,9 +417,9 @@ impl Shard {
         close_monitor(process, &mut self.ledger, w, monitor, flush)
     }
 
-    /// Puts a question out, whether t is alive, under a new reference, which it answers; t may be p.
+    /// Puts out a question, whether t is alive, under a new reference, which it returns; t may be p.
     ///
-    /// Refused as `Gone`, `Worn` or `Memory`.
+    /// Fails with `Gone`, `Worn` or `Memory`.
     pub fn ask_alive(&mut self, p: Pid, t: Pid) -> Result<Ref, Fault>
         requires { knows self.old t ≡ true }
         ensures does { Calls p (Some (Event.Said p t (Signal.AliveAsk (new_ref self.old))))
@@ -434,11 +434,11 @@ impl Shard {
         ask(&mut self.ledger, p, t)
     }
 
-    /// Refuses a call of p to t, of whose end at this stamp the desk has seen: t is not sent anything, and the journal
-    /// notes it, stamped above that end too.
+    /// Notes a call of p that fails, since the desk has seen the exit of t at this stamp. Nothing is sent to t, and the
+    /// journal's note is stamped above that exit too.
     ///
-    /// The answer is `NoProc`, or `Worn` where that stamp would pass the limit of clocks, else `Memory`; after these
-    /// two the desk is as it was.
+    /// It returns `NoProc`. It returns `Worn` if the note's stamp would pass the limit of clocks, else `Memory` if
+    /// there is none. After these two the desk is as it was.
     #[cold]
     #[inline(never)]
     pub fn refuse(&mut self, p: Pid, t: Pid, seen: u64) -> Fault
@@ -457,11 +457,11 @@ impl Shard {
         }
     }
 
-    /// Takes p out of its slot, which is free for its next version, or retired where p had the top one, and puts out
-    /// what it owes: an exit signal to each linked process, a DOWN to each watcher, and to the target of each open
-    /// monitor that it is watched no more.
+    /// Takes p out of its slot, which is then free for its next version, or retired if p had the top one. It puts out
+    /// what p owes: an exit signal to each linked process, a DOWN to each watcher, and a demonitor to the target of
+    /// each open monitor.
     ///
-    /// Refused as `Gone`, `Worn` or `Memory`.
+    /// Fails with `Gone`, `Worn` or `Memory`.
     pub fn exit(&mut self, p: Pid, reason: Reason) -> Result<(), Fault>
         ensures does { Calls p (Some (Event.Left p reason)) tt self.old result self.new }
         ensures extends { Extends self.old self.new }
@@ -476,9 +476,10 @@ impl Shard {
         Ok(())
     }
 
-    /// Puts a process into the slot that `vacant` tells, under its next version.
+    /// Puts a process into the slot that `vacant` returns, under its next version.
     ///
-    /// Refused as `Worn` where the clock is at its limit, then as `Full` where no slot is free, then as `Memory`.
+    /// Fails with `Worn` if the clock is at its limit, else with `Full` if no slot is free, else with `Memory` if there
+    /// is none.
     pub fn spawn(&mut self) -> Result<Pid, Fault>
         ensures does { Bears None None self.old result self.new }
         ensures known { IfOk result (λ p. (p.shard ≡ self.new.number) × (knows self.new p ≡ true)) }
@@ -497,9 +498,9 @@ impl Shard {
         Ok(pid)
     }
 
-    /// The same of a child; where it is linked both halves stand at once, without a letter.
+    /// The same for a child. If it is linked, both halves are made at once, without a letter.
     ///
-    /// Refused as `Gone` where the parent is not alive here, then as `spawn` refuses it.
+    /// Fails with `Gone` if the parent is not alive here, else as `spawn` does.
     pub fn spawn_child(&mut self, parent: Pid, linked: bool) -> Result<Pid, Fault>
         ensures does { BearsChild parent linked self.old result self.new }
         ensures known { IfOk result (λ p. (p.shard ≡ self.new.number) × (knows self.new p ≡ true)) }
@@ -526,10 +527,10 @@ impl Shard {
         Ok(pid)
     }
 
-    /// Takes a letter to its receiver, as a turn does, and answers who ended by it.
+    /// Delivers a letter to its receiver, as a turn does, and returns the process that exited by it, if one did.
     ///
-    /// Stopped as `Worn` where the stamp of the receipt would pass the limit of clocks, else as `Memory`; the desk
-    /// is then as it was.
+    /// Fails with `Worn` if the receipt's stamp would pass the limit of clocks, else with `Memory` if there is none.
+    /// The desk is then as it was.
     pub fn handle(&mut self, letter: Letter) -> Result<Option<Pid>, Stop>
         requires here { letter.to.shard ≡ self.old.number }
         requires near { letter.from.shard < self.old.config.desks }
@@ -540,7 +541,7 @@ impl Shard {
         self.handle_in_place(&letter)
     }
 
-    /// The same of a letter that stays where it is, as in its lane: a letter is large to move.
+    /// The same for a letter that stays in its place, as in its lane: a letter is large to move.
     #[inline(never)]
     pub fn handle_in_place(&mut self, letter: &Letter) -> Result<Option<Pid>, Stop>
         requires here { letter.now.to.shard ≡ self.old.number }
@@ -573,7 +574,7 @@ impl Shard {
         self.ledger.letters_for(to)
     }
 
-    /// How many letters wait to be posted to desk `to`.
+    /// The number of letters that wait to be posted to desk `to`.
     pub fn count_out(&self, to: u8) -> usize
         requires { to < self.now.config.desks }
         ensures { result ≡ length (box self.now to) }
@@ -589,7 +590,7 @@ impl Shard {
         self.letters_for(to).get(place).copied()
     }
 
-    /// Takes so many of the oldest letters out that wait to be posted to desk `to`.
+    /// Removes so many of the oldest letters that wait to be posted to desk `to`.
     #[inline(always)]
     pub fn pass_out(&mut self, to: u8, count: usize)
         requires desk { to < self.old.config.desks }
@@ -601,7 +602,7 @@ impl Shard {
         self.ledger.pass_out(to, count);
     }
 
-    /// Takes the oldest letter out that waits to be posted to desk `to`.
+    /// Takes out the oldest letter that waits to be posted to desk `to`.
     pub fn next_out(&mut self, to: u8) -> Option<Letter>
         requires { to < self.old.config.desks }
         ensures first { result ≡ slice_get (box self.old to) 0 }

@@ -5,7 +5,7 @@ use Rattle.pt_events.specs.Locality.{JournalsSay}
 use Rattle.pt_laws.specs.JournalLaws.{MergeIsThere}
 use Rattle.pt_shard.specs.ShardState.{ShardState}
 use Rattle.pt_desk.specs.DeskState.{DeskState}
-use Rattle.pt_node.specs.Desks.{all_shards}
+use Rattle.pt_workers.specs.Desks.{all_shards}
 use Rattle.pt_crew.specs.declared.crew.Crew.{Crew}
 use Rattle.pt_crew.specs.Waking.{IsAwake}
 use Rattle.pt_crew.specs.Crews.{members, queue}

@@ -4,7 +4,7 @@ use Rattle.pt_shard.specs.ShardState.{ShardState}
 use Rattle.pt_desk.specs.DeskState.{DeskState}
 use Rattle.pt_gathered.specs.Gathered.{GatheredState, IsGathered}
 use Rattle.pt_gathered.specs.Lawful.{LinksStand}
-use Rattle.pt_node.specs.Desks.{all_shards}
+use Rattle.pt_workers.specs.Desks.{all_shards}
 use Rattle.pt_crew.specs.declared.crew.Crew.{Crew}
 use Rattle.pt_crew.specs.Running.{AllUphold, AreIdle}
 use Rattle.pt_supervisor.specs.Keeping.{ChildrenLive, Keeps, PartOf}

@@ -10,15 +10,15 @@ use pt_node::{Pid, Reason};
 /// How a supervisor ends a child: `shutdown` of a child's specification.
 #[derive(Clone, Copy, Debug, PartialEq, Eq)]
 pub enum Shutdown {
-    /// By an exit signal `shutdown`, and it waits for the end however long that takes, as Erlang's `infinity` says: a
-    /// child that traps exits hears it as an item, and ends by itself.
+    /// By an exit signal `shutdown`. The supervisor waits for the exit however long that takes, as with Erlang's
+    /// `infinity`. A child that traps exits gets the signal as an item, and exits by itself.
     Infinity,
-    /// By an exit signal `kill`, which no trap holds off: `brutal_kill`.
+    /// By an exit signal `kill`, which cannot be trapped: `brutal_kill`.
     BrutalKill,
 }
 
 impl Shutdown {
-    /// The reason that the exit signal carries.
+    /// The reason of the exit signal.
     pub fn bids(&self) -> Reason
         ensures { result ≡ bids self.now }
     {
@@ -32,16 +32,16 @@ impl Shutdown {
 /// A child of a supervisor, in its place.
 #[derive(Clone, Copy, Debug, PartialEq, Eq)]
 pub struct Child {
-    /// Its pid, while it has not been heard to have ended.
+    /// Its pid, until the supervisor gets its exit.
     pub pid: Option<Pid>,
     pub restart: Restart,
     pub shutdown: Shutdown,
-    /// Whether it is to live.
+    /// Whether the supervisor wants it alive.
     pub wanted: bool,
 }
 
 impl Child {
-    /// A child that is to be started, and is ended by `shutdown`.
+    /// A child that is to be started, and is ended by an exit signal `shutdown`.
     pub fn new(restart: Restart) -> Child
         ensures { result ≡ record { pid = None; restart = restart; shutdown = Shutdown.Infinity; wanted = true } }
     {
@@ -53,7 +53,7 @@ impl Child {
         }
     }
 
-    /// The same child, which is ended in this way.
+    /// The same child, to be ended in this way.
     pub fn ended_by(self, shutdown: Shutdown) -> Child
         ensures { result ≡ record self { shutdown = shutdown } }
     {
@@ -74,7 +74,7 @@ impl Child {
         is_process(self.pid, pid)
     }
 
-    /// Its pid, while it lives, and with what reason it is bidden to end.
+    /// Its pid, if it has one, and the reason of the exit signal that ends it.
     pub fn leaving(&self) -> Option<(Pid, Reason)>
         ensures { result ≡ leaving self.now }
     {
@@ -103,7 +103,7 @@ pub fn place_of(children: &[Child], pid: Pid) -> Option<usize>
     children.iter().position(|child| child.is_of(pid))
 }
 
-/// The last child from the place `first` on that lives, and with what reason it is bidden to end.
+/// The last child from the place `first` on that has a pid, and the reason of the exit signal that ends it.
 pub fn last_alive(children: &[Child], first: usize) -> Option<(Pid, Reason)>
     ensures { result ≡ last_alive children.now first (length children.now) }
 {

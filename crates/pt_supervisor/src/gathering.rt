@@ -1,7 +1,7 @@
-//! The supervisors of a node that runs, comes to rest and is gathered, as the contract of a function that does nothing.
+//! Supervisors in a node that runs, gets still and is gathered, as the contract of a function that does nothing.
 
-ghost use Rattle.pt_node.specs.Running.{begins_by};
-ghost use Rattle.pt_node.specs.declared.work.Standing.TheVariants.{Going};
+ghost use Rattle.pt_workers.specs.Running.{begins_by};
+ghost use Rattle.pt_workers.specs.declared.work.Standing.TheVariants.{Going};
 ghost use Rattle.pt_crew.specs.Running.{RestUpholds, RoundsUphold, RunUpholds};
 ghost use Rattle.pt_supervisor.specs.Keeping.{Keeps};
 ghost use Rattle.pt_supervisor.specs.Gathering.{GatheredChildrenLive};
@@ -10,12 +10,12 @@ use crate::supervised::Supervised;
 use pt_laws::laws;
 use pt_node::Gate;
 
-/// On each desk of a gathered node each child that its supervisor wants alive lives, or took its link with the
-/// supervisor away itself. It does nothing.
+/// On each desk of a gathered node, each child that its supervisor wants alive is alive, or unlinked itself from the
+/// supervisor. The function does nothing: its contract is the promise.
 ///
-/// What that needs of the crews, each over the desk at its place, stays so through a run of them at this gate, on
-/// threads (`run`) or in rounds (`rounds`), and while the node is turned until it is still (`rests`). Then it takes
-/// that none of them has anything to do ([`pt_crew::are_idle`]), and that the node is gathered and settled (`live`).
+/// It needs something of the crews, each over the desk at its place. A run of them at this gate keeps it, on threads
+/// (`run`) or in rounds (`rounds`), and so does turning the node until it is still (`rests`). The promise then needs
+/// that no crew has anything to do ([`pt_crew::are_idle`]), and that the node is gathered and settled (`live`).
 pub fn gathered_children_live<B: Supervised + Drop, G: Gate>(gate: &G)
     ensures run { RunUpholds B.answers (Keeps B.supervisor) (begins_by (λ _. Going) (G.lets gate.now)) }
     ensures rounds { RoundsUphold B.answers (Keeps B.supervisor) (begins_by (λ _. Going) (G.lets gate.now)) }

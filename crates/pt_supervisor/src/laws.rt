@@ -1,9 +1,9 @@
-//! What holds of each supervisor, as the contract of a function that does nothing.
+//! What holds for each supervisor, as the contract of a function that does nothing.
 
 ghost use Rattle.pt_supervisor.specs.Supervising.{PermanentLive, StaysWanted};
 
-/// Whatever a supervisor hears, each permanent child stays one that is to live; so where it waits for any item, each of
-/// them lives, by all that it has heard.
+/// For any item that a supervisor handles, each permanent child stays one that it wants alive. So if it waits for any
+/// item, each of them is alive, as far as it knows.
 pub fn permanent_children_live()
     ensures stays { StaysWanted }
     ensures live { PermanentLive }

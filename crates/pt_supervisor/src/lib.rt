@@ -1,20 +1,21 @@
-//! Supervisors of a crew: processes that start their children, and start them again when they end.
+//! Supervisors of a crew: processes that start their children, and start them again when they exit.
 //!
-//! A [`Supervisor`] is a part of a behaviour: a program's enum of behaviours has a variant that holds one, and hands
-//! every item on to [`Supervisor::handle`]. What its children do is the program's, by [`Start`]; a child may hold a
-//! supervisor in its turn.
+//! A [`Supervisor`] is a part of a behaviour: a program's enum of behaviours has a variant that holds one, and passes
+//! every item to [`Supervisor::handle`]. The program says by [`Start`] what the children do. A child may hold a
+//! supervisor, too.
 //!
 //! # What is proved
 //!
 //! - **Restarts.** After an exit, which children are started again, and which others the strategy ends, is one function
 //!   of what the supervisor knows. (`starts_again`, `ends_from`)
 //! - **Limits.** When a restart is still allowed is exact. (`Limit::allows`)
-//! - **Handling.** What `handle` does on the desk, refusals included, is said whole. (`SupervisorHandles`)
+//! - **Handling.** The contract of `handle` says all that it does on the desk, also if a call fails.
+//!   (`SupervisorHandles`)
 //! - **Children are restarted.** Once the node is quiet and the crew idle, each child that a live supervisor wants
 //!   alive is alive, or unlinked itself. (`quiet_children_live`, `gathered_children_live`)
-//! - **No orphans.** Of a supervisor that stopped by itself no child lives, unless that child sent it an exit signal.
-//!   (`stopped_children_ended`)
-//! - **Permanent children.** A permanent child always is to live. (`permanent_children_live`)
+//! - **No orphans.** No child of a supervisor that stopped by itself is alive, unless that child sent it an exit
+//!   signal. (`stopped_children_ended`)
+//! - **Permanent children.** A supervisor always wants its permanent children alive. (`permanent_children_live`)
 #![tactic(auto)]
 
 mod children;

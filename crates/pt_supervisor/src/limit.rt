@@ -4,12 +4,12 @@ ghost use Rattle.std.specs.Prelude.{◌≤◌, vec_capacity};
 
 use std::alloc::{AllocError, Global};
 
-/// So many restarts at most in so many stamps of the desk's clock.
+/// At most so many restarts in so many stamps of the desk's clock.
 ///
 /// A desk has no other clock: each event on it has the next stamp, or a later one.
 #[derive(Drop)]
 pub struct Limit {
-    /// When each of the last restarts was, the newest at the end.
+    /// The times of the last restarts, the newest at the end.
     times: Vec<u64>,
     most: usize,
     span: u64,
@@ -20,7 +20,7 @@ impl Limit {
     ghost use Rattle.std.specs.Prelude.{◌≡◌, IfOk, [], cond, nat_lt, length};
     ghost use Rattle.pt_supervisor.specs.Limits.{Allows, is_none};
 
-    /// At most `most` restarts within `span` stamps; refused where there is no memory for their times.
+    /// At most `most` restarts within `span` stamps. Fails if there is no memory for their times.
     pub fn new(alloc: Global, most: usize, span: u64) -> Result<Limit, AllocError>
         ensures { IfOk result (λ l. is_none most span l) }
     {

@@ -5,19 +5,19 @@ ghost use Rattle.pt_supervisor.specs.Restarts.{ends_from, starts_again};
 
 use pt_node::Reason;
 
-/// Whether a child is started again when it has ended.
+/// Whether a child is started again when it has exited.
 #[derive(Clone, Copy, Debug, PartialEq, Eq)]
 pub enum Restart {
     /// Always.
     Permanent,
-    /// Unless it ended as it should: with `normal` or `shutdown`.
+    /// Unless it exited with `normal` or `shutdown`.
     Transient,
     /// Never.
     Temporary,
 }
 
 impl Restart {
-    /// Whether a child that ended by itself with this reason is started again.
+    /// Whether a child that exited by itself with this reason is started again.
     pub fn starts_again(&self, reason: Reason) -> bool
         ensures { result ≡ starts_again self.now reason }
     {
@@ -31,10 +31,10 @@ impl Restart {
     }
 }
 
-/// Whom a supervisor ends and starts again where a child has ended that is to be started again.
+/// Which others a supervisor ends and starts again if a child has exited that is to be started again.
 #[derive(Clone, Copy, Debug, PartialEq, Eq)]
 pub enum Strategy {
-    /// Nobody else.
+    /// No other.
     OneForOne,
     /// All others.
     OneForAll,
@@ -43,7 +43,7 @@ pub enum Strategy {
 }
 
 impl Strategy {
-    /// The first place from which on children are ended, where the child at a place has ended; `count` where nobody is.
+    /// The place from which on children are ended if the child at `place` has exited; `count` if none is.
     pub fn ends_from(&self, place: usize, count: usize) -> usize
         ensures { result ≡ ends_from self.now place count }
     {

@@ -1,4 +1,4 @@
-//! Supervisors in a node that is still, and those that stopped, as the contracts of functions that do nothing.
+//! Supervisors in a node that is still, and supervisors that stopped, as the contracts of functions that do nothing.
 
 ghost use Rattle.std.specs.Prelude.{◌≡◌, ℕ, List, [], Option, Result};
 ghost use Rattle.pt_signal.specs.declared.pid.Pid.{Pid};
@@ -21,24 +21,27 @@ ghost use Rattle.pt_supervisor.specs.Stopping.{StoppedChildrenEnded};
 use pt_crew::Behaviour;
 use pt_laws::{laws, links};
 
-/// A behaviour some of whose values are supervisors, as a program's enum is that has a variant with a
+/// A behaviour with values that are supervisors, as a program's enum that has a variant with a
 /// [`Supervisor`](crate::Supervisor) in it.
 ///
-/// `supervisor` says which are, and as what. `supervises` proves of what the behaviour may answer that such a one sees
-/// to each item as [`Supervisor::handle`](crate::Supervisor::handle) does, that everyone else acts for itself alone,
-/// and that a supervisor which is born proceeds first, with no child, and has started none.
+/// `supervisor` says which values are, and with which state. `supervises` proves these of what the behaviour may
+/// answer:
+///
+/// - a supervisor handles each item as [`Supervisor::handle`](crate::Supervisor::handle) does;
+/// - every other process acts for itself alone;
+/// - a supervisor that is spawned proceeds first, has no child, and has started none.
 pub trait Supervised: Behaviour {
     ghost supervisor: { Self → Option Standing };
 
     ghost supervises: { SuperviseAs Self.answers supervisor };
 }
 
-/// In a node that is still each child that its supervisor wants alive lives, or took its link with the supervisor away
-/// itself. It does nothing.
+/// In a node that is still, each child that its supervisor wants alive is alive, or unlinked itself from the
+/// supervisor. The function does nothing: its contract is the promise.
 ///
-/// What it needs of the crew holds of one in which nobody is (`nobody`), and a step, a step and a turn, a receipt and
-/// the birth of one that begins keep it. A crew whose queue is empty, and in which whoever has something to do stands
-/// there, is idle.
+/// What it needs of the crew holds for an empty crew (`nobody`). A step, a step with a turn, and a receipt keep it. So
+/// does spawning a process that begins as it should. A crew is idle if its queue is empty, and each process that has
+/// something to do is in the queue.
 pub fn quiet_children_live<B: Supervised + Drop>()
     ensures nobody { (c : Crew B) (d : ShardState) → ((p : Pid) → roles c p ≡ None) → waiting c ≡ []
         → Upholds (Keeps B.supervisor) c d }
@@ -59,11 +62,11 @@ pub fn quiet_children_live<B: Supervised + Drop>()
     laws::journals_have_one_merge();
 }
 
-/// Of a supervisor that stopped by itself none of those lives whom it ever started, unless it sent the supervisor an
-/// exit signal itself. It does nothing.
+/// If a supervisor stopped by itself, no child that it ever started is alive, unless that child sent it an exit signal.
+/// The function does nothing: its contract is the promise.
 ///
-/// Whoever left in a step (`left`, and after a turn `left_work`) stands so still, and receipts keep that (`receipt`);
-/// then it is so of them in each node that is gathered (`ended`).
+/// What it needs still holds for a supervisor that left in a step (`left`, and after a turn `left_work`), and receipts
+/// keep that (`receipt`). So the promise holds in each gathered node (`ended`).
 pub fn stopped_children_ended<B: Supervised + Drop>()
     ensures left { (old new : Crew B) (d e : ShardState) → CrewDoes B.answers old d new e
         → Upholds (Keeps B.supervisor) old d → AllStill (Keeps B.supervisor) (left new) e }

@@ -12,34 +12,34 @@ use crate::restart::{Restart, Strategy};
 use pt_crew::{Births, Next, bear, bid_exit, trap};
 use pt_node::{Desk, Fault, Item, Pick, Pid, Reason};
 
-/// What the children of a supervisor do.
+/// What the children of a supervisor do, as the program says.
 pub trait Start<B> {
-    /// What it may answer, for those who want a supervisor's contracts to say what its children begin with: it before,
-    /// the supervisor, the place of the child, the answer, and it afterwards.
+    /// What `start` may return. A program defines it if a supervisor's contracts are to say what its children begin
+    /// with. It relates the value before, the supervisor, the place of the child, the answer, and the value afterwards.
     ghost starts: { Self → Pid → ℕ → Result (B × Next) Fault → Self → Type 0 } = { λ _ _ _ _ _. ⊤ };
 
-    /// The behaviour of the child at a place, as it is started, and what it does first.
+    /// Returns the behaviour of the child at a place as it is started, and what it does first.
     ///
-    /// Where it refuses, as for want of memory, the supervisor proceeds and asks again.
+    /// If it fails, as for want of memory, the supervisor proceeds and calls it again.
     fn start(&mut self, supervisor: Pid, place: usize) -> Result<(B, Next), Fault>
         ensures { starts self.old supervisor place result self.new };
 }
 
-/// A supervisor: it traps exits, starts its children in order, linked with it, and when one ends does what its strategy
-/// says.
+/// A supervisor: it traps exits, starts its children in order, linked with it, and does what its strategy says when one
+/// exits.
 #[derive(Drop)]
 pub struct Supervisor<S> {
     start: S,
     strategy: Strategy,
     children: Vec<Child>,
     limit: Limit,
-    /// With whose end it ends.
+    /// The process with which it exits.
     parent: Option<Pid>,
     /// From this place on children are ended, from the last to the first, before any is started.
     ending: usize,
-    /// With what it is to end, once all its children have.
+    /// The reason with which it is to exit, once all its children have.
     stopping: Option<Reason>,
-    /// How many children it has started.
+    /// The number of children that it has started.
     started: u64,
     ghost all: { ForSome stopping (λ r. ending ≡ 0) },
 }
@@ -74,10 +74,10 @@ impl<S> Supervisor<S> {
         }
     }
 
-    /// The same supervisor as a child of another process, its parent: where it hears of the end of its parent, or is
-    /// bidden by it to end, it ends its children from the last to the first, and then itself with the same reason.
+    /// The same supervisor as a child of another process, its parent. If it gets an exit signal from its parent, it
+    /// ends its children from the last to the first, and then exits with the same reason.
     ///
-    /// Of a supervisor that another one starts the parent is the `supervisor` of [`Start::start`].
+    /// If another supervisor starts it, the parent is the `supervisor` of [`Start::start`].
     pub fn under(self, parent: Pid) -> Supervisor<S>
         ensures standing { standing result ≡ record (standing self) { parent = Some parent } }
         ensures start { result.start ≡ self.start }
@@ -111,15 +111,15 @@ impl<S> Supervisor<S> {
         self.children.as_slice()
     }
 
-    /// How many children it has started, those that it started again counted each time; at most `u64::MAX`.
+    /// The number of children that it has started, counting each time those that it started again; at most `u64::MAX`.
     pub fn started(&self) -> u64
         ensures { result ≡ (standing self.now).started }
     {
         self.started
     }
 
-    /// All children are to end, from the last to the first, and then the supervisor with this reason. It sees to that
-    /// as it next handles an item, or proceeds.
+    /// Asks the supervisor to end all its children, from the last to the first, and then to exit with this reason. It
+    /// does so from the next item that it handles, or when it next proceeds.
     pub fn stop(&mut self, reason: Reason)
         ensures standing { standing self.new ≡ stopped reason (standing self.old) }
         ensures start { self.new.start ≡ self.old.start }
@@ -128,11 +128,11 @@ impl<S> Supervisor<S> {
         self.stopping = Some(reason);
     }
 
-    /// Sees to an item, or begins; what the supervisor does next.
+    /// Handles an item, or begins, and returns what the supervisor does next.
     ///
-    /// Where a call is refused for want of memory or stamps, or the program refuses to start a child, it proceeds, and
-    /// tries again as it does. An item that is neither the end of its parent nor that of a child changes nothing.
-    #[tactic(auto, using(pt_node::proofs::GoingOn::stays, pt_desk::proofs::Turning::goes_on_then))]
+    /// If a call fails for want of memory or stamps, or the program fails to start a child, it proceeds, and tries
+    /// again when it runs next. An item that is neither an exit signal of its parent nor of a child changes nothing.
+    #[tactic(auto, using(pt_workers::proofs::GoingOn::stays, pt_desk::proofs::Turning::goes_on_then))]
     pub fn handle<B: Drop>(
         &mut self,
         desk: &mut Desk,
@@ -161,8 +161,8 @@ impl<S> Supervisor<S> {
         self.advance(desk, births, me)
     }
 
-    /// Hears of an end, or begins to trap exits; whether nothing was refused.
-    #[tactic(auto, using(pt_node::proofs::GoingOn::stays))]
+    /// Takes in an exit, or begins to trap exits. Returns whether no call failed.
+    #[tactic(auto, using(pt_workers::proofs::GoingOn::stays))]
     fn attend(&mut self, desk: &mut Desk, me: Pid, item: Option<Item>) -> bool
         ensures does { SupervisorAttends me item (standing self.old) desk.old result (standing self.new) desk.new }
         ensures permanent { PermanentAreWanted (standing self.old).children
@@ -181,7 +181,7 @@ impl<S> Supervisor<S> {
         }
     }
 
-    /// A process has ended: what is to be done about it.
+    /// Notes that a process has exited, and what is to be done about it.
     fn hear(&mut self, now: u64, from: Pid, reason: Reason)
         ensures standing { standing self.new ≡ heard now from reason (standing self.old) }
         ensures start { self.new.start ≡ self.old.start }
@@ -195,7 +195,7 @@ impl<S> Supervisor<S> {
         }
     }
 
-    /// The child at a place has ended.
+    /// Notes that the child at a place has exited.
     fn lose(&mut self, now: u64, place: usize, reason: Reason)
         requires { place < length (standing self.old).children }
         ensures standing { standing self.new
@@ -219,8 +219,8 @@ impl<S> Supervisor<S> {
         }
     }
 
-    /// The child at a place is to be started again: if that is allowed those whom the strategy names end first; else
-    /// all do, and the supervisor.
+    /// Notes that the child at a place is to be started again. If that is allowed, those that the strategy names end
+    /// first. Else all do, and the supervisor.
     fn restart(&mut self, now: u64, place: usize)
         requires { 0 < self.old.ending }
         ensures standing { standing self.new ≡ started_again true now place (standing self.old) }
@@ -233,8 +233,8 @@ impl<S> Supervisor<S> {
         }
     }
 
-    /// Ends the last of those that are to end; where none is left, ends itself, or starts who is missing.
-    #[tactic(auto, using(pt_node::proofs::GoingOn::stays))]
+    /// Ends the last of the children that are to end. If none is left, it exits, or starts the missing children.
+    #[tactic(auto, using(pt_workers::proofs::GoingOn::stays))]
     fn advance<B: Drop>(&mut self, desk: &mut Desk, births: &mut Births<B>, me: Pid) -> Next
     where
         S: Start<B>,
@@ -266,7 +266,7 @@ impl<S> Supervisor<S> {
         }
     }
 
-    /// Starts the children that are missing, in order; whether nothing was refused.
+    /// Starts the children that are missing, in order. Returns whether no call failed.
     fn start_missing<B: Drop>(&mut self, desk: &mut Desk, births: &mut Births<B>, me: Pid) -> bool
     where
         S: Start<B>,
@@ -307,7 +307,7 @@ impl<S> Supervisor<S> {
         true
     }
 
-    /// Starts the child at a place, if it is missing; whether nothing was refused.
+    /// Starts the child at a place, if it is missing. Returns whether no call failed.
     fn start_at<B: Drop>(
         &mut self,
         desk: &mut Desk,

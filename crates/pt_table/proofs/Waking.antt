@@ -10,7 +10,7 @@ use Rattle.pt_events.specs.declared.event.Event.TheVariants.{Born, Said, Came, T
 use Rattle.pt_events.specs.History.{Past, Start, Phase, unborn, living, ended, life, after, touches, change, is_the}
 use Rattle.pt_events.specs.History.{newborn, linked, while_living, gets, leaves, arrives, items_of, reason_of}
 use Rattle.pt_events.proofs.Phases.{each_branch}
-use Rattle.pt_node.specs.Waking.{woken_by}
+use Rattle.pt_workers.specs.Waking.{woken_by}
 use Rattle.pt_table.specs.Waking.{OnlyWakes, NobodyIsMissed}
 
 -- whether or not the event is p's

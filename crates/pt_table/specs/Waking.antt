@@ -4,7 +4,7 @@ use Rattle.pt_signal.specs.declared.pid.Pid.{Pid}
 use Rattle.pt_events.specs.declared.event.Event.{Event}
 use Rattle.pt_events.specs.declared.event.Stamped.{Stamped}
 use Rattle.pt_events.specs.History.{Past, Start, life, arrives, reason_of, is_the}
-use Rattle.pt_node.specs.Waking.{woken_by, IsNextWoken, NoneIsWoken}
+use Rattle.pt_workers.specs.Waking.{woken_by, IsNextWoken, NoneIsWoken}
 use Rattle.pt_table.specs.declared.types.PtPid.{PtPid}
 use Rattle.pt_table.specs.Codes.{nothing_there}
 use Rattle.pt_table.specs.Crossing.{pid_out}

@@ -1,11 +1,11 @@
-//! The codes of what calls answer.
+//! The codes that calls return.
 
 ghost use Rattle.std.specs.Prelude.{◌≡◌};
 ghost use Rattle.pt_table.specs.Codes.{code_of, code_at, stop_code, open_code};
 
 use pt_node::{Fault, OpenError, Setting, Stop};
 
-/// The call was made.
+/// The call succeeded.
 pub const DONE: u32 = 0;
 
 /// There was no memory.
@@ -14,13 +14,13 @@ pub const MEMORY: u32 = 2;
 /// The desk cannot have had the target.
 pub const UNKNOWN: u32 = 7;
 
-/// There is nothing of what was asked for.
+/// What was asked for is not there.
 pub const NOTHING: u32 = 8;
 
-/// A handle has nothing.
+/// A handle is empty.
 pub const EMPTY: u32 = 9;
 
-/// A handle that is to be filled has something.
+/// A handle that must be empty is not.
 pub const FILLED: u32 = 10;
 
 pub fn code_of(fault: Fault) -> u32

@@ -1,8 +1,9 @@
-//! The table's values as what crosses, and the other way round.
+//! The table's values as the structs that cross, and the other way round.
 
-ghost use Rattle.std.specs.Prelude.{◌≡◌};
+ghost use Rattle.std.specs.Prelude.{◌≡◌, true};
+ghost use Rattle.pt_events.specs.declared.event.Event.TheVariants.{Born};
 ghost use Rattle.pt_table.specs.Crossing.{pid_crossed, pid_out, ref_in, ref_out, link_out, ids_out, reason_in, reason_out};
-ghost use Rattle.pt_table.specs.Crossing.{body_in, body_out, pick_in, pick_out, item_out, signal_out, event_out};
+ghost use Rattle.pt_table.specs.Crossing.{body_in, body_out, pick_in, pick_out, item_out, signal_out, event_out, told_in_c};
 ghost use Rattle.pt_table.specs.Crossing.{left_out, account_out, no_pid, no_ref, no_ids, no_reason, no_body, no_pick};
 ghost use Rattle.pt_table.specs.Crossing.{no_item, no_signal, blank};
 
@@ -223,129 +224,130 @@ pub fn item_out(i: Item) -> PtItem
     }
 }
 
+/// A signal that has ids.
+fn signal_of_ids(code: u32, ids: Ids) -> PtSignal
+    ensures { result ≡ record no_signal { code = code; ids = ids_out ids } }
+{
+    PtSignal {
+        code,
+        ids: ids_out(ids),
+        ..no_signal()
+    }
+}
+
+/// A signal that has a reference.
+fn signal_of_reference(code: u32, reference: Ref) -> PtSignal
+    ensures { result ≡ record no_signal { code = code; reference = ref_out reference } }
+{
+    PtSignal {
+        code,
+        reference: ref_out(reference),
+        ..no_signal()
+    }
+}
+
 pub fn signal_out(x: Signal) -> PtSignal
     ensures { result ≡ signal_out x }
 {
-    let blank = no_signal();
     match x {
         Signal::Message(body) => PtSignal {
-            code: 0,
             body: body_out(body),
-            ..blank
+            ..no_signal()
         },
-        Signal::Link(id) => PtSignal {
-            code: 1,
-            ids: ids_out(Ids::of(id)),
-            ..blank
-        },
-        Signal::Unlink(ids) => PtSignal {
-            code: 2,
-            ids: ids_out(ids),
-            ..blank
-        },
+        Signal::Link(id) => signal_of_ids(1, Ids::of(id)),
+        Signal::Unlink(ids) => signal_of_ids(2, ids),
         Signal::Exit(reason) => PtSignal {
             code: 3,
             reason: reason_out(reason),
-            ..blank
+            ..no_signal()
         },
         Signal::LinkExit(ids, reason) => PtSignal {
-            code: 4,
             reason: reason_out(reason),
-            ids: ids_out(ids),
-            ..blank
+            ..signal_of_ids(4, ids)
         },
-        Signal::Monitor(monitor) => PtSignal {
-            code: 5,
-            reference: ref_out(monitor),
-            ..blank
-        },
-        Signal::Demonitor(monitor) => PtSignal {
-            code: 6,
-            reference: ref_out(monitor),
-            ..blank
-        },
+        Signal::Monitor(monitor) => signal_of_reference(5, monitor),
+        Signal::Demonitor(monitor) => signal_of_reference(6, monitor),
         Signal::Down(monitor, reason) => PtSignal {
-            code: 7,
             reason: reason_out(reason),
-            reference: ref_out(monitor),
-            ..blank
+            ..signal_of_reference(7, monitor)
         },
-        Signal::AliveAsk(question) => PtSignal {
-            code: 8,
-            reference: ref_out(question),
-            ..blank
-        },
+        Signal::AliveAsk(question) => signal_of_reference(8, question),
         Signal::AliveSay(question, alive) => PtSignal {
-            code: 9,
             alive,
-            reference: ref_out(question),
-            ..blank
+            ..signal_of_reference(9, question)
         },
+    }
+}
+
+/// An event of a process, in place of an empty one of its stamp and desk.
+fn event_of(empty: PtEvent, code: u32, pid: Pid) -> PtEvent
+    ensures { result ≡ record empty { code = code; pid = pid_out pid } }
+{
+    PtEvent {
+        code,
+        pid: pid_out(pid),
+        ..empty
+    }
+}
+
+/// The same of an event that names another process too.
+fn event_between(empty: PtEvent, code: u32, pid: Pid, peer: Pid) -> PtEvent
+    ensures { result ≡ record empty { has_peer = true; code = code; pid = pid_out pid; peer = pid_out peer } }
+{
+    PtEvent {
+        has_peer: true,
+        peer: pid_out(peer),
+        ..event_of(empty, code, pid)
+    }
+}
+
+/// A birth, in place of an empty event.
+fn birth_out(empty: PtEvent, pid: Pid, parent: Option<Pid>, link: Option<LinkId>) -> PtEvent
+    ensures { result ≡ told_in_c (Born pid parent link) empty }
+{
+    PtEvent {
+        has_peer: parent.is_some(),
+        has_link: link.is_some(),
+        peer: match parent {
+            Some(parent) => pid_out(parent),
+            None => no_pid(),
+        },
+        link: match link {
+            Some(link) => link_out(link),
+            None => no_ref(),
+        },
+        ..event_of(empty, 0, pid)
     }
 }
 
 pub fn event_out(s: Stamped) -> PtEvent
     ensures { result ≡ event_out s }
 {
-    let blank = blank(s.stamp, s.desk);
+    let empty = blank(s.stamp, s.desk);
     match s.event {
-        Event::Born(pid, parent, link) => PtEvent {
-            has_peer: parent.is_some(),
-            has_link: link.is_some(),
-            code: 0,
-            pid: pid_out(pid),
-            peer: match parent {
-                Some(parent) => pid_out(parent),
-                None => no_pid(),
-            },
-            link: match link {
-                Some(link) => link_out(link),
-                None => no_ref(),
-            },
-            ..blank
-        },
+        Event::Born(pid, parent, link) => birth_out(empty, pid, parent, link),
         Event::Said(from, to, signal) => PtEvent {
-            has_peer: true,
-            code: 1,
-            pid: pid_out(from),
-            peer: pid_out(to),
             signal: signal_out(signal),
-            ..blank
+            ..event_between(empty, 1, from, to)
         },
         Event::Came(from, to, signal) => PtEvent {
-            has_peer: true,
-            code: 2,
-            pid: pid_out(to),
-            peer: pid_out(from),
             signal: signal_out(signal),
-            ..blank
+            ..event_between(empty, 2, to, from)
         },
         Event::Took(pid, pick, item) => PtEvent {
-            code: 3,
-            pid: pid_out(pid),
             pick: pick_out(pick),
             item: item_out(item),
-            ..blank
+            ..event_of(empty, 3, pid)
         },
         Event::Flag(pid, on) => PtEvent {
             on,
-            code: 4,
-            pid: pid_out(pid),
-            ..blank
+            ..event_of(empty, 4, pid)
         },
         Event::Left(pid, reason) => PtEvent {
-            code: 5,
-            pid: pid_out(pid),
             reason: reason_out(reason),
-            ..blank
+            ..event_of(empty, 5, pid)
         },
-        Event::Refused(from, to) => PtEvent {
-            has_peer: true,
-            code: 6,
-            pid: pid_out(from),
-            peer: pid_out(to),
-            ..blank
-        },
+        Event::Refused(from, to) => event_between(empty, 6, from, to),
     }
 }
 
@@ -457,7 +459,7 @@ fn no_signal() -> PtSignal
     }
 }
 
-/// An event of which nothing but its stamp and its desk is told.
+/// An event with its stamp and its desk only.
 fn blank(stamp: u64, desk: u8) -> PtEvent
     ensures { result ≡ blank stamp desk }
 {

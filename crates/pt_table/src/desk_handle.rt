@@ -16,7 +16,7 @@ use std::mem;
 
 /// The place of a desk on the heap, or none.
 ///
-/// In C it is a pointer, null where there is none. The ghost field is what stands at the place.
+/// In C it is a pointer, null if there is none. The ghost field is the value at the place.
 #[repr(C)]
 #[derive(Drop)]
 pub struct DeskHandle {
@@ -72,7 +72,7 @@ pub fn claim(alloc: Global, h: &mut DeskHandle) -> Option<Box<HeldDesk, Global>>
     }
 }
 
-/// A handle that has the place.
+/// The handle with this place.
 pub fn hold(place: Box<HeldDesk, Global>) -> DeskHandle
     ensures { result.state ≡ Some place.value }
 {
@@ -92,7 +92,7 @@ pub fn is_full(alloc: Global, h: &mut DeskHandle) -> bool
     full
 }
 
-/// Takes what the handle has, and its place.
+/// Takes the value out of the handle, with its place.
 pub fn take_out(alloc: Global, h: &mut DeskHandle) -> Option<(Box<HeldDesk, Global>, Desk)>
     ensures value { option_map (λ r. r.1) result ≡ value_behind h.old.state }
     ensures empty { h.new.state ≡ None }
@@ -102,7 +102,7 @@ pub fn take_out(alloc: Global, h: &mut DeskHandle) -> Option<(Box<HeldDesk, Glob
     Some((place, value))
 }
 
-/// A place with nothing.
+/// An empty place.
 pub fn spare(alloc: Global) -> Result<Box<HeldDesk, Global>, AllocError>
     ensures { IfOk result (λ b. b.value ≡ None) }
 {
@@ -112,7 +112,7 @@ pub fn spare(alloc: Global) -> Result<Box<HeldDesk, Global>, AllocError>
     }
 }
 
-/// A handle with that place, and with the value in it.
+/// The handle with this place, and with the value in it.
 pub fn filled(place: Box<HeldDesk, Global>, value: Desk) -> DeskHandle
     ensures { result.state ≡ full value }
 {

@@ -1,4 +1,4 @@
-//! The calls of a desk, with what crosses in the place of the table's values.
+//! The calls of a desk, with the structs that cross in place of the table's values.
 
 ghost use Rattle.std.specs.Prelude.{◌≡◌};
 ghost use Rattle.pt_table.specs.Answers.{SpawnsOnDesk, SpawnsChild, SendsOnDesk, SendsExit, Links, Unlinks, WatchesOnDesk, UnwatchesOnDesk, AsksOnDesk};

@@ -16,7 +16,7 @@ use std::mem;
 
 /// The place of a gathered node on the heap, or none.
 ///
-/// In C it is a pointer, null where there is none. The ghost field is what stands at the place.
+/// In C it is a pointer, null if there is none. The ghost field is the value at the place.
 #[repr(C)]
 #[derive(Drop)]
 pub struct GatheredHandle {
@@ -72,7 +72,7 @@ pub fn claim(alloc: Global, h: &mut GatheredHandle) -> Option<Box<HeldGathered, 
     }
 }
 
-/// A handle that has the place.
+/// The handle with this place.
 pub fn hold(place: Box<HeldGathered, Global>) -> GatheredHandle
     ensures { result.state ≡ Some place.value }
 {
@@ -92,7 +92,7 @@ pub fn is_full(alloc: Global, h: &mut GatheredHandle) -> bool
     full
 }
 
-/// Takes what the handle has, and its place.
+/// Takes the value out of the handle, with its place.
 pub fn take_out(
     alloc: Global,
     h: &mut GatheredHandle,
@@ -105,7 +105,7 @@ pub fn take_out(
     Some((place, value))
 }
 
-/// A place with nothing.
+/// An empty place.
 pub fn spare(alloc: Global) -> Result<Box<HeldGathered, Global>, AllocError>
     ensures { IfOk result (λ b. b.value ≡ None) }
 {
@@ -115,7 +115,7 @@ pub fn spare(alloc: Global) -> Result<Box<HeldGathered, Global>, AllocError>
     }
 }
 
-/// A handle with that place, and with the value in it.
+/// The handle with this place, and with the value in it.
 pub fn filled(place: Box<HeldGathered, Global>, value: Gathered) -> GatheredHandle
     ensures { result.state ≡ full value }
 {

@@ -1,4 +1,4 @@
-//! What handles have: a value on the heap, which can be taken out and leaves its place.
+//! The places that handles have: a value on the heap, which can be taken out and leaves its place.
 
 use pt_node::{Desk, Gathered, LeftOver, Quiet, Stamped};
 use std::marker::Model;
@@ -26,7 +26,7 @@ impl Drop for HeldDesk {
     }
 }
 
-/// Gives a desk up, with its processes, its journal and the letters in it.
+/// Gives up a desk, with its processes, its journal and the letters in it.
 fn give_up(desk: Desk) {
     let (_shard, outs, ins, _directory, _seat, _before) = desk.apart();
     outs.close();

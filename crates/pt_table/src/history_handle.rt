@@ -15,7 +15,7 @@ use std::mem;
 
 /// The place of a history on the heap, or none.
 ///
-/// In C it is a pointer, null where there is none. The ghost field is what stands at the place.
+/// In C it is a pointer, null if there is none. The ghost field is the value at the place.
 #[repr(C)]
 #[derive(Drop)]
 pub struct HistoryHandle {
@@ -71,7 +71,7 @@ pub fn claim(alloc: Global, h: &mut HistoryHandle) -> Option<Box<HeldHistory, Gl
     }
 }
 
-/// A handle that has the place.
+/// The handle with this place.
 pub fn hold(place: Box<HeldHistory, Global>) -> HistoryHandle
     ensures { result.state ≡ Some place.value }
 {
@@ -91,7 +91,7 @@ pub fn is_full(alloc: Global, h: &mut HistoryHandle) -> bool
     full
 }
 
-/// Takes what the handle has, and its place.
+/// Takes the value out of the handle, with its place.
 pub fn take_out(alloc: Global, h: &mut HistoryHandle) -> Option<(Box<HeldHistory, Global>, History)>
     ensures value { option_map (λ r. r.1) result ≡ value_behind h.old.state }
     ensures empty { h.new.state ≡ None }
@@ -101,7 +101,7 @@ pub fn take_out(alloc: Global, h: &mut HistoryHandle) -> Option<(Box<HeldHistory
     Some((place, value))
 }
 
-/// A place with nothing.
+/// An empty place.
 pub fn spare(alloc: Global) -> Result<Box<HeldHistory, Global>, AllocError>
     ensures { IfOk result (λ b. b.value ≡ None) }
 {
@@ -111,7 +111,7 @@ pub fn spare(alloc: Global) -> Result<Box<HeldHistory, Global>, AllocError>
     }
 }
 
-/// A handle with that place, and with the value in it.
+/// The handle with this place, and with the value in it.
 pub fn filled(place: Box<HeldHistory, Global>, value: History) -> HistoryHandle
     ensures { result.state ≡ full value }
 {

@@ -1,15 +1,15 @@
-//! What the table for C is made of, but for its exports: plain structs and codes in the place of enums and options, the
-//! handles, and the calls of a desk with what crosses.
+//! The table for C without its exports: plain structs and codes in place of enums and options, the handles, and the
+//! calls of a desk with these structs.
 //!
-//! `pt_c` exports it. It is a library of its own so that the gate proves it once: a static library keeps no checked
-//! crate, so what `pt_c` holds is proved again where its archive is built.
+//! `pt_c` exports it. It is a library of its own so that the gate proves it once. A static library keeps no checked
+//! crate, so what is in `pt_c` is proved again when its archive is built.
 //!
 //! # What is proved
 //!
-//! - **Structs and codes.** Each value crosses to its struct and back, and each refusal to its code. (`Crossing`,
+//! - **Structs and codes.** Each value crosses to its struct and back, and each failure to its code. (`Crossing`,
 //!   `Codes`)
-//! - **Wake-ups.** `Woken` says who is named next. By no event does any other process get an item or exit.
-//!   (`NobodyIsMissed`)
+//! - **Wake-ups.** `Woken` says which process is returned next. No event gives an item to any other process, or makes
+//!   it exit. (`NobodyIsMissed`)
 #![tactic(auto)]
 
 pub mod codes;

@@ -1,4 +1,4 @@
-//! What is read, as what crosses.
+//! The values that are read, as the structs that cross.
 
 ghost use Rattle.std.specs.Prelude.{◌≡◌, length, reverse, slice_get};
 ghost use Rattle.pt_table.specs.Answers.{ShowsCode};

@@ -9,7 +9,7 @@ use crate::held::HeldDesk;
 use pt_node::Desk;
 use std::alloc::{AllocError, Global};
 
-/// How many of the handles have a desk.
+/// The number of handles that have a desk.
 pub fn count_full(alloc: Global, desks: &mut [DeskHandle]) -> usize
     ensures same { map (λ h. h.state) desks.new ≡ map (λ h. h.state) desks.old }
     ensures count { result ≡ length (values (map (λ h. h.state) desks.old)) }
@@ -42,7 +42,7 @@ pub fn empty_all(
     }
 }
 
-/// Gives each handle a place with one of these desks.
+/// Fills each handle with a place that has one of these desks.
 pub fn fill_all(desks: &mut [DeskHandle], places: Vec<Box<HeldDesk, Global>>, list: Vec<Desk>)
     requires places { length places.items ≡ length desks.old }
     requires list { length list.items ≡ length desks.old }
@@ -58,7 +58,7 @@ pub fn fill_all(desks: &mut [DeskHandle], places: Vec<Box<HeldDesk, Global>>, li
     list.destroy_empty();
 }
 
-/// As many places with no desk.
+/// As many empty places.
 pub fn spare_places(alloc: Global, count: usize) -> Result<Vec<Box<HeldDesk, Global>>, AllocError>
     ensures { IfOk result (λ v. length v.items ≡ count) }
 {

@@ -1,16 +1,16 @@
-//! What crosses: plain structs, and codes in place of enums.
+//! The structs that cross: plain, and with codes in place of enums.
 //!
-//! In a struct that the library fills, each field that its code gives no meaning to is zero.
+//! In a struct that the library fills, each field that has no meaning for the code is zero.
 
 /// The name of a process.
 #[repr(C)]
 #[derive(Clone, Copy)]
 pub struct PtPid {
-    /// The number of the desk on which the process lives and ends.
+    /// The number of the desk on which the process is for all its life.
     pub shard: u8,
     /// The slot of that desk.
     pub slot: u32,
-    /// How often the slot was given out, this time included.
+    /// How often the slot was used, this time included.
     pub version: u32,
 }
 
@@ -22,8 +22,8 @@ pub struct PtRef {
     pub number: u64,
 }
 
-/// The ids under which two processes are linked, in order of entry. There are two where both sides made the link at
-/// the same time.
+/// The ids under which two processes are linked, in order of entry. There are two if both sides made the link at the
+/// same time.
 #[repr(C)]
 #[derive(Clone, Copy)]
 pub struct PtIds {
@@ -46,14 +46,17 @@ pub struct PtReason {
 pub struct PtBody {
     pub kind: u32,
     pub num: i64,
-    /// Whether the message speaks of a process, which is `who`.
+    /// Whether the message names a process, which is `who`.
     pub has_who: bool,
     pub who: PtPid,
 }
 
-/// What stands in a mailbox. Code 0 is a message (`pid`, `body`), 1 a trapped exit (`pid`, `reason`), 2 a DOWN
-/// (`reference`, `pid`, `reason`), 3 the answer to the question whether a process is alive (`reference`, `pid`,
-/// `alive`).
+/// An item of a mailbox. The codes are:
+///
+/// - 0: a message (`pid`, `body`);
+/// - 1: a trapped exit (`pid`, `reason`);
+/// - 2: a DOWN (`reference`, `pid`, `reason`);
+/// - 3: the answer to the question whether a process is alive (`reference`, `pid`, `alive`).
 #[repr(C)]
 #[derive(Clone, Copy)]
 pub struct PtItem {
@@ -65,8 +68,14 @@ pub struct PtItem {
     pub body: PtBody,
 }
 
-/// Which items a receive takes. Code 0 is a message of `kind`, 1 a message from `pid`, 2 a trapped exit of `pid`, 3 the
-/// DOWN of `reference`, 4 the answer to the question `reference`, and any other takes every item.
+/// The items that a receive takes. The codes are:
+///
+/// - 0: a message of `kind`;
+/// - 1: a message from `pid`;
+/// - 2: a trapped exit of `pid`;
+/// - 3: the DOWN of `reference`;
+/// - 4: the answer to the question `reference`;
+/// - any other: every item.
 #[repr(C)]
 #[derive(Clone, Copy)]
 pub struct PtPick {
@@ -76,10 +85,18 @@ pub struct PtPick {
     pub reference: PtRef,
 }
 
-/// What one process sends another. Code 0 is a message (`body`), 1 a link (`ids.one`), 2 that ids of a link are taken
-/// away (`ids`), 3 an exit signal that no link carries (`reason`), 4 one that a link carries (`ids`, `reason`),
-/// 5 a monitor (`reference`), 6 its end (`reference`), 7 its DOWN (`reference`, `reason`), 8 the question whether the
-/// receiver is alive (`reference`), 9 the answer (`reference`, `alive`).
+/// What one process sends another. The codes are:
+///
+/// - 0: a message (`body`);
+/// - 1: a link (`ids.one`);
+/// - 2: an unlink of these ids (`ids`);
+/// - 3: an exit signal that no link carries (`reason`);
+/// - 4: an exit signal that a link carries (`ids`, `reason`);
+/// - 5: a monitor (`reference`);
+/// - 6: its demonitor (`reference`);
+/// - 7: its DOWN (`reference`, `reason`);
+/// - 8: the question whether the receiver is alive (`reference`);
+/// - 9: the answer (`reference`, `alive`).
 #[repr(C)]
 #[derive(Clone, Copy)]
 pub struct PtSignal {
@@ -91,10 +108,15 @@ pub struct PtSignal {
     pub body: PtBody,
 }
 
-/// An event. Code 0 is a birth (`pid`; `peer`, the parent, where `has_peer`; `link`, made with it, where `has_link`),
-/// 1 that `pid` sent `peer` a signal (`signal`), 2 that a signal of `peer` came to `pid` (`signal`), 3 that `pid` took
-/// an item (`pick`, `item`), 4 that it set its flag (`on`), 5 that it ended by its own exit (`reason`), 6 that a call
-/// of it was refused, since `peer` had ended.
+/// An event. The codes are:
+///
+/// - 0: `pid` was spawned, by the parent `peer` if `has_peer` is true, with the link `link` if `has_link` is true;
+/// - 1: `pid` sent `peer` a signal (`signal`);
+/// - 2: `pid` got a signal of `peer` (`signal`);
+/// - 3: `pid` took an item (`pick`, `item`);
+/// - 4: `pid` set its flag (`on`);
+/// - 5: `pid` exited by its own call (`reason`);
+/// - 6: a call of `pid` failed, since `peer` had exited.
 #[repr(C)]
 #[derive(Clone, Copy)]
 pub struct PtEvent {
@@ -113,7 +135,7 @@ pub struct PtEvent {
     pub signal: PtSignal,
 }
 
-/// A letter that was sent and did not come to its receiver before the desks were gathered.
+/// A letter that was sent and did not arrive at its receiver before the desks were gathered.
 #[repr(C)]
 #[derive(Clone, Copy)]
 pub struct PtLeftOver {
@@ -141,7 +163,7 @@ pub struct PtTurned {
 #[repr(C)]
 #[derive(Clone, Copy)]
 pub struct PtAccount {
-    /// Whether it ended, with the reason `ended`.
+    /// Whether it exited, with the reason `ended`.
     pub has_ended: bool,
     pub ended: PtReason,
     pub arrived: u64,
@@ -149,16 +171,16 @@ pub struct PtAccount {
     pub waiting: u64,
 }
 
-/// The settings of a node; it has as many desks as handles were handed in.
+/// The settings of a node. It has as many desks as handles were passed.
 #[repr(C)]
 #[derive(Clone, Copy)]
 pub struct PtConfig {
-    /// How many slots a desk has: 1 to 65,536.
+    /// The number of slots of a desk: 1 to 65,536.
     pub slots: u32,
     /// The greatest version of a slot: 1 to 4,294,967,295.
     pub top_version: u32,
-    /// How many letters a lane holds: 1 to 65,536.
+    /// The number of letters that a lane holds: 1 to 65,536.
     pub lane: u32,
-    /// Where the clocks start: 0 to 2^62.
+    /// The start of the clocks: 0 to 2^62.
     pub start: u64,
 }

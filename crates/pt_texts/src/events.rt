@@ -23,7 +23,7 @@ fn switch_at(text: &[u8]) -> Read<'_, bool>
     Err(text.len())
 }
 
-/// The parent of a birth, where there is one.
+/// The parent of a birth, if there is one.
 fn parent_at(text: &[u8]) -> Read<'_, Option<Pid>>
     ensures { ReaderGives (λ read. (read.0, read.1.now)) result (parent_at text.now) }
 {
@@ -36,7 +36,7 @@ fn parent_at(text: &[u8]) -> Read<'_, Option<Pid>>
     }
 }
 
-/// The id of the link that a birth makes, where it makes one.
+/// The id of the link that a birth makes, if it makes one.
 fn birth_link_at(text: &[u8]) -> Read<'_, Option<LinkId>>
     ensures { ReaderGives (λ read. (read.0, read.1.now)) result (birth_link_at text.now) }
 {
@@ -49,7 +49,7 @@ fn birth_link_at(text: &[u8]) -> Read<'_, Option<LinkId>>
     }
 }
 
-/// What stands behind `born`.
+/// The text after `born`.
 #[tactic(auto, unfolding(crate::specs::Readers::birth_at))]
 fn birth_at(text: &[u8]) -> Read<'_, Event>
     ensures { ReaderGives (λ read. (read.0, read.1.now)) result (birth_at text.now) }

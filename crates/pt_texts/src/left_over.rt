@@ -1,4 +1,4 @@
-//! A letter that was sent and did not come.
+//! A letter that was sent and did not arrive.
 
 ghost use Rattle.pt_texts.specs.Readers.{left_over_at};
 ghost use Rattle.pt_texts.specs.Steps.{ReaderGives};
@@ -8,8 +8,7 @@ use crate::signals::letter_at;
 use crate::steps::{Read, word_at};
 use pt_signal::Letter;
 
-/// A letter that was sent and did not come before the desks were gathered, as the last lines of a printed history
-/// tell them.
+/// A letter that was sent and did not arrive before the desks were gathered, as in the last lines of a printed history.
 #[derive(Clone, Copy, Debug, PartialEq, Eq)]
 pub struct LeftOver {
     /// The desk of its sender.

@@ -5,7 +5,7 @@
 //! - **Reading back.** A value, an event or a line of a printed history is parsed from its printed text, and from no
 //!   other text. (`parse_pid` to `parse_left_over`)
 //! - **No two alike.** No two values of a type print alike. (`no_two_print_alike`)
-//! - **Columns.** A refusal gives the column that the readers reach. (`Readers`)
+//! - **Columns.** If a text cannot be parsed, the error has the column that the readers reach. (`Readers`)
 #![tactic(auto)]
 
 mod events;

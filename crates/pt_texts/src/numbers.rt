@@ -34,7 +34,7 @@ fn digits_at(most: u64, first: u64, text: &[u8]) -> Read<'_, u64>
     Ok((number, &text[text.len()..]))
 }
 
-/// A number from 0 to the greatest.
+/// A number from 0 to `most`.
 fn number_at(most: u64, text: &[u8]) -> Read<'_, u64>
     requires { 9 ≤ most }
     ensures range { IfOk result (λ read. read.0 ≤ most) }

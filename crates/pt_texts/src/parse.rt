@@ -25,12 +25,12 @@ use thiserror::Error;
 #[derive(Clone, Copy, Debug, PartialEq, Eq, Error)]
 #[error("column {column}")]
 pub struct Refused {
-    /// Where the first word or number stands that no value prints there, counted in bytes from 1. A number that is
-    /// too great for its place is refused at the digit by which it is.
+    /// The column of the first word or number that no value prints there, counted in bytes from 1. If a number is too
+    /// great for its place, it is the column of the digit that makes it so.
     pub column: usize,
 }
 
-/// The value, where the whole text was read.
+/// The value, if the whole text was read.
 fn finish<T: Copy>(text: &[u8], read: Read<'_, T>) -> Result<T, Refused>
     ensures { (got : Got T) → ReaderGives (λ x. (x.0, x.1.now)) read.entry got → result ≡ finished text.now got }
 {
@@ -90,7 +90,7 @@ pub fn parse_body(text: &[u8]) -> Result<Body, Refused>
     finish(text, body_at(text))
 }
 
-/// What stands in a mailbox, as `user <0.0.1> 1 7`.
+/// An item of a mailbox, as `user <0.0.1> 1 7`.
 pub fn parse_item(text: &[u8]) -> Result<Item, Refused>
     ensures { Parses FitsItem item_text item_at text.now result }
 {

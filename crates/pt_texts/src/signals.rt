@@ -1,4 +1,4 @@
-//! What stands in a mailbox, what a receive takes, and signals on their way.
+//! Items of a mailbox, what a receive takes, and signals in flight.
 
 ghost use Rattle.pt_texts.specs.Steps.{ReaderGives};
 ghost use Rattle.pt_texts.specs.Readers.{item_at, pick_at, signal_at, other_signal_at, route_at, letter_at};
@@ -124,7 +124,7 @@ fn other_signal_at(text: &[u8]) -> Read<'_, Signal>
     Err(text.len())
 }
 
-/// Who sends, and to whom.
+/// The sender and the receiver.
 #[tactic(auto, unfolding(crate::specs::Readers::route_at))]
 pub(crate) fn route_at(text: &[u8]) -> Read<'_, (Pid, Pid)>
     ensures { ReaderGives (λ read. (read.0, read.1.now)) result (route_at text.now) }

@@ -3,10 +3,10 @@
 ghost use Rattle.std.specs.Prelude.{◌≡◌, option_map};
 ghost use Rattle.pt_texts.specs.Steps.{ReaderGives, behind, word_at};
 
-/// A value and the text behind it, or how many bytes are left where reading stops.
+/// A value and the text after it, or the number of bytes that are left when reading stops.
 pub(crate) type Read<'a, T> = Result<(T, &'a [u8]), usize>;
 
-/// What stands behind the word, where the text begins with it.
+/// The text after the word, if the text begins with it.
 #[tactic(auto, using(crate::proofs::OneMore::behind_step, crate::proofs::OneMore::behind_short))]
 pub(crate) fn behind<'a>(word: &str, text: &'a [u8]) -> Option<&'a [u8]>
     ensures { option_map (λ rest. rest.now) result ≡ behind word.now text.now }
@@ -23,7 +23,7 @@ pub(crate) fn behind<'a>(word: &str, text: &'a [u8]) -> Option<&'a [u8]>
     Some(&text[word.len()..])
 }
 
-/// What stands behind the word, which the text has to begin with.
+/// The text after the word. Fails if the text does not begin with it.
 pub(crate) fn word_at<'a>(word: &str, text: &'a [u8]) -> Result<&'a [u8], usize>
     ensures { ReaderGives (λ rest. rest.now) result (word_at word.now text.now) }
 {

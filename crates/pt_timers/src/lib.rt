@@ -1,4 +1,4 @@
-//! Timers: values that are due at a time of their own, as Erlang's `send_after` and `cancel_timer` keep them.
+//! Timers: values that are due each at its own time, as Erlang's `send_after` and `cancel_timer` keep them.
 //!
 //! `Timers<T>` reads no clock. Each call that needs the time takes it as a number, in the program's own unit.
 //!
@@ -19,14 +19,15 @@
 //!
 //! # What is proved
 //!
-//! - **One fate.** Each timer that was started is pending, has fired or was cancelled, and the last two are for ever.
+//! - **One fate.** Each timer that was started is pending, has fired or was cancelled. The last two are for ever.
 //!   (`timers_are_lawful`)
 //! - **Never early.** `pop_due` fires a timer only if its time is not above `now`, with the body it was started with,
-//!   and returns `None` only if no pending timer is due.
-//! - **In order.** Of all pending timers the earliest fires first, and of one time the one that was started first.
+//!   and returns `None` only if none is due.
+//! - **In order.** The earliest pending timer fires first. Timers of one time fire in the order in which they were
+//!   started.
 //! - **Cancelled for good.** `cancel` returns `true` exactly if the timer was pending, and it never fires then.
-//! - **Any clock.** Each promise holds whatever times the calls are given, so a clock that goes backwards fires nothing
-//!   twice.
+//! - **Any clock.** Each promise holds for any times that the calls are given, so a clock that goes backwards fires
+//!   nothing twice.
 //! - **Names are unique.** `start` returns a name that no timer had before, or fails and changes nothing. (`Starts`)
 #![tactic(auto)]
 
@@ -42,15 +43,15 @@ use std::collections::BTreeMap;
 use std::marker::Model;
 use thiserror::Error;
 
-/// The name of one timer: its time, and its place among all that were started.
+/// The name of one timer: its time, and its place among all timers started.
 ///
-/// No other timer of its `Timers` ever has this name. Timers are ordered by time; those of one time are in the order
-/// in which they were started. Every pair of numbers is a name that may be asked for.
+/// No other timer of its `Timers` ever has this name. Timers are ordered by time, and timers of one time in the order
+/// in which they were started. Any pair of numbers may be passed as a name.
 #[derive(Clone, Copy, Debug, PartialEq, Eq, Hash)]
 pub struct Timer {
     /// When it is due.
     pub at: u64,
-    /// How many timers were started before it.
+    /// The number of timers started before it.
     pub number: u64,
 }
 
@@ -89,7 +90,7 @@ impl PartialOrd for Timer {
     }
 }
 
-/// Why `start` refused a timer. It returns the body, and nothing has changed.
+/// Why `start` failed. It returns the body, and nothing has changed.
 #[derive(Debug, PartialEq, Eq, Drop, Error)]
 pub enum StartError<T> {
     /// 2^64 - 1 timers were started: there is no new name.
@@ -169,8 +170,8 @@ impl<T: Drop> Timers<T> {
         self.pending.remove(&timer).is_some()
     }
 
-    /// Fires one timer whose time has come by `now`: the one of the earliest time, and of those the one that was
-    /// started first. Returns `None` if no pending timer is due.
+    /// Fires one timer that is due by `now`: the one with the earliest time, and the one started first among those.
+    /// Returns `None` if no pending timer is due.
     ///
     /// `while let Some(fired) = timers.pop_due(now)` fires all that are due, in order.
     pub fn pop_due(&mut self, now: u64) -> Option<Fired<T>>
@@ -185,7 +186,7 @@ impl<T: Drop> Timers<T> {
 
     /// The timer that `pop_due` would fire, with its body. It stays pending.
     ///
-    /// `cancel` takes it away once what it is for is done, so nothing is lost if that fails.
+    /// Call `cancel` once its work is done, so nothing is lost if the work fails.
     pub fn peek_due(&self, now: u64) -> Option<(Timer, &T)>
         ensures { MatchOption result (NoneDue now self.now) (λ p. IsFirstDue now p.0 p.1.now self.now) }
     {
@@ -211,14 +212,14 @@ impl<T: Drop> Timers<T> {
         self.pending.get(&timer)
     }
 
-    /// How many timers are pending.
+    /// The number of pending timers.
     pub fn len(&self) -> usize
         ensures { result ≡ length self.now.pending }
     {
         self.pending.len()
     }
 
-    /// How many timers were ever started: the number of the next one.
+    /// The number of timers ever started, which is the number of the next one.
     pub fn started(&self) -> u64
         ensures { result ≡ self.now.started }
     {
@@ -226,7 +227,8 @@ impl<T: Drop> Timers<T> {
     }
 }
 
-/// What holds of timers through any sequence of calls, with any times. It does nothing: the laws are its contract.
+/// What holds for timers through any sequence of calls, with any times. The function does nothing: the laws are its
+/// contract.
 pub fn timers_are_lawful<T>()
     ensures { IsLawful T }
 {}

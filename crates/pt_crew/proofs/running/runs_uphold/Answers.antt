@@ -1,6 +1,6 @@
 -- `runs_uphold`: its clauses `run`, `rounds` and `rests`.
-use Rattle.pt_node.specs.Running.{begins_by}
-use Rattle.pt_node.specs.declared.work.Standing.TheVariants.{Going}
+use Rattle.pt_workers.specs.Running.{begins_by}
+use Rattle.pt_workers.specs.declared.work.Standing.TheVariants.{Going}
 use Rattle.pt_crew.proofs.Runs.{run_upholds, rounds_uphold, rest_upholds}
 use Rattle.pt_crew.proofs.running.runs_uphold.Goals as goal
 

@@ -6,7 +6,7 @@ use Rattle.pt_carrier.specs.Node.{places, kept, IsNode, AreLeft, lists}
 use Rattle.pt_gathered.specs.Gathered.{GatheredState}
 use Rattle.pt_gathered.specs.Tables.{AreTables}
 use Rattle.pt_desk.specs.DeskState.{DeskState}
-use Rattle.pt_node.specs.Desks.{AreDesksOf, AreAccounted, AreWhole, all_ends, all_shards}
+use Rattle.pt_workers.specs.Desks.{AreDesksOf, AreAccounted, AreWhole, all_ends, all_shards}
 use Rattle.pt_node.specs.Gathering.{ReadsAreTrue}
 use Rattle.pt_node.specs.Pasts.{GathersPast}
 use Rattle.pt_node.specs.Seating.{AreSeated, AreOf, AreAudited, all_seats}

@@ -2,7 +2,7 @@
 use Rattle.std.proofs.Common.{◌≡◌, ◌++◌, ◌∙◌, List, length, map, reverse, ap, sym, subst, arith}
 use Rattle.std.specs.Arc.{arc_value}
 use Rattle.std.proofs.lemmas.List.{length-map, reverse-reverse}
-use Rattle.pt_node.specs.Desks.{AreAccounted, all_ends, all_shards}
+use Rattle.pt_workers.specs.Desks.{AreAccounted, all_ends, all_shards}
 use Rattle.pt_node.specs.Seating.{AreSeated, Seated, all_seats, all_tables}
 use Rattle.pt_node.proofs.Wholes.{accounted_count}
 use Rattle.pt_node.proofs.SeatsOf.{seated_count}

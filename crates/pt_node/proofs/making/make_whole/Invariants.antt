@@ -2,7 +2,7 @@
 use Rattle.std.proofs.Common.{◌≡◌, ◌+◌, ◌≤◌, ◌++◌, map, reverse, vec_len}
 use Rattle.std.specs.Arc.{arc_value}
 use Rattle.std.specs.Vec.{vec_capacity}
-use Rattle.pt_node.specs.Desks.{AreAccounted, all_ends, all_shards}
+use Rattle.pt_workers.specs.Desks.{AreAccounted, all_ends, all_shards}
 use Rattle.pt_node.specs.Seating.{AreSeated, all_seats, all_tables}
 use Rattle.pt_node.proofs.making.make_whole.Given as goal
 

@@ -2,7 +2,7 @@
 use Rattle.std.proofs.Common.{◌≡◌, ◌+◌, ◌≤◌, ◌++◌, map, reverse, vec_len}
 use Rattle.std.specs.Arc.{arc_value}
 use Rattle.std.specs.Vec.{vec_capacity}
-use Rattle.pt_node.specs.Desks.{all_ends, all_shards}
+use Rattle.pt_workers.specs.Desks.{all_ends, all_shards}
 use Rattle.pt_node.specs.Seating.{all_seats, all_tables}
 use Rattle.pt_node.proofs.making.take_apart.Given as goal
 

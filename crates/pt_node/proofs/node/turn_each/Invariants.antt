@@ -1,6 +1,6 @@
 -- `turn_each`: what holds in its loop over `d`.
 use Rattle.std.proofs.Common.{◌≡◌, length}
-use Rattle.pt_node.specs.Desks.{AreDesks}
+use Rattle.pt_workers.specs.Desks.{AreDesks}
 use Rattle.pt_node.specs.Node.{TurnsAll}
 use Rattle.pt_node.proofs.node.turn_each.Given as goal
 

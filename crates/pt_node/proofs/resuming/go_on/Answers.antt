@@ -10,9 +10,9 @@ use Rattle.pt_events.specs.History.{is_unborn}
 use Rattle.pt_shard.specs.ShardState.{ShardState, phase_of}
 use Rattle.pt_shard.specs.Restart.{restarted}
 use Rattle.pt_gathered.specs.Gathered.{journals}
-use Rattle.pt_node.specs.Desks.{AreAccounted}
+use Rattle.pt_workers.specs.Desks.{AreAccounted}
 use Rattle.pt_node.specs.Seating.{AreSeated, Seated}
-use Rattle.pt_node.proofs.GoingOn.{written}
+use Rattle.pt_workers.proofs.GoingOn.{written}
 use Rattle.pt_node.proofs.Prepared.{given_here}
 use Rattle.pt_node.proofs.Resumed.{resumed_accounted, resumed_desks, resumed_seated}
 use Rattle.pt_node.proofs.resuming.go_on.Goals as goal

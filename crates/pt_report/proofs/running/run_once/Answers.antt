@@ -1,7 +1,7 @@
 -- `run_once`: its clauses `runs` and `begins`.
 use Rattle.std.proofs.Common.{◌≡◌, sym, ◌∙◌}
 use Rattle.pt_render.specs.declared.choices.Mode.TheVariants.{Single, Many}
-use Rattle.pt_node.specs.Running.{always}
+use Rattle.pt_workers.specs.Running.{always}
 use Rattle.pt_report.proofs.Attending.{all_do, all_know, attended, can_begin, in_rounds}
 use Rattle.pt_report.proofs.running.run_once.Goals as goal
 

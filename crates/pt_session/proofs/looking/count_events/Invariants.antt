@@ -1,6 +1,6 @@
 -- `count_events`: what holds in its loop over `place`.
 use Rattle.std.proofs.Common.{◌≡◌, ◌-◌, ◌^◌, min, take}
-use Rattle.pt_node.specs.Stillness.{count_events}
+use Rattle.pt_workers.specs.Stillness.{count_events}
 use Rattle.pt_session.proofs.looking.count_events.Given as goal
 
 abbrev pub invariant-loop-place : goal.invariant-loop-place

@@ -1,6 +1,6 @@
 -- `gathered_children_live`: its clauses `run`, `rounds`, `rests` and `live`.
-use Rattle.pt_node.specs.Running.{begins_by}
-use Rattle.pt_node.specs.declared.work.Standing.TheVariants.{Going}
+use Rattle.pt_workers.specs.Running.{begins_by}
+use Rattle.pt_workers.specs.declared.work.Standing.TheVariants.{Going}
 use Rattle.pt_crew.proofs.Runs.{run_upholds, rounds_uphold, rest_upholds}
 use Rattle.pt_supervisor.specs.Keeping.{Keeps}
 use Rattle.pt_supervisor.proofs.Tending.{upheld}

@@ -3,7 +3,7 @@ use Rattle.std.proofs.Common.{arith, refl, ◌∙◌}
 use Rattle.pt_crew.specs.Crews.{queue}
 use Rattle.pt_crew.proofs.Visiting.{none_so_far, one_more, all_so_far}
 use Rattle.pt_desk.proofs.Turning.{goes_on_then}
-use Rattle.pt_node.proofs.GoingOn.{stays}
+use Rattle.pt_workers.proofs.GoingOn.{stays}
 use Rattle.pt_crew.proofs.crew.Crew.round.Goals as goal
 
 pub loop-place-init : goal.loop-place-init

@@ -5,7 +5,7 @@ use Rattle.pt_desk.proofs.Turning.{extends}
 use Rattle.pt_crew.specs.declared.crew.Tended.TheVariants.{Idle, Again, Refused, Gone}
 use Rattle.pt_crew.specs.Crews.{members}
 use Rattle.pt_crew.specs.Waking.{Knows}
-use Rattle.pt_node.proofs.Waiting.{born_later}
+use Rattle.pt_workers.proofs.Waiting.{born_later}
 use Rattle.pt_crew.proofs.Waking.{changed, taken_out, put_back, turned, absent_at, no_place, there, out_at, some_none, same_some}
 use Rattle.pt_crew.proofs.Places.{written_at, held_at}
 use Rattle.pt_crew.proofs.Visiting.{serves_first, idles_first, passes_first, refused_first, is_there, left_role, says, says_nothing}

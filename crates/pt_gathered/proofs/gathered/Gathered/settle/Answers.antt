@@ -1,7 +1,7 @@
 -- `Gathered::settle`: its clauses `refused_again` and `again`, and what its calls of `with` and `told` ask.
 use Rattle.std.proofs.Common.{length, refl, sym, ap, ◌∙◌, subst, le_refl}
 use Rattle.pt_gathered.specs.Gathered.{GatheredState}
-use Rattle.pt_gathered.specs.Settling.{NothingLeft}
+use Rattle.pt_gathered.specs.Settling.{NothingLeft, Runs}
 use Rattle.pt_gathered.specs.Order.{PassesStop}
 use Rattle.pt_gathered.specs.Quiet.{QuietState}
 use Rattle.pt_gathered.specs.Tables.{AreTables}
@@ -11,33 +11,37 @@ use Rattle.pt_gathered.proofs.gathered.Gathered.settle.Goals as goal
 
 pub with-gathered-requires : goal.with-gathered-requires
 with-gathered-requires c =
-    let old = c.apart-node.result.0 in
-    let tables = c.apart-node.result.1.items in
-    let are : AreTables old.shards tables = subst (λ (g : GatheredState). AreTables g.shards tables) (sym c.apart-node.ensures.node) c.apart-node.ensures.tables in
-    tables_after old c.run_passes.new.gathered c.desks-before.ensures.gathered c.desks-after.ensures.gathered c.in-Err.ensures.refused tables are
+    let old = c.of-settling.result.0.node in
+    let tables = c.of-settling.result.1.items in
+    let are : AreTables old.shards tables = subst (λ (g : GatheredState). AreTables g.shards tables) (sym c.of-settling.ensures.node) c.of-settling.ensures.tables in
+    tables_after old c.run_passes.new.self.node c.desks-before.ensures.gathered c.desks-after.ensures.gathered c.run_passes.ensures.runs.settles tables are
 
 pub told-requires : goal.told-requires
 told-requires c =
-    let old = c.apart-node.result.0 in
-    let tables = c.apart-node.result.1.items in
-    let are : AreTables old.shards tables = subst (λ (g : GatheredState). AreTables g.shards tables) (sym c.apart-node.ensures.node) c.apart-node.ensures.tables in
-    tables_after old c.run_passes.new.gathered c.desks-before.ensures.gathered c.desks-after-2.ensures.gathered c.in-Ok.ensures.runs.settles tables are
+    let old = c.of-settling.result.0.node in
+    let tables = c.of-settling.result.1.items in
+    let are : AreTables old.shards tables = subst (λ (g : GatheredState). AreTables g.shards tables) (sym c.of-settling.ensures.node) c.of-settling.ensures.tables in
+    tables_after old c.run_passes.new.self.node c.desks-before.ensures.gathered c.desks-after-2.ensures.gathered c.run_passes.ensures.runs.settles tables are
 
 pub returns-in-Err-clause-refused_again : goal.returns-in-Err-clause-refused_again
 returns-in-Err-clause-refused_again c none =
     let a = c.args.self in
-    let stops : PassesStop (length a.shards) c.in-Err.fault a c.run_passes.new.gathered
-    = subst (λ (g : GatheredState). PassesStop (length g.shards) c.in-Err.fault g c.run_passes.new.gathered) c.apart-node.ensures.node c.in-Err.ensures.stops in
-    absurd (passes_go_on (length a.shards) a (le_refl (length a.shards)) none c.in-Err.fault c.run_passes.new.gathered stops)
+    let stops : PassesStop (length a.shards) c.in-Err.fault a c.run_passes.new.self.node
+    = subst (λ (g : GatheredState). PassesStop (length g.shards) c.in-Err.fault g c.run_passes.new.self.node) c.of-settling.ensures.node c.in-Err.ensures.stops in
+    absurd (passes_go_on (length a.shards) a (le_refl (length a.shards)) none c.in-Err.fault c.run_passes.new.self.node stops)
 
 pub returns-in-Ok-told-clause-again : goal.returns-in-Ok-told-clause-again
 returns-in-Ok-told-clause-again c none =
-    let old = c.apart-node.result.0 in
-    let same = nothing_new old c.run_passes.new.gathered c.in-Ok.handled (subst NothingLeft (sym c.apart-node.ensures.node) none) c.in-Ok.ensures.order c.in-Ok.ensures.runs in
-    (ap (λ (q : QuietState). q.gathered) c.of-quiet.ensures ∙ same.0 ∙ c.apart-node.ensures.node, ap (λ (q : QuietState). q.handled) c.of-quiet.ensures ∙ same.1)
+    let old = c.of-settling.result.0.node in
+    let new = c.run_passes.new.self in
+    let runs = subst (λ n. Runs old n new.node new.handled) c.of-settling.ensures.handled c.run_passes.ensures.runs in
+    let same = nothing_new old new.node new.handled (subst NothingLeft (sym c.of-settling.ensures.node) none) c.in-Ok.ensures.order runs in
+    (ap (λ (q : QuietState). q.gathered) c.of-quiet.ensures ∙ same.0 ∙ c.of-settling.ensures.node, ap (λ (q : QuietState). q.handled) c.of-quiet.ensures ∙ same.1)
 
 pub returns-in-Err-told-clause-refused_again : goal.returns-in-Err-told-clause-refused_again
 returns-in-Err-told-clause-refused_again c none =
-    let old = c.apart-node.result.0 in
-    let same = nothing_new old c.run_passes.new.gathered c.in-Ok.handled (subst NothingLeft (sym c.apart-node.ensures.node) none) c.in-Ok.ensures.order c.in-Ok.ensures.runs in
-    (c.with-gathered-in-Err-told.ensures ∙ same.0 ∙ c.apart-node.ensures.node, refl)
+    let old = c.of-settling.result.0.node in
+    let new = c.run_passes.new.self in
+    let runs = subst (λ n. Runs old n new.node new.handled) c.of-settling.ensures.handled c.run_passes.ensures.runs in
+    let same = nothing_new old new.node new.handled (subst NothingLeft (sym c.of-settling.ensures.node) none) c.in-Ok.ensures.order runs in
+    (c.with-gathered-in-Err-told.ensures ∙ same.0 ∙ c.of-settling.ensures.node, refl)

@@ -1,9 +1,9 @@
 -- `Node::turn_until_still`: its clauses `stopped`, `handled`, `goes_on` and `bound`.
 use Rattle.std.proofs.Common.{◌≡◌, ◌-◌, ◌^◌, min, subst, arith}
 use Rattle.std.specs.Prelude.{IfSome}
-use Rattle.pt_node.specs.Desks.{AreWhole}
+use Rattle.pt_workers.specs.Desks.{AreWhole}
 use Rattle.pt_node.specs.Load.{IsWithinLoad}
-use Rattle.pt_node.specs.Stillness.{AllDesksGoOn, StoppedAt, count_events}
+use Rattle.pt_workers.specs.Stillness.{AllDesksGoOn, StoppedAt, count_events}
 use Rattle.pt_node.proofs.Bounding.{bounded}
 use Rattle.pt_node.proofs.Receiving.{all_rounds_receive}
 use Rattle.pt_node.proofs.RoundByRound.{all_rounds_count, all_rounds_go_on, all_rounds_stopped}

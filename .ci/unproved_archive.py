@@ -1,0 +1,214 @@
+#!/usr/bin/env python3
+"""Compiles the library for C without proofs, for trying it out: in minutes, while `rt lib` proves all below it first.
+
+    .ci/unproved_archive.py ARCHIVE        writes the archive of pt_c
+
+The toolchain builds a library only from proved sources, but `rt try` compiles a program without proofs. So this makes a
+program of pt_c's sources that calls each export in a branch that never runs, and has `rt try`'s compiler write it, with
+a `clang` before the toolchain's own that keeps the module. Then it makes the exports external, adds for each a function
+in C that has its name and C's calling convention, and compiles both. The checks that `rt try` adds stay: an overflow, an
+index out of bounds or a bad access stops the program. The archive has the symbol `pt_c_is_not_proved`.
+
+It leans on the toolchain's inside: how a module names functions, and how it passes structs (two words as two words, more
+by a pointer). If another toolchain does that in another way, this says so and makes nothing.
+"""
+from __future__ import annotations
+
+import re
+import shutil
+import subprocess
+import sys
+import tempfile
+from dataclasses import dataclass
+from pathlib import Path
+
+sys.dont_write_bytecode = True
+from unproved import Fault, command, kit  # noqa: E402
+
+ROOT = Path(__file__).resolve().parent.parent
+PROGRAM = "pt_c_unproved"
+EXPORT = re.compile(r'#\[unsafe\(no_mangle\)\]\n(?:#\[.*\]\n)*pub extern "C" fn (\w+)\(([^)]*)\)( -> u32)?')
+# How a struct that is passed by value crosses: by a pointer, or as its two fields.
+BY_POINTER = ("PtPid", "PtBody", "PtPick", "PtConfig")
+BY_FIELDS = {"PtRef": ("desk", "number"), "PtReason": ("code", "number")}
+PLAIN = {"u8": "uint8_t", "u32": "uint32_t", "u64": "uint64_t", "usize": "size_t", "bool": "bool"}
+
+
+@dataclass(frozen=True)
+class Export:
+    """A function that the library exports: its module, its name, its parameters with their types, what it returns."""
+
+    module: str
+    name: str
+    parameters: tuple[tuple[str, str], ...]
+    returns: bool
+
+
+def exports() -> list[Export]:
+    """The exports of pt_c, read off its sources."""
+    found = []
+    for path in sorted((ROOT / "crates/pt_c/src").glob("*.rt")):
+        for name, words, returns in EXPORT.findall(path.read_text()):
+            pairs = [word.split(":", 1) for word in " ".join(words.split()).split(",") if word.strip()]
+            parameters = tuple((left.strip(), right.strip()) for left, right in pairs)
+            found.append(Export(path.stem, name, parameters, bool(returns)))
+    marked = sum(path.read_text().count("no_mangle") for path in (ROOT / "crates/pt_c/src").glob("*.rt"))
+    if len(found) != marked:
+        raise Fault(f"crates/pt_c marks {marked} exports, and {len(found)} were read")
+    return found
+
+
+def argument(kind: str) -> str:
+    """An argument of this type in the program's call, which never runs."""
+    if kind == "Global":
+        return "rt.alloc()"
+    if kind.startswith("&mut ["):
+        return f"&mut any::<[pt_table::desk_handle::{kind[6:-1]}; 1]>(&rt)"
+    return "&mut any(&rt)" if kind.startswith("&mut ") else "any(&rt)"
+
+
+def program(all_exports: list[Export], folder: Path) -> None:
+    """Writes the repository of the program: links to all crates, and the program's own sources."""
+    (folder / "crates").mkdir()
+    for crate in sorted((ROOT / "crates").iterdir()):
+        (folder / "crates" / crate.name).symlink_to(crate)
+    listed = (ROOT / "crates.txt").read_text()
+    uses = re.search(r"^pt_c staticlib: (.*)$", listed, re.M)
+    if uses is None:
+        raise Fault("crates.txt has no line 'pt_c staticlib:'")
+    (folder / "crates.txt").write_text(f"{listed}\n{PROGRAM}: {uses[1]}\n")
+    sources = folder / "crates" / PROGRAM / "src"
+    sources.mkdir(parents=True)
+    for path in (ROOT / "crates/pt_c/src").glob("*.rt"):
+        text = path.read_text().replace("#[unsafe(no_mangle)]\n", "").replace('pub extern "C" fn', "pub fn")
+        (sources / ("main.rt" if path.stem == "lib" else path.name)).write_text(text)
+    calls = [f"{it.module}::{it.name}({', '.join(argument(kind) for _, kind in it.parameters)})" for it in all_exports]
+    body = "".join(f"        let _ = {call};\n" for call in calls)
+    with (sources / "main.rt").open("a") as main:
+        main.write('\nfn any<T>(rt: &impl std::process::Abort) -> T {\n    panic!(rt; "never")\n}\n\n'
+                   "fn main(rt: HostRuntime) {\n    if std::hint::black_box(false) {\n" + body + "    }\n}\n")
+
+
+def toolchain_with_a_copy(tools: Path, folder: Path) -> Path:
+    """A toolchain whose clang keeps the program's module, and then fails."""
+    (folder / "bin").mkdir(parents=True)
+    for name in ("lib", *(f"bin/{it.name}" for it in (tools / "toolchain/bin").iterdir())):
+        if name != "bin/clang":
+            (folder / name).symlink_to(tools / "toolchain" / name)
+    clang = folder / "bin/clang"
+    # (the program's own module is the one that is compiled with checks of memory)
+    clang.write_text(f'#!/bin/sh\ncase "$*" in\n*-fsanitize=address*) cp module.bc "{folder}/module.bc"; exit 1 ;;\nesac\n'
+                     f'exec "{tools}/toolchain/bin/clang" "$@"\n')
+    clang.chmod(0o755)
+    return folder
+
+
+def module(tools: Path, folder: Path) -> str:
+    """The program's module, as text."""
+    kept = toolchain_with_a_copy(tools, folder / "toolchain")
+    words = [str(kept) if it == f"{tools}/toolchain" else it for it in command(folder, PROGRAM, ["--seconds", "60"])]
+    ran = subprocess.run(words, cwd=folder / "crates" / PROGRAM, stdin=subprocess.DEVNULL, capture_output=True, text=True,
+                         check=False)
+    if not (kept / "module.bc").exists():
+        raise Fault(f"the toolchain wrote no module of the program:\n{ran.stdout}{ran.stderr}")
+    clang(tools, ["-x", "ir", str(kept / "module.bc"), "-S", "-emit-llvm", "-o", str(folder / "module.ll")])
+    return (folder / "module.ll").read_text()
+
+
+def clang(tools: Path, words: list[str]) -> None:
+    """Runs the toolchain's own clang."""
+    ran = subprocess.run([f"{tools}/toolchain/bin/clang", "--target=x86_64-unknown-linux-gnu", *words],
+                         capture_output=True, text=True, check=False)
+    if ran.returncode:
+        raise Fault(f"clang failed: {ran.stderr}")
+
+
+def with_external(text: str, all_exports: list[Export]) -> str:
+    """The module with the exports external, under names of their own, and without a program's entry."""
+    text = text.replace(" sanitize_address", "")
+    text = re.sub(r"^define i32 @main\(\)", "define internal i32 @pt_entry()", text, flags=re.M)
+    for it in all_exports:
+        name = f'@"{PROGRAM}::{it.module}::{it.name}"'
+        if text.count(f"{name}(") < 2:
+            raise Fault(f"the module does not name {it.name} as {name}")
+        text = text.replace(f"{name}(", f"@inner_{it.name}(")
+        text = re.sub(rf"^define internal ([^@]*@inner_{it.name}\()", r"define \1", text, flags=re.M)
+    return text
+
+
+def crossing(name: str, kind: str) -> tuple[list[str], list[str], list[str]]:
+    """A parameter: its declarations in C, those of the inner function, and what is handed on."""
+    if kind == "Global":
+        return [], [], []
+    if kind.startswith("&mut ["):
+        return [f"void *{name}", f"size_t {name}_count"], ["void *", "size_t"], [name, f"{name}_count"]
+    if kind.startswith("&mut "):
+        return [f"void *{name}"], ["void *"], [name]
+    if kind in BY_POINTER:
+        return [f"{kind} {name}"], [f"{kind} *"], [f"&{name}"]
+    if kind in BY_FIELDS:
+        first, second = BY_FIELDS[kind]
+        types = ["uint8_t", "uint64_t"] if kind == "PtRef" else ["uint32_t", "uint32_t"]
+        return [f"{kind} {name}"], types, [f"{name}.{first}", f"{name}.{second}"]
+    if kind in PLAIN:
+        return [f"{PLAIN[kind]} {name}"], [PLAIN[kind]], [name]
+    raise Fault(f"a parameter of type {kind}: how does it cross?")
+
+
+STRUCTS = """\
+#include <stdbool.h>
+#include <stddef.h>
+#include <stdint.h>
+typedef struct { uint8_t shard; uint32_t slot; uint32_t version; } PtPid;
+typedef struct { uint8_t desk; uint64_t number; } PtRef;
+typedef struct { uint32_t code; uint32_t number; } PtReason;
+typedef struct { uint32_t kind; int64_t num; bool has_who; PtPid who; } PtBody;
+typedef struct { uint32_t code; uint32_t kind; PtPid pid; PtRef reference; } PtPick;
+typedef struct { uint32_t slots; uint32_t top_version; uint32_t lane; uint64_t start; } PtConfig;
+"""
+
+
+def shim(all_exports: list[Export]) -> str:
+    """The functions that C calls."""
+    text = STRUCTS + "const char pt_c_is_not_proved = 1;\n"
+    for it in all_exports:
+        parts = [crossing(*parameter) for parameter in it.parameters]
+        outer, inner, words = (", ".join(word for part in parts for word in part[at]) or "void" for at in range(3))
+        result, back = ("uint32_t", "return ") if it.returns else ("void", "")
+        text += f"{result} inner_{it.name}({inner});\n{result} {it.name}({outer});\n"
+        text += f"{result} {it.name}({outer}) {{\n    {back}inner_{it.name}({words});\n}}\n"
+    return text
+
+
+def build(archive: Path, folder: Path) -> None:
+    """Compiles the module and the functions over it into the archive."""
+    tools = kit()
+    all_exports = exports()
+    program(all_exports, folder)
+    (folder / "inner.ll").write_text(with_external(module(tools, folder), all_exports))
+    (folder / "outer.c").write_text(shim(all_exports))
+    flags = ["-O2", "-fPIC", "-ffunction-sections", "-fdata-sections", "-c"]
+    clang(tools, ["-x", "ir", str(folder / "inner.ll"), *flags, "-o", str(folder / "inner.o")])
+    ran = subprocess.run(["cc", "-std=c11", "-Wall", "-Wextra", "-Werror", *flags, str(folder / "outer.c"), "-o",
+                          str(folder / "outer.o")], capture_output=True, text=True, check=False)
+    if ran.returncode:
+        raise Fault(f"cc failed: {ran.stderr}")
+    archive.unlink(missing_ok=True)
+    subprocess.run(["ar", "rcs", str(archive), str(folder / "inner.o"), str(folder / "outer.o")], check=True)
+
+
+def main(words: list[str]) -> None:
+    if len(words) != 1 or words[0].startswith("-"):
+        raise Fault("wanted: .ci/unproved_archive.py ARCHIVE")
+    folder = Path(tempfile.mkdtemp(prefix="unproved-"))
+    try:
+        build(Path(words[0]).absolute(), folder)
+    finally:
+        shutil.rmtree(folder)
+
+
+if __name__ == "__main__":
+    try:
+        main(sys.argv[1:])
+    except Fault as fault:
+        sys.exit(f"unproved_archive.py: {fault}")

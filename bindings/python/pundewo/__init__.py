@@ -1,0 +1,404 @@
+"""The proved process table of Pundewo, for Python.
+
+A node is a set of desks. Each desk has processes, keeps a journal of what happened on it, and belongs to one thread at
+a time. `open_node` makes the desks, `Desk.turn` moves letters between them, `gather` brings them together, and
+`Gathered.settle` delivers the letters that are left over.
+
+A call checks each argument before it calls the library. A value of a wrong type is a TypeError and a number out of its
+range a ValueError, which name the argument: nothing has been called then. A call that fails is a `Fault`, which names
+the call and its processes. A desk that another thread is using is a `Busy`.
+"""
+
+from __future__ import annotations
+
+import ctypes as c
+import itertools
+from contextlib import ExitStack, contextmanager
+from threading import Lock
+from typing import Any, Callable, Iterator, Optional, Sequence, TypeVar
+
+from ._library import (
+    BUILD, CAccount, CBody, CConfig, CEvent, CHandle, CIds, CItem, CLeftOver, CPick, CPid, CReason, CRef, CSignal,
+    CTurned, body_of, c_body, c_pick, c_pid, c_reason, c_ref, event_of, ids_of, item_of, left_over_of, lib, own, pick_of,
+    pid_of, reason_of, ref_of,
+)
+from .values import (
+    ANY, KILL, KILLED, NOPROC, NORMAL, SHUTDOWN, U8, U32, U64, Account, Body, Code, Config, Event, Ids, Item, LeftOver,
+    LinkId, Pick, Pid, Reason, Ref, Signal, Turned, flag, number, of_type, shown, unchecked,
+)
+
+__version__ = "0.1.0"
+
+__all__ = [
+    "ANY", "BUILD", "KILL", "KILLED", "NOPROC", "NORMAL", "SHUTDOWN", "Account", "Body", "Busy", "Code", "Config", "Desk",
+    "Event", "Fault", "Gathered", "History", "Ids", "Item", "LeftOver", "LinkId", "Pick", "Pid", "Quiet", "Reason", "Ref",
+    "Signal", "Turned", "Unsettled", "gather", "open_node",
+]
+
+T = TypeVar("T")
+V = TypeVar("V")
+H = TypeVar("H", bound="_Held")
+
+
+class Fault(Exception):
+    """A call that failed, with its code. The call has changed nothing, but NOPROC is noted in the journal.
+
+    `call` is the name of the call, and `pids` are the processes that it was given, in order.
+    """
+
+    def __init__(self, code: Code, call: str = "", pids: tuple[Pid, ...] = ()):
+        self.code = of_type("code", code, Code)
+        self.call = of_type("call", call, str)
+        self.pids = of_type("pids", pids, tuple)
+        name = self.code.name.lower()
+        super().__init__(f"{call}({', '.join(map(str, pids))}): {name}" if call else name)
+
+    def __reduce__(self) -> tuple:
+        return type(self), (self.code, self.call, self.pids)
+
+
+class Busy(RuntimeError):
+    """A desk, or another handle, that another thread is using. The call was not made."""
+
+
+def _fault(call: Callable[..., int], words: Sequence[Any], code: int, kind: type[Fault] = Fault) -> Fault:
+    """The fault of a call of the library that returned this code."""
+    pids = tuple(pid_of(word) for word in words if isinstance(word, CPid))
+    return kind(Code(code), getattr(call, "__name__", "").removeprefix("pt_"), pids)
+
+
+class _Held:
+    """A handle of the library, which is given up with this value. A call on an empty one fails as EMPTY."""
+
+    _give_up = "pt_give_up"
+
+    def __init__(self) -> None:
+        self._handle = CHandle()
+        self._at = c.byref(self._handle)
+        self._lock = Lock()
+
+    def close(self) -> None:
+        """Gives up what there is, and its memory; a second time it does nothing."""
+        if getattr(self, "_lock", None) is not None and self._handle.at:
+            self._call(getattr(lib, self._give_up))
+
+    __del__ = close
+
+    def __enter__(self: H) -> H:
+        return self
+
+    def __exit__(self, *_: object) -> None:
+        self.close()
+
+    def _call(self, call: Callable[..., int], *words: Any) -> int:
+        """The code that a call returns. The library takes no lock, so a second thread is told here."""
+        if not self._lock.acquire(blocking=False):
+            raise self._busy()
+        try:
+            return call(self._at, *words)
+        finally:
+            self._lock.release()
+
+    def _busy(self) -> Busy:
+        return Busy(f"a {type(self).__name__} is in use by another thread: wait until the call there has returned")
+
+    @contextmanager
+    def _held_alone(self) -> Iterator[None]:
+        """The handle, kept from all other threads."""
+        if not self._lock.acquire(blocking=False):
+            raise self._busy()
+        try:
+            yield
+        finally:
+            self._lock.release()
+
+    def _must(self, call: Callable[..., int], *words: Any) -> None:
+        code = self._call(call, *words)
+        if code:
+            raise _fault(call, words, code)
+
+    def _give(self, call: Callable[..., int], out: T, *words: Any) -> T:
+        """The value that a call passes out, or a Fault."""
+        code = self._call(call, *words, c.byref(out))  # type: ignore[arg-type]
+        if code:
+            raise _fault(call, words, code)
+        return out
+
+    def _find(self, call: Callable[..., int], out: T, *words: Any) -> Optional[T]:
+        """The same, and None for NOTHING."""
+        code = self._call(call, *words, c.byref(out))  # type: ignore[arg-type]
+        if not code:
+            return out
+        if code == Code.NOTHING:
+            return None
+        raise _fault(call, words, code)
+
+    def _each(self, call: Callable[..., int], kind: type[T], convert: Callable[[T], V], start: int = 0) -> Iterator[V]:
+        for place in itertools.count(start):
+            out = self._find(call, kind(), place)
+            if out is None:
+                return
+            yield convert(out)
+
+
+class Desk(_Held):
+    """A desk of a node. Use it on one thread at a time."""
+
+    def __init__(self, handle: CHandle, node: object, number: int, count: int):
+        super().__init__()
+        self._handle.at = of_type("handle", handle, CHandle).at
+        self._node, self.number, self._count = node, number, count
+
+    def spawn(self) -> Pid:
+        """Spawns a process."""
+        return pid_of(self._give(lib.pt_spawn, CPid()))
+
+    def spawn_child(self, parent: Pid, linked: bool = False) -> Pid:
+        """Spawns a child of a process, and links both if `linked` is set."""
+        return pid_of(self._give(lib.pt_spawn_child, CPid(), c_pid("parent", parent), flag("linked", linked)))
+
+    def send(self, sender: Pid, to: Pid, body: Body) -> None:
+        """Sends a message."""
+        self._must(lib.pt_send, c_pid("sender", sender), c_pid("to", to), c_body("body", body))
+
+    def exit_signal(self, sender: Pid, to: Pid, reason: Reason) -> None:
+        """Sends an exit signal, as Erlang's `exit/2`."""
+        self._must(lib.pt_exit_signal, c_pid("sender", sender), c_pid("to", to), c_reason("reason", reason))
+
+    def link(self, p: Pid, to: Pid) -> None:
+        """Links p with another process."""
+        self._must(lib.pt_link, c_pid("p", p), c_pid("to", to))
+
+    def unlink(self, p: Pid, to: Pid) -> None:
+        """Removes the link of p with another process."""
+        self._must(lib.pt_unlink, c_pid("p", p), c_pid("to", to))
+
+    def monitor(self, watcher: Pid, target: Pid) -> Ref:
+        """Monitors another process, and returns the reference that its DOWN will have."""
+        return ref_of(self._give(lib.pt_monitor, CRef(), c_pid("watcher", watcher), c_pid("target", target)))
+
+    def demonitor(self, watcher: Pid, monitor: Ref, flush: bool = False) -> bool:
+        """Removes a monitor, and returns whether it wrote an event. `flush` also removes a DOWN that waits."""
+        return self._give(lib.pt_demonitor, c.c_bool(), c_pid("watcher", watcher), c_ref("monitor", monitor),
+                          flag("flush", flush)).value
+
+    def ask_alive(self, p: Pid, target: Pid) -> Ref:
+        """Asks whether another process is alive, and returns the reference that the answer will have."""
+        return ref_of(self._give(lib.pt_ask_alive, CRef(), c_pid("p", p), c_pid("target", target)))
+
+    def trap(self, p: Pid, on: bool = True) -> bool:
+        """Sets whether p traps exits, and returns whether it did before."""
+        return self._give(lib.pt_trap, c.c_bool(), c_pid("p", p), flag("on", on)).value
+
+    def receive(self, p: Pid, pick: Pick = ANY) -> Optional[Item]:
+        """Takes the first item that fits out of the mailbox of p; None if none fits."""
+        out = self._find(lib.pt_receive, CItem(), c_pid("p", p), c_pick("pick", pick))
+        return None if out is None else item_of(out)
+
+    def exit(self, p: Pid, reason: Reason = NORMAL) -> None:
+        """Ends p."""
+        self._must(lib.pt_exit, c_pid("p", p), c_reason("reason", reason))
+
+    def turn(self, budget: int = 64) -> Turned:
+        """Posts the letters that wait, and then handles at most `budget`."""
+        out = self._give(lib.pt_turn, CTurned(), number("budget", budget, 0, U32))
+        return unchecked(Turned, (out.posted, out.handled, Code(out.stopped) if out.stopped else None))
+
+    def clock(self) -> int:
+        """The stamp of the newest event, or the start of the clock."""
+        return self._give(lib.pt_clock, c.c_uint64()).value
+
+    def alive(self, p: Pid) -> bool:
+        """Whether p is alive on this desk."""
+        return self._give(lib.pt_alive, c.c_bool(), c_pid("p", p)).value
+
+    def knows(self, p: Pid) -> bool:
+        """Whether p may be the target of a call."""
+        return self._give(lib.pt_knows, c.c_bool(), c_pid("p", p)).value
+
+    def pending(self) -> int:
+        """How many letters wait in the outbox and the hold."""
+        return self._give(lib.pt_pending, c.c_uint64()).value
+
+    def vacant(self) -> Optional[Pid]:
+        """The pid that the next spawn returns, or None if no slot is free."""
+        out = self._find(lib.pt_vacant, CPid())
+        return None if out is None else pid_of(out)
+
+    def waiting(self, p: Pid) -> Optional[list[Item]]:
+        """The items that wait in the mailbox of p, oldest first, or None if p is not alive here."""
+        process = c_pid("p", p)
+        count = self._find(lib.pt_waiting, c.c_size_t(), process)
+        if count is None:
+            return None
+        return [item_of(self._give(lib.pt_peek, CItem(), process, place)) for place in range(count.value)]
+
+    def linked(self, p: Pid, peer: Pid) -> Optional[Ids]:
+        """The ids under which p is linked with another process, by p's own half of the link."""
+        out = self._find(lib.pt_linked, CIds(), c_pid("p", p), c_pid("peer", peer))
+        return None if out is None else ids_of(out)
+
+    def event_count(self) -> int:
+        """How many events the journal has."""
+        return self._give(lib.pt_event_count, c.c_size_t()).value
+
+    def events(self, start: int = 0) -> Iterator[Event]:
+        """The events of the journal from this place on, oldest first."""
+        return self._each(lib.pt_event_at, CEvent, event_of, number("start", start, 0, U64))
+
+    def woken(self, start: int) -> tuple[list[Pid], int]:
+        """The processes to which a signal came, or that left, from the event at this place on, and the place from
+        which to ask again. Nobody who got an item or ended is missed; a signal may queue nothing, as a link."""
+        at, pids = c.c_size_t(number("start", start, 0, U64)), []
+        while (out := self._find(lib.pt_next_woken, CPid(), c.byref(at))) is not None:
+            pids.append(pid_of(out))
+        return pids, at.value
+
+
+class History(_Held):
+    """The events of all desks of a node in one legal order, and the letters that are on their way at its end."""
+
+    _give_up = "pt_history_give_up"
+
+    def __len__(self) -> int:
+        return self._give(lib.pt_history_count, c.c_size_t()).value
+
+    def events(self) -> Iterator[Event]:
+        """The events, the first one first."""
+        return self._each(lib.pt_history_at, CEvent, event_of)
+
+    def left_over(self) -> Iterator[LeftOver]:
+        """The letters left over, by sending desk, then by receiving desk."""
+        return self._each(lib.pt_history_left_at, CLeftOver, left_over_of)
+
+
+def _history(held: _Held, call: Callable[..., int]) -> History:
+    history = History()
+    held._must(call, history._at)
+    return history
+
+
+class Unsettled(Fault):
+    """A node that was not settled: it has what was handled so far, and may be settled again."""
+
+
+class Gathered(_Held):
+    """The desks of a node at rest, and the letters left over."""
+
+    _give_up = "pt_gathered_give_up"
+
+    def desks(self) -> int:
+        """How many desks the node has."""
+        return self._give(lib.pt_gathered_desks, c.c_uint8()).value
+
+    def history(self) -> History:
+        """The events of all desks in one legal order, and the letters left over."""
+        return _history(self, lib.pt_gathered_history)
+
+    def settle(self) -> Quiet:
+        """Delivers the letters left over; this value is empty afterwards."""
+        quiet = Quiet()
+        code = self._call(lib.pt_settle, quiet._at)
+        if code:
+            raise _fault(lib.pt_settle, (), code, Unsettled)
+        return quiet
+
+
+class Quiet(_Held):
+    """A node in which no letter is left over, and what became of its processes."""
+
+    _give_up = "pt_quiet_give_up"
+
+    def history(self) -> History:
+        """The events of all desks in one legal order."""
+        return _history(self, lib.pt_quiet_history)
+
+    def desks(self) -> int:
+        """How many desks the node has."""
+        return self._give(lib.pt_quiet_desks, c.c_uint8()).value
+
+    def resume(self) -> list[Desk]:
+        """Resumes the node: returns its desks, in order, with empty journals. This value is empty afterwards.
+
+        A live process keeps its links, monitors, flag and waiting items. An exited one stays exited. Clocks and
+        versions continue. Take the history before, if you want to keep it. Without memory nothing has changed.
+        """
+        handles = (CHandle * self.desks())()
+        self._must(lib.pt_resume, handles, len(handles))
+        return _desks_of(handles)
+
+    def handled(self) -> int:
+        """How many letters settling handled."""
+        return self._give(lib.pt_quiet_handled, c.c_uint64()).value
+
+    def pids(self) -> Iterator[Pid]:
+        """The pids of all processes that were ever spawned, by shard, slot and version."""
+        return self._each(lib.pt_quiet_pid_at, CPid, pid_of)
+
+    def account(self, p: Pid) -> Optional[Account]:
+        """What became of p, or None if it was never spawned."""
+        out = self._find(lib.pt_quiet_account, CAccount(), c_pid("p", p))
+        if out is None:
+            return None
+        ended = reason_of(out.ended) if out.has_ended else None
+        return unchecked(Account, (ended, out.arrived, out.taken, out.waiting))
+
+    def linked(self, p: Pid, peer: Pid) -> Optional[Ids]:
+        """The ids under which p is linked with another process, or was just after its own end."""
+        out = self._find(lib.pt_quiet_linked, CIds(), c_pid("p", p), c_pid("peer", peer))
+        return None if out is None else ids_of(out)
+
+    def kept(self, target: Pid, monitor: Ref) -> bool:
+        """Whether a process keeps a watch of this reference, or did just after its own end."""
+        return self._give(lib.pt_quiet_kept, c.c_bool(), c_pid("target", target), c_ref("monitor", monitor)).value
+
+    def watching(self, watcher: Pid, monitor: Ref) -> bool:
+        """Whether a process's monitor of this reference is open."""
+        return self._give(lib.pt_quiet_watching, c.c_bool(), c_pid("watcher", watcher),
+                          c_ref("monitor", monitor)).value
+
+
+def _desks_of(handles: c.Array[CHandle]) -> list[Desk]:
+    """The desks of a new node, each with one of these handles."""
+    node = object()
+    return [Desk(handle, node, number, len(handles)) for number, handle in enumerate(handles)]
+
+
+def open_node(count: int = 1, config: Config = Config()) -> list[Desk]:
+    """Opens a node: its desks, in order, on which nothing has happened. A count or a setting out of the table's own
+    range is a Fault, as BAD_DESKS or BAD_SLOTS; a count that no desk's number can have is a ValueError."""
+    count = number("count", count, 0, U8)
+    settings = CConfig(*own("config", config, Config))
+    handles = (CHandle * count)()
+    code = lib.pt_open(handles, count, settings)
+    if code:
+        raise _fault(lib.pt_open, (), code)
+    return _desks_of(handles)
+
+
+def gather(desks: Sequence[Desk]) -> Gathered:
+    """Brings all desks of one `open_node` or one `Quiet.resume` together, each once and in order; they are empty then.
+
+    Raises ValueError if they are not that, Busy if another thread is using one, and Fault without memory. The desks are
+    as they were then.
+    """
+    try:
+        given = iter(desks)
+    except TypeError:
+        raise TypeError(f"desks is {shown(desks)}, and must be a sequence of type Desk") from None
+    desks = [of_type(f"desks[{place}]", desk, Desk) for place, desk in enumerate(given)]
+    whole = bool(desks) and len(desks) == desks[0]._count and all(
+        desk._node is desks[0]._node and desk.number == number for number, desk in enumerate(desks))
+    if not whole:
+        raise ValueError("desks are not all desks of one node in order")
+    gathered = Gathered()
+    with ExitStack() as locks:
+        for desk in desks:
+            locks.enter_context(desk._held_alone())
+        handles = (CHandle * len(desks))(*(desk._handle for desk in desks))
+        code = lib.pt_gather(handles, len(desks), gathered._at)
+        for desk, handle in zip(desks, handles):
+            desk._handle.at = handle.at
+    if code:
+        raise _fault(lib.pt_gather, (), code)
+    return gathered

@@ -1,0 +1,228 @@
+"""The shared library: its structs, its calls, and what crosses into it and out of it."""
+
+from __future__ import annotations
+
+import ctypes as c
+import os
+from pathlib import Path
+from typing import Callable, TypeVar
+
+from .values import (
+    EVENTS, ITEMS, PICKS, REASONS, SIGNALS, Account, Body, Event, Ids, Item, LeftOver, LinkId, Pick, Pid, Reason, Ref,
+    Signal, of_type, unchecked,
+)
+
+V = TypeVar("V")
+
+
+class CPid(c.Structure):
+    _fields_ = [("shard", c.c_uint8), ("slot", c.c_uint32), ("version", c.c_uint32)]
+
+
+class CRef(c.Structure):
+    _fields_ = [("desk", c.c_uint8), ("number", c.c_uint64)]
+
+
+class CIds(c.Structure):
+    _fields_ = [("one", CRef), ("has_two", c.c_bool), ("two", CRef)]
+
+
+class CReason(c.Structure):
+    _fields_ = [("code", c.c_uint32), ("number", c.c_uint32)]
+
+
+class CBody(c.Structure):
+    _fields_ = [("kind", c.c_uint32), ("num", c.c_int64), ("has_who", c.c_bool), ("who", CPid)]
+
+
+class CItem(c.Structure):
+    _fields_ = [("code", c.c_uint32), ("alive", c.c_bool), ("pid", CPid), ("reference", CRef), ("reason", CReason),
+                ("body", CBody)]
+
+
+class CPick(c.Structure):
+    _fields_ = [("code", c.c_uint32), ("kind", c.c_uint32), ("pid", CPid), ("reference", CRef)]
+
+
+class CSignal(c.Structure):
+    _fields_ = [("code", c.c_uint32), ("alive", c.c_bool), ("reason", CReason), ("reference", CRef), ("ids", CIds),
+                ("body", CBody)]
+
+
+class CEvent(c.Structure):
+    _fields_ = [("stamp", c.c_uint64), ("desk", c.c_uint8), ("has_peer", c.c_bool), ("has_link", c.c_bool),
+                ("on", c.c_bool), ("code", c.c_uint32), ("pid", CPid), ("peer", CPid), ("link", CRef),
+                ("reason", CReason), ("pick", CPick), ("item", CItem), ("signal", CSignal)]
+
+
+class CLeftOver(c.Structure):
+    _fields_ = [("from_desk", c.c_uint8), ("to_desk", c.c_uint8), ("sender", CPid), ("to", CPid),
+                ("stamp", c.c_uint64), ("signal", CSignal)]
+
+
+class CTurned(c.Structure):
+    _fields_ = [("posted", c.c_uint64), ("handled", c.c_uint64), ("stopped", c.c_uint32)]
+
+
+class CAccount(c.Structure):
+    _fields_ = [("has_ended", c.c_bool), ("ended", CReason), ("arrived", c.c_uint64), ("taken", c.c_uint64),
+                ("waiting", c.c_uint64)]
+
+
+class CConfig(c.Structure):
+    _fields_ = [("slots", c.c_uint32), ("top_version", c.c_uint32), ("lane", c.c_uint32), ("start", c.c_uint64)]
+
+
+class CHandle(c.Structure):
+    _fields_ = [("at", c.c_void_p)]
+
+
+def load() -> c.CDLL:
+    """The shared library: the one that PUNDEWO_SO names, else the one in this package's folder."""
+    path = os.environ.get("PUNDEWO_SO") or str(Path(__file__).with_name("libpundewo.so"))
+    try:
+        return c.CDLL(path)
+    except OSError as error:
+        raise ImportError(
+            f"pundewo: the shared library does not load ({error}). `bindings/build.sh FOLDER` makes it; name it by "
+            "PUNDEWO_SO, or install the package with it: see docs/EMBEDDING.md") from None
+
+
+lib = load()
+
+# The name and the version of the library, and whether it was proved.
+BUILD = c.string_at(c.addressof(c.c_char.in_dll(lib, "pundewo_build"))).decode()
+
+
+def _declare() -> None:
+    p, flag, size = c.POINTER, c.c_bool, c.c_size_t
+    calls = {
+        "open": [p(CHandle), size, CConfig], "gather": [p(CHandle), size, p(CHandle)],
+        "settle": [p(CHandle)], "resume": [p(CHandle), size], "give_up": [], "gathered_give_up": [],
+        "quiet_give_up": [], "history_give_up": [],
+        "spawn": [p(CPid)], "spawn_child": [CPid, flag, p(CPid)], "send": [CPid, CPid, CBody],
+        "exit_signal": [CPid, CPid, CReason], "link": [CPid, CPid], "unlink": [CPid, CPid],
+        "monitor": [CPid, CPid, p(CRef)], "demonitor": [CPid, CRef, flag, p(flag)], "ask_alive": [CPid, CPid, p(CRef)],
+        "trap": [CPid, flag, p(flag)], "receive": [CPid, CPick, p(CItem)], "exit": [CPid, CReason],
+        "turn": [c.c_uint32, p(CTurned)], "clock": [p(c.c_uint64)], "number": [p(c.c_uint8)], "alive": [CPid, p(flag)],
+        "knows": [CPid, p(flag)], "pending": [p(c.c_uint64)], "vacant": [p(CPid)], "waiting": [CPid, p(size)],
+        "peek": [CPid, size, p(CItem)], "linked": [CPid, CPid, p(CIds)], "event_count": [p(size)],
+        "event_at": [size, p(CEvent)], "next_woken": [p(size), p(CPid)], "gathered_desks": [p(c.c_uint8)],
+        "gathered_history": [p(CHandle)], "quiet_history": [p(CHandle)], "quiet_handled": [p(c.c_uint64)],
+        "quiet_pid_count": [p(size)], "quiet_pid_at": [size, p(CPid)], "quiet_account": [CPid, p(CAccount)],
+        "quiet_linked": [CPid, CPid, p(CIds)], "quiet_kept": [CPid, CRef, p(flag)],
+        "quiet_watching": [CPid, CRef, p(flag)], "history_count": [p(size)], "history_at": [size, p(CEvent)],
+        "quiet_desks": [p(c.c_uint8)], "history_left_count": [p(size)], "history_left_at": [size, p(CLeftOver)],
+    }
+    for name, words in calls.items():
+        call = getattr(lib, "pt_" + name)
+        call.argtypes = words if name in ("open", "gather") else [p(CHandle), *words]
+        call.restype = c.c_uint32
+
+
+_declare()
+
+
+# What crosses out of the library. Its structs have numbers of the right widths alone, so these are not checked again.
+def pid_of(p: CPid) -> Pid:
+    return unchecked(Pid, (p.shard, p.slot, p.version))
+
+
+def ref_of(m: CRef) -> Ref:
+    return unchecked(Ref, (m.desk, m.number))
+
+
+def link_of(i: CRef) -> LinkId:
+    return unchecked(LinkId, (i.desk, i.number))
+
+
+def ids_of(ids: CIds) -> Ids:
+    return unchecked(Ids, (link_of(ids.one), link_of(ids.two) if ids.has_two else None))
+
+
+def reason_of(r: CReason) -> Reason:
+    return unchecked(Reason, (REASONS[r.code], 0) if r.code < len(REASONS) else ("other", r.number))
+
+
+def body_of(b: CBody) -> Body:
+    return unchecked(Body, (b.kind, b.num, pid_of(b.who) if b.has_who else None))
+
+
+def item_of(i: CItem) -> Item:
+    name = ITEMS[i.code]
+    return unchecked(Item, (
+        name, pid_of(i.pid), ref_of(i.reference) if name in ("down", "alive") else None,
+        reason_of(i.reason) if name in ("exit", "down") else None, body_of(i.body) if name == "user" else None,
+        i.alive if name == "alive" else None))
+
+
+def pick_of(k: CPick) -> Pick:
+    name, what = PICKS[min(k.code, 5)], None
+    if name == "kind":
+        what = k.kind
+    elif name in ("from", "exit-of"):
+        what = pid_of(k.pid)
+    elif name in ("down-of", "alive-of"):
+        what = ref_of(k.reference)
+    return unchecked(Pick, (name, what))
+
+
+def signal_of(x: CSignal) -> Signal:
+    name = SIGNALS[x.code]
+    return unchecked(Signal, (name, _WORDS[name](x) if name in _WORDS else (ref_of(x.reference),)))
+
+
+_WORDS: dict[str, Callable[[CSignal], tuple]] = {
+    "message": lambda x: (body_of(x.body),), "link": lambda x: (link_of(x.ids.one),), "unlink": lambda x: (ids_of(x.ids),),
+    "exit": lambda x: (reason_of(x.reason),), "link-exit": lambda x: (ids_of(x.ids), reason_of(x.reason)),
+    "down": lambda x: (ref_of(x.reference), reason_of(x.reason)), "alive-say": lambda x: (ref_of(x.reference), x.alive),
+}
+
+
+def event_of(e: CEvent) -> Event:
+    name = EVENTS[e.code]
+    return Event(
+        e.stamp, e.desk, name, pid_of(e.pid), pid_of(e.peer) if e.has_peer else None,
+        link_of(e.link) if e.has_link else None, reason_of(e.reason) if name == "left" else None,
+        pick_of(e.pick) if name == "took" else None, item_of(e.item) if name == "took" else None,
+        signal_of(e.signal) if name in ("said", "came") else None, e.on if name == "flag" else None)
+
+
+def left_over_of(l: CLeftOver) -> LeftOver:
+    return unchecked(LeftOver, (l.from_desk, l.to_desk, pid_of(l.sender), pid_of(l.to), signal_of(l.signal), l.stamp))
+
+
+# What crosses into the library. A value was checked when it was made, so only its type is checked here. A value of a
+# subclass, which may make its values in another way, is made again.
+def own(field: str, value: object, kind: type[V]) -> V:
+    return value if type(value) is kind else kind(*of_type(field, value, kind))
+
+
+def c_pid(field: str, p: Pid) -> CPid:
+    return CPid(*(p if type(p) is Pid else own(field, p, Pid)))
+
+
+def c_ref(field: str, m: Ref) -> CRef:
+    return CRef(*own(field, m, Ref))
+
+
+def c_reason(field: str, reason: Reason) -> CReason:
+    name, value = own(field, reason, Reason)
+    return CReason(REASONS.index(name) if name in REASONS else len(REASONS), value)
+
+
+def c_body(field: str, body: Body) -> CBody:
+    kind, num, who = body if type(body) is Body else own(field, body, Body)
+    return CBody(kind, num) if who is None else CBody(kind, num, True, c_pid(f"{field}.who", who))
+
+
+def c_pick(field: str, pick: Pick) -> CPick:
+    name, what = own(field, pick, Pick)
+    crossing = CPick(code=PICKS.index(name))
+    if name == "kind":
+        crossing.kind = what
+    elif name in ("from", "exit-of"):
+        crossing.pid = c_pid(f"{field}.what", what)
+    elif name in ("down-of", "alive-of"):
+        crossing.reference = c_ref(f"{field}.what", what)
+    return crossing

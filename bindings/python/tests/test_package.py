@@ -1,0 +1,81 @@
+"""Tests of what a user of the package meets: faults in words, a desk on two threads, a library that is not there."""
+
+from __future__ import annotations
+
+import os
+import subprocess
+import sys
+import threading
+import unittest
+from pathlib import Path
+from types import SimpleNamespace
+from unittest import mock
+
+import pundewo as p
+
+
+class Faults(unittest.TestCase):
+    def test_a_fault_names_the_call_and_its_processes(self):
+        (desk,) = p.open_node()
+        a, b = desk.spawn(), desk.spawn()
+        desk.exit(a)
+        with self.assertRaises(p.Fault) as caught:
+            desk.send(a, b, p.Body(1, 1))
+        fault = caught.exception
+        self.assertEqual((fault.code, fault.call, fault.pids), (p.Code.GONE, "send", (a, b)))
+        self.assertEqual(str(fault), "send(<0.0.1>, <0.1.1>): gone")
+
+    def test_a_call_that_fails_without_a_process_names_itself(self):
+        with self.assertRaises(p.Fault) as caught:
+            p.open_node(0)
+        self.assertEqual(str(caught.exception), "open(): bad_desks")
+
+
+class Threads(unittest.TestCase):
+    def test_a_desk_that_another_thread_uses_is_busy(self):
+        (desk,) = p.open_node()
+        entered, leave = threading.Event(), threading.Event()
+
+        def slow(*_):
+            entered.set()
+            leave.wait(60)
+            return 0
+
+        with mock.patch.object(p, "lib", SimpleNamespace(pt_clock=slow, pt_gather=slow)):
+            other = threading.Thread(target=desk.clock)
+            other.start()
+            self.assertTrue(entered.wait(60))
+            for call in (desk.clock, lambda: p.gather([desk])):
+                with self.assertRaisesRegex(p.Busy, "^a Desk is in use by another thread"):
+                    call()
+            leave.set()
+            other.join()
+        self.assertEqual(desk.clock(), 0)
+
+    def test_a_desk_may_change_threads(self):
+        (desk,) = p.open_node()
+        threads = [threading.Thread(target=lambda: pids.append(desk.spawn())) for _ in range(20)]
+        pids: list[p.Pid] = []
+        for thread in threads:
+            thread.start()
+            thread.join()
+        self.assertEqual(sorted(pids), [p.Pid(0, slot, 1) for slot in range(20)])
+
+
+class Package(unittest.TestCase):
+    def test_without_its_library_it_says_what_to_do(self):
+        at = {**os.environ, "PUNDEWO_SO": "/nowhere/libpundewo.so", "PYTHONPATH": str(Path(p.__file__).parent.parent)}
+        ran = subprocess.run([sys.executable, "-c", "import pundewo"], env=at, capture_output=True, text=True, check=False)
+        self.assertEqual(ran.returncode, 1)
+        self.assertRegex(ran.stderr.splitlines()[-1], "^ImportError: pundewo: the shared library does not load .*build.sh")
+
+    def test_it_has_a_version_and_types(self):
+        self.assertRegex(p.__version__, r"^\d+\.\d+\.\d+$")
+        self.assertTrue(p.BUILD.startswith(f"pundewo {p.__version__}, "))
+        self.assertTrue(Path(p.__file__).with_name("py.typed").exists())
+        for name in p.__all__:
+            self.assertTrue(hasattr(p, name), name)
+
+
+if __name__ == "__main__":
+    unittest.main()

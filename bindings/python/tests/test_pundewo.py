@@ -1,0 +1,316 @@
+"""Tests of the Python module: the worked rows, what the library says of itself, and what the classes keep."""
+
+import ctypes as c
+import os
+import unittest
+
+import pundewo as p
+import pundewo.values as v
+from pundewo import Code, Config, Fault, Pick, Pid, Reason, Ref
+
+
+def pid(word):
+    return Pid(*map(int, word.strip("<>").split(".")))
+
+
+def ref(word):
+    return Ref(*map(int, word.strip("#").split(".")))
+
+
+def reason(word):
+    return Reason("other", int(word[6:])) if word.startswith("other:") else Reason(word)
+
+
+def pick(words):
+    name, *what = words
+    read = {"kind": int, "from": pid, "exit-of": pid, "down-of": ref, "alive-of": ref}
+    return Pick(name, read[name](what[0])) if name in read else p.ANY
+
+
+def text(value):
+    return "none" if value is None else str(value).lower() if isinstance(value, bool) else str(value)
+
+
+def joined(values, between="; "):
+    return between.join(map(str, values)) or "nothing"
+
+
+def refused(code):
+    """The text of a refusal."""
+    name = code.name.lower()
+    return name.replace("bad_", "bounds ", 1) if name.startswith("bad_") else name
+
+
+def turned(turn):
+    why = "" if turn.stopped is None else f", then {refused(turn.stopped)}"
+    return f"posted {turn.posted} handled {turn.handled}{why}"
+
+
+def account(told):
+    if told is None:
+        return None
+    how = "alive" if told.ended is None else f"ended {told.ended}"
+    return f"{how} arrived {told.arrived} taken {told.taken} waiting {told.waiting}"
+
+
+def ended(told):
+    return None if told is None else told.ended
+
+
+def event(events, words):
+    desk, stamp = map(int, words)
+    return next((event for event in events if (event.desk, event.stamp) == (desk, stamp)), None)
+
+
+def waiting(desk, process):
+    items = desk.waiting(process)
+    return None if items is None else joined(items)
+
+
+def body(words):
+    return p.Body(int(words[0]), int(words[1]), pid(words[3]) if words[2:] else None)
+
+
+ON_DESK = {
+    "spawn": lambda d, w: d.spawn(),
+    "spawn_child": lambda d, w: d.spawn_child(pid(w[0]), w[1] == "true"),
+    "send": lambda d, w: d.send(pid(w[0]), pid(w[1]), body(w[2:])) or "ok",
+    "exit_signal": lambda d, w: d.exit_signal(pid(w[0]), pid(w[1]), reason(w[2])) or "ok",
+    "link": lambda d, w: d.link(pid(w[0]), pid(w[1])) or "ok",
+    "unlink": lambda d, w: d.unlink(pid(w[0]), pid(w[1])) or "ok",
+    "trap": lambda d, w: d.trap(pid(w[0]), w[1] == "true"),
+    "exit": lambda d, w: d.exit(pid(w[0]), reason(w[1])) or "ok",
+    "monitor": lambda d, w: d.monitor(pid(w[0]), pid(w[1])),
+    "demonitor": lambda d, w: d.demonitor(pid(w[0]), ref(w[1]), w[2] == "true"),
+    "ask_alive": lambda d, w: d.ask_alive(pid(w[0]), pid(w[1])),
+    "receive": lambda d, w: d.receive(pid(w[0]), pick(w[1:] or ["any"])),
+    "turn": lambda d, w: turned(d.turn(int(w[1]))),
+    "clock": lambda d, w: d.clock(),
+    "pending": lambda d, w: d.pending(),
+    "journal": lambda d, w: joined(d.events()),
+    "event": lambda d, w: event(d.events(), w),
+    "alive": lambda d, w: d.alive(pid(w[0])),
+    "knows": lambda d, w: d.knows(pid(w[1])),
+    "vacant": lambda d, w: d.vacant(),
+    "linked": lambda d, w: d.linked(pid(w[0]), pid(w[1])),
+    "waiting": lambda d, w: waiting(d, pid(w[0])),
+}
+ON_HISTORY = {
+    "events": lambda h, w: len(h),
+    "event": lambda h, w: event(h.events(), w),
+    "history": lambda h, w: joined(h.events()),
+    "left_over": lambda h, w: joined(h.left_over()),
+}
+ON_QUIET = {
+    "pids": lambda q, w: joined(q.pids(), " "),
+    "account": lambda q, w: account(q.account(pid(w[0]))),
+    "ended": lambda q, w: ended(q.account(pid(w[0]))),
+    "alive": lambda q, w: q.account(pid(w[0])) is not None and ended(q.account(pid(w[0]))) is None,
+    "linked": lambda q, w: q.linked(pid(w[0]), pid(w[1])),
+    "kept": lambda q, w: q.kept(pid(w[0]), ref(w[1])),
+    "watching": lambda q, w: q.watching(pid(w[0]), ref(w[1])),
+}
+
+
+def turn_each(desks, budget):
+    """One turn of each desk: what they did together, and the first that was stopped."""
+    turns = [desk.turn(budget) for desk in desks]
+    stops = [(number, turn.stopped) for number, turn in enumerate(turns) if turn.stopped is not None]
+    place, stopped = stops[0] if stops else (0, None)
+    return p.Turned(sum(turn.posted for turn in turns), sum(turn.handled for turn in turns), stopped), place
+
+
+def turn_until_still(desks, budget):
+    """Turns of all desks, until two rounds have handled nothing: what one desk posts may be for one before it."""
+    handled = still = 0
+    while still < 2:
+        turn, place = turn_each(desks, max(1, budget))
+        handled += turn.handled
+        if turn.stopped is not None:
+            return f"handled {handled}, then desk {place} {refused(turn.stopped)}"
+        still = 0 if turn.handled else still + 1
+    return f"handled {handled}"
+
+
+class Player:
+    """A node in one of its states: `node` is None, the desks, a Gathered or a Quiet."""
+
+    def __init__(self):
+        self.node = None
+
+    def make(self, name, words):
+        """Makes a call, and returns the text of its answer."""
+        try:
+            return text(self.answer(name, words))
+        except Fault as fault:
+            return refused(fault.code)
+
+    def answer(self, name, words):
+        if name == "open":
+            count, *settings = map(int, words)
+            self.node = p.open_node(count, Config(*settings))
+            return "ok"
+        if isinstance(self.node, p.Gathered):
+            return self.settle() if name == "settle" else ON_HISTORY[name](self.node.history(), words)
+        if isinstance(self.node, p.Quiet):
+            return self.on_quiet(name, words)
+        return self.gather() if name == "gather" else self.on_desks(name, words)
+
+    def gather(self):
+        self.node = p.gather(self.node)
+        return f"left-over {len(list(self.node.history().left_over()))}"
+
+    def settle(self):
+        self.node = self.node.settle()
+        return f"handled {self.node.handled()}"
+
+    def on_quiet(self, name, words):
+        if name == "resume":
+            self.node = self.node.resume()
+            return "ok"
+        if name in ON_QUIET:
+            return ON_QUIET[name](self.node, words)
+        return ON_HISTORY[name](self.node.history(), words)
+
+    def on_desks(self, name, words):
+        if name == "turn_all":
+            return turned(turn_each(self.node, int(words[0]))[0])
+        if name == "turn_until_still":
+            return turn_until_still(self.node, int(words[0]))
+        if name == "events":
+            return sum(desk.event_count() for desk in self.node)
+        number = pid(words[0]).shard if words[0].startswith("<") else int(words[0])
+        return ON_DESK[name](self.node[number], words)
+
+    def close(self):
+        """Gathers and settles what is left of the node. A clock at its limit takes no more receipts."""
+        if self.node is None or isinstance(self.node, p.Quiet):
+            return
+        gathered = self.node if isinstance(self.node, p.Gathered) else p.gather(self.node)
+        before = len(gathered.history())
+        try:
+            history = gathered.settle().history()
+            assert len(history) >= before and not list(history.left_over())
+        except p.Unsettled as fault:
+            assert fault.code == Code.WORN
+
+
+class Rows(unittest.TestCase):
+    def test_rows_answer_as_they_do_in_rattle(self):
+        player, row, rows, answers = Player(), "", 0, 0
+        with open(os.environ["PUNDEWO_ROWS"]) as table:
+            for line in table.read().splitlines():
+                if line.startswith("row "):
+                    player.close()
+                    player, row, rows = Player(), line[4:], rows + 1
+                    continue
+                call, _, answer = line.partition(" = ")
+                name, *words = call.split()
+                told = player.make(name, words)
+                if answer:
+                    self.assertEqual(told, answer, f"{row}: {call}")
+                    answers += 1
+        player.close()
+        self.assertTrue(rows >= 115 and answers >= 2000)
+
+
+class About(unittest.TestCase):
+    def numbers(self, value, told):
+        """The numbers of a sample's fields, in order; a bool is true, and counts as the place that it stands at."""
+        if isinstance(value, c.Structure):
+            for name, *_ in value._fields_:
+                self.numbers(getattr(value, name), told)
+        elif isinstance(value, bool):
+            self.assertTrue(value)
+            told.append(len(told) + 1)
+        else:
+            told.append(value)
+        return told
+
+    def test_fields(self):
+        samples = {"event": p.CEvent, "left_over": p.CLeftOver, "turned": p.CTurned, "account": p.CAccount,
+                   "config": p.CConfig}
+        for name, kind in samples.items():
+            sample = kind()
+            getattr(p.lib, f"pt_about_{name}")(c.byref(sample))
+            told = self.numbers(sample, [])
+            self.assertEqual(told, list(range(1, len(told) + 1)), name)
+
+    def test_sizes_and_codes(self):
+        kinds = [p.CPid, p.CRef, p.CIds, p.CReason, p.CBody, p.CItem, p.CPick, p.CSignal, p.CEvent, p.CLeftOver,
+                 p.CTurned, p.CAccount, p.CConfig]
+        sizes = (c.c_size_t * (len(kinds) + 1))()
+        p.lib.pt_about_sizes(sizes)
+        self.assertEqual(list(sizes)[:-1], [c.sizeof(kind) for kind in kinds])
+        wanted = [code.value for code in Code]
+        for names in (v.REASONS + ("other",), v.ITEMS, v.PICKS, v.SIGNALS, v.EVENTS):
+            wanted += range(len(names))
+        self.assertEqual(sizes[-1], 4 * len(wanted))
+        codes = (c.c_uint32 * len(wanted))()
+        p.lib.pt_about_codes(codes)
+        self.assertEqual(list(codes), wanted)
+
+
+class Handles(unittest.TestCase):
+    def test_a_closed_desk_is_empty(self):
+        (desk,) = p.open_node()
+        desk.spawn()
+        desk.close()
+        desk.close()
+        with self.assertRaises(Fault) as caught:
+            desk.spawn()
+        self.assertEqual(caught.exception.code, Code.EMPTY)
+
+    def test_what_is_not_one_node_is_not_gathered(self):
+        one, other = p.open_node(2), p.open_node(2)
+        for desks in ([], one[:1], [one[1], one[0]], [one[0], other[1]], [one[0], one[0]]):
+            with self.assertRaises(ValueError):
+                p.gather(desks)
+        self.assertEqual(p.gather(one).desks(), 2)
+        with self.assertRaises(Fault) as caught:
+            p.gather(one)
+        self.assertEqual(caught.exception.code, Code.EMPTY)
+
+    def test_a_history_is_read_and_accounts_told(self):
+        here, there = p.open_node(2)
+        a, b = here.spawn(), there.spawn()
+        here.send(a, b, p.Body(1, 7, a))
+        gathered = p.gather([here, there])
+        self.assertEqual([str(letter) for letter in gathered.history().left_over()],
+                         ["left-over 0 -> 1 <0.0.1> -> <1.0.1> message 1 7 who <0.0.1> @2"])
+        quiet = gathered.settle()
+        self.assertEqual(str(list(quiet.history().events())[-1]), "3@1 came <0.0.1> -> <1.0.1> message 1 7 who <0.0.1>")
+        self.assertEqual((quiet.handled(), list(quiet.pids())), (1, [a, b]))
+        self.assertEqual(quiet.account(b), p.Account(None, 1, 0, 1))
+        self.assertIsNone(quiet.account(Pid(0, 5, 1)))
+
+    def test_a_node_goes_on(self):
+        desks = p.open_node(2)
+        a = desks[0].spawn()
+        quiet = p.gather(desks).settle()
+        more = quiet.resume()
+        self.assertEqual((len(more), more[0].alive(a), more[0].clock(), more[0].event_count()), (2, True, 1, 0))
+        with self.assertRaises(Fault) as caught:
+            quiet.resume()
+        self.assertEqual(caught.exception.code, Code.EMPTY)
+        self.assertEqual(p.gather(more).desks(), 2)
+
+    def test_a_process_of_another_desk_is_gone(self):
+        (desk,) = p.open_node()
+        other = Pid(1, 0, 1)
+        self.assertEqual((desk.number, desk.alive(other), desk.knows(other)), (0, False, False))
+        with self.assertRaises(Fault) as caught:
+            desk.receive(other)
+        self.assertEqual(caught.exception.code, Code.GONE)
+
+    def test_who_is_woken(self):
+        (desk,) = p.open_node()
+        a, b = desk.spawn(), desk.spawn()
+        desk.send(a, b, p.Body(1, 1))
+        desk.turn()
+        desk.exit(a)
+        self.assertEqual(desk.woken(0), ([b, a], desk.event_count()))
+
+
+if __name__ == "__main__":
+    unittest.main()

@@ -1,0 +1,26 @@
+-- `come_to_rest`: its clauses `upholds` and `still`.
+use Rattle.std.proofs.Common.{◌≡◌, false, List, Option, Some, None, is_some, sym, ◌∙◌, refl, subst}
+use Rattle.pt_desk.specs.DeskState.{DeskState}
+use Rattle.pt_crew.specs.declared.crew.Crew.{Crew}
+use Rattle.pt_crew.specs.Running.{AreIdle}
+use Rattle.example_scenes.specs.declared.team.Member.{Member}
+use Rattle.example_scenes.proofs.team.come_to_rest.Goals as goal
+
+none_of : {X : Type 0} (o : Option X) → is_some o ≡ false → o ≡ None
+none_of None h = refl
+none_of (Some x) h = absurd (cc)
+
+pub returns-clause-upholds : goal.returns-clause-upholds
+returns-clause-upholds c =
+    λ a. c.gathered_children_live.ensures.rests 1024 c.run_single.new.self c.turn_until_still.new.self c.run_single.new.works.items c.turn_until_still.result c.turn_until_still.ensures.rounds
+    (c.gathered_children_live.ensures.rounds 50 1024 c.args.node.now c.run_single.new.self c.args.crews.now.items c.run_single.new.works.items c.run_single.result c.run_single.ensures a)
+
+pub returns-clause-still : goal.returns-clause-still
+returns-clause-still c =
+    let crews = c.as_slice.result.now in
+    let idle : AreIdle crews c.turn_until_still.new.self =
+    subst (λ (ds : List DeskState). AreIdle crews ds) c.desks.ensures.desks c.if-not-are_idle.ensures in
+    let none = none_of c.turn_until_still.result.stopped (sym c.is_some.ensures ∙ c.if-is_some.false) in (
+      subst (λ (cs : List (Crew Member)). AreIdle cs c.turn_until_still.new.self) c.as_slice.ensures.value idle,
+      c.turn_until_still.ensures.still none,
+    )

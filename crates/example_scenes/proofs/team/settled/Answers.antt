@@ -1,0 +1,11 @@
+-- `settled`: its clauses `desks` and `lawful`.
+use Rattle.std.proofs.Common.{ap, ◌∙◌}
+use Rattle.pt_gathered.specs.Gathered.{GatheredState}
+use Rattle.example_scenes.proofs.team.settled.Goals as goal
+
+pub returns-clause-desks : goal.returns-clause-desks
+returns-clause-desks c =
+    λ still. ap (λ (g : GatheredState). g.shards) (c.in_ok-quiet.ensures.again (c.in_ok-gather.ensures.still still)).0 ∙ c.in_ok-gather.ensures.gathers.shards
+
+pub returns-clause-lawful : goal.returns-clause-lawful
+returns-clause-lawful c = (c.desks-desks.ensures.gathered, c.in_ok-quiet.ensures.links)

@@ -1,0 +1,17 @@
+-- The teams of the scene `team`.
+use Rattle.std.specs.Prelude.{List}
+use Rattle.std.specs.Option.{option_map}
+use Rattle.pt_desk.specs.DeskState.{DeskState}
+use Rattle.pt_crew.specs.declared.crew.Crew.{Crew}
+use Rattle.pt_crew.specs.Running.{AllUphold}
+use Rattle.pt_supervisor.specs.Hearing.{standing}
+use Rattle.pt_supervisor.specs.Keeping.{Keeps, PartOf}
+use Rattle.example_scenes.specs.declared.team.Member.{Member}
+
+-- what a process of a team is as a supervisor, if it is one
+abbrev pub boss_of : PartOf Member
+boss_of b = option_map standing b.boss
+
+-- the crew of each desk is a team: its supervisors hold their children
+abbrev pub AreTeams : List (Crew Member) → List DeskState → Type 0
+AreTeams crews desks = AllUphold (Keeps boss_of) crews desks

@@ -1,0 +1,33 @@
+//! Five scenes of processes that run code, each on four desks. They are:
+//!
+//! - a ring of a thousand processes;
+//! - a bank with a sum that stays;
+//! - a chat with guests that crash;
+//! - a queue of jobs below a tree of supervisors;
+//! - teams with workers that crash as they begin.
+//!
+//! # What is proved
+//!
+//! - **The team.** On each desk every child that its supervisor wants alive is alive, once the node is gathered.
+//!   (`AllChildrenLive`)
+//! - **The others.** Each scene terminates without a fault. What they print is compared.
+#![tactic(auto)]
+
+mod bank;
+mod chat;
+mod jobs;
+mod ring;
+mod stage;
+mod team;
+
+use anyhow::Result;
+
+fn main(rt: HostRuntime) -> Result<()> {
+    let alloc = rt.alloc();
+    println!(rt; "{}", ring::play(alloc)?)?;
+    println!(rt; "{}", bank::play(alloc)?)?;
+    println!(rt; "{}", chat::play(alloc)?)?;
+    println!(rt; "{}", jobs::play(alloc)?)?;
+    println!(rt; "{}", team::play(alloc)?)?;
+    Ok(())
+}

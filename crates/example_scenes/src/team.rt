@@ -1,0 +1,228 @@
+//! A supervisor on each desk, whose workers crash as they begin. Once the node is still it is settled. Then each child
+//! that its supervisor wants alive is alive, by the theorem on nodes that are still.
+
+ghost use Rattle.std.specs.Prelude.{◌≡◌, IfOk, Ok};
+ghost use Rattle.pt_crew.specs.declared.behaviour.Next.{Next};
+ghost use Rattle.pt_desk.specs.DeskState.{GoesOn};
+ghost use Rattle.pt_gathered.specs.Gathered.{IsGathered};
+ghost use Rattle.pt_gathered.specs.Lawful.{LinksStand};
+ghost use Rattle.pt_workers.specs.Desks.{AreDesks, all_shards};
+ghost use Rattle.pt_workers.specs.Stillness.{AreStill};
+ghost use Rattle.pt_crew.specs.Running.{AreIdle, UpholdsOn};
+ghost use Rattle.pt_supervisor.specs.Keeping.{AnswerAs, SupervisorBegins, Keeps};
+ghost use Rattle.pt_supervisor.specs.Gathering.{AllChildrenLive};
+ghost use Rattle.pt_supervisor.specs.Stopping.{StoppedChildrenEnded};
+ghost use Rattle.example_scenes.specs.declared.team.Member.{Member};
+ghost use Rattle.example_scenes.specs.Team.{AreTeams, boss_of};
+
+use crate::stage::{DESKS, first_of};
+use anyhow::{Result, bail};
+use pt_crew::{Behaviour, Births, Crew, Next, are_idle};
+use pt_node::{Account, Config, Desk, Fault, FreeGate, Item, Node, Pick, Pid, Quiet, Reason, open};
+use pt_supervisor::{
+    Child, Limit, Restart, Start, Strategy, Supervised, Supervisor, gathered_children_live,
+    quiet_children_live, stopped_children_ended,
+};
+use std::alloc::{AllocError, Global};
+use std::fmt::{self, Display, Formatter, Write};
+
+/// The number of workers of each desk that crash before the others stay.
+const CRASHES: u32 = 5;
+
+const CRASH: Reason = Reason::Other(1);
+
+/// The children: workers, of which so many crash before the others stay.
+#[derive(Clone, Copy, Drop)]
+struct Workers {
+    crashes: u32,
+}
+
+impl Start<Member> for Workers {
+    ghost starts = { λ old boss place result new. (b : Member) (first : Next) → result ≡ Ok (b, first)
+        → SupervisorBegins (boss_of b) first };
+
+    fn start(&mut self, _supervisor: Pid, _place: usize) -> Result<(Member, Next), Fault> {
+        let worker = Member { boss: None };
+        if self.crashes == 0 {
+            return Ok((worker, Next::Wait(Pick::Any)));
+        }
+        self.crashes -= 1;
+        Ok((worker, Next::Stop(CRASH)))
+    }
+}
+
+/// A supervisor, or a worker, which keeps what it gets.
+#[derive(Drop)]
+struct Member {
+    boss: Option<Supervisor<Workers>>,
+}
+
+impl Behaviour for Member {
+    ghost answers = { AnswerAs boss_of };
+
+    #[tactic(auto, using(pt_workers::proofs::GoingOn::stays))]
+    fn handle(
+        &mut self,
+        desk: &mut Desk,
+        births: &mut Births<Member>,
+        me: Pid,
+        item: Option<Item>,
+    ) -> Next {
+        match &mut self.boss {
+            Some(boss) => boss.handle(desk, births, me, item),
+            None => Next::Wait(Pick::Any),
+        }
+    }
+}
+
+impl Supervised for Member {
+    ghost supervisor = { boss_of };
+
+    ghost supervises = { λ b d me item next now e births h. h };
+}
+
+/// A supervisor of three permanent children, which starts each again by itself, at most a hundred times.
+fn team(alloc: Global) -> Result<Member, AllocError>
+    ensures { IfOk result (λ b. SupervisorBegins (boss_of b) Next.Proceed) }
+{
+    let child = Child::new(Restart::Permanent);
+    let children = vec![in alloc; child, child, child]?;
+    let limit = Limit::new(alloc, 100, u64::MAX)?;
+    let workers = Workers { crashes: CRASHES };
+    let boss = Supervisor::new(workers, Strategy::OneForOne, children, limit);
+    Ok(Member { boss: Some(boss) })
+}
+
+/// The crew of a desk, which its supervisor has entered.
+fn staffed(alloc: Global, desk: &mut Desk) -> Result<Crew<Member>>
+    ensures upholds { IfOk result (λ c. UpholdsOn (Keeps boss_of) c desk.new.shard) }
+    ensures goes_on { GoesOn desk.old desk.new }
+{
+    quiet_children_live::<Member>();
+    let mut crew = Crew::new(alloc, 8);
+    let boss = team(alloc)?;
+    crew.enter(desk, boss, Next::Proceed)?;
+    Ok(crew)
+}
+
+/// A crew for each desk, which its supervisor has entered.
+fn all_staffed(alloc: Global, desks: &mut Vec<Desk>) -> Result<Vec<Crew<Member>>>
+    ensures upholds { IfOk result (λ crews. AreTeams crews.items desks.new.items) }
+    ensures node { AreDesks desks.old.items → AreDesks desks.new.items }
+{
+    let mut crews = Vec::new(alloc);
+    for place in 0..desks.len() {
+        let crew = staffed(alloc, &mut desks[place])?;
+        crews.push(crew)?;
+    }
+    Ok(crews)
+}
+
+/// Opens the node, with a supervisor on each desk.
+fn opened(alloc: Global) -> Result<(Node, Vec<Crew<Member>>)>
+    ensures { IfOk result (λ r. AreTeams r.1.items r.0) }
+{
+    let mut desks = open(alloc, Config::DEFAULT.with_desks(DESKS).with_slots(16))?;
+    let crews = all_staffed(alloc, &mut desks);
+    // desks cannot be dropped, and a node can
+    let node = Node::of_desks(alloc, desks);
+    Ok((node, crews?))
+}
+
+/// Runs the crews until no process has anything to do, and no letter is in flight.
+fn come_to_rest(node: &mut Node, crews: &mut Vec<Crew<Member>>) -> Result<()>
+    ensures upholds { IfOk result (λ _. AreTeams crews.old.items node.old → AreTeams crews.new.items node.new) }
+    ensures still { IfOk result (λ _. AreIdle crews.new.items node.new × AreStill node.new) }
+{
+    gathered_children_live::<Member, FreeGate>(&FreeGate);
+    if node.run_single(crews, 50, 1_024, &FreeGate).is_err() {
+        bail!("the scene does not run");
+    }
+    if node.turn_until_still(1_024).stopped.is_some() {
+        bail!("the node is not still");
+    }
+    if !are_idle(crews.as_slice(), node.desks()) {
+        bail!("somebody has something to do");
+    }
+    Ok(())
+}
+
+/// Gathers and settles a node that is still, which leaves it as it is.
+fn settled(node: Node) -> Result<Quiet>
+    ensures desks { AreStill node → IfOk result (λ q. q.gathered.shards ≡ all_shards node) }
+    ensures lawful { IfOk result (λ q. IsGathered q.gathered × LinksStand q.gathered) }
+{
+    let quiet = node.gather()?.settle()?;
+    // read for the proof alone: it says what holds of every gathered node
+    let _desks = quiet.desks();
+    Ok(quiet)
+}
+
+/// The crews of a node that is still, and the settled node.
+#[derive(Drop)]
+pub struct Teams {
+    crews: Vec<Crew<Member>>,
+    quiet: Quiet,
+}
+
+/// Plays the scene until all is still. Then each child that its supervisor wants alive is alive. If a supervisor stops
+/// by itself, no child that it started is alive, unless the child sent it an exit signal.
+pub fn play(alloc: Global) -> Result<Teams>
+    ensures live { IfOk result (λ t. AllChildrenLive boss_of t.crews.items t.quiet.gathered) }
+    ensures stopped { StoppedChildrenEnded boss_of }
+{
+    gathered_children_live::<Member, FreeGate>(&FreeGate);
+    stopped_children_ended::<Member>();
+    let (mut node, mut crews) = opened(alloc)?;
+    come_to_rest(&mut node, &mut crews)?;
+    let quiet = settled(node)?;
+    Ok(Teams { crews, quiet })
+}
+
+impl Teams {
+    /// The children of a desk's supervisor.
+    fn children(&self, desk: u8) -> &[Child] {
+        let Some(crew) = self.crews.get(usize::from(desk)) else {
+            return &[];
+        };
+        match crew.behaviour(first_of(desk)) {
+            Some(Member { boss: Some(boss) }) => boss.children(),
+            _ => &[],
+        }
+    }
+
+    /// Whether a child is alive, by the history of the node.
+    fn lives(&self, child: &Child) -> bool {
+        match child.pid {
+            Some(pid) => matches!(self.quiet.account(pid), Some(Account { ended: None, .. })),
+            None => false,
+        }
+    }
+
+    /// The number of children that a desk's supervisor wants alive, and the number of these that are.
+    fn counted(&self, desk: u8) -> (u32, u32) {
+        let mut wanted: u32 = 0;
+        let mut living: u32 = 0;
+        for child in self.children(desk) {
+            if child.wanted {
+                wanted = wanted.saturating_add(1);
+                living = living.saturating_add(u32::from(self.lives(child)));
+            }
+        }
+        (wanted, living)
+    }
+}
+
+impl Display for Teams {
+    fn fmt<W: Write>(&self, f: &mut Formatter<W>) -> fmt::Result {
+        write!(f, "team: {CRASHES} workers of each desk crashed")?;
+        for desk in 0..DESKS {
+            let (wanted, living) = self.counted(desk);
+            write!(
+                f,
+                "\nstill: of {wanted} children of desk {desk} that are to live {living} do"
+            )?;
+        }
+        Ok(())
+    }
+}

@@ -1,6 +1,0 @@
--- `ends_behind_quiet_turns`: its contract.
-use Rattle.pt_uses.proofs.Quieted.{ends_quietly}
-use Rattle.pt_uses.proofs.until_quiet.ends_behind_quiet_turns.Goals as goal
-
-pub returns : goal.returns
-returns g c = ends_quietly (g.W.Work.does, g.W.Work.hears)
