@@ -35,6 +35,7 @@ room = bytearray(60_000_000)
 while time.process_time() < 3: pass
 END
 cp build check
+mkdir -p crates/pt_a/must-fail crates/pt_b/must-fail
 cat >checks <<'END'
 (exec -a rattle python3 build --crate-name pt_a src/lib.rt) &
 (exec -a rattle python3 build --crate-name pt_b --test src/lib.rt) &

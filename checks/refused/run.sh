@@ -6,9 +6,10 @@
 #   checks/refused/run.sh reading    the reading of a script
 #
 # The program of calls/ makes each call that takes memory (calls.txt) on something that is made for it, with its Nth
-# growth refused, N = 1, 2, 3 and so on until nothing is refused. After each refusal all that can be read is compared,
-# and what the same call then does with memory is compared with what it does where nothing is refused. The crates stand
-# on a heap of its own there (heap.rt.txt, over_heap), which refuses what it is told to, as often as it is told.
+# growth refused, for each that it takes. After each refusal all that can be read is compared, and what the same call
+# then does with memory is compared with what it does where nothing is refused. Beside it random sequences of calls are
+# played, with several refusals each. The crates stand on a heap of its own there (heap.rt.txt, over_heap), which refuses
+# what it is told to, as often as it is told.
 #
 # Scripts are read by a parser that takes the host's memory alone. So reading.rt.txt reads one, once for each piece that
 # this takes, in a program that is built to refuse that piece.

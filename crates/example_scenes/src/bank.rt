@@ -8,7 +8,7 @@ ghost use Rattle.pt_crew.specs.Visiting.{takes};
 use crate::stage;
 use crate::stage::{DESKS, Stage, first_of};
 use anyhow::Result;
-use pt_crew::{Behaviour, Births, Next, bear, tell};
+use pt_crew::{Behaviour, Births, Next, send, spawn_child};
 use pt_node::{Body, Desk, Item, Pick, Pid};
 use std::alloc::Global;
 use std::fmt;
@@ -70,7 +70,7 @@ fn pay(desk: &mut Desk, me: Pid, to: Pid, amount: i64, balance: i64) -> Option<i
     if amount < 0 || amount > balance {
         return None;
     }
-    match tell(desk, me, to, message(PAID, amount, me)) {
+    match send(desk, me, to, message(PAID, amount, me)) {
         Ok(()) => Some(balance - amount),
         Err(_) => None,
     }
@@ -87,7 +87,7 @@ fn open(desk: &mut Desk, births: &mut Births<Clerk>, me: Pid) -> Next
         account: me,
         orders: ORDERS,
     };
-    let _ = bear(desk, births, me, true, Clerk::Teller(teller), Next::Proceed);
+    let _ = spawn_child(desk, births, me, true, Clerk::Teller(teller), Next::Proceed);
     Next::Wait(Pick::Any)
 }
 
@@ -123,7 +123,7 @@ impl Teller {
             return Next::Wait(Pick::Any);
         }
         let body = message(PAY, self.orders, other(self.account, self.orders));
-        let _ = tell(desk, me, self.account, body);
+        let _ = send(desk, me, self.account, body);
         self.orders -= 1;
         Next::Proceed
     }

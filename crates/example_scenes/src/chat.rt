@@ -7,7 +7,7 @@ ghost use Rattle.pt_crew.specs.Visiting.{takes};
 use crate::stage;
 use crate::stage::{Stage, first_of};
 use anyhow::Result;
-use pt_crew::{Behaviour, Births, Next, tell, watch};
+use pt_crew::{Behaviour, Births, Next, monitor, send};
 use pt_node::{Body, Desk, Item, Pick, Pid, Reason};
 use std::alloc::Global;
 use std::fmt;
@@ -63,7 +63,7 @@ fn pass(desk: &mut Desk, me: Pid, guest: Option<Pid>, word: i64) -> u32
     let Some(guest) = guest else {
         return 0;
     };
-    match tell(desk, me, guest, message(SAY, word)) {
+    match send(desk, me, guest, message(SAY, word)) {
         Ok(()) => 1,
         Err(_) => 0,
     }
@@ -90,7 +90,7 @@ fn speak(desk: &mut Desk, me: Pid, words: &mut u32) -> Next
     if *words == 0 {
         return Next::Stop(Reason::Other(7));
     }
-    let _ = tell(desk, me, first_of(0), message(SAY, *words as i64));
+    let _ = send(desk, me, first_of(0), message(SAY, *words as i64));
     *words -= 1;
     Next::Wait(Pick::Any)
 }
@@ -105,7 +105,7 @@ fn receive(desk: &mut Desk, me: Pid, hall: &mut Hall, item: Option<Item>)
     match item {
         Some(Item::User(guest, body)) if body.kind == JOIN => {
             hall.guests[seat(guest)] = Some(guest);
-            let _ = watch(desk, me, guest);
+            let _ = monitor(desk, me, guest);
         }
         Some(Item::User(_, body)) => {
             let passed = pass_to_all(desk, me, hall.guests, body.num);
@@ -125,7 +125,7 @@ fn tell_room(desk: &mut Desk, me: Pid, kind: u32)
     ensures takes { takes desk.new.shard.journal ≡ takes desk.old.shard.journal }
     ensures goes_on { GoesOn desk.old desk.new }
 {
-    let _ = tell(desk, me, first_of(0), message(kind, 0));
+    let _ = send(desk, me, first_of(0), message(kind, 0));
 }
 
 /// Lets a guest join, and say its first word.

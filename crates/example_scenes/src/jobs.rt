@@ -16,8 +16,8 @@ use crate::stage;
 use crate::stage::{DESKS, Stage, first_of};
 use anyhow::Result;
 use pt_crew::{
-    Behaviour, Births, Heard, Next, Pending, Request, calls_end_once, reply, request_of, unwatch,
-    watch,
+    Behaviour, Births, Heard, Next, Pending, Request, calls_end_once, demonitor, monitor, reply,
+    request_of,
 };
 use pt_node::{Desk, Fault, Item, Pick, Pid, Reason, Ref};
 use pt_supervisor::{Child, Limit, Restart, Start, Strategy, Supervisor, permanent_children_live};
@@ -162,7 +162,7 @@ fn finish(desk: &mut Desk, me: Pid, given: Given)
     ensures takes { takes desk.new.shard.journal ≡ takes desk.old.shard.journal }
     ensures goes_on { GoesOn desk.old desk.new }
 {
-    let _ = unwatch(desk, me, given.monitor);
+    let _ = demonitor(desk, me, given.monitor);
     let _ = reply(desk, me, given.job, given.job.asks);
 }
 
@@ -172,12 +172,12 @@ fn hand(desk: &mut Desk, me: Pid, job: Request, request: Request) -> Option<Give
     ensures goes_on { GoesOn desk.old desk.new }
 {
     let worker = request.from;
-    let monitor = watch(desk, me, worker).ok()?;
+    let reference = monitor(desk, me, worker).ok()?;
     let _ = reply(desk, me, request, job.asks);
     Some(Given {
         job,
         worker,
-        monitor,
+        monitor: reference,
     })
 }
 

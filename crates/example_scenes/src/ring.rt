@@ -8,7 +8,7 @@ ghost use Rattle.pt_crew.specs.Visiting.{takes};
 use crate::stage;
 use crate::stage::{DESKS, Stage};
 use anyhow::Result;
-use pt_crew::{Behaviour, Births, Next, bear, tell};
+use pt_crew::{Behaviour, Births, Next, send, spawn_child};
 use pt_node::{Body, Desk, Item, Pick, Pid};
 use std::alloc::Global;
 use std::fmt;
@@ -55,7 +55,7 @@ fn hand_on(desk: &mut Desk, me: Pid, num: i64)
             num: num - 1,
             who: None,
         };
-        let _ = tell(desk, me, behind(me), body);
+        let _ = send(desk, me, behind(me), body);
     }
 }
 
@@ -74,7 +74,7 @@ impl Runner {
                 begins: false,
                 heard: 0,
             };
-            let _ = bear(desk, births, me, false, child, Next::Wait(Pick::Any));
+            let _ = spawn_child(desk, births, me, false, child, Next::Wait(Pick::Any));
             return Next::Proceed;
         }
         if self.begins {

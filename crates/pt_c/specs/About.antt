@@ -1,6 +1,14 @@
 -- What the library says of itself: its codes, the sizes of what crosses, and a sample of each struct, whose fields have
 -- the numbers 1, 2, 3 and so on in order, a bool being true.
-use Rattle.std.specs.Prelude.{true, pos}
+use Rattle.std.specs.Prelude.{ℕ, ◌+◌, true, pos}
+use Rattle.pt_table.specs.declared.types.PtPid.{PtPid}
+use Rattle.pt_table.specs.declared.types.PtRef.{PtRef}
+use Rattle.pt_table.specs.declared.types.PtReason.{PtReason}
+use Rattle.pt_table.specs.declared.types.PtIds.{PtIds}
+use Rattle.pt_table.specs.declared.types.PtBody.{PtBody}
+use Rattle.pt_table.specs.declared.types.PtPick.{PtPick}
+use Rattle.pt_table.specs.declared.types.PtItem.{PtItem}
+use Rattle.pt_table.specs.declared.types.PtSignal.{PtSignal}
 use Rattle.pt_table.specs.declared.types.PtEvent.{PtEvent}
 use Rattle.pt_table.specs.declared.types.PtLeftOver.{PtLeftOver}
 use Rattle.pt_table.specs.declared.types.PtTurned.{PtTurned}
@@ -62,6 +70,75 @@ all_codes = record {
   event_refused = 6;
 }
 
+-- codes, of which these are the answers of calls
+abbrev pub with_answers : PtCodes → PtCodes
+with_answers c = record c {
+  done = 0;
+  full = 1;
+  memory = 2;
+  worn = 3;
+  gone = 4;
+  myself = 5;
+  noproc = 6;
+  unknown = 7;
+  nothing = 8;
+  empty = 9;
+  filled = 10;
+  bad_desks = 11;
+  bad_slots = 12;
+  bad_top_version = 13;
+  bad_lane = 14;
+  bad_start = 15;
+}
+
+-- of which these are of reasons, of items and of picks
+abbrev pub with_values : PtCodes → PtCodes
+with_values c = record c {
+  reason_normal = 0;
+  reason_kill = 1;
+  reason_killed = 2;
+  reason_noproc = 3;
+  reason_shutdown = 4;
+  reason_other = 5;
+  item_user = 0;
+  item_exit = 1;
+  item_down = 2;
+  item_alive = 3;
+  pick_kind = 0;
+  pick_from = 1;
+  pick_exit_of = 2;
+  pick_down_of = 3;
+  pick_alive_of = 4;
+  pick_any = 5;
+}
+
+-- of which these are of signals
+abbrev pub with_signals : PtCodes → PtCodes
+with_signals c = record c {
+  signal_message = 0;
+  signal_link = 1;
+  signal_unlink = 2;
+  signal_exit = 3;
+  signal_link_exit = 4;
+  signal_monitor = 5;
+  signal_demonitor = 6;
+  signal_down = 7;
+  signal_alive_ask = 8;
+  signal_alive_say = 9;
+}
+
+-- of which these are of events
+abbrev pub with_events : PtCodes → PtCodes
+with_events c = record c {
+  event_born = 0;
+  event_said = 1;
+  event_came = 2;
+  event_took = 3;
+  event_flag = 4;
+  event_left = 5;
+  event_refused = 6;
+}
+
 abbrev pub all_sizes : PtSizes
 all_sizes = record {
   pid = 12;
@@ -80,6 +157,45 @@ all_sizes = record {
   codes = 196;
 }
 
+-- a value whose fields have the numbers from this one on
+abbrev pub sample_pid : ℕ → PtPid
+sample_pid n = record { shard = n; slot = n + 1; version = n + 2 }
+
+abbrev pub sample_ref : ℕ → PtRef
+sample_ref n = record { desk = n; number = n + 1 }
+
+abbrev pub sample_reason : ℕ → PtReason
+sample_reason n = record { code = n; number = n + 1 }
+
+abbrev pub sample_ids : ℕ → PtIds
+sample_ids n = record { one = sample_ref n; has_two = true; two = sample_ref (n + 3) }
+
+abbrev pub sample_body : ℕ → PtBody
+sample_body n = record { kind = n; num = pos (n + 1); has_who = true; who = sample_pid (n + 3) }
+
+abbrev pub sample_pick : ℕ → PtPick
+sample_pick n = record { code = n; kind = n + 1; pid = sample_pid (n + 2); reference = sample_ref (n + 5) }
+
+abbrev pub sample_item : ℕ → PtItem
+sample_item n = record {
+  code = n;
+  alive = true;
+  pid = sample_pid (n + 2);
+  reference = sample_ref (n + 5);
+  reason = sample_reason (n + 7);
+  body = sample_body (n + 9);
+}
+
+abbrev pub sample_signal : ℕ → PtSignal
+sample_signal n = record {
+  code = n;
+  alive = true;
+  reason = sample_reason (n + 2);
+  reference = sample_ref (n + 4);
+  ids = sample_ids (n + 6);
+  body = sample_body (n + 11);
+}
+
 abbrev pub sample_event : PtEvent
 sample_event = record {
   stamp = 1;
@@ -88,147 +204,23 @@ sample_event = record {
   has_link = true;
   on = true;
   code = 6;
-  pid = record {
-    shard = 7;
-    slot = 8;
-    version = 9;
-  };
-  peer = record {
-    shard = 10;
-    slot = 11;
-    version = 12;
-  };
-  link = record {
-    desk = 13;
-    number = 14;
-  };
-  reason = record {
-    code = 15;
-    number = 16;
-  };
-  pick = record {
-    code = 17;
-    kind = 18;
-    pid = record {
-      shard = 19;
-      slot = 20;
-      version = 21;
-    };
-    reference = record {
-      desk = 22;
-      number = 23;
-    };
-  };
-  item = record {
-    code = 24;
-    alive = true;
-    pid = record {
-      shard = 26;
-      slot = 27;
-      version = 28;
-    };
-    reference = record {
-      desk = 29;
-      number = 30;
-    };
-    reason = record {
-      code = 31;
-      number = 32;
-    };
-    body = record {
-      kind = 33;
-      num = pos 34;
-      has_who = true;
-      who = record {
-        shard = 36;
-        slot = 37;
-        version = 38;
-      };
-    };
-  };
-  signal = record {
-    code = 39;
-    alive = true;
-    reason = record {
-      code = 41;
-      number = 42;
-    };
-    reference = record {
-      desk = 43;
-      number = 44;
-    };
-    ids = record {
-      one = record {
-        desk = 45;
-        number = 46;
-      };
-      has_two = true;
-      two = record {
-        desk = 48;
-        number = 49;
-      };
-    };
-    body = record {
-      kind = 50;
-      num = pos 51;
-      has_who = true;
-      who = record {
-        shard = 53;
-        slot = 54;
-        version = 55;
-      };
-    };
-  };
+  pid = sample_pid 7;
+  peer = sample_pid 10;
+  link = sample_ref 13;
+  reason = sample_reason 15;
+  pick = sample_pick 17;
+  item = sample_item 24;
+  signal = sample_signal 39;
 }
 
 abbrev pub sample_left_over : PtLeftOver
 sample_left_over = record {
   from_desk = 1;
   to_desk = 2;
-  from = record {
-    shard = 3;
-    slot = 4;
-    version = 5;
-  };
-  to = record {
-    shard = 6;
-    slot = 7;
-    version = 8;
-  };
+  from = sample_pid 3;
+  to = sample_pid 6;
   stamp = 9;
-  signal = record {
-    code = 10;
-    alive = true;
-    reason = record {
-      code = 12;
-      number = 13;
-    };
-    reference = record {
-      desk = 14;
-      number = 15;
-    };
-    ids = record {
-      one = record {
-        desk = 16;
-        number = 17;
-      };
-      has_two = true;
-      two = record {
-        desk = 19;
-        number = 20;
-      };
-    };
-    body = record {
-      kind = 21;
-      num = pos 22;
-      has_who = true;
-      who = record {
-        shard = 24;
-        slot = 25;
-        version = 26;
-      };
-    };
-  };
+  signal = sample_signal 10;
 }
 
 abbrev pub sample_turned : PtTurned

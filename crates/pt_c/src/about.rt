@@ -1,8 +1,10 @@
 //! What the library reports of itself, so that a header or a wrapper can be compared with it.
 
-ghost use Rattle.std.specs.Prelude.{◌≡◌};
+ghost use Rattle.std.specs.Prelude.{◌≡◌, ◌<◌};
 ghost use Rattle.pt_c.specs.About.{all_codes, all_sizes, sample_event, sample_left_over, sample_turned, sample_account};
-ghost use Rattle.pt_c.specs.About.{sample_config};
+ghost use Rattle.pt_c.specs.About.{sample_config, sample_pid, sample_ref, sample_reason, sample_ids, sample_body};
+ghost use Rattle.pt_c.specs.About.{sample_pick, sample_item, sample_signal};
+ghost use Rattle.pt_c.specs.About.{with_answers, with_values, with_signals, with_events};
 
 use pt_node::{
     Body, Event, Fault, Ids, Item, LinkId, OpenError, Pick, Pid, Reason, Ref, Setting, Signal,
@@ -91,26 +93,36 @@ pub struct PtSizes {
     pub codes: usize,
 }
 
-/// Writes each code, by the same functions as the calls.
+// Values whose codes are asked for: a code does not depend on what else a value holds.
+const NOBODY: Pid = Pid {
+    shard: 0,
+    slot: 0,
+    version: 0,
+};
+
+const BLANK: Body = Body {
+    kind: 0,
+    num: 0,
+    who: None,
+};
+
+const REFERENCE: Ref = Ref { desk: 0, number: 0 };
+
+const LINK: LinkId = LinkId { desk: 0, number: 0 };
+
+/// Writes each code, from the same functions as the calls.
 #[unsafe(no_mangle)]
 pub extern "C" fn pt_about_codes(out: &mut PtCodes)
     ensures { out.new ≡ all_codes }
 {
-    let p = Pid {
-        shard: 0,
-        slot: 0,
-        version: 0,
-    };
-    let b = Body {
-        kind: 0,
-        num: 0,
-        who: None,
-    };
-    let r = Reason::Normal;
-    let m = Ref { desk: 0, number: 0 };
-    let i = LinkId { desk: 0, number: 0 };
-    let x = Signal::Message(b);
-    *out = PtCodes {
+    *out = with_events(with_signals(with_values(with_answers(*out))));
+}
+
+/// The codes that calls answer.
+fn with_answers(codes: PtCodes) -> PtCodes
+    ensures { result ≡ with_answers codes }
+{
+    PtCodes {
         done: DONE,
         full: code_of(Fault::Full),
         memory: code_of(Fault::Memory),
@@ -127,40 +139,70 @@ pub extern "C" fn pt_about_codes(out: &mut PtCodes)
         bad_top_version: open_code(OpenError::Bounds(Setting::TopVersion)),
         bad_lane: open_code(OpenError::Bounds(Setting::Lane)),
         bad_start: open_code(OpenError::Bounds(Setting::Start)),
+        ..codes
+    }
+}
+
+/// The codes of reasons, of items and of picks.
+fn with_values(codes: PtCodes) -> PtCodes
+    ensures { result ≡ with_values codes }
+{
+    PtCodes {
         reason_normal: reason_out(Reason::Normal).code,
         reason_kill: reason_out(Reason::Kill).code,
         reason_killed: reason_out(Reason::Killed).code,
         reason_noproc: reason_out(Reason::Noproc).code,
         reason_shutdown: reason_out(Reason::Shutdown).code,
         reason_other: reason_out(Reason::Other(0)).code,
-        item_user: item_out(Item::User(p, b)).code,
-        item_exit: item_out(Item::Exit(p, r)).code,
-        item_down: item_out(Item::Down(m, p, r)).code,
-        item_alive: item_out(Item::Alive(m, p, true)).code,
+        item_user: item_out(Item::User(NOBODY, BLANK)).code,
+        item_exit: item_out(Item::Exit(NOBODY, Reason::Normal)).code,
+        item_down: item_out(Item::Down(REFERENCE, NOBODY, Reason::Normal)).code,
+        item_alive: item_out(Item::Alive(REFERENCE, NOBODY, true)).code,
         pick_kind: pick_out(Pick::Kind(0)).code,
-        pick_from: pick_out(Pick::From(p)).code,
-        pick_exit_of: pick_out(Pick::ExitOf(p)).code,
-        pick_down_of: pick_out(Pick::DownOf(m)).code,
-        pick_alive_of: pick_out(Pick::AliveOf(m)).code,
+        pick_from: pick_out(Pick::From(NOBODY)).code,
+        pick_exit_of: pick_out(Pick::ExitOf(NOBODY)).code,
+        pick_down_of: pick_out(Pick::DownOf(REFERENCE)).code,
+        pick_alive_of: pick_out(Pick::AliveOf(REFERENCE)).code,
         pick_any: pick_out(Pick::Any).code,
-        signal_message: signal_out(Signal::Message(b)).code,
-        signal_link: signal_out(Signal::Link(i)).code,
-        signal_unlink: signal_out(Signal::Unlink(Ids::of(i))).code,
-        signal_exit: signal_out(Signal::Exit(r)).code,
-        signal_link_exit: signal_out(Signal::LinkExit(Ids::of(i), r)).code,
-        signal_monitor: signal_out(Signal::Monitor(m)).code,
-        signal_demonitor: signal_out(Signal::Demonitor(m)).code,
-        signal_down: signal_out(Signal::Down(m, r)).code,
-        signal_alive_ask: signal_out(Signal::AliveAsk(m)).code,
-        signal_alive_say: signal_out(Signal::AliveSay(m, true)).code,
-        event_born: event_out(stamped(Event::Born(p, None, None))).code,
-        event_said: event_out(stamped(Event::Said(p, p, x))).code,
-        event_came: event_out(stamped(Event::Came(p, p, x))).code,
-        event_took: event_out(stamped(Event::Took(p, Pick::Any, Item::User(p, b)))).code,
-        event_flag: event_out(stamped(Event::Flag(p, true))).code,
-        event_left: event_out(stamped(Event::Left(p, r))).code,
-        event_refused: event_out(stamped(Event::Refused(p, p))).code,
-    };
+        ..codes
+    }
+}
+
+/// The codes of signals.
+fn with_signals(codes: PtCodes) -> PtCodes
+    ensures { result ≡ with_signals codes }
+{
+    PtCodes {
+        signal_message: signal_out(Signal::Message(BLANK)).code,
+        signal_link: signal_out(Signal::Link(LINK)).code,
+        signal_unlink: signal_out(Signal::Unlink(Ids::of(LINK))).code,
+        signal_exit: signal_out(Signal::Exit(Reason::Normal)).code,
+        signal_link_exit: signal_out(Signal::LinkExit(Ids::of(LINK), Reason::Normal)).code,
+        signal_monitor: signal_out(Signal::Monitor(REFERENCE)).code,
+        signal_demonitor: signal_out(Signal::Demonitor(REFERENCE)).code,
+        signal_down: signal_out(Signal::Down(REFERENCE, Reason::Normal)).code,
+        signal_alive_ask: signal_out(Signal::AliveAsk(REFERENCE)).code,
+        signal_alive_say: signal_out(Signal::AliveSay(REFERENCE, true)).code,
+        ..codes
+    }
+}
+
+/// The codes of events.
+fn with_events(codes: PtCodes) -> PtCodes
+    ensures { result ≡ with_events codes }
+{
+    let said = Signal::Message(BLANK);
+    let item = Item::User(NOBODY, BLANK);
+    PtCodes {
+        event_born: event_out(stamped(Event::Born(NOBODY, None, None))).code,
+        event_said: event_out(stamped(Event::Said(NOBODY, NOBODY, said))).code,
+        event_came: event_out(stamped(Event::Came(NOBODY, NOBODY, said))).code,
+        event_took: event_out(stamped(Event::Took(NOBODY, Pick::Any, item))).code,
+        event_flag: event_out(stamped(Event::Flag(NOBODY, true))).code,
+        event_left: event_out(stamped(Event::Left(NOBODY, Reason::Normal))).code,
+        event_refused: event_out(stamped(Event::Refused(NOBODY, NOBODY))).code,
+        ..codes
+    }
 }
 
 fn stamped(event: Event) -> Stamped
@@ -196,7 +238,7 @@ pub extern "C" fn pt_about_sizes(out: &mut PtSizes)
     };
 }
 
-/// Writes a sample of an event: its fields have the numbers 1, 2, 3 and so on in order, and each bool is true.
+/// Writes a sample of an event: its fields have the numbers 1, 2, 3 and so on in order, a bool being true.
 #[unsafe(no_mangle)]
 pub extern "C" fn pt_about_event(out: &mut PtEvent)
     ensures { out.new ≡ sample_event }
@@ -208,97 +250,13 @@ pub extern "C" fn pt_about_event(out: &mut PtEvent)
         has_link: true,
         on: true,
         code: 6,
-        pid: PtPid {
-            shard: 7,
-            slot: 8,
-            version: 9,
-        },
-        peer: PtPid {
-            shard: 10,
-            slot: 11,
-            version: 12,
-        },
-        link: PtRef {
-            desk: 13,
-            number: 14,
-        },
-        reason: PtReason {
-            code: 15,
-            number: 16,
-        },
-        pick: PtPick {
-            code: 17,
-            kind: 18,
-            pid: PtPid {
-                shard: 19,
-                slot: 20,
-                version: 21,
-            },
-            reference: PtRef {
-                desk: 22,
-                number: 23,
-            },
-        },
-        item: PtItem {
-            code: 24,
-            alive: true,
-            pid: PtPid {
-                shard: 26,
-                slot: 27,
-                version: 28,
-            },
-            reference: PtRef {
-                desk: 29,
-                number: 30,
-            },
-            reason: PtReason {
-                code: 31,
-                number: 32,
-            },
-            body: PtBody {
-                kind: 33,
-                num: 34,
-                has_who: true,
-                who: PtPid {
-                    shard: 36,
-                    slot: 37,
-                    version: 38,
-                },
-            },
-        },
-        signal: PtSignal {
-            code: 39,
-            alive: true,
-            reason: PtReason {
-                code: 41,
-                number: 42,
-            },
-            reference: PtRef {
-                desk: 43,
-                number: 44,
-            },
-            ids: PtIds {
-                one: PtRef {
-                    desk: 45,
-                    number: 46,
-                },
-                has_two: true,
-                two: PtRef {
-                    desk: 48,
-                    number: 49,
-                },
-            },
-            body: PtBody {
-                kind: 50,
-                num: 51,
-                has_who: true,
-                who: PtPid {
-                    shard: 53,
-                    slot: 54,
-                    version: 55,
-                },
-            },
-        },
+        pid: sample_pid(7),
+        peer: sample_pid(10),
+        link: sample_ref(13),
+        reason: sample_reason(15),
+        pick: sample_pick(17),
+        item: sample_item(24),
+        signal: sample_signal(39),
     };
 }
 
@@ -311,54 +269,109 @@ pub extern "C" fn pt_about_left_over(out: &mut PtLeftOver)
     *out = PtLeftOver {
         from_desk: 1,
         to_desk: 2,
-        from: PtPid {
-            shard: 3,
-            slot: 4,
-            version: 5,
-        },
-        to: PtPid {
-            shard: 6,
-            slot: 7,
-            version: 8,
-        },
+        from: sample_pid(3),
+        to: sample_pid(6),
         stamp: 9,
-        signal: PtSignal {
-            code: 10,
-            alive: true,
-            reason: PtReason {
-                code: 12,
-                number: 13,
-            },
-            reference: PtRef {
-                desk: 14,
-                number: 15,
-            },
-            ids: PtIds {
-                one: PtRef {
-                    desk: 16,
-                    number: 17,
-                },
-                has_two: true,
-                two: PtRef {
-                    desk: 19,
-                    number: 20,
-                },
-            },
-            body: PtBody {
-                kind: 21,
-                num: 22,
-                has_who: true,
-                who: PtPid {
-                    shard: 24,
-                    slot: 25,
-                    version: 26,
-                },
-            },
-        },
+        signal: sample_signal(10),
     };
 }
 
-/// Writes a sample of a turn: its fields have the numbers 1, 2, 3 and so on in order, and each bool is true.
+/// A pid whose fields have the numbers from this one on.
+fn sample_pid(first: u8) -> PtPid
+    ensures { result ≡ sample_pid first }
+{
+    let slot = first as u32 + 1;
+    PtPid {
+        shard: first,
+        slot,
+        version: slot + 1,
+    }
+}
+
+fn sample_ref(first: u8) -> PtRef
+    ensures { result ≡ sample_ref first }
+{
+    PtRef {
+        desk: first,
+        number: first as u64 + 1,
+    }
+}
+
+fn sample_reason(first: u8) -> PtReason
+    ensures { result ≡ sample_reason first }
+{
+    let code = first as u32;
+    PtReason {
+        code,
+        number: code + 1,
+    }
+}
+
+fn sample_ids(first: u8) -> PtIds
+    requires { first < 200 }
+    ensures { result ≡ sample_ids first }
+{
+    PtIds {
+        one: sample_ref(first),
+        has_two: true,
+        two: sample_ref(first + 3),
+    }
+}
+
+fn sample_body(first: u8) -> PtBody
+    requires { first < 200 }
+    ensures { result ≡ sample_body first }
+{
+    PtBody {
+        kind: first as u32,
+        num: first as i64 + 1,
+        has_who: true,
+        who: sample_pid(first + 3),
+    }
+}
+
+fn sample_pick(first: u8) -> PtPick
+    requires { first < 200 }
+    ensures { result ≡ sample_pick first }
+{
+    let code = first as u32;
+    PtPick {
+        code,
+        kind: code + 1,
+        pid: sample_pid(first + 2),
+        reference: sample_ref(first + 5),
+    }
+}
+
+fn sample_item(first: u8) -> PtItem
+    requires { first < 150 }
+    ensures { result ≡ sample_item first }
+{
+    PtItem {
+        code: first as u32,
+        alive: true,
+        pid: sample_pid(first + 2),
+        reference: sample_ref(first + 5),
+        reason: sample_reason(first + 7),
+        body: sample_body(first + 9),
+    }
+}
+
+fn sample_signal(first: u8) -> PtSignal
+    requires { first < 150 }
+    ensures { result ≡ sample_signal first }
+{
+    PtSignal {
+        code: first as u32,
+        alive: true,
+        reason: sample_reason(first + 2),
+        reference: sample_ref(first + 4),
+        ids: sample_ids(first + 6),
+        body: sample_body(first + 11),
+    }
+}
+
+/// Writes a sample of a turn: its fields have the numbers 1, 2, 3 and so on in order, a bool being true.
 #[unsafe(no_mangle)]
 pub extern "C" fn pt_about_turned(out: &mut PtTurned)
     ensures { out.new ≡ sample_turned }
@@ -370,7 +383,7 @@ pub extern "C" fn pt_about_turned(out: &mut PtTurned)
     };
 }
 
-/// Writes a sample of an account: its fields have the numbers 1, 2, 3 and so on in order, and each bool is true.
+/// Writes a sample of an account: its fields have the numbers 1, 2, 3 and so on in order, a bool being true.
 #[unsafe(no_mangle)]
 pub extern "C" fn pt_about_account(out: &mut PtAccount)
     ensures { out.new ≡ sample_account }

@@ -1,11 +1,9 @@
 -- One that was born enters.
-use Rattle.std.proofs.Common.{◌≡◌, inl, inr, Bool, true, false, List, [], ◌∷◌, ◌++◌, Some, refl, sym, ap, subst, ◌∙◌, append-nil}
-use Rattle.std.specs.Prelude.{MatchBool}
+use Rattle.std.proofs.Common.{◌≡◌, inl, inr, Bool, true, List, [], ◌++◌, sym, ap, subst, ◌∙◌, append-nil}
 use Rattle.pt_signal.specs.declared.pid.Pid.{Pid}
 use Rattle.pt_crew.specs.declared.crew.Crew.{Crew}
 use Rattle.pt_crew.specs.declared.births.Role.{Role}
-use Rattle.pt_crew.specs.Visiting.{AreSame, AreWith}
-use Rattle.pt_crew.specs.Crews.{roles, left, waiting, queue, IsSame, Aboard, EntersOne}
+use Rattle.pt_crew.specs.Crews.{left, waiting, queue, IsSame}
 use Rattle.pt_crew.specs.Parts.{aboard, AdmitsOf, AdmitsFirst, CanEnter, QueueIsLonger}
 use Rattle.pt_crew.proofs.Visiting.{same_roles}
 
@@ -29,23 +27,3 @@ module _ {B : Type 0} (lives : Pid → Bool) (old mid new : Crew B) (room : IsSa
     longer = longer_from ([], stands ∙ sym (append-nil (queue mid)));
     rounds = rounds ∙ room.rest.rounds;
   }
-
-  one_admitted : (r : Role B) → waiting mid ≡ r ∷ waiting new → EntersOne lives r (aboard mid) (aboard new) → new.refused ≡ mid.refused → QueueIsLonger (queue mid) (queue new) → new.rounds ≡ mid.rounds → AdmitsFirst lives old new
-  one_admitted r first enters quiet longer rounds = record {
-    admits = inl (subst (λ (w : List (Role B)). AdmitsOf lives w old new) (sym (sym room.rest.waiting ∙ first))
-        (subst (λ (x : Aboard B). EntersOne lives r x (aboard new)) same_aboard enters, refl, quiet ∙ room.rest.refused));
-    longer = longer_from longer;
-    rounds = rounds ∙ room.rest.rounds;
-  }
-
-  pub leaves_at_once : (r : Role B) → waiting mid ≡ r ∷ waiting new → false ≡ lives r.pid → AreSame (roles mid) (roles new) → left new ≡ left mid ++ r ∷ [] → new.refused ≡ mid.refused → queue new ≡ queue mid → new.rounds ≡ mid.rounds → AdmitsFirst lives old new
-  leaves_at_once r first dead same gone quiet stands rounds =
-      one_admitted r first
-      (subst (λ (b : Bool). MatchBool b (AreWith r.pid (Some (r.behaviour, r.next)) (roles mid) (roles new) × (left new ≡ left mid)) (AreSame (roles mid) (roles new) × (left new ≡ left mid ++ r ∷ []))) dead (same, gone))
-      quiet ([], stands ∙ sym (append-nil (queue mid))) rounds
-
-  pub enters_alive : (r : Role B) → waiting mid ≡ r ∷ waiting new → true ≡ lives r.pid → AreWith r.pid (Some (r.behaviour, r.next)) (roles mid) (roles new) → left new ≡ left mid → new.refused ≡ mid.refused → QueueIsLonger (queue mid) (queue new) → new.rounds ≡ mid.rounds → AdmitsFirst lives old new
-  enters_alive r first alive with_r stays quiet longer rounds =
-      one_admitted r first
-      (subst (λ (b : Bool). MatchBool b (AreWith r.pid (Some (r.behaviour, r.next)) (roles mid) (roles new) × (left new ≡ left mid)) (AreSame (roles mid) (roles new) × (left new ≡ left mid ++ r ∷ []))) alive (with_r, stays))
-      quiet longer rounds

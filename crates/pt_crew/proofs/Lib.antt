@@ -6,8 +6,10 @@ pub mod Reading
 pub mod Room
 pub mod Bearing
 pub mod Newborn
+pub mod Telling
 pub mod Takes
 pub mod Visiting
+pub mod Serving
 pub mod Handing
 pub mod Admitting
 pub mod Upholding

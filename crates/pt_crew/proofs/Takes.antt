@@ -27,6 +27,8 @@ use Rattle.std.specs.Prelude.{is_some}
 use Rattle.std.specs.List.{find}
 use Rattle.pt_signal.specs.Values.{fits}
 use Rattle.pt_events.specs.History.{Phase, unborn, living, ended, is_living, state_of}
+use Rattle.pt_workers.proofs.GoingOn.{stays}
+use Rattle.pt_crew.proofs.Telling.{is_answered}
 use Rattle.pt_crew.specs.declared.behaviour.Next.TheVariants.{Wait}
 use Rattle.pt_crew.specs.Waking.{has_work}
 use Rattle.pt_crew.specs.Visiting.{takes, takes_by}
@@ -176,3 +178,6 @@ pub idle_is : (p : Pid) (k : Pick) (old new : ShardState) → Calls p (take_even
 idle_is p k old new c =
     let same : new ≡ old = none_found p k old new (first_match old p k) c.2 c.3 in
     subst (λ (d : ShardState). has_work (Wait k) (phase_of d p) ≡ false) (sym same) (idle_phase k (phase_of old p) c.0 c.2)
+
+-- for the calls of a behaviour
+pub ruleset calling = (is_answered, stays, sent_takes, watched_takes, linked_takes, said_takes, unlinked_takes, unwatched_takes, flag_takes)

@@ -99,9 +99,6 @@ alone_event e d q none bare = (untouched e d q none, ap (λ (qs : List Pid). qs 
 pub same_pid_sym : (p q : Pid) → same_pid p q ≡ false → same_pid q p ≡ false
 same_pid_sym p q other = by_cases (same_pid q p) (λ same. let is = same_pid_is q p same in let back : same_pid p q ≡ true = ap (λ (x : Pid). same_pid x q) (sym is) ∙ same_pid_refl q in absurd (cc)) (λ no. no)
 
-later_event : (e : Event) (n : ℕ) (d f : ShardState) → f.start ≡ d.start → (s : Stamped) → f.journal ≡ s ∷ d.journal → IsLater d f
-later_event e n d f start s journal = record { start = start; more = s ∷ []; journal = journal }
-
 pub later_after : (e : Event) (d : ShardState) → IsLater d (shard_after e d)
 later_after e d = record { start = refl; more = _ ∷ []; journal = refl }
 
@@ -348,11 +345,11 @@ module _ {B : Type 0} (answers : Answers B) (stands : Relation B) (k : IsUpheld 
       out_now : (o : Option (B × Next)) (t : Tended)
           → ((role : B × Next) → o ≡ Some role → t ≡ Ended → (new.roles p ≡ None) × (is_unborn (phase_of new.desk p) ≡ false) × stands role.0 role.1 p new.desk)
           → AreGone new.roles (left_as p o t) new.desk
-      out_now None t out = tt
-      out_now (Some role) Idle out = tt
-      out_now (Some role) Again out = tt
-      out_now (Some role) Done out = tt
-      out_now (Some role) Denied out = tt
+      out_now o Idle out = tt
+      out_now o Again out = tt
+      out_now o Done out = tt
+      out_now o Denied out = tt
+      out_now None Ended out = tt
       out_now (Some role) Ended out = (out role refl refl, tt)
 
   visits_uphold : (ps : List Pid) (old new : Scene B) → Visits answers ps old new → Fine old → Fine new

@@ -12,13 +12,13 @@ use Rattle.pt_shard.specs.ShardState.{ShardState, lives, phase_of}
 use Rattle.pt_crew.specs.declared.crew.Member.{Member}
 use Rattle.pt_crew.specs.declared.crew.Crew.{Crew}
 use Rattle.pt_crew.specs.declared.crew.Tended.{Tended}
-use Rattle.pt_crew.specs.declared.crew.Tended.TheVariants.{Idle, Done, Refused as Denied}
+use Rattle.pt_crew.specs.declared.crew.Tended.TheVariants.{Idle, Refused as Denied}
 use Rattle.pt_crew.specs.Visiting.{Answers, Roles, AreSame, AreWith, Scene, StaysAs, BearsChildren, ComesTo, SeesTo, VisitsOne, Visits, again_as, left_as, is_refused}
 use Rattle.pt_crew.specs.Crews.{members, role, roles, queue, waiting, left, scene, are_any, IsSame, KeepsRest, Attends, CrewRounds, AreOnce, Aboard, EntersAll, StepsOn}
 use Rattle.pt_crew.specs.Waking.{IsAwake, Members, has_work}
 use Rattle.pt_crew.specs.declared.births.Role.{Role}
 use Rattle.pt_crew.specs.Births.{bore}
-use Rattle.pt_crew.specs.Parts.{QueueIsLonger, WakesBy, Serves, Admits, AdmitsFirst, AdmitsOf, CanEnter, aboard, kept_as}
+use Rattle.pt_crew.specs.Parts.{QueueIsLonger, WakesBy, Serves, Admits, AdmitsFirst, AdmitsOf, CanEnter, aboard}
 use Rattle.pt_crew.proofs.Waking.{by_cases, elsewhere, there, same_back}
 
 -- who reads what is new changes nobody ------------------------------------------------
@@ -99,11 +99,6 @@ says false = refl
 pub says_nothing : (b : Bool) → b ≡ (b || false)
 says_nothing b = or_none b
 
--- whoever leaves is listed as it was
-pub left_role : {B : Type 0} (p : Pid) (old mid : List (Role B)) (m v : Member B) → mid ≡ old → m ≡ v
-    → mid ++ record { pid = p; behaviour = m.behaviour; next = m.next } ∷ [] ≡ old ++ record { pid = p; behaviour = v.behaviour; next = v.next } ∷ []
-left_role p old mid m v same is i = same i ++ record { pid = p; behaviour = (is i).behaviour; next = (is i).next } ∷ []
-
 pub is_there : {X Y : Type 0} (r : Option X) (a : Option Y) (x : X) → r ≡ Some x → is_some r ≡ is_some a → (y : Y) × (a ≡ Some y)
 is_there r None x e h = absurd (let k = ap is_some e in cc)
 is_there r (Some y) x e h = (y, refl)
@@ -161,24 +156,6 @@ module _ {B : Type 0} (answers : Answers B) where
   pub passes_first : (start rest : List Pid) (old new : Crew B) (p : Pid) (d : ShardState) → start ≡ p ∷ rest → queue new ≡ rest → members old p ≡ None → IsOf old new → Serves answers start old d new d
   passes_first start rest old new p d is later none same =
       subst (λ (ps : List Pid). Serves answers ps old d new d) (sym is) ([], passed old new p d none same, later ∙ sym (append-nil rest))
-
-  -- who has nothing to do for now leaves the queue
-  leaves_first : (start rest : List Pid) (old new : Crew B) (p : Pid) (v m : Member B) (t s : Tended) (d e : ShardState) → again_as p t ≡ [] → left_as p (Some (role v)) t ≡ [] → is_refused t ≡ false → kept_as t m ≡ Some (role m)
-      → s ≡ t → start ≡ p ∷ rest → queue new ≡ rest → members old p ≡ Some v → (w : Member B) → role m ≡ role w → ((q : Pid) → members new q ≡ cond (same_pid p q) (Some w) (members old q))
-      → SeesTo answers p v.behaviour v.next d s (kept_as s m) e (bore (waiting old) (waiting new)) → BearsChildren s (waiting old) (waiting new) → left new ≡ left old → new.refused ≡ old.refused → Serves answers start old d new e
-  leaves_first start rest old new p v m t s d e none nobody quiet kept at_t is later held w same at sees bears gone says =
-      serves_first start rest old new p v (Some w) t d e is (later ∙ sym (append-nil rest) ∙ ap (λ (l : List Pid). rest ++ l) (sym none)) held at
-      (inr (subst (λ (o : Option _). SeesTo answers p v.behaviour v.next d t o e (bore (waiting old) (waiting new))) (kept ∙ ap (λ (r : _). Some r) same)
-      (subst (λ (x : Tended). SeesTo answers p v.behaviour v.next d x (kept_as x m) e (bore (waiting old) (waiting new))) at_t sees)))
-      (subst (λ (x : Tended). BearsChildren x (waiting old) (waiting new)) at_t bears)
-      (gone ∙ sym (append-nil (left old)) ∙ ap (λ (l : List (Role B)). left old ++ l) (sym nobody))
-      (says ∙ or_none old.refused ∙ ap (λ (b : Bool). old.refused || b) (sym quiet))
-
-  pub idles_first : (start rest : List Pid) (old new : Crew B) (p : Pid) (v m : Member B) (t : Tended) (d e : ShardState) → (t ≡ Idle) ⊎ (t ≡ Done)
-      → start ≡ p ∷ rest → queue new ≡ rest → members old p ≡ Some v → (w : Member B) → role m ≡ role w → ((q : Pid) → members new q ≡ cond (same_pid p q) (Some w) (members old q))
-      → SeesTo answers p v.behaviour v.next d t (kept_as t m) e (bore (waiting old) (waiting new)) → BearsChildren t (waiting old) (waiting new) → left new ≡ left old → new.refused ≡ old.refused → Serves answers start old d new e
-  idles_first start rest old new p v m t d e (inl idle) = leaves_first start rest old new p v m Idle t d e refl refl refl refl idle
-  idles_first start rest old new p v m t d e (inr done) = leaves_first start rest old new p v m Done t d e refl refl refl refl done
 
   -- there is no memory for whoever leaves
   pub refused_first : (start rest : List Pid) (old new : Crew B) (p : Pid) (d : ShardState) → start ≡ p ∷ rest → queue new ≡ rest ++ p ∷ [] → ((q : Pid) → members new q ≡ members old q)

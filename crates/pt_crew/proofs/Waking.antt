@@ -265,18 +265,6 @@ woken {B} p old new v w held at on same_next same_behaviour queued longer read r
     is_w : (m : Member B) → members new p ≡ Some m → w ≡ m
     is_w m is = same_some w m (sym (there (members old) (members new) p (Some w) at p (same_pid_refl p)) ∙ is)
 
--- nobody of that name is of the crew
-pub unknown : {B : Type 0} (p : Pid) (old new : Crew B) → members old p ≡ None → IsSame old new → Wakes p old new
-unknown {B} p old new none same = record {
-  others = λ q e. same.members q;
-  marked = λ m is. some_none (members old p) m none (sym (same.members p) ∙ is);
-  roles = λ q. ap (option_map role) (same.members q);
-  longer = ([], same.queue ∙ sym (append-nil (queue old)));
-  queued = λ k. same_queue (members old) (members new) (queue old) (queue new) same.members same.queue k;
-  read = same.read;
-  rest = same.rest;
-}
-
 none_at : {X : Type 0} (b : Bool) (x : Option X) → (b ≡ true → x ≡ None) → x ≡ cond b None x
 none_at true x h = h refl
 none_at false x h = refl
@@ -288,15 +276,6 @@ absent_at mem p none q = none_at (same_pid p q) (mem q) (λ same. subst (λ (x :
 pub no_place : {X Y : Type 0} (r : Option X) (a : Option Y) → r ≡ None → is_some r ≡ is_some a → a ≡ None
 no_place r None e h = refl
 no_place r (Some y) e h = absurd (let k = ap is_some e in cc)
-
--- written, and then taken out
-pub out_at : {X : Type 0} (mem mid new : Pid → Option X) (p : Pid) (w : Option X) → ((q : Pid) → mid q ≡ cond (same_pid p q) w (mem q)) → ((q : Pid) → new q ≡ cond (same_pid p q) None (mid q))
-    → (q : Pid) → new q ≡ cond (same_pid p q) None (mem q)
-out_at mem mid new p w a b q = b q ∙ go (same_pid p q) (a q)
-  where
-    go : (t : Bool) → mid q ≡ cond t w (mem q) → cond t None (mid q) ≡ cond t None (mem q)
-    go true e = refl
-    go false e = e
 
 -- written back as it was
 pub same_back : {X : Type 0} (mem : Pid → Option X) (p : Pid) (v : X) → mem p ≡ Some v → (q : Pid) → cond (same_pid p q) (Some v) (mem q) ≡ mem q

@@ -15,6 +15,8 @@ use Rattle.pt_shard.specs.ShardState.{lives}
 use Rattle.pt_shard.specs.Calls.{Calls, Monitors, demonitor_event}
 use Rattle.pt_desk.specs.DeskState.{DeskState}
 use Rattle.pt_desk.specs.Reaching.{Reaches, has_monitor_to_make}
+use Rattle.pt_crew.specs.declared.call_fault.CallFault.{CallFault}
+use Rattle.pt_crew.specs.declared.call_fault.CallFault.TheVariants.{Refused}
 use Rattle.pt_crew.specs.Telling.{IfKnown}
 use Rattle.pt_crew.specs.declared.pending.Pending.{Pending}
 use Rattle.pt_crew.specs.declared.request.Request.{Request}
@@ -42,17 +44,16 @@ abbrev pub answer : Request → ℕ → Body
 answer r n = record { kind = n; num = r.number; who = Some r.from }
 
 -- the calls of a crew: a message, a monitor, and a monitor that is given up
-abbrev pub TellsServer : Pid → Pid → Body → DeskState → Result (Unit {0}) Fault → DeskState → Type 0
-TellsServer me to body old result new =
+abbrev pub SendsTo : Pid → Pid → Body → DeskState → Result (Unit {0}) CallFault → DeskState → Type 0
+SendsTo me to body old result new =
     IfKnown (knows old.shard to)
-    (Reaches (lives old.shard me) me to
-    (Calls me (Some (Said me to (Signal.Message body))) (tt {0}) old.shard result new.shard) old result new) old result
-    new
+    (λ r. Reaches (lives old.shard me) me to
+    (Calls me (Some (Said me to (Signal.Message body))) (tt {0}) old.shard r new.shard) old r new) old result new
 
-abbrev pub Watches : Pid → Pid → DeskState → Result Ref Fault → DeskState → Type 0
+abbrev pub Watches : Pid → Pid → DeskState → Result Ref CallFault → DeskState → Type 0
 Watches me to old result new =
     IfKnown (knows old.shard to)
-    (Reaches (has_monitor_to_make old.shard me to) me to (Monitors me to old.shard result new.shard) old result new) old
+    (λ r. Reaches (has_monitor_to_make old.shard me to) me to (Monitors me to old.shard r new.shard) old r new) old
     result new
 
 abbrev pub Unwatches : Pid → Ref → DeskState → Result Bool Fault → DeskState → Type 0
@@ -61,19 +62,19 @@ Unwatches me m old result new =
     new.shard
 
 -- the fault for which a request was not sent; none where the server was seen to have ended, since its DOWN comes
-abbrev pub refusal : Result (Unit {0}) Fault → Option Fault
+abbrev pub refusal : Result (Unit {0}) CallFault → Option CallFault
 refusal (Ok done) = None
-refusal (Err NoProc) = None
+refusal (Err (Refused NoProc)) = None
 refusal (Err f) = Some f
 
 -- the monitor stands, and the request could not be sent: the monitor is given up, if that is not refused too
-pub record IsUnsent (me server : Pid) (asks : ℕ) (old : DeskState) (f : Fault) (new : DeskState) : Type 0 where
+pub record IsUnsent (me server : Pid) (asks : ℕ) (old : DeskState) (f : CallFault) (new : DeskState) : Type 0 where
   pub monitor : Ref
   pub watching : DeskState
   pub watches : Watches me server old (Ok monitor) watching
   pub untold : DeskState
-  pub told : Result (Unit {0}) Fault
-  pub tells : TellsServer me server (request_message me monitor asks) watching told untold
+  pub told : Result (Unit {0}) CallFault
+  pub tells : SendsTo me server (request_message me monitor asks) watching told untold
   pub refused : refusal told ≡ Some f
   pub given_up : Result Bool Fault
   pub gives_up : Unwatches me monitor untold given_up new
@@ -82,8 +83,8 @@ pub record IsUnsent (me server : Pid) (asks : ℕ) (old : DeskState) (f : Fault)
 pub record IsMade (me server : Pid) (asks : ℕ) (old : DeskState) (p : Pending) (new : DeskState) : Type 0 where
   pub watching : DeskState
   pub watches : Watches me server old (Ok p.monitor) watching
-  pub told : Result (Unit {0}) Fault
-  pub tells : TellsServer me server (request_message me p.monitor asks) watching told new
+  pub told : Result (Unit {0}) CallFault
+  pub tells : SendsTo me server (request_message me p.monitor asks) watching told new
   pub asked : refusal told ≡ None
   pub pending : p ≡ record {
     client = me;
@@ -93,6 +94,6 @@ pub record IsMade (me server : Pid) (asks : ℕ) (old : DeskState) (p : Pending)
     waits = true;
   }
 
-abbrev pub Asks : Pid → Pid → ℕ → DeskState → Result Pending Fault → DeskState → Type 0
+abbrev pub Asks : Pid → Pid → ℕ → DeskState → Result Pending CallFault → DeskState → Type 0
 Asks me server asks old (Ok p) new = IsMade me server asks old p new
 Asks me server asks old (Err f) new = Watches me server old (Err f) new ⊎ IsUnsent me server asks old f new

@@ -2,6 +2,7 @@
 use Rattle.std.specs.Prelude.{◌≡◌, ◌⊎◌, ⊤, ℕ, ◌+◌, ◌≤◌, max, cond, Bool, true, false, ◌||◌, List, [], ◌∷◌, ◌++◌, length}
 use Rattle.std.specs.Prelude.{Some, None, MatchBool, Result, Ok, Err}
 use Rattle.std.specs.List.{IsDistinct}
+use Rattle.std.specs.VecDeque.{deque_capacity, deque_len}
 use Rattle.std.specs.Option.{option_map}
 use Rattle.indexmap.specs.IndexMap.{get}
 use Rattle.pt_signal.specs.declared.pid.Pid.{Pid}
@@ -45,9 +46,25 @@ left c = c.left.items
 abbrev pub waiting : {B : Type 0} → Crew B → List (Role B)
 waiting c = born c.births
 
+-- how many processes are of the crew
+abbrev pub crew_size : {B : Type 0} → Crew B → ℕ
+crew_size c = length c.members.entries
+
+-- how many events of its desk's journal it has read
+abbrev pub read_events : {B : Type 0} → Crew B → ℕ
+read_events c = c.read
+
+-- how many rounds a step is to make
+abbrev pub rounds_asked : {B : Type 0} → Crew B → ℕ
+rounds_asked c = c.rounds
+
+-- whether a call was refused in the last step
+abbrev pub was_refused : {B : Type 0} → Crew B → Bool
+was_refused c = c.refused
+
 -- what the crew knows of its desk
 abbrev pub KnowsDesk : {B : Type 0} → Crew B → ShardState → Type 0
-KnowsDesk c d = Knows (members c) (queue c) c.read d
+KnowsDesk c d = Knows (members c) (queue c) (read_events c) d
 
 -- how many of the entries are not marked
 abbrev pub unmarked : {B : Type 0} → List (Pid × Member B) → ℕ
@@ -56,7 +73,7 @@ unmarked (e ∷ es) = cond e.1.queued 0 1 + unmarked es
 
 -- the queue has room for all members that do not stand in it
 abbrev pub HasRoom : {B : Type 0} → Crew B → Type 0
-HasRoom c = c.queue.len + unmarked c.members.entries ≤ c.queue.cap
+HasRoom c = deque_len c.queue + unmarked c.members.entries ≤ deque_capacity c.queue
 
 -- the crew is one of this desk: it is so as it is made, and whatever goes on with the desk leaves it so
 pub record Attends {B : Type 0} (c : Crew B) (d : ShardState) : Type 0 where
@@ -71,14 +88,14 @@ AreBorn {B} roles d = (p : Pid) (r : B × Next) → roles p ≡ Some r → is_un
 pub record KeepsRest {B : Type 0} (old new : Crew B) : Type 0 where
   pub waiting : waiting new ≡ waiting old
   pub left : left new ≡ left old
-  pub refused : new.refused ≡ old.refused
-  pub rounds : new.rounds ≡ old.rounds
+  pub refused : was_refused new ≡ was_refused old
+  pub rounds : rounds_asked new ≡ rounds_asked old
 
 -- nothing that is known has changed
 pub record IsSame {B : Type 0} (old new : Crew B) : Type 0 where
   pub members : (q : Pid) → members new q ≡ members old q
   pub queue : queue new ≡ queue old
-  pub read : new.read ≡ old.read
+  pub read : read_events new ≡ read_events old
   pub rest : KeepsRest old new
 
 -- A process is born and enters the crew, behind its queue; or nothing has changed, where the desk refused the birth or
@@ -96,7 +113,7 @@ scene again c d = record {
   again = again;
   born = waiting c;
   left = left c;
-  refused = c.refused;
+  refused = was_refused c;
   desk = d;
 }
 
@@ -152,16 +169,16 @@ pub record StepsOn {B : Type 0} (answers : Answers B) (old : Crew B) (d : ShardS
         refused = false;
         desk = d;
       }) last
-  pub count : length queues ≡ max 1 old.rounds
+  pub count : length queues ≡ max 1 (rounds_asked old)
   pub once : Attends old d → AreOnce queues
   pub entered : List (Role B)
   pub born : last.born ≡ entered ++ waiting new
   pub enters : EntersAll (lives e) entered (last.roles, last.left) (roles new, left new)
   -- a call was refused in a round, or somebody could not enter
-  pub told : new.refused ≡ (last.refused || are_any (waiting new))
+  pub told : was_refused new ≡ (last.refused || are_any (waiting new))
   pub queue : (later : List Pid) × (queue new ≡ last.again ++ later)
   pub desk : e ≡ last.desk
-  pub same : new.rounds ≡ old.rounds
+  pub same : rounds_asked new ≡ rounds_asked old
 
 -- a step of a crew
 pub record CrewDoes {B : Type 0} (answers : Answers B) (old : Crew B) (d : ShardState) (new : Crew B)

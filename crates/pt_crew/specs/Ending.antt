@@ -14,6 +14,10 @@ use Rattle.pt_crew.specs.declared.pending.Pending.{Pending}
 use Rattle.pt_crew.specs.declared.pending.Heard.{Heard}
 use Rattle.pt_crew.specs.Asking.{speaks_of, Unwatches}
 
+-- the call waits for its answer, or for the end of its server
+abbrev pub is_pending : Pending → Bool
+is_pending p = p.waits
+
 -- the message is an answer of the server, under the number of the call
 abbrev pub is_answer_to_call : Pending → Pid → Body → Bool
 is_answer_to_call p from body = same_pid from p.server && speaks_of body p.client && int_eq body.num p.number

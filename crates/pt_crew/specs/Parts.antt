@@ -1,7 +1,8 @@
 -- What the parts of a step do. No public clause cites this module.
-use Rattle.std.specs.Prelude.{◌≡◌, ◌⊎◌, ◌+◌, ◌<◌, Bool, true, false, ◌||◌, List, [], ◌∷◌, ◌++◌, length, Option, Some, None}
+use Rattle.std.specs.Prelude.{◌≡◌, ◌⊎◌, ◌+◌, ◌<◌, ◌≤◌, cond, Bool, true, false, ◌&&◌, ◌||◌, List, [], ◌∷◌, ◌++◌, length, Option, Some, None}
 use Rattle.std.specs.Prelude.{ℕ, drop, vec_len, vec_capacity}
 use Rattle.std.specs.List.{list_any}
+use Rattle.std.specs.VecDeque.{deque_capacity, deque_len}
 use Rattle.std.specs.Map.{keys_of}
 use Rattle.indexmap.specs.IndexMap.{spare}
 use Rattle.pt_signal.specs.declared.pid.Pid.{Pid}
@@ -15,10 +16,10 @@ use Rattle.pt_crew.specs.declared.crew.Crew.{Crew}
 use Rattle.pt_crew.specs.declared.crew.Tended.{Tended}
 use Rattle.pt_crew.specs.declared.crew.Tended.TheVariants.{Idle, Again, Done, Refused, Gone}
 use Rattle.pt_crew.specs.Waking.{IsQueue, has_work}
-use Rattle.pt_crew.specs.Visiting.{Answers, AreSame, VisitsOne}
+use Rattle.pt_crew.specs.Visiting.{Answers, AreSame, VisitsOne, again_as, leaves_crew, is_refused, left_as}
 use Rattle.pt_crew.specs.declared.births.Role.{Role}
 use Rattle.pt_crew.specs.Crews.{IsSame, KeepsRest, Aboard, EntersOne, EntersAll, members, queue, role, roles, left}
-use Rattle.pt_crew.specs.Crews.{waiting, scene, are_any}
+use Rattle.pt_crew.specs.Crews.{waiting, scene, are_any, unmarked, read_events, rounds_asked, was_refused}
 
 -- what the queue of a crew is
 abbrev pub QueueHolds : {B : Type 0} → Crew B → Type 0
@@ -35,7 +36,7 @@ pub record Wakes {B : Type 0} (p : Pid) (old new : Crew B) : Type 0 where
   pub roles : AreSame (roles old) (roles new)
   pub queued : QueueHolds old → QueueHolds new
   pub longer : QueueIsLonger (queue old) (queue new)
-  pub read : new.read ≡ old.read
+  pub read : read_events new ≡ read_events old
   pub rest : KeepsRest old new
 
 -- whoever is of the crew, and not among these, is marked
@@ -78,8 +79,20 @@ kept_as Gone m = None
 -- there is room for one who enters, or leaves at once
 abbrev pub CanEnter : {B : Type 0} → Crew B → Type 0
 CanEnter c =
-    (0 < spare c.members) × (c.queue.len + length c.members.entries < c.queue.cap)
+    (0 < spare c.members) × (deque_len c.queue + length c.members.entries < deque_capacity c.queue)
     × (vec_len c.left < vec_capacity c.left) × (length c.members.entries < vec_len c.hints.places)
+
+-- p, which was come to, goes behind the queue, or leaves the crew, or stays as it is
+pub record PutsMember {B : Type 0} (p : Pid) (t : Tended) (old new : Crew B) : Type 0 where
+  pub members : (q : Pid) → members new q ≡ cond (leaves_crew t && same_pid p q) None (members old q)
+  pub queue : queue new ≡ queue old ++ again_as p t
+  pub left : left new ≡ left old ++ left_as p (roles old p) t
+  pub refused : was_refused new ≡ (was_refused old || is_refused t)
+  pub waiting : waiting new ≡ waiting old
+  pub read : read_events new ≡ read_events old
+  pub rounds : rounds_asked new ≡ rounds_asked old
+  pub room : (deque_capacity new.queue ≡ deque_capacity old.queue) × (deque_len new.queue ≡ deque_len old.queue + length (again_as p t))
+      × (unmarked new.members.entries ≤ unmarked old.members.entries)
 
 -- it is of the crew and stands in the queue
 abbrev pub is_marked : {B : Type 0} → Option (Member B) → Bool
@@ -92,15 +105,15 @@ aboard c = (roles c, left c)
 
 -- the first of those that were born enters, if there is one; it is refused only if there is no room for it
 abbrev pub AdmitsOf : {B : Type 0} → (Pid → Bool) → List (Role B) → Crew B → Crew B → Type 0
-AdmitsOf lives [] old new = (aboard new ≡ aboard old) × (waiting new ≡ []) × (new.refused ≡ old.refused)
+AdmitsOf lives [] old new = (aboard new ≡ aboard old) × (waiting new ≡ []) × (was_refused new ≡ was_refused old)
 AdmitsOf lives (r ∷ rs) old new =
-    EntersOne lives r (aboard old) (aboard new) × (waiting new ≡ rs) × (new.refused ≡ old.refused)
+    EntersOne lives r (aboard old) (aboard new) × (waiting new ≡ rs) × (was_refused new ≡ was_refused old)
 
 pub record AdmitsFirst {B : Type 0} (lives : Pid → Bool) (old new : Crew B) : Type 0 where
   pub admits : AdmitsOf lives (waiting old) old new
-      ⊎ ((aboard new ≡ aboard old) × (waiting new ≡ waiting old) × (new.refused ≡ true) × (CanEnter old → ⊥))
+      ⊎ ((aboard new ≡ aboard old) × (waiting new ≡ waiting old) × (was_refused new ≡ true) × (CanEnter old → ⊥))
   pub longer : QueueIsLonger (queue old) (queue new)
-  pub rounds : new.rounds ≡ old.rounds
+  pub rounds : rounds_asked new ≡ rounds_asked old
 
 -- those that were born enter, the first ones: one at least if there is room for one, and all unless it was refused
 pub record Admits {B : Type 0} (lives : Pid → Bool) (old new : Crew B) : Type 0 where
@@ -108,9 +121,9 @@ pub record Admits {B : Type 0} (lives : Pid → Bool) (old new : Crew B) : Type 
   pub born : waiting old ≡ entered ++ waiting new
   pub enters : EntersAll lives entered (aboard old) (aboard new)
   pub first : CanEnter old → are_any (waiting old) ≡ true → are_any entered ≡ true
-  pub told : new.refused ≡ (old.refused || are_any (waiting new))
+  pub told : was_refused new ≡ (was_refused old || are_any (waiting new))
   pub longer : QueueIsLonger (queue old) (queue new)
-  pub rounds : new.rounds ≡ old.rounds
+  pub rounds : rounds_asked new ≡ rounds_asked old
 
 -- the first of the queue is come to, and stands behind it then or nowhere
 abbrev pub Serves : {B : Type 0} → Answers B → List Pid → Crew B → ShardState → Crew B → ShardState → Type 0

@@ -9,12 +9,12 @@ use Rattle.pt_workers.specs.declared.run_fault.RunFault.{RunFault}
 use Rattle.pt_workers.specs.declared.stillness.Rested.{Rested}
 use Rattle.pt_crew.specs.declared.crew.Crew.{Crew}
 use Rattle.pt_crew.specs.Visiting.{Answers}
-use Rattle.pt_crew.specs.Crews.{Attends, CrewDoes, queue}
+use Rattle.pt_crew.specs.Crews.{Attends, CrewDoes, queue, read_events}
 use Rattle.pt_crew.specs.Upholding.{Relation, Upholds}
 
 -- nobody stands in its queue, and all that happened on its desk was read
 abbrev pub is_idle : {B : Type 0} → Crew B → ShardState → Bool
-is_idle c d = (length (queue c) == 0) && (c.read == length d.journal)
+is_idle c d = (length (queue c) == 0) && (read_events c == length d.journal)
 
 -- so it is of each crew
 pub record AreIdle {B : Type 0} (crews : List (Crew B)) (desks : List DeskState) : Type 0 where

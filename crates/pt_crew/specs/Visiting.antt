@@ -123,28 +123,29 @@ ComesTo answers p (Some role) d t now e births =
     StaysAs Refused role d t now e ⊎ SeesTo answers p role.0 role.1 d t now e births
 
 -- whoever was handed something and may have more to do, or was refused, goes behind the queue
+abbrev pub goes_behind : Tended → Bool
+goes_behind Again = true
+goes_behind Refused = true
+goes_behind _ = false
+
 abbrev pub again_as : Pid → Tended → List Pid
-again_as p Idle = []
-again_as p Again = p ∷ []
-again_as p Done = []
-again_as p Refused = p ∷ []
-again_as p Ended = []
+again_as p t = cond (goes_behind t) (p ∷ []) []
 
 -- whoever has ended leaves, as it was
+abbrev pub leaves_crew : Tended → Bool
+leaves_crew Ended = true
+leaves_crew _ = false
+
+abbrev pub leaver : {B : Type 0} → Pid → Option (B × Next) → List (Role B)
+leaver p None = []
+leaver p (Some role) = record { pid = p; behaviour = role.0; next = role.1 } ∷ []
+
 abbrev pub left_as : {B : Type 0} → Pid → Option (B × Next) → Tended → List (Role B)
-left_as p None t = []
-left_as p (Some role) Idle = []
-left_as p (Some role) Again = []
-left_as p (Some role) Done = []
-left_as p (Some role) Refused = []
-left_as p (Some role) Ended = record { pid = p; behaviour = role.0; next = role.1 } ∷ []
+left_as p role t = cond (leaves_crew t) (leaver p role) []
 
 abbrev pub is_refused : Tended → Bool
-is_refused Idle = false
-is_refused Again = false
-is_refused Done = false
 is_refused Refused = true
-is_refused Ended = false
+is_refused _ = false
 
 -- only who is handed an item, or proceeds, bears children, which wait behind those who wait
 abbrev pub BearsChildren : {B : Type 0} → Tended → List (Role B) → List (Role B) → Type 0

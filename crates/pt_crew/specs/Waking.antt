@@ -25,6 +25,10 @@ in_queue p queue = list_any (same_pid p) queue
 abbrev pub Members : Type 0 → Type 0
 Members B = Pid → Option (Member B)
 
+-- it is marked as one that stands in the queue
+abbrev pub is_queued : {B : Type 0} → Member B → Bool
+is_queued m = m.queued
+
 -- whoever is marked stands in the queue, and whoever stands in it is marked, and there once
 pub record IsQueue {B : Type 0} (members : Members B) (queue : List Pid) : Type 0 where
   pub listed : (p : Pid) (m : Member B) → members p ≡ Some m → m.queued ≡ true → in_queue p queue ≡ true

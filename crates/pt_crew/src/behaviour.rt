@@ -37,8 +37,8 @@ pub trait Behaviour {
     /// Handles one item, which was taken out of the mailbox of `me`, or gets `None` if `me` was to proceed. It must
     /// take no other item out of a mailbox.
     ///
-    /// The calls of a desk in the form of [`tell`](crate::tell), [`watch`](crate::watch) and their like keep what is
-    /// required here. The children that it spawns ([`bear`](crate::bear)) enter the crew as the step ends.
+    /// The calls of a desk in the form of [`send`](crate::send), [`monitor`](crate::monitor) and their like keep what is
+    /// required here. The children that it spawns ([`spawn_child`](crate::spawn_child)) enter the crew as the step ends.
     fn handle(
         &mut self,
         desk: &mut Desk,

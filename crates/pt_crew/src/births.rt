@@ -67,7 +67,7 @@ impl<B: Drop> Births<B> {
 /// The child enters the crew as the step ends. It fails as [`Desk::spawn_child`] does, and if there is no memory here;
 /// nothing has changed then.
 #[tactic(auto, using(crate::proofs::Bearing::bearing))]
-pub fn bear<B: Drop>(
+pub fn spawn_child<B: Drop>(
     desk: &mut Desk,
     births: &mut Births<B>,
     me: Pid,

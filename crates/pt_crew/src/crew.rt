@@ -1,20 +1,22 @@
 //! The crew of one desk.
 
 ghost use Rattle.std.specs.Prelude.{◌≡◌, ◌≤◌, ◌++◌, OnOk, OnErr, IsOk, [], None, Some, false, true, length};
-ghost use Rattle.std.specs.Prelude.{option_to_list};
+ghost use Rattle.std.specs.Prelude.{◌<◌, option_to_list, vec_capacity, vec_len};
 ghost use Rattle.std.specs.Option.{option_copied, option_map};
 ghost use Rattle.std.specs.Map.{keys_of};
+ghost use Rattle.std.specs.VecDeque.{deque_capacity, deque_len};
 ghost use Rattle.pt_events.specs.History.{is_unborn};
 ghost use Rattle.pt_shard.specs.ShardState.{ShardState, lives, phase_of};
 ghost use Rattle.pt_desk.specs.DeskState.{GoesOn};
 ghost use Rattle.pt_crew.specs.Births.{bore, born};
-ghost use Rattle.pt_crew.specs.Visiting.{AreSame, AreWith, BearsChildren, SeesTo, Visits, handed_as, takes};
+ghost use Rattle.pt_crew.specs.Visiting.{AreSame, AreWith, BearsChildren, SeesTo, Visits, goes_behind, handed_as, takes};
 ghost use Rattle.pt_crew.specs.Crews.{AreBorn, Attends, Enters, HasRoom, IsSame, KeepsRest, KnowsDesk, CrewWorks, left};
-ghost use Rattle.pt_crew.specs.Crews.{members, queue, roles, scene, waiting};
+ghost use Rattle.pt_crew.specs.Crews.{crew_size, members, queue, read_events, roles, rounds_asked, scene, waiting};
+ghost use Rattle.pt_crew.specs.Crews.{was_refused};
 ghost use Rattle.pt_crew.specs.Parts.{Admits, AdmitsFirst, CanEnter, QueueIsLonger, Serves, MemberTends, Wakes, WakesAt};
-ghost use Rattle.pt_crew.specs.Parts.{WakesBy};
+ghost use Rattle.pt_crew.specs.Parts.{PutsMember, WakesBy};
 ghost use Rattle.pt_crew.specs.Parts.{is_marked, kept_as};
-ghost use Rattle.pt_crew.specs.Waking.{IsAwake};
+ghost use Rattle.pt_crew.specs.Waking.{IsAwake, is_queued};
 ghost use Rattle.pt_crew.specs.Running.{is_idle};
 
 use crate::behaviour::{Behaviour, Next};
@@ -47,6 +49,19 @@ pub enum Tended {
     Refused,
     /// It has exited, and leaves the crew.
     Gone,
+}
+
+impl Tended {
+    /// Whether the process goes behind the queue.
+    #[inline(always)]
+    fn goes_behind(self) -> bool
+        ensures { result ≡ goes_behind self }
+    {
+        match self {
+            Tended::Again | Tended::Refused => true,
+            Tended::Idle | Tended::Done | Tended::Gone => false,
+        }
+    }
 }
 
 /// The processes of one desk that have a behaviour, and those of them that may have something to do.
@@ -86,8 +101,8 @@ impl<B: Behaviour + Drop> Crew<B> {
         ensures queue { queue result ≡ [] }
         ensures born { waiting result ≡ [] }
         ensures left { left result ≡ [] }
-        ensures rounds { result.rounds ≡ rounds }
-        ensures refused { result.refused ≡ false }
+        ensures rounds { rounds_asked result ≡ rounds }
+        ensures refused { was_refused result ≡ false }
     {
         Crew {
             members: IndexMap::new(alloc),
@@ -103,7 +118,7 @@ impl<B: Behaviour + Drop> Crew<B> {
 
     /// The number of processes of the crew.
     pub fn len(&self) -> usize
-        ensures { result ≡ length self.now.members.entries }
+        ensures { result ≡ crew_size self.now }
     {
         self.members.len()
     }
@@ -171,7 +186,7 @@ impl<B: Behaviour + Drop> Crew<B> {
         ensures attends { (d : ShardState) → Attends self.old d → Attends self.new d }
         ensures roles { AreSame (roles self.old) (roles self.new) }
         ensures queue { queue self.new ≡ queue self.old }
-        ensures rest { (self.new.rounds ≡ self.old.rounds) × (self.new.refused ≡ self.old.refused)
+        ensures rest { (rounds_asked self.new ≡ rounds_asked self.old) × (was_refused self.new ≡ was_refused self.old)
             × (waiting self.new ≡ waiting self.old) }
     {
         self.left.pop()
@@ -180,7 +195,7 @@ impl<B: Behaviour + Drop> Crew<B> {
     /// Whether a call of the last step failed, since there was no memory or no stamp. The process that it was for is as
     /// it was, and is in the queue.
     pub fn refused(&self) -> bool
-        ensures { result ≡ self.now.refused }
+        ensures { result ≡ was_refused self.now }
     {
         self.refused
     }
@@ -237,7 +252,7 @@ impl<B: Behaviour + Drop> Crew<B> {
     pub fn begin_again(&mut self) -> Result<(), AllocError>
         ensures attends { OnOk result ((d e : ShardState) → Attends self.old d → AreBorn (roles self.old) e
             → Attends self.new e) }
-        ensures all { OnOk result ((p : Pid) (m : Member B) → members self.new p ≡ Some m → m.queued ≡ true) }
+        ensures all { OnOk result ((p : Pid) (m : Member B) → members self.new p ≡ Some m → is_queued m ≡ true) }
         ensures ok { HasRoom self.old → IsOk result }
         ensures roles { AreSame (roles self.old) (roles self.new) }
         ensures longer { QueueIsLonger (queue self.old) (queue self.new) }
@@ -305,7 +320,7 @@ impl<B: Behaviour + Drop> Crew<B> {
         ensures kept { AreSame (roles self.old) (roles self.new) }
         ensures longer { QueueIsLonger (queue self.old) (queue self.new) }
         ensures rest { KeepsRest self.old self.new }
-        ensures room { HasRoom self.old → (length desk.now.shard.journal ≤ self.new.read) × HasRoom self.new }
+        ensures room { HasRoom self.old → (length desk.now.shard.journal ≤ read_events self.new) × HasRoom self.new }
     {
         let events = desk.journal().events();
         while self.read < events.len() {
@@ -408,7 +423,7 @@ impl<B: Behaviour + Drop> Crew<B> {
         ensures serves { Serves B.answers (queue self.old) self.old desk.old.shard self.new desk.new.shard }
         ensures knows { KnowsDesk self.old desk.old.shard → KnowsDesk self.new desk.new.shard }
         ensures room { HasRoom self.old → HasRoom self.new }
-        ensures same { self.new.rounds ≡ self.old.rounds }
+        ensures same { rounds_asked self.new ≡ rounds_asked self.old }
         ensures goes_on { GoesOn desk.old desk.new }
     {
         let Some(p) = self.queue.pop_front() else {
@@ -423,14 +438,22 @@ impl<B: Behaviour + Drop> Crew<B> {
             return;
         }
         let (_, member) = self.members.pair_mut(place);
-        match tend(member, &mut self.births, desk, p) {
-            Tended::Idle | Tended::Done => member.queued = false,
-            Tended::Again => {
-                member.queued = true;
-                self.queue.push_back_reserved(p);
-            }
+        let tended = tend(member, &mut self.births, desk, p);
+        member.queued = tended.goes_behind();
+        self.put(p, tended);
+    }
+
+    /// Puts p, which was come to, behind the queue, or out of the crew, or leaves it as it is.
+    #[inline(always)]
+    fn put(&mut self, p: Pid, tended: Tended)
+        requires queue { deque_len self.old.queue < deque_capacity self.old.queue }
+        requires left { vec_len self.old.left < vec_capacity self.old.left }
+        ensures { PutsMember p tended self.old self.new }
+    {
+        match tended {
+            Tended::Idle | Tended::Done => {}
+            Tended::Again => self.queue.push_back_reserved(p),
             Tended::Refused => {
-                member.queued = true;
                 self.refused = true;
                 self.queue.push_back_reserved(p);
             }
@@ -457,7 +480,7 @@ impl<B: Behaviour + Drop> Crew<B> {
             (scene (queue self.new) self.new desk.new.shard) }
         ensures knows { KnowsDesk self.old desk.old.shard → KnowsDesk self.new desk.new.shard }
         ensures room { HasRoom self.old → HasRoom self.new }
-        ensures same { self.new.rounds ≡ self.old.rounds }
+        ensures same { rounds_asked self.new ≡ rounds_asked self.old }
         ensures goes_on { GoesOn desk.old desk.new }
     {
         for _place in 0..self.queue.len() {

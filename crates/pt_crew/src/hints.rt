@@ -20,7 +20,7 @@ pub struct Hints {
 
 impl Hints {
     /// None yet.
-    pub fn new(alloc: Global) -> Hints {
+    pub(crate) fn new(alloc: Global) -> Hints {
         Hints {
             places: Vec::new(alloc),
         }
@@ -28,7 +28,7 @@ impl Hints {
 
     /// Makes room for the guesses of so many members: a power of two of them, as many as the last bits of a slot
     /// distinguish.
-    pub fn grow(&mut self, members: usize) -> Result<(), AllocError>
+    pub(crate) fn grow(&mut self, members: usize) -> Result<(), AllocError>
         ensures ok { OnOk result (members ≤ vec_len self.new.places) }
         ensures succeeds { members ≤ vec_len self.old.places → IsOk result }
     {
@@ -44,7 +44,7 @@ impl Hints {
     /// The place of p among the members: the last place of the member of its slot, or else the place that its hash
     /// leads to.
     #[inline(always)]
-    pub fn place_of<V>(&mut self, members: &IndexMap<Pid, V>, p: Pid) -> Option<usize>
+    pub(crate) fn place_of<V>(&mut self, members: &IndexMap<Pid, V>, p: Pid) -> Option<usize>
         ensures index { result ≡ index_of_by (same_pid p) members.now }
         ensures found { is_some result ≡ is_some (get same_pid members.now p) }
         ensures within { IfSome result (λ place. place < index_map_len members.now) }

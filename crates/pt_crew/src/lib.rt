@@ -17,6 +17,8 @@
 //!
 //! - **No lost wake-up.** After each step, each live process with an item that it waits for is in the queue. So is each
 //!   exited one that has not left. (`CrewDoes`, `awake`)
+//! - **Attending.** A new crew attends its desk, and does so still after each step: each process to which something came
+//!   is in the queue, or what it got is not read yet. (`Attends`, `attends`)
 //! - **Each item once.** Each item taken was passed to the behaviour of its process, once and in order, and nothing
 //!   else was. (`hands`)
 //! - **Behaviours decide.** A process does next what its behaviour answered: proceed, wait for a pick, or exit.
@@ -39,6 +41,7 @@
 
 mod behaviour;
 mod births;
+mod call_fault;
 mod calls;
 mod crew;
 mod hints;
@@ -48,8 +51,9 @@ mod running;
 mod upholds;
 
 pub use behaviour::{Behaviour, Next};
-pub use births::{Births, Role, bear};
-pub use calls::{bid_exit, join, part, tell, trap, unwatch, watch};
+pub use births::{Births, Role, spawn_child};
+pub use call_fault::CallFault;
+pub use calls::{demonitor, exit_signal, link, monitor, send, trap, unlink};
 pub use crew::Crew;
 pub use pending::{Heard, Pending, calls_end_once};
 pub use request::{Request, reply, request_of};

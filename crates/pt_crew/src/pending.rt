@@ -4,9 +4,10 @@ ghost use Rattle.std.specs.Prelude.{◌≡◌, ◌<◌, ◌^◌, pos};
 ghost use Rattle.pt_desk.specs.DeskState.{GoesOn};
 ghost use Rattle.pt_crew.specs.Visiting.{takes};
 ghost use Rattle.pt_crew.specs.Asking.{Asks, refusal};
-ghost use Rattle.pt_crew.specs.Ending.{Closes, EndsOnce, after_item, heard_by_call, is_answer_to_call, says_to_call};
+ghost use Rattle.pt_crew.specs.Ending.{Closes, EndsOnce, after_item, heard_by_call, is_answer_to_call, is_pending, says_to_call};
 
-use crate::calls::{tell, unwatch, watch};
+use crate::call_fault::CallFault;
+use crate::calls::{demonitor, monitor, send};
 use crate::request::speaks_of;
 use pt_workers::{Body, Desk, Fault, Item, Pid, Reason, Ref};
 
@@ -40,31 +41,30 @@ pub struct Pending {
 impl Pending {
     /// Asks a server: makes a monitor, and sends the request under its number (`gen_server:call` up to its `receive`).
     ///
-    /// Fails as [`watch`] does, and nothing is asked then: with `Gone`, `Myself`, `NoProc`, `Worn` or `Memory`. It is
-    /// `NoProc` if the desk does not know the server, or sees that it has exited. Fails with `Worn` or `Memory` too if
-    /// the request could not be sent. The monitor is cancelled then. If that fails as well, its `DOWN` may arrive, and
-    /// belongs to no call. If the server is seen to have exited only as the request is sent, the call is made, and ends
-    /// by the `DOWN`.
-    pub fn ask(desk: &mut Desk, me: Pid, server: Pid, asks: u32) -> Result<Pending, Fault>
+    /// Fails as [`monitor`] does, and nothing is asked then: with `Unknown`, `Gone`, `Myself`, `NoProc`, `Worn` or
+    /// `Memory`. Fails with `Worn` or `Memory` too if the request could not be sent. The monitor is cancelled then. If
+    /// that fails as well, its `DOWN` may arrive, and belongs to no call. If the server is seen to have exited only as
+    /// the request is sent, the call is made, and ends by the `DOWN`.
+    pub fn ask(desk: &mut Desk, me: Pid, server: Pid, asks: u32) -> Result<Pending, CallFault>
         ensures does { Asks me server asks desk.old result desk.new }
         ensures takes { takes desk.new.shard.journal ≡ takes desk.old.shard.journal }
         ensures goes_on { GoesOn desk.old desk.new }
     {
-        let monitor = watch(desk, me, server)?;
-        let number = number_of(monitor);
+        let reference = monitor(desk, me, server)?;
+        let number = number_of(reference);
         let body = Body {
             kind: asks,
             num: number,
             who: Some(me),
         };
-        if let Some(fault) = refusal(tell(desk, me, server, body)) {
-            let _ = unwatch(desk, me, monitor);
+        if let Some(fault) = refusal(send(desk, me, server, body)) {
+            let _ = demonitor(desk, me, reference);
             return Err(fault);
         }
         Ok(Pending {
             client: me,
             server,
-            monitor,
+            monitor: reference,
             number,
             waits: true,
         })
@@ -72,7 +72,7 @@ impl Pending {
 
     /// Whether it still waits for its answer, or for the exit of its server.
     pub fn is_open(&self) -> bool
-        ensures { result ≡ self.now.waits }
+        ensures { result ≡ is_pending self.now }
     {
         self.waits
     }
@@ -95,7 +95,7 @@ impl Pending {
             return Heard::Late;
         }
         self.waits = false;
-        let _ = unwatch(desk, self.client, self.monitor);
+        let _ = demonitor(desk, self.client, self.monitor);
         said
     }
 
@@ -131,12 +131,12 @@ fn number_of(monitor: Ref) -> i64
 }
 
 /// The fault for which a request was not sent. That the server is seen to have exited is none: its `DOWN` arrives.
-fn refusal(told: Result<(), Fault>) -> Option<Fault>
+fn refusal(told: Result<(), CallFault>) -> Option<CallFault>
     ensures { result ≡ refusal told }
 {
     match told {
         Ok(()) => None,
-        Err(Fault::NoProc) => None,
+        Err(CallFault::Refused(Fault::NoProc)) => None,
         Err(fault) => Some(fault),
     }
 }

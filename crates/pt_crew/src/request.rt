@@ -3,10 +3,11 @@
 ghost use Rattle.std.specs.Prelude.{◌≡◌};
 ghost use Rattle.pt_desk.specs.DeskState.{GoesOn};
 ghost use Rattle.pt_crew.specs.Visiting.{takes};
-ghost use Rattle.pt_crew.specs.Asking.{TellsServer, answer, request_of, speaks_of};
+ghost use Rattle.pt_crew.specs.Asking.{SendsTo, answer, request_of, speaks_of};
 
-use crate::calls::tell;
-use pt_workers::{Body, Desk, Fault, Item, Pid};
+use crate::call_fault::CallFault;
+use crate::calls::send;
+use pt_workers::{Body, Desk, Item, Pid};
 
 /// A request that arrived: who asks, under which number, and what.
 #[derive(Clone, Copy, Debug, PartialEq, Eq)]
@@ -47,14 +48,14 @@ pub(crate) fn speaks_of(body: Body, pid: Pid) -> bool
 
 /// Answers a request: Erlang's `gen_server:reply`.
 ///
-/// It fails as [`tell`] does, and the client gets no answer then. If the client has exited, it fails with `NoProc` or
+/// It fails as [`send`] does, and the client gets no answer then. If the client has exited, it fails with `NoProc` or
 /// does nothing. Either way there is nothing left to do.
-pub fn reply(desk: &mut Desk, me: Pid, request: Request, n: u32) -> Result<(), Fault>
-    ensures does { TellsServer me request.from (answer request n) desk.old result desk.new }
+pub fn reply(desk: &mut Desk, me: Pid, request: Request, n: u32) -> Result<(), CallFault>
+    ensures does { SendsTo me request.from (answer request n) desk.old result desk.new }
     ensures takes { takes desk.new.shard.journal ≡ takes desk.old.shard.journal }
     ensures goes_on { GoesOn desk.old desk.new }
 {
-    tell(
+    send(
         desk,
         me,
         request.from,

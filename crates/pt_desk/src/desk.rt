@@ -383,8 +383,11 @@ impl Desk {
         ensures ends { HasSameEnds self.old self.new }
         ensures goes_on { GoesOn self.old self.new }
     {
-        self.reach(self.makes_link(p, to), p, to)?;
-        self.shard.link(p, to)
+        if !self.shard.has_link_to_make(p, to)? {
+            return Ok(());
+        }
+        self.look(p, to)?;
+        self.shard.make_link(p, to)
     }
 
     /// Removes the link of p with another process: Erlang's `unlink/1`, section Links.
@@ -413,8 +416,9 @@ impl Desk {
         ensures ends { HasSameEnds self.old self.new }
         ensures goes_on { GoesOn self.old self.new }
     {
-        self.reach(self.makes_monitor(w, t), w, t)?;
-        self.shard.monitor(w, t)
+        self.shard.may_monitor(w, t)?;
+        self.look(w, t)?;
+        self.shard.make_monitor(w, t)
     }
 
     /// Cancels a monitor of w: Erlang's `demonitor/2`, section Monitors. It returns whether it wrote an event.
@@ -492,37 +496,6 @@ impl Desk {
         self.shard.exit(p, reason)?;
         tell_end(&self.shard, &self.directory, &mut self.seat, p);
         Ok(())
-    }
-
-    /// Whether p has a link to make with another process.
-    #[inline(always)]
-    fn makes_link(&self, p: Pid, to: Pid) -> bool
-        ensures { result ≡ has_link_to_make self.now.shard p to }
-    {
-        p != to && self.shard.alive_here(p) && self.shard.linked(p, to).is_none()
-    }
-
-    /// Whether w has a monitor to make of another process.
-    #[inline(always)]
-    fn makes_monitor(&self, w: Pid, t: Pid) -> bool
-        ensures { result ≡ has_monitor_to_make self.now.shard w t }
-    {
-        w != t && self.shard.alive_here(w)
-    }
-
-    /// For a call of p that has something to send to t, looks whether t is seen to have exited.
-    #[inline(always)]
-    fn reach(&mut self, looks: bool, p: Pid, t: Pid) -> Result<(), Fault>
-        requires alive { looks ≡ true → lives self.old.shard p ≡ true }
-        requires known { knows self.old.shard t ≡ true }
-        ensures reaches { Reaches looks p t (IsOk result × (self.new.shard ≡ self.old.shard)) self.old result self.new }
-        ensures ends { HasSameEnds self.old self.new }
-        ensures goes_on { GoesOn self.old self.new }
-    {
-        if !looks {
-            return Ok(());
-        }
-        self.look(p, t)
     }
 
     /// Looks whether t is seen to have exited, for a call of p, which fails then.

@@ -6,6 +6,8 @@ use Rattle.pt_explain.specs.declared.why.Label.TheVariants.{Name, Index}
 use Rattle.pt_explain.specs.declared.why.Scene.{Scene}
 use Rattle.pt_explain.specs.declared.why.Scene.TheVariants as scene
 use Rattle.pt_explain.specs.declared.why.Why.{Why}
+use Rattle.pt_explain.specs.declared.why.Limit.{Limit}
+use Rattle.pt_explain.specs.declared.why.Limit.TheVariants.{Bytes, Signed, Reasons, Slots, Processes, Operations, Depth}
 use Rattle.pt_explain.specs.declared.why.Wrong.{Wrong}
 use Rattle.pt_explain.specs.declared.why.Wrong.TheVariants as wrong
 use Rattle.pt_script.specs.declared.limits.TheConstants.{MAX_BYTES, MAX_DEPTH, MAX_FORMAT, MAX_OPERATIONS, MAX_PROCESSES}
@@ -23,11 +25,20 @@ where_text (scene.Process process) = codes "process " ++ member_text process
 where_text (scene.Operation process operation) =
     codes "process " ++ member_text process ++ codes ", operation " ++ member_text operation
 
+-- of what there is too much
+unfoldable pub limit_text : Limit → List ℕ
+limit_text Bytes = codes "has more than " ++ decimal MAX_BYTES ++ codes " bytes"
+limit_text Signed = codes "is above 9223372036854775807"
+limit_text Reasons = codes "has a number above 4294967295"
+limit_text Slots = codes "is one process more than its desk has slots"
+limit_text Processes = codes "is one process more than " ++ decimal MAX_PROCESSES
+limit_text Operations = codes "is one operation more than " ++ decimal MAX_OPERATIONS
+limit_text Depth = codes "is inside " ++ decimal MAX_DEPTH ++ codes " other spawns"
+
 unfoldable pub wrong_text : Wrong → List ℕ
 wrong_text wrong.NoUtf8 = codes "is no UTF-8"
 wrong_text wrong.NoJson = codes "is no JSON"
 wrong_text wrong.EndsEarly = codes "ends too early"
-wrong_text wrong.TooLong = codes "has more than " ++ decimal MAX_BYTES ++ codes " bytes"
 wrong_text wrong.NoObject = codes "is no object"
 wrong_text wrong.Unknown = codes "is unknown"
 wrong_text wrong.HasUnknown = codes "has a member that is unknown"
@@ -42,14 +53,9 @@ wrong_text wrong.NoPick = codes "is no object with one of the members of a pick:
 wrong_text wrong.NoOperation = codes "is no operation: there are " ++ OPERATIONS.now
 wrong_text wrong.Later = codes "wants format " ++ decimal MAX_FORMAT
 wrong_text (wrong.OutOfRange least most) = codes "is not from " ++ decimal least ++ codes " to " ++ decimal most
-wrong_text wrong.OverSigned = codes "is above 9223372036854775807"
-wrong_text wrong.OverReasons = codes "has a number above 4294967295"
+wrong_text (wrong.Over limit) = limit_text limit
 wrong_text wrong.OutOfScope = codes "names nothing in scope"
 wrong_text wrong.Taken = codes "is taken already"
-wrong_text wrong.OverSlots = codes "is one process more than its desk has slots"
-wrong_text wrong.OverProcesses = codes "is one process more than " ++ decimal MAX_PROCESSES
-wrong_text wrong.OverOperations = codes "is one operation more than " ++ decimal MAX_OPERATIONS
-wrong_text wrong.TooDeep = codes "is inside " ++ decimal MAX_DEPTH ++ codes " other spawns"
 wrong_text wrong.Refused = codes "is not as scripts are"
 
 -- the member that is wrong, and the word that it is, or all that is there

@@ -11,7 +11,7 @@ use crate::finding::{Found, process_at};
 use crate::looking::{Flaw, flaw_in};
 use crate::scope::{Scope, is_own_name, is_spawn, list_at, text_at, word_at};
 use crate::tables::{PROCESS, SCRIPT, members_of};
-use crate::why::{Label, Scene, Why, Wrong};
+use crate::why::{Label, Limit, Scene, Why, Wrong};
 use pt_script::limits::{MAX_BYTES, MAX_DEPTH, MAX_FORMAT, MAX_PROCESSES};
 use pt_script::{Fault, Place};
 use serde_json::{Error, Value};
@@ -33,7 +33,7 @@ pub fn explain(
     ensures text { IfOk result (λ s. (w : Why) × (string_bytes s ≡ why_text w) × IsSaidOf bytes.now place w.scene) }
 {
     if MAX_BYTES < bytes.len() {
-        return text_of(alloc, in_script(None, (None, Wrong::TooLong)));
+        return text_of(alloc, in_script(None, (None, Wrong::Over(Limit::Bytes))));
     }
     match Value::from_slice(alloc, bytes) {
         Ok(value) => text_of(alloc, why_of(&value, fault, place)),
@@ -151,11 +151,11 @@ fn in_process<'a>(fault: Fault, found: Found<'a>, number: u32, scope: &Scope<'_>
     ensures { IsOfProcess (view found.entry.value.now) number result.scene }
 {
     let (member, wrong) = if is_bounds(fault) && MAX_PROCESSES <= number as usize {
-        (None, Wrong::OverProcesses)
+        (None, Wrong::Over(Limit::Processes))
     } else {
         flaw_or(
             flaw_in(fault, found.value, PROCESS.as_slice(), scope),
-            over(fault, Wrong::OverSlots),
+            over(fault, Wrong::Over(Limit::Slots)),
         )
     };
     Why {
@@ -229,15 +229,15 @@ fn flaw_of_operation<'a>(fault: Fault, value: &'a Value, scope: &Scope<'_>) -> F
         Some(name) => flaw_of_named(fault, name, value, scope),
         None => flaw_of_unnamed(fault, value),
     };
-    flaw_or(flaw, over(fault, Wrong::OverOperations))
+    flaw_or(flaw, over(fault, Wrong::Over(Limit::Operations)))
 }
 
 /// What there is too much of if a spawn is at fault.
 fn of_spawn(depth: u32) -> Wrong {
     if MAX_DEPTH <= depth {
-        Wrong::TooDeep
+        Wrong::Over(Limit::Depth)
     } else {
-        Wrong::OverOperations
+        Wrong::Over(Limit::Operations)
     }
 }
 

@@ -17,7 +17,7 @@
 //! - **Texts.** The line has the text of a place, of a member if one is wrong, and of what is wrong. (`explain`)
 //! - **Places.** The place is the one that was passed, and the names of its process and operation are theirs in the
 //!   text. (`IsSaidOf`)
-#![tactic(auto, unfolding(crate::specs::Texts::where_text, crate::specs::Texts::wrong_text, crate::specs::Texts::why_text))]
+#![tactic(auto, unfolding(crate::specs::Texts::where_text, crate::specs::Texts::limit_text, crate::specs::Texts::wrong_text, crate::specs::Texts::why_text))]
 
 mod explaining;
 mod finding;

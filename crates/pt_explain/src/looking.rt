@@ -5,7 +5,7 @@
 
 use crate::scope::{Scope, is_name, is_own_name};
 use crate::tables::{Kind, kind_of, kind_of_pick, may_miss};
-use crate::why::Wrong;
+use crate::why::{Limit, Wrong};
 use pt_script::Fault;
 use pt_script::limits::MAX_FORMAT;
 use serde_json::Value;
@@ -173,8 +173,8 @@ fn wrong_range(kind: Kind, held: &Value) -> Option<Wrong> {
             ),
             None => Some(Wrong::OutOfRange { least, most }),
         },
-        Kind::Signed => unless(held.is_i64(), Wrong::OverSigned),
-        Kind::Reason => Some(Wrong::OverReasons),
+        Kind::Signed => unless(held.is_i64(), Wrong::Over(Limit::Signed)),
+        Kind::Reason => Some(Wrong::Over(Limit::Reasons)),
         _ => None,
     }
 }

@@ -67,13 +67,24 @@ const PICKS: &str = "kind, from, exit, down and, in format 2, alive";
 
 const REASONS: &str = "normal, kill, killed, noproc, shutdown and other:N";
 
+/// Of what there is more than scripts may have.
+#[derive(Clone, Copy)]
+pub(crate) enum Limit {
+    Bytes,
+    Signed,
+    Reasons,
+    Slots,
+    Processes,
+    Operations,
+    Depth,
+}
+
 /// What is wrong with it.
 #[derive(Clone, Copy)]
 pub(crate) enum Wrong {
     NoUtf8,
     NoJson,
     EndsEarly,
-    TooLong,
     NoObject,
     Unknown,
     /// It has an unknown member, and its name must not be repeated.
@@ -90,16 +101,30 @@ pub(crate) enum Wrong {
     /// A later format has it.
     Later,
     OutOfRange { least: u64, most: u64 },
-    OverSigned,
-    OverReasons,
+    Over(Limit),
     OutOfScope,
     Taken,
-    OverSlots,
-    OverProcesses,
-    OverOperations,
-    TooDeep,
-    /// It is at fault, and nothing more can be said of it.
+    /// It is refused, and nothing more can be said of it.
     Refused,
+}
+
+impl fmt::Display for Limit {
+    ghost use Rattle.std.specs.Prelude.{Some};
+    ghost use Rattle.pt_explain.specs.Texts.{limit_text};
+
+    ghost output = { λ l. Some (limit_text l) };
+
+    fn fmt<W: fmt::Write>(&self, f: &mut fmt::Formatter<W>) -> fmt::Result {
+        match self {
+            Limit::Bytes => write!(f, "has more than {MAX_BYTES} bytes"),
+            Limit::Signed => f.write_str("is above 9223372036854775807"),
+            Limit::Reasons => f.write_str("has a number above 4294967295"),
+            Limit::Slots => f.write_str("is one process more than its desk has slots"),
+            Limit::Processes => write!(f, "is one process more than {MAX_PROCESSES}"),
+            Limit::Operations => write!(f, "is one operation more than {MAX_OPERATIONS}"),
+            Limit::Depth => write!(f, "is inside {MAX_DEPTH} other spawns"),
+        }
+    }
 }
 
 impl fmt::Display for Wrong {
@@ -113,7 +138,6 @@ impl fmt::Display for Wrong {
             Wrong::NoUtf8 => f.write_str("is no UTF-8"),
             Wrong::NoJson => f.write_str("is no JSON"),
             Wrong::EndsEarly => f.write_str("ends too early"),
-            Wrong::TooLong => write!(f, "has more than {MAX_BYTES} bytes"),
             Wrong::NoObject => f.write_str("is no object"),
             Wrong::Unknown => f.write_str("is unknown"),
             Wrong::HasUnknown => f.write_str("has a member that is unknown"),
@@ -131,14 +155,9 @@ impl fmt::Display for Wrong {
             Wrong::NoOperation => write!(f, "is no operation: there are {OPERATIONS}"),
             Wrong::Later => write!(f, "wants format {MAX_FORMAT}"),
             Wrong::OutOfRange { least, most } => write!(f, "is not from {least} to {most}"),
-            Wrong::OverSigned => f.write_str("is above 9223372036854775807"),
-            Wrong::OverReasons => f.write_str("has a number above 4294967295"),
+            Wrong::Over(limit) => write!(f, "{limit}"),
             Wrong::OutOfScope => f.write_str("names nothing in scope"),
             Wrong::Taken => f.write_str("is taken already"),
-            Wrong::OverSlots => f.write_str("is one process more than its desk has slots"),
-            Wrong::OverProcesses => write!(f, "is one process more than {MAX_PROCESSES}"),
-            Wrong::OverOperations => write!(f, "is one operation more than {MAX_OPERATIONS}"),
-            Wrong::TooDeep => write!(f, "is inside {MAX_DEPTH} other spawns"),
             Wrong::Refused => f.write_str("is not as scripts are"),
         }
     }

@@ -142,7 +142,7 @@ struct Settling {
     /// For each desk, whether it is marked: no letter is left over to a desk without a mark.
     waits: [bool; PLACES],
     /// For each desk, how many letters an outbox has to hold for it so that any can be left over between the two: 0
-    /// until a pass came to the desk, and 1 from then on, since all letters to it then wait in outboxes.
+    /// until a pass visited the desk, and 1 from then on, since all letters to it then wait in outboxes.
     least: [usize; PLACES],
     /// How many letters were handled, staying at `u64::MAX` once it is reached.
     handled: u64,
@@ -167,7 +167,7 @@ impl Settling {
         (settling, lives)
     }
 
-    /// One pass after the other, until no letter is left over.
+    /// Makes one pass after the other, until no letter is left over.
     fn run_passes(&mut self) -> Result<(), Stop>
         requires waits { Waits self.old.waits self.old.node }
         requires least { AreLeast self.old.least self.old.node }
@@ -187,7 +187,7 @@ impl Settling {
         Ok(())
     }
 
-    /// One pass: each receiving desk, from desk 0. It returns whether a letter was handled, as do its parts below.
+    /// One pass: visits each receiving desk, from desk 0. It returns whether a letter was handled, as do its parts below.
     fn pass(&mut self) -> Result<bool, Stop>
         requires waits { Waits self.old.waits self.old.node }
         requires least { AreLeast self.old.least self.old.node }
@@ -209,7 +209,7 @@ impl Settling {
         Ok(moved)
     }
 
-    /// The letters to desk e, if it is marked.
+    /// Delivers the letters to desk e, if it is marked.
     fn settle_desk(&mut self, e: u8) -> Result<bool, Stop>
         requires desk { e < length self.old.node.shards }
         requires waits { Waits self.old.waits self.old.node }
@@ -251,7 +251,7 @@ impl Settling {
         }
     }
 
-    /// The letters to desk e: each sending desk, from desk 0.
+    /// Delivers the letters to desk e, from each sending desk, from desk 0.
     fn settle_to(&mut self, e: u8, least: usize) -> Result<bool, Stop>
         requires desk { e < length self.old.node.shards }
         requires least { IsLeast e least self.old.node }
@@ -274,7 +274,8 @@ impl Settling {
         Ok(moved)
     }
 
-    /// The letters that are now left over from desk d to desk e: none if the outbox holds fewer than `least` for it.
+    /// Delivers the letters that are now left over from desk d to desk e: none if the outbox holds fewer than `least`
+    /// for it.
     fn settle_lane(&mut self, d: u8, e: u8, least: usize) -> Result<bool, Stop>
         requires within { (d < length self.old.node.shards) × (e < length self.old.node.shards) }
         requires least { (least ≤ 1)
@@ -306,8 +307,8 @@ impl Settling {
     }
 }
 
-/// What is told of the processes once each journal is read to its end, from where its table stands; where there is no
-/// memory, the tables as far as they came.
+/// Reads each journal to its end, from the place that its table has reached, and returns what they say of the
+/// processes. If there is no memory, it returns the tables as far as they came.
 fn told(node: &AtRest, lives: Vec<DeskLives>) -> Result<Lives, Vec<DeskLives>>
     requires { AreTables node.now.shards lives.items }
     ensures told { IfOk result (λ lives. AreLivesOf (begins node.now) (journals node.now) lives) }
@@ -323,7 +324,7 @@ fn told(node: &AtRest, lives: Vec<DeskLives>) -> Result<Lives, Vec<DeskLives>>
     }
 }
 
-/// Reads each journal to its end, from where its table stands.
+/// Reads each journal to its end, from the place that its table has reached.
 fn read_journals(node: &AtRest, lives: &mut Vec<DeskLives>) -> Result<(), AllocError>
     requires { AreTables node.now.shards lives.old.items }
     ensures tables { AreTables node.now.shards lives.new.items }

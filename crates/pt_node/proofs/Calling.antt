@@ -1,18 +1,15 @@
 -- A desk of a node is called: the desks stay those of the node.
-use Rattle.std.proofs.Common.{◌≡◌, ℕ, suc, ◌+◌, ◌<◌, true, List, Result, Ok, Err, length, map, get_or, set, refl, sym, subst, ◌∙◌, ap, arith}
+use Rattle.std.proofs.Common.{◌≡◌, ℕ, suc, ◌+◌, ◌<◌, List, Result, Ok, Err, length, map, get_or, set, refl, sym, subst, ◌∙◌, ap, arith}
 use Rattle.std.proofs.lemmas.List.{get_or-map, get_or_default, length-map}
 use Rattle.std.specs.Prelude.{IfOk}
 use Rattle.pt_carrier.specs.Ends.{Place}
-use Rattle.pt_signal.specs.declared.pid.Pid.{Pid}
-use Rattle.pt_shard.specs.Known.{knows}
 use Rattle.pt_shard.specs.declared.fault.Fault.{Fault}
-use Rattle.pt_desk.specs.DeskState.{DeskState, GoesOn, HasSameEnds, IsDesk, place}
+use Rattle.pt_desk.specs.DeskState.{DeskState, GoesOn, IsDesk, place}
 use Rattle.pt_desk.specs.declared.turned.Turned.{Turned}
 use Rattle.pt_desk.specs.Turns.{Turns}
-use Rattle.pt_workers.specs.Desks.{AreDesks}
-use Rattle.pt_node.specs.declared.node_fault.NodeFault.{NodeFault}
-use Rattle.pt_node.specs.Node.{CallsTo, TurnsAll, node_answered, both_turned}
-use Rattle.pt_workers.specs.Desks.{OnDesk}
+use Rattle.pt_workers.specs.Desks.{AreDesks, OnDesk}
+use Rattle.pt_node.specs.Lending.{IsDeskAt}
+use Rattle.pt_node.specs.Node.{TurnsAll, node_answered, both_turned}
 use Rattle.pt_workers.proofs.StillDesks.{still_desks}
 
 -- the desk `old` was read at place d
@@ -38,20 +35,9 @@ module _ (desks : List DeskState) (d : ℕ) (old : DeskState) (within : d < leng
       let at : get_or (map place desks) d (place old) ≡ place old = get_or-map place desks d old (place old) within ∙ sym (ap place is) in
       sym whole.accounts.out_number ∙ sym (ap (λ (p : Place × Place). p.0.number) at) ∙ (node.1.node.numbers d (place old) (omega (arith, within, length-map desks place))).0
 
-  -- the desk's call, as the node's: `start` are the desks and k is d, as the contract names them
-  pub calls_to :
-      {A : Type 0} (to : Pid) (Does : DeskState → Result A Fault → DeskState → Type 0) (r : Result A Fault) (new : DeskState)
-      → knows old.shard to ≡ true → Does old r new → HasSameEnds old new → GoesOn old new
-      → (k : ℕ) → d ≡ k → (start : List DeskState) → start ≡ desks → (answer : Result A NodeFault) → answer ≡ node_answered r
-      → CallsTo k to Does start answer (set desks d new)
-  calls_to to Does r new known does ends goes k at start begins answer gives =
-      subst (λ n. CallsTo n to Does start answer (set desks d new)) at
-      (subst (λ s. CallsTo d to Does s answer (set desks d new)) (sym begins)
-      (subst (λ a. CallsTo d to Does desks a (set desks d new)) (sym gives) (by_answer r does)))
-    where
-      by_answer : (a : Result _ Fault) → Does old a new → CallsTo d to Does desks (node_answered a) (set desks d new)
-      by_answer (Ok a) h = record { within = within; desk = new; does = rw (was new) (known, h, ends); goes_on = rw (was new) goes; others = refl }
-      by_answer (Err f) h = record { within = within; desk = new; does = rw (was new) (known, h, ends); goes_on = rw (was new) goes; others = refl }
+-- the same of the desk that a call of the node has found
+pub called_at : {desks : List DeskState} {d : ℕ} {old new : DeskState} → AreDesks desks → IsDeskAt d desks old → GoesOn old new → AreDesks (set desks d new)
+called_at {desks = desks} {d = d} {old = old} {new = new} node here goes = called_desks desks d old here.0 here.1 node new goes
 
 pub answered_if : {A : Type 0} (P Q : A → Type 0) (r : Result A Fault) → ((a : A) → P a → Q a) → IfOk r P → IfOk (node_answered r) Q
 answered_if P Q (Ok a) f h = f a h

@@ -4,4 +4,5 @@ pub mod Resuming
 pub mod Gathering
 pub mod Seating
 pub mod Node
+pub mod Lending
 pub mod Load

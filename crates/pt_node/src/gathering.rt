@@ -1,6 +1,6 @@
 //! Gathering: the desks of a node are brought together.
 
-ghost use Rattle.std.specs.Prelude.{◌≡◌, ◌≤◌, [], map, IfOk, IfErr, vec_len};
+ghost use Rattle.std.specs.Prelude.{◌≡◌, ◌*◌, ◌≤◌, [], map, IfOk, IfErr, vec_len};
 ghost use Rattle.std.specs.Vec.{vec_capacity};
 ghost use Rattle.pt_carrier.specs.Node.{lists};
 ghost use Rattle.pt_carrier.specs.declared.reunion.Cause.{Cause};
@@ -10,12 +10,14 @@ ghost use Rattle.pt_node.specs.Gathering.{Gathers, HasJournalsOf, ReadsAreTrue};
 ghost use Rattle.pt_node.specs.Pasts.{GathersPast};
 
 use crate::making::{look, make_whole, take_apart};
-use crate::seating::audit_all;
-use pt_carrier::{Cause, reunite};
+use crate::seating::{Seated, audit_all};
+use pt_accounts::DeskLives;
+use pt_carrier::{Cause, Ins, Outs, reunite};
 use pt_desk::Desk;
 use pt_gathered::{Gathered, Lane, laws_of};
+use pt_shard::Shard;
 use pt_signal::Letter;
-use std::alloc::Global;
+use std::alloc::{AllocError, Global};
 use std::fmt;
 use std::marker::Model;
 
@@ -79,6 +81,34 @@ pub fn abandon(desks: Vec<Desk>) {
     desks.destroy_empty();
 }
 
+/// The lists that desks are taken apart into, and the list of their lanes.
+struct Room {
+    lanes: Vec<Lane>,
+    shards: Vec<Shard>,
+    seats: Vec<Seated>,
+    tables: Vec<DeskLives>,
+    pairs: Vec<(Outs, Ins)>,
+}
+
+/// Takes the memory for so many desks: the lists are empty, and have room for all of them.
+fn take_room(alloc: Global, desks: u8) -> Result<Room, AllocError>
+    ensures lanes { IfOk result
+        (λ room. (room.lanes.items ≡ []) × (desks * desks ≤ vec_capacity room.lanes)) }
+    ensures shards { IfOk result (λ room. (room.shards.items ≡ []) × (desks ≤ vec_capacity room.shards)) }
+    ensures seats { IfOk result (λ room. (room.seats.items ≡ []) × (desks ≤ vec_capacity room.seats)) }
+    ensures tables { IfOk result (λ room. (room.tables.items ≡ []) × (desks ≤ vec_capacity room.tables)) }
+    ensures pairs { IfOk result (λ room. (room.pairs.items ≡ []) × (desks ≤ vec_capacity room.pairs)) }
+{
+    let count = usize::from(desks);
+    Ok(Room {
+        lanes: Vec::with_capacity(alloc, count * count)?,
+        shards: Vec::with_capacity(alloc, count)?,
+        seats: Vec::with_capacity(alloc, count)?,
+        tables: Vec::with_capacity(alloc, count)?,
+        pairs: Vec::with_capacity(alloc, count)?,
+    })
+}
+
 /// Brings the desks of a node together: all desks of one [`open`](crate::open), or of one [`resume`](crate::resume),
 /// each once and in order.
 ///
@@ -111,26 +141,17 @@ pub fn gather(alloc: Global, desks: Vec<Desk>) -> Result<Gathered, DesksBack>
 {
     look(desks.as_slice());
     let mut desks = desks;
-    let count = desks.len();
     let config = desks[0].config();
-    let Ok(mut lanes) = Vec::with_capacity(
-        alloc,
-        usize::from(config.desks) * usize::from(config.desks),
-    ) else {
+    let Ok(room) = take_room(alloc, config.desks) else {
         return Err(DesksBack { desks });
     };
-    let Ok(mut shards) = Vec::with_capacity(alloc, count) else {
-        return Err(DesksBack { desks });
-    };
-    let Ok(mut seats) = Vec::with_capacity(alloc, count) else {
-        return Err(DesksBack { desks });
-    };
-    let Ok(mut tables) = Vec::with_capacity(alloc, count) else {
-        return Err(DesksBack { desks });
-    };
-    let Ok(mut pairs) = Vec::with_capacity(alloc, count) else {
-        return Err(DesksBack { desks });
-    };
+    let Room {
+        mut lanes,
+        mut shards,
+        mut seats,
+        mut tables,
+        mut pairs,
+    } = room;
     take_apart(&mut desks, &mut pairs, &mut shards, &mut seats, &mut tables);
     match reunite(alloc, pairs) {
         Ok(left) => {

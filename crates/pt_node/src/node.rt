@@ -1,12 +1,13 @@
 //! A node that a program calls: it owns its desks, and its calls name processes by their pids.
 
-ghost use Rattle.std.specs.Prelude.{◌≡◌, ◌-◌, ◌^◌, Some, None, false, cond, is_some, length, map, max, min, IfOk};
+ghost use Rattle.std.specs.Prelude.{◌≡◌, ◌-◌, ◌^◌, ◌≤◌, true, Some, None, false, cond, is_some, length, map, max, min, IfOk};
 ghost use Rattle.std.specs.Prelude.{IfErr, IfSome};
-ghost use Rattle.std.specs.Option.{option_copied, option_map};
+ghost use Rattle.std.specs.Borrow.{sem};
+ghost use Rattle.std.specs.Option.{option_copied};
 ghost use Rattle.pt_signal.specs.declared.signal.Signal.{Signal};
 ghost use Rattle.pt_events.specs.declared.event.Event.{Event};
 ghost use Rattle.pt_shard.specs.ShardState.{lives, state_in};
-ghost use Rattle.pt_shard.specs.Living.{living_count, living_in, living_pids};
+ghost use Rattle.pt_shard.specs.Known.{knows};
 ghost use Rattle.pt_shard.specs.Reading.{read_of};
 ghost use Rattle.pt_shard.specs.Calls.{Calls, Monitors, Bears, BearsChild, link_event, unlink_event, first_match};
 ghost use Rattle.pt_shard.specs.Calls.{take_event, demonitor_event, held_by, new_ref};
@@ -20,7 +21,9 @@ ghost use Rattle.pt_workers.specs.NodeRunning.{RunsNode};
 ghost use Rattle.pt_workers.specs.Running.{AllWork, InRounds, begins_by};
 ghost use Rattle.pt_node.specs.Node.{CallsAt, CallsTo, Inside, OpensNode, ReadsAt, TurnsAll, TurnsAt, node_answered};
 ghost use Rattle.pt_node.specs.Node.{both_turned};
+ghost use Rattle.pt_node.specs.Lending.{IsDeskAt, IsNoTarget, LendsDesk};
 ghost use Rattle.pt_node.specs.Load.{IsWithinLoad};
+ghost use Rattle.pt_node.specs.declared.node_fault.NodeFault.TheVariants.{NoDesk};
 ghost use Rattle.pt_node.specs.Resuming.{Resumes};
 ghost use Rattle.pt_workers.specs.Stillness.{AllDesksGoOn, AreStill, RunsRounds, StoppedAt, count_events};
 
@@ -31,13 +34,12 @@ use crate::node_running::{run_desks, run_desks_single};
 use crate::opening::open;
 use crate::resuming::{Resting, resume};
 use pt_desk::{Desk, Turned};
-use pt_events::Journal;
 use pt_gathered::{Gathered, Quiet};
 use pt_process::Process;
 use pt_shard::{Config, Fault, OpenError};
 use pt_signal::{Body, Ids, Item, Pick, Pid, Reason, Ref};
 use pt_workers::{Gate, Rested, RunFault, Task, until_still};
-use std::alloc::{AllocError, Global};
+use std::alloc::Global;
 use std::error::Error;
 use std::fmt;
 use std::marker::Model;
@@ -161,87 +163,30 @@ impl Node {
         self.desks.len()
     }
 
-    /// What happened on that desk, oldest event first, or `None` if the node has no such desk. [`Desk::journal`] says
-    /// what holds for it.
-    pub fn journal(&self, desk: u8) -> Option<&Journal>
-        ensures desk { IfSome result (λ j. j.now.desk ≡ desk) }
-        ensures past { ReadsAt desk (λ x. Some x.shard.journal) None self.now (option_map (λ j. j.now.past) result) }
+    /// The desk of that number, to be read: its journal, its clock, and the processes that live on it. `None` if the
+    /// node has no such desk.
+    pub fn desk(&self, number: u8) -> Option<&Desk>
+        ensures desk { IfSome result (λ x. x.now.shard.number ≡ number) }
+        ensures reads { ReadsAt number Some None self.now (option_copied result) }
     {
-        let d = usize::from(desk);
+        let d = usize::from(number);
         if d >= self.desks.len() {
             return None;
         }
-        Some(self.desks[d].journal())
-    }
-
-    /// The stamp of that desk's newest event, or the start of the clock. `None` if the node has no such desk.
-    pub fn clock(&self, desk: u8) -> Option<u64>
-        ensures { ReadsAt desk (λ x. Some x.shard.clock) None self.now result }
-    {
-        let d = usize::from(desk);
-        if d >= self.desks.len() {
-            return None;
-        }
-        Some(self.desks[d].clock())
-    }
-
-    /// The pid that the next process spawned on that desk will have. `None` if no slot is free, or the node has no such
-    /// desk.
-    pub fn vacant(&self, desk: u8) -> Option<Pid>
-        ensures { ReadsAt desk (λ x. x.shard.vacant) None self.now result }
-    {
-        let d = usize::from(desk);
-        if d >= self.desks.len() {
-            return None;
-        }
-        self.desks[d].vacant()
+        let desk = &self.desks[d];
+        // read for the proof alone: it says what holds of every desk
+        let _ = desk.journal();
+        Some(desk)
     }
 
     /// Whether p is alive. False if another process has its slot by now, and if the node does not have its desk.
     pub fn alive(&self, p: Pid) -> bool
         ensures { ReadsAt p.shard (λ x. lives x.shard p) false self.now result }
     {
-        let d = usize::from(p.shard);
-        if d >= self.desks.len() {
-            return false;
+        match self.desks.get(usize::from(p.shard)) {
+            Some(desk) => desk.alive_here(p),
+            None => false,
         }
-        self.desks[d].alive_here(p)
-    }
-
-    /// The live process in that slot of that desk, or `None` if there is none, or the node has no such desk. So a
-    /// program visits all live processes by going through the desks and slots below those of the settings.
-    pub fn lives_in(&self, desk: u8, slot: u32) -> Option<Pid>
-        ensures { ReadsAt desk (λ x. living_in x.shard slot) None self.now result }
-    {
-        let d = usize::from(desk);
-        if d >= self.desks.len() {
-            return None;
-        }
-        self.desks[d].lives_in(slot)
-    }
-
-    /// The live processes of that desk, by slot, as Erlang's `processes/0`; `None` if the node has no such desk. It
-    /// looks into each slot. Fails only if there is no memory for the list.
-    pub fn pids(&self, desk: u8) -> Result<Option<Vec<Pid>>, AllocError>
-        ensures { IfOk result (λ v. ReadsAt desk (λ x. Some (living_pids x.shard)) None self.now
-            (option_map (λ w. w.items) v)) }
-    {
-        let d = usize::from(desk);
-        if d >= self.desks.len() {
-            return Ok(None);
-        }
-        Ok(Some(self.desks[d].pids(self.alloc)?))
-    }
-
-    /// The number of live processes of that desk, in constant time; `None` if the node has no such desk.
-    pub fn len(&self, desk: u8) -> Option<u32>
-        ensures { ReadsAt desk (λ x. Some (living_count x.shard)) None self.now result }
-    {
-        let d = usize::from(desk);
-        if d >= self.desks.len() {
-            return None;
-        }
-        Some(self.desks[d].len())
     }
 
     /// The items that wait in the mailbox of p, oldest first, or `None` if p is not alive.
@@ -249,11 +194,7 @@ impl Node {
         ensures { ReadsAt p.shard (λ x. cond (lives x.shard p) (Some (state_in x.shard p).waiting) None) None self.now
             (option_copied result) }
     {
-        let d = usize::from(p.shard);
-        if d >= self.desks.len() {
-            return None;
-        }
-        self.desks[d].waiting(p)
+        self.desks.get(usize::from(p.shard))?.waiting(p)
     }
 
     /// The ids under which p is linked with q, or `None` if there is no link, or p is not alive.
@@ -262,11 +203,7 @@ impl Node {
     pub fn linked(&self, p: Pid, q: Pid) -> Option<Ids>
         ensures { ReadsAt p.shard (λ x. cond (lives x.shard p) (held_by x.shard p q) None) None self.now result }
     {
-        let d = usize::from(p.shard);
-        if d >= self.desks.len() {
-            return None;
-        }
-        self.desks[d].linked(p, q)
+        self.desks.get(usize::from(p.shard))?.linked(p, q)
     }
 
     /// The process p, to be read: its links, open monitors and watchers by place, its mailbox and its flag. `None` if
@@ -275,11 +212,7 @@ impl Node {
         ensures { ReadsAt p.shard (λ x. cond (lives x.shard p) (Some (p, state_in x.shard p)) None) None self.now
             (read_of (option_copied result)) }
     {
-        let d = usize::from(p.shard);
-        if d >= self.desks.len() {
-            return None;
-        }
-        self.desks[d].process(p)
+        self.desks.get(usize::from(p.shard))?.process(p)
     }
 
     /// Brings the desks of the node together: [`gather`](crate::gather) says what then holds for the journals, the
@@ -321,11 +254,7 @@ impl Node {
         ensures does { CallsAt desk (Inside (Bears None None)) self.old result self.new }
         ensures home { IfOk result (λ p. p.shard ≡ desk) }
     {
-        let d = usize::from(desk);
-        if d >= self.desks.len() {
-            return Err(NodeFault::NoDesk);
-        }
-        let at = &mut self.desks[d];
+        let at = desk_at(&mut self.desks, desk)?;
         // read for the proof alone: it says what holds of every desk
         let _ = at.journal();
         called(at.spawn())
@@ -340,11 +269,7 @@ impl Node {
         ensures does { CallsAt parent.shard (Inside (BearsChild parent linked)) self.old result self.new }
         ensures home { IfOk result (λ p. p.shard ≡ parent.shard) }
     {
-        let d = usize::from(parent.shard);
-        if d >= self.desks.len() {
-            return Err(NodeFault::NoDesk);
-        }
-        let at = &mut self.desks[d];
+        let at = desk_at(&mut self.desks, parent.shard)?;
         // read for the proof alone: it says what holds of every desk
         let _ = at.journal();
         called(at.spawn_child(parent, linked))
@@ -364,15 +289,7 @@ impl Node {
             (Calls from (Some (Event.Said from to (Signal.Message body))) tt x.shard r y.shard) x r y) self.old
             result self.new }
     {
-        let d = usize::from(from.shard);
-        if d >= self.desks.len() {
-            return Err(NodeFault::NoDesk);
-        }
-        let sender = &mut self.desks[d];
-        if !sender.knows(to) {
-            return Err(NodeFault::Unknown);
-        }
-        called(sender.send(from, to, body))
+        called(desk_knowing(&mut self.desks, from.shard, to)?.send(from, to, body))
     }
 
     /// Sends an exit signal that no link carries: Erlang's `exit/2`, section Receiving Exit Signals.
@@ -386,15 +303,7 @@ impl Node {
             (Inside (λ s r t. Calls from (Some (Event.Said from to (Signal.Exit reason))) tt s r t)) self.old result
             self.new }
     {
-        let d = usize::from(from.shard);
-        if d >= self.desks.len() {
-            return Err(NodeFault::NoDesk);
-        }
-        let at = &mut self.desks[d];
-        if !at.knows(to) {
-            return Err(NodeFault::Unknown);
-        }
-        called(at.exit_signal(from, to, reason))
+        called(desk_knowing(&mut self.desks, from.shard, to)?.exit_signal(from, to, reason))
     }
 
     /// Links p with another process: Erlang's `link/1`, section Links.
@@ -403,21 +312,14 @@ impl Node {
     /// an exit signal with `noproc` goes back. Fails with `NoDesk`, or with `Unknown` if the target is no process that
     /// the node can have had. Else it fails as the desk's call does: with `Gone`, and if there is a link to make, with
     /// `NoProc` (the target is seen to have exited), `Worn` or `Memory`.
+    #[tactic(auto, using(crate::proofs::Calling::called_desks))]
     pub fn link(&mut self, p: Pid, to: Pid) -> Result<(), NodeFault>
         ensures { CallsTo p.shard to
             (λ x r y.
             Reaches (has_link_to_make x.shard p to) p to
             (Calls p (link_event x.shard p to) tt x.shard r y.shard) x r y) self.old result self.new }
     {
-        let d = usize::from(p.shard);
-        if d >= self.desks.len() {
-            return Err(NodeFault::NoDesk);
-        }
-        let at = &mut self.desks[d];
-        if !at.knows(to) {
-            return Err(NodeFault::Unknown);
-        }
-        called(at.link(p, to))
+        called(desk_knowing(&mut self.desks, p.shard, to)?.link(p, to))
     }
 
     /// Removes the link of p with another process: Erlang's `unlink/1`, section Links.
@@ -429,15 +331,7 @@ impl Node {
         ensures { CallsTo p.shard to
             (Inside (λ s r t. Calls p (unlink_event s p to) tt s r t)) self.old result self.new }
     {
-        let d = usize::from(p.shard);
-        if d >= self.desks.len() {
-            return Err(NodeFault::NoDesk);
-        }
-        let at = &mut self.desks[d];
-        if !at.knows(to) {
-            return Err(NodeFault::Unknown);
-        }
-        called(at.unlink(p, to))
+        called(desk_knowing(&mut self.desks, p.shard, to)?.unlink(p, to))
     }
 
     /// Monitors another process: Erlang's `monitor/2`, section Monitors. It returns the reference that the one DOWN
@@ -452,15 +346,7 @@ impl Node {
             (λ x r y. Reaches (has_monitor_to_make x.shard w t) w t (Monitors w t x.shard r y.shard) x r y) self.old
             result self.new }
     {
-        let d = usize::from(w.shard);
-        if d >= self.desks.len() {
-            return Err(NodeFault::NoDesk);
-        }
-        let at = &mut self.desks[d];
-        if !at.knows(t) {
-            return Err(NodeFault::Unknown);
-        }
-        called(at.monitor(w, t))
+        called(desk_knowing(&mut self.desks, w.shard, t)?.monitor(w, t))
     }
 
     /// Cancels a monitor of w: Erlang's `demonitor/2`, section Monitors. It returns whether it wrote an event.
@@ -474,11 +360,7 @@ impl Node {
             (λ s r t. Calls w (demonitor_event s w monitor flush) (is_some (demonitor_event s w monitor flush)) s r t))
             self.old result self.new }
     {
-        let d = usize::from(w.shard);
-        if d >= self.desks.len() {
-            return Err(NodeFault::NoDesk);
-        }
-        called(self.desks[d].demonitor(w, monitor, flush))
+        called(desk_at(&mut self.desks, w.shard)?.demonitor(w, monitor, flush))
     }
 
     /// Asks whether another process is alive: Erlang's `is_process_alive/1`, section Processes and Erlang's signals. It
@@ -492,15 +374,7 @@ impl Node {
             (Inside (λ s r u. Calls p (Some (Event.Said p t (Signal.AliveAsk (new_ref s)))) (new_ref s) s r u)) self.old
             result self.new }
     {
-        let d = usize::from(p.shard);
-        if d >= self.desks.len() {
-            return Err(NodeFault::NoDesk);
-        }
-        let at = &mut self.desks[d];
-        if !at.knows(t) {
-            return Err(NodeFault::Unknown);
-        }
-        called(at.ask_alive(p, t))
+        called(desk_knowing(&mut self.desks, p.shard, t)?.ask_alive(p, t))
     }
 
     /// Sets whether p traps exits, and returns whether it did before: Erlang's `process_flag(trap_exit, _)`, section
@@ -512,11 +386,7 @@ impl Node {
         ensures { CallsAt p.shard
             (Inside (λ s r t. Calls p (Some (Event.Flag p on)) (state_in s p).traps s r t)) self.old result self.new }
     {
-        let d = usize::from(p.shard);
-        if d >= self.desks.len() {
-            return Err(NodeFault::NoDesk);
-        }
-        called(self.desks[d].trap(p, on))
+        called(desk_at(&mut self.desks, p.shard)?.trap(p, on))
     }
 
     /// Takes the first matching item out of the mailbox of p, and leaves the others in order: Erlang's `receive` with
@@ -529,11 +399,7 @@ impl Node {
         ensures { CallsAt p.shard
             (Inside (λ s r t. Calls p (take_event s p pick) (first_match s p pick) s r t)) self.old result self.new }
     {
-        let d = usize::from(p.shard);
-        if d >= self.desks.len() {
-            return Err(NodeFault::NoDesk);
-        }
-        called(self.desks[d].receive(p, pick))
+        called(desk_at(&mut self.desks, p.shard)?.receive(p, pick))
     }
 
     /// Makes p exit with this reason: Erlang's `exit/1`, section Process Termination.
@@ -545,11 +411,7 @@ impl Node {
         ensures { CallsAt p.shard
             (Inside (λ s r t. Calls p (Some (Event.Left p reason)) tt s r t)) self.old result self.new }
     {
-        let d = usize::from(p.shard);
-        if d >= self.desks.len() {
-            return Err(NodeFault::NoDesk);
-        }
-        called(self.desks[d].exit(p, reason))
+        called(desk_at(&mut self.desks, p.shard)?.exit(p, reason))
     }
 
     /// One turn of that desk: it posts letters, and then handles at most `budget` letters.
@@ -558,11 +420,7 @@ impl Node {
     pub fn turn(&mut self, desk: u8, budget: u32) -> Result<Turned, NodeFault>
         ensures { TurnsAt desk budget self.old result self.new }
     {
-        let d = usize::from(desk);
-        if d >= self.desks.len() {
-            return Err(NodeFault::NoDesk);
-        }
-        Ok(self.desks[d].turn(budget))
+        Ok(desk_at(&mut self.desks, desk)?.turn(budget))
     }
 
     /// Gives each desk one turn, from desk 0 upwards, and returns what they did together. That is how many letters were
@@ -646,6 +504,38 @@ impl Node {
     {
         run_desks_single(self.alloc, &mut self.desks, works, turns, budget, gate)
     }
+}
+
+/// The desk of that number, to be called. Fails with `NoDesk` if there is none.
+#[inline(always)]
+fn desk_at(desks: &mut Vec<Desk>, number: u8) -> Result<&mut Desk, NodeFault>
+    ensures* lends { sem 𝓛 (LendsDesk desks.entry number result) }
+    ensures desk { IfOk result (λ x. IsDeskAt number desks.old.items x.now) }
+    ensures none { IfErr result (λ fault. (fault ≡ NoDesk) × (length desks.old.items ≤ number)) }
+{
+    let number = usize::from(number);
+    if number >= desks.len() {
+        return Err(NodeFault::NoDesk);
+    }
+    Ok(&mut desks[number])
+}
+
+/// The same desk, to be called with a target. Fails with `NoDesk`, then with `Unknown` if the desk does not know it.
+#[inline(always)]
+fn desk_knowing(desks: &mut Vec<Desk>, number: u8, target: Pid) -> Result<&mut Desk, NodeFault>
+    ensures* lends { sem 𝓛 (LendsDesk desks.entry number result) }
+    ensures desk { IfOk result
+        (λ x. IsDeskAt number desks.old.items x.now × (knows x.now.shard target ≡ true)) }
+    ensures none { IfErr result (λ fault. IsNoTarget number target desks.old.items fault) }
+{
+    let number = usize::from(number);
+    if number >= desks.len() {
+        return Err(NodeFault::NoDesk);
+    }
+    if !desks[number].knows(target) {
+        return Err(NodeFault::Unknown);
+    }
+    Ok(&mut desks[number])
 }
 
 /// One turn of each desk, from desk 0 upwards.

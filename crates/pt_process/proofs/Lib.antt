@@ -7,3 +7,4 @@ pub mod LinkLemmas
 pub mod WatchLemmas
 pub mod StateLemmas
 pub mod EstateLemmas
+pub mod ExitLemmas

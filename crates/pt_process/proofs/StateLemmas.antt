@@ -1,15 +1,12 @@
 -- One list of a state changed, or left as it was.
-use Rattle.std.proofs.Common.{◌≡◌, ◌≢◌, Bool, true, false, cond, List, [], ◌∷◌, ◌++◌, refl, ap, sym, Option, Some, None, is_some}
+use Rattle.std.proofs.Common.{◌≡◌, ◌≢◌, true, false, cond, List, [], ◌∷◌, ◌++◌, refl, ap, Option, Some, None}
 use Rattle.std.specs.List.{list_any}
 use Rattle.std.specs.Option.{IfNone}
-use Rattle.std.specs.Map.{remove_entry}
 use Rattle.pt_signal.specs.declared.pid.Pid.{Pid}
 use Rattle.pt_signal.specs.declared.ids.Ref.{Ref}
 use Rattle.pt_signal.specs.declared.ids.Ids.{Ids}
 use Rattle.pt_signal.specs.declared.item.Item.{Item}
-use Rattle.pt_signal.specs.declared.reason.Reason.{Reason}
-use Rattle.pt_signal.specs.Values.{same_pid}
-use Rattle.pt_signal.specs.Process.{ProcessState, Verdict, verdict, obey, stays, link_exit, holds_any, same_watch, keep}
+use Rattle.pt_signal.specs.Process.{ProcessState, same_watch, keep}
 
 module _ (s : ProcessState) where
   pub waiting_same : (items : List Item) → items ≡ s.waiting → record s { waiting = items } ≡ s
@@ -32,19 +29,6 @@ module _ (s : ProcessState) where
 
   pub kept_other : (kept : List (Ref × Pid)) → kept ≢ s.kept → record s { kept = kept } ≢ s
   kept_other kept other e = other (ap (λ t. t.kept) e)
-
-  pub link_exit_obeys : (me from : Pid) (r : Reason) (held : Bool) (v : Verdict) → held ≡ true → v ≡ verdict true s.traps (same_pid from me) from r
-      → link_exit held me s from r ≡ obey v (record s { links = remove_entry (same_pid from) s.links })
-  link_exit_obeys me from r true v is ruled = ap (λ w. obey w (record s { links = remove_entry (same_pid from) s.links })) (sym ruled)
-  link_exit_obeys me from r false v is ruled = cc
-
-  pub link_exit_drops : (me from : Pid) (r : Reason) (held : Bool) → held ≡ false → link_exit held me s from r ≡ stays s
-  link_exit_drops me from r true is = cc
-  link_exit_drops me from r false is = refl
-
-pub held_some : (r : Option Ids) (named : Ids) → holds_any r named ≡ true → is_some r ≡ true
-held_some None named h = cc
-held_some (Some ids) named h = refl
 
 pub keep_same : (m : Ref) (w : Pid) (kept : List (Ref × Pid)) → list_any (same_watch m w) kept ≡ true → keep m w kept ≡ kept
 keep_same m w kept h = ap (λ b. cond b kept (kept ++ (m, w) ∷ [])) h

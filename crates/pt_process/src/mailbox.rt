@@ -1,7 +1,7 @@
 //! The items that wait for a receive.
 
 ghost use Rattle.std.specs.Prelude.{◌≡◌, ◌+◌, ◌-◌, ◌*◌, ◌<◌, ◌≤◌, ◌++◌, ◌∷◌, [], take, drop, length, slice_get, Some};
-ghost use Rattle.std.specs.Prelude.{OnOk, OnErr};
+ghost use Rattle.std.specs.Prelude.{OnOk, OnErr, true};
 ghost use Rattle.std.specs.List.{position, remove};
 ghost use Rattle.pt_signal.specs.Values.{fits};
 ghost use Rattle.pt_process.specs.Places.{IsFirst};
@@ -66,7 +66,26 @@ impl Mailbox {
         Ok(())
     }
 
+    /// Whether the oldest item is seen at once to match: most takes are of the oldest, and `position` is a call.
+    ///
+    /// Only picks of any item, of a kind and of a sender are tested. If it returns `false`, the oldest may still match.
+    #[inline(always)]
+    pub fn head_fits(&self, pick: Pick) -> bool
+        ensures { result ≡ true → position (fits pick) self.now ≡ Some 0 }
+    {
+        let Some(oldest) = self.as_slice().first() else {
+            return false;
+        };
+        match pick {
+            Pick::Any => true,
+            Pick::Kind(kind) => is_of_kind(oldest, kind),
+            Pick::From(from) => is_from(oldest, from),
+            _ => false,
+        }
+    }
+
     /// The place of the first matching item.
+    #[inline(never)]
     pub fn position(&self, pick: Pick) -> Option<usize>
         ensures { result ≡ position (fits pick) self.now }
     {

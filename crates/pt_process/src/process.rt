@@ -8,6 +8,7 @@ ghost use Rattle.pt_signal.specs.Values.{fits, same_pid, same_ref, without_first
 ghost use Rattle.pt_signal.specs.Process.{fresh, held, holds_any, same_watch, cut, handle, queued, obey, verdict, say};
 ghost use Rattle.pt_signal.specs.Process.{estate};
 ghost use Rattle.pt_process.specs.Outcome.{Accepts, IsAnew, has_two, ruled};
+ghost use Rattle.pt_process.specs.Exits.{IsExit, exit_of};
 ghost use Rattle.pt_process.specs.Places.{IsFirst, IsFirstPlace};
 ghost use Rattle.pt_process.specs.Peers.{peers_held};
 
@@ -209,8 +210,7 @@ impl Process {
             Signal::Message(body) => self.queue(Item::User(from, body)),
             Signal::Link(id) => self.enter(from, id),
             Signal::Unlink(ids) => Ok(self.cut(from, ids)),
-            Signal::Exit(reason) => self.exit_signal(from, reason),
-            Signal::LinkExit(ids, reason) => self.link_exit(from, ids, reason),
+            Signal::Exit(_) | Signal::LinkExit(..) => self.accept_exit(from, signal),
             Signal::Monitor(monitor) => self.keep(from, monitor),
             Signal::Demonitor(monitor) => Ok(self.forget(from, monitor)),
             Signal::Down(monitor, reason) => self.down(from, monitor, reason),
@@ -223,12 +223,10 @@ impl Process {
     pub fn would_end(&self, from: Pid, signal: &Signal) -> Option<Reason>
         ensures { result ≡ (handle self.now.me self.now.state from signal.now).ending }
     {
-        match *signal {
-            Signal::Exit(reason) => self.ends_by(from, reason, false),
-            Signal::LinkExit(ids, reason) if self.holds_any(from, ids) => {
-                self.ends_by(from, reason, true)
-            }
-            _ => None,
+        let exit = self.exit_signal(from, signal)?;
+        match self.verdict(exit) {
+            Verdict::Ends(reason) => Some(reason),
+            Verdict::Drops | Verdict::Queues(_) => None,
         }
     }
 
@@ -241,9 +239,13 @@ impl Process {
     }
 
     /// The place of the first matching item among those that wait; `take_at` takes it.
+    #[inline(always)]
     pub fn place(&self, pick: Pick) -> Option<usize>
         ensures { IsFirstPlace (fits pick) self.now.state.waiting result }
     {
+        if self.waiting.head_fits(pick) {
+            return Some(0);
+        }
         self.waiting.position(pick)
     }
 
@@ -466,49 +468,53 @@ impl Process {
         }
     }
 
-    fn verdict(&self, from: Pid, reason: Reason, by_link: bool) -> Verdict
-        ensures { ruled result ≡ verdict by_link self.now.state.traps (same_pid from self.now.me) from reason }
+    /// The exit signal that a signal is, if it is one. Of a link that is not held it is none.
+    #[inline(always)]
+    fn exit_signal(&self, from: Pid, signal: &Signal) -> Option<ExitSignal>
+        ensures { result ≡ exit_of self.now.state from signal.now }
     {
-        let signal = ExitSignal {
+        let (reason, by_link) = match *signal {
+            Signal::Exit(reason) => (reason, false),
+            Signal::LinkExit(ids, reason) if self.holds_any(from, ids) => (reason, true),
+            _ => return None,
+        };
+        Some(ExitSignal {
             from,
             reason,
             by_link,
-        };
-        signal.verdict(self.traps, from == self.me)
+        })
     }
 
-    fn ends_by(&self, from: Pid, reason: Reason, by_link: bool) -> Option<Reason>
-        ensures { result
-            ≡ (obey
-            (verdict by_link self.now.state.traps (same_pid from self.now.me) from reason) self.now.state).ending }
+    fn verdict(&self, exit: ExitSignal) -> Verdict
+        ensures { ruled result
+            ≡ verdict exit.by_link self.now.state.traps (same_pid exit.from self.now.me) exit.from exit.reason }
     {
-        match self.verdict(from, reason, by_link) {
-            Verdict::Ends(reason) => Some(reason),
-            _ => None,
-        }
+        exit.verdict(self.traps, exit.from == self.me)
     }
 
     #[inline(never)]
-    fn exit_signal(&mut self, from: Pid, reason: Reason) -> Result<Outcome, AllocError>
-        ensures { Accepts self.old (handle self.old.me self.old.state from (Signal.Exit reason)) result self.new }
+    fn accept_exit(&mut self, from: Pid, signal: Signal) -> Result<Outcome, AllocError>
+        requires { IsExit signal }
+        ensures { Accepts self.old (handle self.old.me self.old.state from signal) result self.new }
     {
-        match self.verdict(from, reason, false) {
+        let Some(exit) = self.exit_signal(from, &signal) else {
+            return Ok(Outcome::Dropped);
+        };
+        let verdict = self.verdict(exit);
+        if exit.by_link {
+            self.obey_link(from, verdict)
+        } else {
+            self.obey(verdict)
+        }
+    }
+
+    fn obey(&mut self, verdict: Verdict) -> Result<Outcome, AllocError>
+        ensures { Accepts self.old (obey (ruled verdict) self.old.state) result self.new }
+    {
+        match verdict {
             Verdict::Drops => Ok(Outcome::Dropped),
             Verdict::Queues(item) => self.queue(item),
             Verdict::Ends(reason) => Ok(Outcome::Ends(reason)),
-        }
-    }
-
-    #[inline(never)]
-    fn link_exit(&mut self, from: Pid, ids: Ids, reason: Reason) -> Result<Outcome, AllocError>
-        ensures { Accepts self.old
-            (handle self.old.me self.old.state from (Signal.LinkExit ids reason)) result self.new }
-    {
-        if self.holds_any(from, ids) {
-            let verdict = self.verdict(from, reason, true);
-            self.obey_link(from, verdict)
-        } else {
-            Ok(Outcome::Dropped)
         }
     }
 

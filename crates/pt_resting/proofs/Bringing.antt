@@ -5,7 +5,7 @@ use mathlib.Core.List.{IsPrefix}
 use Rattle.rtrb.specs.Ring.{SameConsumer}
 use Rattle.rtrb.specs.declared.consumer.Consumer.{Consumer}
 use Rattle.pt_signal.specs.declared.pid.Pid.{Pid}
-use Rattle.pt_shard.specs.declared.fault.Fault.{Fault}
+use Rattle.pt_crew.specs.declared.call_fault.CallFault.{CallFault}
 use Rattle.pt_desk.specs.DeskState.{DeskState}
 use Rattle.pt_resting.specs.declared.door.Post.{Post}
 use Rattle.pt_resting.specs.Bringing.{PorterTells, IsDone, SendsOn, KeepsFront, BringsFirst, Brings}
@@ -17,7 +17,7 @@ pub ring_stays : {T A P : Type 0} (a : Consumer T A P) → SameConsumer a a
 ring_stays a = ((refl, refl, refl, refl), refl)
 
 -- the first that waits is refused, and stays
-pub keeps_first : (me : Pid) (post : Post) (waits : List Post) (d e : DeskState) (answer : Result ⊤ Fault) → IsPrefix (post ∷ []) waits → PorterTells me post d answer e → (IsDone answer → ⊥) → KeepsFront me waits d e
+pub keeps_first : (me : Pid) (post : Post) (waits : List Post) (d e : DeskState) (answer : Result ⊤ CallFault) → IsPrefix (post ∷ []) waits → PorterTells me post d answer e → (IsDone answer → ⊥) → KeepsFront me waits d e
 keeps_first me post [] d e answer (rest, is) tells never = absurd (cc)
 keeps_first me post (first ∷ waits) d e answer (rest, is) tells never =
     let same : post ≡ first = cc in (answer, subst (λ (p : Post). PorterTells me p d answer e) same tells, never)

@@ -1,40 +1,31 @@
 -- What a porter does with what came in at its door.
-use Rattle.std.specs.Prelude.{◌≡◌, ◌⊎◌, ⊤, ℕ, ◌≤◌, Bool, true, false, List, [], ◌∷◌, ◌++◌, length, Some, Result, Ok, Err}
+use Rattle.std.specs.Prelude.{◌≡◌, ◌⊎◌, ⊤, ℕ, ◌≤◌, Bool, true, false, List, [], ◌∷◌, ◌++◌, length, Result, Ok, Err}
 use Rattle.pt_signal.specs.declared.pid.Pid.{Pid}
-use Rattle.pt_signal.specs.declared.signal.Signal.TheVariants.{Message}
-use Rattle.pt_events.specs.declared.event.Event.TheVariants.{Said}
-use Rattle.pt_shard.specs.declared.fault.Fault.{Fault}
 use Rattle.pt_shard.specs.declared.fault.Fault.TheVariants.{NoProc}
-use Rattle.pt_shard.specs.Known.{knows}
-use Rattle.pt_shard.specs.ShardState.{lives}
-use Rattle.pt_shard.specs.Calls.{Calls}
 use Rattle.pt_desk.specs.DeskState.{DeskState}
-use Rattle.pt_desk.specs.Reaching.{Reaches}
-use Rattle.pt_crew.specs.Telling.{IfKnown}
+use Rattle.pt_crew.specs.declared.call_fault.CallFault.{CallFault}
+use Rattle.pt_crew.specs.declared.call_fault.CallFault.TheVariants.{Unknown, Refused}
+use Rattle.pt_crew.specs.Asking.{SendsTo}
 use Rattle.pt_resting.specs.declared.door.Post.{Post}
 
 -- the desk was asked to send the message of `me`, and answered so
-abbrev pub PorterTells : Pid → Post → DeskState → Result ⊤ Fault → DeskState → Type 0
-PorterTells me post d answer e =
-    IfKnown (knows d.shard post.to)
-    (Reaches (lives d.shard me) me post.to
-    (Calls me (Some (Said me post.to (Message post.body))) tt d.shard answer e.shard) d answer e)
-    d answer e
+abbrev pub PorterTells : Pid → Post → DeskState → Result ⊤ CallFault → DeskState → Type 0
+PorterTells me post d answer e = SendsTo me post.to post.body d answer e
 
--- it was sent, or its receiver is seen to have ended, or not known
-abbrev pub IsDone : Result ⊤ Fault → Type 0
-IsDone answer = (answer ≡ Ok tt) ⊎ (answer ≡ Err NoProc)
+-- it was sent, or its receiver is not known, or seen to have ended
+abbrev pub IsDone : Result ⊤ CallFault → Type 0
+IsDone answer = (answer ≡ Ok tt) ⊎ (answer ≡ Err Unknown) ⊎ (answer ≡ Err (Refused NoProc))
 
 -- these were sent on, in order
 abbrev pub SendsOn : Pid → List Post → DeskState → DeskState → Type 0
 SendsOn me [] d e = e ≡ d
 SendsOn me (post ∷ posts) d e =
-    (mid : DeskState) × (answer : Result ⊤ Fault) × PorterTells me post d answer mid × IsDone answer × SendsOn me posts mid e
+    (mid : DeskState) × (answer : Result ⊤ CallFault) × PorterTells me post d answer mid × IsDone answer × SendsOn me posts mid e
 
 -- nothing was sent on: none waits, or the desk refused the first that does for another cause, and it stays
 abbrev pub KeepsFront : Pid → List Post → DeskState → DeskState → Type 0
 KeepsFront me [] d e = e ≡ d
-KeepsFront me (post ∷ waits) d e = (answer : Result ⊤ Fault) × PorterTells me post d answer e × (IsDone answer → ⊥)
+KeepsFront me (post ∷ waits) d e = (answer : Result ⊤ CallFault) × PorterTells me post d answer e × (IsDone answer → ⊥)
 
 -- the first that waits is taken out and sent on, or stays; of what was taken out before and after, and what waits then
 abbrev pub BringsFirst : Pid → List Post → DeskState → Bool → List Post → List Post → DeskState → Type 0

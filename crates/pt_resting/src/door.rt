@@ -11,7 +11,7 @@ ghost use Rattle.pt_resting.specs.Views.{taken_out, work_of};
 
 use crate::bells::Bells;
 use crate::resting::Rests;
-use pt_crew::tell;
+use pt_crew::{CallFault, send};
 use pt_workers::{Body, Desk, Fault, Pid, Turned, Work};
 use rtrb::{Consumer, Producer, PushError, RingBuffer};
 use std::alloc::{AllocError, Global};
@@ -128,8 +128,8 @@ impl<W> Porter<W> {
             return false;
         }
         let post = *self.ring.peek_known();
-        match tell(desk, self.me, post.to, post.body) {
-            Ok(()) | Err(Fault::NoProc) => {
+        match send(desk, self.me, post.to, post.body) {
+            Ok(()) | Err(CallFault::Unknown) | Err(CallFault::Refused(Fault::NoProc)) => {
                 let _ = self.ring.pop_known();
                 true
             }

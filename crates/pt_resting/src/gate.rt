@@ -9,7 +9,7 @@ use std::time::Duration;
 /// bells say stop.
 ///
 /// It knows of a desk only what its work reports to the bells, so the works of the run must be
-/// [`Resting`](crate::Resting). With `u64::MAX` turns a run continues until [`Bells::stop`].
+/// [`RestingWork`](crate::RestingWork). With `u64::MAX` turns a run continues until [`Bells::stop`].
 #[derive(Drop)]
 pub struct RestGate<'a, R> {
     rt: &'a R,

@@ -2,7 +2,7 @@
 //! from threads that have no desk.
 //!
 //! The workers of a node wake each other by [`Bells`]. A [`RestGate`] lets a worker rest if its desk has nothing to do,
-//! and lets every worker continue until [`Bells::stop`]. A [`Resting`] is the work that reports to it. A [`Door`] takes
+//! and lets every worker continue until [`Bells::stop`]. A [`RestingWork`] is the work that reports to it. A [`Door`] takes
 //! messages from a thread without a desk; a [`Porter`] sends them on, as a process of its desk.
 //!
 //! # What is proved
@@ -16,7 +16,7 @@
 //!   at the desk of the process that sends on.
 //! - **Work left.** A crew has work exactly while a process is queued or waits to enter; a porter also while it knows
 //!   of a message. (`busy`)
-//! - **The work within.** A `Resting` does what its work does.
+//! - **The work within.** A `RestingWork` does what its work does.
 #![tactic(auto)]
 
 mod bells;
@@ -27,4 +27,4 @@ mod resting;
 pub use bells::Bells;
 pub use door::{Door, Porter, Post, way_in};
 pub use gate::RestGate;
-pub use resting::{Resting, Rests};
+pub use resting::{RestingWork, Rests};

@@ -34,7 +34,7 @@ impl<B: Behaviour + Drop> Rests for Crew<B> {
 ///
 /// It does what the work does, and nothing else to the desk.
 #[derive(Drop)]
-pub struct Resting<'a, W> {
+pub struct RestingWork<'a, W> {
     work: W,
     bells: &'a Bells,
     /// The desk's clock as the last step ended; none before the first.
@@ -44,18 +44,18 @@ pub struct Resting<'a, W> {
 }
 
 /// Clauses see the work alone: what it reports to the bells wakes workers, and changes nothing.
-impl<'a, W> Model for Resting<'a, W> {
+impl<'a, W> Model for RestingWork<'a, W> {
     ghost Value = { W };
 
     ghost view = { λ r. r.work };
 }
 
-impl<'a, W: Rests> Resting<'a, W> {
+impl<'a, W: Rests> RestingWork<'a, W> {
     /// The work of a desk of the node whose bells these are.
-    pub fn new(work: W, bells: &'a Bells) -> Resting<'a, W>
+    pub fn new(work: W, bells: &'a Bells) -> RestingWork<'a, W>
         ensures { result ≡ work }
     {
-        Resting {
+        RestingWork {
             work,
             bells,
             clock: None,
@@ -74,7 +74,7 @@ impl<'a, W: Rests> Resting<'a, W> {
     pub fn into_work(self) -> W
         ensures { result ≡ self.entry }
     {
-        let Resting { work, .. } = self;
+        let RestingWork { work, .. } = self;
         work
     }
 }
@@ -109,7 +109,7 @@ fn targets_of(desk: &Desk, events: &[Stamped]) -> u64 {
     posts
 }
 
-impl<'a, W: Rests> Work for Resting<'a, W> {
+impl<'a, W: Rests> Work for RestingWork<'a, W> {
     ghost does = { λ old d new e. W.Work.does old d new e };
 
     ghost hears = { λ old d turned new. W.Work.hears old d turned new };

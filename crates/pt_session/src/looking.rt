@@ -20,12 +20,12 @@ pub(crate) fn look_at_node(alloc: Global, node: &Node, look: Look) -> Option<Ans
     ensures { spec.LooksAtNode look node.now result }
 {
     match look {
-        Look::Clock(desk) => Some(Answer::Number(node.clock(desk))),
+        Look::Clock(desk) => Some(Answer::Number(clock(node, desk))),
         Look::Pending(desk) => Some(Answer::Number(pending(node, desk))),
         Look::Journal(desk) => Some(journal(alloc, node, desk)),
         Look::Event(desk, stamp) => Some(Answer::Event(event(node, desk, stamp))),
         Look::Events => Some(Answer::Number(Some(count_events(node)))),
-        Look::Vacant(desk) => Some(Answer::Pid(node.vacant(desk))),
+        Look::Vacant(desk) => Some(Answer::Pid(vacant(node, desk))),
         Look::Alive(pid) => Some(Answer::Truth(Some(node.alive(pid)))),
         Look::Knows(desk, pid) => Some(Answer::Truth(knows(node, desk, pid))),
         Look::Waiting(pid) => Some(items(alloc, node.waiting(pid))),
@@ -36,26 +36,28 @@ pub(crate) fn look_at_node(alloc: Global, node: &Node, look: Look) -> Option<Ans
     }
 }
 
+fn clock(node: &Node, desk: u8) -> Option<u64>
+    ensures { ReadsAt desk (λ x. Some x.shard.clock) None node.now result }
+{
+    Some(node.desk(desk)?.clock())
+}
+
+fn vacant(node: &Node, desk: u8) -> Option<Pid>
+    ensures { ReadsAt desk (λ x. x.shard.vacant) None node.now result }
+{
+    node.desk(desk)?.vacant()
+}
+
 fn pending(node: &Node, desk: u8) -> Option<u64>
     ensures { ReadsAt desk (λ x. Some (min (count_pending x.shard) (2 ^ 64 - 1))) None node.now result }
 {
-    let d = usize::from(desk);
-    let desks = node.desks();
-    if d >= desks.len() {
-        return None;
-    }
-    Some(desks[d].pending())
+    Some(node.desk(desk)?.pending())
 }
 
 fn knows(node: &Node, desk: u8, pid: Pid) -> Option<bool>
     ensures { ReadsAt desk (λ x. Some (knows x.shard pid)) None node.now result }
 {
-    let d = usize::from(desk);
-    let desks = node.desks();
-    if d >= desks.len() {
-        return None;
-    }
-    Some(desks[d].knows(pid))
+    Some(node.desk(desk)?.knows(pid))
 }
 
 fn watching(node: &Node, pid: Pid, monitor: Ref) -> bool
@@ -83,12 +85,10 @@ fn journal(alloc: Global, node: &Node, desk: u8) -> Answer
         (λ events. ReadsAt desk (λ x. Some (reverse x.shard.journal)) None node.now (Some events))
         (length node.now ≤ desk) }
 {
-    let d = usize::from(desk);
-    let desks = node.desks();
-    if d >= desks.len() {
+    let Some(desk) = node.desk(desk) else {
         return Answer::Unknown;
-    }
-    match desks[d].journal().events().to_vec(alloc) {
+    };
+    match desk.journal().events().to_vec(alloc) {
         Ok(events) => Answer::Events(events),
         Err(_) => Answer::NoMemory,
     }
@@ -97,12 +97,7 @@ fn journal(alloc: Global, node: &Node, desk: u8) -> Answer
 fn event(node: &Node, desk: u8, stamp: u64) -> Option<Stamped>
     ensures { ReadsAt desk (λ x. spec.event_of (Some x.shard.journal) desk stamp) None node.now result }
 {
-    let d = usize::from(desk);
-    let desks = node.desks();
-    if d >= desks.len() {
-        return None;
-    }
-    find_event(desks[d].journal().events(), desk, stamp)
+    find_event(node.desk(desk)?.journal().events(), desk, stamp)
 }
 
 /// The event of a desk that has the stamp.

@@ -1,5 +1,5 @@
 -- What a process does with the ledger makes the desk what its event makes of it.
-use Rattle.std.proofs.Common.{◌≡◌, ℕ, ◌+◌, ◌^◌, ◌<◌, ◌≤◌, ◌||◌, max, Bool, true, false, cond, [], length, map, Option, Some, None, is_some, refl, sym, ap, ◌∙◌, subst, arith}
+use Rattle.std.proofs.Common.{◌≡◌, ℕ, ◌+◌, ◌^◌, ◌<◌, ◌≤◌, ◌||◌, max, Bool, true, false, cond, [], length, map, Option, Some, None, is_some, refl, sym, ap, ◌∙◌, subst}
 use Rattle.std.specs.Prelude.{IfSome, IsSome, Result, Ok, Err, ⊤}
 use Rattle.std.specs.List.{find}
 use Rattle.std.specs.Bool.{then_some}
@@ -35,7 +35,7 @@ use Rattle.pt_shard.specs.declared.stop.Stop.TheVariants.{Memory, Worn}
 use Rattle.std.specs.Result.{IsErr, IsErrAnd}
 use Rattle.pt_shard.specs.ShardState.{ShardState, Handles, came_event, past, state_in}
 use Rattle.pt_shard.specs.Known.{knows}
-use Rattle.pt_shard.specs.Calls.{Calls, BearsChild, new_link, new_ref, link_event, unlink_event, take_event, first_match, demonitor_event, demonitor_at, if_asked}
+use Rattle.pt_shard.specs.Calls.{Calls, BearsChild, new_link, new_ref, link_event, unlink_event, take_event, first_match, demonitor_event, demonitor_at, held_by, if_asked}
 use Rattle.pt_shard.specs.Extends.{Extends}
 use Rattle.pt_shard.specs.Fit.{IsFit}
 use Rattle.pt_shard.specs.Faults.{fault_of}
@@ -43,7 +43,7 @@ use Rattle.pt_shard.specs.LedgerState.{Book, LedgerState, HasRoomToAll, Prepares
 use Rattle.pt_shard.specs.Processes.{ProcessesState, living_at, with_process, in_place, pid_of_key, vacant_at, Changes, Ends, IsSameTable, HasRoomFor}
 use Rattle.pt_shard.specs.Whole.{Parts, parts_of, shard_of, IsWhole}
 use Rattle.pt_shard.specs.Plain.{IsPlainSignal}
-use Rattle.pt_shard.specs.Acts.{Acts, Tells, HasOnlyMoreRoom, PreparesBirth, IsStopped, TakesIn, done, posted, link_after, ref_after, taking, linking, unlinking, giving_up, giving_up_at}
+use Rattle.pt_shard.specs.Acts.{Acts, Tells, HasOnlyMoreRoom, PreparesBirth, IsStopped, TakesIn, done, posted, link_after, ref_after, taking, unlinking, giving_up, giving_up_at}
 use Rattle.pt_shard.proofs.Acting.{Outcome, Found, own_book, alive, lives_here, is_there, said_to, said_known, plain_may, plain_new, plain_changes, left_alone, set_flag, took_item, link_now, link_new, ref_now, ref_new, not_open_yet, open_target, peers_near, left_by, left_from, left_near, left_peers}
 use Rattle.pt_shard.proofs.Outcomes.{not_prepared, same_book}
 use Rattle.pt_shard.proofs.Bearing.{Unchanged, unchanged, same_table, BirthOutcome, links_parent, child_outcome, room_stays, parent_is_there}
@@ -56,6 +56,15 @@ pub record Acted (A : Type 0) (a b : Parts) (p : Pid) (event : Option Event) (an
   pub fit : IsFit (shard_of b)
   pub extends : Extends (shard_of a) (shard_of b)
   pub does : Calls p event answer (shard_of a) result (shard_of b)
+
+-- a link that there is to make
+free_to_link : (b : Bool) (o : Option Ids) (e : Event) → is_some (cond (b || is_some o) None (Some e)) ≡ true → (b ≡ false) × (o ≡ None)
+free_to_link false None e new = (refl, refl)
+free_to_link b o e new = absurd (cc)
+
+event_is : (b : Bool) (o : Option Ids) (e : Event) → is_some (cond (b || is_some o) None (Some e)) ≡ true → cond (b || is_some o) None (Some e) ≡ Some e
+event_is false None e new = refl
+event_is b o e new = absurd (cc)
 
 -- what is given up, as a desk tells it
 giving_up_is : (d : ShardState) (p : Pid) (m : Ref) (flush : Bool) (o : Option Pid) → demonitor_at o d p m flush ≡ giving_up_at o p m flush (state_in d p)
@@ -101,10 +110,7 @@ module _ (a : Parts) (whole : IsWhole a) (p : Pid) (was : ProcessView) (found : 
         still_one (Some e) (Err fault.Worn) h.1 (alive a whole p acting, refl, subst (λ (b : Book). 2 ^ 62 ≤ b.clock) is h.0, refl)
     acted (Some e) law (Err fault.Memory) h =
         still_one (Some e) (Err fault.Memory) h.1 (alive a whole p acting, refl, subst (λ (b : Book). b.clock < 2 ^ 62) is h.0, refl)
-    acted (Some e) law (Err fault.Gone) h = absurd h
-    acted (Some e) law (Err fault.Full) h = absurd h
-    acted (Some e) law (Err fault.Myself) h = absurd h
-    acted (Some e) law (Err fault.NoProc) h = absurd h
+    acted (Some e) law (Err f) h = absurd h
 
   -- what its events make of the desk ------------------------------------------------------------
 
@@ -118,18 +124,12 @@ module _ (a : Parts) (whole : IsWhole a) (p : Pid) (was : ProcessView) (found : 
       go None h = tt
       go (Some i) h = λ can book processes desk is changes. took_item a whole p acting can book processes desk k i h is changes
 
-  linking_law : (to : Pid) → knows (shard_of a) to ≡ true → IsLaw (linking p to a.book was.state)
-  linking_law to known = go (same_pid p to) refl (held was.state.links to) refl
-    where
-      now : link_after a.book ≡ new_link (shard_of a)
-      now = link_now a whole a.book refl (link_after a.book) refl
-
-      go : (b : Bool) → same_pid p to ≡ b → (o : Option Ids) → held was.state.links to ≡ o → IsLaw (cond (b || is_some o) None (Some (Said p to (Link (link_after a.book)))))
-      go true e o h = tt
-      go false e (Some ids) h = tt
-      go false e None h = λ can book processes desk is changes.
-          said_known a whole p acting can book processes desk to (Link (link_after a.book)) known (link_new a whole (link_after a.book) now, h, e)
-          (ap (λ (j : LinkId). j.desk) now, ap (λ (j : LinkId). j.number) now) is changes
+  linking_law : (to : Pid) → knows (shard_of a) to ≡ true → same_pid p to ≡ false → held was.state.links to ≡ None → IsLaw (Some (Said p to (Link (link_after a.book))))
+  linking_law to known other free =
+      let now : link_after a.book ≡ new_link (shard_of a) = link_now a whole a.book refl (link_after a.book) refl in
+      λ can book processes desk is changes.
+      said_known a whole p acting can book processes desk to (Link (link_after a.book)) known (link_new a whole (link_after a.book) now, free, other)
+      (ap (λ (j : LinkId). j.desk) now, ap (λ (j : LinkId). j.number) now) is changes
 
   unlinking_law : (to : Pid) → knows (shard_of a) to ≡ true → IsLaw (unlinking p to was.state)
   unlinking_law to known = go (held was.state.links to) refl
@@ -167,6 +167,11 @@ module _ (a : Parts) (whole : IsWhole a) (p : Pid) (was : ProcessView) (found : 
       go None h = tt
       go (Some t) h = subst (λ n. t.shard < n) (sym whole.sound.fit.boxes) (open_target a whole p acting m t (sym h)).0
 
+  pub link_to_make : (to : Pid) → is_some (link_event (shard_of a) p to) ≡ true → (same_pid p to ≡ false) × (held was.state.links to ≡ None)
+  link_to_make to new =
+      let free = free_to_link (same_pid p to) (held_by (shard_of a) p to) _ new in
+      (free.0, sym (ap (λ f. held (state_of f).links to) (lives_here a whole p acting)) ∙ free.1)
+
   pub not_watching : lookup (same_ref (ref_after a.book)) was.state.watching ≡ None
   not_watching = not_open_yet a whole p acting (ref_after a.book) (ref_now a whole a.book refl (ref_after a.book) refl)
 
@@ -191,13 +196,13 @@ module _ (a : Parts) (whole : IsWhole a) (p : Pid) (was : ProcessView) (found : 
         called (taking p k was.state) (take_event (shard_of a) p k) (find (fits k) was.state.waiting) (first_match (shard_of a) p k) r
         (ap (λ f. taking p k (state_of f)) (lives_here a whole p acting)) (ap (λ f. find (fits k) (state_of f).waiting) (lives_here a whole p acting)) (taking_law k) h
 
-    pub linked : (to : Pid) → knows (shard_of a) to ≡ true → (r : Result (Unit {0}) Fault) → Acts (linking p to ledger.book was.state) (tt {0}) was ledger r now ledger'
-        → Acted (Unit {0}) a (left_with ledger'.book now) p (link_event (shard_of a) p to) (tt {0}) r
-    linked to known r h =
-        called (linking p to a.book was.state) (link_event (shard_of a) p to) (tt {0}) (tt {0}) r
-        (ap (λ f. cond (same_pid p to || is_some (held (state_of f).links to)) None (Some (Said p to (Link (new_link (shard_of a)))))) (lives_here a whole p acting)
-        ∙ ap (λ j. cond (same_pid p to || is_some (held was.state.links to)) None (Some (Said p to (Link j)))) (sym (link_now a whole a.book refl (link_after a.book) refl)))
-        refl (linking_law to known) (subst (λ b. Acts (linking p to b was.state) (tt {0}) was ledger r now ledger') is h)
+    pub linked : (to : Pid) → knows (shard_of a) to ≡ true → is_some (link_event (shard_of a) p to) ≡ true → (r : Result (Unit {0}) Fault)
+        → Acts (Some (Said p to (Link (link_after ledger.book)))) (tt {0}) was ledger r now ledger' → Acted (Unit {0}) a (left_with ledger'.book now) p (link_event (shard_of a) p to) (tt {0}) r
+    linked to known new r h =
+        let free = link_to_make to new in
+        called (Some (Said p to (Link (link_after a.book)))) (link_event (shard_of a) p to) (tt {0}) (tt {0}) r
+        (event_is (same_pid p to) (held_by (shard_of a) p to) _ new ∙ ap (λ j. Some (Said p to (Link j))) (sym (link_now a whole a.book refl (link_after a.book) refl)))
+        refl (linking_law to known free.0 free.1) (subst (λ b. Acts (Some (Said p to (Link (link_after b)))) (tt {0}) was ledger r now ledger') is h)
 
     pub unlinked : (to : Pid) → knows (shard_of a) to ≡ true → (r : Result (Unit {0}) Fault) → Acts (unlinking p to was.state) (tt {0}) was ledger r now ledger'
         → Acted (Unit {0}) a (left_with ledger'.book now) p (unlink_event (shard_of a) p to) (tt {0}) r
@@ -240,10 +245,7 @@ module _ (a : Parts) (whole : IsWhole a) (p : Pid) (found : Found a p) (ledger :
         record { whole = o.whole; fit = o.fit; extends = o.extends; does = (alive a whole p found, can, h.1, o.is) }
     told law (Err fault.Worn) h = untold (Err fault.Worn) h.1 (alive a whole p found, refl, subst (λ (b : Book). 2 ^ 62 ≤ b.clock) is h.0, refl)
     told law (Err fault.Memory) h = untold (Err fault.Memory) h.1 (alive a whole p found, refl, subst (λ (b : Book). b.clock < 2 ^ 62) is h.0, refl)
-    told law (Err fault.Gone) h = absurd h
-    told law (Err fault.Full) h = absurd h
-    told law (Err fault.Myself) h = absurd h
-    told law (Err fault.NoProc) h = absurd h
+    told law (Err f) h = absurd h
 
   pub said : (to : Pid) (x : Signal) → knows (shard_of a) to ≡ true → IsPlainSignal x → (r : Result (Unit {0}) Fault) → Tells (Said p to x) (tt {0}) ledger r ledger'
       → Acted (Unit {0}) a (told_with ledger'.book) p (Some (Said p to x)) (tt {0}) r
@@ -271,8 +273,7 @@ module _ (a : Parts) (whole : IsWhole a) (l : Letter) (was : ProcessView) (found
 
   pub stops : (s : Stop) → IsStopped l s was ledger now ledger' → (r : Result (Option Pid) Stop) → IsErr r × IsErrAnd r (λ f. f ≡ s)
       → Handles l (shard_of a) r (shard_of (parts_of a.config ledger'.book (with_process a.processes l.to now)))
-  stops Worn h (Ok x) err = absurd (cc)
-  stops Memory h (Ok x) err = absurd (cc)
+  stops s h (Ok x) err = absurd (cc)
   stops Worn h (Err f) err =
       subst (λ x. Handles l (shard_of a) (Err x) (shard_of (parts_of a.config ledger'.book (with_process a.processes l.to now)))) (sym err.1)
       (subst (λ (b : Book). 2 ^ 62 ≤ max b.clock l.stamp) is h.0, (stopped Worn h).is)
@@ -300,9 +301,6 @@ module _ (a : Parts) (whole : IsWhole a) (p : Pid) (was : ProcessView) (found : 
   -- what it owes goes to desks of the node
   pub near_peers : Every (λ q. q.shard < length a.book.outbox) (peers_held was.state)
   near_peers = peers_near a whole p (acting a whole p was found)
-
-  pub few_boxes : length a.book.outbox ≤ 64
-  few_boxes = let k = whole.sound.fit.boxes in let n = whole.sound.fit.settings.desks in omega (arith, k, n)
 
   -- it was given back as it was
   module _ (now : ProcessView) (me : now.me ≡ was.me) (state : now.state ≡ was.state) where
@@ -363,29 +361,18 @@ module _ (a : Parts) (whole : IsWhole a) (par : Pid) (was : ProcessView) (found 
   pub no_room : (f : Fault) → PreparesBirth asked was ledger (Err f) now ledger' → Unchanged a before
   no_room fault.Worn h = kept_still a whole par was found ledger'.book now h.1.0 h.1.1 (h.1.2 ∙ is)
   no_room fault.Memory h = kept_still a whole par was found ledger'.book now h.1.0 h.1.1 (h.1.2 ∙ is)
-  no_room fault.Gone h = absurd h
-  no_room fault.Full h = absurd h
-  no_room fault.Myself h = absurd h
-  no_room fault.NoProc h = absurd h
+  no_room f h = absurd h
 
   pub bears_none : IsSome (vacant_at a.processes.desk a.processes.table) → (f : Fault) → PreparesBirth asked was ledger (Err f) now ledger'
       → (r : Result Pid Fault) → IsErr r × IsErrAnd r (λ g. g ≡ f) → BearsChild par asked (shard_of a) r (shard_of before)
-  bears_none free fault.Worn h (Ok q) err = absurd (cc)
-  bears_none free fault.Memory h (Ok q) err = absurd (cc)
-  bears_none free fault.Gone h (Ok q) err = absurd h
-  bears_none free fault.Full h (Ok q) err = absurd h
-  bears_none free fault.Myself h (Ok q) err = absurd h
-  bears_none free fault.NoProc h (Ok q) err = absurd h
+  bears_none free f h (Ok q) err = absurd (cc)
   bears_none free fault.Worn h (Err f) err =
       subst (λ x. BearsChild par asked (shard_of a) (Err x) (shard_of before)) (sym err.1)
       (alive a whole par (acting a whole par was found), subst (λ (b : Book). 2 ^ 62 ≤ b.clock) is h.0, (no_room fault.Worn h).is)
   bears_none free fault.Memory h (Err f) err =
       subst (λ x. BearsChild par asked (shard_of a) (Err x) (shard_of before)) (sym err.1)
       (alive a whole par (acting a whole par was found), subst (λ (b : Book). b.clock < 2 ^ 62) is h.0, free, (no_room fault.Memory h).is)
-  bears_none free fault.Gone h (Err f) err = absurd h
-  bears_none free fault.Full h (Err f) err = absurd h
-  bears_none free fault.Myself h (Err f) err = absurd h
-  bears_none free fault.NoProc h (Err f) err = absurd h
+  bears_none free g h (Err f) err = absurd h
 
   module _ (link : Option LinkId) (h : PreparesBirth asked was ledger (Ok link) now ledger') where
     pub ready : Unchanged a before

@@ -11,12 +11,12 @@ use Rattle.pt_signal.specs.declared.item.Pick.{Pick}
 use Rattle.pt_signal.specs.declared.letter.Letter.{Letter}
 use Rattle.pt_signal.specs.declared.reason.Reason.{Reason}
 use Rattle.pt_signal.specs.declared.signal.Signal.{Signal}
-use Rattle.pt_signal.specs.declared.signal.Signal.TheVariants.{Message, Link, Unlink, LinkExit, Monitor, Demonitor, AliveAsk, AliveSay}
-use Rattle.pt_signal.specs.Values.{same_pid, fits, without_first}
+use Rattle.pt_signal.specs.declared.signal.Signal.TheVariants.{Message}
+use Rattle.pt_signal.specs.Values.{same_pid, fits, without_first, same_ref}
 use Rattle.pt_signal.specs.Process.{ProcessState, say, sent, estate}
 use Rattle.pt_events.specs.declared.event.Event.{Event}
 use Rattle.pt_events.specs.declared.event.Event.TheVariants.{Said, Took, Flag, Left}
-use Rattle.pt_events.specs.History.{Start, Phase, unborn, living, ended, is_living, life, touches, is_unborn, left_sends, sent_by, MaySay}
+use Rattle.pt_events.specs.History.{Start, Phase, unborn, living, ended, is_living, life, touches, is_unborn, left_sends, sent_by, MaySay, made_link, made_ref}
 use Rattle.pt_events.specs.Journal.{letter, IsHome, MayHere, IsNewAt, IsKnown}
 use Rattle.pt_events.proofs.Steps.{said, took, flagged, left}
 use Rattle.pt_slots.specs.declared.Key.{Key}
@@ -32,16 +32,13 @@ use Rattle.pt_shard.specs.Fit.{IsFit}
 use Rattle.pt_shard.specs.Plain.{IsPlainSignal}
 use Rattle.pt_shard.specs.Known.{knows}
 use Rattle.pt_shard.specs.LedgerState.{Book, wrote}
-use Rattle.pt_shard.specs.Sound.{IsNear, of_phase, live_process}
+use Rattle.pt_shard.specs.Sound.{IsNear, of_phase, live_process, Every}
 use Rattle.pt_shard.specs.Processes.{Table, ProcessesState, seen_process, process_at, in_place, changed, is_place_of, pid_of_key, vacant_at, Puts, Changes, Ends, SameSettings}
 use Rattle.pt_shard.specs.Whole.{Parts, parts_of, shard_of, IsWhole}
 use Rattle.pt_signal.specs.declared.ids.Ref.{Ref}
 use Rattle.pt_signal.specs.declared.ids.LinkId.{LinkId}
 use Rattle.std.specs.Map.{lookup}
-use Rattle.pt_signal.specs.Values.{same_ref}
-use Rattle.pt_events.specs.History.{made_link, made_ref}
 use Rattle.pt_shard.specs.Calls.{new_link, new_ref}
-use Rattle.pt_shard.specs.Sound.{Every}
 use Rattle.pt_shard.proofs.Fresh.{fresh_link, fresh_ref}
 use Rattle.pt_shard.specs.Begun.{IsNearPhase}
 use Rattle.pt_shard.proofs.Near.{near_life, not_open, open_at, IsOpen}
@@ -121,38 +118,17 @@ owes_is p r owing old new s stands ends = subst (λ o. IfSome o (λ x. owing ≡
 pub plain_may : (start : Start) (past : List Event) (s : ProcessState) (a b : Pid) (x : Signal) → IsPlainSignal x → MaySay start past s a b x
 plain_may start past s a b (Message body) h = tt
 plain_may start past s a b (Signal.Exit reason) h = tt
-plain_may start past s a b (Link i) h = absurd h
-plain_may start past s a b (Unlink ids) h = absurd h
-plain_may start past s a b (LinkExit ids r) h = absurd h
-plain_may start past s a b (Monitor m) h = absurd h
-plain_may start past s a b (Demonitor m) h = absurd h
-plain_may start past s a b (Signal.Down m r) h = absurd h
-plain_may start past s a b (AliveAsk m) h = absurd h
-plain_may start past s a b (AliveSay m y) h = absurd h
+plain_may start past s a b x h = absurd h
 
 pub plain_new : (d n : ℕ) (a b : Pid) (x : Signal) → IsPlainSignal x → IsNewAt d n (Said a b x)
 plain_new d n a b (Message body) h = tt
 plain_new d n a b (Signal.Exit reason) h = tt
-plain_new d n a b (Link i) h = absurd h
-plain_new d n a b (Unlink ids) h = absurd h
-plain_new d n a b (LinkExit ids r) h = absurd h
-plain_new d n a b (Monitor m) h = absurd h
-plain_new d n a b (Demonitor m) h = absurd h
-plain_new d n a b (Signal.Down m r) h = absurd h
-plain_new d n a b (AliveAsk m) h = absurd h
-plain_new d n a b (AliveSay m y) h = absurd h
+plain_new d n a b x h = absurd h
 
 pub plain_changes : (p to : Pid) (x : Signal) (table : Table) → IsPlainSignal x → Changes p (λ me s. say s to x) table table
 plain_changes p to (Message body) table h = left_alone p table
 plain_changes p to (Signal.Exit reason) table h = left_alone p table
-plain_changes p to (Link i) table h = absurd h
-plain_changes p to (Unlink ids) table h = absurd h
-plain_changes p to (LinkExit ids r) table h = absurd h
-plain_changes p to (Monitor m) table h = absurd h
-plain_changes p to (Demonitor m) table h = absurd h
-plain_changes p to (Signal.Down m r) table h = absurd h
-plain_changes p to (AliveAsk m) table h = absurd h
-plain_changes p to (AliveSay m y) table h = absurd h
+plain_changes p to x table h = absurd h
 
 -- what an event leaves -------------------------------------------------------------------
 

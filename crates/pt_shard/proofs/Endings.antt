@@ -11,7 +11,7 @@ use Rattle.pt_signal.specs.declared.ids.Ids.{Ids}
 use Rattle.pt_signal.specs.declared.ids.Ref.{Ref}
 use Rattle.pt_signal.specs.declared.reason.Reason.{Reason}
 use Rattle.pt_signal.specs.declared.signal.Signal.{Signal}
-use Rattle.pt_signal.specs.declared.signal.Signal.TheVariants.{Message, Link, Unlink, LinkExit, Monitor, Demonitor, AliveAsk, AliveSay}
+use Rattle.pt_signal.specs.declared.signal.Signal.TheVariants.{LinkExit, Demonitor}
 use Rattle.pt_signal.specs.Values.{same_pid, same_ref}
 use Rattle.pt_signal.specs.Process.{ProcessState, Sent, Handled, held, holds_any, handle, obey, Verdict, drops, queues, ends, verdict, link_exit, down, sent, estate}
 use Rattle.pt_events.proofs.Phases.{each_branch}
@@ -68,13 +68,7 @@ module _ (P : Pid → Bool) (me : Pid) (s : ProcessState) (from : Pid) (r : Reas
 
   -- a signal that ends a process adds nothing to what it owes
   pub fewer_owed : (x : Signal) → IsFewer (handle me s from x)
-  fewer_owed (Message b) h = absurd (cc)
-  fewer_owed (Link i) h = absurd (cc)
-  fewer_owed (Unlink ids) h = absurd (cc)
   fewer_owed (Signal.Exit why) h = let e = obeyed (verdict false s.traps (same_pid from me) from why) s r h in rw e (omega arith)
   fewer_owed (LinkExit ids why) h = fewer_link_exit (holds_any (held s.links from) ids) why h
-  fewer_owed (Monitor m) h = absurd (cc)
-  fewer_owed (Demonitor m) h = absurd (cc)
   fewer_owed (Signal.Down m why) h = fewer_down (lookup (same_ref m) s.watching) m why h
-  fewer_owed (AliveAsk m) h = absurd (cc)
-  fewer_owed (AliveSay m x) h = absurd (cc)
+  fewer_owed x h = absurd (cc)

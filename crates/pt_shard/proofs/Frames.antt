@@ -1,5 +1,5 @@
 -- One event changes what the journal has of one process.
-use Rattle.std.proofs.Common.{◌≡◌, Bool, true, false, cond, ◌∷◌, Option, Some, None, refl, sym, ap, ◌∙◌, subst}
+use Rattle.std.proofs.Common.{◌≡◌, Bool, true, false, cond, ◌∷◌, Option, Some, None, refl, sym, ap, ◌∙◌}
 use Rattle.pt_signal.specs.declared.pid.Pid.{Pid}
 use Rattle.pt_signal.specs.Values.{same_pid}
 use Rattle.pt_signal.specs.Process.{ProcessState}
@@ -26,14 +26,6 @@ module _ (start : Start) (before : Past) (e : Event) (p : Pid) (alone : (q : Pid
       go : (b : Bool) → same_pid q p ≡ b → other q ≡ cond (same_pid q p) (live_process start (e ∷ before) p) (read q) → other q ≡ live_process start (e ∷ before) q
       go true h k = let at : other q ≡ live_process start (e ∷ before) p = rw h at k in at ∙ ap (live_process start (e ∷ before)) (sym (same_pid_is q p h))
       go false h k = let at : other q ≡ read q = rw h at k in at ∙ same q ∙ sym (others q h)
-
-  -- nothing changes
-  pub put_none : (read : Reading) → ((q : Pid) → read q ≡ live_process start before q) → live_process start (e ∷ before) p ≡ live_process start before p → (q : Pid) → read q ≡ live_process start (e ∷ before) q
-  put_none read same still q = go (same_pid q p) refl
-    where
-      go : (b : Bool) → same_pid q p ≡ b → read q ≡ live_process start (e ∷ before) q
-      go true h = subst (λ x. read x ≡ live_process start (e ∷ before) x) (sym (same_pid_is q p h)) (same p ∙ sym still)
-      go false h = same q ∙ sym (others q h)
 
 abbrev state_or : ProcessState → Option (Pid × ProcessState) → ProcessState
 state_or t None = t

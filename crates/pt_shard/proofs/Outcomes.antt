@@ -50,6 +50,4 @@ monitors w t old new other (Ok m) h = (other, h)
 monitors w t old new other (Err fault.Gone) h = h
 monitors w t old new other (Err fault.Worn) h = (h.0, other, h.2, h.3)
 monitors w t old new other (Err fault.Memory) h = (h.0, other, h.2, h.3)
-monitors w t old new other (Err fault.Full) h = absurd h
-monitors w t old new other (Err fault.Myself) h = absurd h
-monitors w t old new other (Err fault.NoProc) h = absurd h
+monitors w t old new other (Err f) h = absurd h

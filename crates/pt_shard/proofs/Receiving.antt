@@ -14,17 +14,16 @@ use Rattle.pt_events.specs.History.{Phase, unborn, living, ended, life, gets, li
 use Rattle.pt_events.specs.Journal.{letter}
 use Rattle.pt_process.specs.ProcessView.{Owing}
 use Rattle.pt_shard.specs.ShardState as shards
-use Rattle.pt_shard.specs.ShardState.{ShardState, past, came_event, handled, vacated, ended_by, sends}
+use Rattle.pt_shard.specs.ShardState.{past, came_event, vacated, ended_by}
 use Rattle.pt_shard.specs.LedgerState.{Book, wrote}
-use Rattle.pt_shard.specs.Sound.{of_phase, live_process}
+use Rattle.pt_shard.specs.Sound.{of_phase, live_process, Every}
 use Rattle.pt_shard.specs.Processes.{Table, ProcessesState, process_at, in_place, changed, vacant_at, Changes, Ends, SameSettings}
 use Rattle.pt_shard.specs.Deliveries.{Receiver, unless_ended, remains, is_ended_by, letter_replies}
 use Rattle.pt_shard.specs.Whole.{Parts, parts_of, shard_of, IsWhole}
 use Rattle.pt_shard.specs.Backs.{living_back}
 use Rattle.pt_shard.proofs.Births.{issued_kept, issued_same}
 use Rattle.pt_shard.proofs.Frames.{IsPut, put_one}
-use Rattle.pt_signal.specs.declared.signal.Signal.TheVariants.{Message, Link, Unlink, LinkExit, Monitor, Demonitor, AliveAsk, AliveSay}
-use Rattle.pt_shard.specs.Sound.{Every}
+use Rattle.pt_signal.specs.declared.signal.Signal.TheVariants.{AliveAsk}
 use Rattle.pt_shard.proofs.Endings.{fewer_owed, estate_peers}
 use Rattle.pt_process.specs.Peers.{peers_held}
 use Rattle.pt_shard.proofs.Keeps.{IsLawful, sent_near}
@@ -44,14 +43,12 @@ gets_is l (living s) = ended_or_not l.to (handle l.to s l.from l.signal).ending 
 gets_is l (ended r s) = refl
 
 got_is : (l : Letter) (f : Phase) → got_sends f l.to l.from l.signal ≡ letter_replies l (of_phase l.to f)
-got_is l unborn = refl
 got_is l (living s) = refl
-got_is l (ended r s) = refl
+got_is l f = refl
 
 ends_is : (l : Letter) (f : Phase) → shards.is_ended_by f l.to l.from l.signal ≡ is_ended_by l (of_phase l.to f)
-ends_is l unborn = refl
 ends_is l (living s) = refl
-ends_is l (ended r s) = refl
+ends_is l f = refl
 
 -- the receipt --------------------------------------------------------------------------------
 
@@ -147,16 +144,8 @@ module _ (a : Parts) (whole : IsWhole a) (l : Letter) (here : l.to.shard ≡ a.p
 
 -- a signal that ends a process is not answered
 ending_unanswered : (me : Pid) (s : ProcessState) (from : Pid) (x : Signal) (r : Reason) → (handle me s from x).ending ≡ Some r → living_answer me from x ≡ []
-ending_unanswered me s from (Message b) r h = refl
-ending_unanswered me s from (Link i) r h = refl
-ending_unanswered me s from (Unlink ids) r h = refl
-ending_unanswered me s from (Signal.Exit why) r h = refl
-ending_unanswered me s from (LinkExit ids why) r h = refl
-ending_unanswered me s from (Monitor m) r h = refl
-ending_unanswered me s from (Demonitor m) r h = refl
-ending_unanswered me s from (Signal.Down m why) r h = refl
 ending_unanswered me s from (AliveAsk m) r h = absurd (cc)
-ending_unanswered me s from (AliveSay m y) r h = refl
+ending_unanswered me s from x r h = refl
 
 -- a live receiver that ends
 module _ (a : Parts) (whole : IsWhole a) (l : Letter) (here : l.to.shard ≡ a.processes.desk) (near : l.from.shard < a.config.desks) (can : max a.book.clock l.stamp < 2 ^ 62)
@@ -246,15 +235,7 @@ receipt_book a l prepared book back same is =
 
 pub living_back_is : (me from : Pid) (x : Signal) → map (sent me from) (option_to_list (living_back x)) ≡ living_answer me from x
 living_back_is me from (AliveAsk m) = refl
-living_back_is me from (Message b) = refl
-living_back_is me from (Link i) = refl
-living_back_is me from (Unlink ids) = refl
-living_back_is me from (Signal.Exit why) = refl
-living_back_is me from (LinkExit ids why) = refl
-living_back_is me from (Monitor m) = refl
-living_back_is me from (Demonitor m) = refl
-living_back_is me from (Signal.Down m why) = refl
-living_back_is me from (AliveSay m y) = refl
+living_back_is me from x = refl
 
 pub still_in_mid : (a : Parts) (whole : IsWhole a) (l : Letter) (f : Found a l.to) (mid : ProcessesState) → Changes l.to (λ me s. (handle me s l.from l.signal).state) a.processes.table mid.table → IsSome (in_place mid.table l.to)
 still_in_mid a whole l f mid changes =

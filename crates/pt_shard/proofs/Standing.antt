@@ -11,7 +11,6 @@ use Rattle.pt_signal.specs.declared.config.Config.{Config}
 use Rattle.pt_signal.specs.Settings.{IsInRange}
 use Rattle.pt_shard.specs.Opening.{fresh_shard}
 use Rattle.pt_shard.proofs.Vacancy.{next_birth}
-use Rattle.pt_shard.specs.Extends.{Extends}
 use Rattle.pt_shard.specs.Fit.{AreBetween, IsNextBirth}
 use Rattle.pt_shard.specs.LedgerState.{Book}
 use Rattle.pt_shard.specs.Sound.{is_issued}
@@ -52,9 +51,6 @@ module _ (a : Parts) (whole : IsWhole a) (outbox : List (List Letter)) (hold : O
     capacity = whole.capacity;
     top_version = whole.top_version;
   }
-
-  pub moved_extends : Extends (shard_of a) (shard_of moved)
-  moved_extends = record { start = refl; number = refl; config = refl; more = []; journal = refl; known = λ p h. h }
 
 drop_between : (d e count : ℕ) (ls : List Letter) → AreBetween d e ls → AreBetween d e (drop count ls)
 drop_between d e zero ls h = h

@@ -1,6 +1,6 @@
 -- What a process does with the ledger of its desk. No public clause cites this module.
-use Rattle.std.specs.Prelude.{◌≡◌, ℕ, ◌+◌, ◌<◌, ◌≤◌, ◌||◌, max, Bool, cond, List, [], ◌∷◌, length, map, Option, Some}
-use Rattle.std.specs.Prelude.{None, is_some, Result, Ok, Err, ⊤}
+use Rattle.std.specs.Prelude.{◌≡◌, ℕ, ◌+◌, ◌<◌, ◌≤◌, max, Bool, List, [], ◌∷◌, length, map, Option, Some, None}
+use Rattle.std.specs.Prelude.{Result, Ok, Err, ⊤}
 use Rattle.std.specs.Bool.{then_some}
 use Rattle.std.specs.List.{find}
 use Rattle.std.specs.Map.{lookup}
@@ -12,8 +12,8 @@ use Rattle.pt_signal.specs.declared.item.Pick.{Pick}
 use Rattle.pt_signal.specs.declared.letter.Letter.{Letter}
 use Rattle.pt_signal.specs.declared.reason.Reason.{Reason}
 use Rattle.pt_signal.specs.declared.signal.Signal.{Signal}
-use Rattle.pt_signal.specs.declared.signal.Signal.TheVariants.{Link, Unlink, Demonitor}
-use Rattle.pt_signal.specs.Values.{fits, same_pid, same_ref, without_first}
+use Rattle.pt_signal.specs.declared.signal.Signal.TheVariants.{Unlink, Demonitor}
+use Rattle.pt_signal.specs.Values.{fits, same_ref, without_first}
 use Rattle.pt_signal.specs.Process.{ProcessState, held, say, sent, handle}
 use Rattle.pt_events.specs.declared.event.Event.{Event}
 use Rattle.pt_events.specs.declared.event.Event.TheVariants.{Said, Took, Flag}
@@ -56,10 +56,6 @@ ref_after b = record { desk = b.desk; number = b.clock + 1 }
 -- it takes the first item that fits
 abbrev pub taking : Pid → Pick → ProcessState → Option Event
 taking p k s = option_map (Took p k) (find (fits k) s.waiting)
-
--- it makes a link, unless it is the target, or holds a link with it
-abbrev pub linking : Pid → Pid → Book → ProcessState → Option Event
-linking p to b s = cond (same_pid p to || is_some (held s.links to)) None (Some (Said p to (Link (link_after b))))
 
 -- it takes the link back that it holds with the target
 abbrev pub unlinking : Pid → Pid → ProcessState → Option Event

@@ -5,7 +5,7 @@ ghost use Rattle.std.specs.Prelude.{IfSome, IsSome, is_some};
 ghost use Rattle.pt_signal.specs.declared.signal.Signal.{Signal};
 ghost use Rattle.pt_events.specs.declared.event.Event.{Event};
 ghost use Rattle.pt_signal.specs.declared.config.TheConstants.{MAX_DESKS, MAX_STAMP};
-ghost use Rattle.pt_signal.specs.Process.{answer_of_dead, handle};
+ghost use Rattle.pt_signal.specs.Process.{answer_of_dead, handle, held};
 ghost use Rattle.pt_process.specs.Outcome.{Accepts};
 ghost use Rattle.std.specs.List.{find};
 ghost use Rattle.std.specs.Map.{lookup};
@@ -14,7 +14,7 @@ ghost use Rattle.pt_process.specs.Peers.{peers_held};
 ghost use Rattle.pt_shard.specs.Sound.{Every};
 ghost use Rattle.pt_shard.specs.Processes.{in_place};
 ghost use Rattle.pt_shard.specs.Acts.{Acts, Tells, PreparesBirth, TakesIn, GivesBack, PreparesEnding, IsReadyToEnd};
-ghost use Rattle.pt_shard.specs.Acts.{EndsBy, taking, linking, unlinking, giving_up, ref_after};
+ghost use Rattle.pt_shard.specs.Acts.{EndsBy, taking, unlinking, giving_up, link_after, ref_after};
 
 use crate::fault::Fault;
 use crate::ledger::Ledger;
@@ -64,20 +64,18 @@ pub(crate) fn set_flag(
     Ok(before)
 }
 
-/// Enters the half of a link that a process keeps, and sends the link to the other, unless there is such a link.
+/// Enters the half of a link that a process keeps, which has none with the other, and sends the link to the other.
 pub(crate) fn keep_link(
     process: &mut Process,
     ledger: &mut Ledger,
     p: Pid,
     to: Pid,
 ) -> Result<(), Fault>
-    requires { to.shard < length ledger.old.book.outbox }
-    ensures { Acts
-        (linking p to ledger.old.book process.old.state) tt process.old ledger.old result process.new ledger.new }
+    requires near { to.shard < length ledger.old.book.outbox }
+    requires new { held process.old.state.links to ≡ None }
+    ensures { Acts (Some (Event.Said p to (Signal.Link (link_after ledger.old.book))))
+        tt process.old ledger.old result process.new ledger.new }
 {
-    if p == to || process.linked(to).is_some() {
-        return Ok(());
-    }
     ledger.prepare_said(0, to)?;
     let id = ledger.next_link();
     process.add_link(to, id)?;

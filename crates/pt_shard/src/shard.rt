@@ -1,7 +1,9 @@
 //! A desk without its lanes.
 
 ghost use Rattle.std.specs.Prelude.{◌≡◌, true, ◌<◌, ◌≤◌, ◌^◌, ◌-◌, min, length, slice_get, Some, None};
-ghost use Rattle.std.specs.Prelude.{IfOk, OnOk, cond, false, is_some, option_to_list, ◌==◌, ◌++◌};
+ghost use Rattle.std.specs.Prelude.{IfOk, OnOk, Ok, Err, cond, false, is_some, option_to_list, ◌==◌, ◌++◌};
+ghost use Rattle.pt_shard.specs.declared.fault.Fault.TheVariants.{Gone, Myself};
+ghost use Rattle.pt_signal.specs.Values.{same_pid};
 ghost use Rattle.std.specs.Option.{option_copied};
 ghost use Rattle.pt_signal.specs.declared.signal.Signal.{Signal};
 ghost use Rattle.pt_events.specs.declared.event.Event.{Event};
@@ -328,6 +330,39 @@ impl Shard {
         ensures extends { Extends self.old self.new }
         ensures fit { IsFit self.new }
     {
+        // read for the proof alone: it says what holds of every shard
+        let _ = self.journal();
+        if !self.has_link_to_make(p, to)? {
+            return Ok(());
+        }
+        self.make_link(p, to)
+    }
+
+    /// Whether p has a link to make: it has none if it is the target, or holds a link with it.
+    ///
+    /// Fails with `Gone` if p does not live here.
+    pub fn has_link_to_make(&self, p: Pid, to: Pid) -> Result<bool, Fault>
+        ensures { result ≡ cond (lives self.now p) (Ok (is_some (link_event self.now p to))) (Err Gone) }
+    {
+        let Some(process) = self.processes.find(p) else {
+            return Err(Fault::Gone);
+        };
+        if p == to {
+            return Ok(false);
+        }
+        Ok(process.linked(to).is_none())
+    }
+
+    /// Makes the link that p has to make, as `has_link_to_make` tells it.
+    ///
+    /// Fails with `Gone`, `Worn` or `Memory`.
+    pub fn make_link(&mut self, p: Pid, to: Pid) -> Result<(), Fault>
+        requires known { knows self.old to ≡ true }
+        requires new { is_some (link_event self.old p to) ≡ true }
+        ensures does { Calls p (link_event self.old p to) tt self.old result self.new }
+        ensures extends { Extends self.old self.new }
+        ensures fit { IsFit self.new }
+    {
         self.expect_known(to);
         let Some(process) = self.processes.find_mut(p) else {
             return Err(Fault::Gone);
@@ -391,13 +426,39 @@ impl Shard {
         ensures extends { Extends self.old self.new }
         ensures fit { IsFit self.new }
     {
+        // read for the proof alone: it says what holds of every shard
+        let _ = self.journal();
+        self.may_monitor(w, t)?;
+        self.make_monitor(w, t)
+    }
+
+    /// Fails if w can have no monitor of t: with `Gone` if w does not live here, with `Myself` if it is the target.
+    pub fn may_monitor(&self, w: Pid, t: Pid) -> Result<(), Fault>
+        ensures { result ≡ cond (lives self.now w) (cond (same_pid w t) (Err Myself) (Ok tt)) (Err Gone) }
+    {
+        if !self.alive_here(w) {
+            return Err(Fault::Gone);
+        }
+        if w == t {
+            return Err(Fault::Myself);
+        }
+        Ok(())
+    }
+
+    /// Opens the monitor that w may have, as `may_monitor` tells it.
+    ///
+    /// Fails with `Gone`, `Worn` or `Memory`.
+    pub fn make_monitor(&mut self, w: Pid, t: Pid) -> Result<Ref, Fault>
+        requires known { knows self.old t ≡ true }
+        requires other { same_pid w t ≡ false }
+        ensures does { Monitors w t self.old result self.new }
+        ensures extends { Extends self.old self.new }
+        ensures fit { IsFit self.new }
+    {
         self.expect_known(t);
         let Some(process) = self.processes.find_mut(w) else {
             return Err(Fault::Gone);
         };
-        if w == t {
-            return Err(Fault::Myself);
-        }
         open_monitor(process, &mut self.ledger, w, t)
     }
 

@@ -73,9 +73,6 @@ pub record Less (item : Item) (old new : Standing) : Type 0 where
   pub kept : (j : ℕ) (q : Pid) → child_at old.children j ≡ Some q → (child_at new.children j ≡ Some q) ⊎ (is_exit_of q item ≡ true)
   pub count : new.started ≡ old.started
 
-some_reason : {X : Type 0} (o : Option Reason) (r : Reason) → o ≡ Some r → o ≡ None → X
-some_reason o r is none = absurd (let bad : Some r ≡ None = sym is ∙ none in cc)
-
 restarted_stop : (allowed : Bool) (now place : ℕ) (s : Standing) → (restarted_child allowed now place s).stopping ≡ None → s.stopping ≡ None
 restarted_stop true now place s h = h
 restarted_stop false now place s h = absurd (cc)

@@ -10,9 +10,6 @@ use Rattle.pt_supervisor.specs.declared.children.Child.{Child}
 use Rattle.pt_supervisor.specs.Children.{AreStarted, NoneLives, bids, last_alive, leaving_in, or_before}
 use Rattle.pt_supervisor.specs.Supervising.{SetsAt, StartsOf, Nursery, StartsFirst, StartsOne}
 
-pub none_started : (children : List Child) → AreStarted children 0
-none_started children place c l at = absurd (omega (arith, l))
-
 pub one_started : (n : ℕ) (answer : Bool) (old new : List Child) → answer ≡ true → SetsAt n answer old new → AreStarted old n → AreStarted new (n + 1)
 one_started n answer old new on s k place c l at = elim (cases_lt place n) [
   | inl e ↦ k place c e (sym (s.others place (λ is. absurd (omega (arith, e, is)))) ∙ at)
@@ -57,8 +54,3 @@ pub first_more : {S B : Type 0} (starts : StartsOf S B) (me : Pid) (n : ℕ) (ol
     → StartsFirst starts me n old mid → StartsOne starts me n mid true new → StartsFirst starts me (n + 1) old new
 first_more starts me n old mid new first one =
     subst (λ (k : ℕ). StartsFirst starts me k old new) (sym (add-one n)) (mid, first, one)
-
--- all of them
-pub first_all : {S B : Type 0} (starts : StartsOf S B) (me : Pid) (n count : ℕ) (old new : Nursery S B)
-    → n ≡ count → StartsFirst starts me n old new → StartsFirst starts me count old new
-first_all starts me n count old new is first = subst (λ (k : ℕ). StartsFirst starts me k old new) is first

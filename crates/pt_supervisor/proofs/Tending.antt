@@ -25,7 +25,7 @@ use Rattle.pt_crew.specs.declared.behaviour.Next.{Next}
 use Rattle.pt_crew.specs.declared.behaviour.Next.TheVariants.{Wait, Proceed, Stop}
 use Rattle.pt_crew.specs.declared.births.Role.{Role}
 use Rattle.pt_crew.specs.Births.{Bore}
-use Rattle.pt_crew.specs.Telling.{IfKnown}
+use Rattle.pt_crew.proofs.Telling.{called_or_same}
 use Rattle.pt_crew.specs.Visiting.{Answers}
 use Rattle.pt_crew.specs.Upholding.{IsLater, IsLeftAlone, ActsFor, ItemIsTaken, AllFirst, IsUpheld, children_by}
 use Rattle.pt_crew.proofs.Waking.{by_cases}
@@ -135,15 +135,17 @@ abbrev KeptAt : {S B : Type 0} → Pid → SupervisorScene S B → Type 0
 KeptAt me s = Kept s.standing.children s.standing.started s.standing.stopping me s.desk.shard
 
 module _ {S B : Type 0} (starts : StartsOf S B) (me : Pid) where
-  known_goes : (p : Pid) (reason : Reason) (known : Bool) (d e : DeskState) (result : Result (Unit {0}) Fault)
-      → IfKnown known (Calls me (Some (Said me p (Signal.Exit reason))) (tt {0}) d.shard result e.shard) d result e → Goes me d.shard e.shard
-  known_goes p reason true d e result h = told_goes me p reason d.shard e.shard result h
-  known_goes p reason false d e result h = goes_is me d.shard e.shard (ap (λ (x : DeskState). x.shard) h.1)
+  abbrev BidsOn : Pid → Reason → DeskState → DeskState → Result (Unit {0}) Fault → Type 0
+  BidsOn p reason d e r = Calls me (Some (Said me p (Signal.Exit reason))) (tt {0}) d.shard r e.shard
 
-  known_kept : (p : Pid) (reason : Reason) (known : Bool) (d e : DeskState) (result : Result (Unit {0}) Fault) (children : List Child) (started : ℕ) (stopping : Option Reason)
-      → IfKnown known (Calls me (Some (Said me p (Signal.Exit reason))) (tt {0}) d.shard result e.shard) d result e → Kept children started stopping me d.shard → Kept children started stopping me e.shard
-  known_kept p reason true d e result children started stopping h k = told_kept me p reason children started stopping d.shard e.shard result h k
-  known_kept p reason false d e result children started stopping h k = kept_is children started stopping me d.shard e.shard (ap (λ (x : DeskState). x.shard) h.1) k
+  bid_goes : (p : Pid) (reason : Reason) (d e : DeskState) → ((r : Result (Unit {0}) Fault) × BidsOn p reason d e r) ⊎ (e ≡ d) → Goes me d.shard e.shard
+  bid_goes p reason d e (inl (r, h)) = told_goes me p reason d.shard e.shard r h
+  bid_goes p reason d e (inr same) = goes_is me d.shard e.shard (ap (λ (x : DeskState). x.shard) same)
+
+  bid_kept : (p : Pid) (reason : Reason) (d e : DeskState) (children : List Child) (started : ℕ) (stopping : Option Reason)
+      → ((r : Result (Unit {0}) Fault) × BidsOn p reason d e r) ⊎ (e ≡ d) → Kept children started stopping me d.shard → Kept children started stopping me e.shard
+  bid_kept p reason d e children started stopping (inl (r, h)) k = told_kept me p reason children started stopping d.shard e.shard r h k
+  bid_kept p reason d e children started stopping (inr same) k = kept_is children started stopping me d.shard e.shard (ap (λ (x : DeskState). x.shard) same) k
 
   settles_goes : (stopping : Option Reason) (old : SupervisorScene S B) (next : Next) (new : SupervisorScene S B) → SupervisorSettles starts me stopping old next new → Goes me old.desk.shard new.desk.shard
   settles_goes (Some r) old next new h = goes_is me old.desk.shard new.desk.shard (ap (λ (x : SupervisorScene S B). x.desk.shard) h.1)
@@ -157,13 +159,13 @@ module _ {S B : Type 0} (starts : StartsOf S B) (me : Pid) where
       (subst (λ (o : Option Reason). Kept old.standing.children old.standing.started o me old.desk.shard) is k))
 
   advances_goes : (last : Option (Pid × Reason)) (old : SupervisorScene S B) (next : Next) (new : SupervisorScene S B) → AdvancesAs starts me last old next new → Goes me old.desk.shard new.desk.shard
-  advances_goes (Some (p, reason)) old next new h = known_goes p reason (knows old.desk.shard p) old.desk new.desk h.result h.signal
+  advances_goes (Some (p, reason)) old next new h = bid_goes p reason old.desk new.desk (called_or_same (knows old.desk.shard p) (BidsOn p reason old.desk new.desk) old.desk h.result new.desk h.signal)
   advances_goes None old next new h = settles_goes old.standing.stopping old next new h
 
   advances_kept : (last : Option (Pid × Reason)) (old : SupervisorScene S B) (next : Next) (new : SupervisorScene S B) → AdvancesAs starts me last old next new → KeptAt me old → KeptAt me new
   advances_kept (Some (p, reason)) old next new h k =
       subst (λ (s : Standing). Kept s.children s.started s.stopping me new.desk.shard) (sym h.same.1)
-      (known_kept p reason (knows old.desk.shard p) old.desk new.desk h.result old.standing.children old.standing.started old.standing.stopping h.signal k)
+      (bid_kept p reason old.desk new.desk old.standing.children old.standing.started old.standing.stopping (called_or_same (knows old.desk.shard p) (BidsOn p reason old.desk new.desk) old.desk h.result new.desk h.signal) k)
   advances_kept None old next new h k = settles_kept old.standing.stopping old next new refl h k
 
 -- what it makes of an item -----------------------------------------------------------------------------

@@ -42,6 +42,10 @@ standing s = record {
   started = s.started;
 }
 
+-- what its program says of its children
+abbrev pub program_of : {S : Type 0} → Supervisor S → S
+program_of s = s.start
+
 -- a new supervisor: nobody is to end, and nobody was started
 abbrev pub begun : Strategy → List Child → Limit → Standing
 begun strategy children limit = record {

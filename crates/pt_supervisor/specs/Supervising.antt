@@ -16,13 +16,16 @@ use Rattle.pt_desk.specs.DeskState.{DeskState}
 use Rattle.pt_crew.specs.declared.behaviour.Next.{Next}
 use Rattle.pt_crew.specs.declared.behaviour.Next.TheVariants.{Wait, Proceed, Stop}
 use Rattle.pt_crew.specs.declared.births.Role.{Role}
-use Rattle.pt_crew.specs.Births.{Bore}
+use Rattle.pt_crew.specs.declared.births.Births.{Births}
+use Rattle.pt_crew.specs.Births.{Bore, born}
+use Rattle.pt_crew.specs.declared.call_fault.CallFault.{CallFault}
 use Rattle.pt_crew.specs.Telling.{IfKnown}
 use Rattle.pt_supervisor.specs.declared.children.Child.{Child}
 use Rattle.pt_supervisor.specs.declared.restart.Restart.{Restart}
 use Rattle.pt_supervisor.specs.Children.{AreStarted, NoneLives, PermanentAreWanted}
 use Rattle.pt_supervisor.specs.Children.{is_missing, last_alive}
-use Rattle.pt_supervisor.specs.Hearing.{Standing, heard}
+use Rattle.pt_supervisor.specs.declared.supervisor.Supervisor.{Supervisor}
+use Rattle.pt_supervisor.specs.Hearing.{Standing, heard, program_of, standing}
 
 -- the program's `Start`: it before, the supervisor, the place, what it answers, and it afterwards
 abbrev pub StartsOf : Type 0 → Type 0 → Type 1
@@ -98,6 +101,9 @@ pub record SupervisorScene (S B : Type 0) : Type 0 where
   pub desk : DeskState
   pub born : List (Role B)
 
+abbrev pub supervisor_scene : {S B : Type 0} → Supervisor S → DeskState → Births B → SupervisorScene S B
+supervisor_scene s d births = record { start = program_of s; standing = standing s; desk = d; born = born births }
+
 abbrev pub nursery : {S B : Type 0} → SupervisorScene S B → Nursery S B
 nursery s = record {
   start = s.start;
@@ -108,16 +114,16 @@ nursery s = record {
 }
 
 -- it waits for the end of one whom it has told to end, and tries again where that was refused
-abbrev pub after_bid : Pid → Result (Unit {0}) Fault → Next
+abbrev pub after_bid : Pid → Result (Unit {0}) CallFault → Next
 after_bid p (Ok done) = Wait (Pick.ExitOf p)
 after_bid p (Err f) = Proceed
 
 -- it tells one to end, by an exit signal
 pub record Bids {S B : Type 0} (me p : Pid) (reason : Reason) (old : SupervisorScene S B) (next : Next) (new : SupervisorScene S B)
     : Type 0 where
-  pub result : Result (Unit {0}) Fault
+  pub result : Result (Unit {0}) CallFault
   pub signal : IfKnown (knows old.desk.shard p)
-      (Calls me (Some (Said me p (Signal.Exit reason))) (tt {0}) old.desk.shard result new.desk.shard) old.desk result
+      (λ r. Calls me (Some (Said me p (Signal.Exit reason))) (tt {0}) old.desk.shard r new.desk.shard) old.desk result
       new.desk
   pub next_is : next ≡ after_bid p result
   pub same : (new.start ≡ old.start) × (new.standing ≡ old.standing) × (new.born ≡ old.born)

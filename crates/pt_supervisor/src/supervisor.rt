@@ -9,7 +9,7 @@ ghost use Rattle.pt_crew.specs.declared.behaviour.Next.{Next};
 use crate::children::{Child, is_process, last_alive, place_of};
 use crate::limit::Limit;
 use crate::restart::{Restart, Strategy};
-use pt_crew::{Births, Next, bear, bid_exit, trap};
+use pt_crew::{Births, Next, exit_signal, spawn_child, trap};
 use pt_node::{Desk, Fault, Item, Pick, Pid, Reason};
 
 /// What the children of a supervisor do, as the program says.
@@ -50,16 +50,16 @@ impl<S> Supervisor<S> {
     ghost use Rattle.pt_crew.specs.Births.{born, kept_roles};
     ghost use Rattle.pt_crew.specs.Visiting.{takes};
     ghost use Rattle.pt_supervisor.specs.Children.{AreStarted, PermanentAreWanted};
-    ghost use Rattle.pt_supervisor.specs.Hearing.{begun, heard, lost, standing, started_again, stopped};
+    ghost use Rattle.pt_supervisor.specs.Hearing.{begun, heard, lost, program_of, standing, started_again, stopped};
     ghost use Rattle.pt_supervisor.specs.Supervising.{Advances, SupervisorAttends, SupervisorHandles, SetsAt, StartsAll};
-    ghost use Rattle.pt_supervisor.specs.Supervising.{StartsOne, Supervises};
+    ghost use Rattle.pt_supervisor.specs.Supervising.{StartsOne, Supervises, nursery, supervisor_scene};
     ghost use Rattle.pt_supervisor.specs.Keeping.{BearsFrom, Tends};
 
     /// A supervisor of these children, each with the rule by which it is started again. It has no parent: see
     /// [`Supervisor::under`].
     pub fn new(start: S, strategy: Strategy, children: Vec<Child>, limit: Limit) -> Supervisor<S>
         ensures standing { standing result ≡ begun strategy children.items limit }
-        ensures start { result.start ≡ start }
+        ensures start { program_of result ≡ start }
     {
         let ending = children.len();
         Supervisor {
@@ -80,7 +80,7 @@ impl<S> Supervisor<S> {
     /// If another supervisor starts it, the parent is the `supervisor` of [`Start::start`].
     pub fn under(self, parent: Pid) -> Supervisor<S>
         ensures standing { standing result ≡ record (standing self) { parent = Some parent } }
-        ensures start { result.start ≡ self.start }
+        ensures start { program_of result ≡ program_of self }
     {
         let Supervisor {
             start,
@@ -122,7 +122,7 @@ impl<S> Supervisor<S> {
     /// does so from the next item that it handles, or when it next proceeds.
     pub fn stop(&mut self, reason: Reason)
         ensures standing { standing self.new ≡ stopped reason (standing self.old) }
-        ensures start { self.new.start ≡ self.old.start }
+        ensures start { program_of self.new ≡ program_of self.old }
     {
         self.ending = 0;
         self.stopping = Some(reason);
@@ -143,9 +143,9 @@ impl<S> Supervisor<S> {
     where
         S: Start<B>,
         ensures does { SupervisorHandles S.starts me item
-            (record { start = self.old.start; standing = standing self.old; desk = desk.old; born = born births.old })
+            (supervisor_scene self.old desk.old births.old)
             result
-            (record { start = self.new.start; standing = standing self.new; desk = desk.new; born = born births.new }) }
+            (supervisor_scene self.new desk.new births.new) }
         ensures supervises { Supervises result (standing self.new) }
         ensures tends { Tends me item (standing self.old) desk.old.shard result (standing self.new) desk.new.shard }
         ensures bears { BearsFrom S.starts me (born births.old) (born births.new) }
@@ -167,7 +167,7 @@ impl<S> Supervisor<S> {
         ensures does { SupervisorAttends me item (standing self.old) desk.old result (standing self.new) desk.new }
         ensures permanent { PermanentAreWanted (standing self.old).children
             → PermanentAreWanted (standing self.new).children }
-        ensures start { self.new.start ≡ self.old.start }
+        ensures start { program_of self.new ≡ program_of self.old }
         ensures takes { takes desk.new.shard.journal ≡ takes desk.old.shard.journal }
         ensures goes_on { GoesOn desk.old desk.new }
     {
@@ -184,7 +184,7 @@ impl<S> Supervisor<S> {
     /// Notes that a process has exited, and what is to be done about it.
     fn hear(&mut self, now: u64, from: Pid, reason: Reason)
         ensures standing { standing self.new ≡ heard now from reason (standing self.old) }
-        ensures start { self.new.start ≡ self.old.start }
+        ensures start { program_of self.new ≡ program_of self.old }
     {
         if is_process(self.parent, from) {
             self.stop(reason);
@@ -200,7 +200,7 @@ impl<S> Supervisor<S> {
         requires { place < length (standing self.old).children }
         ensures standing { standing self.new
             ≡ lost now reason place (slice_get (standing self.old).children place) (standing self.old) }
-        ensures start { self.new.start ≡ self.old.start }
+        ensures start { program_of self.new ≡ program_of self.old }
     {
         let bidden = place >= self.ending;
         let child = self.children[place];
@@ -224,7 +224,7 @@ impl<S> Supervisor<S> {
     fn restart(&mut self, now: u64, place: usize)
         requires { 0 < self.old.ending }
         ensures standing { standing self.new ≡ started_again true now place (standing self.old) }
-        ensures start { self.new.start ≡ self.old.start }
+        ensures start { program_of self.new ≡ program_of self.old }
     {
         if self.limit.allows(now) {
             self.ending = self.strategy.ends_from(place, self.children.len());
@@ -239,9 +239,9 @@ impl<S> Supervisor<S> {
     where
         S: Start<B>,
         ensures does { Advances S.starts me
-            (record { start = self.old.start; standing = standing self.old; desk = desk.old; born = born births.old })
+            (supervisor_scene self.old desk.old births.old)
             result
-            (record { start = self.new.start; standing = standing self.new; desk = desk.new; born = born births.new }) }
+            (supervisor_scene self.new desk.new births.new) }
         ensures supervises { Supervises result (standing self.new) }
         ensures permanent { PermanentAreWanted (standing self.old).children
             → PermanentAreWanted (standing self.new).children }
@@ -250,7 +250,7 @@ impl<S> Supervisor<S> {
         ensures goes_on { GoesOn desk.old desk.new }
     {
         if let Some((pid, reason)) = last_alive(self.children.as_slice(), self.ending) {
-            return match bid_exit(desk, me, pid, reason) {
+            return match exit_signal(desk, me, pid, reason) {
                 Ok(()) => Next::Wait(Pick::ExitOf(pid)),
                 Err(_) => Next::Proceed,
             };
@@ -271,21 +271,9 @@ impl<S> Supervisor<S> {
     where
         S: Start<B>,
         ensures does { StartsAll S.starts me (length (standing self.old).children)
-            (record {
-              start = self.old.start;
-              children = (standing self.old).children;
-              started = (standing self.old).started;
-              desk = desk.old.shard;
-              born = born births.old;
-            })
+            (nursery (supervisor_scene self.old desk.old births.old))
             result
-            (record {
-              start = self.new.start;
-              children = (standing self.new).children;
-              started = (standing self.new).started;
-              desk = desk.new.shard;
-              born = born births.new;
-            }) }
+            (nursery (supervisor_scene self.new desk.new births.new)) }
         ensures rest { standing self.new ≡ record (standing self.old) {
           children = (standing self.new).children;
           started = (standing self.new).started;
@@ -319,21 +307,9 @@ impl<S> Supervisor<S> {
         S: Start<B>,
         requires { place < length (standing self.old).children }
         ensures does { StartsOne S.starts me place
-            (record {
-              start = self.old.start;
-              children = (standing self.old).children;
-              started = (standing self.old).started;
-              desk = desk.old.shard;
-              born = born births.old;
-            })
+            (nursery (supervisor_scene self.old desk.old births.old))
             result
-            (record {
-              start = self.new.start;
-              children = (standing self.new).children;
-              started = (standing self.new).started;
-              desk = desk.new.shard;
-              born = born births.new;
-            }) }
+            (nursery (supervisor_scene self.new desk.new births.new)) }
         ensures rest { standing self.new ≡ record (standing self.old) {
           children = (standing self.new).children;
           started = (standing self.new).started;
@@ -350,7 +326,7 @@ impl<S> Supervisor<S> {
         let Ok((behaviour, first)) = self.start.start(me, place) else {
             return false;
         };
-        let Ok(pid) = bear(desk, births, me, true, behaviour, first) else {
+        let Ok(pid) = spawn_child(desk, births, me, true, behaviour, first) else {
             return false;
         };
         self.children[place] = Child {

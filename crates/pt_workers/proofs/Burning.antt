@@ -30,9 +30,6 @@ pub record Burns (k : ℕ) (old new : DeskState) : Type 0 where
 same_burns : (old new : DeskState) → new.shard.clock ≡ old.shard.clock → events_of new ≡ events_of old → Burns 0 old new
 same_burns old new clock events = record { events = omega (arith, events); room = omega (arith, clock) }
 
-burns_then : (m n : ℕ) (a b c : DeskState) → Burns m a b → Burns n b c → Burns (m + n) a c
-burns_then m n a b c f g = record { events = omega (arith, f.events, g.events); room = omega (arith, f.room, g.room) }
-
 fetched_burns : (l : Letter) (old new : DeskState) → Fetches l old new → Burns 0 old new
 fetched_burns l old new f =
     same_burns old new

@@ -22,15 +22,16 @@ const A: Pid = Pid {
 fn has_nobody(rt: &impl Abort, node: &Node) {
     assert_eq!(rt; node.count(), 1);
     assert_eq!(rt; node.config(), ONE_DESK);
-    assert_eq!(rt; node.len(0), Some(0));
-    assert_eq!(rt; node.vacant(0), Some(A));
-    assert_eq!(rt; node.lives_in(0, 0), None);
+    let desk = node.desk(0).expect(rt, "a desk");
+    assert_eq!(rt; desk.len(), 0);
+    assert_eq!(rt; desk.vacant(), Some(A));
+    assert_eq!(rt; desk.lives_in(0), None);
 }
 
 /// One process lives there, and has done nothing yet.
 fn has_one(rt: &impl Abort, node: &Node) {
     assert!(rt; node.alive(A));
-    assert_eq!(rt; node.lives_in(0, 0), Some(A));
+    assert_eq!(rt; node.desk(0).expect(rt, "a desk").lives_in(0), Some(A));
     assert_eq!(rt; node.linked(A, A), None);
     assert_eq!(rt; node.waiting(A).expect(rt, "alive").len(), 0);
     assert_eq!(rt; node.process(A).expect(rt, "alive").links_len(), 0);

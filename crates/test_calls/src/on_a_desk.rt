@@ -7,7 +7,7 @@ use crate::upheld::{Listener, never_stops};
 use example_uses::game::{Game, HIT};
 use example_uses::payloads::Texts;
 use example_uses::steps;
-use pt_crew::{Behaviour, Births, Crew, Next, join, part, tell};
+use pt_crew::{Behaviour, Births, Crew, Next, link, send, unlink};
 use pt_node::{
     Body, Config, Desk, FreeGate, Item, Pick, Pid, Reason, Takes, Work, open, take_each,
 };
@@ -157,9 +157,9 @@ fn waits(rt: &impl Abort, crew: &mut Crew<Once>, desk: &mut Desk) -> Pid
 fn leaves(rt: &impl Abort, crew: &mut Crew<Once>, desk: &mut Desk, p: Pid)
     ensures { IsStill desk.old desk.new }
 {
-    assert_eq!(rt; join(desk, p, p), Ok(()));
-    assert_eq!(rt; part(desk, p, p), Ok(()));
-    assert_eq!(rt; tell(desk, p, p, HELLO), Ok(()));
+    assert_eq!(rt; link(desk, p, p), Ok(()));
+    assert_eq!(rt; unlink(desk, p, p), Ok(()));
+    assert_eq!(rt; send(desk, p, p, HELLO), Ok(()));
     let _ = desk.turn(16);
     crew.step(desk);
     crew.step(desk);
@@ -191,9 +191,9 @@ fn take(rt: &impl Abort, desk: &mut Desk)
     ensures { IsStill desk.old desk.new }
 {
     let p = desk.spawn().expect(rt, "memory");
-    assert_eq!(rt; tell(desk, p, p, HELLO), Ok(()));
-    assert_eq!(rt; tell(desk, p, p, HELLO), Ok(()));
-    assert_eq!(rt; tell(desk, p, p, HELLO), Ok(()));
+    assert_eq!(rt; send(desk, p, p, HELLO), Ok(()));
+    assert_eq!(rt; send(desk, p, p, HELLO), Ok(()));
+    assert_eq!(rt; send(desk, p, p, HELLO), Ok(()));
     let _ = desk.turn(16);
     let mut sum = Sum { numbers: 0 };
     assert_eq!(rt; take_each(desk, p, Pick::Any, 2, &mut sum), Ok(2));

@@ -3,9 +3,9 @@
 ghost use Rattle.pt_desk.specs.DeskState.{GoesOn};
 
 use crate::board::DESKS;
-use pt_crew::tell;
+use pt_crew::send;
 use pt_node::{Body, Config, Desk, Item, Node, Pick, Pid, Turned, Work};
-use pt_resting::{Bells, Door, Porter, Post, RestGate, Resting, Rests, way_in};
+use pt_resting::{Bells, Door, Porter, Post, RestGate, RestingWork, Rests, way_in};
 use std::alloc::Global;
 use std::process::Abort;
 use std::sync::Wait;
@@ -102,7 +102,7 @@ impl<'a> Relay<'a> {
     {
         let next = self.me.shard.saturating_add(1);
         if next < DESKS {
-            let _ = tell(desk, self.me, first_of(next), body);
+            let _ = send(desk, self.me, first_of(next), body);
             return;
         }
         self.notes.note(u64::try_from(body.num).unwrap_or(0));
@@ -131,7 +131,7 @@ impl<'a> Rests for Relay<'a> {
     }
 }
 
-type Relaying<'a> = Resting<'a, Porter<Relay<'a>>>;
+type Relaying<'a> = RestingWork<'a, Porter<Relay<'a>>>;
 
 /// What is to be seen: so many messages, one behind the other, and then nothing for so long.
 #[derive(Clone, Copy)]
@@ -172,7 +172,7 @@ fn relaying<'a>(
 ) -> (Door<'a>, Relaying<'a>) {
     let me = first_of(desk);
     let (door, porter) = way_in(alloc, rung, 4, me, 4, Relay { me, notes }).expect(rt, "memory");
-    (door, Resting::new(porter, bells))
+    (door, RestingWork::new(porter, bells))
 }
 
 /// A process on each desk.

@@ -4,4 +4,4 @@ use Rattle.example_scenes.proofs.jobs.hand.Goals as goal
 
 pub returns-clause-goes_on : goal.returns-clause-goes_on
 returns-clause-goes_on c =
-    goes_on_then c.args.desk.now c.watch.new.desk c.reply.new.desk c.watch.ensures.goes_on c.reply.ensures.goes_on
+    goes_on_then c.args.desk.now c.monitor.new.desk c.reply.new.desk c.monitor.ensures.goes_on c.reply.ensures.goes_on

@@ -10,14 +10,14 @@ use Rattle.pt_desk.proofs.desk.Desk.monitor.Goals as goal
 
 pub invariant_of-self : goal.invariant_of-self
 invariant_of-self c =
-    let i = c.self.inside in
+    let i = c.self-2.inside in
     let s = i.shard in
-    step_whole s c.monitor.new.self i.outs i.ins (sight_of (arc_value i.directory) i.seat i.before) i.seat
-    (monitors_step c.args.w c.args.t s c.monitor.result c.monitor.new.self c.monitor.ensures.does) c.self.invariant c.monitor.ensures.fit
+    step_whole s c.make_monitor.new.self i.outs i.ins (sight_of (arc_value i.directory) i.seat i.before) i.seat
+    (monitors_step c.args.w c.args.t s c.make_monitor.result c.make_monitor.new.self c.make_monitor.ensures.does) c.self-2.invariant c.make_monitor.ensures.fit
 
 pub returns-clause-goes_on : goal.returns-clause-goes_on
 returns-clause-goes_on c =
-    let i = c.self.inside in
-    let new = of_parts c.monitor.new.self i.outs i.ins (sight_of (arc_value i.directory) i.seat i.before) in
-    goes_on_then c.args.self.now c.reach.new.self new c.in_ok-reach.ensures.goes_on
-    (subst (λ d. GoesOn d new) c.self.view_is (shard_goes_on i.shard c.monitor.new.self i.outs i.ins (sight_of (arc_value i.directory) i.seat i.before) c.monitor.ensures.extends))
+    let i = c.self-2.inside in
+    let new = of_parts c.make_monitor.new.self i.outs i.ins (sight_of (arc_value i.directory) i.seat i.before) in
+    goes_on_then c.args.self.now c.look.new.self new c.in_ok-look.ensures.goes_on
+    (subst (λ d. GoesOn d new) c.self-2.view_is (shard_goes_on i.shard c.make_monitor.new.self i.outs i.ins (sight_of (arc_value i.directory) i.seat i.before) c.make_monitor.ensures.extends))

@@ -1,9 +1,6 @@
 -- `Node::trap`: the invariant of `self`.
-use Rattle.std.proofs.Common.{arith}
-use Rattle.pt_node.proofs.Calling.{called_desks}
+use Rattle.pt_node.proofs.Calling.{called_at}
 use Rattle.pt_node.proofs.node.Node.trap.Goals as goal
 
-pub invariant_of-self : goal.invariant_of-self
-invariant_of-self c =
-    called_desks c.self.inside.desks.items _ c.index_mut.result.now (omega (arith, c.if-d-len.false, c.len.ensures, c.self.inside.desks.ok.0)) c.index_mut.ensures.value c.self.invariant
-    c.trap.new.self c.trap.ensures.goes_on
+pub invariant_of-self-2 : goal.invariant_of-self-2
+invariant_of-self-2 c = called_at c.self.invariant c.in_ok-desk_at.ensures.desk c.trap.ensures.goes_on

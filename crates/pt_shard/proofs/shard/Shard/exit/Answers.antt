@@ -1,8 +1,9 @@
--- `Shard::exit`: its clauses `near`, `does`, `fit`, `from`, `to`, `letters` and `extends`, and the invariant of `self`, and what its calls of `prepare_end`, `end` and `write_end` ask.
-use Rattle.std.proofs.Common.{◌<◌, ◌^◌, Ok, Some, refl, subst, arith}
+-- `Shard::exit`: its contract, and the invariant of `self`, and what its calls of `prepare_end`, `end` and `write_end` ask.
+use Rattle.std.proofs.Common.{◌≡◌, ◌<◌, ◌^◌, length, map, Ok, Some, refl, subst, arith}
 use Rattle.pt_events.specs.declared.event.Event.TheVariants.{Left}
 use Rattle.pt_process.specs.Peers.{peers_held}
 use Rattle.pt_shard.specs.LedgerState.{HasRoomToAll}
+use Rattle.pt_shard.specs.Sound.{Every}
 use Rattle.pt_shard.specs.Calls.{Calls}
 use Rattle.pt_shard.specs.Extends.{Extends}
 use Rattle.pt_shard.specs.Processes.{with_process}
@@ -11,9 +12,7 @@ use Rattle.pt_shard.proofs.Acted.{Acted, near_peers, still_there, owing_fits, ex
 use Rattle.pt_shard.proofs.shard.Shard.exit.Goals as goal
 
 pub prepare_end-requires-clause-near : goal.prepare_end-requires-clause-near
-prepare_end-requires-clause-near c =
-    let i = c.self.inside in
-    near_peers (parts_of i.config i.ledger.book i.processes) c.self.invariant c.args.p c.in-Some.process.now c.in-Some.ensures.value
+prepare_end-requires-clause-near c = near_peers (parts_of c.self.inside.config c.self.inside.ledger.book c.self.inside.processes) c.self.invariant c.args.p c.in-Some.process.now c.in-Some.ensures.value
 
 -- no room ---------------------------------------------------------------------------------
 
@@ -21,17 +20,16 @@ refused : (c : goal.After-from_residual)
     → Acted (Unit {0}) (parts_of c.self.inside.config c.self.inside.ledger.book c.self.inside.processes)
     (parts_of c.self.inside.config c.prepare_end.new.self.book (with_process c.self.inside.processes c.args.p c.prepare_end.new.process)) c.args.p (Some (Left c.args.p c.args.reason)) (tt {0}) c.from_residual.result
 refused c =
-    let i = c.self.inside in
-    not_exited (parts_of i.config i.ledger.book i.processes) c.self.invariant c.args.p c.in-Some.process.now c.in-Some.ensures.value c.prepare_end.new.process c.prepare_end.ensures.me c.prepare_end.ensures.state
-    c.args.reason (HasRoomToAll (peers_held c.in-Some.process.now.state)) i.ledger c.prepare_end.new.self refl c.in_err-prepare_end.field-0.0 c.in_err-prepare_end.ensures.does c.from_residual.result c.from_residual.ensures
+    not_exited (parts_of c.self.inside.config c.self.inside.ledger.book c.self.inside.processes) c.self.invariant c.args.p c.in-Some.process.now c.in-Some.ensures.value c.prepare_end.new.process c.prepare_end.ensures.me c.prepare_end.ensures.state
+    c.args.reason (HasRoomToAll (peers_held c.in-Some.process.now.state)) c.self.inside.ledger c.prepare_end.new.self refl c.in_err-prepare_end.field-0.0 c.in_err-prepare_end.ensures.does c.from_residual.result c.from_residual.ensures
 
 pub invariant_of-self-in_err-prepare_end : goal.invariant_of-self-in_err-prepare_end
 invariant_of-self-in_err-prepare_end c = (refused c).whole
 
 pub returns-in_err-prepare_end-clause-does : goal.returns-in_err-prepare_end-clause-does
 returns-in_err-prepare_end-clause-does c =
-    let i = c.self.inside in
-    subst (λ d. Calls c.args.p (Some (Left c.args.p c.args.reason)) (tt {0}) d c.from_residual.result (shard_of (parts_of i.config c.prepare_end.new.self.book (with_process i.processes c.args.p c.prepare_end.new.process)))) c.self.view_is (refused c).does
+    subst (λ d. Calls c.args.p (Some (Left c.args.p c.args.reason)) (tt {0}) d c.from_residual.result (shard_of (parts_of c.self.inside.config c.prepare_end.new.self.book (with_process c.self.inside.processes c.args.p c.prepare_end.new.process)))) c.self.view_is
+    (refused c).does
 
 pub returns-in_err-prepare_end-clause-fit : goal.returns-in_err-prepare_end-clause-fit
 returns-in_err-prepare_end-clause-fit c = (refused c).fit
@@ -39,59 +37,37 @@ returns-in_err-prepare_end-clause-fit c = (refused c).fit
 -- it ends ---------------------------------------------------------------------------------
 
 pub end-estate-requires : goal.end-estate-requires
-end-estate-requires c =
-    let i = c.self.inside in
-    still_there (parts_of i.config i.ledger.book i.processes) c.self.invariant c.args.p c.in-Some.process.now c.in-Some.ensures.value c.prepare_end.new.process c.prepare_end.ensures.me c.prepare_end.ensures.state
+end-estate-requires c = still_there (parts_of c.self.inside.config c.self.inside.ledger.book c.self.inside.processes) c.self.invariant c.args.p c.in-Some.process.now c.in-Some.ensures.value c.prepare_end.new.process c.prepare_end.ensures.me c.prepare_end.ensures.state
+
+-- what it owes is its own, goes to desks of the node, and finds room
+owed : (c : goal.After-estate-1) → (c.end-estate.result.from ≡ c.args.p) × Every (λ l. l.to.shard < length c.prepare_end.new.self.book.outbox) c.end-estate.result.owed × HasRoomToAll (map (λ l. l.to) c.end-estate.result.owed) c.prepare_end.new.self
+owed c =
+    owing_fits (parts_of c.self.inside.config c.self.inside.ledger.book c.self.inside.processes) c.self.invariant c.args.p c.in-Some.process.now c.in-Some.ensures.value c.prepare_end.new.process c.prepare_end.ensures.me c.prepare_end.ensures.state
+    c.args.reason c.end-estate.result c.end-estate.new.self c.end-estate.ensures.ends c.prepare_end.new.self c.in_ok-prepare_end.ensures.does.0 c.in_ok-prepare_end.ensures.does.3
 
 pub write_end-requires-clause-from : goal.write_end-requires-clause-from
-write_end-requires-clause-from c =
-    let i = c.self.inside in
-    let fits = owing_fits (parts_of i.config i.ledger.book i.processes) c.self.invariant c.args.p c.in-Some.process.now c.in-Some.ensures.value c.prepare_end.new.process c.prepare_end.ensures.me c.prepare_end.ensures.state
-    c.args.reason c.end-estate.result c.end-estate.new.self c.end-estate.ensures.ends c.prepare_end.new.self c.in_ok-prepare_end.ensures.does.0 c.in_ok-prepare_end.ensures.does.3 in
-    fits.0
+write_end-requires-clause-from c = (owed c).0
 
 pub write_end-requires-clause-to : goal.write_end-requires-clause-to
-write_end-requires-clause-to c =
-    let i = c.self.inside in
-    let fits = owing_fits (parts_of i.config i.ledger.book i.processes) c.self.invariant c.args.p c.in-Some.process.now c.in-Some.ensures.value c.prepare_end.new.process c.prepare_end.ensures.me c.prepare_end.ensures.state
-    c.args.reason c.end-estate.result c.end-estate.new.self c.end-estate.ensures.ends c.prepare_end.new.self c.in_ok-prepare_end.ensures.does.0 c.in_ok-prepare_end.ensures.does.3 in
-    fits.1
+write_end-requires-clause-to c = (owed c).1
 
 pub write_end-requires-clause-letters : goal.write_end-requires-clause-letters
-write_end-requires-clause-letters c =
-    let i = c.self.inside in
-    let fits = owing_fits (parts_of i.config i.ledger.book i.processes) c.self.invariant c.args.p c.in-Some.process.now c.in-Some.ensures.value c.prepare_end.new.process c.prepare_end.ensures.me c.prepare_end.ensures.state
-    c.args.reason c.end-estate.result c.end-estate.new.self c.end-estate.ensures.ends c.prepare_end.new.self c.in_ok-prepare_end.ensures.does.0 c.in_ok-prepare_end.ensures.does.3 in
-    fits.2
+write_end-requires-clause-letters c = (owed c).2
+
+one : (c : goal.Joined-estate-3) → Acted (Unit {0}) (parts_of c.self.inside.config c.self.inside.ledger.book c.self.inside.processes) (parts_of c.self.inside.config c.write_end.new.self.book c.end-estate.new.self) c.args.p (Some (Left c.args.p c.args.reason)) (tt {0}) (Ok (tt {0}))
+one c =
+    let can : c.self.inside.ledger.book.clock < 2 ^ 62 = (let k = c.in_ok-prepare_end.ensures.does.1 in omega arith) in
+    exited (parts_of c.self.inside.config c.self.inside.ledger.book c.self.inside.processes) c.self.invariant c.args.p c.in-Some.process.now c.in-Some.ensures.value c.prepare_end.new.process c.prepare_end.ensures.me c.prepare_end.ensures.state
+    c.args.reason c.end-estate.result c.end-estate.new.self c.end-estate.ensures.desk c.end-estate.ensures.ends can c.prepare_end.new.self.book c.write_end.new.self.book c.in_ok-prepare_end.ensures.does.0 c.write_end.ensures
 
 pub invariant_of-self-2 : goal.invariant_of-self-2
-invariant_of-self-2 c =
-    let i = c.self.inside in
-    let can : i.ledger.book.clock < 2 ^ 62 = (let k = c.in_ok-prepare_end.ensures.does.1 in omega arith) in
-    let one = exited (parts_of i.config i.ledger.book i.processes) c.self.invariant c.args.p c.in-Some.process.now c.in-Some.ensures.value c.prepare_end.new.process c.prepare_end.ensures.me c.prepare_end.ensures.state
-    c.args.reason c.end-estate.result c.end-estate.new.self c.end-estate.ensures.desk c.end-estate.ensures.ends can c.prepare_end.new.self.book c.write_end.new.self.book c.in_ok-prepare_end.ensures.does.0 c.write_end.ensures in
-    one.whole
+invariant_of-self-2 c = (one c).whole
 
-pub returns-clause-does : goal.returns-clause-does
-returns-clause-does c =
-    let i = c.self.inside in
-    let can : i.ledger.book.clock < 2 ^ 62 = (let k = c.in_ok-prepare_end.ensures.does.1 in omega arith) in
-    let one = exited (parts_of i.config i.ledger.book i.processes) c.self.invariant c.args.p c.in-Some.process.now c.in-Some.ensures.value c.prepare_end.new.process c.prepare_end.ensures.me c.prepare_end.ensures.state
-    c.args.reason c.end-estate.result c.end-estate.new.self c.end-estate.ensures.desk c.end-estate.ensures.ends can c.prepare_end.new.self.book c.write_end.new.self.book c.in_ok-prepare_end.ensures.does.0 c.write_end.ensures in
-    subst (λ d. Calls c.args.p (Some (Left c.args.p c.args.reason)) (tt {0}) d (Ok (tt {0})) (shard_of (parts_of i.config c.write_end.new.self.book c.end-estate.new.self))) c.self.view_is one.does
-
-pub returns-clause-extends : goal.returns-clause-extends
-returns-clause-extends c =
-    let i = c.self.inside in
-    let can : i.ledger.book.clock < 2 ^ 62 = (let k = c.in_ok-prepare_end.ensures.does.1 in omega arith) in
-    let one = exited (parts_of i.config i.ledger.book i.processes) c.self.invariant c.args.p c.in-Some.process.now c.in-Some.ensures.value c.prepare_end.new.process c.prepare_end.ensures.me c.prepare_end.ensures.state
-    c.args.reason c.end-estate.result c.end-estate.new.self c.end-estate.ensures.desk c.end-estate.ensures.ends can c.prepare_end.new.self.book c.write_end.new.self.book c.in_ok-prepare_end.ensures.does.0 c.write_end.ensures in
-    subst (λ d. Extends d (shard_of (parts_of i.config c.write_end.new.self.book c.end-estate.new.self))) c.self.view_is one.extends
-
-pub returns-clause-fit : goal.returns-clause-fit
-returns-clause-fit c =
-    let i = c.self.inside in
-    let can : i.ledger.book.clock < 2 ^ 62 = (let k = c.in_ok-prepare_end.ensures.does.1 in omega arith) in
-    let one = exited (parts_of i.config i.ledger.book i.processes) c.self.invariant c.args.p c.in-Some.process.now c.in-Some.ensures.value c.prepare_end.new.process c.prepare_end.ensures.me c.prepare_end.ensures.state
-    c.args.reason c.end-estate.result c.end-estate.new.self c.end-estate.ensures.desk c.end-estate.ensures.ends can c.prepare_end.new.self.book c.write_end.new.self.book c.in_ok-prepare_end.ensures.does.0 c.write_end.ensures in
-    one.fit
+pub returns : goal.returns
+returns c =
+    let new = shard_of (parts_of c.self.inside.config c.write_end.new.self.book c.end-estate.new.self) in
+    record {
+      does = subst (λ d. Calls c.args.p (Some (Left c.args.p c.args.reason)) (tt {0}) d (Ok (tt {0})) new) c.self.view_is (one c).does;
+      extends = subst (λ d. Extends d new) c.self.view_is (one c).extends;
+      fit = (one c).fit;
+    }

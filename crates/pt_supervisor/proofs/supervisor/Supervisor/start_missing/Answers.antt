@@ -1,8 +1,8 @@
 -- `Supervisor::start_missing`: its clauses `goes_on`, `does` and `permanent`, and its loop over `place`.
 use Rattle.std.proofs.Common.{true, refl, ◌∙◌, ap, arith}
 use Rattle.pt_desk.proofs.Turning.{goes_on_then}
-use Rattle.pt_crew.specs.Births.{born}
 use Rattle.pt_supervisor.specs.Hearing.{Standing, standing}
+use Rattle.pt_supervisor.specs.Supervising.{nursery, supervisor_scene}
 use Rattle.pt_supervisor.proofs.Starting.{one_started, first_more}
 use Rattle.pt_supervisor.proofs.supervisor.Supervisor.start_missing.Goals as goal
 
@@ -28,13 +28,7 @@ pub returns-then-not-start_at-clause-does : goal.returns-then-not-start_at-claus
 returns-then-not-start_at-clause-does g c = (
   c.loop-place.place,
   omega arith,
-  record {
-    start = c.loop-place.self.start;
-    children = (standing c.loop-place.self).children;
-    started = (standing c.loop-place.self).started;
-    desk = c.loop-place.desk.shard;
-    born = born c.loop-place.births;
-  },
+  nursery (supervisor_scene c.loop-place.self c.loop-place.desk c.loop-place.births),
   c.loop-place.invariant.does,
   c.if-not-start_at.ensures.does,
 )

@@ -1,28 +1,16 @@
 -- `Supervisor::start_missing`: what holds in its loop over `place`.
 use Rattle.std.proofs.Common.{◌≡◌, length}
 use Rattle.pt_desk.specs.DeskState.{GoesOn}
-use Rattle.pt_crew.specs.Births.{born, kept_roles}
+use Rattle.pt_crew.specs.Births.{kept_roles}
 use Rattle.pt_crew.specs.Visiting.{takes}
 use Rattle.pt_supervisor.specs.Children.{AreStarted, PermanentAreWanted}
 use Rattle.pt_supervisor.specs.Hearing.{standing}
-use Rattle.pt_supervisor.specs.Supervising.{StartsFirst}
+use Rattle.pt_supervisor.specs.Supervising.{StartsFirst, nursery, supervisor_scene}
 use Rattle.pt_supervisor.proofs.supervisor.Supervisor.start_missing.Given as goal
 
 abbrev pub invariant-loop-place : goal.invariant-loop-place
 invariant-loop-place g l = record {
-  does : StartsFirst g.S.Start.starts l.me l.place (record {
-    start = l.fn.self.start;
-    children = (standing l.fn.self).children;
-    started = (standing l.fn.self).started;
-    desk = l.fn.desk.shard;
-    born = born l.fn.births;
-  }) (record {
-    start = l.self.start;
-    children = (standing l.self).children;
-    started = (standing l.self).started;
-    desk = l.desk.shard;
-    born = born l.births;
-  });
+  does : StartsFirst g.S.Start.starts l.me l.place (nursery (supervisor_scene l.fn.self l.fn.desk l.fn.births)) (nursery (supervisor_scene l.self l.desk l.births));
   rest : standing l.self ≡ record (standing l.fn.self) {
     children = (standing l.self).children;
     started = (standing l.self).started;

@@ -1,0 +1,30 @@
+-- `Shard::make_link`: its contract, and the invariant of `self`, and what its call of `keep_link` asks.
+use Rattle.std.proofs.Common.{◌≡◌, true, is_some, refl, sym, subst}
+use Rattle.pt_shard.specs.Known.{knows}
+use Rattle.pt_shard.specs.Calls.{Calls, link_event}
+use Rattle.pt_shard.specs.Extends.{Extends}
+use Rattle.pt_shard.specs.Whole.{parts_of, shard_of}
+use Rattle.pt_shard.proofs.Acted.{Acted, left_with, linked, link_to_make}
+use Rattle.pt_shard.proofs.shard.Shard.make_link.Goals as goal
+
+-- what the call did, whatever came of it
+one : (c : goal.After-self-2-1) → Acted (Unit {0}) (parts_of c.self.inside.config c.self.inside.ledger.book c.self.inside.processes) (left_with (parts_of c.self.inside.config c.self.inside.ledger.book c.self.inside.processes) c.self.invariant c.args.p c.in-Some.process.now c.in-Some.ensures.value c.keep_link.new.ledger.book c.keep_link.new.process) c.args.p (link_event (shard_of (parts_of c.self.inside.config c.self.inside.ledger.book c.self.inside.processes)) c.args.p c.args.to) (tt {0}) c.keep_link.result
+one c =
+    linked (parts_of c.self.inside.config c.self.inside.ledger.book c.self.inside.processes) c.self.invariant c.args.p c.in-Some.process.now c.in-Some.ensures.value c.self.inside.ledger refl c.keep_link.new.process c.keep_link.new.ledger
+    c.args.to (subst (λ d. knows d c.args.to ≡ true) (sym c.self.view_is) c.requires.known) (subst (λ d. is_some (link_event d c.args.p c.args.to) ≡ true) (sym c.self.view_is) c.requires.new) c.keep_link.result c.keep_link.ensures
+
+pub keep_link-requires-clause-new : goal.keep_link-requires-clause-new
+keep_link-requires-clause-new c =
+    (link_to_make (parts_of c.self.inside.config c.self.inside.ledger.book c.self.inside.processes) c.self.invariant c.args.p c.in-Some.process.now c.in-Some.ensures.value c.args.to (subst (λ d. is_some (link_event d c.args.p c.args.to) ≡ true) (sym c.self.view_is) c.requires.new)).1
+
+pub invariant_of-self-2 : goal.invariant_of-self-2
+invariant_of-self-2 c = (one c).whole
+
+pub returns : goal.returns
+returns c =
+    let new = shard_of (left_with (parts_of c.self.inside.config c.self.inside.ledger.book c.self.inside.processes) c.self.invariant c.args.p c.in-Some.process.now c.in-Some.ensures.value c.keep_link.new.ledger.book c.keep_link.new.process) in
+    record {
+      does = subst (λ d. Calls c.args.p (link_event d c.args.p c.args.to) (tt {0}) d c.keep_link.result new) c.self.view_is (one c).does;
+      extends = subst (λ d. Extends d new) c.self.view_is (one c).extends;
+      fit = (one c).fit;
+    }
