@@ -1,0 +1,38 @@
+#!/usr/bin/env bash
+# Runs pt_explore on each case, and compares what it does with what is stored.
+#
+#   checks/explore/run.sh
+#
+# NAME.args has the words of a case, one a line; files are named from the top of the repository. NAME.stdout is what the
+# program must print, NAME.stderr what it must print on standard error (nothing if it is not there), and NAME.status its
+# status (0 if it is not there). The scripts of checks/examples have one case each, with the numbers of schedules and
+# outcomes that a model apart from this program counted; docs/EXPLORE.md has the race and how it is mended. The program
+# is bin/pt_explore, which is built first if it is not up to date.
+set -euo pipefail
+shopt -s nullglob
+
+here=$(cd "$(dirname "$0")" && pwd)
+source "$here/../../.ci/cases"
+"$root/.ci/build" pt_explore
+room=$root
+
+for case in "$here"/*.args; do
+    file=${case%.args}
+    name=$(basename "$file")
+    mapfile -t words <"$case"
+    run pt_explore "$name" /dev/null "${words[@]}"
+    sed -i 's/^Usage: [^ ]*/Usage: pt_explore/' "$work/err/$name"
+    wanted=$file.stdout
+    [ -f "$wanted" ] || wanted=/dev/null
+    is_same "$wanted" "$work/out/$name" "$name" "what it prints"
+    said=$file.stderr
+    [ -f "$said" ] || said=/dev/null
+    is_same "$said" "$work/err/$name" "$name" "standard error"
+    status=0
+    [ ! -f "$file.status" ] || status=$(cat "$file.status")
+    has_status "$name" "$status"
+done
+
+# The schedule that is told can be run again: the same history, byte for byte.
+is_same "$work/out/race_history" "$work/out/race_again" race_again "the history of the schedule"
+verdict explore
